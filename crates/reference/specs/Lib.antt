@@ -1,0 +1,15 @@
+pub mod Control
+pub mod Lists
+pub mod Text
+pub mod Listing
+pub mod Names
+pub mod Rules
+pub mod Numbers
+pub mod Shapes
+pub mod Life
+pub mod Join
+pub mod Run
+pub mod Opened
+pub mod Examples
+pub mod Claim
+pub mod Demand
