@@ -1,17 +1,15 @@
 -- An attempt that succeeds: where it found its uses, and that it leaves its listing as `Removed` says. Assumes nothing.
-use Prim.Native.Nat.{ℕ, suc, _+_, _≤_, _<_}
+use Prim.Native.Nat.{ℕ, suc, _≤_, _<_}
 use native.Mathlib.Omega.{arith}
-use native.Mathlib.Nat.{le-refl, le-trans}
+use native.Mathlib.Nat.{le-refl}
 use mathlib.Core.Path.{_≡_, refl, sym, _∙_, subst}
 use mathlib.Core.Bool.{Bool, true, false}
 use mathlib.Core.List.{List, [], _∷_}
-use mathlib.Core.Option.{Option, none, some}
+use mathlib.Core.Option.{Option, some}
 use lib.ListN.{length, drop}
-use Rattle.reference.specs.Control.{if_then_else_, let-some_else_then_}
-use Rattle.reference.specs.Lists.{is-some, remove, modify}
+use Rattle.reference.specs.Lists.{is-some, modify}
 use Rattle.reference.specs.Text.{Text}
-use Rattle.reference.specs.Listing.{Token, Line, Listing, _at_}
-use Rattle.reference.specs.Names.{Fam}
+use Rattle.reference.specs.Listing.{Token, Listing, _at_}
 use Rattle.reference.specs.Rules.{Rules, volatile}
 use Rattle.reference.specs.Shapes.{is-label, call-at}
 use Rattle.reference.specs.Life.{Labels}

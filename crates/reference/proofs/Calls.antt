@@ -3,15 +3,15 @@
 use Prim.Native.Nat.{ℕ, suc, _+_, _≤_}
 use native.Mathlib.Omega.{arith}
 use native.Mathlib.Nat.{le-refl}
-use mathlib.Core.Path.{_≡_, refl, sym, ap, _∙_, subst, subst⁻¹}
+use mathlib.Core.Path.{_≡_, refl, subst⁻¹}
 use mathlib.Core.Bool.{Bool, true, false, false≢true}
 use mathlib.Core.List.{List, [], _∷_, _++_, dropLast, append-assoc}
 use mathlib.Core.Option.{Option, none, some}
 use lib.Dec.{eqb}
-use lib.ListN.{length, drop, take}
+use lib.ListN.{drop, take}
 use Rattle.reference.specs.Control.{_&&_, _||_, if_then_else_}
 use Rattle.reference.specs.Lists.{position, is-empty}
-use Rattle.reference.specs.Text.{Text, bytes, _==_, starts-with, ends-with}
+use Rattle.reference.specs.Text.{Text, bytes, starts-with, ends-with}
 use Rattle.reference.specs.Listing.{Token, token, is, Register, Number, Keyword, Symbol, Punct}
 use Rattle.reference.specs.Names.{of-family}
 use Rattle.reference.specs.Numbers.{merge-into, merge, fold-at, fold}
@@ -58,7 +58,7 @@ pub record Keeps (es xs ys : List Token) : Type 0 where
   pub opened : opens xs ≡ true → opens ys ≡ true
   pub called : (c : Callee) → calls-in c xs + calls-in c es ≤ calls-in c ys
 
-unfoldable keeps-refl : (xs : List Token) → Keeps [] xs xs
+keeps-refl : (xs : List Token) → Keeps [] xs xs
 unfolding calls-in
 keeps-refl xs = record { opened = λ e. e; called = λ c. omega arith }
 

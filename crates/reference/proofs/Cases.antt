@@ -70,11 +70,6 @@ unfolding _&&_
 pair {a = true} e f = f
 pair {a = false} e f = e
 
-pub left : {a : Bool} (b : Bool) → a ≡ true → (a || b) ≡ true
-unfolding _||_
-left {a = true} b e = refl
-left {a = false} b e = absurd (false≢true e)
-
 pub fails : {a : Bool} → (a ≡ true → ⊥) → a ≡ false
 fails {a = true} f = absurd (f refl)
 fails {a = false} f = refl

@@ -2,19 +2,17 @@
 -- demand 3 says of a step, and what carries it on to the next, follows from these two. Assumes nothing.
 use Prim.Native.Nat.{ℕ, suc, _+_, _≤_, _<_}
 use native.Mathlib.Omega.{arith}
-use native.Mathlib.Nat.{le-refl}
-use mathlib.Core.Path.{_≡_, refl, sym, ap, _∙_, subst⁻¹}
-use mathlib.Core.Bool.{Bool, true, false}
-use mathlib.Core.List.{List, [], _∷_, Sublistᴰ, Sublistᴰ·refl, Sublistᴰ·trans}
-use mathlib.Core.Option.{Option, none, some}
+use mathlib.Core.Path.{_≡_, refl, sym, ap, _∙_}
+use mathlib.Core.Bool.{false}
+use mathlib.Core.List.{List, [], Sublistᴰ, Sublistᴰ·refl, Sublistᴰ·trans}
+use mathlib.Core.Option.{Option, some}
 use lib.ListN.{length, length-map}
-use Rattle.reference.specs.Control.{if_then_else_}
 use Rattle.reference.specs.Lists.{remove, modify}
-use Rattle.reference.specs.Listing.{Token, is, Register, Line, Listing, _at_}
+use Rattle.reference.specs.Listing.{Token, Line, Listing, _at_}
 use Rattle.reference.specs.Names.{Fam, family, fam-of}
 use Rattle.reference.specs.Shapes.{Assignment, assignment, is-label}
-use Rattle.reference.specs.Claim.{Callee, calls-in, calls, place, places, label-lines, token-count}
-use Rattle.reference.specs.Demand.{Assigned, Gone, nothing, line, Step}
+use Rattle.reference.specs.Claim.{Callee, calls-in, calls, place, places, label-lines}
+use Rattle.reference.specs.Demand.{nothing, line, Step}
 use Rattle.reference.proofs.Cases.{by-if, true-false}
 use Rattle.reference.proofs.Shapes.{assigns, assigning-register, assigning-plain, inside}
 use Rattle.reference.proofs.Weights.{Weight, weight, total, Light, count, count-is, light, light-nothing}

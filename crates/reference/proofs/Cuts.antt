@@ -1,7 +1,6 @@
 -- A cut: no call mark stands in the two tokens that it takes. Assumes nothing.
-use Prim.Native.Nat.{ℕ, zero, suc, _+_, _≤_, _<_}
+use Prim.Native.Nat.{ℕ, suc, _≤_, _<_}
 use native.Mathlib.Omega.{arith}
-use native.Mathlib.Nat.{le-refl}
 use mathlib.Core.Path.{_≡_, refl, ap, _∙_}
 use mathlib.Core.Bool.{Bool, true, false, false≢true}
 use mathlib.Core.List.{List, [], _∷_}
@@ -11,16 +10,16 @@ use lib.ListN.{length, drop}
 use Rattle.reference.specs.Control.{_&&_, _||_, if_then_else_, let-some_else_then_}
 use Rattle.reference.specs.Lists.{position, windows, pairs-from, get, modify}
 use Rattle.reference.specs.Text.{bytes, _==_, starts-with}
-use Rattle.reference.specs.Listing.{Token, Line, Listing, _at_, with-tokens}
+use Rattle.reference.specs.Listing.{Token, Listing, _at_, with-tokens}
 use Rattle.reference.specs.Rules.{Rules}
 use Rattle.reference.specs.Shapes.{calls-here, call-in, label-tokens}
 use Rattle.reference.specs.Life.{Labels}
 use Rattle.reference.specs.Join.{text-or-empty}
 use Rattle.reference.specs.Run.{dead-result}
 use Rattle.reference.specs.Claim.{Callee, marks, opens, calls-in}
-use Rattle.reference.proofs.Cases.{by-if, by-some, both, either, neither, pair, left, fails, true-false, same-number, some-inj, none-some, bind-some}
+use Rattle.reference.proofs.Cases.{by-if, by-some, both, either, neither, pair, fails, true-false, same-number, some-inj, none-some, bind-some}
 use Rattle.reference.proofs.Shapes.{starts-as}
-use Rattle.reference.proofs.Weights.{Weight, weigh, weight}
+use Rattle.reference.proofs.Weights.{Weight, weight}
 use Rattle.reference.proofs.Calls.{skip}
 use Rattle.reference.proofs.Changes.{Changes, changes-line}
 

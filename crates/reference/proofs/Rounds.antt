@@ -2,27 +2,25 @@
 -- of steps, each of which keeps what demand 3 asks. Assumes nothing.
 use Prim.Native.Nat.{ℕ, zero, suc, pred, _+_, _≤_, _<_, zero-le}
 use native.Mathlib.Omega.{arith}
-use native.Mathlib.Nat.{le-refl, le-trans}
-use mathlib.Core.Path.{_≡_, refl, sym, ap, _∙_, subst⁻¹}
+use native.Mathlib.Nat.{le-trans}
+use mathlib.Core.Path.{_≡_, refl, ap, _∙_}
 use mathlib.Core.Bool.{Bool, true, false}
 use mathlib.Core.List.{List, [], _∷_, _++_, map, Sublistᴰ, Sublistᴰ·refl, Sublistᴰ·trans}
-use mathlib.Core.Option.{Option, none, some}
 use lib.Dec.{ltb}
-use lib.ListN.{length, drop}
+use lib.ListN.{length}
 use borrow.Author.Tests.{ltb-true, ltb-false}
 use Rattle.reference.specs.Control.{_&&_, if_then_else_}
-use Rattle.reference.specs.Lists.{any, modify}
+use Rattle.reference.specs.Lists.{any}
 use Rattle.reference.specs.Text.{Text}
-use Rattle.reference.specs.Listing.{Token, is, Number, Listing, _at_, with-tokens}
+use Rattle.reference.specs.Listing.{Token, is, Number, Listing, _at_}
 use Rattle.reference.specs.Rules.{Rules}
 use Rattle.reference.specs.Life.{Labels}
-use Rattle.reference.specs.Join.{try-at}
-use Rattle.reference.specs.Run.{labels-from, addressed-in, shift, Attempt, attempts-from, propagate-once, after-attempts, removals, changed, next-round, cuts-from, drop-dead-results, last-of, Run, run, steps, listings, finished}
-use Rattle.reference.specs.Claim.{sum, size, token-count, text, places, label-lines}
-use Rattle.reference.specs.Demand.{Accepted, Attempts, over, failed, succeeded, Round, NextRound, Cuts, done, kept, dropped, after-first, after-second, after-third, Taken, Within, Each, Step, Steps, Bounded, Demand3}
-use Rattle.reference.proofs.Cases.{by-if, by-some, neither, both, true-false, pair, fails}
+use Rattle.reference.specs.Run.{labels-from, addressed-in, shift, Attempt, attempts-from, propagate-once, after-attempts, removals, changed, next-round, cuts-from, drop-dead-results, last-of, run, steps, listings, finished}
+use Rattle.reference.specs.Claim.{sum, size, token-count, places, label-lines}
+use Rattle.reference.specs.Demand.{Accepted, Attempts, over, failed, succeeded, Round, NextRound, Cuts, done, kept, dropped, Taken, Within, Each, Step, Steps, Bounded, Demand3}
+use Rattle.reference.proofs.Cases.{by-if, by-some, neither, true-false, pair, fails}
 use Rattle.reference.proofs.Shapes.{assigns}
-use Rattle.reference.proofs.Weights.{weigh, weight, total, count-is, plain, plain-text, excess, text-le, light, light-nothing, light-excess}
+use Rattle.reference.proofs.Weights.{weigh, weight, total, plain, plain-text, excess, text-le, light, light-nothing, light-excess}
 use Rattle.reference.proofs.Lines.{sum-remove, length-modify, labels-sublist}
 use Rattle.reference.proofs.Changes.{Changes, unchanged, changes-step, Removed, removed-length, removed-places, removed-labels, removed-le, removed-step}
 use Rattle.reference.proofs.Attempts.{attempt-removed}

@@ -2,18 +2,18 @@
 -- definition once, here; the other proofs go by these records. Assumes nothing.
 use Prim.Native.Nat.{ℕ, zero, suc, _+_, _/_, _%_, _≤_, _<_, suc-le-suc}
 use native.Mathlib.Omega.{arith}
-use mathlib.Core.Path.{_≡_, refl, sym, ap, _∙_, subst, subst⁻¹}
+use mathlib.Core.Path.{_≡_, refl, ap, subst, subst⁻¹}
 use mathlib.Core.Bool.{Bool, true, false, false≢true}
 use mathlib.Core.List.{List, [], _∷_, _++_, dropLast}
 use mathlib.Core.Option.{Option, none, some}
 use lib.Dec.{eqb}
 use lib.IntN.{ℤ, pos, negsuc}
 use lib.ListN.{length, take, drop}
-use Rattle.reference.specs.Control.{_&&_, _||_, if_then_else_, let-some_else_then_}
+use Rattle.reference.specs.Control.{_||_, if_then_else_, let-some_else_then_}
 use Rattle.reference.specs.Lists.{position, is-empty}
 use Rattle.reference.specs.Text.{Text, bytes, _==_, starts-with, ends-with}
 use Rattle.reference.specs.Listing.{Token, token, is, Register, Number, Symbol, Punct, Plain, Listing, _at_}
-use Rattle.reference.specs.Names.{Fam, family, fam-of, of-family}
+use Rattle.reference.specs.Names.{family, fam-of, of-family}
 use Rattle.reference.specs.Numbers.{joins, folded, digits, digit-byte, show, show-natural}
 use Rattle.reference.specs.Shapes.{Assignment, cut-semicolon, begins-assignment, right-side, assignment-of, assignment, label-tokens}
 use Rattle.reference.specs.Claim.{size}

@@ -19,17 +19,20 @@ use Rattle.reference.specs.Shapes.{Assignment, right-side}
 use Rattle.reference.specs.Join.{substitute, replacement, text-before, text-after, replace-at, lone-number}
 use Rattle.reference.specs.Claim.{sum, size, text-in, text, token-count}
 use Rattle.reference.proofs.Cases.{by-if, by-some}
-use Rattle.reference.proofs.Shapes.{other-kind, joins-other, family-register, starts-with-length, Folds, folds, Cut, gone, short, later, Assigning, assigning, split-at}
+use Rattle.reference.proofs.Shapes.{other-kind, joins-other, family-register, starts-with-length, folds, Cut, gone, short, later, Assigning, assigning, split-at}
+
+record Laws (number other : ℕ → ℕ) : Type 0 where
+  join : (m n : ℕ) → other (m + n) ≤ other m + other n
+  fold : (a c n : ℕ) → n ≤ 19 → number n ≤ number a + number c
+  shorter-number : (m n : ℕ) → m ≤ n → number m ≤ number n
+  shorter-other : (m n : ℕ) → m ≤ n → other m ≤ other n
+  -- two brackets, and what is left of ` = ..`, for a register, ` = ..` and another register
+  brackets : (l h n r : ℕ) → h + 3 ≤ n → other 1 + other 1 + other h ≤ other l + other n + other r
 
 pub record Weight : Type 0 where
   pub number : ℕ → ℕ
   pub other : ℕ → ℕ
-  pub join : (m n : ℕ) → other (m + n) ≤ other m + other n
-  pub fold : (a c n : ℕ) → n ≤ 19 → number n ≤ number a + number c
-  pub shorter-number : (m n : ℕ) → m ≤ n → number m ≤ number n
-  pub shorter-other : (m n : ℕ) → m ≤ n → other m ≤ other n
-  -- two brackets, and what is left of ` = ..`, for a register, ` = ..` and another register
-  pub brackets : (l h n r : ℕ) → h + 3 ≤ n → other 1 + other 1 + other h ≤ other l + other n + other r
+  laws : Laws number other
 
 unfoldable pub weigh : Weight → Token → ℕ
 weigh w t = if is Number t then w .number (size t) else w .other (size t)
@@ -91,7 +94,7 @@ module _ (w : Weight) where
         weigh-other t (k .1),
         weigh-other both-texts (k .0),
         ap (w .other) (length-append (last .text) (t .text)),
-        w .join (size last) (size t),
+        w .laws .join (size last) (size t),
       )))
       (λ e. omega (arith, into-le t ts))
 
@@ -115,7 +118,7 @@ module _ (w : Weight) where
         weigh-number a (h .first),
         weigh-number c (h .last),
         weigh-number n (h .made),
-        w .fold (size a) (size c) (size n) (h .small),
+        w .laws .fold (size a) (size c) (size n) (h .small),
       )))
 
   pub fold-merge-le : (ts : List Token) → weight w (fold (merge ts)) ≤ weight w ts
@@ -134,7 +137,7 @@ module _ (w : Weight) where
   cut-le (short {t = t} e) =
       omega (
         arith,
-        if-le (is Number t) (w .shorter-number _ _ (dropLast-length (t .text))) (w .shorter-other _ _ (dropLast-length (t .text))),
+        if-le (is Number t) (w .laws .shorter-number _ _ (dropLast-length (t .text))) (w .laws .shorter-other _ _ (dropLast-length (t .text))),
       )
   cut-le (later t c) = omega (arith, cut-le c)
 
@@ -152,7 +155,7 @@ module _ (w : Weight) where
         cut-le c,
         weigh-register lhs r,
         weigh-other eq (other-kind Punct Number eq refl p),
-        w .brackets (size lhs) head (size eq) n (omega (arith, length-drop 3 (eq .text))),
+        w .laws .brackets (size lhs) head (size eq) n (omega (arith, length-drop 3 (eq .text))),
       )
 
   -- ---- uses replaced
@@ -200,42 +203,15 @@ module _ (w : Weight) where
 -- ---- the three weights
 
 abbrev pub count : Weight
-count =
-    record {
-      number = λ n. 1;
-      other = λ n. 1;
-      join = λ m n. omega arith;
-      fold = λ a c n h. omega arith;
-      shorter-number = λ m n h. omega arith;
-      shorter-other = λ m n h. omega arith;
-      brackets = λ l h n r e. omega arith;
-    }
+count = record { number = λ n. 1; other = λ n. 1; laws = omega arith }
 
 -- the text outside numbers
 abbrev pub plain : Weight
-plain =
-    record {
-      number = λ n. 0;
-      other = λ n. n;
-      join = λ m n. omega arith;
-      fold = λ a c n h. omega arith;
-      shorter-number = λ m n h. omega arith;
-      shorter-other = λ m n h. h;
-      brackets = λ l h n r e. omega arith;
-    }
+plain = record { number = λ n. 0; other = λ n. n; laws = omega arith }
 
 -- what numbers' texts have past 24 bytes
 abbrev pub excess : Weight
-excess =
-    record {
-      number = λ n. n - 24;
-      other = λ n. 0;
-      join = λ m n. omega arith;
-      fold = λ a c n h. omega arith;
-      shorter-number = λ m n h. omega arith;
-      shorter-other = λ m n h. omega arith;
-      brackets = λ l h n r e. omega arith;
-    }
+excess = record { number = λ n. n - 24; other = λ n. 0; laws = omega arith }
 
 pub count-is : (lines : Listing) → total count lines ≡ token-count lines
 unfolding weigh

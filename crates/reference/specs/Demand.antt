@@ -2,15 +2,15 @@
 -- says; words of document 01 that fix a term stand at its definition. Assumes nothing.
 use Prim.Native.Nat.{ℕ, suc, pred, _+_, _≤_, _<_}
 use mathlib.Core.Path.{_≡_}
-use mathlib.Core.Bool.{Bool, true, false}
+use mathlib.Core.Bool.{true, false}
 use mathlib.Core.List.{List, [], _∷_, _++_, Sublistᴰ}
-use mathlib.Core.Option.{Option, none, some}
+use mathlib.Core.Option.{none, some}
 use lib.Dec.{ltb}
 use lib.ListN.{length, drop}
 use Rattle.reference.specs.Control.{_&&_}
 use Rattle.reference.specs.Lists.{any, remove, modify}
 use Rattle.reference.specs.Text.{Text}
-use Rattle.reference.specs.Listing.{Token, is, Number, Line, Listing, _at_, with-tokens}
+use Rattle.reference.specs.Listing.{is, Number, Listing, _at_, with-tokens}
 use Rattle.reference.specs.Names.{Fam, fam-of}
 use Rattle.reference.specs.Rules.{Rules}
 use Rattle.reference.specs.Shapes.{Assignment, assignment}
