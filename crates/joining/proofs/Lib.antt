@@ -6,3 +6,8 @@ pub mod Acting
 pub mod Single
 pub mod Taking
 pub mod Deciding
+pub mod Looking
+pub mod Building
+pub mod Planned
+pub mod BareLife
+pub mod Bare

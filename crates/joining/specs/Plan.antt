@@ -6,12 +6,12 @@ use mathlib.Core.Bool.{Bool, true, false}
 use mathlib.Core.List.{List, [], _∷_, _++_}
 use mathlib.Core.Option.{Option, none, some}
 use lib.Dec.{leb, ltb, eqb}
-use lib.ListN.{drop}
+use lib.ListN.{drop, take}
 use lib.Seq.{slice}
 use Rattle.reference.specs.Control.{not, _&&_, _||_, if_then_else_, let-some_else_then_}
 use Rattle.reference.specs.Lists.{any, position, is-some, remove}
 use Rattle.reference.specs.Text.{Text, bytes, has}
-use Rattle.reference.specs.Listing.{Token, token, Punct, Line, Listing, _at_}
+use Rattle.reference.specs.Listing.{Token, token, Punct, Line, Listing, _at_, with-tokens}
 use Rattle.reference.specs.Names.{Fam, family, of-family}
 use Rattle.reference.specs.Rules.{Rules, volatile}
 use Rattle.reference.specs.Shapes.{is-label, has-kw, opens-or-closes, call-in, assignment-of, is-operator-expr}
@@ -157,12 +157,21 @@ module _ (volatile : List Text) (i : ℕ) (p : Plan) where
   unfoldable pub changes : ℕ → Line → Bool
   changes k l = ltb i k && leb k (p .last) && is-use (touch l (p .fam) volatile)
 
-  -- its tokens before they are merged and folded
-  unfoldable pub unmerged : ℕ → Line → List Token
-  unmerged k l = if changes k l then substitute (p .fam) (right-side-of p) (l .tokens) else l .tokens
+  -- the line k, by g where it is changed
+  unfoldable pub where-used : (Line → Line) → ℕ → Line → Line
+  where-used g k l = if changes k l then g l else l
 
-  unfoldable pub acted-line : ℕ → Line → Line
-  acted-line k l = if changes k l then rewrite-use (p .fam) (right-side-of p) l else l
+  -- before its tokens are merged and folded
+  abbrev pub unmerged-line : ℕ → Line → Line
+  unmerged-line = where-used (λ l. with-tokens (substitute (p .fam) (right-side-of p) (l .tokens)) l)
+
+  abbrev pub acted-line : ℕ → Line → Line
+  acted-line = where-used (rewrite-use (p .fam) (right-side-of p))
+
+module _ {ℓ κ} {A : Type ℓ} {B : Type κ} where
+  -- what a loop over the first k elements has built, leaving out the element i
+  unfoldable pub built : (ℕ → A → B) → ℕ → List A → ℕ → List B
+  built f i xs k = remove i (map-from f 0 (take k xs))
 
 unfoldable pub act : Rules → Listing → ℕ → Plan → Listing
 act rules lines i p = remove i (map-from (acted-line (volatile rules) i p) 0 lines)
