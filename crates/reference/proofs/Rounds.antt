@@ -1,6 +1,6 @@
 -- Demand 3, proved. The rounds and cuts of the definitions are those that `Taken` describes, so the fuel of a round never runs out; the run is a chain
 -- of steps, each of which keeps what demand 3 asks. Assumes nothing.
-use Prim.Native.Nat.{ℕ, zero, suc, pred, _+_, _≤_, _<_, zero-le}
+use Prim.Native.Nat.{ℕ, zero, suc, _+_, _≤_, _<_, zero-le}
 use native.Mathlib.Omega.{arith}
 use native.Mathlib.Nat.{le-trans}
 use mathlib.Core.Path.{_≡_, refl, ap, _∙_}
@@ -15,7 +15,7 @@ use Rattle.reference.specs.Text.{Text}
 use Rattle.reference.specs.Listing.{Token, is, Number, Listing, _at_}
 use Rattle.reference.specs.Rules.{Rules}
 use Rattle.reference.specs.Life.{Labels}
-use Rattle.reference.specs.Run.{labels-from, addressed-in, shift, Attempt, attempts-from, propagate-once, after-attempts, removals, changed, next-round, cuts-from, drop-dead-results, last-of, run, steps, listings, finished}
+use Rattle.reference.specs.Run.{labels-from, addressed-in, Attempt, attempts-from, propagate-once, after-attempts, removals, changed, next-round, cuts-from, drop-dead-results, last-of, run, steps, listings, finished}
 use Rattle.reference.specs.Claim.{sum, size, token-count, places, label-lines}
 use Rattle.reference.specs.Demand.{Accepted, Attempts, over, failed, succeeded, Round, NextRound, Cuts, done, kept, dropped, Taken, Within, Each, Step, Steps, Bounded, Demand3}
 use Rattle.reference.proofs.Cases.{by-if, by-some, neither, true-false, pair, fails}
@@ -42,7 +42,7 @@ module _ (rules : Rules) (addressed : List Text) where
       (λ e. failed lt e (attempts fuel (suc i) lines labels (omega arith)))
       (λ lines′ e.
       (let fewer : suc (length lines′) ≡ length lines = removed-length (attempt-removed rules lines i labels addressed e) in
-      succeeded lt e (attempts fuel (pred i) lines′ (shift i labels) (omega arith))))))
+      succeeded lt e (attempts fuel _ lines′ _ (omega arith))))))
       (λ h. over (ltb-false _ _ h))
 
 round-taken : (rules : Rules) (lines : Listing) → Round rules lines (propagate-once rules lines)
