@@ -4,6 +4,7 @@ pub mod Weights
 pub mod Calls
 pub mod Lines
 pub mod Changes
+pub mod Fits
 pub mod Attempts
 pub mod Cuts
 pub mod Rounds
