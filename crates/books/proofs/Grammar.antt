@@ -1,0 +1,148 @@
+-- C's integer constants, as `parse-c-number` meets them: what their digits come to, how they begin, and which bytes they never hold.
+-- Assumes nothing.
+use Prim.Native.Nat.{ℕ, zero, suc, _+_, _*_, _<_, _≤_, _^_}
+use native.Mathlib.Omega.{arith}
+use native.Mathlib.Nat.{zero-add}
+use mathlib.Core.Path.{_≡_, refl, sym, ap, _∙_}
+use mathlib.Core.Bool.{Bool, true, false, true≢false, false≢true}
+use mathlib.Core.List.{List, [], _∷_, _++_, map, append-assoc, append-nil}
+use mathlib.Core.Option.{Option, none, some}
+use lib.Dec.{eqb, ltb}
+use lib.IntN.{ℤ, pos}
+use borrow.Author.Tests.{lt-ltb, le-ltb, ltb-true, eqb-true}
+use Rattle.reference.specs.Control.{not, _&&_, _||_, if_then_else_, let-some_else_then_}
+use Rattle.reference.specs.Lists.{any, is-empty}
+use Rattle.reference.specs.Text.{Text, bytes, starts-with, contains}
+use Rattle.reference.specs.Numbers.{to-digit, digits-value, as-i64, parse-c-number}
+use Rattle.reference.specs.Opened.{opened}
+use Rattle.books.specs.Tables.{_∈_}
+use Rattle.books.specs.Constants.{digits, nonzero-digits, octal-digits, hexadecimal-digits, hexadecimal-prefixes, integer-suffix, twos-complement, Decimal, nonzero-digit, then-digit, Octal, zero-digit, then-octal, Hexadecimal, prefix-then, then-hexadecimal, Unsuffixed, decimal, octal, hexadecimal, Constant, unsuffixed, suffixed}
+use Rattle.books.proofs.Entries.{at-each}
+use Rattle.books.proofs.Reading.{value-more, begins-with-digit, read-decimal, read-hexadecimal, as-i64-is, stranger, unread}
+
+-- ---- digits
+
+abbrev read-as : ℕ → ℕ × ℕ → Option ℕ
+read-as radix e = to-digit radix (e .0)
+
+abbrev value : ℕ × ℕ → Option ℕ
+value e = some (e .1)
+
+digits-are : map (read-as 10) digits ≡ map value digits
+unfolding opened
+digits-are = refl
+
+nonzero-digits-are : map (read-as 10) nonzero-digits ≡ map value nonzero-digits
+unfolding opened
+nonzero-digits-are = refl
+
+octal-digits-are : map (read-as 10) octal-digits ≡ map value octal-digits
+unfolding opened
+octal-digits-are = refl
+
+hexadecimal-digits-are : map (read-as 16) hexadecimal-digits ≡ map value hexadecimal-digits
+unfolding opened
+hexadecimal-digits-are = refl
+
+one-digit : (radix c : ℕ) {d : ℕ} → to-digit radix c ≡ some d → digits-value radix 0 (c ∷ []) ≡ some d
+unfolding digits-value let-some_else_then_
+one-digit radix c h = rw h (ap some (omega arith))
+
+filled : (s : Text) (c : ℕ) → is-empty (s ++ (c ∷ [])) ≡ false
+filled [] c = refl
+filled (x ∷ xs) c = refl
+
+-- ---- decimal
+
+decimal-value : {s : Text} {n : ℕ} → Decimal s n → digits-value 10 0 s ≡ some n
+decimal-value (nonzero-digit {c} h) = one-digit 10 c (at-each (read-as 10) value nonzero-digits nonzero-digits-are h)
+decimal-value (then-digit {s} {c = c} r h) = value-more 10 c (at-each (read-as 10) value digits digits-are h) 0 s (decimal-value r)
+
+decimal-filled : {s : Text} {n : ℕ} → Decimal s n → is-empty s ≡ false
+decimal-filled (nonzero-digit h) = refl
+decimal-filled (then-digit {s} {c = c} r h) = filled s c
+
+no-zero : map (λ e. eqb (e .0) 48) nonzero-digits ≡ map (λ e. false) nonzero-digits
+no-zero = refl
+
+decimal-begins : {s : Text} {n : ℕ} → Decimal s n → (p t : Text) → starts-with (s ++ t) (48 ∷ p) ≡ false
+unfolding _&&_
+decimal-begins (nonzero-digit h) p t = rw (at-each (λ e. eqb (e .0) 48) (λ e. false) nonzero-digits no-zero h)
+decimal-begins (then-digit {s} {c = c} r h) p t = rw append-assoc (decimal-begins r p (c ∷ t))
+
+pub decimal-is : {s : Text} {n : ℕ} → Decimal s n → parse-c-number s ≡ (if ltb n (2 ^ 63) then some (pos n) else none)
+decimal-is {s} r =
+    read-decimal s (decimal-filled r) (rw append-nil at (decimal-begins r (bytes "x") [])) (decimal-value r)
+
+-- ---- hexadecimal
+
+-- the prefix, and what its digits come to
+record Spelled (prefix s : Text) (n : ℕ) : Type 0 where
+  rest : Text
+  whole : s ≡ prefix ++ rest
+  some-digit : is-empty rest ≡ false
+  comes-to : digits-value 16 0 rest ≡ some n
+
+spelled : {prefix s : Text} {n : ℕ} → Hexadecimal prefix s n → Spelled prefix s n
+spelled (prefix-then {c} h) =
+    record { rest = c ∷ []; whole = refl; some-digit = refl; comes-to = one-digit 16 c (at-each (read-as 16) value hexadecimal-digits hexadecimal-digits-are h) }
+spelled {prefix} (then-hexadecimal {s} {n} {c} {d} r h) = one-more (spelled r)
+  where
+    one-more : Spelled prefix s n → Spelled prefix (s ++ (c ∷ [])) (n * 16 + d)
+    one-more q =
+        record {
+          rest = q .rest ++ (c ∷ []);
+          whole = ap (_++ (c ∷ [])) (q .whole) ∙ append-assoc prefix (q .rest) (c ∷ []);
+          some-digit = filled (q .rest) c;
+          comes-to = value-more 16 c (at-each (read-as 16) value hexadecimal-digits hexadecimal-digits-are h) 0 (q .rest) (q .comes-to);
+        }
+
+pub hexadecimal-is : {s : Text} {n : ℕ} → Hexadecimal (bytes "0x") s n → parse-c-number s ≡ (if ltb n (2 ^ 64) then some (as-i64 n) else none)
+hexadecimal-is r = let q = spelled r in rw (q .whole) (read-hexadecimal (q .rest) (q .some-digit) (q .comes-to))
+
+-- ---- octal
+
+-- an octal constant of value n, read as if decimal
+record AsDecimal (s : Text) (n : ℕ) : Type 0 where
+  m : ℕ
+  comes-to : digits-value 10 0 s ≡ some m
+  same : n < 8 → m ≡ n
+  larger : n ≤ m
+  larger-from-eight : 8 ≤ n → n < m
+
+below-eight : map (λ e. ltb (e .1) 8) octal-digits ≡ map (λ e. true) octal-digits
+below-eight = refl
+
+as-decimal : {s : Text} {n : ℕ} → Octal s n → AsDecimal s n
+unfolding opened
+as-decimal zero-digit = record { m = 0; comes-to = refl; same = λ h. refl; larger = omega arith; larger-from-eight = λ h. omega arith }
+as-decimal (then-octal {s} {n} {c} {d} r h) = one-more (as-decimal r)
+  where
+    one-more : AsDecimal s n → AsDecimal (s ++ (c ∷ [])) (n * 8 + d)
+    one-more q =
+        record {
+          m = q .m * 10 + d;
+          comes-to = value-more 10 c (at-each (read-as 10) value octal-digits octal-digits-are h) 0 s (q .comes-to);
+          same = λ b. let e : q .m ≡ n = q .same (omega arith) in omega arith;
+          larger = omega arith;
+          larger-from-eight = λ b. omega (arith, ltb-true d 8 (at-each (λ e. ltb (e .1) 8) (λ e. true) octal-digits below-eight h));
+        }
+
+begins-with-zero : {s : Text} {n : ℕ} → Octal s n → (rest : Text) × (s ≡ 48 ∷ rest)
+begins-with-zero zero-digit = ([], refl)
+begins-with-zero (then-octal {c = c} r h) = let q = begins-with-zero r in (q .0 ++ (c ∷ []), ap (_++ (c ∷ [])) (q .1))
+
+octal-filled : {s : Text} {n : ℕ} → Octal s n → is-empty s ≡ false
+octal-filled zero-digit = refl
+octal-filled (then-octal {s} {c = c} r h) = filled s c
+
+-- no x behind the zero
+octal-begins : (s rest : Text) {m : ℕ} → s ≡ 48 ∷ rest → digits-value 10 0 s ≡ some m → starts-with s (bytes "0x") ≡ false
+unfolding opened
+octal-begins s rest e v = rw e (begins-with-digit 10 0 120 [] rest refl (rw e at v))
+
+pub octal-is : {s : Text} {n : ℕ} → Octal s n → (m : ℕ) × (parse-c-number s ≡ (if ltb m (2 ^ 63) then some (pos m) else none)) × (n < 8 → m ≡ n) × (8 ≤ n → n < m)
+octal-is {s} r =
+    let q = as-decimal r in
+    let z = begins-with-zero r in
+    (q .m, read-decimal s (octal-filled r) (octal-begins s (z .0) (z .1) (q .comes-to)) (q .comes-to), q .same, q .larger-from-eight)

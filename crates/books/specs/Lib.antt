@@ -1,0 +1,5 @@
+pub mod Tables
+pub mod Registers
+pub mod Conventions
+pub mod Constants
+pub mod Agreement
