@@ -146,3 +146,100 @@ octal-is {s} r =
     let q = as-decimal r in
     let z = begins-with-zero r in
     (q .m, read-decimal s (octal-filled r) (octal-begins s (z .0) (z .1) (q .comes-to)) (q .comes-to), q .same, q .larger-from-eight)
+
+-- ---- the bytes of a constant
+
+module _ (p : ℕ → Bool) where
+  any-left : (s t : Text) → any p s ≡ true → any p (s ++ t) ≡ true
+  unfolding _||_
+  any-left [] t h = absurd (false≢true h)
+  any-left (x ∷ s) t h = step (p x) h (any-left s t)
+    where
+      step : (b : Bool) → (b || any p s) ≡ true → (any p s ≡ true → any p (s ++ t) ≡ true) → (b || any p (s ++ t)) ≡ true
+      step true e more = refl
+      step false e more = more e
+
+  any-right : (s t : Text) → any p t ≡ true → any p (s ++ t) ≡ true
+  unfolding _||_
+  any-right [] t h = h
+  any-right (x ∷ s) t h = step (p x) (any-right s t h)
+    where
+      step : (b : Bool) → any p (s ++ t) ≡ true → (b || any p (s ++ t)) ≡ true
+      step true e = refl
+      step false e = e
+
+  free : (s t : Text) → any p s ≡ false → any p t ≡ false → any p (s ++ t) ≡ false
+  unfolding _||_
+  free [] t e f = f
+  free (x ∷ s) t e f = step (p x) e (λ g. free s t g f)
+    where
+      step : (b : Bool) → (b || any p s) ≡ false → (any p s ≡ false → any p (s ++ t) ≡ false) → (b || any p (s ++ t)) ≡ false
+      step true q more = absurd (true≢false q)
+      step false q more = more q
+
+  -- none of a table's characters is such a byte
+  abbrev Free : List (ℕ × ℕ) → Type 0
+  Free table = map (λ e. any p (e .0 ∷ [])) table ≡ map (λ e. false) table
+
+  free-digit : (table : List (ℕ × ℕ)) → Free table → {c d : ℕ} → (c, d) ∈ table → any p (c ∷ []) ≡ false
+  free-digit table f h = at-each (λ e. any p (e .0 ∷ [])) (λ e. false) table f h
+
+  decimal-free : Free nonzero-digits → Free digits → {s : Text} {n : ℕ} → Decimal s n → any p s ≡ false
+  decimal-free f g (nonzero-digit h) = free-digit nonzero-digits f h
+  decimal-free f g (then-digit {s} {c = c} r h) = free s (c ∷ []) (decimal-free f g r) (free-digit digits g h)
+
+  octal-free : any p (bytes "0") ≡ false → Free octal-digits → {s : Text} {n : ℕ} → Octal s n → any p s ≡ false
+  octal-free z f zero-digit = z
+  octal-free z f (then-octal {s} {c = c} r h) = free s (c ∷ []) (octal-free z f r) (free-digit octal-digits f h)
+
+  hexadecimal-free : Free hexadecimal-digits → {q : Text} → any p q ≡ false → {s : Text} {n : ℕ} → Hexadecimal q s n → any p s ≡ false
+  hexadecimal-free f {q} z (prefix-then {c} h) = free q (c ∷ []) z (free-digit hexadecimal-digits f h)
+  hexadecimal-free f z (then-hexadecimal {s} {c = c} r h) = free s (c ∷ []) (hexadecimal-free f z r) (free-digit hexadecimal-digits f h)
+
+abbrev sign : ℕ → Bool
+sign c = contains (bytes "+-") c
+
+unsuffixed-unsigned : {s : Text} {n : ℕ} → Unsuffixed s n → any sign s ≡ false
+unfolding opened
+unsuffixed-unsigned (decimal r) = decimal-free sign refl refl r
+unsuffixed-unsigned (octal r) = octal-free sign refl refl r
+unsuffixed-unsigned (hexadecimal m r) = hexadecimal-free sign refl (at-each (any sign) (λ q. false) hexadecimal-prefixes refl m) r
+
+-- a constant holds no sign
+no-sign : {s : Text} {n : ℕ} → Constant s n → any sign s ≡ false
+unfolding opened
+no-sign (unsuffixed u) = unsuffixed-unsigned u
+no-sign (suffixed {s} {t} u m) = free sign s t (unsuffixed-unsigned u) (at-each (any sign) (λ q. false) integer-suffix refl m)
+
+pub signed-is-none : (s : Text) → any sign s ≡ true → (n : ℕ) → Constant s n → ⊥
+signed-is-none s h n r = true≢false (sym h ∙ no-sign r)
+
+abbrev eight : ℕ → Bool
+eight c = contains (bytes "89") c
+
+abbrev letter-x : ℕ → Bool
+letter-x c = contains (bytes "xX") c
+
+abbrev suffix-letter : ℕ → Bool
+suffix-letter c = contains (bytes "uUlL") c
+
+-- `08` is none: decimal constants begin with another digit, octal ones hold no 8, and it has no prefix and no suffix
+pub zero-eight-is-none : {s : Text} {n : ℕ} → Constant s n → s ≡ bytes "08" → ⊥
+unfolding opened
+zero-eight-is-none (unsuffixed (decimal r)) e = true≢false (rw e at (decimal-begins r [] []))
+zero-eight-is-none (unsuffixed (octal r)) e = true≢false (rw e at (octal-free eight refl refl r))
+zero-eight-is-none (unsuffixed (hexadecimal {p} m r)) e =
+    let q = spelled r in
+    false≢true (rw (sym (q .whole) ∙ e) at (any-left letter-x p (q .rest) (at-each (any letter-x) (λ x. true) hexadecimal-prefixes refl m)))
+zero-eight-is-none (suffixed {s} {t} u m) e =
+    false≢true (rw e at (any-right suffix-letter s t (at-each (any suffix-letter) (λ x. true) integer-suffix refl m)))
+
+-- ---- never read
+
+pub capital-x-unread : {s : Text} {n : ℕ} → Hexadecimal (bytes "0X") s n → parse-c-number s ≡ none
+unfolding opened
+capital-x-unread {s} r = let q = spelled r in unread s (rw (q .whole))
+
+pub suffixed-unread : (s : Text) {t : Text} → t ∈ integer-suffix → parse-c-number (s ++ t) ≡ none
+unfolding opened
+suffixed-unread s {t} m = unread (s ++ t) (any-right stranger s t (at-each (any stranger) (λ x. true) integer-suffix refl m))

@@ -3,3 +3,5 @@ pub mod Registers
 pub mod Conventions
 pub mod Constants
 pub mod Agreement
+pub mod Notation
+pub mod Differences

@@ -2,12 +2,13 @@
 -- (table 3-2), the parts of a 64-bit register that they name (figure 3-5), and what an instruction that writes a part leaves in the rest
 -- (section 3.4.1.1). The manual prints the names in capitals; they are in small letters here, as listings write them. Assumes nothing.
 use Prim.Native.Nat.{ℕ, _+_, _*_, _/_, _%_, _^_}
+use Prim.Native.String.{String}
 use mathlib.Core.Bool.{cond}
 use mathlib.Core.List.{List, [], _∷_, _++_}
 use mathlib.Core.Option.{Option}
 use lib.Dec.{eqb, leb}
 use Rattle.reference.specs.Control.{let-some_else_then_}
-use Rattle.reference.specs.Text.{Text, _==_}
+use Rattle.reference.specs.Text.{Text, bytes, _==_}
 use Rattle.reference.specs.Lists.{find}
 use Rattle.books.specs.Tables.{words}
 
@@ -47,6 +48,10 @@ unfoldable pub family-of : Text → Text
 family-of name = let-some (register name) else [] then λ r. r .family
 
 -- ---- parts
+
+-- the register of a name that the table has
+unfoldable pub the : String → Register
+the s = let-some (register (bytes s)) else record { name = []; family = []; width = 0; lowest = 0 } then λ r. r
 
 -- the value of the part, where its 64-bit register holds `whole`
 abbrev pub read : Register → ℕ → ℕ
