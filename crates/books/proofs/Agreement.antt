@@ -8,16 +8,15 @@ use lib.Dec.{ltb}
 use lib.IntN.{pos}
 use borrow.Author.Tests.{lt-ltb}
 use Rattle.reference.specs.Control.{if_then_else_}
-use Rattle.reference.specs.Text.{Text, bytes}
-use Rattle.reference.specs.Names.{Fam, family, volatile-of}
+use Rattle.reference.specs.Text.{Text}
+use Rattle.reference.specs.Names.{Fam, family}
 use Rattle.reference.specs.Numbers.{parse-c-number}
 use Rattle.reference.specs.Opened.{opened}
-use Rattle.books.specs.Tables.{_∈_}
 use Rattle.books.specs.Registers.{Register, registers, register, family-of}
-use Rattle.books.specs.Conventions.{system-v, microsoft, thirty-two-bit}
-use Rattle.books.specs.Constants.{Decimal, Octal, Hexadecimal, twos-complement}
+use Rattle.books.specs.Constants.{Octal}
 use Rattle.books.specs.Agreement.{Agreement}
 use Rattle.books.proofs.Entries.{at-each}
+use Rattle.books.proofs.Names.{known}
 use Rattle.books.proofs.Reading.{as-i64-is}
 use Rattle.books.proofs.Grammar.{decimal-is, hexadecimal-is, octal-is}
 
@@ -47,6 +46,7 @@ unfolding opened register family-of
 agreement =
     record {
       names = at-each read meant registers every-name;
+      no-other-name = λ {s} {f} e. known s f e;
       volatile-32-bit = refl;
       volatile-system-v = refl;
       volatile-microsoft = refl;

@@ -1,24 +1,23 @@
 -- C's integer constants, as `parse-c-number` meets them: what their digits come to, how they begin, and which bytes they never hold.
 -- Assumes nothing.
-use Prim.Native.Nat.{ℕ, zero, suc, _+_, _*_, _<_, _≤_, _^_}
+use Prim.Native.Nat.{ℕ, _+_, _*_, _<_, _≤_, _^_}
 use native.Mathlib.Omega.{arith}
-use native.Mathlib.Nat.{zero-add}
 use mathlib.Core.Path.{_≡_, refl, sym, ap, _∙_}
 use mathlib.Core.Bool.{Bool, true, false, true≢false, false≢true}
 use mathlib.Core.List.{List, [], _∷_, _++_, map, append-assoc, append-nil}
 use mathlib.Core.Option.{Option, none, some}
 use lib.Dec.{eqb, ltb}
-use lib.IntN.{ℤ, pos}
-use borrow.Author.Tests.{lt-ltb, le-ltb, ltb-true, eqb-true}
-use Rattle.reference.specs.Control.{not, _&&_, _||_, if_then_else_, let-some_else_then_}
+use lib.IntN.{pos}
+use borrow.Author.Tests.{ltb-true}
+use Rattle.reference.specs.Control.{_&&_, _||_, if_then_else_, let-some_else_then_}
 use Rattle.reference.specs.Lists.{any, is-empty}
 use Rattle.reference.specs.Text.{Text, bytes, starts-with, contains}
 use Rattle.reference.specs.Numbers.{to-digit, digits-value, as-i64, parse-c-number}
 use Rattle.reference.specs.Opened.{opened}
 use Rattle.books.specs.Tables.{_∈_}
-use Rattle.books.specs.Constants.{digits, nonzero-digits, octal-digits, hexadecimal-digits, hexadecimal-prefixes, integer-suffix, twos-complement, Decimal, nonzero-digit, then-digit, Octal, zero-digit, then-octal, Hexadecimal, prefix-then, then-hexadecimal, Unsuffixed, decimal, octal, hexadecimal, Constant, unsuffixed, suffixed}
+use Rattle.books.specs.Constants.{digits, nonzero-digits, octal-digits, hexadecimal-digits, hexadecimal-prefixes, integer-suffix, Decimal, nonzero-digit, then-digit, Octal, zero-digit, then-octal, Hexadecimal, prefix-then, then-hexadecimal, Unsuffixed, decimal, octal, hexadecimal, Constant, unsuffixed, suffixed}
 use Rattle.books.proofs.Entries.{at-each}
-use Rattle.books.proofs.Reading.{value-more, begins-with-digit, read-decimal, read-hexadecimal, as-i64-is, stranger, unread}
+use Rattle.books.proofs.Reading.{value-more, begins-with-digit, read-decimal, read-hexadecimal, stranger, unread}
 
 -- ---- digits
 

@@ -1,5 +1,8 @@
 pub mod Entries
+pub mod Cases
+pub mod Names
 pub mod Reading
 pub mod Grammar
 pub mod Agreement
 pub mod Differences
+pub mod Readings

@@ -1,24 +1,24 @@
 -- `parse-c-number`, on any text: what it reads of digits alone and of digits behind `0x`, and that a byte which is no hexadecimal digit, no sign
 -- and no x leaves the text unread. Assumes nothing.
-use Prim.Native.Nat.{ℕ, zero, suc, _+_, _*_, _<_, _≤_, _^_, _%_, _-_}
-use native.Mathlib.Omega.{arith}
+use Prim.Native.Nat.{ℕ, suc, _+_, _*_, _<_, _^_, _-_}
 use native.Mathlib.Nat.{mod-eq-of-lt}
-use mathlib.Core.Path.{_≡_, refl, sym, ap, _∙_}
-use mathlib.Core.Bool.{Bool, true, false, cond, true≢false, false≢true}
-use mathlib.Core.List.{List, [], _∷_, _++_, map}
+use mathlib.Core.Path.{_≡_, refl, sym, _∙_}
+use mathlib.Core.Bool.{Bool, true, false, cond, false≢true}
+use mathlib.Core.List.{[], _∷_, _++_, map}
 use mathlib.Core.Option.{Option, none, some}
 use lib.Dec.{eqb, ltb}
 use lib.ListN.{length, drop}
-use lib.IntN.{ℤ, pos, negsuc}
-use borrow.Author.Tests.{eqb-true, lt-ltb, le-ltb, ltb-true, ltb-false}
+use lib.IntN.{pos, negsuc}
+use borrow.Author.Tests.{eqb-true, lt-ltb}
 use Rattle.reference.specs.Control.{not, _&&_, _||_, if_then_else_, let-some_else_then_}
 use Rattle.reference.specs.Lists.{any, is-some, is-empty}
 use Rattle.reference.specs.Text.{Text, bytes, starts-with, contains, strip-prefix}
-use Rattle.reference.specs.Numbers.{to-digit, digits-value, unsigned, read-u64, read-i64, as-i64, wrap, parse-c-number}
+use Rattle.reference.specs.Numbers.{to-digit, digits-value, unsigned, read-u64, read-i64, as-i64, parse-c-number}
 use Rattle.reference.specs.Opened.{opened}
 use Rattle.books.specs.Tables.{words, _∈_}
 use Rattle.books.specs.Constants.{twos-complement}
 use Rattle.books.proofs.Entries.{at-each}
+use Rattle.books.proofs.Cases.{by-if, both, neither}
 
 -- ---- digits
 
@@ -111,16 +111,6 @@ as-i64-is n h = rw (mod-eq-of-lt h, lt-ltb n (2 ^ 64) h) (step (ltb n (2 ^ 63)))
 abbrev pub stranger : ℕ → Bool
 stranger c = not (is-some (to-digit 10 c)) && not (is-some (to-digit 16 c)) && not (contains (bytes "+-x") c)
 
-both : {a b : Bool} → (a && b) ≡ true → (a ≡ true) × (b ≡ true)
-unfolding _&&_
-both {a = true} e = (refl, e)
-both {a = false} e = absurd (false≢true e)
-
-neither : {a b : Bool} → (a || b) ≡ false → (a ≡ false) × (b ≡ false)
-unfolding _||_
-neither {a = true} e = absurd (true≢false e)
-neither {a = false} e = (refl, e)
-
 or-false : {a : Bool} (b : Bool) → a ≡ false → (a || b) ≡ b
 unfolding _||_
 or-false b e = rw e
@@ -136,12 +126,9 @@ behind (b ∷ p) (x ∷ s) f e h =
 -- what holds of the text itself, and of what follows the prefix
 by-prefix {ℓ} : {B : Type ℓ} (P : B → Type 0) (p s : Text) (d : B) (k : Text → B) → any stranger p ≡ false → any stranger s ≡ true
     → P d → ((r : Text) → any stranger r ≡ true → P (k r)) → P (let-some (strip-prefix p s) else d then k)
-unfolding strip-prefix if_then_else_ let-some_else_then_
-by-prefix P p s d k f h itself after = step (starts-with s p) refl
-  where
-    step : (b : Bool) → starts-with s p ≡ b → P (let-some (if b then some (drop (length p) s) else none) else d then k)
-    step true e = after (drop (length p) s) (behind p s f e h)
-    step false e = itself
+unfolding strip-prefix let-some_else_then_
+by-prefix P p s d k f h itself after =
+    by-if (λ o. P (let-some o else d then k)) (λ e. after (drop (length p) s) (behind p s f e h)) (λ e. itself)
 
 none-there : {o : Option ℕ} → not (is-some o) ≡ true → o ≡ none
 unfolding not

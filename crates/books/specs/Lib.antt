@@ -5,3 +5,4 @@ pub mod Constants
 pub mod Agreement
 pub mod Notation
 pub mod Differences
+pub mod Readings

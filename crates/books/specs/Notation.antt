@@ -1,9 +1,9 @@
 -- How the examples are written: a line as text, its tokens split at registers, numbers and names (document 01's sheet of examples), a space in
 -- front for each step of indent. A minus directly before a digit belongs to the number. Assumes nothing.
-use Prim.Native.Nat.{ℕ, zero, suc}
+use Prim.Native.Nat.{ℕ, suc}
 use Prim.Native.String.{String}
 use mathlib.Core.Path.{_≡_}
-use mathlib.Core.Bool.{Bool, true, false}
+use mathlib.Core.Bool.{Bool}
 use mathlib.Core.List.{List, [], _∷_, map}
 use mathlib.Core.Option.{none}
 use lib.Dec.{eqb, leb}
@@ -53,12 +53,12 @@ line-at indent (c ∷ cs) =
 unfoldable pub listing : List String → Listing
 listing ls = map (λ l. line-at 0 (bytes l)) ls
 
--- the finished listing under a convention; `gives` is under convention 1
-abbrev pub gives-by : ℕ → List String → List String → Type 0
-gives-by c before after = finished (record { convention = c }) (listing before) ≡ listing after
+abbrev pub convention-1 : Rules
+convention-1 = record { convention = 1 }
 
+-- the finished listing, under convention 1
 abbrev pub gives : List String → List String → Type 0
-gives = gives-by 1
+gives before after = finished convention-1 (listing before) ≡ listing after
 
 -- opens all of the above, and the reference
 unfoldable pub spelled-out : Unit {0}

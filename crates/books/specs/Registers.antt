@@ -5,11 +5,12 @@ use Prim.Native.Nat.{ℕ, _+_, _*_, _/_, _%_, _^_}
 use Prim.Native.String.{String}
 use mathlib.Core.Bool.{cond}
 use mathlib.Core.List.{List, [], _∷_, _++_}
-use mathlib.Core.Option.{Option}
-use lib.Dec.{eqb, leb}
+use mathlib.Core.Option.{Option, none, some}
+use lib.Dec.{leb}
 use Rattle.reference.specs.Control.{let-some_else_then_}
 use Rattle.reference.specs.Text.{Text, bytes, _==_}
 use Rattle.reference.specs.Lists.{find}
+use Rattle.reference.specs.Names.{Fam}
 use Rattle.books.specs.Tables.{words}
 
 -- a name, the 64-bit register that it is a part of, its width in bits, and the lowest of these bits
@@ -46,6 +47,10 @@ register name = find (λ r. r .name == name) registers
 
 unfoldable pub family-of : Text → Text
 family-of name = let-some (register name) else [] then λ r. r .family
+
+-- family and width, as the reference puts them
+unfoldable pub by-the-manual : Text → Option Fam
+by-the-manual name = let-some (register name) else none then λ r. some (record { name = r .family; width = r .width })
 
 -- ---- parts
 
