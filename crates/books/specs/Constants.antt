@@ -82,6 +82,6 @@ pub data Constant : Text → ℕ → Type 0 where
 
 -- ---- 64 bits as a signed number
 
--- two's complement (6.2.6.2): n below 2^64 is n below 2^63, and n - 2^64 from there on
+-- two's complement, as int64_t has it (7.20.1.1): of 64 bits that come to n, the signed value is n below 2^63, and n - 2^64 from there on
 abbrev pub twos-complement : ℕ → ℤ
 twos-complement n = cond (ltb n (2 ^ 63)) (pos n) (subℕ n (2 ^ 64))

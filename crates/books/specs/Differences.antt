@@ -4,8 +4,7 @@ use Prim.Native.Nat.{ℕ, _+_, _-_, _≤_, _^_}
 use Prim.Native.String.{String}
 use mathlib.Core.Path.{_≡_}
 use mathlib.Core.Bool.{false}
-use mathlib.Core.List.{[], _∷_, _++_, map}
-use lib.ListN.{replicate}
+use mathlib.Core.List.{List, [], _∷_, _++_, map}
 use mathlib.Core.Option.{none, some}
 use lib.IntN.{ℤ, pos, negsuc}
 use Rattle.reference.specs.Text.{Text, bytes, has}
@@ -20,6 +19,10 @@ use Rattle.books.specs.Notation.{gives}
 -- the book has no such register, and the Rust has it as a family of its own
 abbrev invented : String → Type 0
 invented s = (register (bytes s) ≡ none) × (family (bytes s) ≡ some (record { name = bytes s; width = 64 }))
+
+-- the manual's registers beside the general-purpose ones, one of each sort (volume 1, figure 3-2)
+abbrev others : List Text
+others = words "rip eip ip rflags eflags cs ds es fs gs ss xmm0 ymm0 zmm0 k0 mm0 st0 cr0 dr0"
 
 abbrev reads : String → ℤ → Type 0
 reads s z = parse-c-number (bytes s) ≡ some z
@@ -42,7 +45,7 @@ pub record Differences : Type 0 where
   -- no second name of r8, and no volatile register
   pub r08 : invented "r08" × (has (volatile-of 1) (bytes "r08") ≡ false)
   pub capitals : family (bytes "RAX") ≡ none
-  pub other-registers : map family (words "rip eip ip rflags eflags cs ds es fs gs ss xmm0 ymm0 zmm0 k0 mm0 st0 cr0 dr0") ≡ replicate 19 none
+  pub other-registers : map family others ≡ map (λ n. none) others
   -- a stack slot is no register, and its store is removed as an assignment is
   pub stack-slot : invented "var_8" × gives ("var_8 = 5;" ∷ "rbx = var_8;" ∷ []) ("rbx = 5;" ∷ [])
   -- ---- parts of registers: section 3.4.1.1
@@ -95,7 +98,10 @@ pub record Differences : Type 0 where
   -- f was called in any case
   pub call-skipped : gives ("rax = f();" ∷ "rbx = rcx && rax;" ∷ []) ("rbx = rcx && f();" ∷ [])
   -- rcx may point to var_8
-  pub read-past-store : gives ("rax = *(rcx);" ∷ "var_8 = 5;" ∷ "rbx = rax;" ∷ []) ("var_8 = 5;" ∷ "rbx = *(rcx);" ∷ [])
+  pub read-past-store : gives ("rax = *(rcx);" ∷ "var_8 = 5;" ∷ "rbx = rax;" ∷ []) ("var_8 = 5;" ∷ "rbx = *(rcx);" ∷ [])  -- rbx was rcx + 1
+  pub increment-moved : gives ("rax = rcx++;" ∷ "rbx = rcx;" ∷ "rdx = rax;" ∷ []) ("rbx = rcx;" ∷ "rdx = rcx++;" ∷ [])
+  -- a call through a register is no call
+  pub register-called : gives ("rbx = rax();" ∷ "rcx = 5;" ∷ "rdx = rbx;" ∷ []) ("rcx = 5;" ∷ "rdx = rax();" ∷ [])
   -- ---- statements: C, 6.8
   pub jump-past-overwrite :
       gives
