@@ -14,6 +14,7 @@ use Rattle.reference.specs.Lists.{any, is-empty}
 use Rattle.reference.specs.Text.{Text, bytes, starts-with, contains}
 use Rattle.reference.specs.Numbers.{to-digit, digits-value, as-i64, parse-c-number}
 use Rattle.reference.specs.Opened.{opened}
+use Rattle.laws.proofs.Scans.{or-true, or-false, any-append}
 use Rattle.books.specs.Tables.{_∈_}
 use Rattle.books.specs.Constants.{digits, nonzero-digits, octal-digits, hexadecimal-digits, hexadecimal-prefixes, integer-suffix, Decimal, nonzero-digit, then-digit, Octal, zero-digit, then-octal, Hexadecimal, prefix-then, then-hexadecimal, Unsuffixed, decimal, octal, hexadecimal, Constant, unsuffixed, suffixed}
 use Rattle.books.proofs.Entries.{at-each}
@@ -150,31 +151,18 @@ octal-is {s} r =
 
 module _ (p : ℕ → Bool) where
   any-left : (s t : Text) → any p s ≡ true → any p (s ++ t) ≡ true
-  unfolding _||_
-  any-left [] t h = absurd (false≢true h)
-  any-left (x ∷ s) t h = step (p x) h (any-left s t)
-    where
-      step : (b : Bool) → (b || any p s) ≡ true → (any p s ≡ true → any p (s ++ t) ≡ true) → (b || any p (s ++ t)) ≡ true
-      step true e more = refl
-      step false e more = more e
+  any-left s t h = any-append p s t ∙ or-true (any p t) h
 
   any-right : (s t : Text) → any p t ≡ true → any p (s ++ t) ≡ true
   unfolding _||_
-  any-right [] t h = h
-  any-right (x ∷ s) t h = step (p x) (any-right s t h)
+  any-right s t h = any-append p s t ∙ step (any p s) h
     where
-      step : (b : Bool) → any p (s ++ t) ≡ true → (b || any p (s ++ t)) ≡ true
+      step : (b : Bool) {c : Bool} → c ≡ true → (b || c) ≡ true
       step true e = refl
       step false e = e
 
   free : (s t : Text) → any p s ≡ false → any p t ≡ false → any p (s ++ t) ≡ false
-  unfolding _||_
-  free [] t e f = f
-  free (x ∷ s) t e f = step (p x) e (λ g. free s t g f)
-    where
-      step : (b : Bool) → (b || any p s) ≡ false → (any p s ≡ false → any p (s ++ t) ≡ false) → (b || any p (s ++ t)) ≡ false
-      step true q more = absurd (true≢false q)
-      step false q more = more q
+  free s t e f = any-append p s t ∙ or-false (any p t) e ∙ f
 
   -- none of a table's characters is such a byte
   abbrev Free : List (ℕ × ℕ) → Type 0

@@ -1,5 +1,4 @@
 pub mod Entries
-pub mod Cases
 pub mod Names
 pub mod Reading
 pub mod Grammar

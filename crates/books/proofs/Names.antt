@@ -1,45 +1,35 @@
 -- No text has a family but the manual's names, `r` with digits, and `var_` with anything. Assumes nothing.
 use Prim.Native.Nat.{ℕ, suc}
-use native.Mathlib.Omega.{arith}
 use mathlib.Core.Path.{_≡_, refl, ap, _∙_}
 use mathlib.Core.Bool.{true, false, true≢false, false≢true}
 use mathlib.Core.List.{List, [], _∷_, _++_, map}
 use mathlib.Core.Option.{Option, none, some}
 use lib.ListN.{getD, drop, length}
 use lib.Seq.{getD-drop}
-use borrow.Author.Tests.{eqb-true}
 use Rattle.reference.specs.Lists.{position, get, is-empty}
 use Rattle.reference.specs.Text.{Text, bytes, has, _==_, starts-with, strip-prefix}
 use Rattle.reference.specs.Names.{Fam, LEGACY, legacy, high-byte, numbered, stack-slot, digits-of, is-digit, family}
 use Rattle.reference.specs.Opened.{opened}
+use Rattle.reference.proofs.Cases.{by-if, by-some, either, none-some}
+use Rattle.reference.proofs.Shapes.{same-text}
 use Rattle.books.specs.Tables.{_∈_}
 use Rattle.books.specs.Registers.{register, by-the-manual}
 use Rattle.books.specs.Agreement.{Known, in-the-manual, with-number, stack}
 use Rattle.books.proofs.Entries.{at-each, aligned}
-use Rattle.books.proofs.Cases.{by-if, by-some, both, either}
-
-same : (a b : Text) → (a == b) ≡ true → a ≡ b
-same [] [] e = refl
-same [] (y ∷ ys) e = absurd (false≢true e)
-same (x ∷ xs) [] e = absurd (false≢true e)
-same (x ∷ xs) (y ∷ ys) e = let h = eqb-true x y (both e .0) in let t = same xs ys (both e .1) in cc
-
-none-some {ℓ} : {A : Type ℓ} {x : A} → none ≡ some x → ⊥
-none-some e = let z : _≡_ {A = ℕ} 0 1 = cc in omega arith
 
 -- a search among names finds the name at its place
 found : (s : Text) (names : List Text) {i : ℕ} → position (_== s) names ≡ some i → get names i ≡ some s
 found s [] e = cc
 found s (n ∷ ns) {i} e =
     by-if (λ o. o ≡ some i → get (n ∷ ns) i ≡ some s)
-    (λ t w. let z : 0 ≡ i = cc in rw (← z) (ap some (same n s t)))
+    (λ t w. let z : 0 ≡ i = cc in rw (← z) (ap some (same-text n s t)))
     (λ t w.
     by-some (λ o. o ≡ some i → get (n ∷ ns) i ≡ some s) (λ q v. cc) (λ j q v. let z : suc j ≡ i = cc in rw (← z) (found s ns q)) w)
     e
 
 listed : (s : Text) (names : List Text) → has names s ≡ true → s ∈ names
 listed s [] e = absurd (false≢true e)
-listed s (n ∷ ns) e = either (s ∈ (n ∷ ns)) e (λ t. (0, ap some (same n s t))) (λ t. let q = listed s ns t in (suc (q .0), q .1))
+listed s (n ∷ ns) e = either (s ∈ (n ∷ ns)) e (λ t. (0, ap some (same-text n s t))) (λ t. let q = listed s ns t in (suc (q .0), q .1))
 
 -- ---- the table
 

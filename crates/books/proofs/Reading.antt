@@ -15,10 +15,11 @@ use Rattle.reference.specs.Lists.{any, is-some, is-empty}
 use Rattle.reference.specs.Text.{Text, bytes, starts-with, contains, strip-prefix}
 use Rattle.reference.specs.Numbers.{to-digit, digits-value, unsigned, read-u64, read-i64, as-i64, parse-c-number}
 use Rattle.reference.specs.Opened.{opened}
+use Rattle.reference.proofs.Cases.{by-if, both, neither}
+use Rattle.laws.proofs.Scans.{or-false}
 use Rattle.books.specs.Tables.{words, _∈_}
 use Rattle.books.specs.Constants.{twos-complement}
 use Rattle.books.proofs.Entries.{at-each}
-use Rattle.books.proofs.Cases.{by-if, both, neither}
 
 -- ---- digits
 
@@ -110,10 +111,6 @@ as-i64-is n h = rw (mod-eq-of-lt h, lt-ltb n (2 ^ 64) h) (step (ltb n (2 ^ 63)))
 -- a byte that is no digit, no sign and no x
 abbrev pub stranger : ℕ → Bool
 stranger c = not (is-some (to-digit 10 c)) && not (is-some (to-digit 16 c)) && not (contains (bytes "+-x") c)
-
-or-false : {a : Bool} (b : Bool) → a ≡ false → (a || b) ≡ b
-unfolding _||_
-or-false b e = rw e
 
 -- a stranger behind a prefix that holds none is there without it
 behind : (p s : Text) → any stranger p ≡ false → starts-with s p ≡ true → any stranger s ≡ true → any stranger (drop (length p) s) ≡ true

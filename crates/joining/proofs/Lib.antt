@@ -1,0 +1,13 @@
+pub mod Uses
+pub mod Reaching
+pub mod Straight
+pub mod Indexed
+pub mod Acting
+pub mod Single
+pub mod Taking
+pub mod Deciding
+pub mod Looking
+pub mod Building
+pub mod Planned
+pub mod BareLife
+pub mod Bare
