@@ -3,7 +3,7 @@ use Prim.Native.Nat.{ℕ, suc}
 use mathlib.Core.Path.{_≡_, refl, ap, _∙_}
 use mathlib.Core.Bool.{true, false, true≢false, false≢true}
 use mathlib.Core.List.{List, [], _∷_, _++_, map}
-use mathlib.Core.Option.{Option, none, some}
+use mathlib.Core.Option.{Option, some}
 use lib.ListN.{getD, drop, length}
 use lib.Seq.{getD-drop}
 use Rattle.reference.specs.Lists.{position, get, is-empty}
