@@ -98,7 +98,8 @@ pub record Differences : Type 0 where
   -- f was called in any case
   pub call-skipped : gives ("rax = f();" ∷ "rbx = rcx && rax;" ∷ []) ("rbx = rcx && f();" ∷ [])
   -- rcx may point to var_8
-  pub read-past-store : gives ("rax = *(rcx);" ∷ "var_8 = 5;" ∷ "rbx = rax;" ∷ []) ("var_8 = 5;" ∷ "rbx = *(rcx);" ∷ [])  -- rbx was rcx + 1
+  pub read-past-store : gives ("rax = *(rcx);" ∷ "var_8 = 5;" ∷ "rbx = rax;" ∷ []) ("var_8 = 5;" ∷ "rbx = *(rcx);" ∷ [])
+  -- rbx was rcx + 1
   pub increment-moved : gives ("rax = rcx++;" ∷ "rbx = rcx;" ∷ "rdx = rax;" ∷ []) ("rbx = rcx;" ∷ "rdx = rcx++;" ∷ [])
   -- a call through a register is no call
   pub register-called : gives ("rbx = rax();" ∷ "rcx = 5;" ∷ "rdx = rbx;" ∷ []) ("rcx = 5;" ∷ "rdx = rax();" ∷ [])
