@@ -1,5 +1,5 @@
--- The proof of demand 3, from the ground up; its last file states it. Code crates cite Cases (the control words), Shapes (what a success knows), Fits (why
--- the areas suffice) and Rounds (the rounds and cuts without fuel).
+-- The proof of demand 3, from the ground up; its last file states it. Code crates cite Cases (the control words), Shapes (what a success knows), Fits (how
+-- large a listing grows) and Rounds (the rounds and cuts without fuel).
 pub mod Cases
 pub mod Shapes
 pub mod Weights
