@@ -7,3 +7,8 @@ pub mod Changes
 pub mod Attempts
 pub mod Cuts
 pub mod Rounds
+pub mod LittleEndian
+pub mod Commands
+pub mod Reading
+pub mod Tapes
+pub mod Guarantee
