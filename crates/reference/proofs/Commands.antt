@@ -1,19 +1,19 @@
 -- One command: what its first byte says of the bytes after it, and that it reads back as it was written and writes back as it was read.
 -- Assumes nothing.
-use Prim.Native.Nat.{ℕ, zero, suc, _+_, _*_, _-_, _^_, _<_, _≤_}
+use Prim.Native.Nat.{ℕ, suc, _+_, _-_, _^_, _<_, _≤_}
 use native.Mathlib.Omega.{arith}
-use mathlib.Core.Path.{_≡_, refl, sym, ap, _∙_}
-use mathlib.Core.Bool.{Bool, true, false, false≢true}
-use mathlib.Core.List.{List, [], _∷_, _++_, append-assoc}
+use mathlib.Core.Path.{_≡_, refl, ap, _∙_}
+use mathlib.Core.Bool.{true, false, false≢true}
+use mathlib.Core.List.{List, [], _∷_, _++_}
 use mathlib.Core.Option.{Option, none, some}
-use lib.Dec.{eqb, leb}
-use lib.ListN.{length, getD, take, drop, length-append, length-drop}
+use lib.Dec.{eqb}
+use lib.ListN.{length, getD, take, drop, length-drop}
 use lib.Seq.{take-suc, take-add, take-append-seam, length-take-le}
 use borrow.Author.Tests.{ne-eqb, eqb-true, leb-true, le-leb}
 use Rattle.reference.specs.Control.{_&&_, _||_, if_then_else_}
-use Rattle.reference.specs.Listing.{Token, token}
+use Rattle.reference.specs.Listing.{token}
 use Rattle.reference.specs.Tape.{to-le-bytes, from-le-bytes, Command, new-line, new-token, end, write-command, text-length, command-size, command-of}
-use Rattle.reference.specs.Questions.{is-command, ends-inside}
+use Rattle.reference.specs.Questions.{is-command}
 use Rattle.reference.proofs.Cases.{either, both}
 use Rattle.reference.proofs.LittleEndian.{Bytes, bytes-drop, bytes-take, from-to, from-below, to-take}
 
@@ -91,9 +91,12 @@ sized rest (is-ending e) inside = let f = end-form rest e in rw (f .1, f .0) ref
 -- ---- there and back
 
 -- what of a command its bytes can hold
+abbrev pub AddressFits : Option ℕ → Type 0
+AddressFits none = Unit {0}
+AddressFits (some address) = address < 2 ^ 64
+
 abbrev pub Writable : Command → Type 0
-Writable (new-line none indent) = Unit {0}
-Writable (new-line (some address) indent) = address < 2 ^ 64
+Writable (new-line address indent) = AddressFits address
 Writable (new-token t) = (t .kind < 8) × (length (t .text) < 2 ^ 16)
 Writable end = Unit {0}
 

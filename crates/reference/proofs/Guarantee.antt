@@ -4,21 +4,21 @@
 -- indents keep their order; label lines stand unchanged; no callee is called less often; there are never more tokens than before, nor more
 -- than 49,152 bytes of text; and a round of m lines that removes s makes at most m + s attempts. So the output has room: `output-length`, and
 -- what a call lends keeps its length. Assumes nothing.
-use Prim.Native.Nat.{ℕ, zero, suc, _+_, _*_, _≤_}
+use Prim.Native.Nat.{ℕ, _≤_}
 use native.Mathlib.Omega.{arith}
 use native.Mathlib.Nat.{le-refl, le-trans}
-use mathlib.Core.Path.{_≡_, refl, sym, ap, _∙_}
-use mathlib.Core.Bool.{Bool, true, false}
+use mathlib.Core.Path.{_≡_, refl, sym}
+use mathlib.Core.Bool.{Bool, false}
 use mathlib.Core.List.{List, [], _∷_, _++_, Sublistᴰ, Sublistᴰ·slnil, Sublistᴰ·cons, Sublistᴰ·cons-cons}
 use lib.Dec.{ltb}
 use lib.ListN.{length, drop, replicate, length-map, length-append, length-drop, length-replicate}
 use borrow.Author.Tests.{leb-true, ltb-true}
 use Rattle.reference.specs.Control.{_&&_, _||_}
 use Rattle.reference.specs.Lists.{any}
-use Rattle.reference.specs.Listing.{Token, is, Number, Line, Listing}
+use Rattle.reference.specs.Listing.{Token, is, Number, Listing}
 use Rattle.reference.specs.Rules.{Rules}
-use Rattle.reference.specs.Run.{run, last-of, steps, listings, finished, counts}
-use Rattle.reference.specs.Claim.{size, token-count, text, place, places}
+use Rattle.reference.specs.Run.{run, last-of, listings, finished, counts}
+use Rattle.reference.specs.Claim.{size, token-count, place}
 use Rattle.reference.specs.Demand.{Accepted, Within, Each, Steps, Demand3}
 use Rattle.reference.specs.Tape.{write}
 use Rattle.reference.specs.Questions.{WORK, OUTPUT, has-room, Refused, Passed, read}
@@ -26,7 +26,9 @@ use Rattle.reference.specs.Reply.{Cleaned, Reply, reply, output-after, w
 use Rattle.reference.proofs.Cases.{both, fails}
 use Rattle.reference.proofs.Rounds.{demand3}
 use Rattle.reference.proofs.Reading.{ask-passed, by-passed, refused-passed, passed-inj}
-use Rattle.reference.proofs.Tapes.{All, TokenFits, LineFits, Limits, read-limits, write-length}
+use Rattle.reference.proofs.Writing.{write-length}
+use Rattle.reference.proofs.Limits.{All, TokenFits, LineFits, Limits}
+use Rattle.reference.proofs.Tapes.{read-limits}
 
 -- ---- what an accepted tape holds is an accepted listing
 

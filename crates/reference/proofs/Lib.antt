@@ -10,5 +10,8 @@ pub mod Rounds
 pub mod LittleEndian
 pub mod Commands
 pub mod Reading
+pub mod Writing
+pub mod Limits
 pub mod Tapes
+pub mod Written
 pub mod Guarantee

@@ -4,16 +4,15 @@ use Prim.Native.Nat.{ℕ, zero, suc, _+_, _-_, _<_, _≤_}
 use native.Mathlib.Omega.{arith}
 use native.Mathlib.Nat.{sub-zero}
 use mathlib.Core.Path.{_≡_, refl, sym, ap, _∙_}
-use mathlib.Core.Bool.{Bool, true, false, true≢false}
+use mathlib.Core.Bool.{Bool, true, false}
 use mathlib.Core.List.{List, [], _∷_, _++_}
-use lib.Dec.{leb}
 use lib.ListN.{length, drop, length-drop, drop-of-length-le}
 use borrow.Author.Tests.{leb-true, le-leb}
 use Rattle.reference.specs.Control.{if_then_else_}
 use Rattle.reference.specs.Listing.{Listing}
-use Rattle.reference.specs.Tape.{Command, new-line, new-token, end, command-size, command-of}
+use Rattle.reference.specs.Tape.{command-size, command-of}
 use Rattle.reference.specs.Questions.{Totals, is-command, ends-inside, has-line, is-within, is-printable, is-over, Answer, Refused, Passed, ask, let-passed_then_, count-in, Advance, read-command, is-end, add, read-from, read}
-use Rattle.reference.proofs.Cases.{by-if, true-false}
+use Rattle.reference.proofs.Cases.{by-if}
 use Rattle.reference.proofs.Commands.{Form, is-address, is-plain, is-token, is-ending, form, is-form, address-form, plain-form, token-form, end-form}
 
 -- ---- questions
@@ -63,10 +62,12 @@ module _ {A : Type 0} where
   unfolding let-passed_then_
   let-is k e = rw e
 
-  pub same-passed : {B : Type 0} {a : Answer B} {k l : B → Answer A} → ((x : B) → a ≡ Passed x → k x ≡ l x) → (let-passed a then k) ≡ (let-passed a then l)
+  -- two continuations that agree in what f tells of them
+  pub same-passed : {B C : Type 0} (f : Answer A → C) {a : Answer B} {k l : B → Answer A} → ((x : B) → a ≡ Passed x → f (k x) ≡ f (l x))
+      → f (let-passed a then k) ≡ f (let-passed a then l)
   unfolding let-passed_then_
-  same-passed {a = Refused number place} h = refl
-  same-passed {a = Passed x} h = h x refl
+  same-passed f {a = Refused number place} h = refl
+  same-passed f {a = Passed x} h = h x refl
 
 -- ---- one command
 
@@ -79,7 +80,7 @@ pub record Passes (rest : List ℕ) (t : Totals) : Type 0 where
   pub printable : is-printable (command-of rest) ≡ true
   pub over : is-over rest (command-of rest) ≡ true
 
-abbrev advance : List ℕ → ℕ → Totals → Advance
+abbrev pub advance : List ℕ → ℕ → Totals → Advance
 advance tape at t =
     record {
       command = command-of (drop at tape);
@@ -128,6 +129,11 @@ pub no-byte : (tape : List ℕ) (at : ℕ) (t : Totals) → length tape ≤ at �
 unfolding read-command is-command
 no-byte tape at t h = ask-no at [] _ _ _ tt (rw (drop-of-length-le tape h))
 
+-- the answer depends on the numbers carried along and on the tape from the offset on
+pub read-command-rest : (s t : List ℕ) (at : ℕ) (n : Totals) → drop at s ≡ drop at t → read-command s at n ≡ read-command t at n
+unfolding read-command
+read-command-rest s t at n e = rw e
+
 -- ---- the fuel is enough
 
 module _ (tape : List ℕ) where
@@ -141,7 +147,7 @@ module _ (tape : List ℕ) where
   enough zero (suc g) at t lines h k = sym (let-refused _ (no-byte tape at t (omega arith)))
   enough (suc f) zero at t lines h k = let-refused _ (no-byte tape at t (omega arith))
   enough (suc f) (suc g) at t lines h k =
-      same-passed
+      same-passed (λ r. r)
       λ a e. (let before = later at t a e in rw (enough f g (a .next) (a .totals) (add (a .command) lines) (omega arith) (omega arith)))
 
   -- the reading from an offset on
@@ -154,12 +160,32 @@ module _ (tape : List ℕ) where
   unfolding read-from
   reading-step at t lines =
       enough (length tape - at) (suc (length tape)) at t lines (omega arith) (omega arith)
-      ∙ same-passed
+      ∙ same-passed (λ r. r)
       λ a e. (let before = later at t a e in rw (enough (length tape) (length tape - a .next) (a .next) (a .totals) (add (a .command) lines) (omega arith) (omega arith)))
 
   pub read-whole : read tape ≡ reading 0 (record { lines = 0; tokens = 0; text = 0 }) []
   unfolding read
   read-whole = rw sub-zero
+
+-- ---- the answer without the listing
+
+abbrev pub verdict : {A : Type 0} → Answer A → Answer (Unit {0})
+verdict (Refused number place) = Refused number place
+verdict (Passed x) = Passed tt
+
+same-if : {A C : Type 0} (f : A → C) (b : Bool) {x x′ y y′ : A} → f x ≡ f x′ → f y ≡ f y′ → f (if b then x else y) ≡ f (if b then x′ else y′)
+unfolding if_then_else_
+same-if f true p q = p
+same-if f false p q = q
+
+-- whether a tape is refused does not depend on the lines read so far
+pub verdict-same : (tape : List ℕ) (fuel at : ℕ) (t : Totals) (l m : Listing)
+    → verdict (read-from fuel tape at t l) ≡ verdict (read-from fuel tape at t m)
+unfolding read-from
+verdict-same tape zero at t l m = refl
+verdict-same tape (suc fuel) at t l m =
+    same-passed verdict
+    λ a e. same-if verdict (is-end (a .command)) refl (verdict-same tape fuel (a .next) (a .totals) (add (a .command) l) (add (a .command) m))
 
 -- ---- the places that a reading comes to
 
