@@ -10,3 +10,11 @@ pub mod Fits
 pub mod Attempts
 pub mod Cuts
 pub mod Rounds
+pub mod LittleEndian
+pub mod Commands
+pub mod Reading
+pub mod Writing
+pub mod Limits
+pub mod Tapes
+pub mod Written
+pub mod Guarantee
