@@ -17,6 +17,7 @@ use Rattle.reference.specs.Join.{Uses, ends-run, gather, harmless, use-from, re
 use Rattle.reference.specs.Run.{labels-from, addressed-in, dead-result}
 use Rattle.laws.proofs.Scans.{any-map}
 use Rattle.joining.specs.Bare.{bare, bare-lines}
+use Rattle.joining.specs.Rounds.{cut-at}
 use Rattle.joining.specs.Plan.{Definition, definition-of, Plan, Reach, reach-at, reach-from, reach-of, refuses, all-take, ends-at, plan-reach, plan-constant, use-of, plan-use, plan-single, plan-for, decide, map-from, right-side-of, changes, where-used, acted-line, act}
 use Rattle.joining.proofs.BareLife.{at-bare, drop-map, slice-map, dead-after-bare}
 use Rattle.joining.proofs.Deciding.{try-at-is}
@@ -129,6 +130,5 @@ pub dead-result-bare : (rules : Rules) (labels : Labels) (lines : Listing) (i : 
 unfolding dead-result
 dead-result-bare rules labels lines i = rw (at-bare lines i, dead-after-bare lines _ ((lines at i) .indent) labels i (volatile rules) i)
 
-pub cut-bare : (i : ℕ) (lines : Listing)
-    → modify i (λ l. with-tokens (drop 2 (l .tokens)) l) (bare-lines lines) ≡ bare-lines (modify i (λ l. with-tokens (drop 2 (l .tokens)) l) lines)
+pub cut-bare : (i : ℕ) (lines : Listing) → cut-at i (bare-lines lines) ≡ bare-lines (cut-at i lines)
 cut-bare i lines = modify-map bare _ _ (λ l. refl) i lines

@@ -11,3 +11,6 @@ pub mod Building
 pub mod Planned
 pub mod BareLife
 pub mod Bare
+pub mod Labels
+pub mod Moving
+pub mod Rounds

@@ -1,2 +1,4 @@
 pub mod Plan
 pub mod Bare
+pub mod Places
+pub mod Rounds
