@@ -14,3 +14,5 @@ pub mod Bare
 pub mod Labels
 pub mod Moving
 pub mod Rounds
+pub mod Bounds
+pub mod Room

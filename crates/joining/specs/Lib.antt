@@ -2,3 +2,4 @@ pub mod Plan
 pub mod Bare
 pub mod Places
 pub mod Rounds
+pub mod Limits
