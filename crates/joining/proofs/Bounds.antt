@@ -1,23 +1,23 @@
 -- The limits hold after every attempt and every cut; and while an attempt's new listing is built, its lines, not merged and folded yet, have
 -- 1,024 tokens and 49,152 bytes of room at most. Assumes nothing.
-use Prim.Native.Nat.{ℕ, zero, suc, _+_, _*_, _-_, _≤_, _<_, zero-le}
+use Prim.Native.Nat.{ℕ, zero, suc, _+_, _*_, _≤_, _<_, zero-le}
 use native.Mathlib.Omega.{arith}
-use native.Mathlib.Nat.{le-refl, le-trans, not-suc-le-zero, le-of-suc-le-suc}
-use mathlib.Core.Path.{_≡_, refl, sym, ap, _∙_, subst}
+use native.Mathlib.Nat.{le-refl, le-trans}
+use mathlib.Core.Path.{_≡_, refl, sym, ap, _∙_}
 use mathlib.Core.Bool.{Bool, true, false}
 use mathlib.Core.List.{List, [], _∷_}
-use mathlib.Core.Option.{Option, none, some}
+use mathlib.Core.Option.{some}
 use lib.Dec.{ltb}
-use lib.ListN.{length, getD, take, drop}
+use lib.ListN.{length, take}
 use borrow.Author.Tests.{ltb-false}
-use Rattle.reference.specs.Control.{_&&_, if_then_else_}
+use Rattle.reference.specs.Control.{_&&_}
 use Rattle.reference.specs.Lists.{any, remove, modify}
 use Rattle.reference.specs.Text.{Text}
 use Rattle.reference.specs.Listing.{Token, is, Number, Line, Listing, _at_, with-tokens}
 use Rattle.reference.specs.Rules.{Rules, volatile}
 use Rattle.reference.specs.Shapes.{Assignment}
 use Rattle.reference.specs.Life.{Labels}
-use Rattle.reference.specs.Join.{substitute, lone-number, try-at}
+use Rattle.reference.specs.Join.{substitute, try-at}
 use Rattle.reference.specs.Run.{dead-result}
 use Rattle.reference.specs.Claim.{sum, size, token-count}
 use Rattle.reference.specs.Demand.{Accepted}
@@ -25,7 +25,7 @@ use Rattle.reference.proofs.Cases.{by-if, neither, pair, fails, true-false}
 use Rattle.reference.proofs.Shapes.{Assigning, assigns}
 use Rattle.reference.proofs.Weights.{Weight, weigh, weight, total, Light, count, count-is, plain, plain-text, excess, light, light-nothing, light-excess, replaced-le, substitute-le}
 use Rattle.reference.proofs.Lines.{sum-remove, sum-modify, at-modify, length-modify}
-use Rattle.reference.proofs.Changes.{Changes, changes-step, Removed, removed-length, removed-le, removed-step}
+use Rattle.reference.proofs.Changes.{changes-step, removed-length, removed-le, removed-step}
 use Rattle.reference.proofs.Attempts.{attempt-removed}
 use Rattle.reference.proofs.Cuts.{cut-changes}
 use Rattle.laws.proofs.Scans.{if-false}

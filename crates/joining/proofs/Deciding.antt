@@ -1,27 +1,25 @@
 -- To decide and then to act is to try: `try-at` is `decide` followed by `act`, for every listing. Assumes nothing.
-use Prim.Native.Nat.{ℕ, zero, suc, _≤_, _<_}
-use native.Mathlib.Omega.{arith}
-use mathlib.Core.Path.{_≡_, refl, sym, ap, _∙_, subst}
+use Prim.Native.Nat.{ℕ, suc, _<_}
+use mathlib.Core.Path.{_≡_, refl, sym, ap, _∙_}
 use mathlib.Core.Bool.{Bool, true, false}
-use mathlib.Core.List.{List, [], _∷_, _++_}
+use mathlib.Core.List.{List, [], _∷_}
 use mathlib.Core.Option.{Option, none, some}
 use lib.ListN.{length, drop}
-use lib.Seq.{slice}
 use Rattle.reference.specs.Control.{not, _&&_, _||_, if_then_else_, let-some_else_then_}
 use Rattle.reference.specs.Lists.{any, position, is-some, is-empty, remove, modify}
 use Rattle.reference.specs.Text.{Text, has}
-use Rattle.reference.specs.Listing.{Token, Line, Listing, blank, _at_, with-tokens}
+use Rattle.reference.specs.Listing.{Token, Listing, blank, _at_, with-tokens}
 use Rattle.reference.specs.Names.{Fam, family, of-family}
 use Rattle.reference.specs.Numbers.{fold, merge}
 use Rattle.reference.specs.Rules.{Rules, volatile}
 use Rattle.reference.specs.Shapes.{Assignment, assignment-of, call-in}
-use Rattle.reference.specs.Life.{Labels, touch, is-kill, dead-after}
-use Rattle.reference.specs.Join.{Uses, gather, bad-use, rewrite-use, rewrite-uses, rewrite-one, propagate-constant, use-from, join-at, join-one, lone-number, try-at}
+use Rattle.reference.specs.Life.{Labels}
+use Rattle.reference.specs.Join.{Uses, rewrite-use, rewrite-uses, rewrite-one, propagate-constant, use-from, join-at, join-one, lone-number, try-at}
 use Rattle.reference.proofs.Cases.{by-if, by-some, neither, some-inj, unless-some, bind-some}
 use Rattle.reference.proofs.Shapes.{inside as assignment-inside}
 use Rattle.laws.proofs.Scans.{if-true, if-false, or-only}
-use Rattle.joining.specs.Plan.{Definition, definition-of, Plan, Reach, reach-of, all-take, refuses, ends-at, plan-reach, plan-constant, use-of, wants-brackets, plan-use, plan-single, plan-for, decide, right-side-of, map-from, acted-line, act}
-use Rattle.joining.proofs.Uses.{uses-upto, gather-uses, single-use}
+use Rattle.joining.specs.Plan.{Definition, definition-of, Plan, all-take, ends-at, plan-reach, plan-constant, use-of, wants-brackets, plan-use, plan-single, plan-for, decide, right-side-of, map-from, acted-line, act}
+use Rattle.joining.proofs.Uses.{uses-upto, single-use}
 use Rattle.joining.proofs.Reaching.{gathered, reach-used, reach-last, gathered-uses}
 use Rattle.joining.proofs.Taking.{refused}
 use Rattle.joining.proofs.Straight.{use-found}

@@ -1,31 +1,28 @@
 -- A round's labels by their places: at its beginning, after a line is gone, after a cut, and the lookup of a name. Assumes nothing.
-use Prim.Native.Nat.{ℕ, zero, suc, pred, _+_, _≤_, _<_, suc-le-suc}
+use Prim.Native.Nat.{ℕ, zero, suc, _+_, _<_}
 use native.Mathlib.Omega.{arith}
 use native.Mathlib.Nat.{zero-add, add-zero, add-suc, suc-add, not-suc-le-zero, le-of-suc-le-suc}
 use native.Mathlib.Decide.{decLe}
 use native.Mathlib.Numerals.{add-one}
-use mathlib.Core.Path.{_≡_, refl, sym, ap, _∙_, subst, subst⁻¹}
+use mathlib.Core.Path.{_≡_, refl, sym, ap, _∙_}
 use mathlib.Core.Logic.{by-cases}
 use mathlib.Core.Bool.{Bool, true, false, false≢true}
-use mathlib.Core.List.{List, [], _∷_, _++_, map, map-append}
+use mathlib.Core.List.{List, [], _∷_, _++_, map-append}
 use mathlib.Core.Option.{Option, none, some}
-use lib.Dec.{ltb}
-use lib.ListN.{length, getD, take, drop, length-map, List·getD-map, List·getD-eq-default}
+use lib.ListN.{length, getD, take, drop, List·getD-eq-default}
 use lib.Seq.{take-suc, take-length, length-take-le}
-use borrow.Author.Tests.{lt-ltb, le-ltb}
 use Rattle.reference.specs.Control.{if_then_else_, let-some_else_then_}
-use Rattle.reference.specs.Lists.{remove, modify, get}
+use Rattle.reference.specs.Lists.{get}
 use Rattle.reference.specs.Text.{Text, _==_}
-use Rattle.reference.specs.Listing.{Token, Line, Listing, blank, _at_, with-tokens}
-use Rattle.reference.specs.Rules.{Rules, volatile}
+use Rattle.reference.specs.Listing.{Line, Listing, blank, _at_}
 use Rattle.reference.specs.Shapes.{is-label, label-tokens}
 use Rattle.reference.specs.Life.{Label, Labels, lookup}
 use Rattle.reference.specs.Join.{text-or-empty}
-use Rattle.reference.specs.Run.{labels-from, shift}
-use Rattle.reference.proofs.Cases.{by-if, true-false}
+use Rattle.reference.specs.Run.{labels-from}
+use Rattle.reference.proofs.Cases.{by-if}
 use Rattle.reference.proofs.Lines.{drop-step}
 use Rattle.laws.proofs.Scans.{if-true, if-false}
-use Rattle.joining.specs.Places.{label-places, label-at, labels-at, Labelled, shift-place, shift-places}
+use Rattle.joining.specs.Places.{label-places, label-at, labels-at, Labelled}
 
 -- a label line stands inside the listing
 pub label-inside : (lines : Listing) (p : ℕ) → is-label (lines at p) ≡ true → p < length lines

@@ -16,3 +16,5 @@ pub mod Moving
 pub mod Rounds
 pub mod Bounds
 pub mod Room
+pub mod Addressed
+pub mod Fitting

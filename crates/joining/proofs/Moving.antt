@@ -1,6 +1,6 @@
 -- What an attempt leaves of the lines that it does not change, the label lines above all: a round's labels stay labels, at their shifted places.
 -- The same for a cut. Assumes nothing.
-use Prim.Native.Nat.{ℕ, zero, suc, pred, _+_, _≤_, _<_}
+use Prim.Native.Nat.{ℕ, zero, suc, pred, _≤_, _<_}
 use native.Mathlib.Omega.{arith}
 use native.Mathlib.Nat.{zero-add, not-suc-le-zero, le-of-suc-le-suc}
 use native.Mathlib.Decide.{decLe}
@@ -8,24 +8,24 @@ use mathlib.Core.Path.{_≡_, refl, sym, ap, _∙_, subst}
 use mathlib.Core.Logic.{by-cases}
 use mathlib.Core.Bool.{Bool, true, false, false≢true}
 use mathlib.Core.List.{List, [], _∷_, map, map-id}
-use mathlib.Core.Option.{Option, none, some}
-use lib.Dec.{leb, ltb, eqb}
-use lib.ListN.{length, getD, drop, length-map, List·getD-map}
+use mathlib.Core.Option.{none, some}
+use lib.Dec.{ltb, eqb}
+use lib.ListN.{length, getD, length-map}
 use borrow.Author.Tests.{lt-ltb, le-ltb, lt-leb}
-use Rattle.reference.specs.Control.{_&&_, if_then_else_, let-some_else_then_}
-use Rattle.reference.specs.Lists.{remove, modify, get}
+use Rattle.reference.specs.Control.{if_then_else_, let-some_else_then_}
+use Rattle.reference.specs.Lists.{remove, get}
 use Rattle.reference.specs.Text.{Text}
-use Rattle.reference.specs.Listing.{Token, Line, Listing, blank, _at_, with-tokens}
+use Rattle.reference.specs.Listing.{Token, Listing, blank, _at_}
 use Rattle.reference.specs.Rules.{Rules, volatile}
 use Rattle.reference.specs.Shapes.{is-label, label-tokens, calls-here, call-in}
-use Rattle.reference.specs.Life.{Label, Labels}
+use Rattle.reference.specs.Life.{Labels}
 use Rattle.reference.specs.Join.{rewrite-use, text-or-empty, try-at}
 use Rattle.reference.specs.Run.{shift, dead-result}
 use Rattle.reference.proofs.Cases.{true-false, both}
 use Rattle.reference.proofs.Shapes.{assigns, assigning-plain}
 use Rattle.reference.proofs.Lines.{at-modify}
 use Rattle.laws.proofs.Scans.{if-true, if-false, and-false}
-use Rattle.joining.specs.Places.{label-at, labels-at, Labelled, shift-place, shift-places}
+use Rattle.joining.specs.Places.{labels-at, Labelled, shift-place, shift-places}
 use Rattle.joining.specs.Plan.{Plan, map-from, right-side-of, where-used, acted-line, act}
 use Rattle.joining.specs.Rounds.{cut-at}
 use Rattle.joining.proofs.Indexed.{getD-map, getD-map-from}

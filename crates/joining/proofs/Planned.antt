@@ -1,21 +1,20 @@
 -- What is known where a plan was made: the definition it comes from, the lines that it reaches, and which of the two joins it is.
 -- Assumes nothing.
-use Prim.Native.Nat.{ℕ, suc, _≤_, _<_}
-use native.Mathlib.Omega.{arith}
-use mathlib.Core.Path.{_≡_, refl, sym, ap, _∙_, subst}
-use mathlib.Core.Bool.{Bool, true, false}
+use Prim.Native.Nat.{ℕ, suc, _<_}
+use mathlib.Core.Path.{_≡_, refl, _∙_, subst}
+use mathlib.Core.Bool.{true, false}
 use mathlib.Core.List.{List, [], _∷_}
-use mathlib.Core.Option.{Option, none, some}
-use lib.ListN.{length, drop}
+use mathlib.Core.Option.{Option, some}
+use lib.ListN.{drop}
 use Rattle.reference.specs.Lists.{position}
 use Rattle.reference.specs.Text.{Text}
-use Rattle.reference.specs.Listing.{Line, Listing, _at_}
+use Rattle.reference.specs.Listing.{Listing, _at_}
 use Rattle.reference.specs.Names.{of-family}
 use Rattle.reference.specs.Rules.{Rules, volatile}
 use Rattle.reference.specs.Life.{Labels}
 use Rattle.reference.specs.Join.{substitute, replace-at, lone-number}
 use Rattle.reference.proofs.Cases.{by-some, some-inj, if-some, unless-some, bind-some}
-use Rattle.joining.specs.Plan.{Definition, definition-of, Plan, reach-of, plan-reach, plan-constant, use-of, plan-use, plan-single, plan-for, decide, wants-brackets, right-side-of}
+use Rattle.joining.specs.Plan.{Definition, definition-of, Plan, plan-reach, plan-constant, use-of, plan-use, plan-single, plan-for, decide, wants-brackets, right-side-of}
 use Rattle.joining.proofs.Uses.{uses-upto, single-use}
 use Rattle.joining.proofs.Straight.{Reached, use-found}
 use Rattle.joining.proofs.Reaching.{reach-reached}

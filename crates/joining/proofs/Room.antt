@@ -6,12 +6,12 @@ use native.Mathlib.Nat.{not-suc-le-zero, le-of-suc-le-suc}
 use mathlib.Core.Path.{_≡_, refl, ap, _∙_}
 use mathlib.Core.Bool.{Bool, true, false}
 use mathlib.Core.List.{List, [], _∷_, _++_}
-use mathlib.Core.Option.{Option, none, some}
+use mathlib.Core.Option.{Option, some}
 use lib.ListN.{length, getD, length-append}
 use Rattle.reference.specs.Control.{_||_, if_then_else_}
 use Rattle.reference.specs.Lists.{count}
 use Rattle.reference.specs.Text.{bytes, _==_}
-use Rattle.reference.specs.Listing.{Token, token, is, Number, Line, Listing, _at_}
+use Rattle.reference.specs.Listing.{Token, token, is, Number, Listing, _at_}
 use Rattle.reference.specs.Numbers.{joins, merge-into, merge, folded}
 use Rattle.reference.specs.Claim.{sum, size, text-in}
 use Rattle.reference.proofs.Cases.{by-if, either}
@@ -19,7 +19,7 @@ use Rattle.reference.proofs.Shapes.{same-text, joins-other, folds}
 use Rattle.reference.proofs.Weights.{sum-append}
 use Rattle.reference.proofs.Lines.{sum-remove}
 use Rattle.laws.proofs.Scans.{if-true, if-false}
-use Rattle.joining.specs.Limits.{plain-size, over, room, each-token}
+use Rattle.joining.specs.Limits.{over, room, each-token}
 use Rattle.joining.specs.Plan.{built}
 use Rattle.joining.proofs.Building.{built-turn}
 

@@ -5,7 +5,7 @@ use native.Mathlib.Nat.{sub-zero}
 use native.Mathlib.Decide.{decLe}
 use mathlib.Core.Path.{_≡_, refl, sym, ap, _∙_}
 use mathlib.Core.Logic.{by-cases}
-use mathlib.Core.Bool.{Bool, true, false}
+use mathlib.Core.Bool.{true, false}
 use mathlib.Core.List.{List, [], _∷_}
 use mathlib.Core.Option.{Option, none, some}
 use lib.Dec.{ltb}
@@ -17,7 +17,7 @@ use Rattle.reference.specs.Listing.{Listing}
 use Rattle.reference.specs.Rules.{Rules}
 use Rattle.reference.specs.Life.{Labels}
 use Rattle.reference.specs.Join.{try-at}
-use Rattle.reference.specs.Run.{labels-from, addressed-in, shift, Attempt, attempts-from, propagate-once, after-attempts, removals, changed, dead-result, cuts-from, drop-dead-results, last-of}
+use Rattle.reference.specs.Run.{labels-from, addressed-in, shift, Attempt, attempts-from, propagate-once, after-attempts, removals, changed, dead-result, cuts-from, drop-dead-results}
 use Rattle.reference.proofs.Lines.{length-modify}
 use Rattle.reference.proofs.Changes.{removed-length}
 use Rattle.reference.proofs.Attempts.{attempt-removed}

@@ -1,17 +1,17 @@
 -- A single use: to replace the one token of the family is to substitute for each. Assumes nothing.
-use Prim.Native.Nat.{ℕ, zero, suc, _≤_, _<_}
+use Prim.Native.Nat.{ℕ, suc}
 use native.Mathlib.Omega.{arith}
-use mathlib.Core.Path.{_≡_, refl, sym, ap, _∙_, subst}
+use mathlib.Core.Path.{_≡_, refl, ap, _∙_, subst}
 use mathlib.Core.Bool.{Bool, true, false}
-use mathlib.Core.List.{List, [], _∷_, _++_, append-assoc}
+use mathlib.Core.List.{List, [], _∷_, _++_}
 use mathlib.Core.Option.{Option, none, some}
-use lib.ListN.{length, take, drop}
+use lib.ListN.{take, drop}
 use Rattle.reference.specs.Control.{if_then_else_, let-some_else_then_}
 use Rattle.reference.specs.Lists.{count, position}
 use Rattle.reference.specs.Text.{Text}
-use Rattle.reference.specs.Listing.{Token, Line}
+use Rattle.reference.specs.Listing.{Token}
 use Rattle.reference.specs.Names.{of-family}
-use Rattle.reference.specs.Life.{Touch, None, Kill, Use, touch-of}
+use Rattle.reference.specs.Life.{Touch, Use, touch-of}
 use Rattle.reference.specs.Join.{substitute, replacement, replace-at}
 use Rattle.reference.proofs.Cases.{by-if, by-some, some-inj, none-some}
 use Rattle.joining.specs.Plan.{Plan, wants-brackets, right-side-of}

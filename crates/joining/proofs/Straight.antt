@@ -8,7 +8,7 @@ use mathlib.Core.Path.{_≡_, ap, _∙_, subst}
 use mathlib.Core.Logic.{by-cases}
 use mathlib.Core.Bool.{Bool, false}
 use mathlib.Core.List.{List, [], _∷_}
-use mathlib.Core.Option.{Option, none, some}
+use mathlib.Core.Option.{Option, some}
 use lib.ListN.{length, drop}
 use Rattle.reference.specs.Text.{Text}
 use Rattle.reference.specs.Listing.{Token, Line, Listing, _at_}

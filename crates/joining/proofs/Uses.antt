@@ -1,22 +1,18 @@
 -- The lines that use a family, by their places: what `gather` and `use-from` find. Assumes nothing.
-use Prim.Native.Nat.{ℕ, zero, suc, _-_, _≤_, _<_}
+use Prim.Native.Nat.{ℕ, suc, _≤_, _<_}
 use native.Mathlib.Omega.{arith}
 use mathlib.Core.Path.{_≡_, refl, sym, ap, _∙_, subst}
 use mathlib.Core.Bool.{Bool, true, false}
-use mathlib.Core.List.{List, [], _∷_, _++_}
-use mathlib.Core.Option.{Option, none, some}
-use lib.Dec.{leb, ltb, eqb}
-use lib.ListN.{length, take, drop}
-use borrow.Author.Tests.{le-leb, lt-leb, leb-true, leb-false}
-use Rattle.reference.specs.Control.{not, _&&_, _||_, if_then_else_}
-use Rattle.reference.specs.Lists.{any, is-empty}
+use mathlib.Core.List.{List, [], _∷_}
+use mathlib.Core.Option.{Option, some}
+use lib.Dec.{leb}
+use borrow.Author.Tests.{le-leb, lt-leb}
+use Rattle.reference.specs.Control.{_&&_, if_then_else_}
 use Rattle.reference.specs.Text.{Text}
-use Rattle.reference.specs.Listing.{Token, Line, Listing, _at_}
-use Rattle.reference.specs.Shapes.{is-label, opens-or-closes}
-use Rattle.reference.specs.Life.{Touch, None, Kill, Use, touch, match-touch, is-use}
+use Rattle.reference.specs.Listing.{Token, Line, Listing}
+use Rattle.reference.specs.Life.{None, Kill, Use, touch, match-touch, is-use}
 use Rattle.reference.specs.Join.{Uses, gather, use-from}
 use Rattle.reference.proofs.Cases.{by-if, by-touch, both, fails, true-false, some-inj, none-some, if-some, unless-some}
-use Rattle.reference.proofs.Lines.{drop-step}
 use Rattle.laws.proofs.Scans.{if-true, if-false, and-true}
 
 module _ (fam : Text) (volatile : List Text) where

@@ -7,7 +7,7 @@ use lib.Dec.{ltb}
 use lib.ListN.{length, getD}
 use Rattle.reference.specs.Control.{if_then_else_}
 use Rattle.reference.specs.Lists.{get}
-use Rattle.reference.specs.Listing.{Line, Listing, _at_}
+use Rattle.reference.specs.Listing.{Listing, _at_}
 use Rattle.reference.specs.Shapes.{is-label}
 use Rattle.reference.specs.Life.{Label, Labels}
 use Rattle.reference.specs.Join.{text-or-empty}
