@@ -15,7 +15,7 @@ use Rattle.reference.specs.Text.{Text}
 use Rattle.reference.specs.Listing.{Token, Line, Listing}
 use Rattle.reference.specs.Life.{touch, is-use}
 use Rattle.reference.specs.Join.{rewrite-use, rewrite-uses}
-use Rattle.laws.proofs.Scans.{if-false, and-true, and-false}
+use Rattle.laws.proofs.Scans.{if-true, if-false, and-true, and-false}
 use Rattle.joining.specs.Plan.{Plan, map-from, right-side-of, changes, where-used, acted-line}
 use Rattle.joining.proofs.Uses.{uses-upto}
 use Rattle.joining.proofs.Indexed.{map-from-append, map-from-id, modify-seam}
@@ -36,9 +36,17 @@ module _ (vol : List Text) (i : ℕ) (p : Plan) where
   changes-later k l h = and-true _ (lt-ltb i k h)
 
   module _ (g : Line → Line) where
+    pub line-changed : (k : ℕ) (l : Line) → changes vol i p k l ≡ true → where-used vol i p g k l ≡ g l
+    unfolding where-used
+    line-changed k l e = if-true _ _ e
+
+    pub line-kept : (k : ℕ) (l : Line) → changes vol i p k l ≡ false → where-used vol i p g k l ≡ l
+    unfolding where-used
+    line-kept k l e = if-false _ _ e
+
     pub early : (k : ℕ) (l : Line) → k ≤ i → where-used vol i p g k l ≡ l
-    unfolding where-used changes
-    early k l h = if-false _ _ (and-false _ (le-ltb i k h))
+    unfolding changes
+    early k l h = line-kept k l (and-false _ (le-ltb i k h))
 
     changed-from : (front : Listing) (j : ℕ) (ls : Listing) → i < j → length front ≡ j
         → modifies g (uses-upto (p .fam) vol (p .last) j ls) (front ++ ls) ≡ front ++ map-from (where-used vol i p g) j ls

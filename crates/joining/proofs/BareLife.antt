@@ -58,6 +58,7 @@ module _ (lines : Listing) (fam : Text) (base-indent : ℕ) (labels : Labels) (s
   dead-from-bare w [] = refl
   dead-from-bare w (l ∷ ls) = rw (dead-from-bare (suc w) ls, while-bare lines fam start volatile w l, goto-bare lines fam start volatile labels l)
 
-  pub dead-after-bare : (from : ℕ) → dead-after (bare-lines lines) from fam base-indent labels start volatile ≡ dead-after lines from fam base-indent labels start volatile
+  pub dead-after-bare : (from : ℕ)
+      → dead-after (bare-lines lines) from fam base-indent labels start volatile ≡ dead-after lines from fam base-indent labels start volatile
   unfolding dead-after
   dead-after-bare from = rw (drop-map bare (suc from) lines) (dead-from-bare (suc from) (drop (suc from) lines))

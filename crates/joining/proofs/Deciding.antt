@@ -101,7 +101,12 @@ module _ (rules : Rules) (lines : Listing) (i : ℕ) where
         let p : Plan = record { fam = fam; expr = d .expr; last = g .last; brackets = false } in
         let same : rewrite-uses fam (d .expr) (g .uses) lines ≡ map-from (acted-line (volatile rules) i p) 0 lines =
         ap (λ (u : List ℕ). rewrite-uses fam (d .expr) u lines) (gathered-uses lines i fam (volatile rules)) ∙ sym (acted (volatile rules) i p lines within) in
-        rw (reach-used lines i fam (volatile rules), reach-last lines i fam (volatile rules), ← (refused fam (volatile rules) lines i (g .last)), ← (gathered-uses lines i fam (volatile rules)))
+        rw (
+          reach-used lines i fam (volatile rules),
+          reach-last lines i fam (volatile rules),
+          ← (refused fam (volatile rules) lines i (g .last)),
+          ← (gathered-uses lines i fam (volatile rules)),
+        )
         (tests _ p (ap (remove i) same) (is-empty (g .uses)) _ _ _)
 
     -- the plan for the use on line j, at the token `pos`
@@ -182,7 +187,7 @@ module _ (rules : Rules) (lines : Listing) (i : ℕ) (labels : Labels) (addresse
       (let d : Definition = record { fam = f; expr = a .expr; calls = is-some (call-in ts) } in
       let known : any (of-family (f .name)) (a .expr) ≡ false → definition-of ts ≡ some d = λ m. defined ts a f ha hf ∙ if-false _ _ m in
       by-if (λ (o : Option Listing). o ≡ done rules lines i (decide rules lines i labels addressed))
-      (λ t. fails (refuse f d t (λ m. defined ts a f ha hf ∙ if-true _ _ m) known))
+      (λ t. fails (refuse d t (λ m. defined ts a f ha hf ∙ if-true _ _ m) known))
       (λ t.
       (let n = neither t in
       plan-is rules lines i labels d (known (n .1)) ∙ ap (done rules lines i) (sym (decided d (known (n .1)) ∙ if-false _ _ (n .0))))))))
@@ -191,10 +196,10 @@ module _ (rules : Rules) (lines : Listing) (i : ℕ) (labels : Labels) (addresse
       ts = (lines at i) .tokens
 
       -- the name is addressed, or the right side mentions it
-      refuse : {m : Bool} (f : Fam) (d : Definition) → (has addressed (d .fam .name) || m) ≡ true → (m ≡ true → definition-of ts ≡ none) → (m ≡ false → definition-of ts ≡ some d)
-          → decide rules lines i labels addressed ≡ none
-      refuse {m = true} f d t gone known = undecided (gone refl)
-      refuse {m = false} f d t gone known = decided d (known refl) ∙ if-true _ _ (or-only refl ∙ t)
+      refuse : {m : Bool} (d : Definition) → (has addressed (d .fam .name) || m) ≡ true
+          → (m ≡ true → definition-of ts ≡ none) → (m ≡ false → definition-of ts ≡ some d) → decide rules lines i labels addressed ≡ none
+      refuse {m = true} d t gone known = undecided (gone refl)
+      refuse {m = false} d t gone known = decided d (known refl) ∙ if-true _ _ (or-only refl ∙ t)
 
   -- what an attempt that succeeds has decided, and done
   pub tried : {lines′ : Listing} → try-at rules lines i labels addressed ≡ some lines′

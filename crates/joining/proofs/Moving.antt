@@ -15,7 +15,7 @@ use borrow.Author.Tests.{lt-ltb, le-ltb, lt-leb}
 use Rattle.reference.specs.Control.{if_then_else_, let-some_else_then_}
 use Rattle.reference.specs.Lists.{remove, get}
 use Rattle.reference.specs.Text.{Text}
-use Rattle.reference.specs.Listing.{Token, Listing, blank, _at_}
+use Rattle.reference.specs.Listing.{Token, Line, Listing, blank, _at_}
 use Rattle.reference.specs.Rules.{Rules, volatile}
 use Rattle.reference.specs.Shapes.{is-label, label-tokens, calls-here, call-in}
 use Rattle.reference.specs.Life.{Labels}
@@ -26,10 +26,10 @@ use Rattle.reference.proofs.Shapes.{assigns, assigning-plain}
 use Rattle.reference.proofs.Lines.{at-modify}
 use Rattle.laws.proofs.Scans.{if-true, if-false, and-false}
 use Rattle.joining.specs.Places.{labels-at, Labelled, shift-place, shift-places}
-use Rattle.joining.specs.Plan.{Plan, map-from, right-side-of, where-used, acted-line, act}
+use Rattle.joining.specs.Plan.{Plan, map-from, right-side-of, acted-line, act}
 use Rattle.joining.specs.Rounds.{cut-at}
 use Rattle.joining.proofs.Indexed.{getD-map, getD-map-from}
-use Rattle.joining.proofs.Acting.{changes-later, early}
+use Rattle.joining.proofs.Acting.{changes-later, line-kept, early}
 use Rattle.joining.proofs.Deciding.{defined-by, tried}
 use Rattle.joining.proofs.Planned.{Planned, planned}
 use Rattle.joining.proofs.Labels.{label-inside}
@@ -88,13 +88,15 @@ module _ {rules : Rules} {lines : Listing} {i : ℕ} {p : Plan} (h : Planned rul
       true-false (subst (λ (k : ℕ). is-label (lines at k) ≡ true) s e) (assigning-plain (assigns ((lines at i) .tokens) (d .to) (d .assignment-is)))
 
   label-stands : (q : ℕ) → is-label (lines at q) ≡ true → acted-line (volatile rules) i p q (lines at q) ≡ lines at q
-  unfolding where-used
   label-stands q e =
       by-cases (decLe (suc i) q)
-      (λ lt. if-false _ _
+      (λ lt. line-kept (volatile rules) i p rewritten q (lines at q)
       (changes-later (volatile rules) i p q (lines at q) lt
       ∙ and-false _ (by-cases (decLe q (p .last)) (λ le. absurd (true-false e (h .reached .1 q lt le))) (λ gt. lt-leb q (p .last) (omega arith)))))
-      (λ le. early (volatile rules) i p (rewrite-use (p .fam) (right-side-of p)) q (lines at q) (omega arith))
+      (λ le. early (volatile rules) i p rewritten q (lines at q) (omega arith))
+    where
+      rewritten : Line → Line
+      rewritten = rewrite-use (p .fam) (right-side-of p)
 
   pub act-label : (q : ℕ) → is-label (lines at q) ≡ true → act rules lines i p at (shift-place i q) ≡ lines at q
   unfolding act

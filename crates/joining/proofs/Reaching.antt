@@ -77,7 +77,7 @@ module _ (base-indent : ℕ) (fam : Text) (volatile : List Text) where
   turn j ls used last ih false (Use n) true = (ended (suc j) ls true j .0 ∙ sym (or-always used), ended (suc j) ls true j .1)
   turn j ls used last ih false (Use n) false = (ih true j .0 ∙ sym (or-always used), ih true j .1)
 
-  pub reach-gather : (j : ℕ) (ls : Listing) (used : Bool) (last : ℕ)
+  reach-gather : (j : ℕ) (ls : Listing) (used : Bool) (last : ℕ)
       → Same (reach-from base-indent fam volatile j ls (record { used = used; last = last; ended = false })) used (gather base-indent fam volatile j ls last)
   unfolding reach-from reach-at gather if_then_else_ not
   reach-gather j [] used last = (or-only refl, refl)

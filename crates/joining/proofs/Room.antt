@@ -98,7 +98,8 @@ module _ (a b : Token) where
   unfolding both-texts is
   both-room e =
       let k = joins-other Number a b refl refl e in
-      (if-false _ _ (k .0), omega (arith, if-false {A = ℕ} 0 (size both-texts) (k .0), if-false {A = ℕ} 0 (size a) (k .0), if-false {A = ℕ} 0 (size b) (k .1), both-size))
+      let plain : (t : Token) → is Number t ≡ false → room t ≡ size t + 24 = λ t n. ap (λ (m : ℕ). m + 24) (if-false _ _ n) in
+      (if-false _ _ (k .0), omega (arith, plain both-texts (k .0), plain a (k .0), plain b (k .1), both-size))
 
 into-text : (last : Token) (ts : List Token) → text-in (merge-into last ts) ≡ size last + text-in ts
 unfolding merge-into both-texts

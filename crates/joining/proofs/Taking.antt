@@ -50,7 +50,9 @@ pub refused : (fam : Text) (volatile : List Text) (lines : Listing) (i last : �
     → any (λ j. bad-use fam ((lines at j) .tokens)) (uses-upto fam volatile last (suc i) (drop (suc i) lines))
     ≡ any (refuses fam volatile) (slice (suc i) (suc last) lines)
 unfolding refuses
-refused fam volatile lines i last = rw (drop-take (suc i) (suc last) lines) (any-uses fam volatile (λ l. bad-use fam (l .tokens)) lines last (suc i) (drop (suc i) lines) refl)
+refused fam volatile lines i last =
+    rw (drop-take (suc i) (suc last) lines)
+    (any-uses fam volatile (λ l. bad-use fam (l .tokens)) lines last (suc i) (drop (suc i) lines) refl)
 
 -- ---- the scan, line by line, as the code's loop goes
 
