@@ -1,110 +1,75 @@
--- The limits hold after every attempt and every cut; and while an attempt's new listing is built, its lines, not merged and folded yet, have
--- 1,024 tokens and 49,152 bytes of room at most. Assumes nothing.
+-- The limits hold after every attempt and every cut; and while an attempt's new listing is built, its lines, not merged and folded yet, fit too:
+-- they have 1,024 tokens and 49,152 bytes of room at most. Assumes nothing.
 use Prim.Native.Nat.{ℕ, zero, suc, _+_, _*_, _≤_, _<_, zero-le}
 use native.Mathlib.Omega.{arith}
 use native.Mathlib.Nat.{le-refl, le-trans}
 use mathlib.Core.Path.{_≡_, refl, sym, ap, _∙_}
-use mathlib.Core.Bool.{Bool, true, false}
+use mathlib.Core.Bool.{true, false}
 use mathlib.Core.List.{List, [], _∷_}
 use mathlib.Core.Option.{some}
-use lib.Dec.{ltb}
 use lib.ListN.{length, take}
-use borrow.Author.Tests.{ltb-false}
-use Rattle.reference.specs.Control.{_&&_}
-use Rattle.reference.specs.Lists.{any, remove, modify}
+use Rattle.reference.specs.Lists.{remove, modify}
 use Rattle.reference.specs.Text.{Text}
-use Rattle.reference.specs.Listing.{Token, is, Number, Line, Listing, _at_, with-tokens}
+use Rattle.reference.specs.Listing.{Token, Line, Listing, _at_, with-tokens}
 use Rattle.reference.specs.Rules.{Rules, volatile}
 use Rattle.reference.specs.Shapes.{Assignment}
 use Rattle.reference.specs.Life.{Labels}
 use Rattle.reference.specs.Join.{substitute, try-at}
 use Rattle.reference.specs.Run.{dead-result}
-use Rattle.reference.specs.Claim.{sum, size, token-count}
+use Rattle.reference.specs.Claim.{sum, token-count}
 use Rattle.reference.specs.Demand.{Accepted}
-use Rattle.reference.proofs.Cases.{by-if, neither, pair, fails, true-false}
+use Rattle.reference.proofs.Cases.{by-if}
 use Rattle.reference.proofs.Shapes.{Assigning, assigns}
-use Rattle.reference.proofs.Weights.{Weight, weigh, weight, total, Light, count, count-is, plain, plain-text, excess, light, light-nothing, light-excess, replaced-le, substitute-le}
+use Rattle.reference.proofs.Weights.{Weight, weigh, weight, total, Light, count, count-is, plain, excess, light, light-excess, replaced-le, substitute-le}
 use Rattle.reference.proofs.Lines.{sum-remove, sum-modify, at-modify, length-modify}
-use Rattle.reference.proofs.Changes.{changes-step, removed-length, removed-le, removed-step}
+use Rattle.reference.proofs.Changes.{removed-length}
+use Rattle.reference.proofs.Fits.{Fits, accepted-fits, changes-fit, removed-fit}
 use Rattle.reference.proofs.Attempts.{attempt-removed}
 use Rattle.reference.proofs.Cuts.{cut-changes}
 use Rattle.laws.proofs.Scans.{if-false}
-use Rattle.joining.specs.Limits.{plain-size, over, room, each-token, Limits, Fits}
+use Rattle.joining.specs.Limits.{Limits, plain-size, over, room, each-token}
 use Rattle.joining.specs.Plan.{Plan, map-from, right-side-of, where-used, unmerged-line, built}
 use Rattle.joining.specs.Rounds.{cut-at}
 use Rattle.joining.proofs.Acting.{modifies, changed}
 use Rattle.joining.proofs.Deciding.{defined-by, inside}
 use Rattle.joining.proofs.Planned.{Way, constant, single, Planned}
 
--- ---- the sums are weights
+-- ---- the limits, from step to step
 
-plain-is : (lines : Listing) → total plain lines ≡ each-token plain-size lines
+pub limits-begin : (lines : Listing) → length lines ≤ 256 → Accepted lines → Limits lines
+limits-begin lines h a = record { lines-fit = h; fits = accepted-fits a }
+
+pub limits-after : (rules : Rules) (lines : Listing) (i : ℕ) (labels : Labels) (addressed : List Text) {lines′ : Listing}
+    → try-at rules lines i labels addressed ≡ some lines′ → Limits lines → Limits lines′
+limits-after rules lines i labels addressed e v =
+    let r = attempt-removed rules lines i labels addressed e in
+    record { lines-fit = omega (arith, removed-length r, v .lines-fit); fits = removed-fit r (v .fits) }
+
+pub limits-cut : (rules : Rules) (labels : Labels) (lines : Listing) (i : ℕ) → i < length lines → dead-result rules labels lines i ≡ true
+    → Limits lines → Limits (cut-at i lines)
+limits-cut rules labels lines i h e v =
+    record { lines-fit = rw length-modify (v .lines-fit); fits = changes-fit (cut-changes rules labels lines i h e) (v .fits) }
+
+-- ---- the room of a listing that fits
+
+-- no number's text is past 24 bytes
+pub over-fits : {lines : Listing} → Fits lines → each-token over lines ≡ 0
 unfolding weigh
-plain-is lines = refl
+over-fits f = f .small
 
-over-is : (lines : Listing) → total excess lines ≡ each-token over lines
+pub room-fits : {lines : Listing} → Fits lines → each-token room lines ≤ 49152
 unfolding weigh
-over-is lines = refl
-
-room-is : (lines : Listing) → each-token room lines ≡ each-token plain-size lines + 24 * token-count lines
-room-is [] = refl
-room-is (l ∷ ls) = omega (arith, room-is ls, tokens (l .tokens))
+room-fits {lines} f =
+    let short : each-token plain-size lines ≤ 24576 = f .short in
+    omega (arith, rooms lines, f .few)
   where
     tokens : (ts : List Token) → sum room ts ≡ sum plain-size ts + 24 * length ts
     tokens [] = refl
     tokens (t ∷ ts) = omega (arith, tokens ts)
 
--- a listing with nothing past 24 bytes has none in a line
-none-over : (lines : Listing) (i : ℕ) → each-token over lines ≡ 0 → weight excess ((lines at i) .tokens) ≡ 0
-none-over lines i h = omega (arith, sum-remove (λ l. weight excess (l .tokens)) refl i lines, over-is lines)
-
--- ---- the limits, from step to step
-
-small-number : (t : Token) → (is Number t && ltb 24 (size t)) ≡ false → over t ≡ 0
-small-number t e = by-if (λ (n : ℕ). n ≡ 0) (λ h. omega (arith, ltb-false 24 (size t) (fails (λ u. true-false (pair h u) e)))) (λ h. refl)
-
-none-any {ℓ} : {A : Type ℓ} {q : A → Bool} {f : A → ℕ} → ((x : A) → q x ≡ false → f x ≡ 0) → (xs : List A) → any q xs ≡ false → sum f xs ≡ 0
-none-any h [] e = refl
-none-any h (x ∷ xs) e = omega (arith, h x (neither e .0), none-any h xs (neither e .1))
-
-pub limits-begin : (lines : Listing) → length lines ≤ 256 → Accepted lines → Limits lines
-limits-begin lines h a =
-    record {
-      lines-fit = h;
-      tokens-fit = a .tokens-fit;
-      plain-fits = omega (arith, plain-text lines, plain-is lines, a .text-fits);
-      numbers-fit = none-any (λ l. none-any small-number (l .tokens)) lines (a .numbers-fit);
-    }
-
-pub limits-after : (rules : Rules) (lines : Listing) (i : ℕ) (labels : Labels) (addressed : List Text) {lines′ : Listing}
-    → try-at rules lines i labels addressed ≡ some lines′ → Limits lines → Limits lines′
-limits-after rules lines i labels addressed {lines′} e v =
-    let r = attempt-removed rules lines i labels addressed e in
-    let to = r .assigned .to in
-    record {
-      lines-fit = omega (arith, removed-length r, v .lines-fit);
-      tokens-fit = le-trans (removed-step r .tokens-stay) (v .tokens-fit);
-      plain-fits = omega (arith, removed-le r plain (light plain (λ m n. zero-le) (to .expr)), plain-is lines, plain-is lines′, v .plain-fits);
-      numbers-fit =
-          omega (
-            arith,
-            removed-le r excess (light-excess (assigns ((lines at i) .tokens) to (r .assigned .assignment-is)) (none-over lines i (v .numbers-fit))),
-            over-is lines,
-            over-is lines′,
-            v .numbers-fit,
-          );
-    }
-
-pub limits-cut : (rules : Rules) (labels : Labels) (lines : Listing) (i : ℕ) → i < length lines → dead-result rules labels lines i ≡ true
-    → Limits lines → Limits (cut-at i lines)
-limits-cut rules labels lines i h e v =
-    let c = cut-changes rules labels lines i h e in
-    record {
-      lines-fit = rw length-modify (v .lines-fit);
-      tokens-fit = le-trans (changes-step c .tokens-stay) (v .tokens-fit);
-      plain-fits = omega (arith, c .weight-le plain (light-nothing plain), plain-is lines, plain-is (cut-at i lines), v .plain-fits);
-      numbers-fit = omega (arith, c .weight-le excess (light-nothing excess), over-is lines, over-is (cut-at i lines), v .numbers-fit);
-    }
+    rooms : (ls : Listing) → each-token room ls ≡ each-token plain-size ls + 24 * token-count ls
+    rooms [] = refl
+    rooms (l ∷ ls) = omega (arith, rooms ls, tokens (l .tokens))
 
 -- ---- the lines of a plan, not merged and folded
 
@@ -167,7 +132,7 @@ module _ {ℓ} {A : Type ℓ} (F : A → ℕ) (f : ℕ → A → A) where
   sum-kept zero (suc k) j (x ∷ xs) = sum-front k (suc j) xs
   sum-kept (suc i) (suc k) j (x ∷ xs) = omega (arith, sum-kept i k (suc j) xs)
 
-module _ {rules : Rules} {lines : Listing} {i : ℕ} {p : Plan} (h : Planned rules lines i p) (v : Limits lines) (k : ℕ) where
+module _ {rules : Rules} {lines : Listing} {i : ℕ} {p : Plan} (h : Planned rules lines i p) (v : Fits lines) (k : ℕ) where
   rows : Listing
   rows = built (unmerged-line (volatile rules) i p) i lines k
 
@@ -179,16 +144,9 @@ module _ {rules : Rules} {lines : Listing} {i : ℕ} {p : Plan} (h : Planned rul
   unfolding rows
   unmerged-fits =
       let a = assigned h in
-      let tokens : token-count rows ≤ 1024 = omega (arith, rows-le count (light count (λ m n. le-refl _) (p .expr)), count-is rows, count-is lines, v .tokens-fit) in
+      let none-here : weight excess ((lines at i) .tokens) ≡ 0 = omega (arith, sum-remove (λ l. weight excess (l .tokens)) refl i lines, v .small) in
       record {
-        tokens-fit = tokens;
-        room-fits = omega (arith, rows-le plain (light plain (λ m n. zero-le) (p .expr)), room-is rows, plain-is rows, plain-is lines, v .plain-fits);
-        numbers-fit =
-            omega (
-              arith,
-              rows-le excess (rw (a .2) at (light-excess (a .1) (none-over lines i (v .numbers-fit)))),
-              over-is rows,
-              over-is lines,
-              v .numbers-fit,
-            );
+        few = omega (arith, rows-le count (light count (λ m n. le-refl _) (p .expr)), count-is rows, count-is lines, v .few);
+        short = omega (arith, rows-le plain (light plain (λ m n. zero-le) (p .expr)), v .short);
+        small = omega (arith, rows-le excess (rw (a .2) at (light-excess (a .1) none-here)), v .small);
       }

@@ -1,11 +1,15 @@
--- The limits that every listing of an accepted run keeps, and the room that the builder of the next one has: a token is given 24 bytes, and what a
--- text other than a number's has beside them. Assumes nothing.
+-- The limits that every listing of an accepted run keeps, and the room in an area that the texts of a listing's tokens have: 24 bytes a token, and
+-- what a text other than a number's has beside them. Assumes nothing.
 use Prim.Native.Nat.{ℕ, _+_, _-_, _≤_}
-use mathlib.Core.Path.{_≡_}
 use lib.ListN.{length}
 use Rattle.reference.specs.Control.{if_then_else_}
 use Rattle.reference.specs.Listing.{Token, is, Number, Listing}
-use Rattle.reference.specs.Claim.{sum, size, token-count}
+use Rattle.reference.specs.Claim.{sum, size}
+use Rattle.reference.proofs.Fits.{Fits}
+
+pub record Limits (lines : Listing) : Type 0 where
+  pub lines-fit : length lines ≤ 256
+  pub fits : Fits lines
 
 -- the text of a token that is no number
 abbrev pub plain-size : Token → ℕ
@@ -22,15 +26,3 @@ room t = plain-size t + 24
 -- the sum over all tokens of a listing
 abbrev pub each-token : (Token → ℕ) → Listing → ℕ
 each-token f = sum (λ l. sum f (l .tokens))
-
-pub record Limits (lines : Listing) : Type 0 where
-  pub lines-fit : length lines ≤ 256
-  pub tokens-fit : token-count lines ≤ 1024
-  pub plain-fits : each-token plain-size lines ≤ 24576
-  pub numbers-fit : each-token over lines ≡ 0
-
--- what is known of lines whose tokens are written one after the other into an empty area
-pub record Fits (lines : Listing) : Type 0 where
-  pub tokens-fit : token-count lines ≤ 1024
-  pub room-fits : each-token room lines ≤ 49152
-  pub numbers-fit : each-token over lines ≡ 0
