@@ -1,23 +1,23 @@
--- One turn of a round, and one of the cuts: what the loop has done and what is left to do make the round, at every turn. Assumes nothing.
-use Prim.Native.Nat.{ℕ, zero, suc, pred, _+_, _-_, _≤_, _<_}
+-- One turn of a round, and one of the cuts, without fuel: so a loop's invariant is that what is read off what is left, with what was done, is what
+-- is read off the whole. Assumes nothing.
+use Prim.Native.Nat.{ℕ, suc, pred, _+_, _-_, _≤_, _<_}
 use native.Mathlib.Omega.{arith}
 use native.Mathlib.Nat.{sub-zero}
-use native.Mathlib.Decide.{decLe}
-use mathlib.Core.Path.{_≡_, refl, sym, ap, _∙_}
-use mathlib.Core.Logic.{by-cases}
+use mathlib.Core.Path.{_≡_, refl, sym, ap, _∙_, subst}
 use mathlib.Core.Bool.{true, false}
 use mathlib.Core.List.{List, [], _∷_}
-use mathlib.Core.Option.{Option, none, some}
-use lib.Dec.{ltb}
+use mathlib.Core.Option.{none, some}
 use lib.ListN.{length}
-use borrow.Author.Tests.{lt-ltb, le-ltb}
-use Rattle.reference.specs.Control.{_||_, if_then_else_, let-some_else_then_}
+use Rattle.reference.specs.Control.{_||_, if_then_else_}
 use Rattle.reference.specs.Text.{Text}
 use Rattle.reference.specs.Listing.{Listing}
 use Rattle.reference.specs.Rules.{Rules}
 use Rattle.reference.specs.Life.{Labels}
 use Rattle.reference.specs.Join.{try-at}
+use Rattle.reference.specs.Demand.{Attempts, over, failed, succeeded}
 use Rattle.reference.specs.Run.{labels-from, addressed-in, shift, Attempt, attempts-from, propagate-once, after-attempts, removals, changed, dead-result, cuts-from, drop-dead-results}
+use Rattle.reference.proofs.Cases.{some-inj, none-some}
+use Rattle.reference.proofs.Rounds.{attempts as made}
 use Rattle.reference.proofs.Lines.{length-modify}
 use Rattle.reference.proofs.Changes.{removed-length}
 use Rattle.reference.proofs.Attempts.{attempt-removed}
@@ -32,81 +32,40 @@ module _ (rules : Rules) (addressed : List Text) where
       → suc (length lines′) ≡ length lines
   success-length lines i labels e = removed-length (attempt-removed rules lines i labels addressed e)
 
-  -- one attempt at line i, where `next` makes those after it
-  turn : (ℕ → Listing → Labels → List Attempt) → ℕ → Listing → Labels → List Attempt
-  turn next i lines labels =
-      if ltb i (length lines)
-      then (let-some (try-at rules lines i labels addressed) else (record { removed = false; left = lines } ∷ next (suc i) lines labels) then λ lines′.
-      record { removed = true; left = lines′ } ∷ next (pred i) lines′ (shift i labels))
-      else []
-
-  turn-end : (next : ℕ → Listing → Labels → List Attempt) (i : ℕ) (lines : Listing) (labels : Labels) → length lines ≤ i → turn next i lines labels ≡ []
-  unfolding turn
-  turn-end next i lines labels h = if-false _ _ (le-ltb i (length lines) h)
-
-  turn-failed : (next : ℕ → Listing → Labels → List Attempt) (i : ℕ) (lines : Listing) (labels : Labels) → i < length lines
-      → try-at rules lines i labels addressed ≡ none → turn next i lines labels ≡ record { removed = false; left = lines } ∷ next (suc i) lines labels
-  unfolding turn let-some_else_then_
-  turn-failed next i lines labels h e = if-true _ _ (lt-ltb i (length lines) h) ∙ rw e
-
-  turn-succeeded : (next : ℕ → Listing → Labels → List Attempt) (i : ℕ) (lines : Listing) (labels : Labels) {lines′ : Listing} → i < length lines
-      → try-at rules lines i labels addressed ≡ some lines′
-      → turn next i lines labels ≡ record { removed = true; left = lines′ } ∷ next (pred i) lines′ (shift i labels)
-  unfolding turn let-some_else_then_
-  turn-succeeded next i lines labels h e = if-true _ _ (lt-ltb i (length lines) h) ∙ rw e
+  -- a round's attempts are determined
+  unique : {i : ℕ} {lines : Listing} {labels : Labels} {r r′ : List Attempt} → Attempts rules addressed i lines labels r → Attempts rules addressed i lines labels r′ → r ≡ r′
+  unique (over h) (over k) = refl
+  unique (over h) (failed k e m) = absurd (omega arith)
+  unique (over h) (succeeded k e m) = absurd (omega arith)
+  unique (failed h e m) (over k) = absurd (omega arith)
+  unique (failed {lines = lines} h e m) (failed k f n) = ap (λ (r : List Attempt). record { removed = false; left = lines } ∷ r) (unique m n)
+  unique (failed h e m) (succeeded k f n) = absurd (none-some (sym e ∙ f))
+  unique (succeeded h e m) (over k) = absurd (omega arith)
+  unique (succeeded h e m) (failed k f n) = absurd (none-some (sym f ∙ e))
+  unique (succeeded {i = i} {lines′ = x} {labels = labels} h e m) (succeeded {lines′ = y} {more = more} k f n) =
+      let same : y ≡ x = some-inj (sym f ∙ e) in
+      let tail = unique m (subst (λ (l : Listing). Attempts rules addressed (pred i) l (shift i labels) more) same n) in
+      λ t. record { removed = true; left = sym same t } ∷ tail t
 
   -- fuel for twice the lines that are left is enough: with more the attempts are the same
   pub enough : (m n i : ℕ) (lines : Listing) (labels : Labels) → length lines + length lines ≤ m + i → length lines + length lines ≤ n + i
       → attempts-from rules addressed m i lines labels ≡ attempts-from rules addressed n i lines labels
-  unfolding attempts-from turn
-  enough zero zero i lines labels p q = refl
-  enough zero (suc n) i lines labels p q = sym (turn-end (attempts-from rules addressed n) i lines labels (omega arith))
-  enough (suc m) zero i lines labels p q = turn-end (attempts-from rules addressed m) i lines labels (omega arith)
-  enough (suc m) (suc n) i lines labels p q =
-      by-cases (decLe (length lines) i)
-      (λ h. turn-end (attempts-from rules addressed m) i lines labels h ∙ sym (turn-end (attempts-from rules addressed n) i lines labels h))
-      (λ h.
-      (let lt : i < length lines = omega arith in
-      go (try-at rules lines i labels addressed) refl lt
-      (enough m n (suc i) lines labels (omega arith) (omega arith))
-      (λ lines′ fewer. enough m n (pred i) lines′ (shift i labels) (omega arith) (omega arith))))
-    where
-      go : (o : Option Listing) → try-at rules lines i labels addressed ≡ o → i < length lines
-          → attempts-from rules addressed m (suc i) lines labels ≡ attempts-from rules addressed n (suc i) lines labels
-          → ((lines′ : Listing) → suc (length lines′) ≡ length lines
-          → attempts-from rules addressed m (pred i) lines′ (shift i labels) ≡ attempts-from rules addressed n (pred i) lines′ (shift i labels))
-          → turn (attempts-from rules addressed m) i lines labels ≡ turn (attempts-from rules addressed n) i lines labels
-      go none e lt on back =
-          turn-failed (attempts-from rules addressed m) i lines labels lt e
-          ∙ ap (λ (r : List Attempt). record { removed = false; left = lines } ∷ r) on
-          ∙ sym (turn-failed (attempts-from rules addressed n) i lines labels lt e)
-      go (some lines′) e lt on back =
-          turn-succeeded (attempts-from rules addressed m) i lines labels lt e
-          ∙ ap (λ (r : List Attempt). record { removed = true; left = lines′ } ∷ r) (back lines′ (success-length lines i labels e))
-          ∙ sym (turn-succeeded (attempts-from rules addressed n) i lines labels lt e)
+  enough m n i lines labels p q = unique (made rules addressed m i lines labels p) (made rules addressed n i lines labels q)
 
-  turned : (i : ℕ) (lines : Listing) (labels : Labels)
-      → attempts rules addressed i lines labels ≡ turn (attempts-from rules addressed (length lines + length lines)) i lines labels
-  unfolding attempts attempts-from turn
-  turned i lines labels = enough (length lines + length lines) (suc (length lines + length lines)) i lines labels (omega arith) (omega arith)
+  taken : (i : ℕ) (lines : Listing) (labels : Labels) → Attempts rules addressed i lines labels (attempts rules addressed i lines labels)
+  unfolding attempts
+  taken i lines labels = made rules addressed (length lines + length lines) i lines labels (omega arith)
 
   pub attempts-end : (i : ℕ) (lines : Listing) (labels : Labels) → length lines ≤ i → attempts rules addressed i lines labels ≡ []
-  attempts-end i lines labels h = turned i lines labels ∙ turn-end _ i lines labels h
+  attempts-end i lines labels h = unique (taken i lines labels) (over h)
 
   pub attempts-failed : (i : ℕ) (lines : Listing) (labels : Labels) → i < length lines → try-at rules lines i labels addressed ≡ none
       → attempts rules addressed i lines labels ≡ record { removed = false; left = lines } ∷ attempts rules addressed (suc i) lines labels
-  unfolding attempts
-  attempts-failed i lines labels h e = turned i lines labels ∙ turn-failed _ i lines labels h e
+  attempts-failed i lines labels h e = unique (taken i lines labels) (failed h e (taken (suc i) lines labels))
 
   pub attempts-succeeded : (i : ℕ) (lines : Listing) (labels : Labels) {lines′ : Listing} → i < length lines → try-at rules lines i labels addressed ≡ some lines′
       → attempts rules addressed i lines labels ≡ record { removed = true; left = lines′ } ∷ attempts rules addressed (pred i) lines′ (shift i labels)
-  unfolding attempts
-  attempts-succeeded i lines labels {lines′} h e =
-      let fewer : suc (length lines′) ≡ length lines = success-length lines i labels e in
-      turned i lines labels
-      ∙ turn-succeeded _ i lines labels h e
-      ∙ ap (λ (r : List Attempt). record { removed = true; left = lines′ } ∷ r)
-      (enough (length lines + length lines) (length lines′ + length lines′) (pred i) lines′ (shift i labels) (omega arith) (omega arith))
+  attempts-succeeded i lines labels {lines′} h e = unique (taken i lines labels) (succeeded h e (taken (pred i) lines′ (shift i labels)))
 
 pub round-begins : (rules : Rules) (lines : Listing) → propagate-once rules lines ≡ attempts rules (addressed-in lines) 0 lines (labels-from 0 lines)
 unfolding propagate-once attempts
