@@ -6,18 +6,16 @@ use mathlib.Core.Path.{_≡_, refl, sym, ap, _∙_}
 use mathlib.Core.Bool.{Bool, true, false, false≢true}
 use mathlib.Core.List.{[], _∷_}
 use mathlib.Core.Option.{Option, none, some}
-use lib.Dec.{eqb}
 use lib.ListN.{length, getD, take, drop, drop-of-length-le, length-drop}
 use lib.Seq.{drop-cons}
-use borrow.Author.Tests.{eq-eqb, eqb-true, leb-true}
-use Rattle.reference.specs.Control.{_&&_, _||_, if_then_else_, let-some_else_then_}
+use borrow.Author.Tests.{eqb-true, leb-true}
+use Rattle.reference.specs.Control.{_||_, if_then_else_, let-some_else_then_}
 use Rattle.reference.specs.Lists.{is-empty}
 use Rattle.reference.specs.Text.{Text, bytes, strip-prefix, starts-with, _==_}
-use Rattle.reference.specs.Names.{Fam, is-digit, digits-of, suffix, stack-slot, numbered}
+use Rattle.reference.specs.Names.{is-digit, digits-of, suffix, stack-slot, numbered}
 use Rattle.laws.proofs.Scans.{if-true, if-false}
-use Rattle.names.specs.declared.families.Spelled.{Spelled}
 use Rattle.names.specs.declared.families.Spelled.the-variants.{Front, Nothing}
-use Rattle.names.specs.Families.{is-row, Spells, suffix-width}
+use Rattle.names.specs.Families.{Spells, suffix-width}
 use Rattle.names.proofs.Searches.{both}
 use Rattle.names.proofs.Spelling.{low-second}
 

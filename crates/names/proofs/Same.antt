@@ -7,7 +7,7 @@ use mathlib.Core.List.{[], _++_}
 use native.Mathlib.Decide.{decLt}
 use mathlib.Core.Logic.{by-cases}
 use lib.Dec.{eqb}
-use lib.ListN.{length, List·getD-append, List·getD-eq-default}
+use lib.ListN.{List·getD-append, List·getD-eq-default}
 use borrow.Author.Tests.{ne-eqb}
 use Rattle.reference.specs.Control.{_&&_}
 use Rattle.reference.specs.Text.{Text, _==_}

@@ -1,23 +1,21 @@
 -- Names that are no row's family; stack slots, high bytes and the whole of `family`. Assumes nothing.
-use Prim.Native.Nat.{ℕ, _≤_, _<_}
+use Prim.Native.Nat.{ℕ, _<_}
 use native.Mathlib.Omega.{arith}
 use native.Mathlib.Nat.{le-refl}
 use mathlib.Core.Path.{_≡_, refl, sym, ap, _∙_}
 use mathlib.Core.Bool.{Bool, true, false, false≢true}
 use mathlib.Core.List.{List, [], _∷_, _++_}
-use mathlib.Core.Option.{Option, none, some}
-use lib.Dec.{eqb, leb, lit<}
-use lib.ListN.{length, getD, take, List·getD-map}
+use mathlib.Core.Option.{none, some}
+use lib.Dec.{eqb, leb}
+use lib.ListN.{length, getD, List·getD-map}
 use lib.Seq.{take-length}
 use borrow.Author.Tests.{eqb-true, leb-true}
-use Rattle.reference.specs.Control.{_&&_, _||_, if_then_else_, let-some_else_then_}
-use Rattle.reference.specs.Lists.{position, any}
-use Rattle.reference.specs.Text.{Text, bytes, starts-with, has, _==_}
-use Rattle.reference.specs.Names.{Fam, LEGACY, legacy, stack-slot, numbered, high-byte, family}
+use Rattle.reference.specs.Control.{_&&_, if_then_else_, let-some_else_then_}
+use Rattle.reference.specs.Lists.{position}
+use Rattle.reference.specs.Text.{Text, bytes, starts-with, _==_}
+use Rattle.reference.specs.Names.{LEGACY, legacy, stack-slot, numbered, high-byte, family}
 use Rattle.laws.proofs.Scans.{if-true, if-false, same-lengths}
-use Rattle.names.specs.declared.families.Spelled.{Spelled}
 use Rattle.names.specs.declared.families.Spelled.the-variants.{Row, Front, Nothing}
-use Rattle.names.specs.declared.families.Listed.{Listed}
 use Rattle.names.specs.declared.families.Listed.the-variants.{At, Nothing as Unlisted}
 use Rattle.names.specs.Families.{ROWS, row-name, is-row, Spells, Lists}
 use Rattle.names.proofs.Searches.{both, refuted, all, all-below, below-at, position-none, position-at, any-at}

@@ -9,10 +9,10 @@ use mathlib.Core.Option.{Option, none, some}
 use native.Mathlib.Decide.{decLt, ℕ-discrete}
 use mathlib.Core.Logic.{by-cases}
 use lib.Dec.{eqb, ltb}
-use lib.ListN.{length, getD}
+use lib.ListN.{getD}
 use lib.Seq.{getD-append-add}
 use borrow.Author.Tests.{eq-eqb, ne-eqb, ltb-true}
-use Rattle.reference.specs.Control.{_&&_, _||_, if_then_else_, let-some_else_then_}
+use Rattle.reference.specs.Control.{_&&_, if_then_else_, let-some_else_then_}
 use Rattle.reference.specs.Lists.{any, position}
 use Rattle.reference.specs.Text.{Text, _==_, has}
 use Rattle.reference.specs.Names.{volatile-of}

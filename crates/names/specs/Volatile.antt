@@ -1,7 +1,6 @@
 -- Families by number: the rows of the table, then r8 to r11; a number from 12 on is no family's. Assumes nothing.
 use Prim.Native.Nat.{ℕ, _+_}
 use mathlib.Core.List.{List, [], _∷_, _++_}
-use mathlib.Core.Option.{Option}
 use lib.ListN.{getD}
 use Rattle.reference.specs.Control.{let-some_else_then_}
 use Rattle.reference.specs.Lists.{position}
