@@ -3,20 +3,22 @@ use Prim.Native.Nat.{ℕ, suc, _+_, _≤_, _<_}
 use native.Mathlib.Omega.{arith}
 use native.Mathlib.Numerals.{add-one}
 use mathlib.Core.Path.{_≡_, refl, sym, ap, _∙_}
+use mathlib.Core.Logic.{_⊎_, inl, inr}
 use mathlib.Core.Bool.{Bool, true, false, false≢true}
 use mathlib.Core.List.{[], _∷_}
 use mathlib.Core.Option.{Option, none, some}
 use lib.ListN.{length, getD, take, drop, drop-of-length-le, length-drop}
 use lib.Seq.{drop-cons}
-use borrow.Author.Tests.{eqb-true, leb-true}
-use Rattle.reference.specs.Control.{_||_, if_then_else_, let-some_else_then_}
+use borrow.Author.Tests.{eqb-true, ne-eqb, leb-true}
+use Rattle.reference.specs.Control.{_&&_, _||_, if_then_else_, let-some_else_then_}
 use Rattle.reference.specs.Lists.{is-empty}
 use Rattle.reference.specs.Text.{Text, bytes, strip-prefix, starts-with, _==_}
 use Rattle.reference.specs.Names.{is-digit, digits-of, suffix, stack-slot, numbered}
-use Rattle.laws.proofs.Scans.{if-true, if-false}
+use Rattle.laws.proofs.Scans.{if-true, if-false, same-lengths}
+use Rattle.reference.proofs.Cases.{both}
 use Rattle.names.specs.declared.families.Spelled.the-variants.{Front, Nothing}
 use Rattle.names.specs.Families.{Spells, suffix-width}
-use Rattle.names.proofs.Searches.{both}
+use Rattle.names.proofs.Texts.{empty, single}
 use Rattle.names.proofs.Spelling.{low-second}
 
 -- ---- the digits from i on
@@ -88,6 +90,29 @@ no-width false false true d e z = absurd (omega arith)
 no-width false false false true e z = absurd (omega arith)
 no-width false false false false true z = absurd (omega arith)
 no-width false false false false false z = refl
+
+module _ (s : Text) where
+  pub no-suffix : length s ≡ 0 → 64 ≡ suffix-width s
+  unfolding suffix-width suffix if_then_else_ let-some_else_then_
+  no-suffix e = rw (empty s e)
+
+  pub long-suffix : (length s ≡ 0 → ⊥) → (length s ≡ 1 → ⊥) → 0 ≡ suffix-width s
+  unfolding suffix-width suffix if_then_else_ let-some_else_then_ _||_
+  long-suffix m n =
+      rw (
+        same-lengths s [] m,
+        same-lengths s (bytes "d") n,
+        same-lengths s (bytes "w") n,
+        same-lengths s (bytes "b") n,
+        same-lengths s (bytes "l") n,
+      )
+
+  pub one-suffix : length s ≡ 1 → {b : ℕ} → getD s 0 0 ≡ b → suffix-width (b ∷ []) ≡ suffix-width s
+  one-suffix h e = ap suffix-width (sym (single s h ∙ ap (λ (x : ℕ). x ∷ []) e))
+
+pub other-suffix : (b : ℕ) → (b ≡ 100 → ⊥) → (b ≡ 119 → ⊥) → ((b ≡ 98) ⊎ (b ≡ 108) → ⊥) → 0 ≡ suffix-width (b ∷ [])
+unfolding suffix-width suffix if_then_else_ let-some_else_then_ _||_ _&&_
+other-suffix b d w l = rw (ne-eqb b 100 d, ne-eqb b 119 w, ne-eqb b 98 (λ e. l (inl e)), ne-eqb b 108 (λ e. l (inr e)))
 
 -- ---- a name with no r in front
 

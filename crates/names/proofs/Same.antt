@@ -47,9 +47,9 @@ pub has-name : (a : ℕ) → a < 12 → (name-numbered a == []) ≡ false
 unfolding unnamed
 has-name a h = agreed (name-numbered a == []) false (below-at 12 unnamed a unnamed-tested h)
 
-pub same-number : (a b : ℕ) → a < 12 → (name-numbered a == name-numbered b) ≡ eqb a b
+pub same-name : (a b : ℕ) → a < 12 → (name-numbered a == name-numbered b) ≡ eqb a b
 unfolding pairs
-same-number a b h =
+same-name a b h =
     by-cases (decLt b 12)
     (λ k. agreed (name-numbered a == name-numbered b) (eqb a b) (below-at 12 (λ b. agree (name-numbered a == name-numbered b) (eqb a b)) b (below-at 12 pairs a pairs-tested h) k))
     (λ k.
@@ -62,7 +62,7 @@ pub row-number : (r : ℕ) → r < 8 → name-numbered r ≡ row-name r
 row-number r h = List·getD-append ROWS NEW [] r h
 
 pub same-row : (a b : ℕ) → a < 8 → b < 8 → (row-name a == row-name b) ≡ eqb a b
-same-row a b h k = rw (← row-number a h, ← row-number b k) (same-number a b (omega arith))
+same-row a b h k = rw (← row-number a h, ← row-number b k) (same-name a b (omega arith))
 
 pub row-not-text : (r : ℕ) (t : Text) → r < 8 → is-row t ≡ false → (row-name r == t) ≡ false
 unfolding is-row

@@ -2,7 +2,7 @@
 use Prim.Native.Nat.{ℕ, zero, suc, _<_}
 use native.Mathlib.Omega.{arith}
 use mathlib.Core.Path.{_≡_, refl, sym}
-use mathlib.Core.Bool.{Bool, true, false, true≢false, false≢true}
+use mathlib.Core.Bool.{Bool, true, false}
 use mathlib.Core.List.{List, [], _∷_}
 use mathlib.Core.Option.{Option, none, some}
 use native.Mathlib.Decide.{ℕ-discrete}
@@ -10,28 +10,7 @@ use mathlib.Core.Logic.{by-cases}
 use lib.ListN.{length, getD}
 use Rattle.reference.specs.Control.{_&&_, _||_, if_then_else_, let-some_else_then_}
 use Rattle.reference.specs.Lists.{any, position}
-
--- both halves of a test that passed, and of one that failed
-pub both : {a b : Bool} → (a && b) ≡ true → (a ≡ true) × (b ≡ true)
-unfolding _&&_
-both {a = true} e = (refl, e)
-both {a = false} e = absurd (false≢true e)
-
-pub neither : {a b : Bool} → (a || b) ≡ false → (a ≡ false) × (b ≡ false)
-unfolding _||_
-neither {a = true} e = absurd (true≢false e)
-neither {a = false} e = (refl, e)
-
--- what is not true is false
-pub refuted : {a : Bool} → (a ≡ true → ⊥) → a ≡ false
-refuted {a = true} n = absurd (n refl)
-refuted {a = false} n = refl
-
-pub some-inj {ℓ} : {A : Type ℓ} {x y : A} → some x ≡ some y → x ≡ y
-some-inj e = cc
-
-pub none-some {ℓ} : {A : Type ℓ} {x : A} → none ≡ some x → ⊥
-none-some e = let z : _≡_ {A = ℕ} 0 1 = cc in omega arith
+use Rattle.reference.proofs.Cases.{both, neither, some-inj, none-some}
 
 module _ {ℓ} {A : Type ℓ} (p : A → Bool) where
   -- `position` by its first element
@@ -78,11 +57,6 @@ module _ {ℓ} {A : Type ℓ} (p : A → Bool) where
   abbrev pub all : List A → Bool
   all [] = true
   all (x ∷ xs) = let r = all xs in p x && r
-
-  pub all-at : (l : List A) (d : A) (k : ℕ) → all l ≡ true → k < length l → p (getD l k d) ≡ true
-  all-at [] d k e h = absurd (omega arith)
-  all-at (x ∷ xs) d zero e h = both e .0
-  all-at (x ∷ xs) d (suc k) e h = all-at xs d k (both e .1) (omega arith)
 
 -- two tests that agree on every element that passes a third
 pub any-agree {ℓ} : {A : Type ℓ} (t p q : A → Bool) (l : List A) → all t l ≡ true → ((x : A) → t x ≡ true → p x ≡ q x) → any p l ≡ any q l

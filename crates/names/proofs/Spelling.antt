@@ -15,10 +15,11 @@ use Rattle.reference.specs.Lists.{position}
 use Rattle.reference.specs.Text.{Text, bytes, starts-with, _==_}
 use Rattle.reference.specs.Names.{LEGACY, legacy, stack-slot, numbered, high-byte, family}
 use Rattle.laws.proofs.Scans.{if-true, if-false, same-lengths}
+use Rattle.reference.proofs.Cases.{both, fails}
 use Rattle.names.specs.declared.families.Spelled.the-variants.{Row, Front, Nothing}
 use Rattle.names.specs.declared.families.Listed.the-variants.{At, Nothing as Unlisted}
 use Rattle.names.specs.Families.{ROWS, row-name, is-row, Spells, Lists}
-use Rattle.names.proofs.Searches.{both, refuted, all, all-below, below-at, position-none, position-at, any-at}
+use Rattle.names.proofs.Searches.{all, all-below, below-at, position-none, position-at, any-at}
 use Rattle.names.proofs.Texts.{same-true, has-all}
 
 -- ---- texts that are no row's family: each of these begins with r and a letter
@@ -32,11 +33,11 @@ row-letters t e = has-all letters ROWS t refl e
 
 pub low-second : (t : Text) → getD t 1 0 < 97 → is-row t ≡ false
 unfolding letters
-low-second t h = refuted (λ e. omega (arith, leb-true 97 (getD t 1 0) (both (row-letters t e) .1)))
+low-second t h = fails (λ e. omega (arith, leb-true 97 (getD t 1 0) (both (row-letters t e) .1)))
 
 other-first : (t : Text) → (getD t 0 0 ≡ 114 → ⊥) → is-row t ≡ false
 unfolding letters
-other-first t n = refuted (λ e. n (eqb-true (getD t 0 0) 114 (both (row-letters t e) .0)))
+other-first t n = fails (λ e. n (eqb-true (getD t 0 0) 114 (both (row-letters t e) .0)))
 
 -- ---- `var_`
 

@@ -23,7 +23,7 @@ use Rattle.names.specs.Volatile.{NEW, name-numbered, number-of}
 use Rattle.names.proofs.Searches.{all, any-agree, none-at, position-none, position-at}
 use Rattle.names.proofs.Texts.{same-true}
 use Rattle.names.proofs.Tables.{found-some, found-none}
-use Rattle.names.proofs.Same.{same-number, has-name, row-number}
+use Rattle.names.proofs.Same.{same-name, has-name, row-number}
 
 -- ---- lists of numbers
 
@@ -44,7 +44,7 @@ module _ {volatile : List Text} {numbers : List ℕ} (h : Numbers volatile numbe
 
   pub by-number : (n : ℕ) → any (eqb n) numbers ≡ has volatile (name-numbered n)
   by-number n =
-      any-agree known (eqb n) (λ k. name-numbered k == name-numbered n) numbers (h .known-all) (λ k e. sym (same-number k n (ltb-true k 12 e) ∙ turn k n))
+      any-agree known (eqb n) (λ k. name-numbered k == name-numbered n) numbers (h .known-all) (λ k e. sym (same-name k n (ltb-true k 12 e) ∙ turn k n))
       ∙ sym (by-name (name-numbered n))
 
 module _ (c : ℕ) where

@@ -1,7 +1,6 @@
-// The family and the width of a name: `family` of the Rust, in the order of its tests.
+// `family` of the Rust, in the order of its tests: the table, the high bytes, r with digits, stack slots. No text is copied.
 use crate::rows::column_in;
 use text::begins_slot;
-use text::same;
 use text::starts;
 ghost use Prim.Native.Nat.{_+_, _<_};
 ghost use mathlib.Core.Path.{_≡_};
@@ -44,6 +43,7 @@ enum Listed {
     Nothing,
 }
 
+// The width of the names in a column.
 fn column_width(column: usize) -> u64
     requires { ⌜ column < 4 ⌝ }
     ensures { λ r. ⌜ r ≡ getD (64 ∷ 32 ∷ 16 ∷ 8 ∷ []) column 0 ⌝ }
@@ -51,6 +51,7 @@ fn column_width(column: usize) -> u64
     WIDTHS[column]
 }
 
+// The first row that has s among its names, and s's width there.
 fn legacy_in(s: &[u8], names: &[[[u8; 3]; 4]]) -> Listed
     ensures { λ r. ⌜ Lists (map (map unpadded) (now (names .entry))) (now (s .entry)) r ⌝ }
 {
@@ -100,19 +101,16 @@ fn suffix(s: &[u8]) -> u64
     if s.len() == 0 {
         return 64;
     }
-    if same(s, b"d") {
-        return 32;
+    if s.len() != 1 {
+        return 0;
     }
-    if same(s, b"w") {
-        return 16;
+    let b = s[0];
+    match b {
+        b'd' => 32,
+        b'w' => 16,
+        b'b' | b'l' => 8,
+        _ => 0,
     }
-    if same(s, b"b") {
-        return 8;
-    }
-    if same(s, b"l") {
-        return 8;
-    }
-    0
 }
 
 // Stack variables behave like registers.
@@ -154,6 +152,7 @@ fn high_byte(s: &[u8]) -> Spelled
     numbered(s)
 }
 
+// The family and the width of a name.
 pub fn family(s: &[u8]) -> Spelled
     ensures { λ r. ⌜ Spells (now (s .entry)) (family (now (s .entry))) r ⌝ }
 {

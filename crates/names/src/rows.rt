@@ -4,6 +4,7 @@ ghost use mathlib.Core.Path.{_≡_};
 ghost use Rattle.reference.specs.Text.{_==_};
 ghost use Rattle.names.specs.Tables.{unpadded, Column};
 
+// Whether s is the name.
 fn is_name(s: &[u8], name: [u8; 3]) -> bool
     ensures { λ r. ⌜ r ≡ (unpadded name == now (s .entry)) ⌝ }
 {

@@ -1,4 +1,4 @@
-// The families that a call overwrites, by convention.
+// The families that a call overwrites: three constant lists of family numbers, chosen by convention.
 use crate::rows::column_in;
 ghost use mathlib.Core.Path.{_≡_};
 ghost use lib.Dec.{eqb};
@@ -7,7 +7,7 @@ ghost use Rattle.reference.specs.Text.{has};
 ghost use Rattle.reference.specs.Names.{volatile-of};
 ghost use Rattle.names.specs.Volatile.{name-numbered, number-of};
 
-// Numbers of families: the rows of the table, then these; 12 stands for any other.
+// The families of the numbers 8 to 11; 0 to 7 are the rows of the table, and 12 stands for any other family.
 const NEW: [[u8; 3]; 4] = [*b"r8\0", *b"r9\0", *b"r10", *b"r11"];
 
 // What a call overwrites under conventions 0 and 1, and under any other.
@@ -25,6 +25,7 @@ pub fn number_of(s: &[u8]) -> u64
     8 + place as u64
 }
 
+// Whether n is on the list.
 fn among(list: &[u64], n: u64) -> bool
     ensures { λ r. ⌜ r ≡ any (eqb n) (now (list .entry)) ⌝ }
 {
