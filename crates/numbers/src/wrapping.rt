@@ -14,7 +14,7 @@ const HALF: u64 = 9223372036854775808;
 const MOST: u64 = 18446744073709551615;
 
 // A signed number's 64 bits, as two's complement has them.
-fn bits(v: i64) -> u64
+pub fn bits(v: i64) -> u64
     ensures { λ r. ⌜ r ≡ bits-of 64 v ⌝ }
 {
     if 0 <= v {

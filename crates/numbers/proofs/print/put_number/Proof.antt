@@ -1,62 +1,65 @@
+-- `numbers::print::put_number` meets its contract. Assumes nothing.
+use Prim.Native.Nat.{_+_, _-_, _^_}
+use native.Mathlib.Omega.{arith}
+use mathlib.Core.Path.{_∙_}
+use lib.ListN.{length-set}
+use Rattle.numbers.proofs.Digits.{natural-length}
+use Rattle.numbers.proofs.Writing.{unsigned, negative}
 use borrow.Author.Needs.{needs}
 use Rattle.numbers.proofs.print.put_number.Statement.{statement}
 use Rattle.numbers.proofs.print.put_number.Tie as tie
-use Rattle.numbers.proofs.print.put_number.Reads as reads
-use Rattle.numbers.proofs.print.put_number.Lts as lts
-use Rattle.numbers.proofs.print.magnitude.Reads as magnitude-reads
-use Rattle.numbers.proofs.print.put_natural.Reads as put-natural-reads
 
--- src/print.rt:42:28
-cast-put-natural : tie.Need-cast-put-natural
-cast-put-natural c = ?
+bits-requires : tie.Need-bits-requires
+bits-requires c κs = search needs
 
--- src/print.rt:42:9
 put-natural-requires : tie.Need-put-natural-requires
-put-natural-requires c κs = search needs
+put-natural-requires c κs = omega (arith, c .before .before .before .before .pre, natural-length (c .before .before .bits .result))
 
--- src/print.rt:42:9
 same-length : tie.Need-same-length
 same-length c = search needs
 
--- src/print.rt:42:9
 returns : tie.Need-returns
-returns c = search needs
+returns c =
+    let s = c .before .before .before .before .before .before .before in
+    let b = c .before .before .before .before .before .bits in
+    unsigned _ (s .fits .v) (b .ensures) (c .before .before .before .before .if1 .taken) (c .before .before .put-natural .ensures)
 
--- src/print.rt:44:5
 slice-write-out : tie.Need-slice-write-out
-slice-write-out c = ?
+slice-write-out c = search needs
 
--- src/print.rt:45:17
-magnitude-requires : tie.Need-magnitude-requires
-magnitude-requires c κs = search needs
+sub-put-natural : tie.Need-sub-put-natural
+sub-put-natural c = search needs
 
--- src/print.rt:45:36
 add-put-natural : tie.Need-add-put-natural
-add-put-natural c = ?
+add-put-natural c = search needs
 
--- src/print.rt:45:5
+add-put-natural-2 : tie.Need-add-put-natural-2
+add-put-natural-2 c = search needs
+
 put-natural-requires-2 : tie.Need-put-natural-requires-2
-put-natural-requires-2 c κs = search needs
+put-natural-requires-2 c κs = simp length-set (omega (arith, c .before .before .before .before .pre, natural-length (2 ^ 64 - 1 - c .before .before .bits .result + 1)))
 
--- src/print.rt:40:1
 same-length-2 : tie.Need-same-length-2
-same-length-2 c = ?
+same-length-2 c = c .before .before .put-natural2 .kept .1 .0 ∙ simp length-set
 
--- src/print.rt:40:1
 returns-2 : tie.Need-returns-2
-returns-2 c = search needs
+returns-2 c =
+    let s = c .before .before .before .before .before .before .before in
+    let b = c .before .before .before .before .before .bits in
+    negative _ (s .fits .v) (b .ensures) (s .pre) (c .before .before .before .before .if1 .left) (b .ok) (c .before .before .put-natural2 .ensures)
 
 pub put-number-spec : {M : Type 1} → statement M
 put-number-spec =
     tie.close
     (tie.spec
-    cast-put-natural
+    bits-requires
     put-natural-requires
     same-length
     returns
     slice-write-out
-    magnitude-requires
+    sub-put-natural
     add-put-natural
+    add-put-natural-2
     put-natural-requires-2
     same-length-2
     returns-2)

@@ -7,8 +7,6 @@ use borrow.Author.Needs.{needs}
 use Rattle.numbers.proofs.Signed.{as-low, signed-high, fits-high}
 use Rattle.numbers.proofs.wrapping.signed.Statement.{statement}
 use Rattle.numbers.proofs.wrapping.signed.Tie as tie
-use Rattle.numbers.proofs.wrapping.signed.Reads as reads
-use Rattle.numbers.proofs.wrapping.signed.Lts as lts
 
 cast-result : tie.Need-cast-result
 cast-result c = search needs
