@@ -1,4 +1,6 @@
 // `parse_c_number` of the Rust: a decimal or hexadecimal number, perhaps with a sign.
+use crate::wrapping::HALF;
+use crate::wrapping::MOST;
 use crate::wrapping::signed;
 use crate::wrapping::wrapping_neg;
 use text::begins_hex;
@@ -11,18 +13,13 @@ ghost use Rattle.reference.specs.Numbers as reference;
 ghost use Rattle.numbers.specs.Reading as reading;
 ghost use Rattle.numbers.specs.Reading.{meaning, natural-meaning, at-most};
 
-// 2^63, and the largest number of 64 bits.
-const HALF: u64 = 9223372036854775808;
-
-const MOST: u64 = 18446744073709551615;
-
 pub enum Number {
     Read(i64),
     Unread,
 }
 
 // What a row of digits spells.
-pub enum Natural {
+enum Natural {
     Read(u64),
     Unread,
 }
