@@ -1,5 +1,5 @@
 -- The digits of a number, and what a printed number is made of. Assumes nothing.
-use Prim.Native.Nat.{ℕ, zero, suc, _+_, _*_, _-_, _/_, _%_, _^_, _<_, _≤_}
+use Prim.Native.Nat.{ℕ, zero, suc, _+_, _-_, _/_, _%_, _^_, _<_, _≤_}
 use native.Mathlib.Omega.{arith}
 use native.Mathlib.Nat.{mod-eq-of-lt, pow-suc, pow-zero, one-mul, div-lt-iff-lt-mul}
 use native.Mathlib.Decide.{decLt}
@@ -9,7 +9,6 @@ use mathlib.Core.List.{[], _∷_, _++_, append-assoc}
 use lib.ListN.{length, length-append}
 use lib.IntN.{ℤ, pos, negsuc}
 use borrow.Author.Tests.{lt-ltb, le-ltb}
-use Rattle.reference.specs.Control.{if_then_else_}
 use Rattle.reference.specs.Text.{Text}
 use Rattle.reference.specs.Numbers.{digit-byte, digits, show-natural, show, as-i64}
 use Rattle.laws.proofs.Scans.{if-true, if-false}

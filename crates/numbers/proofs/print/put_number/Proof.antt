@@ -4,7 +4,7 @@ use native.Mathlib.Omega.{arith}
 use mathlib.Core.Path.{_∙_}
 use lib.ListN.{length-set}
 use Rattle.numbers.proofs.Digits.{natural-length}
-use Rattle.numbers.proofs.Writing.{unsigned, negative}
+use Rattle.numbers.proofs.Writing.{written-positive, written-negative}
 use borrow.Author.Needs.{needs}
 use Rattle.numbers.proofs.print.put_number.Statement.{statement}
 use Rattle.numbers.proofs.print.put_number.Tie as tie
@@ -22,7 +22,7 @@ returns : tie.Need-returns
 returns c =
     let s = c .before .before .before .before .before .before .before in
     let b = c .before .before .before .before .before .bits in
-    unsigned _ (s .fits .v) (b .ensures) (c .before .before .before .before .if1 .taken) (c .before .before .put-natural .ensures)
+    written-positive _ (s .fits .v) (b .ensures) (c .before .before .before .before .if1 .taken) (c .before .before .put-natural .ensures)
 
 slice-write-out : tie.Need-slice-write-out
 slice-write-out c = search needs
@@ -46,7 +46,7 @@ returns-2 : tie.Need-returns-2
 returns-2 c =
     let s = c .before .before .before .before .before .before .before in
     let b = c .before .before .before .before .before .bits in
-    negative _ (s .fits .v) (b .ensures) (s .pre) (c .before .before .before .before .if1 .left) (b .ok) (c .before .before .put-natural2 .ensures)
+    written-negative _ (s .fits .v) (b .ensures) (s .pre) (c .before .before .before .before .if1 .left) (b .ok) (c .before .before .put-natural2 .ensures)
 
 pub put-number-spec : {M : Type 1} → statement M
 put-number-spec =
