@@ -1,9 +1,7 @@
 -- Prefixes, signs and bases: each way that a function of whole numbers returns, from the facts of that place. Assumes nothing.
 use Prim.Native.Nat.{ℕ, suc, _-_, _^_, _≤_}
 use native.Mathlib.Omega.{arith}
-use native.Mathlib.Decide.{decLe}
 use mathlib.Core.Path.{_≡_, refl, sym, ap, _∙_}
-use mathlib.Core.Logic.{by-cases}
 use mathlib.Core.Bool.{Bool, true, false}
 use mathlib.Core.Option.{Option, none, some}
 use lib.Dec.{leb, ltb, leb·suc-suc}
@@ -12,7 +10,8 @@ use lib.ListN.{length, take, drop}
 use Rattle.reference.specs.Control.{if_then_else_, let-some_else_then_}
 use Rattle.reference.specs.Text.{Text, bytes, starts-with, strip-prefix}
 use Rattle.reference.specs.Numbers.{unsigned, read-u64, read-i64, as-i64, wrap, parse-c-number}
-use Rattle.laws.proofs.Scans.{if-true, if-false, starts-short}
+use Rattle.reference.proofs.Shapes.{starts-with-length}
+use Rattle.laws.proofs.Scans.{if-true, if-false}
 use Rattle.laws.proofs.Parts.{to-end}
 use Rattle.numbers.specs.Reading.{at-most, without-plus, positive, negative, hexadecimal, unnegated}
 use Rattle.numbers.proofs.Signed.{as-low, negated}
@@ -22,10 +21,7 @@ use Rattle.numbers.proofs.Reading.{most-is}
 
 module _ (p s : Text) {r : Bool} (e : r ≡ starts-with s p) where
   pub prefix-fits : r ≡ true → length p ≤ length s
-  prefix-fits t =
-      by-cases (decLe (length p) (length s))
-      (λ h. h)
-      (λ h. let z : _≡_ {A = ℕ} 0 1 = cc (starts-short s p (omega arith)) in omega arith)
+  prefix-fits t = starts-with-length s p (sym e ∙ t)
 
   module _ {ℓ} {B : Type ℓ} (d : B) (k : Text → B) where
     pub stripped : r ≡ true → (let-some (strip-prefix p s) else d then k) ≡ k (take (length s - length p) (drop (length p) s))

@@ -13,9 +13,10 @@ use mir.Val.{SFits, toZ, ofZ}
 use mir.ValLaws.{toZ-ofZ}
 use Rattle.reference.specs.Text.{Text}
 use Rattle.reference.specs.Numbers.{as-i64, digit-byte, show-natural, show}
+use Rattle.reference.proofs.Shapes.{show-length}
 use Rattle.numbers.specs.Bits.{bits-of}
 use Rattle.numbers.specs.Writing.{hexadecimal, Written}
-use Rattle.numbers.proofs.Digits.{hexadecimal-one, hexadecimal-more, longer, natural-small, natural-large, natural-length, show-low, show-high}
+use Rattle.numbers.proofs.Digits.{hexadecimal-one, hexadecimal-more, longer, natural-small, natural-large, show-low, show-high}
 use Rattle.numbers.proofs.Signed.{as-bits}
 
 sets-append : (l : Text) (i : ℕ) (s t : Text) → sets l i (s ++ t) ≡ sets (sets l i s) (i + length s) t
@@ -91,12 +92,20 @@ module _ (z : ℤ) (f : SFits w64 z) {b : ℕ} (e : b ≡ bits-of 64 (toZ w64 (o
   shown : show z ≡ show (as-i64 b)
   shown = ap show (sym (rw (e, toZ-ofZ w64 z f) (as-bits z f)))
 
-  pub written-positive : {out : Text} {at : ℕ} {out₁ : Text} {end : ℕ} → b < 2 ^ 63 → Written out at (show-natural b) out₁ end → Written out at (show z) out₁ end
-  written-positive h w = rw (shown ∙ show-low b h) w
+  module _ (h : b < 2 ^ 63) where
+    pub room-positive : length (show-natural b) ≤ 19
+    room-positive = omega (arith, ap length (shown ∙ show-low b h), show-length z)
 
-  pub written-negative : {out : Text} {at : ℕ} {out₁ : Text} {end : ℕ} → at + 19 ≤ length out → 2 ^ 63 ≤ b → b < 2 ^ 64
-      → Written (set out at 45) (at + 1) (show-natural (2 ^ 64 - 1 - b + 1)) out₁ end → Written out at (show z) out₁ end
-  written-negative {out} {at} r l h w =
-      rw (shown ∙ show-high b l h)
-      (written-then out at (45 ∷ []) (show-natural (2 ^ 64 - 1 - b + 1)) (omega (arith, natural-length (2 ^ 64 - 1 - b + 1)))
-      (written-one out at 45 (omega arith)) w)
+    pub written-positive : {out : Text} {at : ℕ} {out₁ : Text} {end : ℕ} → Written out at (show-natural b) out₁ end → Written out at (show z) out₁ end
+    written-positive w = rw (shown ∙ show-low b h) w
+
+  module _ (l : 2 ^ 63 ≤ b) (h : b < 2 ^ 64) where
+    pub room-negative : length (show-natural (2 ^ 64 - 1 - b + 1)) ≤ 18
+    room-negative = omega (arith, ap length (shown ∙ show-high b l h), show-length z)
+
+    pub written-negative : {out : Text} {at : ℕ} {out₁ : Text} {end : ℕ} → at + 19 ≤ length out
+        → Written (set out at 45) (at + 1) (show-natural (2 ^ 64 - 1 - b + 1)) out₁ end → Written out at (show z) out₁ end
+    written-negative {out} {at} r w =
+        rw (shown ∙ show-high b l h)
+        (written-then out at (45 ∷ []) (show-natural (2 ^ 64 - 1 - b + 1)) (omega (arith, room-negative))
+        (written-one out at 45 (omega arith)) w)
