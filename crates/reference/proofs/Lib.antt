@@ -1,0 +1,9 @@
+pub mod Cases
+pub mod Shapes
+pub mod Weights
+pub mod Calls
+pub mod Lines
+pub mod Changes
+pub mod Attempts
+pub mod Cuts
+pub mod Rounds
