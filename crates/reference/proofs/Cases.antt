@@ -98,6 +98,11 @@ unfolding let-some_else_then_
 bind-some {o = none} e = absurd (none-some e)
 bind-some {o = some a} e = (a, refl, e)
 
+pub some-true {ℓ} : {A : Type ℓ} {o : Option A} {p : A → Bool} → (let-some o else false then p) ≡ true → (a : A) × (o ≡ some a) × (p a ≡ true)
+unfolding let-some_else_then_
+some-true {o = none} e = absurd (false≢true e)
+some-true {o = some a} e = (a, refl, e)
+
 -- ---- tests as numbers
 
 pub zero-if : {a : Bool} → a ≡ false → one-if a ≡ 0

@@ -2,10 +2,9 @@
 use Prim.Native.Nat.{ℕ, suc, _≤_, _<_}
 use native.Mathlib.Omega.{arith}
 use mathlib.Core.Path.{_≡_, refl, ap, _∙_}
-use mathlib.Core.Bool.{Bool, true, false, false≢true}
+use mathlib.Core.Bool.{Bool, true, false}
 use mathlib.Core.List.{List, [], _∷_}
 use mathlib.Core.Option.{Option, none, some}
-use lib.Dec.{eqb}
 use lib.ListN.{length, drop}
 use Rattle.reference.specs.Control.{_&&_, _||_, if_then_else_, let-some_else_then_}
 use Rattle.reference.specs.Lists.{position, windows, pairs-from, get, modify}
@@ -17,7 +16,7 @@ use Rattle.reference.specs.Life.{Labels}
 use Rattle.reference.specs.Join.{text-or-empty}
 use Rattle.reference.specs.Run.{dead-result}
 use Rattle.reference.specs.Claim.{Callee, marks, opens, calls-in}
-use Rattle.reference.proofs.Cases.{by-if, by-some, both, either, neither, pair, fails, true-false, same-number, some-inj, none-some, bind-some}
+use Rattle.reference.proofs.Cases.{by-if, both, either, neither, pair, fails, true-false, same-number, some-inj, none-some, bind-some, some-true}
 use Rattle.reference.proofs.Shapes.{starts-as}
 use Rattle.reference.proofs.Weights.{Weight, weight}
 use Rattle.reference.proofs.Calls.{skip}
@@ -64,10 +63,8 @@ unfolding dead-result call-in
 dead-line rules labels lines i e =
     let h = both e in
     let k = both (h .1) in
-    dead-tokens ((lines at i) .tokens) (at-two (h .0)) (k .0) (both (k .1) .0)
-  where
-    at-two : {o : Option ℕ} → (let-some o else false then λ c. eqb c 2) ≡ true → o ≡ some 2
-    at-two {o} = by-some (λ (b : Bool). b ≡ true → o ≡ some 2) (λ h e. absurd (false≢true e)) (λ c h e. h ∙ ap {B = Option ℕ} some (same-number e))
+    let c = some-true (h .0) in
+    dead-tokens ((lines at i) .tokens) (c .1 ∙ ap {B = Option ℕ} some (same-number (c .2))) (k .0) (both (k .1) .0)
 
 -- ---- the two tokens
 

@@ -1,28 +1,24 @@
 -- Demand 3, proved. The rounds and cuts of the definitions are those that `Taken` describes, so the fuel of a round never runs out; the run is a chain
 -- of steps, each of which keeps what demand 3 asks. Assumes nothing.
-use Prim.Native.Nat.{ℕ, zero, suc, pred, _+_, _≤_, _<_, zero-le}
+use Prim.Native.Nat.{ℕ, zero, suc, _+_, _≤_, _<_, zero-le}
 use native.Mathlib.Omega.{arith}
-use native.Mathlib.Nat.{le-trans}
 use mathlib.Core.Path.{_≡_, refl, ap, _∙_}
 use mathlib.Core.Bool.{Bool, true, false}
 use mathlib.Core.List.{List, [], _∷_, _++_, map, Sublistᴰ, Sublistᴰ·refl, Sublistᴰ·trans}
-use lib.Dec.{ltb}
 use lib.ListN.{length}
 use borrow.Author.Tests.{ltb-true, ltb-false}
-use Rattle.reference.specs.Control.{_&&_, if_then_else_}
-use Rattle.reference.specs.Lists.{any}
+use Rattle.reference.specs.Control.{if_then_else_}
 use Rattle.reference.specs.Text.{Text}
-use Rattle.reference.specs.Listing.{Token, is, Number, Listing, _at_}
+use Rattle.reference.specs.Listing.{Listing}
 use Rattle.reference.specs.Rules.{Rules}
 use Rattle.reference.specs.Life.{Labels}
-use Rattle.reference.specs.Run.{labels-from, addressed-in, shift, Attempt, attempts-from, propagate-once, after-attempts, removals, changed, next-round, cuts-from, drop-dead-results, last-of, run, steps, listings, finished}
-use Rattle.reference.specs.Claim.{sum, size, token-count, places, label-lines}
+use Rattle.reference.specs.Run.{labels-from, addressed-in, Attempt, attempts-from, propagate-once, after-attempts, removals, changed, next-round, cuts-from, drop-dead-results, last-of, run, steps, listings, finished}
+use Rattle.reference.specs.Claim.{places, label-lines}
 use Rattle.reference.specs.Demand.{Accepted, Attempts, over, failed, succeeded, Round, NextRound, Cuts, done, kept, dropped, Taken, Within, Each, Step, Steps, Bounded, Demand3}
-use Rattle.reference.proofs.Cases.{by-if, by-some, neither, true-false, pair, fails}
-use Rattle.reference.proofs.Shapes.{assigns}
-use Rattle.reference.proofs.Weights.{weigh, weight, total, plain, plain-text, excess, text-le, light, light-nothing, light-excess}
-use Rattle.reference.proofs.Lines.{sum-remove, length-modify, labels-sublist}
-use Rattle.reference.proofs.Changes.{Changes, unchanged, changes-step, Removed, removed-length, removed-places, removed-labels, removed-le, removed-step}
+use Rattle.reference.proofs.Cases.{by-if, by-some, true-false}
+use Rattle.reference.proofs.Lines.{length-modify, labels-sublist}
+use Rattle.reference.proofs.Changes.{Changes, unchanged, changes-step, Removed, removed-length, removed-places, removed-labels, removed-step}
+use Rattle.reference.proofs.Fits.{Fits, fits-text, accepted-fits, changes-fit, removed-fit}
 use Rattle.reference.proofs.Attempts.{attempt-removed}
 use Rattle.reference.proofs.Cuts.{cut-changes}
 
@@ -30,7 +26,7 @@ use Rattle.reference.proofs.Cuts.{cut-changes}
 
 module _ (rules : Rules) (addressed : List Text) where
   -- a round with fuel for what is left: each attempt steps on, or takes a line out and steps back one
-  attempts : (fuel i : ℕ) (lines : Listing) (labels : Labels) → length lines + length lines ≤ fuel + i
+  pub attempts : (fuel i : ℕ) (lines : Listing) (labels : Labels) → length lines + length lines ≤ fuel + i
       → Attempts rules addressed i lines labels (attempts-from rules addressed fuel i lines labels)
   unfolding attempts-from
   attempts zero i lines labels le = let end : length lines ≤ i = omega arith in over end
@@ -42,14 +38,14 @@ module _ (rules : Rules) (addressed : List Text) where
       (λ e. failed lt e (attempts fuel (suc i) lines labels (omega arith)))
       (λ lines′ e.
       (let fewer : suc (length lines′) ≡ length lines = removed-length (attempt-removed rules lines i labels addressed e) in
-      succeeded lt e (attempts fuel (pred i) lines′ (shift i labels) (omega arith))))))
+      succeeded lt e (attempts fuel _ lines′ _ (omega arith))))))
       (λ h. over (ltb-false _ _ h))
 
-round-taken : (rules : Rules) (lines : Listing) → Round rules lines (propagate-once rules lines)
+pub round-taken : (rules : Rules) (lines : Listing) → Round rules lines (propagate-once rules lines)
 unfolding propagate-once
 round-taken rules lines = attempts rules (addressed-in lines) (length lines + length lines) 0 lines (labels-from 0 lines) (omega arith)
 
-next-taken : (rules : Rules) (before : List Attempt) (lines : Listing) → NextRound rules before lines (next-round rules before lines)
+pub next-taken : (rules : Rules) (before : List Attempt) (lines : Listing) → NextRound rules before lines (next-round rules before lines)
 unfolding next-round
 next-taken rules before lines =
     record {
@@ -57,7 +53,7 @@ next-taken rules before lines =
       ended = λ e. by-if (λ (r : List Attempt). r ≡ []) (λ h. absurd (true-false h e)) (λ h. refl);
     }
 
-cuts-taken : (rules : Rules) (labels : Labels) (n i : ℕ) (lines : Listing) → length lines ≡ n + i → Cuts rules labels i lines (cuts-from rules labels n i lines)
+pub cuts-taken : (rules : Rules) (labels : Labels) (n i : ℕ) (lines : Listing) → length lines ≡ n + i → Cuts rules labels i lines (cuts-from rules labels n i lines)
 unfolding cuts-from
 cuts-taken rules labels zero i lines e = let end : length lines ≤ i = omega arith in done end
 cuts-taken rules labels (suc n) i lines e =
@@ -67,7 +63,7 @@ cuts-taken rules labels (suc n) i lines e =
     (λ h. dropped lt h refl (cuts-taken rules labels n (suc i) _ (length-modify _ i lines ∙ rest)))
     (λ h. kept lt h (cuts-taken rules labels n (suc i) lines rest))
 
-run-taken : (rules : Rules) (input : Listing) → Taken rules input (run rules input)
+pub run-taken : (rules : Rules) (input : Listing) → Taken rules input (run rules input)
 unfolding run drop-dead-results
 run-taken rules input =
     record {
@@ -91,33 +87,20 @@ next-step (removes i r) = removed-step r
 record Inv (input lines : Listing) : Type 0 where
   in-order : Sublistᴰ (places lines) (places input)
   labelled : Sublistᴰ (label-lines input) (label-lines lines)
-  few : token-count lines ≤ 1024
-  short : total plain lines ≤ 24576
-  small : total excess lines ≡ 0
+  fits : Fits lines
 
 next-inv : {input before after : Listing} → Next before after → Inv input before → Inv input after
 next-inv (changes h) v =
     record {
       in-order = rw (h .places-same) (v .in-order);
       labelled = Sublistᴰ·trans (v .labelled) (h .labels-stay);
-      few = le-trans (changes-step h .tokens-stay) (v .few);
-      short = omega (arith, h .weight-le plain (light-nothing plain), v .short);
-      small = omega (arith, h .weight-le excess (light-nothing excess), v .small);
+      fits = changes-fit h (v .fits);
     }
-next-inv {before = before} (removes i r) v =
-    let to = r .assigned .to in
-    let none-here : weight excess ((before at i) .tokens) ≡ 0 = omega (arith, sum-remove (λ l. weight excess (l .tokens)) refl i before, v .small) in
+next-inv (removes i r) v =
     record {
       in-order = Sublistᴰ·trans (removed-places r) (v .in-order);
       labelled = Sublistᴰ·trans (v .labelled) (removed-labels r);
-      few = le-trans (removed-step r .tokens-stay) (v .few);
-      short = omega (arith, removed-le r plain (light plain (λ m n. zero-le) (to .expr)), v .short);
-      small =
-          omega (
-            arith,
-            removed-le r excess (light-excess (assigns ((before at i) .tokens) to (r .assigned .assignment-is)) none-here),
-            v .small,
-          );
+      fits = removed-fit r (v .fits);
     }
 
 within : {input lines : Listing} → Inv input lines → Within input lines
@@ -125,7 +108,7 @@ within {lines = lines} v =
     record {
       places-in-order = v .in-order;
       labels-stand = Sublistᴰ·trans (v .labelled) (labels-sublist lines);
-      text-bounded = omega (arith, text-le lines, v .few, v .short, v .small);
+      text-bounded = fits-text (v .fits);
     }
 
 -- ---- chains
@@ -201,25 +184,6 @@ cuts-chain {rules = rules} {labels = labels} (dropped {i = i} {lines = lines} {l
     let cut : Changes [] [] [] lines lines′ = rw same (cut-changes rules labels lines i h e) in
     (r .0, next (changes cut) (r .1))
 
--- no number's text is longer than 24 bytes
-small-number : (t : Token) → (is Number t && ltb 24 (size t)) ≡ false → weigh excess t ≡ 0
-unfolding weigh
-small-number t e = by-if (λ (n : ℕ). n ≡ 0) (λ h. omega (arith, ltb-false 24 (size t) (fails (λ u. true-false (pair h u) e)))) (λ h. refl)
-
-none-any {ℓ} : {A : Type ℓ} {p : A → Bool} {f : A → ℕ} → ((x : A) → p x ≡ false → f x ≡ 0) → (xs : List A) → any p xs ≡ false → sum f xs ≡ 0
-none-any h [] e = refl
-none-any h (x ∷ xs) e = omega (arith, h x (neither e .0), none-any h xs (neither e .1))
-
-start : (input : Listing) → Accepted input → Inv input input
-start input ok =
-    record {
-      in-order = Sublistᴰ·refl _;
-      labelled = Sublistᴰ·refl _;
-      few = ok .tokens-fit;
-      short = le-trans (plain-text input) (ok .text-fits);
-      small = none-any (λ l. none-any small-number (l .tokens)) input (ok .numbers-fit);
-    }
-
 -- DEMAND 3
 pub demand3 : (rules : Rules) (input : Listing) → Accepted input → Demand3 rules input
 unfolding listings steps finished
@@ -231,7 +195,7 @@ demand3 rules input ok =
     let chain = chain-append (chain-append (chain-append (first .chain) (second .chain)) (third .chain)) (cuts-chain (taken .cuts) .1) in
     record {
       taken = taken;
-      each = chain-each (start input ok) chain;
+      each = chain-each (record { in-order = Sublistᴰ·refl _; labelled = Sublistᴰ·refl _; fits = accepted-fits ok }) chain;
       step = chain-steps chain;
       last = last-stands input _;
       first-round = first .bounded;

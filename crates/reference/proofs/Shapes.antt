@@ -5,19 +5,19 @@ use native.Mathlib.Omega.{arith}
 use mathlib.Core.Path.{_≡_, refl, ap, subst, subst⁻¹}
 use mathlib.Core.Bool.{Bool, true, false, false≢true}
 use mathlib.Core.List.{List, [], _∷_, _++_, dropLast}
-use mathlib.Core.Option.{Option, none, some}
+use mathlib.Core.Option.{Option, some}
 use lib.Dec.{eqb}
 use lib.IntN.{ℤ, pos, negsuc}
 use lib.ListN.{length, take, drop}
-use Rattle.reference.specs.Control.{_||_, if_then_else_, let-some_else_then_}
+use Rattle.reference.specs.Control.{_&&_, _||_}
 use Rattle.reference.specs.Lists.{position, is-empty}
 use Rattle.reference.specs.Text.{Text, bytes, _==_, starts-with, ends-with}
-use Rattle.reference.specs.Listing.{Token, token, is, Register, Number, Symbol, Punct, Plain, Listing, _at_}
-use Rattle.reference.specs.Names.{family, fam-of, of-family}
+use Rattle.reference.specs.Listing.{Token, token, is, Register, Number, Punct, Plain, Listing, _at_}
+use Rattle.reference.specs.Names.{fam-of, of-family}
 use Rattle.reference.specs.Numbers.{joins, folded, digits, digit-byte, show, show-natural}
 use Rattle.reference.specs.Shapes.{Assignment, cut-semicolon, begins-assignment, right-side, assignment-of, assignment, label-tokens}
 use Rattle.reference.specs.Claim.{size}
-use Rattle.reference.proofs.Cases.{by-if, both, either, fails, true-false, same-number, some-inj, none-some, if-some, unless-some, bind-some}
+use Rattle.reference.proofs.Cases.{by-if, both, either, fails, true-false, same-number, some-inj, none-some, if-some, unless-some, bind-some, some-true}
 
 -- ---- kinds
 
@@ -40,12 +40,8 @@ joins-other k a b hp ht e =
     (subst⁻¹ (λ (n : ℕ). eqb n k ≡ false) same second, second)
 
 pub family-register : (fam : Text) (t : Token) → of-family fam t ≡ true → is Register t ≡ true
-unfolding of-family fam-of let-some_else_then_ if_then_else_
-family-register fam t e = go (is Register t) e
-  where
-    go : (b : Bool) → (let-some (if b then family (t .text) else none) else false then λ f. f .name == fam) ≡ true → b ≡ true
-    go true e = refl
-    go false e = e
+unfolding of-family fam-of
+family-register fam t e = if-some (some-true e .1) .0
 
 -- ---- texts
 
@@ -147,13 +143,13 @@ assigns (lhs ∷ eq ∷ rest) a e =
 pub assigning-register : {ts : List Token} {a : Assignment} → Assigning ts a → is Register (a .lhs) ≡ true
 assigning-register (assigning r p s c) = r
 
--- an assignment is no label
+-- an assignment is no label: its second token is no `:`
 pub assigning-plain : {ts : List Token} {a : Assignment} → Assigning ts a → label-tokens ts ≡ false
 unfolding label-tokens
 assigning-plain (assigning {lhs = x} {eq = y} {rest = rest} r p s c) = go rest
   where
     go : (rest : List Token) → label-tokens (x ∷ y ∷ rest) ≡ false
-    go [] = fails (λ h. true-false (both h .1) (other-kind Register Symbol x refl r))
+    go [] = fails (λ h. true-false s (starts-as (y .text) (bytes ":") (bytes " = ") false (unfold _&&_ in refl) (both h .0)))
     go (z ∷ zs) = refl
 
 -- it stands inside the listing

@@ -62,11 +62,11 @@ if-le true h k = h
 if-le false h k = k
 
 module _ (w : Weight) where
-  weigh-number : (t : Token) → is Number t ≡ true → weigh w t ≡ w .number (size t)
+  pub weigh-number : (t : Token) → is Number t ≡ true → weigh w t ≡ w .number (size t)
   unfolding weigh if_then_else_
   weigh-number t e = rw (e, if_then_else_)
 
-  weigh-other : (t : Token) → is Number t ≡ false → weigh w t ≡ w .other (size t)
+  pub weigh-other : (t : Token) → is Number t ≡ false → weigh w t ≡ w .other (size t)
   unfolding weigh if_then_else_
   weigh-other t e = rw (e, if_then_else_)
 
@@ -98,7 +98,7 @@ module _ (w : Weight) where
       )))
       (λ e. omega (arith, into-le t ts))
 
-  merge-le : (ts : List Token) → weight w (merge ts) ≤ weight w ts
+  pub merge-le : (ts : List Token) → weight w (merge ts) ≤ weight w ts
   unfolding merge
   merge-le [] = omega arith
   merge-le (t ∷ ts) = into-le t ts
@@ -141,7 +141,7 @@ module _ (w : Weight) where
       )
   cut-le (later t c) = omega (arith, cut-le c)
 
-  assigned-le : {ts : List Token} {a : Assignment} → Assigning ts a → (n : ℕ) → w .other 1 + w .other 1 + weight w (a .expr) ≤ weight w ts + w .other n
+  pub assigned-le : {ts : List Token} {a : Assignment} → Assigning ts a → (n : ℕ) → w .other 1 + w .other 1 + weight w (a .expr) ≤ weight w ts + w .other n
   unfolding right-side
   assigned-le (assigning {lhs = lhs} {eq = eq} {rest = rest} r p s c) n =
       let head : ℕ = length (drop 3 (eq .text)) in

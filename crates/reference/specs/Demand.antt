@@ -1,5 +1,15 @@
--- Demand 3: a single claim about the whole run of an accepted listing, under every setting. Each field has beside it the words of the demand that it
--- says; words of document 01 that fix a term stand at its definition. Assumes nothing.
+-- Demand 3: a single claim about the whole run. Its clauses, by the numbers that stand beside the fields below:
+--   "For every accepted listing and every convention, over the whole run of its cleaning, in which
+--   (1) each attempt, failed ones included, and each dropped result takes what the last left, from the input on: after every one
+--   (2) the address and indent pairs are a subsequence of the input's,
+--   (3) input label lines stand unchanged in order,
+--   (4) every line gone was an assignment to a register or stack slot when removed,
+--   (5) no callee is called fewer times and
+--   (6) no more tokens stand than before it, and
+--   (7) text is at most 49,152 bytes;
+--   (8) the last listing left is the finished one; and
+--   (9) every round that begins with m lines and removes s makes at most m + s attempts."
+-- Words in quotes elsewhere are document 01's, at the definition of the term that they fix. Proved in proofs/Rounds.antt. Assumes nothing.
 use Prim.Native.Nat.{ℕ, suc, pred, _+_, _≤_, _<_}
 use mathlib.Core.Path.{_≡_}
 use mathlib.Core.Bool.{true, false}
@@ -19,14 +29,15 @@ use Rattle.reference.specs.Join.{try-at}
 use Rattle.reference.specs.Run.{labels-from, addressed-in, shift, Attempt, after-attempts, removals, changed, dead-result, Run, run, steps, listings, finished}
 use Rattle.reference.specs.Claim.{size, Callee, calls, token-count, text, places, label-lines}
 
--- What is asked of the input. "An accepted listing is one whose tape no question below refuses": those questions bound lines, indents, bytes and
--- empty texts too. The claim needs these three limits alone, and so it holds of more listings.
+-- "An accepted listing is one whose tape no question below refuses": those questions bound lines, indents and bytes too. The claim needs these three
+-- limits alone, and so it holds of more listings.
 pub record Accepted (lines : Listing) : Type 0 where
   pub tokens-fit : token-count lines ≤ 1024
   pub text-fits : text lines ≤ 24576
   pub numbers-fit : any (λ l. any (λ t. is Number t && ltb 24 (size t)) (l .tokens)) lines ≡ false
 
--- ---- the run
+-- ---- (1) the run: "the input, then the one after each attempt of every round in turn, failed attempts included, then the one after each cut". The
+-- definitions make it (`run`, `listings`); here it is said of what they make, with no bound on the attempts.
 
 -- The attempts of a round that stands at line i, up to its end. "An attempt is one call of `try_at` at line i. Success removes line i and steps back
 -- one, not below 0; failure steps on"; "label places shift with removals".
@@ -69,7 +80,7 @@ after-second input r = after-attempts (after-first input r) (r .second)
 abbrev pub after-third : Listing → Run → Listing
 after-third input r = after-attempts (after-second input r) (r .third)
 
--- "Every step takes the listing that the step before left"
+-- (1) "Every step takes the listing that the step before left".
 pub record Taken (rules : Rules) (input : Listing) (r : Run) : Type 0 where
   pub first : Round rules input (r .first)
   pub second : NextRound rules (r .first) (after-first input r) (r .second)
@@ -79,11 +90,11 @@ pub record Taken (rules : Rules) (input : Listing) (r : Run) : Type 0 where
 -- ---- a listing of the run, against the input
 
 pub record Within (input lines : Listing) : Type 0 where
-  -- "the address and indent pairs are a subsequence of the input's"
+  -- (2)
   pub places-in-order : Sublistᴰ (places lines) (places input)
-  -- "input label lines stand unchanged in order": they "are a subsequence of the lines of each listing in the run"
+  -- (3) they "are a subsequence of the lines of each listing in the run"
   pub labels-stand : Sublistᴰ (label-lines input) lines
-  -- "text is at most 49,152 bytes"
+  -- (7)
   pub text-bounded : text lines ≤ 49152
 
 abbrev pub Each : (Listing → Type 0) → List Listing → Type 0
@@ -92,51 +103,50 @@ Each P (l ∷ ls) = P l × Each P ls
 
 -- ---- a step, against the listing just before it: "'Before' means one step earlier; a line gone is judged in the listing just before"
 
--- The line i "was an assignment to a register or stack slot when removed"; "its register or stack slot is any R with a family, r99 included".
+-- the line i is an assignment; "its register or stack slot is any R with a family, r99 included"
 pub record Assigned (lines : Listing) (i : ℕ) : Type 0 where
   pub to : Assignment
   pub name : Fam
   pub is-assignment : assignment (lines at i) ≡ some to
   pub is-register : fam-of (to .lhs) ≡ some name
 
--- Which line is gone, if any: other lines change in place, and then the line i, which did not change, is taken out.
+-- which line is gone, if any: other lines change in place, and then the line i, which did not change, is taken out
 pub data Gone (before after : Listing) : Type 0 where
   nothing : places after ≡ places before → Gone before after
   line : (i : ℕ) → i < length before → Assigned before i
       → (between : Listing) → places between ≡ places before → between at i ≡ before at i → after ≡ remove i between → Gone before after
 
 pub record Step (before after : Listing) : Type 0 where
-  -- "every line gone was an assignment to a register or stack slot when removed"
+  -- (4)
   pub gone : Gone before after
-  -- "no callee is called fewer times .. than before it"
+  -- (5)
   pub calls-stay : (c : Callee) → calls c before ≤ calls c after
-  -- "no more tokens stand than before it"
+  -- (6)
   pub tokens-stay : token-count after ≤ token-count before
 
 abbrev pub Steps : Listing → List Listing → Type 0
 Steps before [] = Unit {0}
 Steps before (l ∷ ls) = Step before l × Steps l ls
 
--- ---- a round that begins with `lines`: m is their number, s how many of them are gone when it ends
+-- ---- (9) a round that begins with `lines`: m is their number, s how many of them are gone when it ends
 
 pub record Bounded (lines : Listing) (round : List Attempt) : Type 0 where
-  -- s is the number of "removals (attempts that succeed)"
+  -- s, the lines gone, is the number of "removals (attempts that succeed)"
   pub removes : length (after-attempts lines round) + removals round ≡ length lines
-  -- "makes at most m + s attempts"
   pub attempts : length round ≤ length lines + removals round
 
--- ---- DEMAND 3: the run of the listing `input` under the settings `rules`
+-- ---- DEMAND 3, of the run of the listing `input` under the settings `rules`
 
 pub record Demand3 (rules : Rules) (input : Listing) : Type 0 where
-  -- "each attempt, failed ones included, and each dropped result takes what the last left, from the input on"
+  -- (1)
   pub taken : Taken rules input (run rules input)
-  -- "after every one" the three of `Within`; of the input too
+  -- (2), (3), (7): of the input, and after every step
   pub each : Each (Within input) (listings rules input)
-  -- "after every one" the three of `Step`, against the one before it
+  -- (4), (5), (6): of every step, against the listing before it
   pub step : Steps input (steps (run rules input))
-  -- "the last listing left is the finished one": "the input itself, where there was no step"
+  -- (8) "the input itself, where there was no step"
   pub last : (before : List Listing) × (listings rules input ≡ before ++ (finished rules input ∷ []))
-  -- "every round that begins with m lines and removes s makes at most m + s attempts"
+  -- (9)
   pub first-round : Bounded input (run rules input .first)
   pub second-round : Bounded (after-first input (run rules input)) (run rules input .second)
   pub third-round : Bounded (after-second input (run rules input)) (run rules input .third)
