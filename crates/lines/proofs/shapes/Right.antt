@@ -1,4 +1,4 @@
--- The right side of an assignment as words: the line without its ` = `, the last word without its `;`, and what `assignment-of` says of them.
+-- The right side of an assignment as words: the line without its ` = `, the last word without its last byte, and the words one by one.
 -- Assumes nothing.
 use Prim.Native.Nat.{ℕ, zero, suc, _+_, _-_, _≤_, _<_}
 use native.Mathlib.Omega.{arith}
