@@ -1,23 +1,25 @@
 -- No attempt and no cut looks at an address: each decides the same of the lines without theirs, and leaves the same lines without theirs.
 -- Assumes nothing.
 use Prim.Native.Nat.{ℕ, zero, suc}
-use mathlib.Core.Path.{_≡_, refl, sym, ap, _∙_}
+use mathlib.Core.Path.{_≡_, refl, ap, _∙_}
 use mathlib.Core.Bool.{Bool, true, false}
-use mathlib.Core.List.{List, [], _∷_, _++_, map}
+use mathlib.Core.List.{List, [], _∷_, map}
 use mathlib.Core.Option.{Option, none, some}
 use lib.ListN.{drop}
 use lib.Seq.{slice}
 use Rattle.reference.specs.Control.{if_then_else_, let-some_else_then_}
-use Rattle.reference.specs.Lists.{any, remove, modify}
+use Rattle.reference.specs.Lists.{get, remove, modify}
 use Rattle.reference.specs.Text.{Text}
-use Rattle.reference.specs.Listing.{Token, Line, Listing, _at_, with-tokens}
+use Rattle.reference.specs.Listing.{Token, Line, Listing, _at_}
 use Rattle.reference.specs.Rules.{Rules, volatile}
-use Rattle.reference.specs.Life.{Labels, touch}
-use Rattle.reference.specs.Join.{Uses, ends-run, gather, harmless, use-from, rewrite-use, try-at}
+use Rattle.reference.specs.Life.{Labels}
+use Rattle.reference.specs.Join.{ends-run, gather, harmless, use-from, rewrite-use, text-or-empty, try-at}
 use Rattle.reference.specs.Run.{labels-from, addressed-in, dead-result}
 use Rattle.laws.proofs.Scans.{any-map}
 use Rattle.joining.specs.Bare.{bare, bare-lines}
-use Rattle.joining.specs.Plan.{Definition, definition-of, Plan, Reach, reach-at, reach-from, reach-of, refuses, all-take, ends-at, plan-reach, plan-constant, use-of, plan-use, plan-single, plan-for, decide, map-from, right-side-of, changes, where-used, acted-line, act}
+use Rattle.joining.specs.Places.{label-places, labels-at}
+use Rattle.joining.specs.Rounds.{cut-at}
+use Rattle.joining.specs.Plan.{Definition, Plan, Reach, reach-at, reach-from, reach-of, refuses, all-take, ends-at, plan-reach, plan-constant, use-of, plan-use, plan-single, plan-for, decide, map-from, right-side-of, changes, where-used, acted-line, act}
 use Rattle.joining.proofs.BareLife.{at-bare, drop-map, slice-map, dead-after-bare}
 use Rattle.joining.proofs.Deciding.{try-at-is}
 
@@ -120,6 +122,15 @@ unfolding labels-from
 labels-bare i [] = refl
 labels-bare i (l ∷ ls) = rw (labels-bare (suc i) ls)
 
+pub label-places-bare : (i : ℕ) (ls : Listing) → label-places i (bare-lines ls) ≡ label-places i ls
+unfolding label-places
+label-places-bare i [] = refl
+label-places-bare i (l ∷ ls) = rw (label-places-bare (suc i) ls)
+
+pub labels-at-bare : (lines : Listing) (places : List ℕ) → labels-at (bare-lines lines) places ≡ labels-at lines places
+labels-at-bare lines [] = refl
+labels-at-bare lines (q ∷ qs) = λ t. record { name = text-or-empty (get (at-bare lines q t .tokens) 0); place = q } ∷ labels-at-bare lines qs t
+
 pub addressed-bare : (ls : Listing) → addressed-in (bare-lines ls) ≡ addressed-in ls
 unfolding addressed-in
 addressed-bare [] = refl
@@ -129,6 +140,5 @@ pub dead-result-bare : (rules : Rules) (labels : Labels) (lines : Listing) (i : 
 unfolding dead-result
 dead-result-bare rules labels lines i = rw (at-bare lines i, dead-after-bare lines _ ((lines at i) .indent) labels i (volatile rules) i)
 
-pub cut-bare : (i : ℕ) (lines : Listing)
-    → modify i (λ l. with-tokens (drop 2 (l .tokens)) l) (bare-lines lines) ≡ bare-lines (modify i (λ l. with-tokens (drop 2 (l .tokens)) l) lines)
+pub cut-bare : (i : ℕ) (lines : Listing) → cut-at i (bare-lines lines) ≡ bare-lines (cut-at i lines)
 cut-bare i lines = modify-map bare _ _ (λ l. refl) i lines

@@ -1,16 +1,14 @@
 -- No reader of a value's life looks at an address: `killed-first` and `dead-after` say the same of the lines without theirs. Assumes nothing.
 use Prim.Native.Nat.{ℕ, zero, suc, _+_}
-use mathlib.Core.Path.{_≡_, refl, sym, ap, _∙_}
-use mathlib.Core.Bool.{Bool, true, false}
+use mathlib.Core.Path.{_≡_, refl, ap, _∙_}
+use mathlib.Core.Bool.{Bool}
 use mathlib.Core.List.{List, [], _∷_, map}
-use mathlib.Core.Option.{Option, none, some}
 use lib.ListN.{take, drop, List·getD-map}
 use lib.Seq.{slice}
-use Rattle.reference.specs.Control.{not, _&&_, if_then_else_, let-some_else_then_}
 use Rattle.reference.specs.Lists.{last-position}
 use Rattle.reference.specs.Text.{Text}
 use Rattle.reference.specs.Listing.{Line, Listing, blank, _at_}
-use Rattle.reference.specs.Life.{Labels, touch, match-touch, killed-first, is-do, rerun-kills, while-passes, goto-passes, scan, dead-from, dead-after}
+use Rattle.reference.specs.Life.{Labels, killed-first, is-do, rerun-kills, while-passes, goto-passes, scan, dead-from, dead-after}
 use Rattle.joining.specs.Bare.{bare, bare-lines}
 
 module _ {ℓ κ} {A : Type ℓ} {B : Type κ} (f : A → B) where

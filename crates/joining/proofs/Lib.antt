@@ -11,3 +11,10 @@ pub mod Building
 pub mod Planned
 pub mod BareLife
 pub mod Bare
+pub mod Labels
+pub mod Moving
+pub mod Rounds
+pub mod Bounds
+pub mod Room
+pub mod Addressed
+pub mod Fitting
