@@ -2,3 +2,4 @@ pub mod Words
 pub mod Lines
 pub mod Rules
 pub mod Shapes
+pub mod Fams

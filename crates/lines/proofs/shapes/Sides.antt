@@ -287,5 +287,16 @@ module _ {tape area : Text} {ws : List ℕ} (h : Holds tape area ws) where
         pub assigned-rest : (n ≡ 3 → ⊥) → Sides tape area ws 1 r → Assigns tape area ws r
         assigned-rest e s = from-side s (if-false _ _ (ne-eqb _ _ (λ q. e (en ∙ q))))
 
+-- what a caller knows of the answer
+pub assigned-to : {tape area : Text} {ws : List ℕ} {r : Assigned} {x : Expr} → Assigns tape area ws r → r ≡ To x
+    → assignment-of (tokens-of tape area ws) ≡ some (record { lhs = token-of tape area (getD ws 0 0); expr = tokens-of tape area (expr-words ws x) })
+assigned-to h e = rw (← h .is, e)
+
+pub assigned-not : {tape area : Text} {ws : List ℕ} {r : Assigned} → Assigns tape area ws r → r ≡ Nothing → assignment-of (tokens-of tape area ws) ≡ none
+assigned-not h e = rw (← h .is, e)
+
+pub assigned-side : {tape area : Text} {ws : List ℕ} {r : Assigned} {x : Expr} → Assigns tape area ws r → r ≡ To x → Expression ws x
+assigned-side {x = x} h e = h .side x e
+
 -- `search (needs, sides)` proves what `right_side` and `assignment` leave
 pub ruleset sides = (not-true, not-false, side-empty, last-points, side-open, side-kept, side-only, side-gone, opens, assigned-short, assigned-other, assigned-next, assigned-rest)
