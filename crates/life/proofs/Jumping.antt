@@ -16,7 +16,7 @@ use Rattle.reference.specs.Text.{Text, bytes, _==_}
 use Rattle.reference.specs.Listing.{Token, is, Symbol, Line, Listing, blank, _at_}
 use Rattle.reference.specs.Shapes.{is-kw, kw-in, label-tokens}
 use Rattle.reference.specs.Join.{text-or-empty}
-use Rattle.reference.specs.Life.{Labels, lookup, touch, is-use, is-do, goto-target, rerun-kills, while-passes, goto-passes}
+use Rattle.reference.specs.Life.{Labels, lookup, touch-of, is-use, is-do, goto-target, rerun-kills, while-passes, goto-passes}
 use Rattle.laws.proofs.Scans.{if-true, if-false}
 use Rattle.joining.specs.Places.{label-at, labels-at, Labelled}
 use Rattle.joining.proofs.Labels.{label-inside, lookup-begin, lookup-hit, lookup-miss, lookup-end}
@@ -25,8 +25,9 @@ use Rattle.lines.specs.Lines.{indent-of, part-of, bare-in, bare-listing}
 use Rattle.lines.specs.Shapes.{found, symbol-from}
 use Rattle.lines.specs.declared.shapes.Found.{Found}
 use Rattle.lines.specs.declared.shapes.Found.the-variants.{At, Nothing}
-use Rattle.lines.proofs.words.Each.{map-at, map-take}
-use Rattle.lines.proofs.shapes.Places.{find-at, symbol-at, symbol-fromone}
+use Rattle.lines.proofs.words.Each.{map-take}
+use Rattle.lines.proofs.words.Lines.{bare-at}
+use Rattle.lines.proofs.shapes.Places.{found-is, found-not, find-at, symbol-at, symbol-fromone}
 use Rattle.life.specs.declared.jumps.Jump.{Jump}
 use Rattle.life.specs.declared.jumps.Jump.the-variants.{Nothing as Stays, Unknown, To}
 use Rattle.life.specs.Jumps.{jump}
@@ -103,7 +104,7 @@ module _ (tape area : Text) (tokens lines places : List ℕ) (ok : Labelled (bar
     place-inside = rw (length-map lines (bare-in tape area tokens)) at (label-inside (bare-listing tape area tokens lines) (getD places k 0) (ok k h))
 
     at-place : bare-listing tape area tokens lines at getD places k 0 ≡ bare-in tape area tokens (getD lines (getD places k 0) 0)
-    at-place = map-at (bare-in tape area tokens) lines (getD places k 0) blank place-inside
+    at-place = bare-at tape area tokens [] lines (getD places k 0) place-inside
 
     pub place-long : 0 < length (part-of tokens (getD lines (getD places k 0) 0))
     place-long = label-long tape area (part-of tokens (getD lines (getD places k 0) 0)) (ap (λ (l : Line). label-tokens (l .tokens)) (sym at-place) ∙ ok k h)
@@ -137,41 +138,42 @@ module _ (tape area : Text) (tokens lines places : List ℕ) (ok : Labelled (bar
 
 -- ---- where a `goto` jumps to
 
-module _ (tape area : Text) (ws : List ℕ) (labels : Labels) {r : Found} (er : found r ≡ position (is-kw (bytes "goto")) (tokens-of tape area ws)) where
-  pub target-stays : r ≡ Nothing → none ≡ goto-target (tokens-of tape area ws) labels
+module _ (tape area : Text) (labels : Labels) (line : List ℕ) {ws : List ℕ} (ew : ws ≡ line)
+    (r : Found) (er : found r ≡ position (is-kw (bytes "goto")) (tokens-of tape area ws)) where
+  pub target-stays : r ≡ Nothing → none ≡ goto-target (tokens-of tape area line) labels
   unfolding goto-target let-some_else_then_
-  target-stays e = rw (← er, e)
+  target-stays e = rw (← ew, found-not er e)
 
   module _ {g : ℕ} (e : r ≡ At g) where
     pub goto-inside : g < length ws
     goto-inside =
-        let b = find-at (is-kw (bytes "goto")) (tokens-of tape area ws) g (token-of tape area 0) (sym er ∙ ap found e) .0 in
+        let b = find-at (is-kw (bytes "goto")) (tokens-of tape area ws) g (token-of tape area 0) (found-is er e) .0 in
         rw (length-map ws (token-of tape area)) at b
 
-    at-goto : goto-target (tokens-of tape area ws) labels
+    at-goto : goto-target (tokens-of tape area line) labels
         ≡ some (let-some (find (is Symbol) (drop (g + 1) (tokens-of tape area ws))) else none then λ t. lookup labels (t .text))
     unfolding goto-target let-some_else_then_
-    at-goto = rw (← er, e, add-one g)
+    at-goto = rw (← ew, found-is er e, add-one g)
 
-    module _ {q : Found} (eq : found q ≡ symbol-from (tokens-of tape area ws) (g + 1)) where
-      pub target-none : q ≡ Nothing → some none ≡ goto-target (tokens-of tape area ws) labels
+    module _ (q : Found) (eq : found q ≡ symbol-from (tokens-of tape area ws) (g + 1)) where
+      pub target-none : q ≡ Nothing → some none ≡ goto-target (tokens-of tape area line) labels
       unfolding let-some_else_then_
-      target-none f = sym (at-goto ∙ rw (symbol-fromone tape area ws (g + 1) (sym eq ∙ ap found f)))
+      target-none f = sym (at-goto ∙ rw (symbol-fromone tape area ws (g + 1) (found-not eq f)))
 
       module _ {s : ℕ} (f : q ≡ At s) where
         pub symbol-inside : s < length ws
-        symbol-inside = symbol-at tape area ws (g + 1) s (sym eq ∙ ap found f) .0
+        symbol-inside = symbol-at tape area ws (g + 1) s (found-is eq f) .0
 
-        at-symbol : goto-target (tokens-of tape area ws) labels ≡ some (lookup labels (text-of tape area (getD ws s 0)))
+        at-symbol : goto-target (tokens-of tape area line) labels ≡ some (lookup labels (text-of tape area (getD ws s 0)))
         unfolding let-some_else_then_
-        at-symbol = at-goto ∙ rw (symbol-at tape area ws (g + 1) s (sym eq ∙ ap found f) .1)
+        at-symbol = at-goto ∙ rw (symbol-at tape area ws (g + 1) s (found-is eq f) .1)
 
-        module _ {t : Found} (et : found t ≡ lookup labels (text-of tape area (getD ws s 0))) where
-          pub target-unknown : t ≡ Nothing → some none ≡ goto-target (tokens-of tape area ws) labels
-          target-unknown u = sym (at-symbol ∙ rw (← et, u))
+        module _ (t : Found) (et : found t ≡ lookup labels (text-of tape area (getD ws s 0))) where
+          pub target-unknown : t ≡ Nothing → some none ≡ goto-target (tokens-of tape area line) labels
+          target-unknown u = sym (at-symbol ∙ ap some (found-not et u))
 
-          pub target-to : {k : ℕ} → t ≡ At k → some (some k) ≡ goto-target (tokens-of tape area ws) labels
-          target-to u = sym (at-symbol ∙ rw (← et, u))
+          pub target-to : {k : ℕ} → t ≡ At k → some (some k) ≡ goto-target (tokens-of tape area line) labels
+          target-to u = sym (at-symbol ∙ ap some (found-is et u))
 
 -- ---- whether the scan goes on
 
@@ -181,49 +183,60 @@ unless true true = refl
 unless true false = refl
 unless false b = refl
 
-module _ (lines : Listing) (fam : Text) (start : ℕ) (vs : List Text) where
-  module _ (labels : Labels) (l : Line) {r : Jump} (er : jump r ≡ goto-target (l .tokens) labels) where
-    pub passes-stays : r ≡ Stays → true ≡ goto-passes lines fam start vs labels l
+module _ (tape area : Text) (tokens lines : List ℕ) (fam : Text) (start : ℕ) (vs : List Text) where
+  abbrev listing : Listing
+  listing = bare-listing tape area tokens lines
+
+  module _ (labels : Labels) (l : ℕ) (r : Jump) (er : jump r ≡ goto-target (tokens-of tape area (part-of tokens l)) labels) where
+    abbrev goes : Bool
+    goes = goto-passes listing fam start vs labels (bare-in tape area tokens l)
+
+    pub passes-stays : r ≡ Stays → true ≡ goes
     unfolding goto-passes let-some_else_then_
     passes-stays e = rw (← er, e)
 
-    pub passes-unknown : r ≡ Unknown → false ≡ goto-passes lines fam start vs labels l
+    pub passes-unknown : r ≡ Unknown → false ≡ goes
     unfolding goto-passes let-some_else_then_
     passes-unknown e = rw (← er, e)
 
     module _ {to : ℕ} (e : r ≡ To to) where
-      at-target : goto-passes lines fam start vs labels l ≡ (if leb to start then rerun-kills lines fam start vs to ((lines at to) .indent) else true)
+      at-target : goes ≡ (if leb to start then rerun-kills listing fam start vs to ((listing at to) .indent) else true)
       unfolding goto-passes let-some_else_then_
-      at-target = rw (← er, e) (unless (leb to start) (rerun-kills lines fam start vs to ((lines at to) .indent)))
+      at-target = rw (← er, e) (unless (leb to start) (rerun-kills listing fam start vs to ((listing at to) .indent)))
 
-      pub passes-on : start < to → true ≡ goto-passes lines fam start vs labels l
+      pub passes-on : start < to → true ≡ goes
       passes-on h = sym (at-target ∙ if-false _ _ (lt-leb to start h))
 
-      pub passes-back : {x : Bool} {k : ℕ} → to ≤ start → k ≡ (lines at to) .indent → x ≡ rerun-kills lines fam start vs to k → x ≡ goto-passes lines fam start vs labels l
-      passes-back h ek ex = ex ∙ rw ek (sym (at-target ∙ if-true _ _ (le-leb to start h)))
+      pub passes-back : {k : ℕ} {x : Bool} → to ≤ start → start < length lines → k ≡ indent-of (getD lines to 0)
+          → x ≡ rerun-kills listing fam start vs to k → x ≡ goes
+      passes-back {k} h b ek ex =
+          let i : k ≡ (listing at to) .indent = ek ∙ ap (λ (m : Line). m .indent) (sym (bare-at tape area tokens [] lines to (omega arith))) in
+          ex ∙ rw i (sym (at-target ∙ if-true _ _ (le-leb to start h)))
 
-  module _ (w : ℕ) (l : Line) {x : Bool} (ex : x ≡ is-use (touch l fam vs)) where
-    pub loop-uses : x ≡ true → false ≡ while-passes lines fam start vs w l
+  module _ (w l : ℕ) {ws : List ℕ} (ew : ws ≡ part-of tokens l) {x : Bool} (ex : x ≡ is-use (touch-of (tokens-of tape area ws) fam vs)) where
+    abbrev loops : Bool
+    loops = while-passes listing fam start vs w (bare-in tape area tokens l)
+
+    pub loop-uses : x ≡ true → false ≡ loops
     unfolding while-passes if_then_else_
-    loop-uses t = rw (← ex, t)
+    loop-uses t = rw (← ew, ← ex, t)
 
-    module _ (t : x ≡ false) {k : ℕ} (ek : k ≡ l .indent) (r : Found) (er : found r ≡ last-position (is-do k) (take w lines)) where
-      at-do : while-passes lines fam start vs w l
-          ≡ (let-some (found r) else false then λ d. not (ltb d start && not (rerun-kills lines fam start vs d k)))
+    module _ (t : x ≡ false) {k : ℕ} (ek : k ≡ indent-of l) (r : Found) (er : found r ≡ last-position (is-do k) (bare-listing tape area tokens (take w lines))) where
+      at-do : loops ≡ (let-some (found r) else false then λ d. not (ltb d start && not (rerun-kills listing fam start vs d k)))
       unfolding while-passes if_then_else_
-      at-do = rw (← ex, t, ← ek, ← er)
+      at-do = rw (← ew, ← ex, t, ← ek, ← map-take (bare-in tape area tokens) w lines, ← er)
 
-      pub loop-none : r ≡ Nothing → false ≡ while-passes lines fam start vs w l
+      pub loop-none : r ≡ Nothing → false ≡ loops
       unfolding let-some_else_then_
       loop-none e = sym (at-do ∙ rw e)
 
       module _ {d : ℕ} (e : r ≡ At d) where
-        at-head : while-passes lines fam start vs w l ≡ (if ltb d start then rerun-kills lines fam start vs d k else true)
+        at-head : loops ≡ (if ltb d start then rerun-kills listing fam start vs d k else true)
         unfolding let-some_else_then_
-        at-head = at-do ∙ rw e (unless (ltb d start) (rerun-kills lines fam start vs d k))
+        at-head = at-do ∙ rw e (unless (ltb d start) (rerun-kills listing fam start vs d k))
 
-        pub loop-after : start ≤ d → true ≡ while-passes lines fam start vs w l
+        pub loop-after : start ≤ d → true ≡ loops
         loop-after h = sym (at-head ∙ if-false _ _ (le-ltb d start h))
 
-        pub loop-around : {y : Bool} → d < start → y ≡ rerun-kills lines fam start vs d k → y ≡ while-passes lines fam start vs w l
+        pub loop-around : {y : Bool} → d < start → y ≡ rerun-kills listing fam start vs d k → y ≡ loops
         loop-around h ey = ey ∙ sym (at-head ∙ if-true _ _ (lt-ltb d start h))

@@ -17,7 +17,8 @@ use Rattle.joining.specs.Places.{label-places, shift-place}
 use Rattle.joining.proofs.Labels.{places-turn}
 use Rattle.lines.specs.Words.{tokens-of}
 use Rattle.lines.specs.Lines.{part-of, bare-in, bare-listing}
-use Rattle.lines.proofs.words.Each.{map-at, map-take}
+use Rattle.lines.proofs.words.Each.{map-take}
+use Rattle.lines.proofs.words.Lines.{bare-at}
 use Rattle.life.specs.Labels.{Gathered}
 
 -- ---- gathered
@@ -32,7 +33,7 @@ module _ (tape area : Text) (tokens lines : List ℕ) where
   found-next k h {x} ex =
       ap (label-places 0) (map-take (bare-in tape area tokens) (k + 1) lines)
       ∙ places-turn (bare-listing tape area tokens lines) k (rw (length-map lines (bare-in tape area tokens)) h)
-      ∙ rw (← map-take (bare-in tape area tokens) k lines, map-at (bare-in tape area tokens) lines k blank h, ← ex)
+      ∙ rw (← map-take (bare-in tape area tokens) k lines, bare-at tape area tokens [] lines k h, ← ex)
 
   pub gathered-begin : (before : List ℕ) → Gathered (found-in 0) before before 0
   unfolding label-places

@@ -165,24 +165,6 @@ module _ (lines : Listing) (fam : Text) (base : ℕ) (labels : Labels) (start : 
       go false b true = refl
       go false b false = refl
 
-  module _ (w : ℕ) (l : Line) {x : Bool} (ex : x ≡ has-kw l "while") where
-    pub after-while : {y : Bool} → x ≡ true → y ≡ while-passes lines fam start vs w l → y ≡ true → Open ≡ fate-after lines fam base labels start vs w l
-    unfolding fate-after if_then_else_
-    after-while t ey u = rw (← ex, t, ← ey, u)
-
-    pub after-loop : {y : Bool} → x ≡ true → y ≡ while-passes lines fam start vs w l → y ≡ false → Live ≡ fate-after lines fam base labels start vs w l
-    unfolding fate-after if_then_else_
-    after-loop t ey u = rw (← ex, t, ← ey, u)
-
-    module _ (t : x ≡ false) {y : Bool} (ey : y ≡ goto-passes lines fam start vs labels l) where
-      pub after-jump : y ≡ false → Live ≡ fate-after lines fam base labels start vs w l
-      unfolding fate-after if_then_else_
-      after-jump u = rw (← ex, t, ← ey, u)
-
-      pub after-scan : {r : Fate} → y ≡ true → r ≡ scan-fate fam base vs l → r ≡ fate-after lines fam base labels start vs w l
-      unfolding fate-after if_then_else_
-      after-scan u e = rw (← ex, t, ← ey, u) e
-
 module _ (tape area : Text) (tokens lines : List ℕ) (fam : Text) (base : ℕ) (labels : Labels) (start : ℕ) (vs : List Text) where
   -- the scan from the line w on
   abbrev pub dead-rest : ℕ → Bool
@@ -200,3 +182,29 @@ module _ (tape area : Text) (tokens lines : List ℕ) (fam : Text) (base : ℕ) 
   pub dead-end : (w : ℕ) {x : Bool} → x ≡ dead-rest w → length lines ≤ w → true ≡ x
   unfolding dead-from
   dead-end w inv h = sym (inv ∙ rw (drop-of-length-le lines {i = w} h))
+
+  -- the line w of the scan, whose word is l
+  module _ (w l : ℕ) {ws : List ℕ} (ew : ws ≡ part-of tokens l) {x : Bool} (ex : x ≡ kw-in (tokens-of tape area ws) (bytes "while")) where
+    has : x ≡ kw-in (tokens-of tape area (part-of tokens l)) (bytes "while")
+    has = rw ew at ex
+
+    abbrev after : Fate
+    after = fate-after (bare-listing tape area tokens lines) fam base labels start vs w (bare-in tape area tokens l)
+
+    module _ (t : x ≡ true) {y : Bool} (ey : y ≡ while-passes (bare-listing tape area tokens lines) fam start vs w (bare-in tape area tokens l)) where
+      pub after-while : y ≡ true → Open ≡ after
+      unfolding fate-after if_then_else_
+      after-while u = rw (← has, t, ← ey, u)
+
+      pub after-loop : y ≡ false → Live ≡ after
+      unfolding fate-after if_then_else_
+      after-loop u = rw (← has, t, ← ey, u)
+
+    module _ (t : x ≡ false) {y : Bool} (ey : y ≡ goto-passes (bare-listing tape area tokens lines) fam start vs labels (bare-in tape area tokens l)) where
+      pub after-goto : y ≡ false → Live ≡ after
+      unfolding fate-after if_then_else_
+      after-goto u = rw (← has, t, ← ey, u)
+
+      pub after-scan : {r : Fate} → y ≡ true → r ≡ scan-fate fam base vs (bare-in tape area tokens l) → r ≡ after
+      unfolding fate-after if_then_else_
+      after-scan u e = e ∙ rw (← has, t, ← ey, u)

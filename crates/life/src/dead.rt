@@ -10,9 +10,10 @@ use lines::words;
 ghost use mathlib.Core.Path.{_≡_};
 ghost use Prim.Native.Nat.{_<_};
 ghost use lib.ListN.{length, getD};
-ghost use Rattle.reference.specs.Names.{volatile-of};
+ghost use Rattle.reference.specs.Rules.{volatile};
 ghost use Rattle.reference.specs.Life.{dead-after};
 ghost use Rattle.joining.specs.Places.{labels-at, Labelled};
+ghost use Rattle.lines.specs.Rules.{rules-of};
 ghost use Rattle.lines.specs.Lines.{bare-in, bare-listing, Lined, Listed};
 ghost use Rattle.lines.specs.Fams.{fam-text, Known};
 ghost use Rattle.life.specs.Fates.{returns-at, scan-fate, fate-after};
@@ -45,7 +46,7 @@ fn scan<'a>(
     rules: Rules,
 ) -> Fate
     requires { ⌜ Lined (now tape) (now area) (now tokens) l × Known (now tape) (now area) f ⌝ }
-    ensures { λ r. ⌜ r ≡ scan-fate (fam-text (now (tape .entry)) (now (area .entry)) f) «base_indent» (volatile-of (rules .convention)) (bare-in (now (tape .entry)) (now (area .entry)) (now (tokens .entry)) l) ⌝ }
+    ensures { λ r. ⌜ r ≡ scan-fate (fam-text (now (tape .entry)) (now (area .entry)) f) «base_indent» (volatile (rules-of rules)) (bare-in (now (tape .entry)) (now (area .entry)) (now (tokens .entry)) l) ⌝ }
 {
     match fate_at(tape, area, tokens, l, f, base_indent, rules) {
         Fate::Dead => Fate::Dead,
@@ -73,7 +74,7 @@ fn fate_after<'a>(
     rules: Rules,
 ) -> Fate
     requires { ⌜ Listed (now tape) (now area) (now tokens) (now lines) × Labelled (bare-listing (now tape) (now area) (now tokens) (now lines)) (now labels) × Known (now tape) (now area) f × (w < length (now lines)) × (start < length (now lines)) ⌝ }
-    ensures { λ r. ⌜ r ≡ fate-after (bare-listing (now (tape .entry)) (now (area .entry)) (now (tokens .entry)) (now (lines .entry))) (fam-text (now (tape .entry)) (now (area .entry)) f) «base_indent» (labels-at (bare-listing (now (tape .entry)) (now (area .entry)) (now (tokens .entry)) (now (lines .entry))) (now (labels .entry))) start (volatile-of (rules .convention)) w (bare-in (now (tape .entry)) (now (area .entry)) (now (tokens .entry)) (getD (now (lines .entry)) w 0)) ⌝ }
+    ensures { λ r. ⌜ r ≡ fate-after (bare-listing (now (tape .entry)) (now (area .entry)) (now (tokens .entry)) (now (lines .entry))) (fam-text (now (tape .entry)) (now (area .entry)) f) «base_indent» (labels-at (bare-listing (now (tape .entry)) (now (area .entry)) (now (tokens .entry)) (now (lines .entry))) (now (labels .entry))) start (volatile (rules-of rules)) w (bare-in (now (tape .entry)) (now (area .entry)) (now (tokens .entry)) (getD (now (lines .entry)) w 0)) ⌝ }
 {
     let l = lines[w];
     if shapes::has_while(tape, area, words::line_of(tokens, l)) {
@@ -102,7 +103,7 @@ pub fn dead_after<'a>(
     rules: Rules,
 ) -> bool
     requires { ⌜ Listed (now tape) (now area) (now tokens) (now lines) × Labelled (bare-listing (now tape) (now area) (now tokens) (now lines)) (now labels) × Known (now tape) (now area) f × (from < length (now lines)) × (start < length (now lines)) ⌝ }
-    ensures { λ r. ⌜ r ≡ dead-after (bare-listing (now (tape .entry)) (now (area .entry)) (now (tokens .entry)) (now (lines .entry))) from (fam-text (now (tape .entry)) (now (area .entry)) f) «base_indent» (labels-at (bare-listing (now (tape .entry)) (now (area .entry)) (now (tokens .entry)) (now (lines .entry))) (now (labels .entry))) start (volatile-of (rules .convention)) ⌝ }
+    ensures { λ r. ⌜ r ≡ dead-after (bare-listing (now (tape .entry)) (now (area .entry)) (now (tokens .entry)) (now (lines .entry))) from (fam-text (now (tape .entry)) (now (area .entry)) f) «base_indent» (labels-at (bare-listing (now (tape .entry)) (now (area .entry)) (now (tokens .entry)) (now (lines .entry))) (now (labels .entry))) start (volatile (rules-of rules)) ⌝ }
 {
     let mut w = from + 1;
     while w < lines.len() {

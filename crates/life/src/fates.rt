@@ -7,8 +7,9 @@ use lines::words;
 ghost use mathlib.Core.Path.{_≡_};
 ghost use Prim.Native.Nat.{_≤_, _<_};
 ghost use lib.ListN.{length};
-ghost use Rattle.reference.specs.Names.{volatile-of};
+ghost use Rattle.reference.specs.Rules.{volatile};
 ghost use Rattle.reference.specs.Life.{killed-first, rerun-kills};
+ghost use Rattle.lines.specs.Rules.{rules-of};
 ghost use Rattle.lines.specs.Lines.{bare-in, bare-listing, Lined, Listed};
 ghost use Rattle.lines.specs.Fams.{fam-text, Known};
 ghost use Rattle.life.specs.Fates.{line-fate};
@@ -31,7 +32,7 @@ pub fn fate_at<'a>(
     rules: Rules,
 ) -> Fate
     requires { ⌜ Lined (now tape) (now area) (now tokens) l × Known (now tape) (now area) f ⌝ }
-    ensures { λ r. ⌜ r ≡ line-fate (fam-text (now (tape .entry)) (now (area .entry)) f) deep (volatile-of (rules .convention)) (bare-in (now (tape .entry)) (now (area .entry)) (now (tokens .entry)) l) ⌝ }
+    ensures { λ r. ⌜ r ≡ line-fate (fam-text (now (tape .entry)) (now (area .entry)) f) deep (volatile (rules-of rules)) (bare-in (now (tape .entry)) (now (area .entry)) (now (tokens .entry)) l) ⌝ }
 {
     match touches::touch(tape, area, words::line_of(tokens, l), f, rules) {
         Touched::Use(_) => Fate::Live,
@@ -56,7 +57,7 @@ pub fn killed_first<'a>(
     rules: Rules,
 ) -> bool
     requires { ⌜ Listed (now tape) (now area) (now tokens) (now lines) × Known (now tape) (now area) f ⌝ }
-    ensures { λ r. ⌜ r ≡ killed-first (bare-listing (now (tape .entry)) (now (area .entry)) (now (tokens .entry)) (now (lines .entry))) (fam-text (now (tape .entry)) (now (area .entry)) f) deep (volatile-of (rules .convention)) ⌝ }
+    ensures { λ r. ⌜ r ≡ killed-first (bare-listing (now (tape .entry)) (now (area .entry)) (now (tokens .entry)) (now (lines .entry))) (fam-text (now (tape .entry)) (now (area .entry)) f) deep (volatile (rules-of rules)) ⌝ }
 {
     let mut k = 0;
     while k < lines.len() {
@@ -88,17 +89,9 @@ pub fn rerun_kills<'a>(
     rules: Rules,
 ) -> bool
     requires { ⌜ Listed (now tape) (now area) (now tokens) (now lines) × Known (now tape) (now area) f × (to ≤ start) × (start < length (now lines)) × (indent < 64) ⌝ }
-    ensures { λ r. ⌜ r ≡ rerun-kills (bare-listing (now (tape .entry)) (now (area .entry)) (now (tokens .entry)) (now (lines .entry))) (fam-text (now (tape .entry)) (now (area .entry)) f) start (volatile-of (rules .convention)) to indent ⌝ }
+    ensures { λ r. ⌜ r ≡ rerun-kills (bare-listing (now (tape .entry)) (now (area .entry)) (now (tokens .entry)) (now (lines .entry))) (fam-text (now (tape .entry)) (now (area .entry)) f) start (volatile (rules-of rules)) to indent ⌝ }
 {
     let from = to + 1;
     let end = start + 1;
-    killed_first(
-        tape,
-        area,
-        tokens,
-        &lines[from..end],
-        f,
-        indent + 1,
-        rules,
-    )
+    killed_first(tape, area, tokens, &lines[from..end], f, indent + 1, rules)
 }

@@ -12,9 +12,10 @@ ghost use lib.ListN.{length, getD};
 ghost use Rattle.reference.specs.Lists.{last-position};
 ghost use Rattle.reference.specs.Text.{_==_};
 ghost use Rattle.reference.specs.Listing.{_at_};
-ghost use Rattle.reference.specs.Names.{volatile-of};
+ghost use Rattle.reference.specs.Rules.{volatile};
 ghost use Rattle.reference.specs.Life.{lookup, is-do, goto-target, while-passes, goto-passes};
 ghost use Rattle.joining.specs.Places.{label-at, labels-at, Labelled};
+ghost use Rattle.lines.specs.Rules.{rules-of};
 ghost use Rattle.lines.specs.Words.{text-of, tokens-of, Points};
 ghost use Rattle.lines.specs.Lines.{part-of, bare-in, bare-listing, Lined, Listed};
 ghost use Rattle.lines.specs.Shapes.{found};
@@ -67,7 +68,7 @@ pub fn while_passes<'a>(
     rules: Rules,
 ) -> bool
     requires { ⌜ Listed (now tape) (now area) (now tokens) (now lines) × Known (now tape) (now area) f × (w < length (now lines)) × (start < length (now lines)) ⌝ }
-    ensures { λ r. ⌜ r ≡ while-passes (bare-listing (now (tape .entry)) (now (area .entry)) (now (tokens .entry)) (now (lines .entry))) (fam-text (now (tape .entry)) (now (area .entry)) f) start (volatile-of (rules .convention)) w (bare-in (now (tape .entry)) (now (area .entry)) (now (tokens .entry)) (getD (now (lines .entry)) w 0)) ⌝ }
+    ensures { λ r. ⌜ r ≡ while-passes (bare-listing (now (tape .entry)) (now (area .entry)) (now (tokens .entry)) (now (lines .entry))) (fam-text (now (tape .entry)) (now (area .entry)) f) start (volatile (rules-of rules)) w (bare-in (now (tape .entry)) (now (area .entry)) (now (tokens .entry)) (getD (now (lines .entry)) w 0)) ⌝ }
 {
     let l = lines[w];
     if touches::uses(tape, area, words::line_of(tokens, l), f, rules) {
@@ -91,10 +92,7 @@ fn is_named<'a>(tape: &'a [u8], area: &'a [u8], tokens: &'a [u64], l: u64, w: u6
     ensures { λ r. ⌜ r ≡ (text-of (now (tape .entry)) (now (area .entry)) (getD (part-of (now (tokens .entry)) l) 0 0) == text-of (now (tape .entry)) (now (area .entry)) w) ⌝ }
 {
     let line = words::line_of(tokens, l);
-    text::same(
-        words::text(tape, area, line[0]),
-        words::text(tape, area, w),
-    )
+    text::same(words::text(tape, area, line[0]), words::text(tape, area, w))
 }
 
 // The line of the label with the name that the token word w has for its text; of equal names the last.
@@ -164,7 +162,7 @@ pub fn goto_passes<'a>(
     rules: Rules,
 ) -> bool
     requires { ⌜ Listed (now tape) (now area) (now tokens) (now lines) × Labelled (bare-listing (now tape) (now area) (now tokens) (now lines)) (now labels) × Lined (now tape) (now area) (now tokens) l × Known (now tape) (now area) f × (start < length (now lines)) ⌝ }
-    ensures { λ r. ⌜ r ≡ goto-passes (bare-listing (now (tape .entry)) (now (area .entry)) (now (tokens .entry)) (now (lines .entry))) (fam-text (now (tape .entry)) (now (area .entry)) f) start (volatile-of (rules .convention)) (labels-at (bare-listing (now (tape .entry)) (now (area .entry)) (now (tokens .entry)) (now (lines .entry))) (now (labels .entry))) (bare-in (now (tape .entry)) (now (area .entry)) (now (tokens .entry)) l) ⌝ }
+    ensures { λ r. ⌜ r ≡ goto-passes (bare-listing (now (tape .entry)) (now (area .entry)) (now (tokens .entry)) (now (lines .entry))) (fam-text (now (tape .entry)) (now (area .entry)) f) start (volatile (rules-of rules)) (labels-at (bare-listing (now (tape .entry)) (now (area .entry)) (now (tokens .entry)) (now (lines .entry))) (now (labels .entry))) (bare-in (now (tape .entry)) (now (area .entry)) (now (tokens .entry)) l) ⌝ }
 {
     match goto_target(tape, area, tokens, lines, labels, l) {
         Jump::Nothing => true,

@@ -7,10 +7,9 @@ use lines::shapes;
 use lines::shapes::Assigned;
 use lines::shapes::Expr;
 ghost use mathlib.Core.Path.{_≡_};
-ghost use Prim.Native.Nat.{_<_};
-ghost use lib.ListN.{length};
-ghost use Rattle.reference.specs.Names.{volatile-of};
+ghost use Rattle.reference.specs.Rules.{volatile};
 ghost use Rattle.reference.specs.Life.{kills, touch-of, is-use, is-kill};
+ghost use Rattle.lines.specs.Rules.{rules-of};
 ghost use Rattle.lines.specs.Words.{tokens-of, Holds};
 ghost use Rattle.lines.specs.Shapes.{Expression};
 ghost use Rattle.lines.specs.Fams.{fam-text, Known};
@@ -28,14 +27,13 @@ fn overwrites_by<'a>(tape: &'a [u8], area: &'a [u8], line: &'a [u64], x: Expr, f
     requires { ⌜ Holds (now tape) (now area) (now line) × Expression (now line) x × Known (now tape) (now area) f ⌝ }
     ensures { λ r. ⌜ r ≡ kills-by (now (tape .entry)) (now (area .entry)) (now (line .entry)) x (fam-text (now (tape .entry)) (now (area .entry)) f) ⌝ }
 {
-    let Named::As(name) = fams::name_of(tape, area, line[0]) else {
+    let Named::As(g, width) = fams::name_of(tape, area, line[0]) else {
         return false;
     };
-    let g = name.family;
     if !fams::same_family(tape, area, g, f) {
         return false;
     }
-    if name.width < 32 {
+    if width < 32 {
         return false;
     }
     !fams::mentions(tape, area, line, x, f)
@@ -54,7 +52,7 @@ fn overwrites<'a>(tape: &'a [u8], area: &'a [u8], line: &'a [u64], f: Fam) -> bo
 
 pub fn touch<'a>(tape: &'a [u8], area: &'a [u8], line: &'a [u64], f: Fam, rules: Rules) -> Touched
     requires { ⌜ Holds (now tape) (now area) (now line) × Known (now tape) (now area) f ⌝ }
-    ensures { λ r. ⌜ touched r ≡ touch-of (tokens-of (now (tape .entry)) (now (area .entry)) (now (line .entry))) (fam-text (now (tape .entry)) (now (area .entry)) f) (volatile-of (rules .convention)) ⌝ }
+    ensures { λ r. ⌜ touched r ≡ touch-of (tokens-of (now (tape .entry)) (now (area .entry)) (now (line .entry))) (fam-text (now (tape .entry)) (now (area .entry)) f) (volatile (rules-of rules)) ⌝ }
 {
     if overwrites(tape, area, line, f) {
         return Touched::Kill;
@@ -74,7 +72,7 @@ pub fn touch<'a>(tape: &'a [u8], area: &'a [u8], line: &'a [u64], f: Fam, rules:
 
 pub fn uses<'a>(tape: &'a [u8], area: &'a [u8], line: &'a [u64], f: Fam, rules: Rules) -> bool
     requires { ⌜ Holds (now tape) (now area) (now line) × Known (now tape) (now area) f ⌝ }
-    ensures { λ r. ⌜ r ≡ is-use (touch-of (tokens-of (now (tape .entry)) (now (area .entry)) (now (line .entry))) (fam-text (now (tape .entry)) (now (area .entry)) f) (volatile-of (rules .convention))) ⌝ }
+    ensures { λ r. ⌜ r ≡ is-use (touch-of (tokens-of (now (tape .entry)) (now (area .entry)) (now (line .entry))) (fam-text (now (tape .entry)) (now (area .entry)) f) (volatile (rules-of rules))) ⌝ }
 {
     match touch(tape, area, line, f, rules) {
         Touched::Use(_) => true,
@@ -85,7 +83,7 @@ pub fn uses<'a>(tape: &'a [u8], area: &'a [u8], line: &'a [u64], f: Fam, rules: 
 
 pub fn kills<'a>(tape: &'a [u8], area: &'a [u8], line: &'a [u64], f: Fam, rules: Rules) -> bool
     requires { ⌜ Holds (now tape) (now area) (now line) × Known (now tape) (now area) f ⌝ }
-    ensures { λ r. ⌜ r ≡ is-kill (touch-of (tokens-of (now (tape .entry)) (now (area .entry)) (now (line .entry))) (fam-text (now (tape .entry)) (now (area .entry)) f) (volatile-of (rules .convention))) ⌝ }
+    ensures { λ r. ⌜ r ≡ is-kill (touch-of (tokens-of (now (tape .entry)) (now (area .entry)) (now (line .entry))) (fam-text (now (tape .entry)) (now (area .entry)) f) (volatile (rules-of rules))) ⌝ }
 {
     match touch(tape, area, line, f, rules) {
         Touched::Use(_) => false,

@@ -21,7 +21,7 @@ abbrev μ-loop : tie.MeasureT-loop
 μ-loop tape area tokens lines labels w n₀ n = n
 
 loop-holds : tie.Need-loop-holds Inv-loop μ-loop
-loop-holds c = (search needs, lookup-begin _ _ _)
+loop-holds c = let a = c .before .before .before .before .before .args in (search needs, lookup-begin (bare-listing (a .tape .now) (a .area .now) (a .tokens .now) (a .lines .now)) (a .labels .now) (text-of (a .tape .now) (a .area .now) (a .w)))
 
 sub-n : tie.Need-sub-n Inv-loop μ-loop
 sub-n c = search needs

@@ -48,7 +48,7 @@ loop-less : tie.Need-loop-less Inv-loop μ-loop
 loop-less c = search needs
 
 loop-again : tie.Need-loop-again Inv-loop μ-loop
-loop-again c = ⊎-elim (λ w. ?) (λ w. ?) (c .if1 .came)
+loop-again c = let a = c .before .before .before .before .before .before .before .before .before .before .before .args in ⊎-elim (λ w. (search needs, search needs, rw (w .1, w .2) (gathered-hit (a .tape .now) (a .area .now) (a .tokens .now) (a .lines .now) _ (c .before .before .before .before .before .loop .k) (c .before .before .before .before .before .loop .inv .2) (search needs) (c .before .before .line-of .ensures) (c .before .is-label .ensures) (w .0 .taken) (search needs)))) (λ w. (search needs, search needs, rw (w .1, w .2) (gathered-miss (a .tape .now) (a .area .now) (a .tokens .now) (a .lines .now) _ (c .before .before .before .before .before .loop .k) (c .before .before .before .before .before .loop .inv .2) (search needs) (c .before .before .line-of .ensures) (c .before .is-label .ensures) (w .0 .left)))) (c .if1 .came)
 
 same-length : tie.Need-same-length Inv-loop μ-loop
 same-length c = let a = c .before .before .before .before .before .before .before .args in gathered-length (a .tape .now) (a .area .now) (a .tokens .now) (a .lines .now) (c .before .loop .n) (c .before .loop .k) (c .before .loop .inv .2) (search needs)
