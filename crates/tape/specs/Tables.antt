@@ -1,0 +1,1 @@
+-- The tables of a listing whose texts are all in the tape. Assumes nothing.

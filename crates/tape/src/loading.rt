@@ -1,0 +1,76 @@
+// The listing of an accepted tape, in tables: a word for each token and each line, and the addresses by the number of the line. All texts are
+// parts of the tape.
+use crate::commands::Command;
+use crate::commands::Found;
+use crate::commands::command_from;
+use crate::commands::size_of;
+use crate::questions::Totals;
+use crate::questions::count_in;
+use crate::questions::is_end;
+use lines::words::IN_TAPE;
+use lines::words::count;
+use lines::words::first;
+use lines::words::line_word;
+use lines::words::token_word;
+use lines::words::with_tokens;
+
+// Begins a line behind the lines so far.
+fn add_line(indent: u64, addressed: u64, lines: &mut [u64], totals: Totals) {
+    let n = totals.lines;
+    lines[n] = line_word(totals.tokens, 0, indent, addressed, n);
+}
+
+// Adds a token to the last line.
+fn add_token(at: usize, kind: u64, size: usize, tokens: &mut [u64], lines: &mut [u64], totals: Totals) {
+    let n = totals.tokens;
+    tokens[n] = token_word(kind, IN_TAPE, at + 3, size);
+    let k = totals.lines - 1;
+    let l = lines[k];
+    lines[k] = with_tokens(l, first(l), count(l) + 1);
+}
+
+// Adds the command at an offset to the tables.
+fn add(
+    at: usize,
+    command: Command,
+    tokens: &mut [u64],
+    lines: &mut [u64],
+    addresses: &mut [u64],
+    totals: Totals,
+) {
+    match command {
+        Command::Addressed { address, indent } => {
+            let n = totals.lines;
+            addresses[n] = address;
+            add_line(indent, 1, lines, totals);
+        }
+        Command::Plain { indent } => {
+            add_line(indent, 0, lines, totals);
+        }
+        Command::Token { kind, count } => {
+            add_token(at, kind, count, tokens, lines, totals);
+        }
+        Command::End => {}
+    }
+}
+
+// Fills the tables with the listing of a tape that passed the questions, and says how many lines, tokens and bytes of text it has.
+pub fn load(tape: &[u8], tokens: &mut [u64], lines: &mut [u64], addresses: &mut [u64]) -> Totals {
+    let mut at = 0;
+    let mut totals = Totals {
+        lines: 0,
+        tokens: 0,
+        text: 0,
+    };
+    loop {
+        let Found::Whole(command) = command_from(tape, at) else {
+            return totals;
+        };
+        if is_end(command) {
+            return totals;
+        }
+        add(at, command, tokens, lines, addresses, totals);
+        at += size_of(command);
+        totals = count_in(command, totals);
+    }
+}
