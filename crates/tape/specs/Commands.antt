@@ -1,5 +1,6 @@
 -- What the code's commands mean, and what stands at an offset of a tape: document 01's questions 3 and 4. Assumes nothing.
 use Prim.Native.Nat.{ℕ, _+_}
+use mathlib.Core.Bool.{Bool, true, false}
 use mathlib.Core.List.{List, [], _∷_}
 use mathlib.Core.Option.{none, some}
 use lib.ListN.{take, drop}
@@ -23,6 +24,12 @@ size-of (Addressed address indent) = 10
 size-of (Plain indent) = 2
 size-of (Token kind count) = 3 + count
 size-of End = 1
+
+abbrev pub ends : Command → Bool
+ends (Addressed address indent) = false
+ends (Plain indent) = false
+ends (Token kind count) = false
+ends End = true
 
 -- a command and its size
 abbrev pub Sized : Type 0

@@ -15,7 +15,7 @@ ghost use Rattle.reference.specs.Tape.{new-line, new-token};
 ghost use mathlib.Core.Option.{none};
 ghost use Rattle.reference.specs.Questions.{is-convention, has-room, is-within, is-printable, read-command, let-passed_then_, Passed, read};
 ghost use Rattle.lines.specs.Rules.{rules-of};
-ghost use Rattle.tape.specs.Commands.{size-of, command-in};
+ghost use Rattle.tape.specs.Commands.{size-of, command-in, ends};
 ghost use Rattle.tape.specs.Questions.{first-no, questions, totals-of, totals-in, Counts, counted, stepped, checked};
 
 // What was read so far.
@@ -183,6 +183,7 @@ pub fn step(tape: &[u8], at: usize, totals: Totals) -> Stepped
 // ---- the whole tape
 
 pub fn is_end(command: Command) -> bool
+    ensures { λ r. ⌜ r ≡ ends command ⌝ }
 {
     match command {
         Command::Addressed {

@@ -7,9 +7,21 @@ use lines::words::line_of;
 use lines::words::origin;
 use lines::words::text;
 use text::copy_bytes;
+ghost use mathlib.Core.Path.{_≡_};
+ghost use mathlib.Core.List.{_++_};
+ghost use Prim.Native.Nat.{_+_, _≤_, _<_};
+ghost use lib.ListN.{length, drop};
+ghost use Rattle.reference.specs.Listing.{token};
+ghost use Rattle.reference.specs.Tape as Tape;
+ghost use Rattle.lines.specs.Words.{tokens-of, Holds};
+ghost use Rattle.lines.specs.Lines.{line-in, listing-of, Lined, Listed};
+ghost use Rattle.tape.specs.Writing.{put, Puts, token-bytes, line-bytes, tokens-bytes, Wrote};
 
 // Writes a line's command.
-fn put_line(addresses: &[u64], l: u64, out: &mut [u8], at: usize) -> usize {
+fn put_line(addresses: &[u64], l: u64, out: &mut [u8], at: usize) -> usize
+    requires { ⌜ (256 ≤ length (now addresses)) × (at + length (line-bytes (now addresses) l) ≤ length (now out)) ⌝ }
+    ensures { λ r. ⌜ Puts (now (out .entry)) at (line-bytes (now (addresses .entry)) l) (now (out .exit)) r ⌝ }
+{
     if addressed(l) == 1 {
         out[at] = 1;
         put_number(addresses[origin(l)], 8, out, at + 1);
@@ -22,7 +34,10 @@ fn put_line(addresses: &[u64], l: u64, out: &mut [u8], at: usize) -> usize {
 }
 
 // Writes a token's command.
-fn put_token(kind: u64, s: &[u8], out: &mut [u8], at: usize) -> usize {
+fn put_token(kind: u64, s: &[u8], out: &mut [u8], at: usize) -> usize
+    requires { ⌜ (kind < 8) × (at + 3 + length (now s) ≤ length (now out)) ⌝ }
+    ensures { λ r. ⌜ Puts (now (out .entry)) at (token-bytes (token kind (now (s .entry)))) (now (out .exit)) r ⌝ }
+{
     out[at] = (16 + kind) as u8;
     put_number(s.len() as u64, 2, out, at + 1);
     copy_bytes(s, out, at + 3);
@@ -30,7 +45,11 @@ fn put_token(kind: u64, s: &[u8], out: &mut [u8], at: usize) -> usize {
 }
 
 // Writes the commands of a line's tokens.
-fn put_tokens<'a>(tape: &'a [u8], area: &'a [u8], ws: &'a [u64], out: &mut [u8], at: usize) -> usize {
+fn put_tokens<'a>(tape: &'a [u8], area: &'a [u8], ws: &'a [u64], out: &mut [u8], at: usize) -> usize
+    requires { ⌜ Holds (now tape) (now area) (now ws) ⌝ }
+    requires { ⌜ at + length (tokens-bytes (tokens-of (now tape) (now area) (now ws))) ≤ length (now out) ⌝ }
+    ensures { λ r. ⌜ Puts (now (out .entry)) at (tokens-bytes (tokens-of (now (tape .entry)) (now (area .entry)) (now (ws .entry)))) (now (out .exit)) r ⌝ }
+{
     let mut to = at;
     let mut k = 0;
     while k < ws.len() {
@@ -50,7 +69,12 @@ fn put_whole_line<'a>(
     l: u64,
     out: &mut [u8],
     at: usize,
-) -> usize {
+) -> usize
+    requires { ⌜ Lined (now tape) (now area) (now tokens) l ⌝ }
+    requires { ⌜ 256 ≤ length (now addresses) ⌝ }
+    requires { ⌜ at + length (Tape.write-line (line-in (now tape) (now area) (now tokens) (now addresses) l)) ≤ length (now out) ⌝ }
+    ensures { λ r. ⌜ Puts (now (out .entry)) at (Tape.write-line (line-in (now (tape .entry)) (now (area .entry)) (now (tokens .entry)) (now (addresses .entry)) l)) (now (out .exit)) r ⌝ }
+{
     let to = put_line(addresses, l, out, at);
     put_tokens(tape, area, line_of(tokens, l), out, to)
 }
@@ -63,7 +87,12 @@ pub fn write<'a>(
     lines: &'a [u64],
     addresses: &'a [u64],
     out: &mut [u8],
-) -> usize {
+) -> usize
+    requires { ⌜ Listed (now tape) (now area) (now tokens) (now lines) ⌝ }
+    requires { ⌜ 256 ≤ length (now addresses) ⌝ }
+    requires { ⌜ length (Tape.write (listing-of (now tape) (now area) (now tokens) (now addresses) (now lines))) ≤ length (now out) ⌝ }
+    ensures { λ r. ⌜ Wrote (Tape.write (listing-of (now (tape .entry)) (now (area .entry)) (now (tokens .entry)) (now (addresses .entry)) (now (lines .entry)))) (now (out .entry)) (now (out .exit)) r ⌝ }
+{
     let mut at = 0;
     let mut k = 0;
     while k < lines.len() {

@@ -1,0 +1,123 @@
+-- The questions of one command: by the number of the first "no", and as the code asks them after `command_from`. Assumes nothing.
+use Prim.Native.Nat.{ℕ, _+_, _≤_}
+use native.Mathlib.Omega.{arith}
+use mathlib.Core.Path.{_≡_, refl, sym, ap, _∙_}
+use mathlib.Core.Bool.{Bool, true, false}
+use mathlib.Core.List.{List, [], _∷_, _++_}
+use lib.ListN.{length, take, drop, length-drop}
+use lib.Seq.{length-take-le}
+use borrow.Author.Tests.{leb-true, le-leb}
+use Rattle.reference.specs.Control.{if_then_else_}
+use Rattle.reference.specs.Tape.{command-of, command-size}
+use Rattle.reference.specs.Questions as Q
+use Rattle.reference.specs.Questions.{is-command, ends-inside, is-within, is-end, Answer, Refused, Passed, ask, count-in, Advance, read-command}
+use Rattle.reference.proofs.Cases.{by-if, both}
+use Rattle.reference.proofs.Commands.{is-form}
+use Rattle.reference.proofs.Reading.{Yes, ask-yes, refused-passed, advance}
+use Rattle.tape.specs.Commands.{command-in, size-of, ends, standing}
+use Rattle.tape.specs.Questions.{first-no, totals-of, questions, counted, Counts}
+use Rattle.tape.specs.declared.commands.Command.{Command}
+use Rattle.tape.specs.declared.commands.Command.the-variants.{Addressed, Plain, Token, End}
+use Rattle.tape.specs.declared.questions.Totals.{Totals}
+use Rattle.tape.proofs.commands.Standing.{Stands, stands-inside}
+
+-- ---- the first "no"
+
+-- no question has the number 0
+abbrev pub Numbered : List (ℕ × Bool) → Type 0
+Numbered [] = Unit {0}
+Numbered (q ∷ more) = (1 ≤ q .0) × Numbered more
+
+pub none-no : (qs : List (ℕ × Bool)) → Numbered qs → first-no qs ≡ 0 → Yes qs
+unfolding first-no
+none-no [] n = λ e. tt
+none-no (q ∷ more) n =
+    by-if (λ (r : ℕ). r ≡ 0 → Yes (q ∷ more)) (λ yes e. (yes, none-no more (n .1) e)) (λ no e. absurd (omega (arith, n .0)))
+
+by-test : {X : Type 0} (b : Bool) → (b ≡ true → X) → (b ≡ false → X) → X
+by-test true f g = f refl
+by-test false f g = g refl
+
+module _ {A : Type 0} (place : ℕ) where
+  pub ask-number : (qs : List (ℕ × Bool)) (a : Answer A) {n : ℕ} → (n ≡ 0 → ⊥) → first-no qs ≡ n → ask place qs a ≡ Refused n place
+  unfolding first-no ask if_then_else_
+  ask-number [] a z e = absurd (z (sym e))
+  ask-number (q ∷ more) a z e =
+      by-test (q .1) (λ t. rw t (ask-number more a z (rw t at e))) (λ t. rw t (ap (λ (k : ℕ). Refused k place) (rw t at e)))
+
+  -- a refusal by the first questions is a refusal by all
+  ask-front : {B : Type 0} (qs more : List (ℕ × Bool)) (x : B) (a : Answer A) {n p : ℕ} → ask place qs (Passed x) ≡ Refused n p
+      → ask place (qs ++ more) a ≡ Refused n p
+  unfolding ask if_then_else_
+  ask-front [] more x a e = absurd (refused-passed (sym e))
+  ask-front (q ∷ qs) more x a e =
+      by-test (q .1) (λ t. rw t (ask-front qs more x a (rw t at e))) (λ t. rw t (let z = rw t at e in cc))
+
+  -- questions that are answered "yes" can be left out
+  ask-later : (qs more : List (ℕ × Bool)) (a : Answer A) → Yes qs → ask place (qs ++ more) a ≡ ask place more a
+  unfolding ask if_then_else_
+  ask-later [] more a h = refl
+  ask-later (q ∷ qs) more a h = rw (h .0) (ask-later qs more a (h .1))
+
+-- ---- one command
+
+module _ (tape : List ℕ) (at : ℕ) where
+  -- question 3 or 4 refuses it
+  pub stops : (t : Q.Totals) {n p : ℕ} → Refused n p ≡ standing tape at → Refused n p ≡ read-command tape at t
+  unfolding standing read-command
+  stops t e =
+      sym (ask-front at ((3, is-command (drop at tape)) ∷ (4, ends-inside (drop at tape)) ∷ []) (questions (drop at tape) t (command-of (drop at tape))) _ _ (sym e))
+
+  text-long : {kind count : ℕ} → Stands tape at (Token kind count) → length (take count (drop (at + 3) tape)) ≡ count
+  text-long {count = count} s = length-take-le count (drop (at + 3) tape) (rw length-drop (omega (arith, stands-inside s)))
+
+  module _ (t : Q.Totals) where
+    counted-same : {c : Command} → Stands tape at c → count-in (command-in tape at c) t ≡ counted c t
+    unfolding count-in
+    counted-same {c = Addressed address indent} s = refl
+    counted-same {c = Plain indent} s = refl
+    counted-same {c = Token kind count} s = rw (text-long s)
+    counted-same {c = End} s = refl
+
+    pub counted-as : {c : Command} → Stands tape at c → count-in (command-of (drop at tape)) t ≡ counted c t
+    counted-as s = ap (λ k. count-in k t) (sym (s .same)) ∙ counted-same s
+
+    abbrev pub advanced : Command → Advance
+    advanced c = record { command = command-in tape at c; next = at + size-of c; totals = counted c t }
+
+    pub advanced-same : {c : Command} → Stands tape at c → advance tape at t ≡ advanced c
+    advanced-same s = rw (s .same, s .size, ← counted-as s)
+
+    asks : {c : Command} → Stands tape at c → read-command tape at t ≡ ask at (questions (drop at tape) t (command-in tape at c)) (Passed (advanced c))
+    unfolding read-command ends-inside
+    asks s =
+        ask-later at ((3, is-command (drop at tape)) ∷ (4, ends-inside (drop at tape)) ∷ []) _ _ (is-form _ (s .known), (le-leb _ _ (s .inside), tt))
+        ∙ rw (← advanced-same s, s .same)
+
+    -- a later question refuses it
+    pub refuses : {c : Command} {n : ℕ} → Stands tape at c → (n ≡ 0 → ⊥) → n ≡ first-no (questions (drop at tape) t (command-in tape at c))
+        → Refused n at ≡ read-command tape at t
+    refuses s z e = sym (asks s ∙ ask-number at _ _ z (sym e))
+
+    -- none does
+    pub all-yes : (c : Command) {n : ℕ} → n ≡ 0 → n ≡ first-no (questions (drop at tape) t (command-in tape at c))
+        → Yes (questions (drop at tape) t (command-in tape at c))
+    all-yes c z e = none-no _ (omega arith, (omega arith, (omega arith, (omega arith, tt)))) (sym e ∙ z)
+
+    pub passes : {c : Command} {n : ℕ} → Stands tape at c → n ≡ 0 → n ≡ first-no (questions (drop at tape) t (command-in tape at c))
+        → Passed (advanced c) ≡ read-command tape at t
+    passes s z e = sym (asks s ∙ ask-yes at _ _ (all-yes _ z e))
+
+  pub within-counts : {c : Command} (t : Totals) → Stands tape at c → is-within (totals-of t) (command-in tape at c) ≡ true → Counts c t
+  unfolding is-within
+  within-counts {c = Addressed address indent} t s w = omega (arith, leb-true (t .lines + 1) 256 (both w .1))
+  within-counts {c = Plain indent} t s w = omega (arith, leb-true (t .lines + 1) 256 (both w .1))
+  within-counts {c = Token kind count} t s w =
+      omega (arith, leb-true (t .tokens + 1) 1024 (both w .0), leb-true (t .text + length (take count (drop (at + 3) tape))) 24576 (both (both w .1) .0), text-long s)
+  within-counts {c = End} t s w = tt
+
+  pub ends-same : (c : Command) → is-end (command-in tape at c) ≡ ends c
+  ends-same (Addressed address indent) = refl
+  ends-same (Plain indent) = refl
+  ends-same (Token kind count) = refl
+  ends-same End = refl
