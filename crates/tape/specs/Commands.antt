@@ -1,5 +1,6 @@
 -- What the code's commands mean, and what stands at an offset of a tape: document 01's questions 3 and 4. Assumes nothing.
 use Prim.Native.Nat.{ℕ, _+_}
+use mathlib.Core.Path.{_≡_}
 use mathlib.Core.Bool.{Bool, true, false}
 use mathlib.Core.List.{List, [], _∷_}
 use mathlib.Core.Option.{none, some}
@@ -46,3 +47,8 @@ standing tape at =
     ask at
     ((3, is-command (drop at tape)) ∷ (4, ends-inside (drop at tape)) ∷ [])
     (Passed (Tape.command-of (drop at tape), Tape.command-size (drop at tape)))
+
+-- a command stands at the offset
+pub record Stood (tape : List ℕ) (at : ℕ) : Type 0 where
+  pub what : Sized
+  pub stands : standing tape at ≡ Passed what

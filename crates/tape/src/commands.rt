@@ -4,7 +4,7 @@ use crate::numbers::wide;
 ghost use mathlib.Core.Path.{_≡_};
 ghost use Prim.Native.Nat.{_+_, _^_, _≤_, _<_};
 ghost use lib.ListN.{length, take, drop, getD};
-ghost use Rattle.tape.specs.Commands.{size-of, found-in, standing};
+ghost use Rattle.tape.specs.Commands.{size-of, found-in, standing, Stood};
 
 // A command: a line, with an address or without; a token of a kind, whose text has `count` bytes and stands three bytes after the offset; the end.
 pub enum Command {
@@ -120,4 +120,16 @@ pub fn command_from(tape: &[u8], at: usize) -> Found
         return Found::Unknown;
     }
     token_from(tape, at)
+}
+
+// The command at an offset where one is known to stand.
+pub fn known_command(tape: &[u8], at: usize) -> Command
+    requires { ⌜ Stood (now tape) at ⌝ }
+    ensures { λ r. ⌜ found-in (now (tape .entry)) at (Found.Whole r) ≡ standing (now (tape .entry)) at ⌝ }
+{
+    match command_from(tape, at) {
+        Found::Whole(command) => command,
+        Found::Unknown => Command::End,
+        Found::CutOff => Command::End,
+    }
 }

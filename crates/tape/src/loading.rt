@@ -1,8 +1,7 @@
 // The listing of an accepted tape, in tables: a word for each token and each line, and the addresses by the number of the line. All texts are
 // parts of the tape.
 use crate::commands::Command;
-use crate::commands::Found;
-use crate::commands::command_from;
+use crate::commands::known_command;
 use crate::commands::size_of;
 use crate::questions::Totals;
 use crate::questions::count_in;
@@ -84,9 +83,7 @@ pub fn load(tape: &[u8], tokens: &mut [u64], lines: &mut [u64], addresses: &mut 
         text: 0,
     };
     loop {
-        let Found::Whole(command) = command_from(tape, at) else {
-            return totals;
-        };
+        let command = known_command(tape, at);
         if is_end(command) {
             return totals;
         }

@@ -46,7 +46,13 @@ pub enum Checked {
 fn line_fits(indent: u64, totals: Totals) -> bool
     ensures { λ r. ⌜ r ≡ is-within (totals-of totals) (new-line none indent) ⌝ }
 {
-    indent <= 63 && totals.lines < 256
+    if 63 < indent {
+        return false;
+    }
+    if 256 <= totals.lines {
+        return false;
+    }
+    true
 }
 
 fn token_fits(kind: u64, text: &[u8], totals: Totals) -> bool
@@ -65,7 +71,10 @@ fn token_fits(kind: u64, text: &[u8], totals: Totals) -> bool
     if n == 0 {
         return false;
     }
-    kind != NUMBER || n <= 24
+    if kind != NUMBER {
+        return true;
+    }
+    n <= 24
 }
 
 fn printable(kind: u64, text: &[u8]) -> bool

@@ -7,15 +7,35 @@ use lines::words::line_of;
 use lines::words::origin;
 use lines::words::text;
 use text::copy_bytes;
-ghost use mathlib.Core.Path.{_≡_};
-ghost use mathlib.Core.List.{_++_};
+ghost use mathlib.Core.Option.{none, some};
 ghost use Prim.Native.Nat.{_+_, _≤_, _<_};
-ghost use lib.ListN.{length, drop};
+ghost use lib.ListN.{length};
 ghost use Rattle.reference.specs.Listing.{token};
 ghost use Rattle.reference.specs.Tape as Tape;
 ghost use Rattle.lines.specs.Words.{tokens-of, Holds};
 ghost use Rattle.lines.specs.Lines.{line-in, listing-of, Lined, Listed};
-ghost use Rattle.tape.specs.Writing.{put, Puts, token-bytes, line-bytes, tokens-bytes, Wrote};
+ghost use Rattle.tape.specs.Writing.{Puts, token-bytes, line-bytes, tokens-bytes, Wrote};
+
+// Writes the command of a line with an address.
+fn put_addressed(address: u64, indent: u64, out: &mut [u8], at: usize) -> usize
+    requires { ⌜ (indent < 256) × (at + 10 ≤ length (now out)) ⌝ }
+    ensures { λ r. ⌜ Puts (now (out .entry)) at (Tape.write-command (Tape.new-line (some address) indent)) (now (out .exit)) r ⌝ }
+{
+    out[at] = 1;
+    put_number(address, 8, out, at + 1);
+    out[at + 9] = indent as u8;
+    at + 10
+}
+
+// Writes the command of a line without an address.
+fn put_plain(indent: u64, out: &mut [u8], at: usize) -> usize
+    requires { ⌜ (indent < 256) × (at + 2 ≤ length (now out)) ⌝ }
+    ensures { λ r. ⌜ Puts (now (out .entry)) at (Tape.write-command (Tape.new-line none indent)) (now (out .exit)) r ⌝ }
+{
+    out[at] = 2;
+    out[at + 1] = indent as u8;
+    at + 2
+}
 
 // Writes a line's command.
 fn put_line(addresses: &[u64], l: u64, out: &mut [u8], at: usize) -> usize
@@ -23,14 +43,10 @@ fn put_line(addresses: &[u64], l: u64, out: &mut [u8], at: usize) -> usize
     ensures { λ r. ⌜ Puts (now (out .entry)) at (line-bytes (now (addresses .entry)) l) (now (out .exit)) r ⌝ }
 {
     if addressed(l) == 1 {
-        out[at] = 1;
-        put_number(addresses[origin(l)], 8, out, at + 1);
-        out[at + 9] = indent(l) as u8;
-        return at + 10;
+        let k = origin(l);
+        return put_addressed(addresses[k], indent(l), out, at);
     }
-    out[at] = 2;
-    out[at + 1] = indent(l) as u8;
-    at + 2
+    put_plain(indent(l), out, at)
 }
 
 // Writes a token's command.

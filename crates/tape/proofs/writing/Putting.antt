@@ -4,10 +4,17 @@ use native.Mathlib.Nat.{add-zero, zero-add}
 use native.Mathlib.Omega.{arith}
 use native.Mathlib.Numerals.{add-one}
 use mathlib.Core.Path.{_≡_, refl, sym, ap, _∙_}
+use mathlib.Core.Option.{none, some}
 use mathlib.Core.List.{List, [], _∷_, _++_, map, flatMap, append-assoc, append-nil}
-use lib.ListN.{length, take, drop, set, getD, length-append, length-drop, take-append-drop, drop-of-length-le}
+use lib.ListN.{length, take, drop, set, getD, length-append, length-drop, length-set, take-append-drop, drop-of-length-le}
 use lib.Seq.{length-take-le, take-length, take-at, drop-at, drop-drop, drop-cons, set-split, append-snoc, paste}
-use Rattle.tape.specs.Writing.{put, Puts}
+use borrow.Author.Tests.{eq-eqb, ne-eqb}
+use Rattle.reference.specs.Listing.{token}
+use Rattle.reference.specs.Tape.{to-le-bytes, new-line, new-token, write-command}
+use Rattle.reference.proofs.LittleEndian.{to-length}
+use Rattle.laws.proofs.Scans.{if-true, if-false}
+use Rattle.lines.specs.Lines.{indent-of, addressed-of, origin-of, address-in}
+use Rattle.tape.specs.Writing.{put, Puts, token-bytes, line-bytes, Wrote}
 
 module _ (out : List ℕ) where
   pub put-front : (bytes : List ℕ) → put out 0 bytes ≡ bytes ++ drop (length bytes) out
@@ -49,6 +56,101 @@ module _ (out : List ℕ) where
 
     pub put-cons : (b : ℕ) (bytes : List ℕ) → at < length out → put out at (b ∷ bytes) ≡ put (set out at b) (at + 1) bytes
     put-cons b bytes h = sym (put-append (b ∷ []) bytes (omega arith)) ∙ ap (λ (o : List ℕ). put o (at + 1) bytes) (sym (put-one b h))
+
+-- ---- functions that write
+
+module _ (out : List ℕ) (at : ℕ) where
+  -- one after the other
+  pub puts-append : (a b : List ℕ) {mid after : List ℕ} {m n : ℕ} → at ≤ length out → Puts out at a mid m → Puts mid m b after n → Puts out at (a ++ b) after n
+  puts-append a b h p q =
+      record {
+        holds = q .holds ∙ rw (p .holds, p .ends) (put-append out at a b h);
+        ends = omega (arith, p .ends, q .ends, length-append a b);
+      }
+
+  pub puts-length : (bytes : List ℕ) {after : List ℕ} {n : ℕ} → at + length bytes ≤ length out → Puts out at bytes after n → length after ≡ length out
+  puts-length bytes h p = ap length (p .holds) ∙ put-length out at bytes h
+
+  -- the commands, from their parts: `mid` is what the writing of the number leaves
+
+  pub addressed-puts : (address indent : ℕ) {mid : List ℕ} → at + 10 ≤ length out → mid ≡ put (set out at 1) (at + 1) (to-le-bytes 8 address)
+      → Puts out at (write-command (new-line (some address) indent)) (set mid (at + 9) indent) (at + 10)
+  unfolding write-command
+  addressed-puts address indent {mid} h e =
+      let number : List ℕ = to-le-bytes 8 address in
+      let n : length number ≡ 8 = to-length 8 address in
+      let begun : List ℕ = set out at 1 in
+      let long : length begun ≡ length out = length-set out at 1 in
+      let wide : length mid ≡ length out = ap length e ∙ put-length begun (at + 1) number (omega arith) ∙ long in
+      let k : at + 9 ≡ at + 1 + length number = omega arith in
+      record {
+        holds =
+            put-one mid (at + 9) indent (omega arith)
+            ∙ rw (k, e) (put-append begun (at + 1) number (indent ∷ []) (omega arith))
+            ∙ sym (put-cons out at 1 (number ++ (indent ∷ [])) (omega arith));
+        ends = omega (arith, length-append number (indent ∷ []));
+      }
+
+  pub plain-puts : (indent : ℕ) → at + 2 ≤ length out → Puts out at (write-command (new-line none indent)) (set (set out at 2) (at + 1) indent) (at + 2)
+  unfolding write-command
+  plain-puts indent h =
+      record {
+        holds = put-one (set out at 2) (at + 1) indent (rw length-set (omega arith)) ∙ sym (put-cons out at 2 (indent ∷ []) (omega arith));
+        ends = refl;
+      }
+
+  pub token-puts : (kind : ℕ) (text : List ℕ) {mid after : List ℕ} → at + 3 + length text ≤ length out
+      → mid ≡ put (set out at (16 + kind)) (at + 1) (to-le-bytes 2 (length text)) → after ≡ paste mid (at + 3) text (length text)
+      → Puts out at (token-bytes (token kind text)) after (at + 3 + length text)
+  unfolding write-command
+  token-puts kind text {mid} h e f =
+      let number : List ℕ = to-le-bytes 2 (length text) in
+      let n : length number ≡ 2 = to-length 2 (length text) in
+      let begun : List ℕ = set out at (16 + kind) in
+      let long : length begun ≡ length out = length-set out at (16 + kind) in
+      let k : at + 3 ≡ at + 1 + length number = omega arith in
+      record {
+        holds =
+            f
+            ∙ put-pasted mid (at + 3) text
+            ∙ rw (k, e) (put-append begun (at + 1) number text (omega arith))
+            ∙ sym (put-cons out at (16 + kind) (number ++ text) (omega arith));
+        ends = omega (arith, length-append number text);
+      }
+
+  -- the whole tape
+  pub wrote : {bytes : List ℕ} {mid : List ℕ} {m : ℕ} → length bytes + 1 ≤ length out → Puts out 0 bytes mid m
+      → Wrote (bytes ++ (0xFF ∷ [])) out (set mid m 0xFF) (m + 1)
+  wrote {bytes} {mid} {m} h p =
+      let e : m ≡ length bytes = omega (arith, p .ends) in
+      let wide : length mid ≡ length out = ap length (p .holds) ∙ put-length out 0 bytes (omega arith) in
+      record {
+        holds = put-one mid m 0xFF (omega arith) ∙ rw (p .holds, p .ends) (put-append out 0 bytes (0xFF ∷ []) (omega arith)) ∙ put-front out (bytes ++ (0xFF ∷ []));
+        ends = omega (arith, length-append bytes (0xFF ∷ []));
+      }
+
+-- ---- a line word's own command
+
+pub addressed-bytes : (addresses : List ℕ) (l : ℕ) → addressed-of l ≡ 1
+    → line-bytes addresses l ≡ write-command (new-line (some (getD addresses (origin-of l) 0)) (indent-of l))
+unfolding address-in
+addressed-bytes addresses l e = rw (if-true (some (getD addresses (origin-of l) 0)) none (eq-eqb (addressed-of l) 1 e))
+
+pub plain-bytes : (addresses : List ℕ) (l : ℕ) → (addressed-of l ≡ 1 → ⊥) → line-bytes addresses l ≡ write-command (new-line none (indent-of l))
+unfolding address-in
+plain-bytes addresses l e = rw (if-false (some (getD addresses (origin-of l) 0)) none (ne-eqb (addressed-of l) 1 e))
+
+pub addressed-size : (address indent : ℕ) → length (write-command (new-line (some address) indent)) ≡ 10
+unfolding write-command
+addressed-size address indent = omega (arith, length-append (to-le-bytes 8 address) (indent ∷ []), to-length 8 address)
+
+pub plain-size : (indent : ℕ) → length (write-command (new-line none indent)) ≡ 2
+unfolding write-command
+plain-size indent = refl
+
+pub token-size : (kind : ℕ) (text : List ℕ) → length (token-bytes (token kind text)) ≡ 3 + length text
+unfolding write-command
+token-size kind text = omega (arith, length-append (to-le-bytes 2 (length text)) text, to-length 2 (length text))
 
 -- ---- a loop that writes g of what f says each word means: what is still to be written, put where the loop stands, makes the whole
 

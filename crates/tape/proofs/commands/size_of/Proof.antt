@@ -1,9 +1,8 @@
 -- `tape::commands::size_of` meets its contract. Assumes nothing.
+use native.Mathlib.Omega.{arith}
 use borrow.Author.Needs.{needs}
 use Rattle.tape.proofs.commands.size_of.Statement.{statement}
 use Rattle.tape.proofs.commands.size_of.Tie as tie
-use Rattle.tape.proofs.commands.size_of.Reads as reads
-use Rattle.tape.proofs.commands.size_of.Lts as lts
 
 enum-told : tie.Need-enum-told
 enum-told c = search needs
@@ -15,7 +14,7 @@ enum-known-command : tie.Need-enum-known-command
 enum-known-command c = search needs
 
 add-result : tie.Need-add-result
-add-result c = ?
+add-result c = let p = rw (c .before .command .given .1) at (c .before .before .before .pre) in omega arith
 
 enum-told-3 : tie.Need-enum-told-3
 enum-told-3 c = search needs
@@ -27,7 +26,7 @@ returns-2 : tie.Need-returns-2
 returns-2 c = search needs
 
 returns-3 : tie.Need-returns-3
-returns-3 c = ?
+returns-3 c = rw (c .before .command .given .1)
 
 returns-4 : tie.Need-returns-4
 returns-4 c = search needs

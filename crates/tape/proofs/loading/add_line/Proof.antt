@@ -2,9 +2,6 @@
 use borrow.Author.Needs.{needs}
 use Rattle.tape.proofs.loading.add_line.Statement.{statement}
 use Rattle.tape.proofs.loading.add_line.Tie as tie
-use Rattle.tape.proofs.loading.add_line.Reads as reads
-use Rattle.tape.proofs.loading.add_line.Lts as lts
-use Rattle.lines.proofs.words.line_word.Reads as line-word-reads
 
 line-word-requires : tie.Need-line-word-requires
 line-word-requires c κs = search needs
@@ -19,7 +16,7 @@ same-length : tie.Need-same-length
 same-length c = search needs
 
 returns : tie.Need-returns
-returns c = ?
+returns c = rw (c .line-word .ensures)
 
 pub add-line-spec : {M : Type 1} → statement M
 add-line-spec =

@@ -1,13 +1,9 @@
 -- `tape::loading::add_token` meets its contract. Assumes nothing.
+use native.Mathlib.Omega.{arith}
+use Rattle.lines.proofs.words.Lines.{first-below}
 use borrow.Author.Needs.{needs}
 use Rattle.tape.proofs.loading.add_token.Statement.{statement}
 use Rattle.tape.proofs.loading.add_token.Tie as tie
-use Rattle.tape.proofs.loading.add_token.Reads as reads
-use Rattle.tape.proofs.loading.add_token.Lts as lts
-use Rattle.lines.proofs.words.count.Reads as count-reads
-use Rattle.lines.proofs.words.first.Reads as first-reads
-use Rattle.lines.proofs.words.token_word.Reads as token-word-reads
-use Rattle.lines.proofs.words.with_tokens.Reads as with-tokens-reads
 
 add-token-word : tie.Need-add-token-word
 add-token-word c = search needs
@@ -40,7 +36,7 @@ add-with-tokens : tie.Need-add-with-tokens
 add-with-tokens c = search needs
 
 with-tokens-requires : tie.Need-with-tokens-requires
-with-tokens-requires c κs = ?
+with-tokens-requires c κs = (rw (c .before .first .ensures) (first-below _), omega (arith, c .count .ensures, c .before .before .before .before .before .before .before .pre))
 
 mul-lines : tie.Need-mul-lines
 mul-lines c = search needs
@@ -55,7 +51,7 @@ same-length-2 : tie.Need-same-length-2
 same-length-2 c = search needs
 
 returns : tie.Need-returns
-returns c = ?
+returns c = (rw (c .before .before .before .before .before .token-word .ensures), rw (c .with-tokens .ensures, c .before .before .first .ensures, c .before .count .ensures))
 
 pub add-token-spec : {M : Type 1} → statement M
 add-token-spec =
