@@ -10,7 +10,7 @@ use lib.Seq.{length-take-le}
 use borrow.Author.Tests.{leb-true, le-leb}
 use Rattle.reference.specs.Control.{if_then_else_}
 use Rattle.reference.specs.Lists.{is-empty}
-use Rattle.reference.specs.Listing.{Token}
+use Rattle.reference.specs.Listing.{Token, token}
 use Rattle.reference.specs.Tape.{new-line, new-token, end, command-of, command-size}
 use Rattle.reference.specs.Questions as Q
 use Rattle.reference.specs.Questions.{is-command, ends-inside, has-line, is-within, is-printable, is-over, is-end, Answer, Refused, Passed, ask, count-in, Advance, read-command}
@@ -75,7 +75,7 @@ module _ (rest : List ℕ) (t : Q.Totals) where
   unfolding first-no is-within has-line is-printable is-over if_then_else_
   line-exceeds address indent e f = rw (sym e ∙ f)
 
-  pub token-asked : (s : Token) → first-no (questions [] t (new-token s)) ≡ first-no (questions rest t (new-token s))
+  token-asked : (s : Token) → first-no (questions [] t (new-token s)) ≡ first-no (questions rest t (new-token s))
   unfolding is-over
   token-asked s = refl
 
@@ -84,6 +84,12 @@ module _ (rest : List ℕ) (t : Q.Totals) where
   end-asked = refl
 
 module _ (tape : List ℕ) (at : ℕ) (t : Q.Totals) where
+  -- of the token's text, a part of the tape
+  pub token-refuses : (kind count : ℕ) {text : List ℕ} {r : ℕ} → r ≡ first-no (questions [] t (new-token (token kind text))) → text ≡ take count (drop (at + 3) tape)
+      → r ≡ first-no (questions (drop at tape) t (command-in tape at (NewToken kind count)))
+  token-refuses kind count e f =
+      e ∙ ap (λ (s : List ℕ). first-no (questions [] t (new-token (token kind s)))) f ∙ token-asked (drop at tape) t (token kind (take count (drop (at + 3) tape)))
+
   pub end-over : length tape - at ≡ 1 → 0 ≡ first-no (questions (drop at tape) t end)
   unfolding if_then_else_
   end-over h =

@@ -40,14 +40,14 @@ returns-2 c = let l = c .before .before .before .before .before .before .loop in
     let tape = c .before .before .before .before .before .before .before .before .args .tape .now in
     ap Passed (totals-are (l .inv))
     ∙ verdict-passed tape
-    (read-passed (l .inv) (rw (c .before .before .before .command .given .1) at (c .before .before .before .before .before .step .ensures)) (ends-same tape (l .at) _ ∙ sym (c .before .is-end .ensures) ∙ c .if1 .taken))
+    (read-passed (l .inv) (rw (c .before .before .before .command .given .1) at (c .before .before .before .before .before .step .ensures)) (ends-same tape (l .at) (c .before .before .before .command .given .0 .0) ∙ sym (c .before .is-end .ensures) ∙ c .if1 .taken))
 
 loop-less : tie.Need-loop-less Inv-loop μ-loop
 loop-less c = omega (arith, moves (c .before .before .before .before .before .before .loop .inv) (rw (c .before .before .before .command .given .1) at (c .before .before .before .before .before .step .ensures)))
 
 loop-again : tie.Need-loop-again Inv-loop μ-loop
 loop-again c = let l = c .before .before .before .before .before .before .loop in
-    reads-on (l .inv) (rw (c .before .before .before .command .given .1) at (c .before .before .before .before .before .step .ensures)) (ends-same (c .before .before .before .before .before .before .before .before .args .tape .now) (l .at) _ ∙ sym (c .before .is-end .ensures) ∙ c .if1 .left)
+    reads-on (l .inv) (rw (c .before .before .before .command .given .1) at (c .before .before .before .before .before .step .ensures)) (ends-same (c .before .before .before .before .before .before .before .before .args .tape .now) (l .at) (c .before .before .before .command .given .0 .0) ∙ sym (c .before .is-end .ensures) ∙ c .if1 .left)
 
 pub check-spec : {M : Type 1} → statement M
 check-spec =

@@ -1,13 +1,7 @@
 -- `tape::questions::refusal` meets its contract. Assumes nothing.
 use native.Mathlib.Omega.{arith}
-use mathlib.Core.Path.{ap, _∙_}
-use mathlib.Core.Option.{none, some}
-use mathlib.Core.List.{List, []}
-use Prim.Native.Nat.{ℕ}
-use Rattle.reference.specs.Listing.{token}
-use Rattle.reference.specs.Tape.{new-token}
-use Rattle.tape.specs.Questions.{first-no, questions, totals-of}
-use Rattle.tape.proofs.questions.Asking.{line-fits, line-exceeds, token-asked, end-over, end-follows}
+use Rattle.tape.specs.Questions.{totals-of}
+use Rattle.tape.proofs.questions.Asking.{line-fits, line-exceeds, token-refuses, end-over, end-follows}
 use borrow.Author.Needs.{needs}
 use Rattle.tape.proofs.questions.refusal.Statement.{statement}
 use Rattle.tape.proofs.questions.refusal.Tie as tie
@@ -53,9 +47,7 @@ returns-4 c = rw (c .before .before .before .command2 .given .1) (line-exceeds _
 
 returns-5 : tie.Need-returns-5
 returns-5 c = rw (c .before .before .before .command3 .given .1)
-    (c .token-refusal .ensures
-    ∙ ap (λ (s : List ℕ). first-no (questions [] (totals-of (c .before .before .before .before .before .before .args .totals)) (new-token (token _ s)))) (c .before .token-text .ensures)
-    ∙ token-asked _ (totals-of (c .before .before .before .before .before .before .args .totals)) _)
+    (token-refuses (c .before .before .before .before .before .before .args .tape .now) (c .before .before .before .before .before .before .args .at) (totals-of (c .before .before .before .before .before .before .args .totals)) (c .before .before .before .command3 .given .0 .0) (c .before .before .before .command3 .given .0 .1 .0) (c .token-refusal .ensures) (c .before .token-text .ensures))
 
 returns-6 : tie.Need-returns-6
 returns-6 c = rw (c .before .enum-told .given .1) (end-over (c .before .before .before .before .args .tape .now) (c .before .before .before .before .args .at) (totals-of (c .before .before .before .before .args .totals)) (c .if3 .taken))

@@ -4,7 +4,7 @@ use mathlib.Core.Path.{_≡_, ap, _∙_}
 use native.Mathlib.Omega.{arith}
 use lib.ListN.{length, length-set}
 use lib.Seq.{length-paste}
-use Rattle.tape.proofs.writing.Putting.{token-puts, puts-length}
+use Rattle.tape.proofs.writing.Putting.{token-puts, token-size, puts-length}
 use borrow.Author.Needs.{needs}
 use Rattle.tape.proofs.writing.put_token.Statement.{statement}
 use Rattle.tape.proofs.writing.put_token.Tie as tie
@@ -39,7 +39,7 @@ add-result-2 : tie.Need-add-result-2
 add-result-2 c = search needs
 
 same-length : tie.Need-same-length
-same-length c = puts-length (c .before .before .before .before .before .before .before .before .before .before .args .out .now) (c .before .before .before .before .before .before .before .before .before .before .args .at) _ (omega arith) (token-puts (c .before .before .before .before .before .before .before .before .before .before .args .out .now) (c .before .before .before .before .before .before .before .before .before .before .args .at) (c .before .before .before .before .before .before .before .before .before .before .args .kind) (c .before .before .before .before .before .before .before .before .before .before .args .s .now) (c .before .before .before .before .before .before .before .before .before .before .pre .1) (c .before .before .before .before .before .before .put-number .ensures) (c .before .before .copy-bytes .ensures))
+same-length c = puts-length (c .before .before .before .before .before .before .before .before .before .before .args .out .now) (c .before .before .before .before .before .before .before .before .before .before .args .at) _ (omega (arith, token-size (c .before .before .before .before .before .before .before .before .before .before .args .kind) (c .before .before .before .before .before .before .before .before .before .before .args .s .now), c .before .before .before .before .before .before .before .before .before .before .pre)) (token-puts (c .before .before .before .before .before .before .before .before .before .before .args .out .now) (c .before .before .before .before .before .before .before .before .before .before .args .at) (c .before .before .before .before .before .before .before .before .before .before .args .kind) (c .before .before .before .before .before .before .before .before .before .before .args .s .now) (c .before .before .before .before .before .before .before .before .before .before .pre .1) (c .before .before .before .before .before .before .put-number .ensures) (c .before .before .copy-bytes .ensures))
 
 returns : tie.Need-returns
 returns c = token-puts (c .before .before .before .before .before .before .before .before .before .before .args .out .now) (c .before .before .before .before .before .before .before .before .before .before .args .at) (c .before .before .before .before .before .before .before .before .before .before .args .kind) (c .before .before .before .before .before .before .before .before .before .before .args .s .now) (c .before .before .before .before .before .before .before .before .before .before .pre .1) (c .before .before .before .before .before .before .put-number .ensures) (c .before .before .copy-bytes .ensures)
