@@ -15,7 +15,7 @@ use Rattle.reference.specs.Questions.{is-command, ends-inside, Refused, Passed}
 use Rattle.reference.proofs.Cases.{fails}
 use Rattle.reference.proofs.Commands.{Form, is-address, is-plain, is-token, is-ending, form, is-form, address-form, plain-form, token-form, end-form}
 use Rattle.reference.proofs.Reading.{ask-yes, ask-no, ask-passed, passed-inj, size-positive}
-use Rattle.tape.specs.Commands.{command-in, size-of, Sized, found-in, standing}
+use Rattle.tape.specs.Commands.{command-in, size-of, Sized, found-in, standing, Stood}
 use Rattle.tape.specs.declared.commands.Command.{Command}
 use Rattle.tape.specs.declared.commands.Found.the-variants.{Whole}
 
@@ -46,6 +46,9 @@ module _ (tape : List ℕ) (at : ℕ) where
   whole : Form here → command-size here ≤ length tape - at → Passed (command-of here, command-size here) ≡ standing tape at
   unfolding standing ends-inside
   whole f h = sym (ask-yes at _ _ (is-form here f, (le-leb (command-size here) (length here) (rw length-drop h), tt)))
+
+  pub stood : Form here → command-size here ≤ length here → Stood tape at
+  stood f h = record { what = _; stands = sym (whole f (rw length-drop at h)) }
 
   -- ---- by the first byte
 

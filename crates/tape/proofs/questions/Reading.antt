@@ -3,7 +3,7 @@ use Prim.Native.Nat.{ℕ, _<_, _≤_}
 use native.Mathlib.Omega.{arith}
 use mathlib.Core.Path.{_≡_, refl, sym, ap, _∙_}
 use mathlib.Core.Bool.{true, false}
-use mathlib.Core.List.{List}
+use mathlib.Core.List.{List, []}
 use lib.ListN.{length, drop}
 use Rattle.reference.specs.Control.{if_then_else_}
 use Rattle.reference.specs.Listing.{Listing}
@@ -18,8 +18,8 @@ pub record Reads (tape : List ℕ) (at : ℕ) (t : Totals) : Type 0 where
   pub lines : Listing
   pub reached : Reached tape (record { at = at; totals = t; lines = lines })
 
-pub reads-begin : (tape : List ℕ) → Reads tape 0 (record { lines = 0; tokens = 0; text = 0 })
-reads-begin tape = record { lines = _; reached = here }
+abbrev pub reads-begin : (tape : List ℕ) → Reads tape 0 (record { lines = 0; tokens = 0; text = 0 })
+reads-begin tape = record { lines = []; reached = here }
 
 module _ {tape : List ℕ} {at : ℕ} {t : Totals} (r : Reads tape at t) where
   step-of : read tape
@@ -36,7 +36,7 @@ module _ {tape : List ℕ} {at : ℕ} {t : Totals} (r : Reads tape at t) where
         let p = command-passed tape at t a (sym e) in
         omega (arith, advances tape at t (p .0), ap (λ (a : Advance). a .next) (p .1))
 
-    pub reads-on : is-end (a .command) ≡ false → Reads tape (a .next) (a .totals)
+    abbrev pub reads-on : is-end (a .command) ≡ false → Reads tape (a .next) (a .totals)
     reads-on n =
         let p = command-passed tape at t a (sym e) in
         record { lines = add (a .command) (r .lines); reached = rw (p .1) (on (r .reached) (p .0) (rw (p .1) at n)) }

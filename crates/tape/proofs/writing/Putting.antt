@@ -9,12 +9,13 @@ use mathlib.Core.List.{List, [], _∷_, _++_, map, flatMap, append-assoc, append
 use lib.ListN.{length, take, drop, set, getD, length-append, length-drop, length-set, take-append-drop, drop-of-length-le}
 use lib.Seq.{length-take-le, take-length, take-at, drop-at, drop-drop, drop-cons, set-split, append-snoc, paste}
 use borrow.Author.Tests.{eq-eqb, ne-eqb}
-use Rattle.reference.specs.Listing.{token}
-use Rattle.reference.specs.Tape.{to-le-bytes, new-line, new-token, write-command}
+use Rattle.reference.specs.Listing.{token, Listing}
+use Rattle.reference.specs.Tape.{to-le-bytes, new-line, write-command, write-line, write-lines, write}
 use Rattle.reference.proofs.LittleEndian.{to-length}
 use Rattle.laws.proofs.Scans.{if-true, if-false}
-use Rattle.lines.specs.Lines.{indent-of, addressed-of, origin-of, address-in}
-use Rattle.tape.specs.Writing.{put, Puts, token-bytes, line-bytes, Wrote}
+use Rattle.lines.specs.Words.{tokens-of}
+use Rattle.lines.specs.Lines.{indent-of, addressed-of, origin-of, part-of, address-in, line-in}
+use Rattle.tape.specs.Writing.{put, Puts, token-bytes, line-bytes, tokens-bytes, Wrote}
 
 module _ (out : List ℕ) where
   pub put-front : (bytes : List ℕ) → put out 0 bytes ≡ bytes ++ drop (length bytes) out
@@ -118,7 +119,8 @@ module _ (out : List ℕ) (at : ℕ) where
         ends = omega (arith, length-append number text);
       }
 
-  -- the whole tape
+-- the whole tape
+module _ (out : List ℕ) where
   pub wrote : {bytes : List ℕ} {mid : List ℕ} {m : ℕ} → length bytes + 1 ≤ length out → Puts out 0 bytes mid m
       → Wrote (bytes ++ (0xFF ∷ [])) out (set mid m 0xFF) (m + 1)
   wrote {bytes} {mid} {m} h p =
@@ -129,7 +131,16 @@ module _ (out : List ℕ) (at : ℕ) where
         ends = omega (arith, length-append bytes (0xFF ∷ []));
       }
 
--- ---- a line word's own command
+-- ---- what is written of a line, and of a listing
+
+pub write-split : (listing : Listing) → write listing ≡ flatMap write-line listing ++ (0xFF ∷ [])
+unfolding write write-lines write-command
+write-split listing = refl
+
+pub line-split : (tape area tokens addresses : List ℕ) (l : ℕ)
+    → write-line (line-in tape area tokens addresses l) ≡ line-bytes addresses l ++ tokens-bytes (tokens-of tape area (part-of tokens l))
+unfolding write-line
+line-split tape area tokens addresses l = refl
 
 pub addressed-bytes : (addresses : List ℕ) (l : ℕ) → addressed-of l ≡ 1
     → line-bytes addresses l ≡ write-command (new-line (some (getD addresses (origin-of l) 0)) (indent-of l))

@@ -1,9 +1,9 @@
+-- `tape::commands::known_command` meets its contract. Assumes nothing.
+use mathlib.Core.Path.{_∙_}
+use Rattle.reference.proofs.Reading.{refused-passed}
 use borrow.Author.Needs.{needs}
 use Rattle.tape.proofs.commands.known_command.Statement.{statement}
 use Rattle.tape.proofs.commands.known_command.Tie as tie
-use Rattle.tape.proofs.commands.known_command.Reads as reads
-use Rattle.tape.proofs.commands.known_command.Lts as lts
-use Rattle.tape.proofs.commands.command_from.Reads as command-from-reads
 
 command-from-requires : tie.Need-command-from-requires
 command-from-requires c κs = search needs
@@ -18,13 +18,13 @@ enum-told-2 : tie.Need-enum-told-2
 enum-told-2 c = search needs
 
 returns : tie.Need-returns
-returns c = ?
+returns c = rw (c .before .command .given .1) at (c .before .before .before .command-from .ensures)
 
 returns-2 : tie.Need-returns-2
-returns-2 c = ?
+returns-2 c = absurd (refused-passed ((rw (c .enum-told .given .1) at (c .before .before .command-from .ensures)) ∙ c .before .before .before .before .pre .stands))
 
 returns-3 : tie.Need-returns-3
-returns-3 c = ?
+returns-3 c = absurd (refused-passed ((rw (c .enum-told2 .given .1) at (c .before .before .command-from .ensures)) ∙ c .before .before .before .before .pre .stands))
 
 pub known-command-spec : {M : Type 1} → statement M
 known-command-spec =

@@ -1,8 +1,10 @@
+-- `tape::writing::put_plain` meets its contract. Assumes nothing.
+use native.Mathlib.Omega.{arith}
+use lib.ListN.{length-set}
+use Rattle.tape.proofs.writing.Putting.{plain-puts}
 use borrow.Author.Needs.{needs}
 use Rattle.tape.proofs.writing.put_plain.Statement.{statement}
 use Rattle.tape.proofs.writing.put_plain.Tie as tie
-use Rattle.tape.proofs.writing.put_plain.Reads as reads
-use Rattle.tape.proofs.writing.put_plain.Lts as lts
 
 slice-write-out : tie.Need-slice-write-out
 slice-write-out c = search needs
@@ -14,7 +16,7 @@ add-out : tie.Need-add-out
 add-out c = search needs
 
 slice-write-out-2 : tie.Need-slice-write-out-2
-slice-write-out-2 c = ?
+slice-write-out-2 c = simp length-set (omega (arith, c .pre))
 
 add-result : tie.Need-add-result
 add-result c = search needs
@@ -23,7 +25,7 @@ same-length : tie.Need-same-length
 same-length c = search needs
 
 returns : tie.Need-returns
-returns c = ?
+returns c = plain-puts (c .args .out .now) (c .args .at) (c .args .indent) (c .pre .1)
 
 pub put-plain-spec : {M : Type 1} → statement M
 put-plain-spec =
