@@ -1,6 +1,6 @@
 // What stands at an offset of a tape. The questions and the loading read a tape through `command_from` and `text_of` alone.
-use crate::numbers::number_at;
-use crate::numbers::wide;
+use crate::little_endian::number_at;
+use crate::little_endian::wide;
 ghost use mathlib.Core.Path.{_≡_};
 ghost use Prim.Native.Nat.{_+_, _^_, _≤_, _<_};
 ghost use lib.ListN.{length, take, drop, getD};

@@ -1,7 +1,7 @@
 // The tape of document 01: what stands at an offset, the questions, a tape's listing loaded into tables, and a listing written as a tape.
 pub mod commands; // one command, at an offset of the tape
+pub mod little_endian; // numbers in bytes, the lowest first
 pub mod loading; // the listing of an accepted tape
-pub mod numbers; // numbers in bytes, the lowest first
 pub mod questions; // which tapes are accepted
 pub mod writing; // the tape of a listing
 

@@ -116,27 +116,11 @@ fn refusal(tape: &[u8], at: usize, command: Command, totals: Totals) -> u64
 {
     match command {
         Command::Addressed { address: _, indent } => {
-            if line_fits(indent, totals) {
-                0
-            } else {
-                6
-            }
+            if line_fits(indent, totals) { 0 } else { 6 }
         }
-        Command::Plain { indent } => {
-            if line_fits(indent, totals) {
-                0
-            } else {
-                6
-            }
-        }
+        Command::Plain { indent } => { if line_fits(indent, totals) { 0 } else { 6 } }
         Command::Token { kind, count } => token_refusal(kind, token_text(tape, at, count), totals),
-        Command::End => {
-            if tape.len() - at == 1 {
-                0
-            } else {
-                8
-            }
-        }
+        Command::End => { if tape.len() - at == 1 { 0 } else { 8 } }
     }
 }
 

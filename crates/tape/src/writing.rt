@@ -1,5 +1,5 @@
 // The tape of a listing. Each function writes its bytes into `out` from `at` on and says where they end; what is before and behind them stays.
-use crate::numbers::put_number;
+use crate::little_endian::put_number;
 use lines::words::addressed;
 use lines::words::indent;
 use lines::words::kind;

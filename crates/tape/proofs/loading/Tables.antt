@@ -24,7 +24,7 @@ use Rattle.tape.specs.Commands.{command-in, size-of}
 use Rattle.tape.specs.Questions.{totals-of, counted}
 use Rattle.tape.specs.Tables.{begun, longer, lengthened, tokens-after, lines-after, addresses-after, Adds, Room}
 use Rattle.tape.specs.declared.commands.Command.{Command}
-use Rattle.tape.specs.declared.commands.Command.the-variants.{Addressed, Plain, End} -- its Token is the listing's here
+use Rattle.tape.specs.declared.commands.Command.the-variants.{Addressed, Plain, End}  -- its Token is the listing's here
 use Rattle.tape.specs.declared.commands.Command.the-variants as C
 use Rattle.tape.specs.declared.questions.Totals.{Totals}
 

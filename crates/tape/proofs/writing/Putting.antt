@@ -137,10 +137,18 @@ pub write-split : (listing : Listing) → write listing ≡ flatMap write-line l
 unfolding write write-lines write-command
 write-split listing = refl
 
-pub line-split : (tape area tokens addresses : List ℕ) (l : ℕ)
-    → write-line (line-in tape area tokens addresses l) ≡ line-bytes addresses l ++ tokens-bytes (tokens-of tape area (part-of tokens l))
-unfolding write-line
-line-split tape area tokens addresses l = refl
+pub write-room : (listing : Listing) {n : ℕ} → length (write listing) ≤ n → length (flatMap write-line listing) + 1 ≤ n
+write-room listing h = omega (arith, ap length (write-split listing), length-append (flatMap write-line listing) (0xFF ∷ []))
+
+module _ (tape area tokens addresses : List ℕ) (l : ℕ) where
+  pub line-split : write-line (line-in tape area tokens addresses l) ≡ line-bytes addresses l ++ tokens-bytes (tokens-of tape area (part-of tokens l))
+  unfolding write-line
+  line-split = refl
+
+  pub line-room : (at : ℕ) {n : ℕ} → at + length (write-line (line-in tape area tokens addresses l)) ≤ n
+      → at + length (line-bytes addresses l) + length (tokens-bytes (tokens-of tape area (part-of tokens l))) ≤ n
+  line-room at h =
+      omega (arith, ap length line-split, length-append (line-bytes addresses l) (tokens-bytes (tokens-of tape area (part-of tokens l))))
 
 pub addressed-bytes : (addresses : List ℕ) (l : ℕ) → addressed-of l ≡ 1
     → line-bytes addresses l ≡ write-command (new-line (some (getD addresses (origin-of l) 0)) (indent-of l))
@@ -165,17 +173,17 @@ token-size kind text = omega (arith, length-append (to-le-bytes 2 (length text))
 
 -- ---- a loop that writes g of what f says each word means: what is still to be written, put where the loop stands, makes the whole
 
-module _ {A : Type 0} (f : ℕ → A) (g : A → List ℕ) (ws out₀ : List ℕ) (at₀ : ℕ) where
+module _ {A : Type 0} (f : ℕ → A) (g : A → List ℕ) (ws : List ℕ) where
   abbrev pub rest : ℕ → List ℕ
   rest k = flatMap g (map f (drop k ws))
 
-  pub record Written (out : List ℕ) (at k : ℕ) : Type 0 where
+  pub record Written (out₀ : List ℕ) (at₀ : ℕ) (out : List ℕ) (at k : ℕ) : Type 0 where
     pub place : at + length (rest k) ≡ at₀ + length (rest 0)
     pub whole : put out at (rest k) ≡ put out₀ at₀ (rest 0)
     pub long : length out ≡ length out₀
 
-  pub written-begin : Written out₀ at₀ 0
-  written-begin = record { place = refl; whole = refl; long = refl }
+  pub written-begin : (out₀ : List ℕ) (at₀ : ℕ) → Written out₀ at₀ out₀ at₀ 0
+  written-begin out₀ at₀ = record { place = refl; whole = refl; long = refl }
 
   rest-at : (k : ℕ) → k < length ws → rest k ≡ g (f (getD ws k 0)) ++ rest (k + 1)
   unfolding flatMap
@@ -185,30 +193,26 @@ module _ {A : Type 0} (f : ℕ → A) (g : A → List ℕ) (ws out₀ : List ℕ
   unfolding flatMap
   rest-end k h = rw (drop-of-length-le ws h)
 
-  module _ (room : at₀ + length (rest 0) ≤ length out₀) {out : List ℕ} {at k : ℕ} (w : Written out at k) where
-    module _ (h : k < length ws) where
-      size-at : length (rest k) ≡ length (g (f (getD ws k 0))) + length (rest (k + 1))
-      size-at = ap length (rest-at k h) ∙ length-append (g (f (getD ws k 0))) (rest (k + 1))
+module _ {A : Type 0} {f : ℕ → A} {g : A → List ℕ} {ws out₀ : List ℕ} {at₀ : ℕ} {out : List ℕ} {at k : ℕ} (w : Written f g ws out₀ at₀ out at k) where
+  module _ (room : at₀ + length (rest f g ws 0) ≤ length out₀) (h : k < length ws) where
+    size-at : length (rest f g ws k) ≡ length (g (f (getD ws k 0))) + length (rest f g ws (k + 1))
+    size-at = ap length (rest-at f g ws k h) ∙ length-append (g (f (getD ws k 0))) (rest f g ws (k + 1))
 
-      pub written-room : at + length (g (f (getD ws k 0))) ≤ length out
-      written-room = omega (arith, size-at, w .place, w .long)
+    pub written-room : at + length (g (f (getD ws k 0))) ≤ length out
+    written-room = omega (arith, size-at, w .place, w .long)
 
-      pub written-more : {out′ : List ℕ} {at′ : ℕ} → Puts out at (g (f (getD ws k 0))) out′ at′ → Written out′ at′ (k + 1)
-      written-more {out′} {at′} p =
-          let bytes : List ℕ = g (f (getD ws k 0)) in
-          let fits : at + length bytes ≤ length out = written-room in
-          record {
-            place = omega (arith, p .ends, size-at, w .place);
-            whole =
-                rw (p .holds, p .ends, put-append out at bytes (rest (k + 1)) (omega arith))
-                (ap (put out at) (sym (rest-at k h)) ∙ w .whole);
-            long = ap length (p .holds) ∙ put-length out at bytes fits ∙ w .long;
-          }
-
-    pub written-end : length ws ≤ k → Puts out₀ at₀ (rest 0) out at
-    written-end h =
-        let e : rest k ≡ [] = rest-end k h in
+    pub written-more : {out′ : List ℕ} {at′ : ℕ} → Puts out at (g (f (getD ws k 0))) out′ at′ → Written f g ws out₀ at₀ out′ at′ (k + 1)
+    written-more p =
+        let bytes : List ℕ = g (f (getD ws k 0)) in
+        let more : List ℕ = rest f g ws (k + 1) in
+        let fits : at + length bytes ≤ length out = written-room in
         record {
-          holds = sym (put-none out at) ∙ ap (put out at) (sym e) ∙ w .whole;
-          ends = omega (arith, ap length e, w .place);
+          place = omega (arith, p .ends, size-at, w .place);
+          whole = rw (p .holds, p .ends, put-append out at bytes more (omega arith)) (ap (put out at) (sym (rest-at f g ws k h)) ∙ w .whole);
+          long = puts-length out at bytes fits p ∙ w .long;
         }
+
+  pub written-end : length ws ≤ k → Puts out₀ at₀ (rest f g ws 0) out at
+  written-end h =
+      let e : rest f g ws k ≡ [] = rest-end f g ws k h in
+      record { holds = sym (put-none out at) ∙ ap (put out at) (sym e) ∙ w .whole; ends = omega (arith, ap length e, w .place) }

@@ -1,7 +1,7 @@
 -- `tape::writing::put_tokens` meets its contract: what is still to be written, put where the loop stands, makes the whole. Assumes nothing.
-use Prim.Native.Nat.{ℕ, _-_}
+use Prim.Native.Nat.{_-_}
 use native.Mathlib.Omega.{arith}
-use mathlib.Core.Path.{sym, ap, _∙_}
+use mathlib.Core.Path.{ap}
 use lib.ListN.{length, getD}
 use Rattle.lines.specs.Words.{token-of, text-of, kind-of}
 use Rattle.lines.proofs.words.Tokens.{kind-below}
@@ -33,10 +33,12 @@ text-requires : tie.Need-text-requires Inv-loop μ-loop
 text-requires c κs = c .before .before .before .before .before .before .before .before .pre .0 .at (c .before .before .before .loop .k) (c .before .before .loop-test .taken)
 
 put-token-requires : tie.Need-put-token-requires Inv-loop μ-loop
-put-token-requires c κs = let a = c .before .before .before .before .before .before .before .before .before .before .args in
-    let w = getD (a .ws .now) (c .before .before .before .before .before .loop .k) 0 in
-    let room = written-room (token-of (a .tape .now) (a .area .now)) token-bytes (a .ws .now) (a .out .now) (a .at) (c .before .before .before .before .before .before .before .before .before .before .pre .1) (c .before .before .before .before .before .loop .inv) (c .before .before .before .before .loop-test .taken) in
-    omega (arith, room, c .before .before .kind .ensures, kind-below w, ap length (c .before .text .ensures), token-size (kind-of w) (text-of (a .tape .now) (a .area .now) w))
+put-token-requires c κs = let s = c .before .before .before .before .before .before .before .before .before .before in
+    let tape = s .args .tape .now in
+    let area = s .args .area .now in
+    let w = getD (s .args .ws .now) (c .before .before .before .before .before .loop .k) 0 in
+    omega
+    (arith, written-room (c .before .before .before .before .before .loop .inv) (s .pre .1) (c .before .before .before .before .loop-test .taken), c .before .before .kind .ensures, kind-below w, ap length (c .before .text .ensures), token-size (kind-of w) (text-of tape area w))
 
 add-k : tie.Need-add-k Inv-loop μ-loop
 add-k c = search needs
@@ -45,16 +47,15 @@ loop-less : tie.Need-loop-less Inv-loop μ-loop
 loop-less c = search needs
 
 loop-again : tie.Need-loop-again Inv-loop μ-loop
-loop-again c = let a = c .before .before .before .before .before .before .before .before .before .before .before .before .before .args in
-    written-more (token-of (a .tape .now) (a .area .now)) token-bytes (a .ws .now) (a .out .now) (a .at) (c .before .before .before .before .before .before .before .before .before .before .before .before .before .pre .1) (c .before .before .before .before .before .before .before .before .loop .inv) (c .before .before .before .before .before .before .before .loop-test .taken)
+loop-again c = let l = c .before .before .before .before .before .before .before .before .loop in
+    written-more (l .inv) (c .before .before .before .before .before .before .before .before .before .before .before .before .before .pre .1) (c .before .before .before .before .before .before .before .loop-test .taken)
     (rw (c .before .before .before .before .before .kind .ensures, c .before .before .before .before .text .ensures) at (c .before .before .put-token .ensures))
 
 same-length : tie.Need-same-length Inv-loop μ-loop
 same-length c = c .before .loop .inv .long
 
 returns : tie.Need-returns Inv-loop μ-loop
-returns c = let a = c .before .before .before .before .before .before .args in
-    written-end (token-of (a .tape .now) (a .area .now)) token-bytes (a .ws .now) (a .out .now) (a .at) (c .before .before .before .before .before .before .pre .1) (c .before .loop .inv) (c .loop-test .left)
+returns c = written-end (c .before .loop .inv) (c .loop-test .left)
 
 pub put-tokens-spec : {M : Type 1} → statement M
 put-tokens-spec =

@@ -1,13 +1,12 @@
 -- `tape::writing::write` meets its contract: what is still to be written, put where the loop stands, makes the lines; FF follows. Assumes nothing.
-use Prim.Native.Nat.{ℕ, _+_, _-_, _≤_}
+use Prim.Native.Nat.{_+_, _-_, _≤_}
 use native.Mathlib.Omega.{arith}
-use mathlib.Core.Path.{ap}
-use mathlib.Core.List.{List, [], _∷_, flatMap}
-use lib.ListN.{length, length-append, length-set}
+use mathlib.Core.List.{flatMap}
+use lib.ListN.{length, length-set}
+use Rattle.reference.specs.Listing.{Listing}
 use Rattle.reference.specs.Tape.{write-line}
 use Rattle.lines.specs.Lines.{line-in, listing-of}
-use Rattle.tape.specs.Writing.{Puts}
-use Rattle.tape.proofs.writing.Putting.{Written, written-begin, written-room, written-more, written-end, write-split, wrote}
+use Rattle.tape.proofs.writing.Putting.{Written, written-begin, written-room, written-more, written-end, write-split, write-room, wrote}
 use borrow.Author.Needs.{needs}
 use Rattle.tape.proofs.writing.write.Statement.{statement}
 use Rattle.tape.proofs.writing.write.Tie as tie
@@ -18,14 +17,11 @@ Inv-loop tape area tokens lines addresses out₀ at₀ k₀ out at k = Written (
 abbrev μ-loop : tie.MeasureT-loop
 μ-loop tape area tokens lines addresses out₀ at₀ k₀ out at k = length lines - k
 
--- the room for the lines and FF
-room : (c : tie.Start Inv-loop μ-loop)
-    → length (flatMap write-line (listing-of (c .args .tape .now) (c .args .area .now) (c .args .tokens .now) (c .args .addresses .now) (c .args .lines .now))) + 1
-    ≤ length (c .args .out .now)
-room c =
-    let a = c .args in
-    let listing = listing-of (a .tape .now) (a .area .now) (a .tokens .now) (a .addresses .now) (a .lines .now) in
-    omega (arith, c .pre .1 .1, ap length (write-split listing), length-append (flatMap write-line listing) (0xFF ∷ []))
+abbrev listing : tie.Start Inv-loop μ-loop → Listing
+listing c = let a = c .args in listing-of (a .tape .now) (a .area .now) (a .tokens .now) (a .addresses .now) (a .lines .now)
+
+room : (c : tie.Start Inv-loop μ-loop) → length (flatMap write-line (listing c)) + 1 ≤ length (c .args .out .now)
+room c = write-room (listing c) (c .pre .1 .1)
 
 loop-holds : tie.Need-loop-holds Inv-loop μ-loop
 loop-holds c = let a = c .before .before .before .before .before .before .args in written-begin (line-in (a .tape .now) (a .area .now) (a .tokens .now) (a .addresses .now)) write-line (a .lines .now) (a .out .now) 0
@@ -37,8 +33,9 @@ shared-slice-read-put-whole-line : tie.Need-shared-slice-read-put-whole-line Inv
 shared-slice-read-put-whole-line c = search needs
 
 put-whole-line-requires : tie.Need-put-whole-line-requires Inv-loop μ-loop
-put-whole-line-requires c κs = let a = c .before .before .before .before .before .before .before .before .before .before .args in
-    (c .before .before .before .before .before .before .before .before .before .before .pre .0 .at (c .before .before .before .loop .k) (c .before .before .loop-test .taken), (c .before .before .before .before .before .before .before .before .before .before .pre .1 .0, written-room (line-in (a .tape .now) (a .area .now) (a .tokens .now) (a .addresses .now)) write-line (a .lines .now) (a .out .now) 0 (omega (arith, room (c .before .before .before .before .before .before .before .before .before .before))) (c .before .before .before .loop .inv) (c .before .before .loop-test .taken)))
+put-whole-line-requires c κs = let s = c .before .before .before .before .before .before .before .before .before .before in
+    let l = c .before .before .before .loop in
+    (s .pre .0 .at (l .k) (c .before .before .loop-test .taken), (s .pre .1 .0, written-room (l .inv) (omega (arith, room s)) (c .before .before .loop-test .taken)))
 
 add-k : tie.Need-add-k Inv-loop μ-loop
 add-k c = search needs
@@ -47,28 +44,20 @@ loop-less : tie.Need-loop-less Inv-loop μ-loop
 loop-less c = search needs
 
 loop-again : tie.Need-loop-again Inv-loop μ-loop
-loop-again c = let a = c .before .before .before .before .before .before .before .before .before .before .before .before .before .args in
-    written-more (line-in (a .tape .now) (a .area .now) (a .tokens .now) (a .addresses .now)) write-line (a .lines .now) (a .out .now) 0 (omega (arith, room (c .before .before .before .before .before .before .before .before .before .before .before .before .before))) (c .before .before .before .before .before .before .loop .inv) (c .before .before .before .before .before .loop-test .taken) (c .before .before .put-whole-line .ensures)
-
--- what the loop leaves
-lines-put : (c : tie.After-loop Inv-loop μ-loop)
-    → let a = c .before .before .before .before .before .before .before .before .args in
-    Puts (a .out .now) 0 (flatMap write-line (listing-of (a .tape .now) (a .area .now) (a .tokens .now) (a .addresses .now) (a .lines .now))) (c .before .loop .out) (c .before .loop .at)
-lines-put c =
-    let a = c .before .before .before .before .before .before .before .before .args in
-    written-end (line-in (a .tape .now) (a .area .now) (a .tokens .now) (a .addresses .now)) write-line (a .lines .now) (a .out .now) 0 (omega (arith, room (c .before .before .before .before .before .before .before .before))) (c .before .loop .inv) (c .loop-test .left)
+loop-again c = let s = c .before .before .before .before .before .before .before .before .before .before .before .before .before in
+    written-more (c .before .before .before .before .before .before .loop .inv) (omega (arith, room s)) (c .before .before .before .before .before .loop-test .taken) (c .before .before .put-whole-line .ensures)
 
 slice-write-out : tie.Need-slice-write-out Inv-loop μ-loop
-slice-write-out c = omega (arith, lines-put c .ends, c .before .loop .inv .long, room (c .before .before .before .before .before .before .before .before))
+slice-write-out c = omega (arith, written-end (c .before .loop .inv) (c .loop-test .left) .ends, c .before .loop .inv .long, room (c .before .before .before .before .before .before .before .before))
 
 add-result : tie.Need-add-result Inv-loop μ-loop
-add-result c = omega (arith, lines-put c .ends, room (c .before .before .before .before .before .before .before .before), c .before .before .before .before .before .before .before .before .good)
+add-result c = omega (arith, written-end (c .before .loop .inv) (c .loop-test .left) .ends, room (c .before .before .before .before .before .before .before .before), c .before .before .before .before .before .before .before .before .good)
 
 same-length : tie.Need-same-length Inv-loop μ-loop
 same-length c = simp length-set (c .before .loop .inv .long)
 
 returns : tie.Need-returns Inv-loop μ-loop
-returns c = rw write-split (wrote (c .before .before .before .before .before .before .before .before .args .out .now) (room (c .before .before .before .before .before .before .before .before)) (lines-put c))
+returns c = let s = c .before .before .before .before .before .before .before .before in rw (write-split (listing s)) (wrote (s .args .out .now) (room s) (written-end (c .before .loop .inv) (c .loop-test .left)))
 
 pub write-spec : {M : Type 1} → statement M
 write-spec =

@@ -1,4 +1,4 @@
--- `tape::numbers::put_number` meets its contract: what is left of the number, put where the loop stands, makes the whole. Assumes nothing.
+-- `tape::little_endian::put_number` meets its contract: what is left of the number, put where the loop stands, makes the whole. Assumes nothing.
 use Prim.Native.Nat.{ℕ, suc, _+_, _-_, _/_, _%_, _≤_}
 use native.Mathlib.Nat.{add-zero, add-assoc, sub-zero}
 use native.Mathlib.Omega.{arith}
@@ -9,8 +9,8 @@ use Rattle.reference.specs.Tape.{to-le-bytes}
 use Rattle.tape.specs.Writing.{put}
 use Rattle.tape.proofs.writing.Putting.{put-none, put-cons}
 use borrow.Author.Needs.{needs}
-use Rattle.tape.proofs.numbers.put_number.Statement.{statement}
-use Rattle.tape.proofs.numbers.put_number.Tie as tie
+use Rattle.tape.proofs.little_endian.put_number.Statement.{statement}
+use Rattle.tape.proofs.little_endian.put_number.Tie as tie
 
 abbrev Inv-loop : tie.InvT-loop
 Inv-loop v n out₀ at rest₀ i₀ out rest i = (i ≤ n) × (put out (at + i) (to-le-bytes (n - i) rest) ≡ put out₀ at (to-le-bytes n v)) × (length out ≡ length out₀)

@@ -1,4 +1,4 @@
--- `tape::numbers::number_at` meets its contract: the loop goes from the highest byte down, and has the number of the bytes passed. Assumes nothing.
+-- `tape::little_endian::number_at` meets its contract: the loop goes from the highest byte down, and has the number of the bytes passed. Assumes nothing.
 use Prim.Native.Nat.{ℕ, suc, _+_, _*_, _-_, _^_, _≤_, _<_}
 use native.Mathlib.Nat.{lt-of-lt-of-le, pow-le-pow-right, pow-suc, add-zero, sub-zero}
 use native.Mathlib.Omega.{arith}
@@ -9,8 +9,8 @@ use lib.ListN.{length, take, drop, getD}
 use Rattle.reference.specs.Tape.{from-le-bytes}
 use Rattle.reference.proofs.LittleEndian.{from-at}
 use borrow.Author.Needs.{needs}
-use Rattle.tape.proofs.numbers.number_at.Statement.{statement}
-use Rattle.tape.proofs.numbers.number_at.Tie as tie
+use Rattle.tape.proofs.little_endian.number_at.Statement.{statement}
+use Rattle.tape.proofs.little_endian.number_at.Tie as tie
 
 abbrev Inv-loop : tie.InvT-loop
 Inv-loop tape at n v₀ i₀ v i = (i ≤ n) × (v ≡ from-le-bytes (take (n - i) (drop (at + i) tape))) × (v < 256 ^ (n - i))
