@@ -1,12 +1,12 @@
--- What demand 3 speaks of: text, tokens, calls, places and labels of a listing. Assumes nothing.
+-- What demand 3 counts and compares: the tokens, the text, the calls, the places and the label lines of a listing. Assumes nothing.
 use Prim.Native.Nat.{ℕ, _+_}
-use mathlib.Core.Bool.{Bool, true, false}
-use mathlib.Core.List.{List, [], _∷_, _++_, map}
+use mathlib.Core.Bool.{Bool, false}
+use mathlib.Core.List.{List, [], _∷_, map}
 use mathlib.Core.Option.{Option, none, some}
 use lib.ListN.{length}
-use Rattle.reference.specs.Control.{not, _&&_, _||_, if_then_else_}
+use Rattle.reference.specs.Control.{_&&_, if_then_else_}
 use Rattle.reference.specs.Text.{Text, bytes, _==_, starts-with}
-use Rattle.reference.specs.Listing.{Token, is, Number, Keyword, Symbol, Punct, Line, Listing}
+use Rattle.reference.specs.Listing.{Token, is, Keyword, Symbol, Punct, Line, Listing}
 use Rattle.reference.specs.Shapes.{is-label}
 
 module _ {ℓ} {A : Type ℓ} where
@@ -17,29 +17,35 @@ module _ {ℓ} {A : Type ℓ} where
 abbrev pub one-if : Bool → ℕ
 one-if b = if b then 1 else 0
 
+-- ---- tokens and text
+
+abbrev pub token-count : Listing → ℕ
+token-count = sum (λ l. length (l .tokens))
+
 -- the bytes of a token's text
 abbrev pub size : Token → ℕ
 size t = length (t .text)
 
--- those of a token that is no number
-abbrev pub plain-size : Token → ℕ
-plain-size t = if is Number t then 0 else size t
-
 abbrev pub text-in : List Token → ℕ
 text-in = sum size
 
-abbrev pub plain-in : List Token → ℕ
-plain-in = sum plain-size
+-- "Text is the bytes of all token texts together."
+abbrev pub text : Listing → ℕ
+text = sum (λ l. text-in (l .tokens))
 
--- a callee: a symbol's text, or none for every `((void`
+-- ---- calls
+
+-- "For demand 3 each S mark counts under its S text, and every K beginning `((void` under one name": some text, or none for that one name
 abbrev pub Callee : Type 0
 Callee = Option Text
 
+-- whether the tokens after a token begin with "P beginning `(`"
 unfoldable pub opens : List Token → Bool
 opens [] = false
 opens (t ∷ ts) = is Punct t && starts-with (t .text) (bytes "(")
 
--- whether the token is a call mark of the callee, where `o` says whether the token after it opens a bracket
+-- Whether the token is a call mark of the callee; `o` says whether the token after it opens a bracket. "Call mark: S before P beginning `(`, or K
+-- beginning `((void`"; for demand 3 the K counts "followed or not".
 unfoldable pub marks : Callee → Token → Bool → Bool
 marks none t o = is Keyword t && starts-with (t .text) (bytes "((void")
 marks (some name) t o = is Symbol t && (t .text == name) && o
@@ -48,15 +54,13 @@ unfoldable pub calls-in : Callee → List Token → ℕ
 calls-in c [] = 0
 calls-in c (t ∷ ts) = one-if (marks c t (opens ts)) + calls-in c ts
 
-abbrev pub text : Listing → ℕ
-text = sum (λ l. text-in (l .tokens))
-
-abbrev pub token-count : Listing → ℕ
-token-count = sum (λ l. length (l .tokens))
-
+-- how many times a callee is called
 abbrev pub calls : Callee → Listing → ℕ
 calls c = sum (λ l. calls-in c (l .tokens))
 
+-- ---- places and labels
+
+-- an address and indent pair
 abbrev pub Place : Type 0
 Place = Option ℕ × ℕ
 
@@ -66,6 +70,7 @@ place l = (l .address, l .indent)
 abbrev pub places : Listing → List Place
 places = map place
 
+-- "Label lines: the input's lines that are labels, equal ones included, with address, indent and tokens"
 unfoldable pub label-lines : Listing → Listing
 label-lines [] = []
 label-lines (l ∷ ls) = let r = label-lines ls in if is-label l then l ∷ r else r

@@ -1,10 +1,10 @@
--- The starred examples of document 01, as one statement. Assumes nothing.
+-- The starred examples of document 01, as one statement, and small listings that tell a wrong port. Assumes nothing.
 use Prim.Native.Nat.{ℕ}
 use Prim.Native.String.{String}
 use mathlib.Core.Path.{_≡_, refl}
 use mathlib.Core.List.{List, [], _∷_}
 use mathlib.Core.Option.{Option, none, some}
-use lib.IntN.{ℤ, pos, negsuc}
+use lib.IntN.{pos, negsuc}
 use Rattle.reference.specs.Text.{bytes}
 use Rattle.reference.specs.Listing.{Token, token, Register, Number, Keyword, Symbol, Punct, Line, Listing}
 use Rattle.reference.specs.Names.{Fam, family}
@@ -101,3 +101,46 @@ starred =
       brackets = (refl, refl);
       nothing = (refl, refl);
     }
+
+-- Small listings of which each shows one thing that a wrong port gets wrong, with what the Rust made of them.
+pub record Telling : Type 0 where
+  -- the join makes a label during the first round, and the labels are those of its beginning: the `goto` is to no known label until the second
+  pub labels-frozen :
+      cleans
+      (line (R "rbx" ∷ P " = " ∷ S "L" ∷ P ";" ∷ [])
+      ∷ line (R "rbx" ∷ P ":" ∷ [])
+      ∷ line (R "rbx" ∷ P " = " ∷ N "2" ∷ P ";" ∷ [])
+      ∷ line (R "rax" ∷ P " = " ∷ N "5" ∷ P ";" ∷ [])
+      ∷ line (S "f" ∷ P "(" ∷ R "rax" ∷ P ");" ∷ [])
+      ∷ line (K "goto" ∷ P " " ∷ S "L" ∷ P ";" ∷ [])
+      ∷ [])
+      (line (S "L" ∷ P ":" ∷ [])
+      ∷ line (R "rbx" ∷ P " = " ∷ N "2" ∷ P ";" ∷ [])
+      ∷ line (S "f" ∷ P "(" ∷ N "5" ∷ P ");" ∷ [])
+      ∷ line (K "goto" ∷ P " " ∷ S "L" ∷ P ";" ∷ [])
+      ∷ [])
+      (made 6 6 4 2 0)
+  -- the line before a line removed is tried again at once
+  pub steps-back :
+      cleans
+      (line (R "r12" ∷ P " = " ∷ R "rcx" ∷ P " - " ∷ N "1" ∷ P ";" ∷ [])
+      ∷ line (R "rbx" ∷ P " = " ∷ S "h" ∷ P "();" ∷ [])
+      ∷ line (S "g" ∷ P "(" ∷ R "r12" ∷ P ", " ∷ R "rbx" ∷ P ");" ∷ [])
+      ∷ [])
+      (line (S "g" ∷ P "(" ∷ R "rcx" ∷ P " - " ∷ N "1" ∷ P ", " ∷ S "h" ∷ P "());" ∷ []) ∷ [])
+      (made 4 1 0 2 0)
+  -- an assignment to 16 bits reads the rest of the register, so the result is not dead; to 32 bits it kills
+  pub word-reads :
+      cleans
+      (line (R "rax" ∷ P " = " ∷ S "f" ∷ P "();" ∷ []) ∷ line (R "ax" ∷ P " = " ∷ N "1" ∷ P ";" ∷ []) ∷ [])
+      (line (R "rax" ∷ P " = " ∷ S "f" ∷ P "();" ∷ []) ∷ line (R "ax" ∷ P " = " ∷ N "1" ∷ P ";" ∷ []) ∷ [])
+      (made 2 0 0 0 0)
+  pub double-word-kills :
+      cleans
+      (line (R "rax" ∷ P " = " ∷ S "f" ∷ P "();" ∷ []) ∷ line (R "eax" ∷ P " = " ∷ N "1" ∷ P ";" ∷ []) ∷ [])
+      (line (S "f" ∷ P "();" ∷ []) ∷ line (R "eax" ∷ P " = " ∷ N "1" ∷ P ";" ∷ []) ∷ [])
+      (made 2 0 0 0 1)
+
+pub telling : Telling
+unfolding opened
+telling = record { labels-frozen = (refl, refl); steps-back = (refl, refl); word-reads = (refl, refl); double-word-kills = (refl, refl) }

@@ -9,7 +9,11 @@ pub mod Shapes
 pub mod Life
 pub mod Join
 pub mod Run
+pub mod Tape
+pub mod Questions
+pub mod Reply
 pub mod Opened
 pub mod Examples
+pub mod TapeExamples
 pub mod Claim
 pub mod Demand

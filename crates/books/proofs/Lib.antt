@@ -1,0 +1,7 @@
+pub mod Entries
+pub mod Names
+pub mod Reading
+pub mod Grammar
+pub mod Agreement
+pub mod Differences
+pub mod Readings

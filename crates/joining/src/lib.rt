@@ -1,0 +1,1 @@
+// Laws and definitions only.

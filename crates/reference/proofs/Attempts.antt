@@ -1,0 +1,157 @@
+-- An attempt that succeeds: where it found its uses, and that it leaves its listing as `Removed` says. Assumes nothing.
+use Prim.Native.Nat.{ℕ, suc, _≤_, _<_}
+use native.Mathlib.Omega.{arith}
+use native.Mathlib.Nat.{le-refl}
+use mathlib.Core.Path.{_≡_, refl, sym, _∙_, subst}
+use mathlib.Core.Bool.{Bool, true, false}
+use mathlib.Core.List.{List, [], _∷_}
+use mathlib.Core.Option.{Option, some}
+use lib.ListN.{length, drop}
+use Rattle.reference.specs.Lists.{is-some, modify}
+use Rattle.reference.specs.Text.{Text}
+use Rattle.reference.specs.Listing.{Token, Listing, _at_}
+use Rattle.reference.specs.Rules.{Rules, volatile}
+use Rattle.reference.specs.Shapes.{is-label, call-at}
+use Rattle.reference.specs.Life.{Labels}
+use Rattle.reference.specs.Join.{Uses, ends-run, gather, substitute, rewrite-use, rewrite-uses, propagate-constant, use-from, replace-at, rewrite-one, join-at, join-one, lone-number, try-at}
+use Rattle.reference.specs.Claim.{calls-in}
+use Rattle.reference.proofs.Cases.{by-if, by-some, by-touch, neither, some-inj, none-some, if-some, unless-some, bind-some}
+use Rattle.reference.proofs.Shapes.{assigns}
+use Rattle.reference.proofs.Weights.{fold-merge-le, replaced-le, substitute-le}
+use Rattle.reference.proofs.Calls.{fold-merge-keeps, replaced-keeps, substitute-keeps, number-silent}
+use Rattle.reference.proofs.Lines.{at-modify, length-modify, drop-step}
+use Rattle.reference.proofs.Changes.{Changes, unchanged, changes-trans, changes-line, Assigns, Removed}
+
+-- ---- a lone number, to several uses
+
+-- lines from k on, in order, none of them a label
+abbrev Found : Listing → ℕ → List ℕ → Type 0
+Found lines k [] = Unit {0}
+Found lines k (j ∷ js) = (k ≤ j) × (j < length lines) × (is-label (lines at j) ≡ false) × Found lines (suc j) js
+
+found-earlier : (lines : Listing) (k : ℕ) (js : List ℕ) → Found lines (suc k) js → Found lines k js
+found-earlier lines k [] o = tt
+found-earlier lines k (j ∷ js) o = (omega (arith, o .0), o .1, o .2, o .3)
+
+module _ (lines : Listing) (base-indent : ℕ) (fam : Text) (volatile : List Text) where
+  gathered : (j : ℕ) (ls : Listing) (last : ℕ) → drop j lines ≡ ls → Found lines j ((gather base-indent fam volatile j ls last) .uses)
+  unfolding gather ends-run
+  gathered j [] last e = tt
+  gathered j (l ∷ rest) last e =
+      let d = drop-step j lines l rest e in
+      by-if (λ (u : Uses). Found lines j (u .uses))
+      (λ h. tt)
+      (λ h.
+      (let plain : is-label (lines at j) ≡ false = rw (d .0) (neither h .0) in
+      by-touch (λ (u : Uses). Found lines j (u .uses))
+      (λ t. by-if (λ (u : Uses). Found lines j (u .uses))
+      (λ o. tt)
+      (λ o. found-earlier lines j ((gather base-indent fam volatile (suc j) rest last) .uses) (gathered (suc j) rest last (d .1))))
+      (λ t. tt)
+      (λ n t. by-if (λ (u : Uses). Found lines j (u .uses))
+      (λ o. (le-refl j, d .2, plain, tt))
+      (λ o. (le-refl j, d .2, plain, gathered (suc j) rest j (d .1))))))
+
+module _ (fam : Text) (expr : List Token) (lone : lone-number expr ≡ true) where
+  found-later : (lines : Listing) (j k : ℕ) (js : List ℕ) → j < k → Found lines k js → Found (modify j (rewrite-use fam expr) lines) k js
+  found-later lines j k [] h o = tt
+  found-later lines j k (n ∷ js) h o =
+      let after : j < n = omega (arith, o .0) in (
+        o .0,
+        rw length-modify (o .1),
+        rw (at-modify (rewrite-use fam expr) n j lines (λ e. omega arith)) (o .2),
+        found-later lines j (suc n) js (omega arith) (o .3),
+      )
+
+  use-changes : (j : ℕ) (lines : Listing) → j < length lines → is-label (lines at j) ≡ false → Changes expr [] [] lines (modify j (rewrite-use fam expr) lines)
+  unfolding rewrite-use calls-in
+  use-changes j lines lt plain =
+      let ts = (lines at j) .tokens in
+      changes-line (rewrite-use fam expr) j lines lt plain refl
+      (λ w light. omega (arith, fold-merge-le w (substitute fam expr ts), substitute-le w fam expr (light lone) ts))
+      (λ c. omega (arith, fold-merge-keeps (substitute fam expr ts) .called c, substitute-keeps fam expr ts .called c))
+
+  uses-change : (k : ℕ) (js : List ℕ) (lines : Listing) → Found lines k js
+      → Changes expr [] [] lines (rewrite-uses fam expr js lines) × ((i : ℕ) → i < k → rewrite-uses fam expr js lines at i ≡ lines at i)
+  unfolding rewrite-uses
+  uses-change k [] lines o = (unchanged expr lines, λ i h. refl)
+  uses-change k (j ∷ js) lines o =
+      let later = uses-change (suc j) js (modify j (rewrite-use fam expr) lines) (found-later lines j (suc j) js (le-refl _) (o .3)) in
+      let here : k ≤ j = o .0 in (
+        changes-trans (use-changes j lines (o .1) (o .2)) (later .0),
+        λ i h. later .1 i (omega arith) ∙ at-modify (rewrite-use fam expr) i j lines (λ e. omega arith),
+      )
+
+-- ---- an expression, to one use
+
+module _ (lines : Listing) (base-indent : ℕ) (fam : Text) (expr : List Token) (is-call : Bool) (volatile : List Text) where
+  used : (j : ℕ) (ls : Listing) (k : ℕ) → drop j lines ≡ ls → use-from base-indent fam expr is-call volatile j ls ≡ some k
+      → (j ≤ k) × (k < length lines) × (is-label (lines at k) ≡ false)
+  unfolding use-from
+  used j [] k e u = absurd (none-some u)
+  used j (l ∷ rest) k e u =
+      let d = drop-step j lines l rest e in
+      let t = unless-some u in
+      by-touch (λ (o : Option ℕ). o ≡ some k → (j ≤ k) × (k < length lines) × (is-label (lines at k) ≡ false))
+      (λ n v. (let r = used (suc j) rest k (d .1) (if-some v .1) in (omega (arith, r .0), r .1, r .2)))
+      (λ n v. absurd (none-some v))
+      (λ m n v. subst (λ (n : ℕ). (j ≤ n) × (n < length lines) × (is-label (lines at n) ≡ false)) (some-inj (if-some v .1)) (le-refl j, d .2, rw (d .0) (t .0)))
+      (t .1)
+
+-- ---- the attempt
+
+module _ {lines : Listing} {i : ℕ} (s : Assigns lines i) (labels : Labels) (volatile : List Text) {lines′ : Listing} where
+  open Assigns s using (to, fam, assignment-is, family-is)
+
+  constant-removed : lone-number (to .expr) ≡ true → propagate-constant lines i (fam .name) (to .expr) labels volatile ≡ some lines′ → Removed lines i lines′
+  unfolding propagate-constant calls-in
+  constant-removed lone e =
+      let u = unless-some (unless-some e .1) in
+      let found = gather ((lines at i) .indent) (fam .name) volatile (suc i) (drop (suc i) lines) i in
+      let r = uses-change (fam .name) (to .expr) lone (suc i) (found .uses) lines (gathered lines ((lines at i) .indent) (fam .name) volatile (suc i) (drop (suc i) lines) i refl) in
+      record {
+        assigned = s;
+        between = rewrite-uses (fam .name) (to .expr) (found .uses) lines;
+        changes =
+            record {
+              places-same = r .0 .places-same;
+              labels-stay = r .0 .labels-stay;
+              weight-le = λ w h. omega (arith, r .0 .weight-le w h);
+              calls-ge = λ c. omega (arith, r .0 .calls-ge c, number-silent c (to .expr) lone);
+            };
+        line-same = r .1 i (le-refl _);
+        left = sym (some-inj (u .1));
+      }
+
+  join-removed : join-one lines i fam (to .expr) labels volatile ≡ some lines′ → Removed lines i lines′
+  unfolding join-one join-at rewrite-one
+  join-removed e =
+      let u = bind-some e in
+      let j : ℕ = u .0 in
+      let place = used lines ((lines at i) .indent) (fam .name) (to .expr) (is-some (call-at (lines at i))) volatile (suc i) (drop (suc i) lines) j refl (u .1) in
+      let p = bind-some (unless-some (u .2) .1) in
+      let pos : ℕ = p .0 in
+      let ts = (lines at j) .tokens in
+      let new = replace-at ts pos (to .expr) in
+      record {
+        assigned = s;
+        between = modify j (rewrite-one pos (to .expr)) lines;
+        changes =
+            changes-line (rewrite-one pos (to .expr)) j lines (place .1) (place .2) refl
+            (λ w h. omega (arith, fold-merge-le w new, replaced-le w (fam .name) ts pos (assigns ((lines at i) .tokens) to assignment-is) (p .1)))
+            (λ c. omega (arith, fold-merge-keeps new .called c, replaced-keeps (fam .name) ts (to .expr) pos (p .1) .called c));
+        line-same = at-modify (rewrite-one pos (to .expr)) i j lines (λ e. omega (arith, place .0));
+        left = sym (some-inj (if-some (p .2) .1));
+      }
+
+pub attempt-removed : (rules : Rules) (lines : Listing) (i : ℕ) (labels : Labels) (addressed : List Text) {lines′ : Listing}
+    → try-at rules lines i labels addressed ≡ some lines′ → Removed lines i lines′
+unfolding try-at
+attempt-removed rules lines i labels addressed {lines′} e =
+    let a = bind-some e in
+    let f = bind-some (a .2) in
+    let s : Assigns lines i = record { to = a .0; fam = f .0; assignment-is = a .1; family-is = f .1 } in
+    by-some (λ (o : Option Listing). o ≡ some lines′ → Removed lines i lines′)
+    (λ n u. join-removed s labels (volatile rules) u)
+    (λ l h u. (let c = if-some (h ∙ u) in constant-removed s labels (volatile rules) (c .0) (c .1)))
+    (unless-some (f .2) .1)

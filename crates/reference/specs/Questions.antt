@@ -1,0 +1,146 @@
+-- Document 01's questions, one by one, and the reading of a tape: the listing that it holds, or the number and place of the first question
+-- that is answered "no". Assumes nothing.
+use Prim.Native.Nat.{ℕ, zero, suc, pred, _+_}
+use mathlib.Core.Bool.{Bool, true, false}
+use mathlib.Core.List.{List, [], _∷_, _++_}
+use lib.Dec.{leb, ltb, eqb}
+use lib.ListN.{length, drop}
+use Rattle.reference.specs.Control.{not, _&&_, _||_, if_then_else_}
+use Rattle.reference.specs.Lists.{any, is-empty, modify}
+use Rattle.reference.specs.Listing.{is, Number, Listing, with-tokens}
+use Rattle.reference.specs.Rules.{Rules}
+use Rattle.reference.specs.Tape.{Command, new-line, new-token, end, command-size, command-of}
+
+-- what every work area has at least, and every output
+abbrev pub WORK : ℕ
+WORK = 65536
+
+abbrev pub OUTPUT : ℕ
+OUTPUT = 54785
+
+-- 1. Is the convention 0, 1 or 2?
+unfoldable pub is-convention : Rules → Bool
+is-convention rules = leb (rules .convention) 2
+
+-- 2. Are both work areas at least 65,536 bytes and the output at least 54,785?
+unfoldable pub has-room : ℕ → ℕ → ℕ → Bool
+has-room work-a work-b output = leb WORK work-a && leb WORK work-b && leb OUTPUT output
+
+-- Then for each command from the left: `rest` is the tape from its offset on, `c` the command there, `t` the totals of the commands before it.
+
+pub record Totals : Type 0 where
+  pub lines : ℕ
+  pub tokens : ℕ
+  pub text : ℕ
+
+-- 3. Is there a byte, and is it a command?
+unfoldable pub is-command : List ℕ → Bool
+is-command [] = false
+is-command (b ∷ rest) = eqb b 0x01 || eqb b 0x02 || (leb 0x10 b && leb b 0x17) || eqb b 0xFF
+
+-- 4. Do its operand and text end inside the tape?
+unfoldable pub ends-inside : List ℕ → Bool
+ends-inside rest = leb (command-size rest) (length rest)
+
+-- 5. If a token, has a line begun?
+unfoldable pub has-line : Totals → Command → Bool
+has-line t (new-line address indent) = true
+has-line t (new-token s) = leb 1 (t .lines)
+has-line t end = true
+
+-- 6. Is indent at most 63, are lines at most 256, tokens 1,024, all text 24,576 bytes, each text at least 1 byte, each N text at most 24?
+unfoldable pub is-within : Totals → Command → Bool
+is-within t (new-line address indent) = leb indent 63 && leb (t .lines + 1) 256
+is-within t (new-token s) =
+    leb (t .tokens + 1) 1024
+    && leb (t .text + length (s .text)) 24576
+    && leb 1 (length (s .text))
+    && (not (is Number s) || leb (length (s .text)) 24)
+is-within t end = true
+
+-- 7. Is each text byte 20 to 7E?
+unfoldable pub is-printable : Command → Bool
+is-printable (new-line address indent) = true
+is-printable (new-token s) = not (any (λ b. ltb b 0x20 || ltb 0x7E b) (s .text))
+is-printable end = true
+
+-- 8. After FF, is the tape over?
+unfoldable pub is-over : List ℕ → Command → Bool
+is-over rest (new-line address indent) = true
+is-over rest (new-token s) = true
+is-over rest end = is-empty (drop 1 rest)
+
+-- ---- asking
+
+-- the number and place of a question answered "no", or what is said where all are answered "yes"
+pub data Answer (A : Type 0) : Type 0 where
+  Refused : ℕ → ℕ → Answer A
+  Passed : A → Answer A
+
+module _ {A : Type 0} where
+  -- "Asked in order; the first "no" gives its number." Of two questions that would refuse one command the lower number is given: a token before
+  -- any line is 4 if it runs past the tape, otherwise 5, also with an empty text.
+  unfoldable pub ask : ℕ → List (ℕ × Bool) → Answer A → Answer A
+  ask place [] a = a
+  ask place (q ∷ more) a = let r = ask place more a in if q .1 then r else Refused (q .0) place
+
+  -- `let x = a?; k(x)`
+  infixr 1 let-passed_then_
+  unfoldable pub let-passed_then_ : {B : Type 0} → Answer B → (B → Answer A) → Answer A
+  let-passed (Refused number place) then k = Refused number place
+  let-passed (Passed b) then k = k b
+
+-- ---- one command
+
+-- the totals with one command more
+unfoldable pub count-in : Command → Totals → Totals
+count-in (new-line address indent) t = record { lines = t .lines + 1; tokens = t .tokens; text = t .text }
+count-in (new-token s) t = record { lines = t .lines; tokens = t .tokens + 1; text = t .text + length (s .text) }
+count-in end t = t
+
+-- a command, the offset after it, and the totals with it
+pub record Advance : Type 0 where
+  pub command : Command
+  pub next : ℕ
+  pub totals : Totals
+
+-- the command at an offset of a tape, the totals so far being t
+unfoldable pub read-command : List ℕ → ℕ → Totals → Answer Advance
+read-command tape at t =
+    let rest : List ℕ = drop at tape in
+    let c : Command = command-of rest in
+    ask at
+    ((3, is-command rest)
+    ∷ (4, ends-inside rest)
+    ∷ (5, has-line t c)
+    ∷ (6, is-within t c)
+    ∷ (7, is-printable c)
+    ∷ (8, is-over rest c)
+    ∷ [])
+    (Passed (record { command = c; next = at + command-size rest; totals = count-in c t }))
+
+-- ---- the whole tape
+
+abbrev pub is-end : Command → Bool
+is-end (new-line address indent) = false
+is-end (new-token s) = false
+is-end end = true
+
+-- the listing with one command more
+unfoldable pub add : Command → Listing → Listing
+add (new-line address indent) lines = lines ++ (record { address = address; indent = indent; tokens = [] } ∷ [])
+add (new-token t) lines = modify (pred (length lines)) (λ l. with-tokens (l .tokens ++ (t ∷ [])) l) lines
+add end lines = lines
+
+-- the commands from an offset on, after those that made `lines`. `fuel` bounds them: a command has a byte or more, so where as much fuel as the
+-- tape has bytes left is used up, there is no byte.
+unfoldable pub read-from : ℕ → List ℕ → ℕ → Totals → Listing → Answer Listing
+read-from zero tape at t lines = Refused 3 at
+read-from (suc fuel) tape at t lines =
+    let-passed (read-command tape at t) then λ a.
+    let more : Answer Listing = read-from fuel tape (a .next) (a .totals) (add (a .command) lines) in
+    if is-end (a .command) then Passed lines else more
+
+-- the listing of an accepted tape
+unfoldable pub read : List ℕ → Answer Listing
+read tape = read-from (length tape) tape 0 (record { lines = 0; tokens = 0; text = 0 }) []

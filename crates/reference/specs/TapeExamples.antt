@@ -1,0 +1,102 @@
+-- Document 01's examples of tapes, and one of each refusal, as one statement. Assumes nothing.
+use Prim.Native.Nat.{ℕ}
+use Prim.Native.String.{String}
+use mathlib.Core.Path.{_≡_, refl}
+use mathlib.Core.List.{List, [], _∷_, _++_, flatMap}
+use mathlib.Core.Option.{none, some}
+use lib.ListN.{replicate}
+use Rattle.reference.specs.Control.{let-some_else_then_}
+use Rattle.reference.specs.Text.{Text, bytes}
+use Rattle.reference.specs.Numbers.{unsigned}
+use Rattle.reference.specs.Run.{Counts}
+use Rattle.reference.specs.Questions.{WORK, OUTPUT, Refused, Passed, read}
+use Rattle.reference.specs.Reply.{Reply, reply, output-after, work-after, report}
+use Rattle.reference.specs.Opened.{opened}
+
+-- bytes as the document writes them: `hex (bytes "02 3F")` is 2 ∷ 63 ∷ []
+abbrev hex : Text → List ℕ
+hex [] = []
+hex (a ∷ []) = []
+hex (a ∷ b ∷ []) = (let-some (unsigned 16 (a ∷ b ∷ [])) else 0 then λ v. v) ∷ []
+hex (a ∷ b ∷ space ∷ more) = (let-some (unsigned 16 (a ∷ b ∷ [])) else 0 then λ v. v) ∷ hex more
+
+abbrev tape : String → List ℕ
+tape s = hex (bytes s)
+
+-- convention 1, and just enough room
+abbrev gives : List ℕ → List ℕ → Counts → Type 0
+gives before after c = reply (record { convention = 1 }) before WORK WORK OUTPUT ≡ Passed (record { tape = after; counts = c })
+
+abbrev refuses : List ℕ → ℕ → ℕ → Type 0
+refuses t number place = reply (record { convention = 1 }) t WORK WORK OUTPUT ≡ Refused number place
+
+abbrev blank-lines : ℕ → List ℕ
+blank-lines n = flatMap (λ b. 0x02 ∷ b ∷ []) (replicate n 0) ++ (0xFF ∷ [])
+
+abbrev done : Reply
+done =
+    Passed (record { tape = 1 ∷ 0xFF ∷ []; counts = record { attempts₁ = 3; attempts₂ = 4; attempts₃ = 5; lines-removed = 6; results-cut = 7 } })
+
+pub record TapeExamples : Type 0 where
+  pub cut :
+      gives
+      (tape "02 00 11 03 00 72 61 78 16 03 00 20 3D 20 14 01 00 66 16 03 00 28 29 3B 02 00 13 06 00 72 65 74 75 72 6E 16 01 00 3B FF")
+      (tape "02 00 14 01 00 66 16 03 00 28 29 3B 02 00 13 06 00 72 65 74 75 72 6E 16 01 00 3B FF")
+      (record { attempts₁ = 2; attempts₂ = 0; attempts₃ = 0; lines-removed = 0; results-cut = 1 })
+  pub end-alone : gives (tape "FF") (tape "FF") (record { attempts₁ = 0; attempts₂ = 0; attempts₃ = 0; lines-removed = 0; results-cut = 0 })
+  pub address :
+      read (tape "01 01 02 00 00 00 00 00 80 3F FF") ≡ Passed (record { address = some 9223372036854776321; indent = 63; tokens = [] } ∷ [])
+  pub convention : reply (record { convention = 3 }) [] 0 0 0 ≡ Refused 1 0
+  pub work : reply (record { convention = 2 }) [] 65536 65535 54785 ≡ Refused 2 0
+  pub output : reply (record { convention = 0 }) [] 65536 65536 54784 ≡ Refused 2 0
+  pub empty : refuses [] 3 0
+  pub no-end : refuses (tape "02 00") 3 2
+  pub no-command : refuses (tape "02 00 18 01 00 66 FF") 3 2
+  pub short-operand : refuses (tape "01 00 00 00 00 00 00 00 00") 4 0
+  pub short-text : refuses (tape "02 00 10 02 00 66") 4 2
+  pub short-before-line : refuses (tape "10 02 00 66") 4 0
+  pub before-line : refuses (tape "10 00 00 FF") 5 0
+  pub indent : refuses (tape "02 40 FF") 6 0
+  pub no-text : refuses (tape "02 00 10 00 00 FF") 6 2
+  pub long-number : refuses (tape "02 00 12 19 00" ++ replicate 25 0x30 ++ tape "FF") 6 2
+  pub unprintable : refuses (tape "02 00 10 02 00 66 7F FF") 7 2
+  pub after-end : refuses (tape "02 00 FF 00") 8 2
+  pub many-lines : read (blank-lines 256) ≡ Passed (replicate 256 (record { address = none; indent = 0; tokens = [] }))
+  pub too-many-lines : refuses (blank-lines 257) 6 512
+  pub untouched : (output-after (Refused 3 0) (7 ∷ []) ≡ 7 ∷ []) × (work-after (Refused 3 0) (7 ∷ []) ≡ 7 ∷ [])
+  pub written : output-after done (7 ∷ 8 ∷ 9 ∷ []) ≡ 1 ∷ 0xFF ∷ 9 ∷ []
+  pub zeroed : work-after done (replicate 65538 7) ≡ replicate 65536 0 ++ (7 ∷ 7 ∷ [])
+  pub refusal :
+      report (Refused 3 4) ≡ record { refusal = 3; place = 4; length = 0; attempts₁ = 0; attempts₂ = 0; attempts₃ = 0; removed = 0; cut = 0 }
+  pub counts : report done ≡ record { refusal = 0; place = 0; length = 2; attempts₁ = 3; attempts₂ = 4; attempts₃ = 5; removed = 6; cut = 7 }
+
+pub tape-examples : TapeExamples
+unfolding opened
+tape-examples =
+    record {
+      cut = refl;
+      end-alone = refl;
+      address = refl;
+      convention = refl;
+      work = refl;
+      output = refl;
+      empty = refl;
+      no-end = refl;
+      no-command = refl;
+      short-operand = refl;
+      short-text = refl;
+      short-before-line = refl;
+      before-line = refl;
+      indent = refl;
+      no-text = refl;
+      long-number = refl;
+      unprintable = refl;
+      after-end = refl;
+      many-lines = refl;
+      too-many-lines = refl;
+      untouched = (refl, refl);
+      written = refl;
+      zeroed = refl;
+      refusal = refl;
+      counts = refl;
+    }
