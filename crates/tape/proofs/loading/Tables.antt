@@ -10,16 +10,16 @@ use lib.ListN.{length, take, drop, getD, set, length-drop, length-append}
 use lib.Seq.{take-suc, take-suc-set, take-set-le, take-all, take-take, drop-append-le, length-take-le, getD-set-same, getD-set-other, getD-take}
 use Rattle.reference.specs.Control.{if_then_else_}
 use Rattle.reference.specs.Text.{Text}
-use Rattle.reference.specs.Listing.{Token, token, Line, Listing, with-tokens}
+use Rattle.reference.specs.Listing.{Token, token, Listing, with-tokens}
 use Rattle.reference.specs.Tape.{new-line, new-token}
 use Rattle.reference.specs.Questions as Q
 use Rattle.reference.proofs.Writing.{with-token, add-last}
 use Rattle.laws.proofs.Parts.{part-below}
-use Rattle.lines.specs.Words.{word, token-of, tokens-of, source, Holds}
-use Rattle.lines.specs.Lines.{first-of, count-of, indent-of, addressed-of, origin-of, line-word, with-part, part-of, address-in, line-in, listing-of, Listed}
+use Rattle.lines.specs.Words.{word, token-of, tokens-of, Holds}
+use Rattle.lines.specs.Lines.{first-of, count-of, indent-of, addressed-of, origin-of, with-part, part-of, address-in, line-in, listing-of}
 use Rattle.lines.proofs.words.Each.{Each, each-none, each-one, each-take, each-append, map-same}
 use Rattle.lines.proofs.words.Tokens.{word-means, word-points, in-tape, holds-none, holds-snoc}
-use Rattle.lines.proofs.words.Lines.{first-below, indent-below, addressed-below, origin-below, word-first, word-count, word-origin, line-word-means, with-first, with-count, with-means, lined-of}
+use Rattle.lines.proofs.words.Lines.{first-below, indent-below, addressed-below, origin-below, word-first, word-count, word-origin, line-word-means, with-first, with-count, with-means}
 use Rattle.tape.specs.Commands.{command-in, size-of}
 use Rattle.tape.specs.Questions.{totals-of, counted}
 use Rattle.tape.specs.Tables.{begun, longer, lengthened, tokens-after, lines-after, addresses-after, Adds, Room}

@@ -1,5 +1,4 @@
 -- `tape::commands::plain_from` meets its contract. Assumes nothing.
-use native.Mathlib.Omega.{arith}
 use Rattle.tape.proofs.commands.Standing.{plain-cut, plain-whole}
 use borrow.Author.Needs.{needs}
 use Rattle.tape.proofs.commands.plain_from.Statement.{statement}
