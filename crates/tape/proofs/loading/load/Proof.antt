@@ -56,25 +56,29 @@ add-requires : tie.Need-add-requires Inv-loop μ-loop
 add-requires c κs = let u = turn (c .before .before .before .before .before) in (turn-room u, turn-adds u)
 
 size-of-requires : tie.Need-size-of-requires Inv-loop μ-loop
-size-of-requires c κs = omega (arith, turn-moves (turn (c .before .before .before .before .before .before .before .before .before .before .before .before)), c .before .before .before .before .before .before .before .before .before .before .before .before .before .before .before .before .before .before .good)
+size-of-requires c κs = let p = (c .before .before .before .before .before .before .before .before .before .before .before .before) in
+    let s = p .before .before .before .before .before .before in
+    omega (arith, turn-moves (turn p), s .good)
 
 add-at : tie.Need-add-at Inv-loop μ-loop
-add-at c = omega
-    (arith, turn-moves (turn (c .before .before .before .before .before .before .before .before .before .before .before .before .before)), c .size-of .ensures, c .before .before .before .before .before .before .before .before .before .before .before .before .before .before .before .before .before .before .before .good)
+add-at c = let p = (c .before .before .before .before .before .before .before .before .before .before .before .before .before) in
+    let s = p .before .before .before .before .before .before in
+    omega (arith, turn-moves (turn p), c .size-of .ensures, s .good)
 
 count-in-requires : tie.Need-count-in-requires Inv-loop μ-loop
 count-in-requires c κs = turn-counts (turn (c .before .before .before .before .before .before .before .before .before .before .before .before .before))
 
 loop-less : tie.Need-loop-less Inv-loop μ-loop
-loop-less c = omega
-    (arith, turn-moves (turn (c .before .before .before .before .before .before .before .before .before .before .before .before .before .before)), c .before .size-of .ensures)
+loop-less c = let p = (c .before .before .before .before .before .before .before .before .before .before .before .before .before .before) in
+    omega (arith, turn-moves (turn p), c .before .size-of .ensures)
 
 loop-again : tie.Need-loop-again Inv-loop μ-loop
 loop-again c = let p = (c .before .before .before .before .before .before .before .before .before .before .before .before .before .before) in
     let inv = p .before .loop .inv in
+    let ended = c .before .before .before .before .before .before .before .before .before .before .before .before .before .is-end .ensures in
+    let goes = c .before .before .before .before .before .before .before .before .before .before .before .before .if1 .left in
     let a = c .before .before .before .before .before .before .before .before .add in (
-      rw (c .before .size-of .ensures)
-          (turn-more (turn p) (sym (c .before .before .before .before .before .before .before .before .before .before .before .before .before .is-end .ensures) ∙ c .before .before .before .before .before .before .before .before .before .before .before .before .if1 .left) (a .ensures) (c .count-in .ensures)),
+      rw (c .before .size-of .ensures) (turn-more (turn p) (sym ended ∙ goes) (a .ensures) (c .count-in .ensures)),
       a .kept .1 .1 .0 ∙ inv .1,
       a .kept .1 .1 .1 .0 ∙ inv .2,
       a .kept .1 .1 .1 .1 .0 ∙ inv .3,

@@ -4,7 +4,6 @@ use native.Mathlib.Omega.{arith}
 use borrow.Author.Tests.{le-leb, lt-leb}
 use Rattle.reference.specs.Control.{_&&_}
 use Rattle.reference.specs.Questions.{is-within}
-use borrow.Author.Needs.{needs}
 use Rattle.tape.proofs.questions.line_fits.Statement.{statement}
 use Rattle.tape.proofs.questions.line_fits.Tie as tie
 

@@ -9,7 +9,6 @@ use borrow.Author.Tests.{le-leb, lt-leb, eq-eqb, ne-eqb}
 use Rattle.reference.specs.Control.{not, _&&_, _||_}
 use Rattle.reference.specs.Listing.{is}
 use Rattle.reference.specs.Questions.{is-within}
-use borrow.Author.Needs.{needs}
 use Rattle.tape.proofs.questions.token_fits.Statement.{statement}
 use Rattle.tape.proofs.questions.token_fits.Tie as tie
 

@@ -1,8 +1,8 @@
 -- `tape::writing::put_line` meets its contract. Assumes nothing.
-use mathlib.Core.Path.{sym, ap, _∙_}
+use mathlib.Core.Path.{_≡_, sym, ap, _∙_}
 use native.Mathlib.Omega.{arith}
 use lib.ListN.{length, getD}
-use Rattle.lines.specs.Lines.{indent-of, origin-of}
+use Rattle.lines.specs.Lines.{indent-of, addressed-of, origin-of}
 use Rattle.lines.proofs.words.Lines.{indent-below, origin-below}
 use Rattle.tape.proofs.writing.Putting.{addressed-bytes, plain-bytes, addressed-size, plain-size}
 use borrow.Author.Needs.{needs}
@@ -28,15 +28,17 @@ put-addressed-requires : tie.Need-put-addressed-requires
 put-addressed-requires c κs = let s = c .before .before .before .before .before .before .before .before in
     let l = s .args .l in
     let addresses = s .args .addresses .now in
-    let e = ap length (addressed-bytes addresses l (sym (c .before .before .before .before .before .addressed .ensures) ∙ c .before .before .before .before .if1 .taken)) in
-    omega (arith, s .pre, c .before .indent .ensures, indent-below l, addressed-size (getD addresses (origin-of l) 0) (indent-of l))
+    let one = sym (c .before .before .before .before .before .addressed .ensures) ∙ c .before .before .before .before .if1 .taken in
+    let size = ap length (addressed-bytes addresses l one) ∙ addressed-size (getD addresses (origin-of l) 0) (indent-of l) in
+    omega (arith, s .pre, c .before .indent .ensures, indent-below l)
 
 same-length : tie.Need-same-length
 same-length c = search needs
 
 returns : tie.Need-returns
 returns c = let a = c .before .before .before .before .before .before .before .before .before .before .before .args in
-    let e = addressed-bytes (a .addresses .now) (a .l) (sym (c .before .before .before .before .before .before .before .before .addressed .ensures) ∙ c .before .before .before .before .before .before .before .if1 .taken) in
+    let one = sym (c .before .before .before .before .before .before .before .before .addressed .ensures) ∙ c .before .before .before .before .before .before .before .if1 .taken in
+    let e = addressed-bytes (a .addresses .now) (a .l) one in
     rw (e, ← c .before .before .before .before .before .before .origin .ensures, ← c .before .before .before .before .indent .ensures) (c .before .before .put-addressed .ensures)
 
 indent-requires-2 : tie.Need-indent-requires-2
@@ -45,8 +47,9 @@ indent-requires-2 c κs = search needs
 put-plain-requires : tie.Need-put-plain-requires
 put-plain-requires c κs = let s = c .before .before .before .before .before .before in
     let l = s .args .l in
-    let e = ap length (plain-bytes (s .args .addresses .now) l (λ e. c .before .before .if1 .left (c .before .before .before .addressed .ensures ∙ e))) in
-    omega (arith, s .pre, c .before .indent2 .ensures, indent-below l, plain-size (indent-of l))
+    let none : addressed-of l ≡ 1 → ⊥ = λ e. c .before .before .if1 .left (c .before .before .before .addressed .ensures ∙ e) in
+    let size = ap length (plain-bytes (s .args .addresses .now) l none) ∙ plain-size (indent-of l) in
+    omega (arith, s .pre, c .before .indent2 .ensures, indent-below l)
 
 same-length-2 : tie.Need-same-length-2
 same-length-2 c = search needs
