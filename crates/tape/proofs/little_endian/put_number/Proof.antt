@@ -12,7 +12,8 @@ use Rattle.tape.proofs.little_endian.put_number.Statement.{statement}
 use Rattle.tape.proofs.little_endian.put_number.Tie as tie
 
 abbrev Inv-loop : tie.InvT-loop
-Inv-loop v n out₀ at rest₀ i₀ out rest i = (i ≤ n) × (put out (at + i) (to-le-bytes (n - i) rest) ≡ put out₀ at (to-le-bytes n v)) × (length out ≡ length out₀)
+Inv-loop v n out₀ at rest₀ i₀ out rest i =
+    (i ≤ n) × (put out (at + i) (to-le-bytes (n - i) rest) ≡ put out₀ at (to-le-bytes n v)) × (length out ≡ length out₀)
 
 abbrev μ-loop : tie.MeasureT-loop
 μ-loop v n out₀ at rest₀ i₀ out rest i = n - i

@@ -11,7 +11,8 @@ use Rattle.tape.proofs.loading.load.Statement.{statement}
 use Rattle.tape.proofs.loading.load.Tie as tie
 
 abbrev Inv-loop : tie.InvT-loop
-Inv-loop tape tokens₀ lines₀ addresses₀ at₀ totals₀ tokens lines addresses at totals = Filled tape tokens lines addresses at totals × (length tokens ≡ length tokens₀) × (length lines ≡ length lines₀) × (length addresses ≡ length addresses₀)
+Inv-loop tape tokens₀ lines₀ addresses₀ at₀ totals₀ tokens lines addresses at totals =
+    Filled tape tokens lines addresses at totals × (length tokens ≡ length tokens₀) × (length lines ≡ length lines₀) × (length addresses ≡ length addresses₀)
 
 abbrev μ-loop : tie.MeasureT-loop
 μ-loop tape tokens₀ lines₀ addresses₀ at₀ totals₀ tokens lines addresses at totals = length tape - at
@@ -56,12 +57,12 @@ add-requires : tie.Need-add-requires Inv-loop μ-loop
 add-requires c κs = let u = turn (c .before .before .before .before .before) in (turn-room u, turn-adds u)
 
 size-of-requires : tie.Need-size-of-requires Inv-loop μ-loop
-size-of-requires c κs = let p = (c .before .before .before .before .before .before .before .before .before .before .before .before) in
+size-of-requires c κs = let p = c .before .before .before .before .before .before .before .before .before .before .before .before in
     let s = p .before .before .before .before .before .before in
     omega (arith, turn-moves (turn p), s .good)
 
 add-at : tie.Need-add-at Inv-loop μ-loop
-add-at c = let p = (c .before .before .before .before .before .before .before .before .before .before .before .before .before) in
+add-at c = let p = c .before .before .before .before .before .before .before .before .before .before .before .before .before in
     let s = p .before .before .before .before .before .before in
     omega (arith, turn-moves (turn p), c .size-of .ensures, s .good)
 
@@ -69,11 +70,11 @@ count-in-requires : tie.Need-count-in-requires Inv-loop μ-loop
 count-in-requires c κs = turn-counts (turn (c .before .before .before .before .before .before .before .before .before .before .before .before .before))
 
 loop-less : tie.Need-loop-less Inv-loop μ-loop
-loop-less c = let p = (c .before .before .before .before .before .before .before .before .before .before .before .before .before .before) in
+loop-less c = let p = c .before .before .before .before .before .before .before .before .before .before .before .before .before .before in
     omega (arith, turn-moves (turn p), c .before .size-of .ensures)
 
 loop-again : tie.Need-loop-again Inv-loop μ-loop
-loop-again c = let p = (c .before .before .before .before .before .before .before .before .before .before .before .before .before .before) in
+loop-again c = let p = c .before .before .before .before .before .before .before .before .before .before .before .before .before .before in
     let inv = p .before .loop .inv in
     let ended = c .before .before .before .before .before .before .before .before .before .before .before .before .before .is-end .ensures in
     let goes = c .before .before .before .before .before .before .before .before .before .before .before .before .if1 .left in

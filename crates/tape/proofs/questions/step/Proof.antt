@@ -39,7 +39,7 @@ add-t10 c = omega
 
 count-in-requires : tie.Need-count-in-requires
 count-in-requires c κs = let a = c .before .before .before .before .before .before .before .before .args in
-    let p = (c .before .before .before .before) in
+    let p = c .before .before .before .before in
     let none = c .before .if1 .left in
     let yes = all-yes (a .tape .now) (a .at) (totals-of (a .totals)) (p .command .given .0 .0) none (c .before .before .refusal .ensures) in
     within-counts (a .tape .now) (a .at) (a .totals) (here p) (yes .1 .0)
