@@ -1,4 +1,6 @@
+-- What the code's values mean: token words, line words and listings, settings, answers on shapes, families.
 pub mod Words
 pub mod Lines
 pub mod Rules
 pub mod Shapes
+pub mod Fams

@@ -7,7 +7,6 @@ ghost use Prim.Native.Nat.{_+_, _≤_, _<_};
 ghost use lib.ListN.{length, getD};
 ghost use Rattle.reference.specs.Lists.{position, is-some};
 ghost use Rattle.reference.specs.Text.{Text, bytes};
-ghost use Rattle.reference.specs.Listing.{is, Symbol};
 ghost use Rattle.reference.specs.Shapes.{label-tokens, is-kw, kw-in, has-brace, braces-in, calls-here, call-in, begins-assignment, is-written, is-operator, is-operator-expr};
 ghost use Rattle.reference.specs.Join.{lone-number};
 ghost use Rattle.lines.specs.Words.{start-of, len-of, token-of, tokens-of, Points, Holds};

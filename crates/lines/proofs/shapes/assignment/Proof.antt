@@ -1,51 +1,40 @@
+-- `lines::shapes::assignment` meets its contract. Assumes nothing.
+use borrow.Author.Tests.{not-false}
 use borrow.Author.Needs.{needs}
+use Rattle.lines.proofs.words.Tokens.{holds-at}
+use Rattle.lines.proofs.shapes.Sides.{sides, opens}
 use Rattle.lines.proofs.shapes.assignment.Statement.{statement}
 use Rattle.lines.proofs.shapes.assignment.Tie as tie
-use Rattle.lines.proofs.shapes.assignment.Reads as reads
-use Rattle.lines.proofs.shapes.assignment.Lts as lts
-use Rattle.lines.proofs.shapes.begins_assignment.Reads as begins-assignment-reads
-use Rattle.lines.proofs.shapes.right_side.Reads as right-side-reads
-use Rattle.lines.proofs.words.len.Reads as len-reads
 
--- src/shapes.rt:293:9
 returns : tie.Need-returns
-returns c = ?
+returns c = search (needs, sides)
 
--- src/shapes.rt:295:14
 shared-slice-read-eq : tie.Need-shared-slice-read-eq
 shared-slice-read-eq c = search needs
 
--- src/shapes.rt:296:39
 shared-slice-read-begins-assignment : tie.Need-shared-slice-read-begins-assignment
 shared-slice-read-begins-assignment c = search needs
 
--- src/shapes.rt:296:9
 begins-assignment-requires : tie.Need-begins-assignment-requires
-begins-assignment-requires c κs = ?
+begins-assignment-requires c κs = search (needs, holds-at)
 
--- src/shapes.rt:297:9
 returns-2 : tie.Need-returns-2
-returns-2 c = ?
+returns-2 c = search (needs, sides)
 
--- src/shapes.rt:299:8
 len-requires : tie.Need-len-requires
 len-requires c κs = search needs
 
--- src/shapes.rt:300:9
 right-side-requires : tie.Need-right-side-requires
-right-side-requires c κs = search needs
+right-side-requires c κs = (opens (search needs) (search needs) (c .before .before .before .begins-assignment .ensures) (not-false _ (c .before .before .if2 .left)), search needs, search needs)
 
--- src/shapes.rt:300:9
 returns-3 : tie.Need-returns-3
-returns-3 c = ?
+returns-3 c = search (needs, sides)
 
--- src/shapes.rt:302:5
 right-side-requires-2 : tie.Need-right-side-requires-2
-right-side-requires-2 c κs = ?
+right-side-requires-2 c κs = (opens (search needs) (search needs) (c .before .before .before .begins-assignment .ensures) (not-false _ (c .before .before .if2 .left)), search needs, search needs)
 
--- src/shapes.rt:288:1
 returns-4 : tie.Need-returns-4
-returns-4 c = ?
+returns-4 c = search (needs, sides)
 
 pub assignment-spec : {M : Type 1} → statement M
 assignment-spec =

@@ -1,67 +1,64 @@
+-- `lines::shapes::call_at` meets its contract. Assumes nothing.
+use Prim.Native.Nat.{_+_, _-_, _≤_}
+use mathlib.Core.Path.{_≡_}
+use lib.ListN.{length, drop}
 use borrow.Author.Needs.{needs}
+use Rattle.reference.specs.Lists.{position, windows}
+use Rattle.reference.specs.Shapes.{calls-here, call-in}
+use Rattle.laws.proofs.Scans.{from}
+use Rattle.lines.specs.Words.{tokens-of}
+use Rattle.lines.proofs.shapes.Places.{pairs}
 use Rattle.lines.proofs.shapes.call_at.Statement.{statement}
 use Rattle.lines.proofs.shapes.call_at.Tie as tie
-use Rattle.lines.proofs.shapes.call_at.Reads as reads
-use Rattle.lines.proofs.shapes.call_at.Lts as lts
-use Rattle.lines.proofs.shapes.is_call_mark.Reads as is-call-mark-reads
 
 abbrev Inv-loop : tie.InvT-loop
-Inv-loop tape area line k₀ k = ?
+Inv-loop tape area line k₀ k = (k ≤ length line) × (call-in (tokens-of tape area line) ≡ from k (position calls-here (drop k (windows (tokens-of tape area line)))))
 
 abbrev μ-loop : tie.MeasureT-loop
-μ-loop tape area line k₀ k = ?
+μ-loop tape area line k₀ k = length line - k
 
--- src/shapes.rt:182:5
 loop-holds : tie.Need-loop-holds Inv-loop μ-loop
-loop-holds c = search needs
+unfolding call-in
+loop-holds c = search (needs, pairs)
 
--- src/shapes.rt:182:11
 add-loop : tie.Need-add-loop Inv-loop μ-loop
 add-loop c = search needs
 
--- src/shapes.rt:183:37
 mul-is-call-mark : tie.Need-mul-is-call-mark Inv-loop μ-loop
 mul-is-call-mark c = search needs
 
--- src/shapes.rt:183:37
 shared-slice-read-is-call-mark : tie.Need-shared-slice-read-is-call-mark Inv-loop μ-loop
 shared-slice-read-is-call-mark c = search needs
 
--- src/shapes.rt:183:51
 add-is-call-mark : tie.Need-add-is-call-mark Inv-loop μ-loop
 add-is-call-mark c = search needs
 
--- src/shapes.rt:183:46
 mul-is-call-mark-2 : tie.Need-mul-is-call-mark-2 Inv-loop μ-loop
 mul-is-call-mark-2 c = search needs
 
--- src/shapes.rt:183:46
 shared-slice-read-is-call-mark-2 : tie.Need-shared-slice-read-is-call-mark-2 Inv-loop μ-loop
 shared-slice-read-is-call-mark-2 c = search needs
 
--- src/shapes.rt:183:12
 is-call-mark-requires : tie.Need-is-call-mark-requires Inv-loop μ-loop
-is-call-mark-requires c κs = search needs
+is-call-mark-requires c κs = let h = c .before .before .before .before .before .before .before .pre in let k = c .before .before .before .loop .k in (h .at k (search needs), h .at (k + 1) (search needs))
 
--- src/shapes.rt:184:13
 returns : tie.Need-returns Inv-loop μ-loop
-returns c = search needs
+unfolding call-in
+returns c = search (needs, pairs)
 
--- src/shapes.rt:186:9
 add-k : tie.Need-add-k Inv-loop μ-loop
 add-k c = search needs
 
--- src/shapes.rt:182:5
 loop-less : tie.Need-loop-less Inv-loop μ-loop
 loop-less c = search needs
 
--- src/shapes.rt:182:5
 loop-again : tie.Need-loop-again Inv-loop μ-loop
-loop-again c = search needs
+unfolding call-in
+loop-again c = (search needs, search (needs, pairs))
 
--- src/shapes.rt:177:1
 returns-2 : tie.Need-returns-2 Inv-loop μ-loop
-returns-2 c = search needs
+unfolding call-in
+returns-2 c = search (needs, pairs)
 
 pub call-at-spec : {M : Type 1} → statement M
 call-at-spec =

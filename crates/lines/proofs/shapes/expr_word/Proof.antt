@@ -1,38 +1,32 @@
+-- `lines::shapes::expr_word` meets its contract. Assumes nothing.
+use native.Mathlib.Omega.{arith}
+use mathlib.Core.Path.{_∙_, ap}
 use borrow.Author.Needs.{needs}
+use Rattle.lines.specs.Words.{without-last}
+use Rattle.lines.proofs.shapes.Right.{last-long, at-cut, at-before, at-whole}
 use Rattle.lines.proofs.shapes.expr_word.Statement.{statement}
 use Rattle.lines.proofs.shapes.expr_word.Tie as tie
-use Rattle.lines.proofs.shapes.expr_word.Reads as reads
-use Rattle.lines.proofs.shapes.expr_word.Lts as lts
-use Rattle.lines.proofs.shapes.right_word.Reads as right-word-reads
-use Rattle.lines.proofs.words.without_last.Reads as without-last-reads
 
--- src/shapes.rt:234:30
 add-right-word : tie.Need-add-right-word
 add-right-word c = search needs
 
--- src/shapes.rt:234:9
 right-word-requires : tie.Need-right-word-requires
 right-word-requires c κs = search needs
 
--- src/shapes.rt:236:12
 add-if2 : tie.Need-add-if2
 add-if2 c = search needs
 
--- src/shapes.rt:237:13
 without-last-requires : tie.Need-without-last-requires
-without-last-requires c κs = ?
+without-last-requires c κs = let s = c .before .before .before .before .before .before in rw (c .before .before .before .right-word .ensures) (last-long (s .pre .0) (s .args .k) (c .before .before .if1 .taken) (c .if2 .taken))
 
--- src/shapes.rt:237:13
 returns : tie.Need-returns
-returns c = ?
+returns c = let s = c .before .before .before .before .before .before .before in c .without-last .ensures ∙ ap without-last (c .before .before .before .before .right-word .ensures) ∙ at-cut (s .pre .0) (s .args .k) (c .before .before .before .if1 .taken) (c .before .if2 .taken)
 
--- src/shapes.rt:230:1
 returns-2 : tie.Need-returns-2
-returns-2 c = ?
+returns-2 c = let s = c .before .before .before .before .before .before in c .before .before .before .right-word .ensures ∙ at-before (s .pre .0) (s .args .k) (c .before .before .if1 .taken) (omega (arith, s .pre .1, c .if2 .left))
 
--- src/shapes.rt:230:1
 returns-3 : tie.Need-returns-3
-returns-3 c = ?
+returns-3 c = let s = c .before .before .before .before in c .before .right-word .ensures ∙ at-whole (s .pre .0) (s .args .k) (c .if1 .left) (search needs)
 
 pub expr-word-spec : {M : Type 1} → statement M
 expr-word-spec =

@@ -1,40 +1,35 @@
+-- `lines::shapes::is_call_mark` meets its contract. Assumes nothing.
 use borrow.Author.Needs.{needs}
+use Rattle.reference.specs.Shapes.{calls-here}
+use Rattle.laws.proofs.Scans.{tests}
+use Rattle.lines.specs.Shapes.{is-called}
+use Rattle.lines.proofs.shapes.Tests.{kinds}
 use Rattle.lines.proofs.shapes.is_call_mark.Statement.{statement}
 use Rattle.lines.proofs.shapes.is_call_mark.Tie as tie
-use Rattle.lines.proofs.shapes.is_call_mark.Reads as reads
-use Rattle.lines.proofs.shapes.is_call_mark.Lts as lts
-use Rattle.lines.proofs.shapes.is_called.Reads as is-called-reads
-use Rattle.lines.proofs.words.kind.Reads as kind-reads
-use Rattle.lines.proofs.words.text.Reads as text-reads
-use Rattle.text.proofs.begins_void.Reads as begins-void-reads
 
--- src/shapes.rt:167:8
 is-called-requires : tie.Need-is-called-requires
 is-called-requires c κs = search needs
 
--- src/shapes.rt:168:9
 returns : tie.Need-returns
-returns c = ?
+unfolding calls-here is-called
+returns c = search (needs, tests)
 
--- src/shapes.rt:170:8
 kind-requires : tie.Need-kind-requires
 kind-requires c κs = search needs
 
--- src/shapes.rt:171:9
 returns-2 : tie.Need-returns-2
-returns-2 c = ?
+unfolding calls-here is-called
+returns-2 c = search (needs, tests, kinds)
 
--- src/shapes.rt:173:23
 text-requires : tie.Need-text-requires
 text-requires c κs = search needs
 
--- src/shapes.rt:173:5
 begins-void-requires : tie.Need-begins-void-requires
 begins-void-requires c κs = search needs
 
--- src/shapes.rt:163:1
 returns-3 : tie.Need-returns-3
-returns-3 c = ?
+unfolding calls-here is-called
+returns-3 c = search (needs, tests, kinds, ← c .before .text .ensures)
 
 pub is-call-mark-spec : {M : Type 1} → statement M
 is-call-mark-spec =

@@ -1,43 +1,35 @@
+-- `lines::shapes::is_label` meets its contract. Assumes nothing.
+use native.Mathlib.Omega.{arith}
 use borrow.Author.Needs.{needs}
+use Rattle.laws.proofs.Scans.{tests}
+use Rattle.lines.proofs.shapes.Tests.{kinds}
+use Rattle.lines.proofs.shapes.Counted.{label-not, label-two}
 use Rattle.lines.proofs.shapes.is_label.Statement.{statement}
 use Rattle.lines.proofs.shapes.is_label.Tie as tie
-use Rattle.lines.proofs.shapes.is_label.Reads as reads
-use Rattle.lines.proofs.shapes.is_label.Lts as lts
-use Rattle.lines.proofs.words.kind.Reads as kind-reads
-use Rattle.lines.proofs.words.text.Reads as text-reads
-use Rattle.text.proofs.is_colon.Reads as is-colon-reads
 
--- src/shapes.rt:28:9
 returns : tie.Need-returns
-returns c = ?
+returns c = let a = c .before .before .before .before .args in label-not (a .tape .now) (a .area .now) (a .line .now) (c .if1 .taken)
 
--- src/shapes.rt:30:48
 shared-slice-read-text : tie.Need-shared-slice-read-text
 shared-slice-read-text c = search needs
 
--- src/shapes.rt:30:24
 text-requires : tie.Need-text-requires
-text-requires c κs = ?
+text-requires c κs = c .before .before .before .before .before .pre .at 1 (omega arith)
 
--- src/shapes.rt:30:9
 is-colon-requires : tie.Need-is-colon-requires
 is-colon-requires c κs = search needs
 
--- src/shapes.rt:31:9
 returns-2 : tie.Need-returns-2
-returns-2 c = ?
+returns-2 c = let a = c .before .before .before .before .before .before .before .before .args in rw (label-two (a .tape .now) (a .area .now) (a .line .now) (search needs)) (search (needs, tests, ← c .before .before .text .ensures))
 
--- src/shapes.rt:33:17
 shared-slice-read-kind : tie.Need-shared-slice-read-kind
 shared-slice-read-kind c = search needs
 
--- src/shapes.rt:33:5
 kind-requires : tie.Need-kind-requires
 kind-requires c κs = search needs
 
--- src/shapes.rt:23:1
 returns-3 : tie.Need-returns-3
-returns-3 c = ?
+returns-3 c = let a = c .before .before .before .before .before .before .before .before .before .before .args in rw (label-two (a .tape .now) (a .area .now) (a .line .now) (search needs)) (search (needs, tests, kinds, ← c .before .before .before .before .text .ensures))
 
 pub is-label-spec : {M : Type 1} → statement M
 is-label-spec =

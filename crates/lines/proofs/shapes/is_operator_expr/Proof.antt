@@ -1,52 +1,50 @@
+-- `lines::shapes::is_operator_expr` meets its contract. Assumes nothing.
+use Prim.Native.Nat.{_-_}
+use mathlib.Core.Path.{_≡_}
+use lib.ListN.{length-map, drop}
 use borrow.Author.Needs.{needs}
+use Rattle.reference.specs.Lists.{any}
+use Rattle.reference.specs.Shapes.{is-operator}
+use Rattle.lines.specs.Words.{tokens-of}
+use Rattle.lines.specs.Shapes.{expr-words}
+use Rattle.lines.proofs.shapes.Right.{expr-length, expr-points, expr-below, expr-past}
+use Rattle.lines.proofs.words.Scans.{scans}
+use Rattle.lines.proofs.shapes.Tests.{operator-few, operator-many}
 use Rattle.lines.proofs.shapes.is_operator_expr.Statement.{statement}
 use Rattle.lines.proofs.shapes.is_operator_expr.Tie as tie
-use Rattle.lines.proofs.shapes.is_operator_expr.Reads as reads
-use Rattle.lines.proofs.shapes.is_operator_expr.Lts as lts
-use Rattle.lines.proofs.shapes.expr_word.Reads as expr-word-reads
-use Rattle.lines.proofs.shapes.is_operator.Reads as is-operator-reads
 
 abbrev Inv-loop : tie.InvT-loop
-Inv-loop tape area line x n k₀ k = ?
+Inv-loop tape area line x n k₀ k = any is-operator (tokens-of tape area (expr-words line x)) ≡ any is-operator (tokens-of tape area (drop k (expr-words line x)))
 
 abbrev μ-loop : tie.MeasureT-loop
-μ-loop tape area line x n k₀ k = ?
+μ-loop tape area line x n k₀ k = n - k
 
--- src/shapes.rt:361:9
 returns : tie.Need-returns Inv-loop μ-loop
-returns c = search needs
+returns c = operator-few _ (rw (length-map, expr-length (c .before .before .before .before .pre .1)) (search needs))
 
--- src/shapes.rt:364:5
 loop-holds : tie.Need-loop-holds Inv-loop μ-loop
-loop-holds c = search needs
+loop-holds c = search (needs, scans, expr-below, expr-past)
 
--- src/shapes.rt:365:36
 expr-word-requires : tie.Need-expr-word-requires Inv-loop μ-loop
 expr-word-requires c κs = search needs
 
--- src/shapes.rt:365:12
 is-operator-requires : tie.Need-is-operator-requires Inv-loop μ-loop
-is-operator-requires c κs = search needs
+is-operator-requires c κs = search (needs, expr-points)
 
--- src/shapes.rt:366:13
 returns-2 : tie.Need-returns-2 Inv-loop μ-loop
-returns-2 c = search needs
+returns-2 c = operator-many _ (rw (length-map, expr-length (c .before .before .before .before .before .before .before .before .before .pre .1)) (search needs)) (search (needs, scans, expr-below))
 
--- src/shapes.rt:368:9
 add-k : tie.Need-add-k Inv-loop μ-loop
 add-k c = search needs
 
--- src/shapes.rt:364:5
 loop-less : tie.Need-loop-less Inv-loop μ-loop
 loop-less c = search needs
 
--- src/shapes.rt:364:5
 loop-again : tie.Need-loop-again Inv-loop μ-loop
-loop-again c = search needs
+loop-again c = search (needs, scans, expr-below, expr-past)
 
--- src/shapes.rt:355:1
 returns-3 : tie.Need-returns-3 Inv-loop μ-loop
-returns-3 c = search needs
+returns-3 c = operator-many _ (rw (length-map, expr-length (c .before .before .before .before .before .before .pre .1)) (search needs)) (search (needs, scans, expr-past))
 
 pub is-operator-expr-spec : {M : Type 1} → statement M
 is-operator-expr-spec =

@@ -2,12 +2,12 @@
 use Prim.Native.Nat.{_-_}
 use mathlib.Core.Path.{_≡_}
 use lib.ListN.{length, drop}
+use borrow.Author.Needs.{needs}
 use Rattle.reference.specs.Lists.{any}
 use Rattle.reference.specs.Shapes.{has-brace, braces-in}
 use Rattle.lines.specs.Words.{tokens-of}
 use Rattle.lines.proofs.words.Tokens.{holds-at}
 use Rattle.lines.proofs.words.Scans.{scans}
-use borrow.Author.Needs.{needs}
 use Rattle.lines.proofs.shapes.opens_or_closes.Statement.{statement}
 use Rattle.lines.proofs.shapes.opens_or_closes.Tie as tie
 

@@ -1,51 +1,54 @@
+-- `lines::shapes::symbol_from` meets its contract. Assumes nothing.
+use Prim.Native.Nat.{_-_}
+use mathlib.Core.Path.{_≡_, refl}
+use lib.ListN.{length, drop}
 use borrow.Author.Needs.{needs}
+use Rattle.reference.specs.Lists.{position}
+use Rattle.reference.specs.Text.{Text}
+use Rattle.reference.specs.Listing.{is, Symbol}
+use Rattle.laws.proofs.Scans.{from}
+use Rattle.lines.specs.Words.{token-of, tokens-of}
+use Rattle.lines.specs.Shapes.{symbol-from}
+use Rattle.lines.proofs.words.Scans.{position-at, position-next, position-none}
+use Rattle.lines.proofs.shapes.Tests.{is-it, is-not}
+use Rattle.lines.proofs.shapes.Places.{symbol-begin}
 use Rattle.lines.proofs.shapes.symbol_from.Statement.{statement}
 use Rattle.lines.proofs.shapes.symbol_from.Tie as tie
-use Rattle.lines.proofs.shapes.symbol_from.Reads as reads
-use Rattle.lines.proofs.shapes.symbol_from.Lts as lts
-use Rattle.lines.proofs.words.kind.Reads as kind-reads
 
 abbrev Inv-loop : tie.InvT-loop
-Inv-loop line from k₀ k = ?
+Inv-loop line start k₀ k = (tape area : Text) → symbol-from (tokens-of tape area line) start ≡ from k (position (is Symbol) (tokens-of tape area (drop k line)))
 
 abbrev μ-loop : tie.MeasureT-loop
-μ-loop line from k₀ k = ?
+μ-loop line start k₀ k = length line - k
 
--- src/shapes.rt:113:5
 loop-holds : tie.Need-loop-holds Inv-loop μ-loop
-loop-holds c = search needs
+loop-holds c = λ tape area. symbol-begin tape area _ _
 
--- src/shapes.rt:114:24
 mul-kind : tie.Need-mul-kind Inv-loop μ-loop
 mul-kind c = search needs
 
--- src/shapes.rt:114:24
 shared-slice-read-kind : tie.Need-shared-slice-read-kind Inv-loop μ-loop
 shared-slice-read-kind c = search needs
 
--- src/shapes.rt:114:12
 kind-requires : tie.Need-kind-requires Inv-loop μ-loop
 kind-requires c κs = search needs
 
--- src/shapes.rt:115:13
 returns : tie.Need-returns Inv-loop μ-loop
-returns c = search needs
+returns c = λ tape area. let l = c .before .before .before .before in
+    position-at (is Symbol) (token-of tape area) (l .before .before .args .line .now) (l .loop .k) (l .loop .inv tape area) (search needs) refl (is-it _ Symbol (c .before .kind .ensures) (c .if1 .taken)) refl
 
--- src/shapes.rt:117:9
 add-k : tie.Need-add-k Inv-loop μ-loop
 add-k c = search needs
 
--- src/shapes.rt:113:5
 loop-less : tie.Need-loop-less Inv-loop μ-loop
 loop-less c = search needs
 
--- src/shapes.rt:113:5
 loop-again : tie.Need-loop-again Inv-loop μ-loop
-loop-again c = search needs
+loop-again c = λ tape area. let l = c .before .before .before .before in
+    position-next (is Symbol) (token-of tape area) (l .before .before .args .line .now) (l .loop .k) (l .loop .inv tape area) (search needs) refl (is-not _ Symbol (c .before .kind .ensures) (c .if1 .left)) refl
 
--- src/shapes.rt:109:1
 returns-2 : tie.Need-returns-2 Inv-loop μ-loop
-returns-2 c = search needs
+returns-2 c = λ tape area. let l = c .before in position-none (is Symbol) (token-of tape area) (l .before .before .args .line .now) (l .loop .k) (l .loop .inv tape area) (search needs)
 
 pub symbol-from-spec : {M : Type 1} → statement M
 symbol-from-spec =
