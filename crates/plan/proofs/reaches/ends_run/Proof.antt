@@ -1,0 +1,61 @@
+-- `plan::reaches::ends_run` meets its contract. Assumes nothing.
+use borrow.Author.Needs.{needs}
+use Rattle.plan.proofs.reaches.ends_run.Statement.{statement}
+use Rattle.plan.proofs.reaches.ends_run.Tie as tie
+use Rattle.plan.proofs.reaches.ends_run.Reads as reads
+use Rattle.plan.proofs.reaches.ends_run.Lts as lts
+use Rattle.lines.proofs.shapes.has_goto.Reads as has-goto-reads
+use Rattle.lines.proofs.shapes.has_while.Reads as has-while-reads
+use Rattle.lines.proofs.shapes.is_label.Reads as is-label-reads
+use Rattle.lines.proofs.words.indent.Reads as indent-reads
+use Rattle.lines.proofs.words.line_of.Reads as line-of-reads
+
+-- src/reaches.rt:36:9
+line-of-requires : tie.Need-line-of-requires
+line-of-requires c κs = search needs
+
+-- src/reaches.rt:37:8
+is-label-requires : tie.Need-is-label-requires
+is-label-requires c κs = ?
+
+-- src/reaches.rt:38:9
+returns : tie.Need-returns
+returns c = ?
+
+-- src/reaches.rt:40:8
+indent-requires : tie.Need-indent-requires
+indent-requires c κs = search needs
+
+-- src/reaches.rt:41:9
+returns-2 : tie.Need-returns-2
+returns-2 c = ?
+
+-- src/reaches.rt:43:8
+has-while-requires : tie.Need-has-while-requires
+has-while-requires c κs = ?
+
+-- src/reaches.rt:44:9
+returns-3 : tie.Need-returns-3
+returns-3 c = ?
+
+-- src/reaches.rt:46:5
+has-goto-requires : tie.Need-has-goto-requires
+has-goto-requires c κs = ?
+
+-- src/reaches.rt:32:1
+returns-4 : tie.Need-returns-4
+returns-4 c = ?
+
+pub ends-run-spec : {M : Type 1} → statement M
+ends-run-spec =
+    tie.close
+    (tie.spec
+    line-of-requires
+    is-label-requires
+    returns
+    indent-requires
+    returns-2
+    has-while-requires
+    returns-3
+    has-goto-requires
+    returns-4)

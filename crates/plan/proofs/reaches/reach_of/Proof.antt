@@ -1,0 +1,85 @@
+-- `plan::reaches::reach_of` meets its contract. Assumes nothing.
+use Rattle.plan.proofs.reaches.reach_of.Statement.{statement}
+use Rattle.plan.proofs.reaches.reach_of.Tie as tie
+use Rattle.plan.proofs.reaches.reach_of.Reads as reads
+use Rattle.plan.proofs.reaches.reach_of.Lts as lts
+use Rattle.lines.proofs.words.indent.Reads as indent-reads
+use Rattle.plan.proofs.reaches.reach_at.Reads as reach-at-reads
+
+abbrev Inv-loop : tie.InvT-loop
+Inv-loop tape area tokens lines i f rules base-indent r₀ j₀ r j = ?
+
+abbrev μ-loop : tie.MeasureT-loop
+μ-loop tape area tokens lines i f rules base-indent r₀ j₀ r j = ?
+
+-- src/reaches.rt:105:37
+mul-indent : tie.Need-mul-indent Inv-loop μ-loop
+mul-indent c = ?
+
+-- src/reaches.rt:105:37
+shared-slice-read-indent : tie.Need-shared-slice-read-indent Inv-loop μ-loop
+shared-slice-read-indent c = ?
+
+-- src/reaches.rt:105:9
+indent-requires : tie.Need-indent-requires Inv-loop μ-loop
+indent-requires c κs = ?
+
+-- src/reaches.rt:111:17
+add-j : tie.Need-add-j Inv-loop μ-loop
+add-j c = ?
+
+-- src/reaches.rt:112:5
+loop-holds : tie.Need-loop-holds Inv-loop μ-loop
+loop-holds c = ?
+
+-- src/reaches.rt:114:13
+returns : tie.Need-returns Inv-loop μ-loop
+returns c = ?
+
+-- src/reaches.rt:120:13
+mul-reach-at : tie.Need-mul-reach-at Inv-loop μ-loop
+mul-reach-at c = ?
+
+-- src/reaches.rt:120:13
+shared-slice-read-reach-at : tie.Need-shared-slice-read-reach-at Inv-loop μ-loop
+shared-slice-read-reach-at c = ?
+
+-- src/reaches.rt:116:9
+reach-at-requires : tie.Need-reach-at-requires Inv-loop μ-loop
+reach-at-requires c κs = ?
+
+-- src/reaches.rt:127:9
+add-j-2 : tie.Need-add-j-2 Inv-loop μ-loop
+add-j-2 c = ?
+
+-- src/reaches.rt:112:5
+loop-less : tie.Need-loop-less Inv-loop μ-loop
+loop-less c = ?
+
+-- src/reaches.rt:112:5
+loop-again : tie.Need-loop-again Inv-loop μ-loop
+loop-again c = ?
+
+-- src/reaches.rt:93:1
+returns-2 : tie.Need-returns-2 Inv-loop μ-loop
+returns-2 c = ?
+
+pub reach-of-spec : {M : Type 1} → statement M
+reach-of-spec =
+    tie.close
+    (tie.spec
+    Inv-loop
+    μ-loop
+    mul-indent
+    shared-slice-read-indent
+    indent-requires
+    add-j
+    loop-holds
+    returns
+    mul-reach-at
+    shared-slice-read-reach-at
+    reach-at-requires
+    add-j-2
+    loop-less
+    loop-again
+    returns-2)

@@ -1,0 +1,33 @@
+-- `plan::reaches::refuses_constant` meets its contract. Assumes nothing.
+use borrow.Author.Needs.{needs}
+use Rattle.plan.proofs.reaches.refuses_constant.Statement.{statement}
+use Rattle.plan.proofs.reaches.refuses_constant.Tie as tie
+use Rattle.plan.proofs.reaches.refuses_constant.Reads as reads
+use Rattle.plan.proofs.reaches.refuses_constant.Lts as lts
+use Rattle.lines.proofs.words.line_of.Reads as line-of-reads
+use Rattle.plan.proofs.reaches.bad_use.Reads as bad-use-reads
+use Rattle.plan.proofs.touches.uses.Reads as uses-reads
+
+-- src/reaches.rt:180:9
+line-of-requires : tie.Need-line-of-requires
+line-of-requires c κs = search needs
+
+-- src/reaches.rt:181:9
+uses-requires : tie.Need-uses-requires
+uses-requires c κs = ?
+
+-- src/reaches.rt:182:9
+returns : tie.Need-returns
+returns c = ?
+
+-- src/reaches.rt:184:5
+bad-use-requires : tie.Need-bad-use-requires
+bad-use-requires c κs = ?
+
+-- src/reaches.rt:169:1
+returns-2 : tie.Need-returns-2
+returns-2 c = ?
+
+pub refuses-constant-spec : {M : Type 1} → statement M
+refuses-constant-spec =
+    tie.close (tie.spec line-of-requires uses-requires returns bad-use-requires returns-2)

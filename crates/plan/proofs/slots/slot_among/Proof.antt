@@ -1,0 +1,70 @@
+-- `plan::slots::slot_among` meets its contract. Assumes nothing.
+use Rattle.plan.proofs.slots.slot_among.Statement.{statement}
+use Rattle.plan.proofs.slots.slot_among.Tie as tie
+use Rattle.plan.proofs.slots.slot_among.Reads as reads
+use Rattle.plan.proofs.slots.slot_among.Lts as lts
+use Rattle.lines.proofs.words.text.Reads as text-reads
+use Rattle.text.proofs.same.Reads as same-reads
+
+abbrev Inv-loop : tie.InvT-loop
+Inv-loop slots slot-words s k₀ k = ?
+
+abbrev μ-loop : tie.MeasureT-loop
+μ-loop slots slot-words s k₀ k = ?
+
+-- src/slots.rt:15:5
+loop-holds : tie.Need-loop-holds Inv-loop μ-loop
+loop-holds c = ?
+
+-- src/slots.rt:16:49
+mul-text : tie.Need-mul-text Inv-loop μ-loop
+mul-text c = ?
+
+-- src/slots.rt:16:49
+shared-slice-read-text : tie.Need-shared-slice-read-text Inv-loop μ-loop
+shared-slice-read-text c = ?
+
+-- src/slots.rt:16:23
+text-requires : tie.Need-text-requires Inv-loop μ-loop
+text-requires c κs = ?
+
+-- src/slots.rt:16:12
+same-requires : tie.Need-same-requires Inv-loop μ-loop
+same-requires c κs = ?
+
+-- src/slots.rt:17:13
+returns : tie.Need-returns Inv-loop μ-loop
+returns c = ?
+
+-- src/slots.rt:19:9
+add-k : tie.Need-add-k Inv-loop μ-loop
+add-k c = ?
+
+-- src/slots.rt:15:5
+loop-less : tie.Need-loop-less Inv-loop μ-loop
+loop-less c = ?
+
+-- src/slots.rt:15:5
+loop-again : tie.Need-loop-again Inv-loop μ-loop
+loop-again c = ?
+
+-- src/slots.rt:10:1
+returns-2 : tie.Need-returns-2 Inv-loop μ-loop
+returns-2 c = ?
+
+pub slot-among-spec : {M : Type 1} → statement M
+slot-among-spec =
+    tie.close
+    (tie.spec
+    Inv-loop
+    μ-loop
+    loop-holds
+    mul-text
+    shared-slice-read-text
+    text-requires
+    same-requires
+    returns
+    add-k
+    loop-less
+    loop-again
+    returns-2)

@@ -1,0 +1,6 @@
+pub mod Definitions
+pub mod Slots
+pub mod Reaches
+pub mod Uses
+pub mod Plans
+pub mod Touches
