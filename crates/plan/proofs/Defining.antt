@@ -18,7 +18,7 @@ use Rattle.reference.specs.Join.{reads-here, reads-after, reads-memory}
 use Rattle.laws.proofs.Scans.{or-only, not-same, if-true, if-false}
 use Rattle.joining.specs.Plan.{definition-of}
 use Rattle.joining.proofs.Looking.{before-of, reads-begin, reads-hit, reads-miss, reads-end}
-use Rattle.lines.specs.Words.{kind-of, text-of, token-of, tokens-of}
+use Rattle.lines.specs.Words.{kind-of, text-of, token-of, tokens-of, Points, Holds}
 use Rattle.lines.specs.Shapes.{expr-words, Expression, Assigns}
 use Rattle.lines.specs.Fams.{fam-text, Names}
 use Rattle.lines.specs.declared.fams.Fam.{Fam}
@@ -28,6 +28,7 @@ use Rattle.lines.specs.declared.shapes.Expr.{Expr}
 use Rattle.lines.specs.declared.shapes.Assigned.{Assigned}
 use Rattle.lines.specs.declared.shapes.Assigned.the-variants.{To, Nothing as Unassigned}
 use Rattle.lines.proofs.shapes.Places.{get-at}
+use Rattle.lines.proofs.shapes.Right.{expr-points}
 use Rattle.plan.specs.declared.definitions.Definition.{Definition}
 use Rattle.plan.specs.declared.definitions.Defined.{Defined}
 use Rattle.plan.specs.declared.definitions.Defined.the-variants.{As, Nothing}
@@ -66,6 +67,11 @@ module _ (tape area : Text) (ws : List ℕ) (i : ℕ) {w k : ℕ} (ew : w ≡ ge
       not-same ex
       ∙ sym (reads-symbol tape area (before-at (tokens-of tape area ws) i) (getD ws i 0) ew ek h
       ∙ rw (ne-eqb i 0 n, get-at (token-of tape area) ws (i - 1) (omega arith), ← eu, ← es))
+
+-- the word before the token k points into its text
+pub before-points : {tape area : Text} {ws : List ℕ} {x : Expr} (k : ℕ) → Holds tape area ws → Expression ws x → k < x .count
+    → {w : ℕ} → w ≡ getD (expr-words ws x) (k - 1) 0 → Points tape area w
+before-points k h e b ew = expr-points h e (omega arith) ew
 
 pub ruleset reading = (reads-other, reads-keyword, reads-register, reads-first, reads-behind)
 
@@ -110,6 +116,19 @@ as-inj e = cc
 
 never-as : {d : Definition} {X : Type 0} → Nothing ≡ As d → X
 never-as e = absurd (let z : _≡_ {A = ℕ} 0 1 = cc in omega arith)
+
+-- a line that assigns has a first token and a right side
+module _ {tape area : Text} {ws : List ℕ} {r : Assigned} {x : Expr} (h : Assigns tape area ws r) (e : r ≡ To x) where
+  pub assigned-side : Expression ws x
+  assigned-side = h .side x e
+
+  pub assigned-long : 0 < length ws
+  assigned-long = omega (arith, assigned-side .first-is, assigned-side .inside)
+
+  pub assigned-points : Holds tape area ws → Points tape area (getD ws 0 0)
+  assigned-points g = g .at 0 assigned-long
+
+pub ruleset assigning = (assigned-side, assigned-long, assigned-points)
 
 module _ (tape area : Text) (ws : List ℕ) where
   undefined : none ≡ definition-of (tokens-of tape area ws) → Answers tape area ws Nothing

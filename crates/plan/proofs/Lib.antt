@@ -3,3 +3,6 @@ pub mod Reading
 pub mod Defining
 pub mod Addressing
 pub mod Reaching
+pub mod Looking
+pub mod Fitting
+pub mod Deciding

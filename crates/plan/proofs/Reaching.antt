@@ -96,16 +96,16 @@ pub ruleset reaching = (reach-ends, reach-none, reach-kill, reach-use)
 
 -- ---- the lines, one after the other
 
-module _ (tape area : Text) (tokens lines : List ℕ) (i : ℕ) (fam : Text) (vs : List Text) (h : i < length lines) where
+module _ (tape area : Text) (tokens lines : List ℕ) (i : ℕ) (fam : Text) (vs : List Text) where
   -- what is reached from line j on
   abbrev pub Reached : ℕ → Reach → Type 0
   Reached j r =
       reach-of (bare-listing tape area tokens lines) i fam vs
       ≡ reach-from (indent-of (getD lines i 0)) fam vs j (drop j (bare-listing tape area tokens lines)) (reach r)
 
-  pub reached-begin : Reached (i + 1) (record { used = false; last = i; ended = false })
+  pub reached-begin : i < length lines → Reached (i + 1) (record { used = false; last = i; ended = false })
   unfolding reach-of
-  reached-begin = rw (add-one, line-at tape area tokens lines i h)
+  reached-begin h = rw (add-one, line-at tape area tokens lines i h)
 
   module _ (j : ℕ) (r : Reach) (inv : Reached j r) where
     pub reached-ended : r .ended ≡ true → reach r ≡ reach-of (bare-listing tape area tokens lines) i fam vs
@@ -183,7 +183,7 @@ module _ (tape area : Text) (tokens : List ℕ) (l : ℕ) (fam : Text) (vs : Lis
 
 -- ---- all of them
 
-module _ (tape area : Text) (tokens lines : List ℕ) (i last : ℕ) (fam : Text) (vs : List Text) (h : last < length lines) where
+module _ (tape area : Text) (tokens lines : List ℕ) (i last : ℕ) (fam : Text) (vs : List Text) where
   -- whether each line from j up to `last` takes it
   abbrev pub taken-from : ℕ → Bool
   taken-from j = all-take fam vs (slice j (suc last) (bare-listing tape area tokens lines))
@@ -191,7 +191,7 @@ module _ (tape area : Text) (tokens lines : List ℕ) (i last : ℕ) (fam : Text
   pub taken-begin : taken-from (suc i) ≡ taken-from (i + 1)
   taken-begin = rw (add-one i)
 
-  module _ (j : ℕ) (inv : taken-from (suc i) ≡ taken-from j) where
+  module _ (h : last < length lines) (j : ℕ) (inv : taken-from (suc i) ≡ taken-from j) where
     module _ (b : j ≤ last) {x : Bool} (ex : x ≡ refuses fam vs (bare-in tape area tokens (getD lines j 0))) where
       told : {y : Bool} → x ≡ y → refuses fam vs (bare-listing tape area tokens lines at j) ≡ y
       told e = rw (line-at tape area tokens lines j (omega arith)) (sym ex ∙ e)

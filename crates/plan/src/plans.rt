@@ -25,7 +25,7 @@ ghost use Rattle.lines.specs.Rules.{rules-of};
 ghost use Rattle.lines.specs.Shapes.{expr-words, Expression};
 ghost use Rattle.plan.specs.Definitions.{definition-in, Sound};
 ghost use Rattle.plan.specs.Slots.{slot-names, Slotted};
-ghost use Rattle.plan.specs.Plans.{Plans};
+ghost use Rattle.plan.specs.Plans.{plan-among, Plans};
 
 // The right side of line `line` takes the place of each token of the family in each line after it, up to line `last`, that uses the family,
 // in brackets or without; and the line is removed. (Where the right side is not a constant, that is one token in one line.)
@@ -104,6 +104,31 @@ fn wants_brackets<'a>(
     !uses::is_standalone(tape, area, line, pos)
 }
 
+// The plan for the use among the tokens of `line`, which is line j, of the definition d of line i, whose tokens are `source`.
+fn plan_among<'a>(
+    tape: &'a [u8],
+    area: &'a [u8],
+    source: &'a [u64],
+    line: &'a [u64],
+    i: usize,
+    j: usize,
+    d: Definition,
+) -> Plan
+    requires { ⌜ Holds (now tape) (now area) (now source) × Holds (now tape) (now area) (now line) × Sound (now tape) (now area) (now source) d ⌝ }
+    ensures { λ r. ⌜ Plans (now (tape .entry)) (now (area .entry)) (now (source .entry)) i (plan-among (definition-in (now (tape .entry)) (now (area .entry)) (now (source .entry)) d) (tokens-of (now (tape .entry)) (now (area .entry)) (now (line .entry))) j) r ⌝ }
+{
+    let f = d.family;
+    let Found::At(pos) = fams::first_of(tape, area, line, f) else {
+        return Plan::Nothing;
+    };
+    if !uses::use_fits(tape, area, line, pos, f, d.width) {
+        return Plan::Nothing;
+    }
+    let x = d.expr;
+    let brackets = wants_brackets(tape, area, source, x, line, pos);
+    join_of(i, j, brackets, d)
+}
+
 // The plan for the use on line j of the definition d of line i.
 fn plan_use<'a>(
     tape: &'a [u8],
@@ -121,10 +146,10 @@ fn plan_use<'a>(
 {
     let s = lines[i];
     let line = words::line_of(tokens, lines[j]);
-    let f = d.family;
     if shapes::has_while(tape, area, line) {
         return Plan::Nothing;
     }
+    let f = d.family;
     let base_indent = words::indent(s);
     if !dead_after(
         tape,
@@ -140,15 +165,7 @@ fn plan_use<'a>(
     ) {
         return Plan::Nothing;
     }
-    let Found::At(pos) = fams::first_of(tape, area, line, f) else {
-        return Plan::Nothing;
-    };
-    if !uses::use_fits(tape, area, line, pos, f, d.width) {
-        return Plan::Nothing;
-    }
-    let x = d.expr;
-    let brackets = wants_brackets(tape, area, words::line_of(tokens, s), x, line, pos);
-    join_of(i, j, brackets, d)
+    plan_among(tape, area, words::line_of(tokens, s), line, i, j, d)
 }
 
 // The plan for the single use of the definition d of line i.

@@ -1,5 +1,5 @@
 -- `plan::definitions::reads_at` meets its contract. Assumes nothing.
-use Rattle.plan.proofs.Defining.{reading}
+use Rattle.plan.proofs.Defining.{reading, before-points}
 use Rattle.lines.proofs.shapes.Right.{expr-points, expr-below}
 use borrow.Author.Needs.{needs}
 use Rattle.plan.proofs.definitions.reads_at.Statement.{statement}
@@ -63,7 +63,7 @@ expr-word-requires-2 c κs = search needs
 
 -- src/definitions.rt:51:27
 text-requires-3 : tie.Need-text-requires-3
-text-requires-3 c κs = search (needs, expr-points)
+text-requires-3 c κs = search (needs, before-points)
 
 -- src/definitions.rt:51:6
 ends-ampersand-requires : tie.Need-ends-ampersand-requires

@@ -1,4 +1,5 @@
 -- `plan::plans::wants_brackets` meets its contract. Assumes nothing.
+use Rattle.plan.proofs.Fitting.{brackets-not, brackets-by}
 use borrow.Author.Needs.{needs}
 use Rattle.plan.proofs.plans.wants_brackets.Statement.{statement}
 use Rattle.plan.proofs.plans.wants_brackets.Tie as tie
@@ -13,7 +14,7 @@ is-operator-expr-requires c κs = search needs
 
 -- src/plans.rt:102:9
 returns : tie.Need-returns
-returns c = ?
+returns c = search (needs, brackets-not)
 
 -- src/plans.rt:104:6
 is-standalone-requires : tie.Need-is-standalone-requires
@@ -21,7 +22,7 @@ is-standalone-requires c κs = search needs
 
 -- src/plans.rt:90:1
 returns-2 : tie.Need-returns-2
-returns-2 c = ?
+returns-2 c = search (needs, brackets-by)
 
 pub wants-brackets-spec : {M : Type 1} → statement M
 wants-brackets-spec =

@@ -1,4 +1,6 @@
 -- `plan::reaches::bad_use` meets its contract. Assumes nothing.
+use Rattle.reference.specs.Join.{bad-use}
+use Rattle.laws.proofs.Scans.{tests}
 use borrow.Author.Needs.{needs}
 use Rattle.plan.proofs.reaches.bad_use.Statement.{statement}
 use Rattle.plan.proofs.reaches.bad_use.Tie as tie
@@ -14,7 +16,8 @@ writes-requires c κs = search needs
 
 -- src/reaches.rt:160:9
 returns : tie.Need-returns
-returns c = ?
+unfolding bad-use
+returns c = search (needs, tests)
 
 -- src/reaches.rt:162:8
 updates-first-requires : tie.Need-updates-first-requires
@@ -22,7 +25,8 @@ updates-first-requires c κs = search needs
 
 -- src/reaches.rt:163:9
 returns-2 : tie.Need-returns-2
-returns-2 c = ?
+unfolding bad-use
+returns-2 c = search (needs, tests)
 
 -- src/reaches.rt:165:5
 has-narrow-requires : tie.Need-has-narrow-requires
@@ -30,7 +34,8 @@ has-narrow-requires c κs = search needs
 
 -- src/reaches.rt:155:1
 returns-3 : tie.Need-returns-3
-returns-3 c = ?
+unfolding bad-use
+returns-3 c = search (needs, tests)
 
 pub bad-use-spec : {M : Type 1} → statement M
 bad-use-spec =

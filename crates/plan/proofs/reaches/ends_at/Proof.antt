@@ -1,4 +1,6 @@
 -- `plan::reaches::ends_at` meets its contract. Assumes nothing.
+use Rattle.plan.proofs.Reading.{reading}
+use Rattle.plan.proofs.Reaching.{ends-dead, ends-kill}
 use borrow.Author.Needs.{needs}
 use Rattle.plan.proofs.reaches.ends_at.Statement.{statement}
 use Rattle.plan.proofs.reaches.ends_at.Tie as tie
@@ -27,7 +29,7 @@ dead-after-requires c κs = search needs
 
 -- src/reaches.rt:239:9
 returns : tie.Need-returns
-returns c = ?
+returns c = search (needs, ends-dead)
 
 -- src/reaches.rt:244:32
 mul-line-of : tie.Need-mul-line-of
@@ -39,15 +41,15 @@ shared-slice-read-line-of c = search needs
 
 -- src/reaches.rt:244:9
 line-of-requires : tie.Need-line-of-requires
-line-of-requires c κs = ?
+line-of-requires c κs = search (needs, reading)
 
 -- src/reaches.rt:241:5
 kills-requires : tie.Need-kills-requires
-kills-requires c κs = ?
+kills-requires c κs = search (needs, reading)
 
 -- src/reaches.rt:212:1
 returns-2 : tie.Need-returns-2
-returns-2 c = ?
+returns-2 c = search (needs, ends-kill)
 
 pub ends-at-spec : {M : Type 1} → statement M
 ends-at-spec =

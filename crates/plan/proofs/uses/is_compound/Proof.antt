@@ -1,4 +1,6 @@
 -- `plan::uses::is_compound` meets its contract. Assumes nothing.
+use Rattle.lines.proofs.words.Tokens.{holds-at}
+use Rattle.plan.proofs.Fitting.{compounding}
 use borrow.Author.Needs.{needs}
 use Rattle.plan.proofs.uses.is_compound.Statement.{statement}
 use Rattle.plan.proofs.uses.is_compound.Tie as tie
@@ -11,11 +13,11 @@ use Rattle.text.proofs.begins_operator.Reads as begins-operator-reads
 
 -- src/uses.rt:188:9
 returns : tie.Need-returns
-returns c = ?
+returns c = search (needs, compounding)
 
 -- src/uses.rt:191:9
 returns-2 : tie.Need-returns-2
-returns-2 c = ?
+returns-2 c = search (needs, compounding)
 
 -- src/uses.rt:193:16
 shared-slice-read-next : tie.Need-shared-slice-read-next
@@ -27,11 +29,11 @@ kind-requires c κs = search needs
 
 -- src/uses.rt:195:9
 returns-3 : tie.Need-returns-3
-returns-3 c = ?
+returns-3 c = search (needs, compounding)
 
 -- src/uses.rt:197:9
 text-requires : tie.Need-text-requires
-text-requires c κs = ?
+text-requires c κs = search (needs, holds-at)
 
 -- src/uses.rt:198:9
 begins-operator-requires : tie.Need-begins-operator-requires
@@ -39,7 +41,7 @@ begins-operator-requires c κs = search needs
 
 -- src/uses.rt:199:9
 returns-4 : tie.Need-returns-4
-returns-4 c = ?
+returns-4 c = search (needs, compounding)
 
 -- src/uses.rt:201:6
 begins-assign-requires : tie.Need-begins-assign-requires
@@ -47,7 +49,7 @@ begins-assign-requires c κs = search needs
 
 -- src/uses.rt:183:1
 returns-5 : tie.Need-returns-5
-returns-5 c = ?
+returns-5 c = search (needs, compounding)
 
 pub is-compound-spec : {M : Type 1} → statement M
 is-compound-spec =

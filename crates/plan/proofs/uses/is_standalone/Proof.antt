@@ -1,4 +1,7 @@
 -- `plan::uses::is_standalone` meets its contract. Assumes nothing.
+use Rattle.plan.proofs.Reading.{holds-before}
+use Rattle.lines.proofs.words.Tokens.{holds-at}
+use Rattle.plan.proofs.Fitting.{standing}
 use borrow.Author.Needs.{needs}
 use Rattle.plan.proofs.uses.is_standalone.Statement.{statement}
 use Rattle.plan.proofs.uses.is_standalone.Tie as tie
@@ -10,7 +13,7 @@ use Rattle.text.proofs.delimits_before.Reads as delimits-before-reads
 
 -- src/uses.rt:231:9
 returns : tie.Need-returns
-returns c = ?
+returns c = search (needs, standing)
 
 -- src/uses.rt:233:14
 add-at : tie.Need-add-at
@@ -18,7 +21,7 @@ add-at c = search needs
 
 -- src/uses.rt:235:9
 returns-2 : tie.Need-returns-2
-returns-2 c = ?
+returns-2 c = search (needs, standing)
 
 -- src/uses.rt:237:60
 sub-text : tie.Need-sub-text
@@ -34,7 +37,7 @@ shared-slice-read-text c = search needs
 
 -- src/uses.rt:237:31
 text-requires : tie.Need-text-requires
-text-requires c κs = ?
+text-requires c κs = search (needs, holds-before)
 
 -- src/uses.rt:237:9
 delimits-before-requires : tie.Need-delimits-before-requires
@@ -42,7 +45,7 @@ delimits-before-requires c κs = search needs
 
 -- src/uses.rt:238:9
 returns-3 : tie.Need-returns-3
-returns-3 c = ?
+returns-3 c = search (needs, standing)
 
 -- src/uses.rt:240:50
 mul-text-2 : tie.Need-mul-text-2
@@ -54,7 +57,7 @@ shared-slice-read-text-2 c = search needs
 
 -- src/uses.rt:240:26
 text-requires-2 : tie.Need-text-requires-2
-text-requires-2 c κs = ?
+text-requires-2 c κs = search (needs, holds-at)
 
 -- src/uses.rt:240:5
 delimits-after-requires : tie.Need-delimits-after-requires
@@ -62,7 +65,7 @@ delimits-after-requires c κs = search needs
 
 -- src/uses.rt:226:1
 returns-4 : tie.Need-returns-4
-returns-4 c = ?
+returns-4 c = search (needs, standing)
 
 pub is-standalone-spec : {M : Type 1} → statement M
 is-standalone-spec =

@@ -1,4 +1,8 @@
 -- `plan::uses::leaves_inputs` meets its contract. Assumes nothing.
+use Rattle.lines.proofs.fams.Families.{as-known}
+use Rattle.plan.proofs.Defining.{assigning}
+use Rattle.plan.proofs.Looking.{leaving}
+use Rattle.plan.proofs.Deciding.{sound-side}
 use borrow.Author.Needs.{needs}
 use Rattle.plan.proofs.uses.leaves_inputs.Statement.{statement}
 use Rattle.plan.proofs.uses.leaves_inputs.Tie as tie
@@ -23,15 +27,15 @@ enum-told-2 c = search needs
 
 -- src/uses.rt:73:9
 returns : tie.Need-returns
-returns c = ?
+returns c = search (needs, leaving)
 
 -- src/uses.rt:75:53
 shared-slice-read-name-of : tie.Need-shared-slice-read-name-of
-shared-slice-read-name-of c = ?
+shared-slice-read-name-of c = search (needs, assigning)
 
 -- src/uses.rt:75:27
 name-of-requires : tie.Need-name-of-requires
-name-of-requires c κs = ?
+name-of-requires c κs = search (needs, assigning)
 
 -- src/uses.rt:75:19
 enum-known-g : tie.Need-enum-known-g
@@ -43,27 +47,27 @@ enum-told-3 c = search needs
 
 -- src/uses.rt:76:9
 returns-2 : tie.Need-returns-2
-returns-2 c = ?
+returns-2 c = search (needs, leaving)
 
 -- src/uses.rt:79:8
 mentions-requires : tie.Need-mentions-requires
-mentions-requires c κs = ?
+mentions-requires c κs = search (needs, sound-side, as-known)
 
 -- src/uses.rt:80:9
 returns-3 : tie.Need-returns-3
-returns-3 c = ?
+returns-3 c = search (needs, leaving)
 
 -- src/uses.rt:83:9
 returns-4 : tie.Need-returns-4
-returns-4 c = ?
+returns-4 c = search (needs, leaving)
 
 -- src/uses.rt:85:48
 shared-slice-read-text : tie.Need-shared-slice-read-text
-shared-slice-read-text c = ?
+shared-slice-read-text c = search (needs, assigning)
 
 -- src/uses.rt:85:24
 text-requires : tie.Need-text-requires
-text-requires c κs = ?
+text-requires c κs = search (needs, assigning)
 
 -- src/uses.rt:85:6
 begins-slot-requires : tie.Need-begins-slot-requires
@@ -71,7 +75,7 @@ begins-slot-requires c κs = search needs
 
 -- src/uses.rt:62:1
 returns-5 : tie.Need-returns-5
-returns-5 c = ?
+returns-5 c = search (needs, leaving)
 
 pub leaves-inputs-spec : {M : Type 1} → statement M
 leaves-inputs-spec =
