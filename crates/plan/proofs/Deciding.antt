@@ -26,6 +26,7 @@ use Rattle.lines.specs.Words.{token-of, tokens-of}
 use Rattle.lines.specs.Lines.{indent-of, part-of, bare-in, bare-listing}
 use Rattle.lines.specs.Shapes.{found, expr-words, Expression}
 use Rattle.lines.specs.Fams.{fam-text, Known}
+use Rattle.lines.proofs.shapes.Places.{found-is, found-not}
 use Rattle.lines.specs.declared.shapes.Found.{Found}
 use Rattle.lines.specs.declared.shapes.Found.the-variants.{At, Nothing as Unfound}
 use Rattle.plan.specs.declared.definitions.Definition.{Definition}
@@ -130,8 +131,7 @@ pub ruleset propagating = (constant-unused, constant-live, constant-refused, con
 
 pub found-inside : (p : Token → Bool) (tape area : Text) (ws : List ℕ) {q : Found} {pos : ℕ} → found q ≡ position p (tokens-of tape area ws) → q ≡ At pos → pos < length ws
 found-inside p tape area ws {pos = pos} h e =
-    let f : position p (tokens-of tape area ws) ≡ some pos = sym h ∙ rw e in
-    rw length-map at (found-at p (tokens-of tape area ws) pos (token-of tape area 0) f .0)
+    rw length-map at (found-at p (tokens-of tape area ws) pos (token-of tape area 0) (found-is h e) .0)
 
 -- the definition d of the line us, among the words ws
 module _ (tape area : Text) (us ws : List ℕ) (i j : ℕ) (d : Definition) where
@@ -141,19 +141,19 @@ module _ (tape area : Text) (us ws : List ℕ) (i j : ℕ) (d : Definition) wher
   module _ (q : Found) (eq : found q ≡ position (of-family (fam-text tape area (d .family))) (tokens-of tape area ws)) where
     pub among-none : q ≡ Unfound → Plans tape area us i among Nothing
     unfolding plan-among let-some_else_then_
-    among-none e = no-plan (rw (← eq, e))
+    among-none e = no-plan (rw (found-not eq e))
 
     module _ {pos : ℕ} (e : q ≡ At pos) {b : Bool} (eb : b ≡ replaceable (fam-text tape area (d .family)) (d .width) (tokens-of tape area ws) pos) where
       pub among-unfit : flip b ≡ true → Plans tape area us i among Nothing
       unfolding plan-among if_then_else_ let-some_else_then_
-      among-unfit t = no-plan (rw (← eq, e, ← eb, not-true b t))
+      among-unfit t = no-plan (rw (found-is eq e, ← eb, not-true b t))
 
       pub among-joins : flip b ≡ false → Sound tape area us d
           → {y : Bool} → y ≡ wants-brackets (tokens-of tape area (expr-words us (d .expr))) (tokens-of tape area ws) pos
           → {p : Plan} → p ≡ Do (record { line = i; last = j; brackets = y; family = d .family; expr = d .expr })
           → Plans tape area us i among p
       unfolding plan-among if_then_else_ let-some_else_then_
-      among-joins t h ey ep = join-plan d h j _ (rw (← eq, e, ← eb, not-false b t, ← ey)) ep
+      among-joins t h {y} ey ep = join-plan d h j y (rw (found-is eq e, ← eb, not-false b t, ← ey)) ep
 
 pub ruleset placing = (among-none, among-unfit, among-joins)
 
@@ -193,18 +193,17 @@ module _ (tape area : Text) (tokens lines : List ℕ) (i : ℕ) (d : J.Definitio
   pub use-inside : {j : ℕ} → q ≡ At j → j < length lines
   unfolding use-of
   use-inside {j} e =
-      let f : use-of (bare-listing tape area tokens lines) i d vs ≡ some j = sym eq ∙ rw e in
-      rw length-map at (use-found (bare-listing tape area tokens lines) _ (d .fam .name) vs (d .expr) (d .calls) (suc i) (drop (suc i) (bare-listing tape area tokens lines)) j refl f .reached .0)
+      rw length-map at (use-found (bare-listing tape area tokens lines) _ (d .fam .name) vs (d .expr) (d .calls) (suc i) (drop (suc i) (bare-listing tape area tokens lines)) j refl (found-is eq e) .reached .0)
 
   module _ {ws : List ℕ} (labels : Labels) where
     pub single-none : q ≡ Unfound → Plans tape area ws i (plan-single (bare-listing tape area tokens lines) i d labels vs) Nothing
     unfolding plan-single let-some_else_then_
-    single-none e = no-plan (rw (← eq, e))
+    single-none e = no-plan (rw (found-not eq e))
 
     pub single-at : {j : ℕ} → q ≡ At j → {p : Plan} → Plans tape area ws i (plan-use (bare-listing tape area tokens lines) i d labels vs j) p
         → Plans tape area ws i (plan-single (bare-listing tape area tokens lines) i d labels vs) p
     unfolding plan-single let-some_else_then_
-    single-at e h = plan-of (rw (← eq, e)) h
+    single-at {j} e h = plan-of {q = plan-use (bare-listing tape area tokens lines) i d labels vs j} (rw (found-is eq e)) h
 
 -- ---- the definition's plan
 

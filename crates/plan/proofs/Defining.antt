@@ -28,7 +28,9 @@ use Rattle.lines.specs.declared.shapes.Expr.{Expr}
 use Rattle.lines.specs.declared.shapes.Assigned.{Assigned}
 use Rattle.lines.specs.declared.shapes.Assigned.the-variants.{To, Nothing as Unassigned}
 use Rattle.lines.proofs.shapes.Places.{get-at}
-use Rattle.lines.proofs.shapes.Right.{expr-points}
+use Rattle.lines.proofs.shapes.Right.{expr-long, expr-points}
+use Rattle.lines.proofs.shapes.Sides.{assigned-to, assigned-not, assigned-side}
+use Rattle.lines.proofs.fams.Families.{named-as, named-not, as-known}
 use Rattle.plan.specs.declared.definitions.Definition.{Definition}
 use Rattle.plan.specs.declared.definitions.Defined.{Defined}
 use Rattle.plan.specs.declared.definitions.Defined.the-variants.{As, Nothing}
@@ -119,11 +121,8 @@ never-as e = absurd (let z : _≡_ {A = ℕ} 0 1 = cc in omega arith)
 
 -- a line that assigns has a first token and a right side
 module _ {tape area : Text} {ws : List ℕ} {r : Assigned} {x : Expr} (h : Assigns tape area ws r) (e : r ≡ To x) where
-  pub assigned-side : Expression ws x
-  assigned-side = h .side x e
-
   pub assigned-long : 0 < length ws
-  assigned-long = omega (arith, assigned-side .first-is, assigned-side .inside)
+  assigned-long = omega (arith, expr-long (assigned-side h e))
 
   pub assigned-points : Holds tape area ws → Points tape area (getD ws 0 0)
   assigned-points g = g .at 0 assigned-long
@@ -138,26 +137,26 @@ module _ (tape area : Text) (ws : List ℕ) where
   module _ {r : Assigned} (h : Assigns tape area ws r) where
     pub no-assignment : r ≡ Unassigned → Answers tape area ws Nothing
     unfolding definition-of let-some_else_then_
-    no-assignment e = undefined (rw (← h .is, e))
+    no-assignment e = undefined (rw (assigned-not h e))
 
     module _ {x : Expr} (e : r ≡ To x) {n : Named} (hn : Names tape area (family (text-of tape area (getD ws 0 0))) n) where
       pub no-name : n ≡ Unnamed → Answers tape area ws Nothing
       unfolding definition-of let-some_else_then_
-      no-name f = undefined (rw (← h .is, e, ← hn .is, f))
+      no-name f = undefined (rw (assigned-to h e, named-not hn f))
 
       module _ {g : Fam} {k : ℕ} (f : n ≡ NamedAs g k) {m : Bool} (em : m ≡ any (of-family (fam-text tape area g)) (tokens-of tape area (expr-words ws x))) where
         pub mentioned : m ≡ true → Answers tape area ws Nothing
-        unfolding definition-of let-some_else_then_
-        mentioned t = undefined (rw (← h .is, e, ← hn .is, f) (sym (if-true _ _ (sym em ∙ t))))
+        unfolding definition-of let-some_else_then_ if_then_else_
+        mentioned t = undefined (rw (assigned-to h e, named-as hn f, ← em, t))
 
         pub defined-as : m ≡ false → {calls reads : Bool} → calls ≡ is-some (call-in (tokens-of tape area ws))
             → reads ≡ reads-memory (tokens-of tape area (expr-words ws x))
             → Answers tape area ws (As (record { family = g; width = k; expr = x; calls = calls; reads = reads }))
-        unfolding definition-of let-some_else_then_
+        unfolding definition-of let-some_else_then_ if_then_else_
         defined-as t ec er =
             record {
-              is = rw (← h .is, e, ← hn .is, f, ec) (sym (if-false _ _ (sym em ∙ t)));
-              sound = λ d i. rw (← as-inj i) (record { known = hn .known g k f; side = h .side x e; reads-is = er });
+              is = rw (assigned-to h e, named-as hn f, ← em, t, ← ec);
+              sound = λ d i. rw (← as-inj i) (record { known = as-known hn f; side = assigned-side h e; reads-is = er });
             }
 
 pub ruleset defining = (no-assignment, no-name, mentioned, defined-as)

@@ -24,6 +24,7 @@ use Rattle.lines.specs.Fams.{Names}
 use Rattle.lines.specs.declared.fams.Fam.{Fam}
 use Rattle.lines.specs.declared.fams.Named.{Named}
 use Rattle.lines.specs.declared.fams.Named.the-variants.{As as NamedAs, Nothing as Unnamed}
+use Rattle.lines.proofs.fams.Families.{named-as, named-not}
 use Rattle.lines.proofs.shapes.Places.{get-at, get-past}
 use Rattle.lines.proofs.shapes.Tests.{kind-fails, kind-holds}
 
@@ -54,11 +55,11 @@ module _ (width used : ℕ) where
 module _ (tape area : Text) (ws : List ℕ) (pos : ℕ) (h : pos < length ws) {n : Named} (hn : Names tape area (family (text-of tape area (getD ws pos 0))) n) where
   pub width-named : {g : Fam} {k : ℕ} → n ≡ NamedAs g k → k ≡ use-width (tokens-of tape area ws) pos
   unfolding use-width let-some_else_then_
-  width-named e = rw (get-at (token-of tape area) ws pos h, ← hn .is, e)
+  width-named e = rw (get-at (token-of tape area) ws pos h, named-as hn e)
 
   pub width-unnamed : n ≡ Unnamed → 64 ≡ use-width (tokens-of tape area ws) pos
   unfolding use-width let-some_else_then_
-  width-unnamed e = rw (get-at (token-of tape area) ws pos h, ← hn .is, e)
+  width-unnamed e = rw (get-at (token-of tape area) ws pos h, named-not hn e)
 
 -- ---- a compound operator after it
 

@@ -24,15 +24,17 @@ use Rattle.lines.specs.Words.{text-of, tokens-of}
 use Rattle.lines.specs.Lines.{indent-of, part-of, bare-in, bare-listing}
 use Rattle.lines.specs.Shapes.{expr-words, Assigns}
 use Rattle.lines.specs.Fams.{fam-text, Names}
+use Rattle.lines.proofs.shapes.Sides.{assigned-to, assigned-not}
+use Rattle.lines.proofs.fams.Families.{named-as, named-not}
 use Rattle.lines.specs.declared.fams.Fam.{Fam}
 use Rattle.lines.specs.declared.fams.Named.{Named}
 use Rattle.lines.specs.declared.fams.Named.the-variants.{As as NamedAs, Nothing as Unnamed}
 use Rattle.lines.specs.declared.shapes.Expr.{Expr}
 use Rattle.lines.specs.declared.shapes.Assigned.{Assigned}
 use Rattle.lines.specs.declared.shapes.Assigned.the-variants.{To, Nothing as Unassigned}
-use Rattle.plan.specs.declared.touches.Touched.{Touched}
-use Rattle.plan.specs.declared.touches.Touched.the-variants.{Nothing, Kill, Use as Uses}
-use Rattle.plan.specs.Touches.{touched}
+use Rattle.life.specs.declared.touches.Touched.{Touched}
+use Rattle.life.specs.declared.touches.Touched.the-variants.{Nothing, Kill, Use as Uses}
+use Rattle.life.specs.Touches.{touched}
 use Rattle.plan.specs.declared.definitions.Definition.{Definition}
 use Rattle.plan.specs.Definitions.{definition-in}
 use Rattle.plan.specs.declared.uses.Look.{Look}
@@ -73,24 +75,21 @@ pub ruleset putting = (put-calls, put-braces, put-called, put-indent)
 module _ (tape area : Text) (expr : List Token) (ws : List ℕ) {r : Assigned} (h : Assigns tape area ws r) where
   pub leaves-none : r ≡ Unassigned → false ≡ leaves-inputs expr (tokens-of tape area ws)
   unfolding leaves-inputs let-some_else_then_
-  leaves-none e = rw (← h .is, e)
+  leaves-none e = rw (assigned-not h e)
 
   module _ {x : Expr} (e : r ≡ To x) {n : Named} (hn : Names tape area (family (text-of tape area (getD ws 0 0))) n) where
     pub leaves-unnamed : n ≡ Unnamed → false ≡ leaves-inputs expr (tokens-of tape area ws)
     unfolding leaves-inputs let-some_else_then_
-    leaves-unnamed f = rw (← h .is, e, ← hn .is, f)
+    leaves-unnamed f = rw (assigned-to h e, named-not hn f)
 
     module _ {g : Fam} {k : ℕ} (f : n ≡ NamedAs g k) {m : Bool} (em : m ≡ any (of-family (fam-text tape area g)) expr) where
       leaves-is : leaves-inputs expr (tokens-of tape area ws) ≡ (not m && not (reads-memory expr && starts-with (text-of tape area (getD ws 0 0)) (bytes "var_")))
       unfolding leaves-inputs let-some_else_then_
-      leaves-is = rw (← h .is, e, ← hn .is, f, mentions expr (fam-text tape area g), ← em)
+      leaves-is = rw (assigned-to h e, named-as hn f, mentions expr (fam-text tape area g), ← em)
 
       pub leaves-read : m ≡ true → false ≡ leaves-inputs expr (tokens-of tape area ws)
-      leaves-read t = leaves-is-false (and-not-here _ refl t)
-        where
-          leaves-is-false : false ≡ (not m && not (reads-memory expr && starts-with (text-of tape area (getD ws 0 0)) (bytes "var_")))
-              → false ≡ leaves-inputs expr (tokens-of tape area ws)
-          leaves-is-false p = p ∙ sym leaves-is
+      unfolding not _&&_
+      leaves-read t = sym (leaves-is ∙ rw t)
 
       module _ (tm : m ≡ false) {b : Bool} (eb : b ≡ reads-memory expr) where
         pub leaves-unread : flip b ≡ true → true ≡ leaves-inputs expr (tokens-of tape area ws)

@@ -11,7 +11,7 @@ use lib.Seq.{slice}
 use borrow.Author.Tests.{ne-eqb, eq-eqb, not-true, not-false}
 use Rattle.reference.specs.Control.{not, _&&_, _||_, if_then_else_, let-some_else_then_}
 use Rattle.reference.specs.Text.{Text, bytes, starts-with}
-use Rattle.reference.specs.Listing.{Listing, blank, _at_, is, Punct}
+use Rattle.reference.specs.Listing.{_at_, is, Punct}
 use Rattle.reference.specs.Names.{of-family}
 use Rattle.reference.specs.Shapes.{label-tokens, kw-in, braces-in}
 use Rattle.reference.specs.Life.{touch-of, match-touch, is-use, is-kill, Labels, dead-after}
@@ -22,19 +22,19 @@ use Rattle.joining.proofs.Reaching.{reach-ended, reach-end, reach-turn}
 use Rattle.joining.proofs.Taking.{take-hit, take-miss, take-end}
 use Rattle.lines.specs.Words.{kind-of, text-of, token-of, tokens-of}
 use Rattle.lines.specs.Lines.{indent-of, part-of, bare-in, bare-listing}
-use Rattle.lines.proofs.words.Each.{map-at}
+use Rattle.lines.proofs.words.Lines.{bare-at}
 use Rattle.lines.proofs.shapes.Tests.{kind-fails, kind-holds}
-use Rattle.plan.specs.declared.touches.Touched.{Touched}
-use Rattle.plan.specs.declared.touches.Touched.the-variants.{Nothing, Kill, Use}
-use Rattle.plan.specs.Touches.{touched}
+use Rattle.life.specs.declared.touches.Touched.{Touched}
+use Rattle.life.specs.declared.touches.Touched.the-variants.{Nothing, Kill, Use}
+use Rattle.life.specs.Touches.{touched}
 use Rattle.plan.specs.declared.reaches.Reach.{Reach}
 use Rattle.plan.specs.Reaches.{reach}
 
--- ---- a line of the listing
+-- ---- a place in the listing
 
 module _ (tape area : Text) (tokens lines : List ℕ) where
   pub line-at : (k : ℕ) → k < length lines → bare-listing tape area tokens lines at k ≡ bare-in tape area tokens (getD lines k 0)
-  line-at k h = map-at (bare-in tape area tokens) lines k blank h
+  line-at k h = bare-at tape area tokens [] lines k h
 
   pub line-below : {k : ℕ} → k < length lines → k < length (bare-listing tape area tokens lines)
   line-below h = rw length-map h

@@ -1,4 +1,4 @@
--- Lines that are read: a line's part of the tokens, and the texts of its words. `search (needs, reading)` proves what a call on a line asks.
+-- Lines that are read, by their places: a line's part of the tokens, and the texts of its words. `search (needs, reading)` proves what a call on a line asks.
 -- Assumes nothing.
 use Prim.Native.Nat.{ℕ, _+_, _-_, _≤_, _<_}
 use native.Mathlib.Omega.{arith}
@@ -9,14 +9,7 @@ use Rattle.reference.specs.Text.{Text}
 use Rattle.lines.specs.Words.{Points, Holds}
 use Rattle.lines.specs.Lines.{first-of, count-of, part-of, Lined, Listed}
 use Rattle.lines.proofs.words.Lines.{listed-at}
-
--- the line of a word
-module _ {tape area : Text} {tokens : List ℕ} {l : ℕ} (h : Lined tape area tokens l) where
-  pub lined-inside : first-of l + count-of l ≤ length tokens
-  lined-inside = h .inside
-
-  pub lined-holds : {ws : List ℕ} → ws ≡ part-of tokens l → Holds tape area ws
-  lined-holds e = rw e (h .holds)
+use Rattle.life.proofs.Reading.{lined-inside, lined-holds}
 
 -- the line at a place
 module _ {tape area : Text} {tokens lines : List ℕ} (k : ℕ) (h : Listed tape area tokens lines) (b : k < length lines) where

@@ -3,4 +3,3 @@ pub mod Slots
 pub mod Reaches
 pub mod Uses
 pub mod Plans
-pub mod Touches

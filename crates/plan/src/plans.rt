@@ -1,11 +1,11 @@
 // The plan of an attempt: `propagate_constant` and `try_at` of the Rust, up to where they change the listing.
-use crate::dead::dead_after;
 use crate::definitions::Defined;
 use crate::definitions::Definition;
 use crate::definitions::definition_of;
 use crate::reaches;
 use crate::slots::is_addressed;
 use crate::uses;
+use life::dead::dead_after;
 use lines::fams;
 use lines::fams::Fam;
 use lines::rules::Rules;

@@ -1,7 +1,7 @@
 // How far a constant reaches, and whether every use takes it: the scan and the tests of `propagate_constant` of the Rust.
-use crate::dead::dead_after;
-use crate::touches;
-use crate::touches::Touched;
+use life::dead::dead_after;
+use life::touches;
+use life::touches::Touched;
 use lines::fams;
 use lines::fams::Fam;
 use lines::rules::Rules;
@@ -113,17 +113,7 @@ pub fn reach_of<'a>(
         if r.ended {
             return r;
         }
-        r = reach_at(
-            tape,
-            area,
-            tokens,
-            lines[j],
-            j,
-            base_indent,
-            f,
-            r,
-            rules,
-        );
+        r = reach_at(tape, area, tokens, lines[j], j, base_indent, f, r, rules);
         j += 1;
     }
     r
@@ -238,11 +228,5 @@ pub fn ends_at<'a>(
     ) {
         return true;
     }
-    touches::kills(
-        tape,
-        area,
-        words::line_of(tokens, lines[last]),
-        f,
-        rules,
-    )
+    touches::kills(tape, area, words::line_of(tokens, lines[last]), f, rules)
 }

@@ -1,7 +1,7 @@
 // The single use of a definition, and whether the right side can take its place there: the second half of `try_at` of the Rust.
 use crate::definitions::Definition;
-use crate::touches;
-use crate::touches::Touched;
+use life::touches;
+use life::touches::Touched;
 use lines::fams;
 use lines::fams::Fam;
 use lines::fams::Named;

@@ -1,16 +1,10 @@
 -- `plan::definitions::definition_of` meets its contract. Assumes nothing.
 use Rattle.lines.proofs.fams.Families.{as-known}
 use Rattle.plan.proofs.Defining.{assigning, defining}
+use Rattle.lines.proofs.shapes.Sides.{assigned-side}
 use borrow.Author.Needs.{needs}
 use Rattle.plan.proofs.definitions.definition_of.Statement.{statement}
 use Rattle.plan.proofs.definitions.definition_of.Tie as tie
-use Rattle.plan.proofs.definitions.definition_of.Reads as reads
-use Rattle.plan.proofs.definitions.definition_of.Lts as lts
-use Rattle.lines.proofs.fams.mentions.Reads as mentions-reads
-use Rattle.lines.proofs.fams.name_of.Reads as name-of-reads
-use Rattle.lines.proofs.shapes.assignment.Reads as assignment-reads
-use Rattle.lines.proofs.shapes.has_call.Reads as has-call-reads
-use Rattle.plan.proofs.definitions.reads_memory.Reads as reads-memory-reads
 
 -- src/definitions.rt:75:27
 assignment-requires : tie.Need-assignment-requires

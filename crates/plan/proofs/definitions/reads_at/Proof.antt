@@ -4,14 +4,6 @@ use Rattle.lines.proofs.shapes.Right.{expr-points, expr-below}
 use borrow.Author.Needs.{needs}
 use Rattle.plan.proofs.definitions.reads_at.Statement.{statement}
 use Rattle.plan.proofs.definitions.reads_at.Tie as tie
-use Rattle.plan.proofs.definitions.reads_at.Reads as reads
-use Rattle.plan.proofs.definitions.reads_at.Lts as lts
-use Rattle.lines.proofs.shapes.expr_word.Reads as expr-word-reads
-use Rattle.lines.proofs.words.kind.Reads as kind-reads
-use Rattle.lines.proofs.words.text.Reads as text-reads
-use Rattle.text.proofs.begins_read.Reads as begins-read-reads
-use Rattle.text.proofs.begins_slot.Reads as begins-slot-reads
-use Rattle.text.proofs.ends_ampersand.Reads as ends-ampersand-reads
 
 -- src/definitions.rt:36:9
 expr-word-requires : tie.Need-expr-word-requires

@@ -9,9 +9,6 @@ use Rattle.lines.proofs.shapes.Right.{expr-below, expr-past}
 use Rattle.plan.proofs.Defining.{reads-from, reads}
 use Rattle.plan.proofs.definitions.reads_memory.Statement.{statement}
 use Rattle.plan.proofs.definitions.reads_memory.Tie as tie
-use Rattle.plan.proofs.definitions.reads_memory.Reads as reads
-use Rattle.plan.proofs.definitions.reads_memory.Lts as lts
-use Rattle.plan.proofs.definitions.reads_at.Reads as reads-at-reads
 
 abbrev Inv-loop : tie.InvT-loop
 Inv-loop tape area line x n k₀ k = reads-memory (tokens-of tape area (expr-words line x)) ≡ reads-from tape area (expr-words line x) k

@@ -4,12 +4,6 @@ use Rattle.plan.proofs.Deciding.{answers-known, answers-sound, deciding
 use borrow.Author.Needs.{needs}
 use Rattle.plan.proofs.plans.decide.Statement.{statement}
 use Rattle.plan.proofs.plans.decide.Tie as tie
-use Rattle.plan.proofs.plans.decide.Reads as reads
-use Rattle.plan.proofs.plans.decide.Lts as lts
-use Rattle.lines.proofs.words.line_of.Reads as line-of-reads
-use Rattle.plan.proofs.definitions.definition_of.Reads as definition-of-reads
-use Rattle.plan.proofs.plans.plan_for.Reads as plan-for-reads
-use Rattle.plan.proofs.slots.is_addressed.Reads as is-addressed-reads
 
 -- src/plans.rt:213:75
 mul-line-of : tie.Need-mul-line-of

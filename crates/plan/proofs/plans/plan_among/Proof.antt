@@ -3,12 +3,6 @@ use Rattle.plan.proofs.Deciding.{sounding, found-inside, placing}
 use borrow.Author.Needs.{needs}
 use Rattle.plan.proofs.plans.plan_among.Statement.{statement}
 use Rattle.plan.proofs.plans.plan_among.Tie as tie
-use Rattle.plan.proofs.plans.plan_among.Reads as reads
-use Rattle.plan.proofs.plans.plan_among.Lts as lts
-use Rattle.lines.proofs.fams.first_of.Reads as first-of-reads
-use Rattle.plan.proofs.plans.join_of.Reads as join-of-reads
-use Rattle.plan.proofs.plans.wants_brackets.Reads as wants-brackets-reads
-use Rattle.plan.proofs.uses.use_fits.Reads as use-fits-reads
 
 -- src/plans.rt:121:26
 first-of-requires : tie.Need-first-of-requires

@@ -4,12 +4,6 @@ use Rattle.plan.proofs.Deciding.{sounding, choosing}
 use borrow.Author.Needs.{needs}
 use Rattle.plan.proofs.plans.plan_for.Statement.{statement}
 use Rattle.plan.proofs.plans.plan_for.Tie as tie
-use Rattle.plan.proofs.plans.plan_for.Reads as reads
-use Rattle.plan.proofs.plans.plan_for.Lts as lts
-use Rattle.lines.proofs.shapes.is_lone_number.Reads as is-lone-number-reads
-use Rattle.lines.proofs.words.line_of.Reads as line-of-reads
-use Rattle.plan.proofs.plans.plan_single.Reads as plan-single-reads
-use Rattle.plan.proofs.plans.propagate_constant.Reads as propagate-constant-reads
 
 -- src/plans.rt:189:55
 mul-line-of : tie.Need-mul-line-of

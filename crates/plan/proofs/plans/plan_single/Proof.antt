@@ -3,10 +3,6 @@ use Rattle.plan.proofs.Deciding.{use-inside, single-none, single-at}
 use borrow.Author.Needs.{needs}
 use Rattle.plan.proofs.plans.plan_single.Statement.{statement}
 use Rattle.plan.proofs.plans.plan_single.Tie as tie
-use Rattle.plan.proofs.plans.plan_single.Reads as reads
-use Rattle.plan.proofs.plans.plan_single.Lts as lts
-use Rattle.plan.proofs.plans.plan_use.Reads as plan-use-reads
-use Rattle.plan.proofs.uses.use_of.Reads as use-of-reads
 
 -- src/plans.rt:168:24
 use-of-requires : tie.Need-use-of-requires

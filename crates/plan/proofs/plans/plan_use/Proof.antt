@@ -4,13 +4,6 @@ use Rattle.plan.proofs.Deciding.{sounding, finding}
 use borrow.Author.Needs.{needs}
 use Rattle.plan.proofs.plans.plan_use.Statement.{statement}
 use Rattle.plan.proofs.plans.plan_use.Tie as tie
-use Rattle.plan.proofs.plans.plan_use.Reads as reads
-use Rattle.plan.proofs.plans.plan_use.Lts as lts
-use Rattle.lines.proofs.shapes.has_while.Reads as has-while-reads
-use Rattle.lines.proofs.words.indent.Reads as indent-reads
-use Rattle.lines.proofs.words.line_of.Reads as line-of-reads
-use Rattle.plan.proofs.dead.dead_after.Reads as dead-after-reads
-use Rattle.plan.proofs.plans.plan_among.Reads as plan-among-reads
 
 -- src/plans.rt:147:13
 mul-s : tie.Need-mul-s

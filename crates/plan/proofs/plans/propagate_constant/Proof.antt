@@ -3,12 +3,6 @@ use Rattle.plan.proofs.Deciding.{sounding, reach-inside, propagating}
 use borrow.Author.Needs.{needs}
 use Rattle.plan.proofs.plans.propagate_constant.Statement.{statement}
 use Rattle.plan.proofs.plans.propagate_constant.Tie as tie
-use Rattle.plan.proofs.plans.propagate_constant.Reads as reads
-use Rattle.plan.proofs.plans.propagate_constant.Lts as lts
-use Rattle.plan.proofs.plans.join_of.Reads as join-of-reads
-use Rattle.plan.proofs.reaches.all_take.Reads as all-take-reads
-use Rattle.plan.proofs.reaches.ends_at.Reads as ends-at-reads
-use Rattle.plan.proofs.reaches.reach_of.Reads as reach-of-reads
 
 -- src/plans.rt:75:9
 reach-of-requires : tie.Need-reach-of-requires

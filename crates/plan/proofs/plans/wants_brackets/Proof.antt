@@ -3,10 +3,6 @@ use Rattle.plan.proofs.Fitting.{brackets-not, brackets-by}
 use borrow.Author.Needs.{needs}
 use Rattle.plan.proofs.plans.wants_brackets.Statement.{statement}
 use Rattle.plan.proofs.plans.wants_brackets.Tie as tie
-use Rattle.plan.proofs.plans.wants_brackets.Reads as reads
-use Rattle.plan.proofs.plans.wants_brackets.Lts as lts
-use Rattle.lines.proofs.shapes.is_operator_expr.Reads as is-operator-expr-reads
-use Rattle.plan.proofs.uses.is_standalone.Reads as is-standalone-reads
 
 -- src/plans.rt:101:9
 is-operator-expr-requires : tie.Need-is-operator-expr-requires

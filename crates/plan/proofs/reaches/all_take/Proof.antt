@@ -9,9 +9,6 @@ use Rattle.lines.specs.Fams.{fam-text}
 use Rattle.plan.proofs.Reaching.{taken-from, taking}
 use Rattle.plan.proofs.reaches.all_take.Statement.{statement}
 use Rattle.plan.proofs.reaches.all_take.Tie as tie
-use Rattle.plan.proofs.reaches.all_take.Reads as reads
-use Rattle.plan.proofs.reaches.all_take.Lts as lts
-use Rattle.plan.proofs.reaches.refuses_constant.Reads as refuses-constant-reads
 
 abbrev Inv-loop : tie.InvT-loop
 Inv-loop tape area tokens lines i last f rules j₀ j = taken-from tape area tokens lines i last (fam-text tape area f) (volatile (rules-of rules)) (suc i) ≡ taken-from tape area tokens lines i last (fam-text tape area f) (volatile (rules-of rules)) j

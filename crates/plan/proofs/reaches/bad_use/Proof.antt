@@ -4,11 +4,6 @@ use Rattle.laws.proofs.Scans.{tests}
 use borrow.Author.Needs.{needs}
 use Rattle.plan.proofs.reaches.bad_use.Statement.{statement}
 use Rattle.plan.proofs.reaches.bad_use.Tie as tie
-use Rattle.plan.proofs.reaches.bad_use.Reads as reads
-use Rattle.plan.proofs.reaches.bad_use.Lts as lts
-use Rattle.lines.proofs.fams.has_narrow.Reads as has-narrow-reads
-use Rattle.lines.proofs.fams.writes.Reads as writes-reads
-use Rattle.plan.proofs.reaches.updates_first.Reads as updates-first-reads
 
 -- src/reaches.rt:159:8
 writes-requires : tie.Need-writes-requires

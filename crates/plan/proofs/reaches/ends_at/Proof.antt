@@ -4,12 +4,6 @@ use Rattle.plan.proofs.Reaching.{ends-dead, ends-kill}
 use borrow.Author.Needs.{needs}
 use Rattle.plan.proofs.reaches.ends_at.Statement.{statement}
 use Rattle.plan.proofs.reaches.ends_at.Tie as tie
-use Rattle.plan.proofs.reaches.ends_at.Reads as reads
-use Rattle.plan.proofs.reaches.ends_at.Lts as lts
-use Rattle.lines.proofs.words.indent.Reads as indent-reads
-use Rattle.lines.proofs.words.line_of.Reads as line-of-reads
-use Rattle.plan.proofs.dead.dead_after.Reads as dead-after-reads
-use Rattle.plan.proofs.touches.kills.Reads as kills-reads
 
 -- src/reaches.rt:226:37
 mul-indent : tie.Need-mul-indent

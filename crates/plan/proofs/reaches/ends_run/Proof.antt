@@ -4,13 +4,6 @@ use Rattle.plan.proofs.Reaching.{running}
 use borrow.Author.Needs.{needs}
 use Rattle.plan.proofs.reaches.ends_run.Statement.{statement}
 use Rattle.plan.proofs.reaches.ends_run.Tie as tie
-use Rattle.plan.proofs.reaches.ends_run.Reads as reads
-use Rattle.plan.proofs.reaches.ends_run.Lts as lts
-use Rattle.lines.proofs.shapes.has_goto.Reads as has-goto-reads
-use Rattle.lines.proofs.shapes.has_while.Reads as has-while-reads
-use Rattle.lines.proofs.shapes.is_label.Reads as is-label-reads
-use Rattle.lines.proofs.words.indent.Reads as indent-reads
-use Rattle.lines.proofs.words.line_of.Reads as line-of-reads
 
 -- src/reaches.rt:36:9
 line-of-requires : tie.Need-line-of-requires

@@ -4,12 +4,6 @@ use Rattle.plan.proofs.Reaching.{reaching}
 use borrow.Author.Needs.{needs}
 use Rattle.plan.proofs.reaches.reach_at.Statement.{statement}
 use Rattle.plan.proofs.reaches.reach_at.Tie as tie
-use Rattle.plan.proofs.reaches.reach_at.Reads as reads
-use Rattle.plan.proofs.reaches.reach_at.Lts as lts
-use Rattle.lines.proofs.shapes.opens_or_closes.Reads as opens-or-closes-reads
-use Rattle.lines.proofs.words.line_of.Reads as line-of-reads
-use Rattle.plan.proofs.reaches.ends_run.Reads as ends-run-reads
-use Rattle.plan.proofs.touches.touch.Reads as touch-reads
 
 -- src/reaches.rt:64:8
 ends-run-requires : tie.Need-ends-run-requires

@@ -9,10 +9,6 @@ use Rattle.lines.specs.Fams.{fam-text}
 use Rattle.plan.proofs.Reaching.{Reached, reached-begin, reached-ended, reached-end, reached-next}
 use Rattle.plan.proofs.reaches.reach_of.Statement.{statement}
 use Rattle.plan.proofs.reaches.reach_of.Tie as tie
-use Rattle.plan.proofs.reaches.reach_of.Reads as reads
-use Rattle.plan.proofs.reaches.reach_of.Lts as lts
-use Rattle.lines.proofs.words.indent.Reads as indent-reads
-use Rattle.plan.proofs.reaches.reach_at.Reads as reach-at-reads
 
 abbrev Inv-loop : tie.InvT-loop
 Inv-loop tape area tokens lines i f rules base-indent r₀ j₀ r j = Reached tape area tokens lines i (fam-text tape area f) (volatile (rules-of rules)) j r

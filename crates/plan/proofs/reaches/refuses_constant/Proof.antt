@@ -4,11 +4,6 @@ use Rattle.plan.proofs.Reaching.{refuses-not, refuses-by}
 use borrow.Author.Needs.{needs}
 use Rattle.plan.proofs.reaches.refuses_constant.Statement.{statement}
 use Rattle.plan.proofs.reaches.refuses_constant.Tie as tie
-use Rattle.plan.proofs.reaches.refuses_constant.Reads as reads
-use Rattle.plan.proofs.reaches.refuses_constant.Lts as lts
-use Rattle.lines.proofs.words.line_of.Reads as line-of-reads
-use Rattle.plan.proofs.reaches.bad_use.Reads as bad-use-reads
-use Rattle.plan.proofs.touches.uses.Reads as uses-reads
 
 -- src/reaches.rt:180:9
 line-of-requires : tie.Need-line-of-requires

@@ -5,13 +5,6 @@ use Rattle.plan.proofs.Reaching.{updating}
 use borrow.Author.Needs.{needs}
 use Rattle.plan.proofs.reaches.updates_first.Statement.{statement}
 use Rattle.plan.proofs.reaches.updates_first.Tie as tie
-use Rattle.plan.proofs.reaches.updates_first.Reads as reads
-use Rattle.plan.proofs.reaches.updates_first.Lts as lts
-use Rattle.lines.proofs.fams.is_of.Reads as is-of-reads
-use Rattle.lines.proofs.words.kind.Reads as kind-reads
-use Rattle.lines.proofs.words.text.Reads as text-reads
-use Rattle.text.proofs.begins_assign.Reads as begins-assign-reads
-use Rattle.text.proofs.begins_equal.Reads as begins-equal-reads
 
 -- src/reaches.rt:138:9
 returns : tie.Need-returns

@@ -4,10 +4,6 @@ use Rattle.plan.proofs.Addressing.{addressing}
 use borrow.Author.Needs.{needs}
 use Rattle.plan.proofs.slots.is_addressed.Statement.{statement}
 use Rattle.plan.proofs.slots.is_addressed.Tie as tie
-use Rattle.plan.proofs.slots.is_addressed.Reads as reads
-use Rattle.plan.proofs.slots.is_addressed.Lts as lts
-use Rattle.lines.proofs.words.text.Reads as text-reads
-use Rattle.plan.proofs.slots.slot_among.Reads as slot-among-reads
 
 -- src/slots.rt:36:24
 enum-told : tie.Need-enum-told

@@ -9,10 +9,6 @@ use Rattle.plan.specs.Slots.{slot-names}
 use Rattle.plan.proofs.Addressing.{addressing}
 use Rattle.plan.proofs.slots.slot_among.Statement.{statement}
 use Rattle.plan.proofs.slots.slot_among.Tie as tie
-use Rattle.plan.proofs.slots.slot_among.Reads as reads
-use Rattle.plan.proofs.slots.slot_among.Lts as lts
-use Rattle.lines.proofs.words.text.Reads as text-reads
-use Rattle.text.proofs.same.Reads as same-reads
 
 abbrev Inv-loop : tie.InvT-loop
 Inv-loop slots slot-words s k₀ k = has (slot-names slots slot-words) s ≡ has (slot-names slots (drop k slot-words)) s

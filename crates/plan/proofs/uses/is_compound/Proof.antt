@@ -4,12 +4,6 @@ use Rattle.plan.proofs.Fitting.{compounding}
 use borrow.Author.Needs.{needs}
 use Rattle.plan.proofs.uses.is_compound.Statement.{statement}
 use Rattle.plan.proofs.uses.is_compound.Tie as tie
-use Rattle.plan.proofs.uses.is_compound.Reads as reads
-use Rattle.plan.proofs.uses.is_compound.Lts as lts
-use Rattle.lines.proofs.words.kind.Reads as kind-reads
-use Rattle.lines.proofs.words.text.Reads as text-reads
-use Rattle.text.proofs.begins_assign.Reads as begins-assign-reads
-use Rattle.text.proofs.begins_operator.Reads as begins-operator-reads
 
 -- src/uses.rt:188:9
 returns : tie.Need-returns

@@ -5,11 +5,6 @@ use Rattle.plan.proofs.Fitting.{standing}
 use borrow.Author.Needs.{needs}
 use Rattle.plan.proofs.uses.is_standalone.Statement.{statement}
 use Rattle.plan.proofs.uses.is_standalone.Tie as tie
-use Rattle.plan.proofs.uses.is_standalone.Reads as reads
-use Rattle.plan.proofs.uses.is_standalone.Lts as lts
-use Rattle.lines.proofs.words.text.Reads as text-reads
-use Rattle.text.proofs.delimits_after.Reads as delimits-after-reads
-use Rattle.text.proofs.delimits_before.Reads as delimits-before-reads
 
 -- src/uses.rt:231:9
 returns : tie.Need-returns

@@ -6,13 +6,6 @@ use Rattle.plan.proofs.Deciding.{sound-side}
 use borrow.Author.Needs.{needs}
 use Rattle.plan.proofs.uses.leaves_inputs.Statement.{statement}
 use Rattle.plan.proofs.uses.leaves_inputs.Tie as tie
-use Rattle.plan.proofs.uses.leaves_inputs.Reads as reads
-use Rattle.plan.proofs.uses.leaves_inputs.Lts as lts
-use Rattle.lines.proofs.fams.mentions.Reads as mentions-reads
-use Rattle.lines.proofs.fams.name_of.Reads as name-of-reads
-use Rattle.lines.proofs.shapes.assignment.Reads as assignment-reads
-use Rattle.lines.proofs.words.text.Reads as text-reads
-use Rattle.text.proofs.begins_slot.Reads as begins-slot-reads
 
 -- src/uses.rt:72:27
 assignment-requires : tie.Need-assignment-requires

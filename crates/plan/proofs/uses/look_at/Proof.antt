@@ -5,14 +5,6 @@ use Rattle.plan.proofs.Looking.{looking}
 use borrow.Author.Needs.{needs}
 use Rattle.plan.proofs.uses.look_at.Statement.{statement}
 use Rattle.plan.proofs.uses.look_at.Tie as tie
-use Rattle.plan.proofs.uses.look_at.Reads as reads
-use Rattle.plan.proofs.uses.look_at.Lts as lts
-use Rattle.lines.proofs.shapes.is_label.Reads as is-label-reads
-use Rattle.lines.proofs.words.indent.Reads as indent-reads
-use Rattle.lines.proofs.words.line_of.Reads as line-of-reads
-use Rattle.plan.proofs.touches.touch.Reads as touch-reads
-use Rattle.plan.proofs.uses.leaves_inputs.Reads as leaves-inputs-reads
-use Rattle.plan.proofs.uses.stays_put.Reads as stays-put-reads
 
 -- src/uses.rt:101:9
 line-of-requires : tie.Need-line-of-requires

@@ -4,12 +4,6 @@ use Rattle.plan.proofs.Looking.{putting}
 use borrow.Author.Needs.{needs}
 use Rattle.plan.proofs.uses.stays_put.Statement.{statement}
 use Rattle.plan.proofs.uses.stays_put.Tie as tie
-use Rattle.plan.proofs.uses.stays_put.Reads as reads
-use Rattle.plan.proofs.uses.stays_put.Lts as lts
-use Rattle.lines.proofs.shapes.has_call.Reads as has-call-reads
-use Rattle.lines.proofs.shapes.opens_or_closes.Reads as opens-or-closes-reads
-use Rattle.lines.proofs.words.indent.Reads as indent-reads
-use Rattle.lines.proofs.words.line_of.Reads as line-of-reads
 
 -- src/uses.rt:49:9
 returns : tie.Need-returns

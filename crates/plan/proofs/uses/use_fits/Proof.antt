@@ -3,12 +3,6 @@ use Rattle.plan.proofs.Fitting.{fitting}
 use borrow.Author.Needs.{needs}
 use Rattle.plan.proofs.uses.use_fits.Statement.{statement}
 use Rattle.plan.proofs.uses.use_fits.Tie as tie
-use Rattle.plan.proofs.uses.use_fits.Reads as reads
-use Rattle.plan.proofs.uses.use_fits.Lts as lts
-use Rattle.lines.proofs.fams.writes.Reads as writes-reads
-use Rattle.plan.proofs.uses.is_compound.Reads as is-compound-reads
-use Rattle.plan.proofs.uses.use_width.Reads as use-width-reads
-use Rattle.plan.proofs.uses.widths_fit.Reads as widths-fit-reads
 
 -- src/uses.rt:216:27
 use-width-requires : tie.Need-use-width-requires

@@ -12,9 +12,6 @@ use Rattle.plan.specs.Definitions.{definition-in}
 use Rattle.plan.proofs.Looking.{used-from, seeking}
 use Rattle.plan.proofs.uses.use_of.Statement.{statement}
 use Rattle.plan.proofs.uses.use_of.Tie as tie
-use Rattle.plan.proofs.uses.use_of.Reads as reads
-use Rattle.plan.proofs.uses.use_of.Lts as lts
-use Rattle.plan.proofs.uses.look_at.Reads as look-at-reads
 
 abbrev Inv-loop : tie.InvT-loop
 Inv-loop tape area tokens lines i d rules s j₀ j = use-of (bare-listing tape area tokens lines) i (definition-in tape area (part-of tokens (getD lines i 0)) d) (volatile (rules-of rules)) ≡ used-from tape area tokens lines i (definition-in tape area (part-of tokens (getD lines i 0)) d) (volatile (rules-of rules)) j

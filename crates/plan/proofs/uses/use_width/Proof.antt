@@ -4,9 +4,6 @@ use Rattle.plan.proofs.Fitting.{width-named, width-unnamed}
 use borrow.Author.Needs.{needs}
 use Rattle.plan.proofs.uses.use_width.Statement.{statement}
 use Rattle.plan.proofs.uses.use_width.Tie as tie
-use Rattle.plan.proofs.uses.use_width.Reads as reads
-use Rattle.plan.proofs.uses.use_width.Lts as lts
-use Rattle.lines.proofs.fams.name_of.Reads as name-of-reads
 
 -- src/uses.rt:176:37
 mul-name-of : tie.Need-mul-name-of

@@ -3,8 +3,6 @@ use borrow.Author.Needs.{needs}
 use Rattle.plan.proofs.Fitting.{widths-same, widths-narrow, widths-wide}
 use Rattle.plan.proofs.uses.widths_fit.Statement.{statement}
 use Rattle.plan.proofs.uses.widths_fit.Tie as tie
-use Rattle.plan.proofs.uses.widths_fit.Reads as reads
-use Rattle.plan.proofs.uses.widths_fit.Lts as lts
 
 -- src/uses.rt:163:9
 returns : tie.Need-returns
