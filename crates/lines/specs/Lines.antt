@@ -1,0 +1,72 @@
+-- What a line word means, and the listing of line words. A line's tokens are any part of the token words: what stands between the parts is
+-- never looked at. Assumes nothing.
+use Prim.Native.Nat.{ℕ, _+_, _*_, _/_, _%_, _≤_, _<_}
+use mathlib.Core.List.{List, map}
+use mathlib.Core.Option.{Option, none, some}
+use lib.Dec.{eqb}
+use lib.ListN.{length, take, drop, getD}
+use Rattle.reference.specs.Control.{if_then_else_}
+use Rattle.reference.specs.Text.{Text}
+use Rattle.reference.specs.Listing.{Line, Listing}
+use Rattle.lines.specs.Words.{tokens-of, Holds}
+
+-- first token in 16 bits, count in 11 bits, indent in 6 bits, whether it has an address in 1 bit, origin in 8 bits
+
+unfoldable pub first-of : ℕ → ℕ
+first-of l = l % 65536
+
+unfoldable pub count-of : ℕ → ℕ
+count-of l = l / 65536 % 2048
+
+unfoldable pub indent-of : ℕ → ℕ
+indent-of l = l / 134217728 % 64
+
+unfoldable pub addressed-of : ℕ → ℕ
+addressed-of l = l / 8589934592 % 2
+
+-- the number of the input line that the line was
+unfoldable pub origin-of : ℕ → ℕ
+origin-of l = l / 17179869184 % 256
+
+-- the word of these parts
+unfoldable pub line-word : ℕ → ℕ → ℕ → ℕ → ℕ → ℕ
+line-word first count indent addressed origin =
+    first + count * 65536 + indent * 134217728 + addressed * 8589934592 + origin * 17179869184
+
+-- the same line with `count` tokens from `first` on
+unfoldable pub with-part : ℕ → ℕ → ℕ → ℕ
+with-part l first count = line-word first count (indent-of l) (addressed-of l) (origin-of l)
+
+-- the words of a line
+abbrev pub part-of : List ℕ → ℕ → List ℕ
+part-of tokens l = take (count-of l) (drop (first-of l) tokens)
+
+-- `addresses` has the addresses by the number of the input line
+unfoldable pub address-in : List ℕ → ℕ → Option ℕ
+address-in addresses l = if eqb (addressed-of l) 1 then some (getD addresses (origin-of l) 0) else none
+
+abbrev pub line-in : Text → Text → List ℕ → List ℕ → ℕ → Line
+line-in tape area tokens addresses l =
+    record { address = address-in addresses l; indent = indent-of l; tokens = tokens-of tape area (part-of tokens l) }
+
+abbrev pub listing-of : Text → Text → List ℕ → List ℕ → List ℕ → Listing
+listing-of tape area tokens addresses lines = map (line-in tape area tokens addresses) lines
+
+-- a line without its address, of which what only reads a listing says nothing
+abbrev pub bare : Line → Line
+bare l = record { address = none; indent = l .indent; tokens = l .tokens }
+
+abbrev pub bare-in : Text → Text → List ℕ → ℕ → Line
+bare-in tape area tokens l = record { address = none; indent = indent-of l; tokens = tokens-of tape area (part-of tokens l) }
+
+abbrev pub bare-listing : Text → Text → List ℕ → List ℕ → Listing
+bare-listing tape area tokens lines = map (bare-in tape area tokens) lines
+
+-- the line is a part of the tokens, and each of its words points into its text
+pub record Lined (tape area : Text) (tokens : List ℕ) (l : ℕ) : Type 0 where
+  pub inside : first-of l + count-of l ≤ length tokens
+  pub holds : Holds tape area (part-of tokens l)
+
+-- so is every line of the list
+pub record Listed (tape area : Text) (tokens lines : List ℕ) : Type 0 where
+  pub at : (k : ℕ) → k < length lines → Lined tape area tokens (getD lines k 0)

@@ -1,0 +1,58 @@
+-- What a token word means, and the words that point into their texts. Assumes nothing.
+use Prim.Native.Nat.{ℕ, _+_, _-_, _*_, _/_, _%_, _≤_, _<_}
+use mathlib.Core.List.{List, map}
+use lib.Dec.{eqb}
+use lib.ListN.{length, take, drop, getD}
+use Rattle.reference.specs.Control.{if_then_else_}
+use Rattle.reference.specs.Text.{Text}
+use Rattle.reference.specs.Listing.{Token, token}
+
+-- kind in 3 bits, place in 1 bit, start in 16 bits, length in 16 bits; the bits above are free
+
+unfoldable pub kind-of : ℕ → ℕ
+kind-of w = w % 8
+
+unfoldable pub place-of : ℕ → ℕ
+place-of w = w / 8 % 2
+
+unfoldable pub start-of : ℕ → ℕ
+start-of w = w / 16 % 65536
+
+unfoldable pub len-of : ℕ → ℕ
+len-of w = w / 1048576 % 65536
+
+-- the word of these parts
+unfoldable pub word : ℕ → ℕ → ℕ → ℕ → ℕ
+word kind place start len = kind + place * 8 + start * 16 + len * 1048576
+
+-- shorter parts of a word's text: without its first n bytes, its first n bytes, without its last byte
+unfoldable pub without-first : ℕ → ℕ → ℕ
+without-first w n = word (kind-of w) (place-of w) (start-of w + n) (len-of w - n)
+
+unfoldable pub first-bytes : ℕ → ℕ → ℕ
+first-bytes w n = word (kind-of w) (place-of w) (start-of w) n
+
+abbrev pub without-last : ℕ → ℕ
+without-last w = first-bytes w (len-of w - 1)
+
+-- where the text of a place stands: 0 is the tape, 1 the area
+unfoldable pub source : Text → Text → ℕ → Text
+source tape area place = if eqb place 0 then tape else area
+
+unfoldable pub text-of : Text → Text → ℕ → Text
+text-of tape area w = take (len-of w) (drop (start-of w) (source tape area (place-of w)))
+
+abbrev pub token-of : Text → Text → ℕ → Token
+token-of tape area w = token (kind-of w) (text-of tape area w)
+
+abbrev pub tokens-of : Text → Text → List ℕ → List Token
+tokens-of tape area ws = map (token-of tape area) ws
+
+-- the word's text lies within its source, and below the place that a start can name
+pub record Points (tape area : Text) (w : ℕ) : Type 0 where
+  pub inside : start-of w + len-of w ≤ length (source tape area (place-of w))
+  pub short : start-of w + len-of w < 65536
+
+-- every word of the list points into its text
+pub record Holds (tape area : Text) (ws : List ℕ) : Type 0 where
+  pub at : (k : ℕ) → k < length ws → Points tape area (getD ws k 0)
