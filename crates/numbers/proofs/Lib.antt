@@ -1,0 +1,4 @@
+pub mod Bits
+pub mod Signed
+pub mod Digits
+pub mod Writing
