@@ -1,2 +1,6 @@
--- Laws on lists that the proofs of the builder cite: appending (Appending).
+-- Laws on lists that the proofs of the builder cite: what the stores of an append come to (Appending), what stays as it was (Growing), and
+-- that a push at a time is `merge` (Merging).
 pub mod Appending
+pub mod Growing
+pub mod Merging
+pub mod Pushing
