@@ -1,22 +1,20 @@
 -- What a plan changes is what is changed at the places of the lines that use the family; so `act` is `rewrite-uses` there. Assumes nothing.
-use Prim.Native.Nat.{ℕ, zero, suc, _+_, _-_, _≤_, _<_}
+use Prim.Native.Nat.{ℕ, suc, _≤_, _<_}
 use native.Mathlib.Omega.{arith}
 use native.Mathlib.Nat.{zero-add}
-use mathlib.Core.Path.{_≡_, refl, sym, ap, _∙_, subst}
+use mathlib.Core.Path.{_≡_, refl, sym, ap, _∙_}
 use mathlib.Core.Bool.{Bool, true, false}
 use mathlib.Core.List.{List, [], _∷_, _++_, append-assoc}
-use lib.Dec.{leb, ltb}
-use lib.ListN.{length, getD, take, drop, length-append, take-append-drop}
+use lib.Dec.{leb}
+use lib.ListN.{length, take, drop, length-append, take-append-drop}
 use lib.Seq.{length-take-le}
 use borrow.Author.Tests.{lt-ltb, le-ltb}
-use Rattle.reference.specs.Control.{not, _&&_, _||_, if_then_else_}
-use Rattle.reference.specs.Lists.{remove, modify}
+use Rattle.reference.specs.Control.{_&&_, if_then_else_}
+use Rattle.reference.specs.Lists.{modify}
 use Rattle.reference.specs.Text.{Text}
-use Rattle.reference.specs.Listing.{Token, Line, Listing, _at_}
-use Rattle.reference.specs.Rules.{Rules, volatile}
+use Rattle.reference.specs.Listing.{Token, Line, Listing}
 use Rattle.reference.specs.Life.{touch, is-use}
 use Rattle.reference.specs.Join.{rewrite-use, rewrite-uses}
-use Rattle.reference.proofs.Cases.{by-if}
 use Rattle.laws.proofs.Scans.{if-true, if-false, and-true, and-false}
 use Rattle.joining.specs.Plan.{Plan, map-from, right-side-of, changes, where-used, acted-line}
 use Rattle.joining.proofs.Uses.{uses-upto}
@@ -38,9 +36,17 @@ module _ (vol : List Text) (i : ℕ) (p : Plan) where
   changes-later k l h = and-true _ (lt-ltb i k h)
 
   module _ (g : Line → Line) where
+    pub line-changed : (k : ℕ) (l : Line) → changes vol i p k l ≡ true → where-used vol i p g k l ≡ g l
+    unfolding where-used
+    line-changed k l e = if-true _ _ e
+
+    pub line-kept : (k : ℕ) (l : Line) → changes vol i p k l ≡ false → where-used vol i p g k l ≡ l
+    unfolding where-used
+    line-kept k l e = if-false _ _ e
+
     pub early : (k : ℕ) (l : Line) → k ≤ i → where-used vol i p g k l ≡ l
-    unfolding where-used changes
-    early k l h = if-false _ _ (and-false _ (le-ltb i k h))
+    unfolding changes
+    early k l h = line-kept k l (and-false _ (le-ltb i k h))
 
     changed-from : (front : Listing) (j : ℕ) (ls : Listing) → i < j → length front ≡ j
         → modifies g (uses-upto (p .fam) vol (p .last) j ls) (front ++ ls) ≡ front ++ map-from (where-used vol i p g) j ls

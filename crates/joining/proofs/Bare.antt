@@ -1,23 +1,26 @@
--- No attempt and no cut looks at an address: each decides the same of the lines without theirs, and leaves the same lines without theirs.
--- Assumes nothing.
+-- No attempt and no cut looks at an address: each decides the same of the lines without theirs, and leaves the same lines without theirs; the
+-- addresses go beside, the removed line's with it. Assumes nothing.
 use Prim.Native.Nat.{ℕ, zero, suc}
 use mathlib.Core.Path.{_≡_, refl, sym, ap, _∙_}
 use mathlib.Core.Bool.{Bool, true, false}
-use mathlib.Core.List.{List, [], _∷_, _++_, map}
+use mathlib.Core.List.{List, [], _∷_, map, nil≢cons, cons≢nil}
 use mathlib.Core.Option.{Option, none, some}
 use lib.ListN.{drop}
 use lib.Seq.{slice}
 use Rattle.reference.specs.Control.{if_then_else_, let-some_else_then_}
-use Rattle.reference.specs.Lists.{any, remove, modify}
+use Rattle.reference.specs.Lists.{get, remove, modify}
 use Rattle.reference.specs.Text.{Text}
-use Rattle.reference.specs.Listing.{Token, Line, Listing, _at_, with-tokens}
+use Rattle.reference.specs.Listing.{Token, Line, Listing, _at_}
 use Rattle.reference.specs.Rules.{Rules, volatile}
-use Rattle.reference.specs.Life.{Labels, touch}
-use Rattle.reference.specs.Join.{Uses, ends-run, gather, harmless, use-from, rewrite-use, try-at}
+use Rattle.reference.specs.Life.{Labels}
+use Rattle.reference.specs.Join.{ends-run, gather, harmless, use-from, rewrite-use, text-or-empty, try-at}
 use Rattle.reference.specs.Run.{labels-from, addressed-in, dead-result}
+use Rattle.reference.proofs.Cases.{by-if}
 use Rattle.laws.proofs.Scans.{any-map}
 use Rattle.joining.specs.Bare.{bare, bare-lines}
-use Rattle.joining.specs.Plan.{Definition, definition-of, Plan, Reach, reach-at, reach-from, reach-of, refuses, all-take, ends-at, plan-reach, plan-constant, use-of, plan-use, plan-single, plan-for, decide, map-from, right-side-of, changes, where-used, acted-line, act}
+use Rattle.joining.specs.Places.{label-places, labels-at}
+use Rattle.joining.specs.Rounds.{cut-at}
+use Rattle.joining.specs.Plan.{Definition, Plan, Reach, reach-at, reach-from, reach-of, refuses, all-take, ends-at, plan-reach, plan-constant, use-of, plan-use, plan-single, plan-for, decide, map-from, right-side-of, changes, where-used, acted-line, act}
 use Rattle.joining.proofs.BareLife.{at-bare, drop-map, slice-map, dead-after-bare}
 use Rattle.joining.proofs.Deciding.{try-at-is}
 
@@ -43,7 +46,9 @@ module _ (base-indent : ℕ) (fam : Text) (volatile : List Text) where
 module _ (lines : Listing) (i : ℕ) where
   pub reach-of-bare : (fam : Text) (volatile : List Text) → reach-of (bare-lines lines) i fam volatile ≡ reach-of lines i fam volatile
   unfolding reach-of
-  reach-of-bare fam volatile = rw (at-bare lines i, drop-map bare (suc i) lines) (reach-from-bare ((lines at i) .indent) fam volatile (suc i) (drop (suc i) lines) _)
+  reach-of-bare fam volatile =
+      rw (at-bare lines i, drop-map bare (suc i) lines)
+      (reach-from-bare ((lines at i) .indent) fam volatile (suc i) (drop (suc i) lines) _)
 
   module _ (d : Definition) (labels : Labels) (volatile : List Text) where
     take-bare : (ls : Listing) → all-take (d .fam .name) volatile (bare-lines ls) ≡ all-take (d .fam .name) volatile ls
@@ -53,11 +58,19 @@ module _ (lines : Listing) (i : ℕ) where
     plan-reach-bare : (r : Reach) → plan-reach (bare-lines lines) i d labels volatile r ≡ plan-reach lines i d labels volatile r
     unfolding plan-reach ends-at
     plan-reach-bare r =
-        rw (at-bare lines i, at-bare lines (r .last), slice-map bare (suc i) (suc (r .last)) lines, take-bare (slice (suc i) (suc (r .last)) lines), dead-after-bare lines (d .fam .name) ((lines at i) .indent) labels i volatile (r .last))
+        rw (
+          at-bare lines i,
+          at-bare lines (r .last),
+          slice-map bare (suc i) (suc (r .last)) lines,
+          take-bare (slice (suc i) (suc (r .last)) lines),
+          dead-after-bare lines (d .fam .name) ((lines at i) .indent) labels i volatile (r .last),
+        )
 
     use-of-bare : use-of (bare-lines lines) i d volatile ≡ use-of lines i d volatile
     unfolding use-of
-    use-of-bare = rw (at-bare lines i, drop-map bare (suc i) lines) (use-from-bare ((lines at i) .indent) (d .fam .name) volatile (d .expr) (d .calls) (suc i) (drop (suc i) lines))
+    use-of-bare =
+        rw (at-bare lines i, drop-map bare (suc i) lines)
+        (use-from-bare ((lines at i) .indent) (d .fam .name) volatile (d .expr) (d .calls) (suc i) (drop (suc i) lines))
 
     plan-use-bare : (j : ℕ) → plan-use (bare-lines lines) i d labels volatile j ≡ plan-use lines i d labels volatile j
     unfolding plan-use
@@ -90,6 +103,10 @@ module _ {ℓ κ} {A : Type ℓ} {B : Type κ} (f : A → B) where
   map-from-map g h e k [] = refl
   map-from-map g h e k (x ∷ xs) = λ t. e k x t ∷ map-from-map g h e (suc k) xs t
 
+same-map {ℓ κ} : {A : Type ℓ} {B : Type κ} (f : A → B) (g : ℕ → A → A) → ((k : ℕ) (x : A) → f (g k x) ≡ f x) → (k : ℕ) (xs : List A) → map f (map-from g k xs) ≡ map f xs
+same-map f g e k [] = refl
+same-map f g e k (x ∷ xs) = λ t. e k x t ∷ same-map f g e (suc k) xs t
+
 line-bare : (vol : List Text) (i : ℕ) (p : Plan) (k : ℕ) (l : Line) → acted-line vol i p k (bare l) ≡ bare (acted-line vol i p k l)
 unfolding where-used changes if_then_else_ rewrite-use
 line-bare vol i p k l = go (changes vol i p k l)
@@ -107,9 +124,12 @@ act-bare rules lines i p =
 pub try-at-bare : (rules : Rules) (lines : Listing) (i : ℕ) (labels : Labels) (addressed : List Text)
     → try-at rules (bare-lines lines) i labels addressed ≡ (let-some (try-at rules lines i labels addressed) else none then λ lines′. some (bare-lines lines′))
 unfolding let-some_else_then_
-try-at-bare rules lines i labels addressed = rw (try-at-is rules (bare-lines lines) i labels addressed, try-at-is rules lines i labels addressed, decide-bare rules lines i labels addressed) (go (decide rules lines i labels addressed))
+try-at-bare rules lines i labels addressed =
+    rw (try-at-is rules (bare-lines lines) i labels addressed, try-at-is rules lines i labels addressed, decide-bare rules lines i labels addressed)
+    (go (decide rules lines i labels addressed))
   where
-    go : (o : Option Plan) → (let-some o else none then λ p. some (act rules (bare-lines lines) i p)) ≡ (let-some (let-some o else none then λ p. some (act rules lines i p)) else none then λ lines′. some (bare-lines lines′))
+    go : (o : Option Plan) → (let-some o else none then λ p. some (act rules (bare-lines lines) i p))
+        ≡ (let-some (let-some o else none then λ p. some (act rules lines i p)) else none then λ lines′. some (bare-lines lines′))
     go none = refl
     go (some p) = ap {B = Option Listing} some (act-bare rules lines i p)
 
@@ -120,6 +140,15 @@ unfolding labels-from
 labels-bare i [] = refl
 labels-bare i (l ∷ ls) = rw (labels-bare (suc i) ls)
 
+pub label-places-bare : (i : ℕ) (ls : Listing) → label-places i (bare-lines ls) ≡ label-places i ls
+unfolding label-places
+label-places-bare i [] = refl
+label-places-bare i (l ∷ ls) = rw (label-places-bare (suc i) ls)
+
+pub labels-at-bare : (lines : Listing) (places : List ℕ) → labels-at (bare-lines lines) places ≡ labels-at lines places
+labels-at-bare lines [] = refl
+labels-at-bare lines (q ∷ qs) = λ t. record { name = text-or-empty (get (at-bare lines q t .tokens) 0); place = q } ∷ labels-at-bare lines qs t
+
 pub addressed-bare : (ls : Listing) → addressed-in (bare-lines ls) ≡ addressed-in ls
 unfolding addressed-in
 addressed-bare [] = refl
@@ -129,6 +158,33 @@ pub dead-result-bare : (rules : Rules) (labels : Labels) (lines : Listing) (i : 
 unfolding dead-result
 dead-result-bare rules labels lines i = rw (at-bare lines i, dead-after-bare lines _ ((lines at i) .indent) labels i (volatile rules) i)
 
-pub cut-bare : (i : ℕ) (lines : Listing)
-    → modify i (λ l. with-tokens (drop 2 (l .tokens)) l) (bare-lines lines) ≡ bare-lines (modify i (λ l. with-tokens (drop 2 (l .tokens)) l) lines)
+pub cut-bare : (i : ℕ) (lines : Listing) → cut-at i (bare-lines lines) ≡ bare-lines (cut-at i lines)
 cut-bare i lines = modify-map bare _ _ (λ l. refl) i lines
+
+-- ---- the addresses, kept beside the lines
+
+-- lines are what they are without their addresses, and their addresses
+pub with-addresses : (xs ys : Listing) → bare-lines xs ≡ bare-lines ys → map (λ l. l .address) xs ≡ map (λ l. l .address) ys → xs ≡ ys
+with-addresses [] [] e h = refl
+with-addresses [] (y ∷ ys) e h = absurd (nil≢cons e)
+with-addresses (x ∷ xs) [] e h = absurd (cons≢nil e)
+with-addresses (x ∷ xs) (y ∷ ys) e h =
+    let first : bare x ≡ bare y = cc in
+    let address : x .address ≡ y .address = cc in
+    let more : xs ≡ ys = with-addresses xs ys (cc) (cc) in
+    λ t. record { address = address t; indent = first t .indent; tokens = first t .tokens } ∷ more t
+
+address-stays : (vol : List Text) (i : ℕ) (p : Plan) (k : ℕ) (l : Line) → acted-line vol i p k l .address ≡ l .address
+unfolding where-used rewrite-use
+address-stays vol i p k l = by-if (λ (x : Line). x .address ≡ l .address) (λ e. refl) (λ e. refl)
+
+pub act-addresses : (rules : Rules) (lines : Listing) (i : ℕ) (p : Plan) → map (λ l. l .address) (act rules lines i p) ≡ remove i (map (λ l. l .address) lines)
+unfolding act
+act-addresses rules lines i p =
+    sym (remove-map (λ (l : Line). l .address) i (map-from (acted-line (volatile rules) i p) 0 lines))
+    ∙ ap (remove i) (same-map (λ (l : Line). l .address) (acted-line (volatile rules) i p) (address-stays (volatile rules) i p) 0 lines)
+
+pub cut-addresses : (i : ℕ) (lines : Listing) → map (λ l. l .address) (cut-at i lines) ≡ map (λ l. l .address) lines
+cut-addresses i [] = refl
+cut-addresses zero (l ∷ ls) = refl
+cut-addresses (suc i) (l ∷ ls) = ap {B = List (Option ℕ)} (λ r. l .address ∷ r) (cut-addresses i ls)

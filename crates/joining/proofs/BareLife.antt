@@ -1,16 +1,14 @@
 -- No reader of a value's life looks at an address: `killed-first` and `dead-after` say the same of the lines without theirs. Assumes nothing.
 use Prim.Native.Nat.{ℕ, zero, suc, _+_}
-use mathlib.Core.Path.{_≡_, refl, sym, ap, _∙_}
-use mathlib.Core.Bool.{Bool, true, false}
+use mathlib.Core.Path.{_≡_, refl, ap, _∙_}
+use mathlib.Core.Bool.{Bool}
 use mathlib.Core.List.{List, [], _∷_, map}
-use mathlib.Core.Option.{Option, none, some}
 use lib.ListN.{take, drop, List·getD-map}
 use lib.Seq.{slice}
-use Rattle.reference.specs.Control.{not, _&&_, if_then_else_, let-some_else_then_}
 use Rattle.reference.specs.Lists.{last-position}
 use Rattle.reference.specs.Text.{Text}
 use Rattle.reference.specs.Listing.{Line, Listing, blank, _at_}
-use Rattle.reference.specs.Life.{Labels, touch, match-touch, killed-first, is-do, rerun-kills, while-passes, goto-passes, scan, dead-from, dead-after}
+use Rattle.reference.specs.Life.{Labels, killed-first, is-do, rerun-kills, while-passes, goto-passes, scan, dead-from, dead-after}
 use Rattle.joining.specs.Bare.{bare, bare-lines}
 
 module _ {ℓ κ} {A : Type ℓ} {B : Type κ} (f : A → B) where
@@ -60,6 +58,7 @@ module _ (lines : Listing) (fam : Text) (base-indent : ℕ) (labels : Labels) (s
   dead-from-bare w [] = refl
   dead-from-bare w (l ∷ ls) = rw (dead-from-bare (suc w) ls, while-bare lines fam start volatile w l, goto-bare lines fam start volatile labels l)
 
-  pub dead-after-bare : (from : ℕ) → dead-after (bare-lines lines) from fam base-indent labels start volatile ≡ dead-after lines from fam base-indent labels start volatile
+  pub dead-after-bare : (from : ℕ)
+      → dead-after (bare-lines lines) from fam base-indent labels start volatile ≡ dead-after lines from fam base-indent labels start volatile
   unfolding dead-after
   dead-after-bare from = rw (drop-map bare (suc from) lines) (dead-from-bare (suc from) (drop (suc from) lines))

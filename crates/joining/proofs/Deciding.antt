@@ -1,51 +1,56 @@
 -- To decide and then to act is to try: `try-at` is `decide` followed by `act`, for every listing. Assumes nothing.
-use Prim.Native.Nat.{ℕ, zero, suc, _≤_, _<_}
-use native.Mathlib.Omega.{arith}
-use native.Mathlib.Decide.{decLe}
-use mathlib.Core.Path.{_≡_, refl, sym, ap, _∙_, subst}
-use mathlib.Core.Logic.{by-cases}
+use Prim.Native.Nat.{ℕ, suc, _<_}
+use mathlib.Core.Path.{_≡_, refl, sym, ap, _∙_}
 use mathlib.Core.Bool.{Bool, true, false}
-use mathlib.Core.List.{List, [], _∷_, _++_}
+use mathlib.Core.List.{List, [], _∷_}
 use mathlib.Core.Option.{Option, none, some}
-use lib.ListN.{length, drop, List·getD-eq-default}
-use lib.Seq.{slice}
+use lib.ListN.{length, drop}
 use Rattle.reference.specs.Control.{not, _&&_, _||_, if_then_else_, let-some_else_then_}
 use Rattle.reference.specs.Lists.{any, position, is-some, is-empty, remove, modify}
 use Rattle.reference.specs.Text.{Text, has}
-use Rattle.reference.specs.Listing.{Token, Line, Listing, blank, _at_, with-tokens}
+use Rattle.reference.specs.Listing.{Token, Listing, blank, _at_, with-tokens}
 use Rattle.reference.specs.Names.{Fam, family, of-family}
 use Rattle.reference.specs.Numbers.{fold, merge}
 use Rattle.reference.specs.Rules.{Rules, volatile}
 use Rattle.reference.specs.Shapes.{Assignment, assignment-of, call-in}
-use Rattle.reference.specs.Life.{Labels, touch, is-kill, dead-after}
-use Rattle.reference.specs.Join.{Uses, gather, bad-use, rewrite-use, rewrite-uses, rewrite-one, replace-at, replacement, propagate-constant, use-from, join-at, join-one, lone-number, try-at}
-use Rattle.reference.proofs.Cases.{by-if, by-some, neither, none-some, some-inj}
+use Rattle.reference.specs.Life.{Labels}
+use Rattle.reference.specs.Join.{Uses, rewrite-use, rewrite-uses, rewrite-one, propagate-constant, use-from, join-at, join-one, lone-number, try-at}
+use Rattle.reference.proofs.Cases.{by-if, by-some, neither, some-inj, unless-some, bind-some}
+use Rattle.reference.proofs.Shapes.{inside as assignment-inside}
 use Rattle.laws.proofs.Scans.{if-true, if-false, or-only}
-use Rattle.joining.specs.Plan.{Definition, definition-of, Plan, Reach, reach-of, all-take, refuses, ends-at, plan-reach, plan-constant, use-of, wants-brackets, plan-use, plan-single, plan-for, decide, right-side-of, map-from, acted-line, act}
-use Rattle.joining.proofs.Uses.{uses-upto, gather-uses, single-use}
+use Rattle.joining.specs.Plan.{Definition, definition-of, Plan, all-take, ends-at, plan-reach, plan-constant, use-of, wants-brackets, plan-use, plan-single, plan-for, decide, right-side-of, map-from, acted-line, act}
+use Rattle.joining.proofs.Uses.{uses-upto, single-use}
 use Rattle.joining.proofs.Reaching.{gathered, reach-used, reach-last, gathered-uses}
 use Rattle.joining.proofs.Taking.{refused}
 use Rattle.joining.proofs.Straight.{use-found}
-use Rattle.joining.proofs.Single.{use-count, substitute-one}
+use Rattle.joining.proofs.Single.{use-count, replaced-one}
 use Rattle.joining.proofs.Acting.{acted}
 use Rattle.joining.proofs.Indexed.{modify-same}
 
--- ---- a definition stands inside the listing
+-- ---- a definition
+
+-- what a definition is made of
+pub record Defined (ts : List Token) (d : Definition) : Type 0 where
+  pub to : Assignment
+  pub assignment-is : assignment-of ts ≡ some to
+  pub expr-is : d .expr ≡ to .expr
+  pub calls-is : d .calls ≡ is-some (call-in ts)
+
+pub defined-by : (ts : List Token) (d : Definition) → definition-of ts ≡ some d → Defined ts d
+unfolding definition-of
+defined-by ts d e =
+    let a = bind-some e in
+    let f = bind-some (a .2) in
+    let same = some-inj (unless-some (f .2) .1) in
+    record {
+      to = a .0;
+      assignment-is = a .1;
+      expr-is = ap (λ (x : Definition). x .expr) (sym same);
+      calls-is = ap (λ (x : Definition). x .calls) (sym same);
+    }
 
 pub inside : (lines : Listing) (i : ℕ) (d : Definition) → definition-of ((lines at i) .tokens) ≡ some d → i < length lines
-unfolding definition-of assignment-of let-some_else_then_
-inside lines i d e = by-cases (decLe (suc i) (length lines)) (λ h. h) (λ h. absurd (none-some (rw (List·getD-eq-default lines blank {n = i} (omega arith)) at e)))
-
-pub calls-known : (ts : List Token) (d : Definition) → definition-of ts ≡ some d → d .calls ≡ is-some (call-in ts)
-unfolding definition-of
-calls-known ts d =
-    by-some (λ (o : Option Definition). o ≡ some d → d .calls ≡ is-some (call-in ts))
-    (λ h e. absurd (none-some e))
-    (λ a h. by-some (λ (o : Option Definition). o ≡ some d → d .calls ≡ is-some (call-in ts))
-    (λ h e. absurd (none-some e))
-    (λ f h. by-if (λ (o : Option Definition). o ≡ some d → d .calls ≡ is-some (call-in ts))
-    (λ h e. absurd (none-some e))
-    (λ h e. ap (λ (x : Definition). x .calls) (sym (some-inj e)))))
+inside lines i d e = assignment-inside lines i (defined-by ((lines at i) .tokens) d e .assignment-is)
 
 -- ---- the two parts, one after the other
 
@@ -96,7 +101,12 @@ module _ (rules : Rules) (lines : Listing) (i : ℕ) where
         let p : Plan = record { fam = fam; expr = d .expr; last = g .last; brackets = false } in
         let same : rewrite-uses fam (d .expr) (g .uses) lines ≡ map-from (acted-line (volatile rules) i p) 0 lines =
         ap (λ (u : List ℕ). rewrite-uses fam (d .expr) u lines) (gathered-uses lines i fam (volatile rules)) ∙ sym (acted (volatile rules) i p lines within) in
-        rw (reach-used lines i fam (volatile rules), reach-last lines i fam (volatile rules), ← (refused fam (volatile rules) lines i (g .last)), ← (gathered-uses lines i fam (volatile rules)))
+        rw (
+          reach-used lines i fam (volatile rules),
+          reach-last lines i fam (volatile rules),
+          ← (refused fam (volatile rules) lines i (g .last)),
+          ← (gathered-uses lines i fam (volatile rules)),
+        )
         (tests _ p (ap (remove i) same) (is-empty (g .uses)) _ _ _)
 
     -- the plan for the use on line j, at the token `pos`
@@ -108,14 +118,14 @@ module _ (rules : Rules) (lines : Listing) (i : ℕ) where
 
     replaced : (j pos : ℕ) → found j → position (of-family (d .fam .name)) ((lines at j) .tokens) ≡ some pos
         → remove i (modify j (rewrite-one pos (d .expr)) lines) ≡ act rules lines i (plan-at j pos)
-    unfolding found plan-at act rewrite-uses rewrite-use rewrite-one replace-at replacement right-side-of wants-brackets
+    unfolding found plan-at act rewrite-uses rewrite-use rewrite-one
     replaced j pos h hp =
         let fam : Text = d .fam .name in
         let p : Plan = plan-at j pos in
         let only : uses-upto fam (volatile rules) j (suc i) (drop (suc i) lines) ≡ j ∷ [] =
         single-use fam (volatile rules) ((lines at i) .indent) (d .expr) (is-some (call-in ((lines at i) .tokens))) (suc i) (drop (suc i) lines) j h in
         let u = use-found lines ((lines at i) .indent) fam (volatile rules) (d .expr) (is-some (call-in ((lines at i) .tokens))) (suc i) (drop (suc i) lines) j refl h in
-        let one = substitute-one fam (right-side-of p) ((lines at j) .tokens) pos hp (use-count ((lines at j) .tokens) fam (volatile rules) 1 (u .once)) in
+        let one = replaced-one p ((lines at j) .tokens) pos refl hp (use-count ((lines at j) .tokens) fam (volatile rules) 1 (u .once)) in
         ap (remove i)
         (modify-same (rewrite-one pos (d .expr)) (rewrite-use fam (right-side-of p)) blank j lines
         (ap (λ (ts : List Token). with-tokens (fold (merge ts)) (lines at j)) (sym one))
@@ -125,7 +135,7 @@ module _ (rules : Rules) (lines : Listing) (i : ℕ) where
     single-is : join-one lines i (d .fam) (d .expr) labels (volatile rules) ≡ done (plan-single lines i d labels (volatile rules))
     unfolding join-one join-at plan-single use-of plan-use found plan-at done let-some_else_then_
     single-is =
-        rw (calls-known ((lines at i) .tokens) d known)
+        rw (defined-by ((lines at i) .tokens) d known .calls-is)
         (carried _ (join-at lines i (d .fam) (d .expr) labels (volatile rules)) (plan-use lines i d labels (volatile rules)) (λ j h.
         chosen _ _ _ _ _
         (λ b. refl)
@@ -138,7 +148,7 @@ module _ (rules : Rules) (lines : Listing) (i : ℕ) where
         first-of _ _ (if lone-number (d .expr) then plan-constant lines i d labels (volatile rules) else none) (plan-single lines i d labels (volatile rules))
         (chosen (lone-number (d .expr)) _ _ (plan-constant lines i d labels (volatile rules)) none (λ b. constant-is) (λ b. done-none)) single-is
 
--- what a definition is made of
+-- where there is none, and where there may be one
 module _ (ts : List Token) where
   no-assignment : assignment-of ts ≡ none → definition-of ts ≡ none
   unfolding definition-of let-some_else_then_
@@ -177,7 +187,7 @@ module _ (rules : Rules) (lines : Listing) (i : ℕ) (labels : Labels) (addresse
       (let d : Definition = record { fam = f; expr = a .expr; calls = is-some (call-in ts) } in
       let known : any (of-family (f .name)) (a .expr) ≡ false → definition-of ts ≡ some d = λ m. defined ts a f ha hf ∙ if-false _ _ m in
       by-if (λ (o : Option Listing). o ≡ done rules lines i (decide rules lines i labels addressed))
-      (λ t. fails (refuse f d t (λ m. defined ts a f ha hf ∙ if-true _ _ m) known))
+      (λ t. fails (refuse d t (λ m. defined ts a f ha hf ∙ if-true _ _ m) known))
       (λ t.
       (let n = neither t in
       plan-is rules lines i labels d (known (n .1)) ∙ ap (done rules lines i) (sym (decided d (known (n .1)) ∙ if-false _ _ (n .0))))))))
@@ -186,7 +196,12 @@ module _ (rules : Rules) (lines : Listing) (i : ℕ) (labels : Labels) (addresse
       ts = (lines at i) .tokens
 
       -- the name is addressed, or the right side mentions it
-      refuse : {m : Bool} (f : Fam) (d : Definition) → (has addressed (d .fam .name) || m) ≡ true → (m ≡ true → definition-of ts ≡ none) → (m ≡ false → definition-of ts ≡ some d)
-          → decide rules lines i labels addressed ≡ none
-      refuse {m = true} f d t gone known = undecided (gone refl)
-      refuse {m = false} f d t gone known = decided d (known refl) ∙ if-true _ _ (or-only refl ∙ t)
+      refuse : {m : Bool} (d : Definition) → (has addressed (d .fam .name) || m) ≡ true
+          → (m ≡ true → definition-of ts ≡ none) → (m ≡ false → definition-of ts ≡ some d) → decide rules lines i labels addressed ≡ none
+      refuse {m = true} d t gone known = undecided (gone refl)
+      refuse {m = false} d t gone known = decided d (known refl) ∙ if-true _ _ (or-only refl ∙ t)
+
+  -- what an attempt that succeeds has decided, and done
+  pub tried : {lines′ : Listing} → try-at rules lines i labels addressed ≡ some lines′
+      → (p : Plan) × (decide rules lines i labels addressed ≡ some p) × (act rules lines i p ≡ lines′)
+  tried e = let d = bind-some (sym try-at-is ∙ e) in (d .0, d .1, some-inj (d .2))

@@ -2,12 +2,16 @@
 use Prim.Native.Nat.{ℕ, zero, suc, _+_, _≤_, _<_}
 use native.Mathlib.Omega.{arith}
 use native.Mathlib.Nat.{le-refl, add-zero, add-suc, suc-add, not-suc-le-zero, le-of-suc-le-suc}
-use mathlib.Core.Path.{_≡_, refl, sym, ap, _∙_, subst}
-use mathlib.Core.List.{List, [], _∷_, _++_, append-nil}
-use lib.ListN.{length, getD, take, drop, length-append}
-use lib.Seq.{take-suc}
-use Rattle.reference.specs.Lists.{remove, modify}
+use mathlib.Core.Path.{_≡_, refl, ap, _∙_, subst}
+use mathlib.Core.List.{List, [], _∷_, _++_, map}
+use lib.ListN.{length, getD}
+use Rattle.reference.specs.Lists.{modify}
 use Rattle.joining.specs.Plan.{map-from}
+
+pub getD-map {ℓ κ} : {A : Type ℓ} {B : Type κ} (f : A → B) (xs : List A) (k : ℕ) (d : A) (e : B) → k < length xs → getD (map f xs) k e ≡ f (getD xs k d)
+getD-map f [] k d e h = absurd (not-suc-le-zero h)
+getD-map f (x ∷ xs) zero d e h = refl
+getD-map f (x ∷ xs) (suc k) d e h = getD-map f xs k d e (le-of-suc-le-suc h)
 
 module _ {ℓ κ} {A : Type ℓ} {B : Type κ} (f : ℕ → A → B) where
   pub length-map-from : (k : ℕ) (xs : List A) → length (map-from f k xs) ≡ length xs

@@ -1,21 +1,19 @@
 -- How far a constant reaches: `reach-of` line by line, as the code's loop goes, and that it says what `gather` says. Assumes nothing.
-use Prim.Native.Nat.{ℕ, zero, suc, _+_, _-_, _≤_, _<_}
+use Prim.Native.Nat.{ℕ, suc, _+_, _≤_, _<_}
 use native.Mathlib.Omega.{arith}
-use native.Mathlib.Nat.{le-refl, le-trans}
 use native.Mathlib.Numerals.{add-one}
-use mathlib.Core.Path.{_≡_, refl, sym, ap, _∙_, subst}
+use mathlib.Core.Path.{_≡_, refl, sym, _∙_}
 use mathlib.Core.Bool.{Bool, true, false}
 use mathlib.Core.List.{List, [], _∷_}
-use lib.ListN.{length, take, drop, drop-of-length-le}
-use lib.Seq.{slice, drop-cons}
-use Rattle.reference.specs.Control.{not, _&&_, _||_, if_then_else_}
-use Rattle.reference.specs.Lists.{any, is-empty}
+use lib.ListN.{length, drop, drop-of-length-le}
+use lib.Seq.{drop-cons}
+use Rattle.reference.specs.Control.{not, _||_, if_then_else_}
+use Rattle.reference.specs.Lists.{is-empty}
 use Rattle.reference.specs.Text.{Text}
-use Rattle.reference.specs.Listing.{Line, Listing, blank, _at_}
+use Rattle.reference.specs.Listing.{Listing, blank, _at_}
 use Rattle.reference.specs.Shapes.{opens-or-closes}
 use Rattle.reference.specs.Life.{Touch, None, Kill, Use, touch, match-touch}
 use Rattle.reference.specs.Join.{Uses, ends-run, gather}
-use Rattle.reference.proofs.Cases.{by-if, by-touch}
 use Rattle.laws.proofs.Scans.{or-only}
 use Rattle.joining.specs.Plan.{Reach, reach-at, reach-from, reach-of}
 use Rattle.joining.proofs.Uses.{uses-upto, gather-uses}
@@ -79,7 +77,7 @@ module _ (base-indent : ℕ) (fam : Text) (volatile : List Text) where
   turn j ls used last ih false (Use n) true = (ended (suc j) ls true j .0 ∙ sym (or-always used), ended (suc j) ls true j .1)
   turn j ls used last ih false (Use n) false = (ih true j .0 ∙ sym (or-always used), ih true j .1)
 
-  pub reach-gather : (j : ℕ) (ls : Listing) (used : Bool) (last : ℕ)
+  reach-gather : (j : ℕ) (ls : Listing) (used : Bool) (last : ℕ)
       → Same (reach-from base-indent fam volatile j ls (record { used = used; last = last; ended = false })) used (gather base-indent fam volatile j ls last)
   unfolding reach-from reach-at gather if_then_else_ not
   reach-gather j [] used last = (or-only refl, refl)

@@ -1,19 +1,20 @@
 -- A single use: to replace the one token of the family is to substitute for each. Assumes nothing.
-use Prim.Native.Nat.{ℕ, zero, suc, _≤_, _<_}
+use Prim.Native.Nat.{ℕ, suc}
 use native.Mathlib.Omega.{arith}
-use mathlib.Core.Path.{_≡_, refl, sym, ap, _∙_, subst}
+use mathlib.Core.Path.{_≡_, refl, ap, _∙_, subst}
 use mathlib.Core.Bool.{Bool, true, false}
-use mathlib.Core.List.{List, [], _∷_, _++_, append-assoc}
+use mathlib.Core.List.{List, [], _∷_, _++_}
 use mathlib.Core.Option.{Option, none, some}
-use lib.ListN.{length, take, drop}
+use lib.ListN.{take, drop}
 use Rattle.reference.specs.Control.{if_then_else_, let-some_else_then_}
 use Rattle.reference.specs.Lists.{count, position}
 use Rattle.reference.specs.Text.{Text}
-use Rattle.reference.specs.Listing.{Token, Line}
+use Rattle.reference.specs.Listing.{Token}
 use Rattle.reference.specs.Names.{of-family}
-use Rattle.reference.specs.Life.{Touch, None, Kill, Use, touch-of}
-use Rattle.reference.specs.Join.{substitute}
+use Rattle.reference.specs.Life.{Touch, Use, touch-of}
+use Rattle.reference.specs.Join.{substitute, replacement, replace-at}
 use Rattle.reference.proofs.Cases.{by-if, by-some, some-inj, none-some}
+use Rattle.joining.specs.Plan.{Plan, wants-brackets, right-side-of}
 
 pub use-count : (ts : List Token) (fam : Text) (volatile : List Text) (n : ℕ) → touch-of ts fam volatile ≡ Use n → count (of-family fam) ts ≡ n
 unfolding touch-of
@@ -59,3 +60,10 @@ module _ (fam : Text) (expr : List Token) where
           subst (λ (k : ℕ). t ∷ substitute fam expr ts ≡ take k (t ∷ ts) ++ expr ++ drop (suc k) (t ∷ ts)) (some-inj u)
           (ap {B = List Token} (λ r. t ∷ r) (ih i h n)))
           e
+
+-- the one token replaced, where the plan has the brackets that it wants
+pub replaced-one : (p : Plan) (ts : List Token) (pos : ℕ) → p .brackets ≡ wants-brackets (p .expr) ts pos
+    → position (of-family (p .fam)) ts ≡ some pos → count (of-family (p .fam)) ts ≡ 1
+    → substitute (p .fam) (right-side-of p) ts ≡ replace-at ts pos (p .expr)
+unfolding right-side-of wants-brackets replace-at replacement
+replaced-one p ts pos b h n = substitute-one (p .fam) (right-side-of p) ts pos h n ∙ rw b

@@ -4,19 +4,18 @@ use Prim.Native.Nat.{ℕ, suc, _≤_, _<_}
 use native.Mathlib.Omega.{arith}
 use native.Mathlib.Nat.{le-refl}
 use native.Mathlib.Decide.{decLe}
-use mathlib.Core.Path.{_≡_, refl, ap, _∙_, subst, subst⁻¹}
+use mathlib.Core.Path.{_≡_, ap, _∙_, subst}
 use mathlib.Core.Logic.{by-cases}
 use mathlib.Core.Bool.{Bool, false}
 use mathlib.Core.List.{List, [], _∷_}
-use mathlib.Core.Option.{Option, none, some}
+use mathlib.Core.Option.{Option, some}
 use lib.ListN.{length, drop}
-use borrow.Author.Tests.{eqb-true}
 use Rattle.reference.specs.Text.{Text}
 use Rattle.reference.specs.Listing.{Token, Line, Listing, _at_}
 use Rattle.reference.specs.Shapes.{is-label}
 use Rattle.reference.specs.Life.{Use, touch}
 use Rattle.reference.specs.Join.{Uses, ends-run, gather, use-from}
-use Rattle.reference.proofs.Cases.{by-if, by-touch, neither, some-inj, none-some}
+use Rattle.reference.proofs.Cases.{by-if, by-touch, neither, same-number, some-inj, none-some, if-some, unless-some}
 use Rattle.reference.proofs.Lines.{drop-step}
 
 -- no line from j up to m is a label
@@ -45,7 +44,7 @@ module _ (lines : Listing) (base-indent : ℕ) (fam : Text) (volatile : List Tex
       by-if (λ (u : Uses). Reached lines j (u .last))
       (λ b. stays)
       (λ b.
-      (let plain : is-label (lines at j) ≡ false = subst⁻¹ (λ (x : Line). is-label x ≡ false) (d .0) (neither b .0) in
+      (let plain : is-label (lines at j) ≡ false = ap is-label (d .0) ∙ neither b .0 in
       let here : Reached lines j j = (d .2, one-more lines j j plain (none-between lines (suc j) j (omega arith))) in
       by-touch (λ (u : Uses). Reached lines j (u .last))
       (λ t. by-if (λ (u : Uses). Reached lines j (u .last))
@@ -65,25 +64,22 @@ module _ (lines : Listing) (base-indent : ℕ) (fam : Text) (volatile : List Tex
   module _ (expr : List Token) (is-call : Bool) where
     pub use-found : (j : ℕ) (ls : Listing) (m : ℕ) → drop j lines ≡ ls → use-from base-indent fam expr is-call volatile j ls ≡ some m → Used j m
     unfolding use-from
-    use-found j [] m e = λ u. absurd (none-some u)
-    use-found j (l ∷ ls) m e =
+    use-found j [] m e u = absurd (none-some u)
+    use-found j (l ∷ ls) m e u =
         let d = drop-step j lines l ls e in
-        by-if (λ (o : Option ℕ). o ≡ some m → Used j m)
-        (λ b u. absurd (none-some u))
-        (λ b.
-        (let plain : is-label (lines at j) ≡ false = subst⁻¹ (λ (x : Line). is-label x ≡ false) (d .0) b in
+        let b = unless-some u in
+        let plain : is-label (lines at j) ≡ false = ap is-label (d .0) ∙ b .0 in
         by-touch (λ (o : Option ℕ). o ≡ some m → Used j m)
-        (λ t. by-if (λ (o : Option ℕ). o ≡ some m → Used j m)
-        (λ h u.
-        (let r = use-found (suc j) ls m (d .1) u in
+        (λ t v.
+        (let r = use-found (suc j) ls m (d .1) (if-some v .1) in
         record { later = omega (arith, r .later); reached = (r .reached .0, one-more lines j m plain (r .reached .1)); once = r .once }))
-        (λ h u. absurd (none-some u)))
-        (λ t u. absurd (none-some u))
-        (λ n t. by-if (λ (o : Option ℕ). o ≡ some m → Used j m)
-        (λ h u. subst (Used j) (some-inj u)
+        (λ t v. absurd (none-some v))
+        (λ n t v.
+        (let i = if-some v in
+        subst (Used j) (some-inj (i .1))
         (record {
           later = le-refl j;
           reached = (d .2, one-more lines j j plain (none-between lines (suc j) j (omega arith)));
-          once = ap (λ (x : Line). touch x fam volatile) (d .0) ∙ t ∙ ap Use (eqb-true n 1 h);
-        }))
-        (λ h u. absurd (none-some u)))))
+          once = ap (λ (x : Line). touch x fam volatile) (d .0) ∙ t ∙ ap Use (same-number (i .0));
+        })))
+        (b .1)

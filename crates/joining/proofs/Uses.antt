@@ -1,28 +1,19 @@
 -- The lines that use a family, by their places: what `gather` and `use-from` find. Assumes nothing.
-use Prim.Native.Nat.{ℕ, zero, suc, _-_, _≤_, _<_}
+use Prim.Native.Nat.{ℕ, suc, _≤_, _<_}
 use native.Mathlib.Omega.{arith}
 use mathlib.Core.Path.{_≡_, refl, sym, ap, _∙_, subst}
 use mathlib.Core.Bool.{Bool, true, false}
-use mathlib.Core.List.{List, [], _∷_, _++_}
-use mathlib.Core.Option.{Option, none, some}
-use lib.Dec.{leb, ltb, eqb}
-use lib.ListN.{length, take, drop}
-use borrow.Author.Tests.{le-leb, lt-leb, leb-true, leb-false}
-use Rattle.reference.specs.Control.{not, _&&_, _||_, if_then_else_}
-use Rattle.reference.specs.Lists.{any, is-empty}
+use mathlib.Core.List.{List, [], _∷_}
+use mathlib.Core.Option.{Option, some}
+use lib.Dec.{leb}
+use borrow.Author.Tests.{le-leb, lt-leb}
+use Rattle.reference.specs.Control.{_&&_, if_then_else_}
 use Rattle.reference.specs.Text.{Text}
-use Rattle.reference.specs.Listing.{Token, Line, Listing, _at_}
-use Rattle.reference.specs.Shapes.{is-label, opens-or-closes}
-use Rattle.reference.specs.Life.{Touch, None, Kill, Use, touch, match-touch, is-use}
+use Rattle.reference.specs.Listing.{Token, Line, Listing}
+use Rattle.reference.specs.Life.{None, Kill, Use, touch, match-touch, is-use}
 use Rattle.reference.specs.Join.{Uses, gather, use-from}
-use Rattle.reference.proofs.Cases.{by-if, by-some, by-touch, some-inj, none-some}
-use Rattle.reference.proofs.Lines.{drop-step}
+use Rattle.reference.proofs.Cases.{by-if, by-touch, both, fails, true-false, some-inj, none-some, if-some, unless-some}
 use Rattle.laws.proofs.Scans.{if-true, if-false, and-true}
-
-and-false-right : (a : Bool) {b : Bool} → b ≡ false → (a && b) ≡ false
-unfolding _&&_
-and-false-right true e = e
-and-false-right false e = refl
 
 module _ (fam : Text) (volatile : List Text) where
   -- the places, from j on and up to `last`, of the lines that use the family
@@ -40,7 +31,7 @@ module _ (fam : Text) (volatile : List Text) where
   -- a line that does not use the family, and one that does
   skip : (last j : ℕ) (l : Line) (ls : Listing) → is-use (touch l fam volatile) ≡ false → uses-upto last j (l ∷ ls) ≡ uses-upto last (suc j) ls
   unfolding uses-upto
-  skip last j l ls e = if-false _ _ (and-false-right (leb j last) e)
+  skip last j l ls e = if-false _ _ (fails (λ h. true-false (both h .1) e))
 
   here : (last j : ℕ) (l : Line) (ls : Listing) → j ≤ last → is-use (touch l fam volatile) ≡ true → uses-upto last j (l ∷ ls) ≡ j ∷ uses-upto last (suc j) ls
   unfolding uses-upto
@@ -95,15 +86,10 @@ module _ (fam : Text) (volatile : List Text) where
   module _ (base-indent : ℕ) (expr : List Token) (is-call : Bool) where
     pub single-use : (j : ℕ) (ls : Listing) (k : ℕ) → use-from base-indent fam expr is-call volatile j ls ≡ some k → uses-upto k j ls ≡ k ∷ []
     unfolding use-from
-    single-use j [] k = λ e. absurd (none-some e)
-    single-use j (l ∷ ls) k =
-        by-if (λ (o : Option ℕ). o ≡ some k → uses-upto k j (l ∷ ls) ≡ k ∷ [])
-        (λ b e. absurd (none-some e))
-        (λ b. by-touch (λ (o : Option ℕ). o ≡ some k → uses-upto k j (l ∷ ls) ≡ k ∷ [])
-        (λ t. by-if (λ (o : Option ℕ). o ≡ some k → uses-upto k j (l ∷ ls) ≡ k ∷ [])
-        (λ h e. skip k j l ls (unused l t) ∙ single-use (suc j) ls k e)
-        (λ h e. absurd (none-some e)))
-        (λ t e. absurd (none-some e))
-        (λ n t. by-if (λ (o : Option ℕ). o ≡ some k → uses-upto k j (l ∷ ls) ≡ k ∷ [])
-        (λ h e. subst (λ (m : ℕ). uses-upto m j (l ∷ ls) ≡ m ∷ []) (some-inj e) (lone j l ls n t))
-        (λ h e. absurd (none-some e))))
+    single-use j [] k e = absurd (none-some e)
+    single-use j (l ∷ ls) k e =
+        by-touch (λ (o : Option ℕ). o ≡ some k → uses-upto k j (l ∷ ls) ≡ k ∷ [])
+        (λ t v. skip k j l ls (unused l t) ∙ single-use (suc j) ls k (if-some v .1))
+        (λ t v. absurd (none-some v))
+        (λ n t v. subst (λ (m : ℕ). uses-upto m j (l ∷ ls) ≡ m ∷ []) (some-inj (if-some v .1)) (lone j l ls n t))
+        (unless-some e .1)

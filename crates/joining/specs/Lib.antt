@@ -1,2 +1,5 @@
 pub mod Plan
 pub mod Bare
+pub mod Places
+pub mod Rounds
+pub mod Limits

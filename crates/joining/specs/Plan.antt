@@ -1,7 +1,7 @@
 -- An attempt in two parts: `decide` looks at the listing and answers a plan, `act` carries the plan out. One rule serves both of the Rust's
 -- joins: in each line after line i, up to the plan's last one, that uses the family, every token of the family becomes the right side. Each
 -- piece is what one function of the code answers; that the two parts are `try-at` is proved in proofs/Deciding.antt. Assumes nothing.
-use Prim.Native.Nat.{ℕ, zero, suc}
+use Prim.Native.Nat.{ℕ, suc}
 use mathlib.Core.Bool.{Bool, true, false}
 use mathlib.Core.List.{List, [], _∷_, _++_}
 use mathlib.Core.Option.{Option, none, some}
@@ -15,7 +15,7 @@ use Rattle.reference.specs.Listing.{Token, token, Punct, Line, Listing, _at_, w
 use Rattle.reference.specs.Names.{Fam, family, of-family}
 use Rattle.reference.specs.Rules.{Rules, volatile}
 use Rattle.reference.specs.Shapes.{is-label, has-kw, opens-or-closes, call-in, assignment-of, is-operator-expr}
-use Rattle.reference.specs.Life.{Touch, touch, match-touch, is-use, is-kill, Labels, dead-after}
+use Rattle.reference.specs.Life.{touch, match-touch, is-use, is-kill, Labels, dead-after}
 use Rattle.reference.specs.Join.{ends-run, bad-use, substitute, rewrite-use, use-from, harmless, text-before, text-after, standalone, replaceable, lone-number}
 
 -- ---- what an attempt starts from

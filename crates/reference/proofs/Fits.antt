@@ -1,5 +1,5 @@
 -- The listings that fit: few tokens, little text outside numbers, no number's text past 24 bytes. The input fits, every step keeps it so, and text is
--- then at most 49,152 bytes: what demand 3 says of text, and why a work area never runs out. Assumes nothing.
+-- then at most 49,152 bytes, as demand 3 says. (Of a line that is merged and not folded yet, Weights.antt has the bounds.) Assumes nothing.
 use Prim.Native.Nat.{ℕ, _≤_, zero-le}
 use native.Mathlib.Omega.{arith}
 use native.Mathlib.Nat.{le-trans}

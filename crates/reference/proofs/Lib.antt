@@ -1,5 +1,5 @@
--- The proof of demand 3, from the ground up; its last file states it. Code crates cite Cases (the control words), Shapes (what a success knows), Fits (why
--- the areas suffice) and Rounds (the rounds and cuts without fuel).
+-- The proof of demand 3, from the ground up; its last file states it. Code crates cite Cases (the control words), Shapes (what a success knows), Fits (how
+-- large a listing grows) and Rounds (the rounds and cuts without fuel).
 pub mod Cases
 pub mod Shapes
 pub mod Weights
@@ -10,3 +10,11 @@ pub mod Fits
 pub mod Attempts
 pub mod Cuts
 pub mod Rounds
+pub mod LittleEndian
+pub mod Commands
+pub mod Reading
+pub mod Writing
+pub mod Limits
+pub mod Tapes
+pub mod Written
+pub mod Guarantee

@@ -4,7 +4,7 @@ use Prim.Native.String.{String}
 use mathlib.Core.Path.{_≡_, refl}
 use mathlib.Core.List.{List, [], _∷_}
 use mathlib.Core.Option.{Option, none, some}
-use lib.IntN.{ℤ, pos, negsuc}
+use lib.IntN.{pos, negsuc}
 use Rattle.reference.specs.Text.{bytes}
 use Rattle.reference.specs.Listing.{Token, token, Register, Number, Keyword, Symbol, Punct, Line, Listing}
 use Rattle.reference.specs.Names.{Fam, family}

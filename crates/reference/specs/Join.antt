@@ -1,7 +1,7 @@
 -- `propagate_constant` and `try_at` of pseudo_opt.rs. Each answers the listing that it leaves, or none where it returns false and changes
 -- nothing. Assumes nothing.
 use Prim.Native.Nat.{ℕ, suc, _-_}
-use mathlib.Core.Bool.{Bool, true, false}
+use mathlib.Core.Bool.{Bool, false}
 use mathlib.Core.List.{List, [], _∷_, _++_}
 use mathlib.Core.Option.{Option, none, some}
 use lib.Dec.{ltb, eqb}

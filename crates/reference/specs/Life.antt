@@ -6,7 +6,7 @@ use mathlib.Core.Option.{Option, none, some}
 use lib.Dec.{leb, ltb, eqb}
 use lib.ListN.{drop, take}
 use lib.Seq.{slice}
-use Rattle.reference.specs.Control.{not, _&&_, _||_, if_then_else_, let-some_else_then_}
+use Rattle.reference.specs.Control.{not, _&&_, if_then_else_, let-some_else_then_}
 use Rattle.reference.specs.Lists.{any, count, find, position, last-position, is-some}
 use Rattle.reference.specs.Text.{Text, bytes, has, _==_}
 use Rattle.reference.specs.Listing.{Token, is, Symbol, Line, Listing, _at_}

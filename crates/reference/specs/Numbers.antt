@@ -1,12 +1,12 @@
 -- `parse_c_number`, `fold` and `merge` of pseudo_opt.rs. An i64 is an integer from -2^63 to 2^63 - 1. Assumes nothing.
 use Prim.Native.Nat.{ℕ, zero, suc, _+_, _*_, _-_, _/_, _%_, _^_}
-use mathlib.Core.Bool.{Bool, true, false}
+use mathlib.Core.Bool.{Bool, true}
 use mathlib.Core.List.{List, [], _∷_, _++_}
 use mathlib.Core.Option.{Option, none, some}
 use lib.Dec.{leb, ltb, eqb}
 use lib.IntN.{ℤ, pos, negsuc, negℤ, _+ℤ_, _-ℤ_}
-use Rattle.reference.specs.Control.{_&&_, _||_, not, if_then_else_, let-some_else_then_}
-use Rattle.reference.specs.Lists.{is-some, is-empty}
+use Rattle.reference.specs.Control.{_&&_, _||_, if_then_else_, let-some_else_then_}
+use Rattle.reference.specs.Lists.{is-empty}
 use Rattle.reference.specs.Text.{Text, bytes, strip-prefix, _==_, starts-with, ends-with}
 use Rattle.reference.specs.Listing.{Token, token, is, Number, Punct, Plain}
 

@@ -3,12 +3,11 @@
 use Prim.Native.Nat.{ℕ, zero, suc, pred, _+_}
 use mathlib.Core.Bool.{Bool, true, false}
 use mathlib.Core.List.{List, [], _∷_, _++_}
-use mathlib.Core.Option.{Option}
 use lib.Dec.{leb, ltb, eqb}
 use lib.ListN.{length, drop}
 use Rattle.reference.specs.Control.{not, _&&_, _||_, if_then_else_}
 use Rattle.reference.specs.Lists.{any, is-empty, modify}
-use Rattle.reference.specs.Listing.{Token, is, Number, Line, Listing, with-tokens}
+use Rattle.reference.specs.Listing.{is, Number, Listing, with-tokens}
 use Rattle.reference.specs.Rules.{Rules}
 use Rattle.reference.specs.Tape.{Command, new-line, new-token, end, command-size, command-of}
 

@@ -1,17 +1,16 @@
 -- Rounds, cuts, and the run: the list of all listings, with the counts. Assumes nothing.
-use Prim.Native.Nat.{ℕ, zero, suc, _+_, _-_, pred}
+use Prim.Native.Nat.{ℕ, zero, suc, _+_, pred}
 use mathlib.Core.Bool.{Bool, true, false}
 use mathlib.Core.List.{List, [], _∷_, _++_, map}
-use mathlib.Core.Option.{Option, none, some}
-use lib.Dec.{leb, ltb, eqb}
+use lib.Dec.{ltb, eqb}
 use lib.ListN.{length, drop}
-use Rattle.reference.specs.Control.{not, _&&_, _||_, if_then_else_, let-some_else_then_}
-use Rattle.reference.specs.Lists.{any, count, windows, is-some, is-empty, modify, get}
+use Rattle.reference.specs.Control.{_&&_, _||_, if_then_else_, let-some_else_then_}
+use Rattle.reference.specs.Lists.{any, count, windows, modify, get}
 use Rattle.reference.specs.Text.{Text, bytes, _==_, starts-with, ends-with}
-use Rattle.reference.specs.Listing.{Token, is, Line, Listing, _at_, with-tokens}
+use Rattle.reference.specs.Listing.{Token, Line, Listing, _at_, with-tokens}
 use Rattle.reference.specs.Rules.{Rules, volatile}
 use Rattle.reference.specs.Shapes.{is-label, call-at}
-use Rattle.reference.specs.Life.{Label, Labels, dead-after}
+use Rattle.reference.specs.Life.{Labels, dead-after}
 use Rattle.reference.specs.Join.{try-at, text-or-empty}
 
 -- the labels from the line i on

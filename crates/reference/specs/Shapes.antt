@@ -2,7 +2,7 @@
 -- The Rust's functions take a line and look at its tokens alone; so each is said of the tokens first. Assumes nothing.
 use Prim.Native.Nat.{ℕ, suc}
 use Prim.Native.String.{String}
-use mathlib.Core.Bool.{Bool, true, false}
+use mathlib.Core.Bool.{Bool, false}
 use mathlib.Core.List.{List, [], _∷_, _++_, dropLast}
 use mathlib.Core.Option.{Option, none, some}
 use lib.Dec.{ltb}

@@ -7,12 +7,10 @@ use mathlib.Core.Option.{none, some}
 use lib.ListN.{replicate}
 use Rattle.reference.specs.Control.{let-some_else_then_}
 use Rattle.reference.specs.Text.{Text, bytes}
-use Rattle.reference.specs.Listing.{Listing}
-use Rattle.reference.specs.Rules.{Rules}
 use Rattle.reference.specs.Numbers.{unsigned}
 use Rattle.reference.specs.Run.{Counts}
-use Rattle.reference.specs.Questions.{WORK, OUTPUT, Answer, Refused, Passed, read}
-use Rattle.reference.specs.Reply.{reply, output-after, work-after}
+use Rattle.reference.specs.Questions.{WORK, OUTPUT, Refused, Passed, read}
+use Rattle.reference.specs.Reply.{Reply, reply, output-after, work-after, report}
 use Rattle.reference.specs.Opened.{opened}
 
 -- bytes as the document writes them: `hex (bytes "02 3F")` is 2 ∷ 63 ∷ []
@@ -34,6 +32,10 @@ refuses t number place = reply (record { convention = 1 }) t WORK WORK OUTPUT �
 
 abbrev blank-lines : ℕ → List ℕ
 blank-lines n = flatMap (λ b. 0x02 ∷ b ∷ []) (replicate n 0) ++ (0xFF ∷ [])
+
+abbrev done : Reply
+done =
+    Passed (record { tape = 1 ∷ 0xFF ∷ []; counts = record { attempts₁ = 3; attempts₂ = 4; attempts₃ = 5; lines-removed = 6; results-cut = 7 } })
 
 pub record TapeExamples : Type 0 where
   pub cut :
@@ -61,8 +63,12 @@ pub record TapeExamples : Type 0 where
   pub after-end : refuses (tape "02 00 FF 00") 8 2
   pub many-lines : read (blank-lines 256) ≡ Passed (replicate 256 (record { address = none; indent = 0; tokens = [] }))
   pub too-many-lines : refuses (blank-lines 257) 6 512
-  pub untouched :
-      (output-after (Refused 3 0) (7 ∷ []) ≡ 7 ∷ []) × (work-after (Refused 3 0) (7 ∷ []) ≡ 7 ∷ [])
+  pub untouched : (output-after (Refused 3 0) (7 ∷ []) ≡ 7 ∷ []) × (work-after (Refused 3 0) (7 ∷ []) ≡ 7 ∷ [])
+  pub written : output-after done (7 ∷ 8 ∷ 9 ∷ []) ≡ 1 ∷ 0xFF ∷ 9 ∷ []
+  pub zeroed : work-after done (replicate 65538 7) ≡ replicate 65536 0 ++ (7 ∷ 7 ∷ [])
+  pub refusal :
+      report (Refused 3 4) ≡ record { refusal = 3; place = 4; length = 0; attempts₁ = 0; attempts₂ = 0; attempts₃ = 0; removed = 0; cut = 0 }
+  pub counts : report done ≡ record { refusal = 0; place = 0; length = 2; attempts₁ = 3; attempts₂ = 4; attempts₃ = 5; removed = 6; cut = 7 }
 
 pub tape-examples : TapeExamples
 unfolding opened
@@ -89,4 +95,8 @@ tape-examples =
       many-lines = refl;
       too-many-lines = refl;
       untouched = (refl, refl);
+      written = refl;
+      zeroed = refl;
+      refusal = refl;
+      counts = refl;
     }

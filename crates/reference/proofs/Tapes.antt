@@ -1,0 +1,204 @@
+-- What an accepted tape holds: a listing within the limits, whose tape it is. So two accepted tapes with the same listing are the same tape, and
+-- an accepted tape has at most 30,209 bytes. Assumes nothing.
+use Prim.Native.Nat.{ℕ, pred, _+_, _*_, _<_, _≤_}
+use native.Mathlib.Omega.{arith}
+use mathlib.Core.Path.{_≡_, refl, sym, ap, _∙_}
+use mathlib.Core.Bool.{true, false, true≢false, false≢true}
+use mathlib.Core.List.{List, [], _∷_, _++_, flatMap, append-assoc}
+use lib.ListN.{length, drop, take, length-append, length-drop, take-append-drop}
+use lib.Seq.{drop-drop, take-all}
+use borrow.Author.Tests.{leb-true}
+use Rattle.reference.specs.Lists.{is-empty}
+use Rattle.reference.specs.Listing.{Token, Line, Listing, _at_}
+use Rattle.reference.specs.Tape.{Command, new-line, new-token, end, write-command, write-lines, write, command-size, command-of}
+use Rattle.reference.specs.Questions.{Totals, has-line, is-within, is-printable, is-over, Passed, count-in, is-end, add, read}
+use Rattle.reference.specs.Claim.{sum, size, token-count, text-in, text}
+use Rattle.reference.proofs.Cases.{both, either, not-true, true-false}
+use Rattle.reference.proofs.Weights.{sum-append}
+use Rattle.reference.proofs.Lines.{sum-modify, length-modify}
+use Rattle.reference.proofs.LittleEndian.{Bytes, bytes-drop}
+use Rattle.reference.proofs.Commands.{AddressFits, Sized, sized, Writable, writable, write-of-read}
+use Rattle.reference.proofs.Reading.{Passes, State, left, Reached, here, on, accepts}
+use Rattle.reference.proofs.Writing.{with-token, write-new-line, write-new-token}
+use Rattle.reference.proofs.Limits.{All, all-append, all-modify, TokenFits, LineFits, Limits, Fits}
+
+-- ---- what the reading keeps
+
+sum-add : (G : Line → ℕ) (t : Token) (n : ℕ) → ((l : Line) → G (with-token t l) ≡ G l + n) → (lines : Listing) → 1 ≤ length lines
+    → sum G (add (new-token t) lines) ≡ sum G lines + n
+unfolding add
+sum-add G t n h lines le =
+    let i : ℕ = pred (length lines) in
+    omega (arith, sum-modify G (with-token t) i lines (omega arith), h (lines at i))
+
+token-fits : (t : Token) (n : Totals) → t .kind < 8 → is-within n (new-token t) ≡ true → is-printable (new-token t) ≡ true → TokenFits t
+unfolding is-within is-printable
+token-fits t n kind within printable =
+    let w = both (both (both within .1) .1) in
+    record {
+      kind = kind;
+      some-text = leb-true _ _ (w .0);
+      number = λ e. either _ (w .1) (λ u. absurd (true-false e (not-true u))) (leb-true _ _);
+      printable = not-true printable;
+    }
+
+-- what holds at every place that the reading comes to
+pub record Kept (s : State) : Type 0 where
+  pub lines : s .totals .lines ≡ length (s .lines)
+  pub tokens : s .totals .tokens ≡ token-count (s .lines)
+  pub text : s .totals .text ≡ text (s .lines)
+  pub few-lines : s .totals .lines ≤ 256
+  pub few-tokens : s .totals .tokens ≤ 1024
+  pub short-text : s .totals .text ≤ 24576
+  pub each : All LineFits (s .lines)
+  pub place : s .at ≤ s .totals .text + 3 * s .totals .tokens + 10 * s .totals .lines
+
+kept-command : (s : State) (n : ℕ) (c : Command) → Kept s → Sized c n → has-line (s .totals) c ≡ true → is-within (s .totals) c ≡ true
+    → is-printable c ≡ true → is-end c ≡ false → Kept (record { at = s .at + n; totals = count-in c (s .totals); lines = add c (s .lines) })
+unfolding has-line is-within count-in
+kept-command s n (new-line address indent) k z begun within printable no-end =
+    let w = both within in
+    let l : Line = record { address = address; indent = indent; tokens = [] } in
+    unfold add in
+    record {
+      lines = omega (arith, k .lines, length-append (s .lines) (l ∷ []));
+      tokens = omega (arith, k .tokens, sum-append (λ l. length (l .tokens)) (s .lines) (l ∷ []));
+      text = omega (arith, k .text, sum-append (λ l. text-in (l .tokens)) (s .lines) (l ∷ []));
+      few-lines = leb-true _ _ (w .1);
+      few-tokens = k .few-tokens;
+      short-text = k .short-text;
+      each = all-append LineFits (s .lines) (l ∷ []) (k .each) (record { indent = leb-true _ _ (w .0); tokens = tt }, tt);
+      place = omega (arith, k .place);
+    }
+kept-command s n (new-token t) k z begun within printable no-end =
+    let w = both within in
+    let there : 1 ≤ length (s .lines) = omega (arith, k .lines, leb-true 1 (s .totals .lines) begun) in
+    let fits = token-fits t (s .totals) (z .1) within printable in
+    record {
+      lines = unfold add in k .lines ∙ sym (length-modify (with-token t) _ (s .lines));
+      tokens = omega (arith, k .tokens, sum-add (λ l. length (l .tokens)) t 1 (λ l. omega (arith, length-append (l .tokens) (t ∷ []))) (s .lines) there);
+      text = omega (arith, k .text, sum-add (λ l. text-in (l .tokens)) t (size t) (λ l. omega (arith, sum-append size (l .tokens) (t ∷ []))) (s .lines) there);
+      few-lines = k .few-lines;
+      few-tokens = leb-true _ _ (w .0);
+      short-text = leb-true _ _ (both (w .1) .0);
+      each =
+          unfold add in
+          all-modify LineFits (with-token t)
+          (λ l h. record { indent = h .indent; tokens = all-append TokenFits (l .tokens) (t ∷ []) (h .tokens) (fits, tt) })
+          _
+          (s .lines)
+          (k .each);
+      place = omega (arith, k .place);
+    }
+kept-command s n end k z begun within printable no-end = absurd (true≢false no-end)
+
+module _ (tape : List ℕ) where
+  pub kept : {s : State} → Reached tape s → Kept s
+  kept here =
+      record {
+        lines = refl;
+        tokens = refl;
+        text = refl;
+        few-lines = omega arith;
+        few-tokens = omega arith;
+        short-text = omega arith;
+        each = tt;
+        place = omega arith;
+      }
+  kept (on {s = s} r p n) =
+      kept-command s _ _ (kept r) (sized (left tape s) (p .known) (p .inside)) (p .begun) (p .within) (p .printable) n
+
+  -- READ FROM THE START, THE TOTALS ARE THOSE OF THE LISTING SO FAR
+  pub totals-so-far : {s : State} → Reached tape s → s .totals ≡ record { lines = length (s .lines); tokens = token-count (s .lines); text = text (s .lines) }
+  totals-so-far r = let k = kept r in λ i. record { lines = k .lines i; tokens = k .tokens i; text = k .text i }
+
+-- ---- what an accepted tape is
+
+is-end-end : (c : Command) → is-end c ≡ true → c ≡ end
+is-end-end (new-line address indent) e = absurd (false≢true e)
+is-end-end (new-token t) e = absurd (false≢true e)
+is-end-end end e = refl
+
+is-empty-nil : (s : List ℕ) → is-empty s ≡ true → s ≡ []
+is-empty-nil [] e = refl
+is-empty-nil (x ∷ xs) e = absurd (false≢true e)
+
+write-more : (s : State) (c : Command) → Kept s → has-line (s .totals) c ≡ true → is-end c ≡ false
+    → write-lines (add c (s .lines)) ≡ write-lines (s .lines) ++ write-command c
+unfolding has-line
+write-more s (new-line address indent) k begun n = write-new-line address indent (s .lines)
+write-more s (new-token t) k begun n = write-new-token t (s .lines) (omega (arith, k .lines, leb-true 1 (s .totals .lines) begun))
+write-more s end k begun n = absurd (true≢false n)
+
+module _ (tape : List ℕ) where
+  -- the bytes so far are those of the lines so far
+  written : Bytes tape → {s : State} → Reached tape s → write-lines (s .lines) ++ left tape s ≡ tape
+  unfolding write-lines flatMap
+  written h here = refl
+  written h (on {s = s} r p n) =
+      let rest : List ℕ = left tape s in
+      rw (write-more s (command-of rest) (kept tape r) (p .begun) n, write-of-read rest (bytes-drop (s .at) tape h) (p .known) (p .inside), ← drop-drop (command-size rest) (s .at) tape, append-assoc (write-lines (s .lines)) (take (command-size rest) rest) (drop (command-size rest) rest), take-append-drop (command-size rest) rest)
+      (written h r)
+
+  -- what is left at the end
+  record AtEnd (rest : List ℕ) : Type 0 where
+    one : length rest ≡ 1
+    same : Bytes rest → rest ≡ write-command end
+
+  at-end : (s : State) → Passes (left tape s) (s .totals) → is-end (command-of (left tape s)) ≡ true → AtEnd (left tape s)
+  unfolding is-over
+  at-end s p e =
+      let rest : List ℕ = left tape s in
+      let ce : command-of rest ≡ end = is-end-end (command-of rest) e in
+      let none-left : drop 1 rest ≡ [] = is-empty-nil _ (rw ce at (p .over)) in
+      let sz : command-size rest ≡ 1 = rw ce at (sized rest (p .known) (p .inside)) in
+      let one : length rest ≡ 1 = omega (arith, p .inside, ap length none-left, length-drop 1 rest) in
+      record { one = one; same = λ h. sym (rw (ce, sz, take-all 1 rest (omega arith)) at (write-of-read rest h (p .known) (p .inside))) }
+
+  -- AN ACCEPTED TAPE IS THE TAPE OF ITS LISTING
+  pub write-read : (lines : Listing) → Bytes tape → read tape ≡ Passed lines → write lines ≡ tape
+  unfolding write
+  write-read lines h e =
+      let a = accepts tape lines e in
+      let w = at-end (a .state) (a .passes) (a .ends) in
+      rw (← a .listing, ← w .same (bytes-drop (a .state .at) tape h)) (written h (a .reached))
+
+  -- AN ACCEPTED TAPE HAS AT MOST 30,209 BYTES
+  pub accepted-length : (lines : Listing) → read tape ≡ Passed lines → length tape ≤ 30209
+  accepted-length lines e =
+      let a = accepts tape lines e in
+      let k = kept tape (a .reached) in
+      let w = at-end (a .state) (a .passes) (a .ends) in
+      omega (arith, k .place, k .few-lines, k .few-tokens, k .short-text, w .one, length-drop (a .state .at) tape)
+
+  addressed : Bytes tape → {s : State} → Reached tape s → All (λ l. AddressFits (l .address)) (s .lines)
+  addressed h here = tt
+  addressed h (on {s = s} r p n) =
+      more s (command-of (left tape s)) (addressed h r) (writable (left tape s) (bytes-drop (s .at) tape h) (p .known) (p .inside))
+    where
+      more : (s : State) (c : Command) → All (λ l. AddressFits (l .address)) (s .lines) → Writable c
+          → All (λ l. AddressFits (l .address)) (add c (s .lines))
+      more s (new-line address indent) k w = unfold add in all-append _ (s .lines) _ k (w, tt)
+      more s (new-token t) k w = unfold add in all-modify _ (with-token t) (λ l u. u) _ (s .lines) k
+      more s end k w = unfold add in k
+
+  -- WHAT AN ACCEPTED TAPE HOLDS IS WITHIN THE LIMITS
+  pub read-limits : (lines : Listing) → read tape ≡ Passed lines → Limits lines
+  read-limits lines e =
+      let a = accepts tape lines e in
+      let k = kept tape (a .reached) in
+      record {
+        few-lines = omega (arith, k .few-lines, k .lines, ap length (a .listing));
+        few-tokens = omega (arith, k .few-tokens, k .tokens, ap token-count (a .listing));
+        short-text = omega (arith, k .short-text, k .text, ap text (a .listing));
+        each = rw (a .listing) at (k .each);
+      }
+
+  pub read-fits : (lines : Listing) → Bytes tape → read tape ≡ Passed lines → Fits lines
+  read-fits lines h e =
+      let a = accepts tape lines e in
+      record { limits = read-limits lines e; addresses = rw (a .listing) at (addressed h (a .reached)) }
+
+-- TWO ACCEPTED TAPES WITH THE SAME LISTING ARE THE SAME TAPE
+pub same-tape : (s t : List ℕ) (lines : Listing) → Bytes s → Bytes t → read s ≡ Passed lines → read t ≡ Passed lines → s ≡ t
+same-tape s t lines hs ht es et = sym (write-read s lines hs es) ∙ write-read t lines ht et
