@@ -3,6 +3,8 @@ use Prim.Native.Nat.{ℕ, zero, suc, _+_, _-_, _%_, _^_, _<_, _≤_}
 use native.Mathlib.Omega.{arith}
 use native.Mathlib.Nat.{mod-eq-of-lt, mod-mod}
 use mathlib.Core.Path.{_≡_, refl, sym, ap, _∙_}
+use native.Mathlib.Decide.{decLt}
+use mathlib.Core.Logic.{by-cases}
 use mathlib.Core.Bool.{Bool, true, false}
 use lib.Dec.{T, leb, ltb, leb·zero}
 use lib.IntN.{ℤ, pos, negsuc, natAbs, negℤ, _+ℤ_, _-ℤ_, +ℤ-idl}
@@ -42,6 +44,18 @@ pub wrap-bits : (z : ℤ) → wrap z ≡ as-i64 (bits-of 64 z)
 unfolding wrap as-i64 bits-of
 wrap-bits (pos n) = rw (mod-mod n (2 ^ 64))
 wrap-bits (negsuc n) = refl
+
+wrap-fits : (z : ℤ) → SFits w64 z → wrap z ≡ z
+wrap-fits z f = wrap-bits z ∙ as-bits z f
+
+-- 2^63 as an i64 is its own negation
+pub negated : (n : ℕ) → n ≤ 2 ^ 63 → wrap (negℤ (as-i64 n)) ≡ negℤ (pos n)
+unfolding wrap as-i64 if_then_else_
+negated zero h = refl
+negated (suc n) h =
+    by-cases (decLt (suc n) (2 ^ 63))
+    (λ l. rw (as-low (suc n) l) (wrap-fits (negsuc n) (record { sfits = omega arith })))
+    (λ l. let e : n ≡ 2 ^ 63 - 1 = omega arith in rw e refl)
 
 -- ---- what the code computes with
 

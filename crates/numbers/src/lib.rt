@@ -1,3 +1,11 @@
-// Numbers of the listing: reading (`parse_c_number` of the Rust), sums that wrap at 64 bits, and printing.
-pub mod print;
-pub mod wrapping;
+// Numbers of a listing, as bytes and as signed values of 64 bits.
+mod parse; // `parse_c_number` of the Rust
+mod print; // the text of a folded number
+mod wrapping; // sums, differences and negations that wrap
+
+pub use parse::Number;
+pub use parse::parse_c_number;
+pub use print::put_number;
+pub use wrapping::wrapping_add;
+pub use wrapping::wrapping_neg;
+pub use wrapping::wrapping_sub;

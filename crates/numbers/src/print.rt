@@ -1,15 +1,12 @@
 // Numbers as text: -9 to 9 in decimal, the others in lower-case hexadecimal after `0x`.
+use crate::wrapping::HALF;
+use crate::wrapping::MOST;
 use crate::wrapping::bits;
 ghost use mathlib.Core.Path.{_≡_};
 ghost use Prim.Native.Nat.{_+_, _%_, _≤_};
 ghost use lib.ListN.{length};
 ghost use Rattle.reference.specs.Numbers.{digit-byte, show-natural, show};
 ghost use Rattle.numbers.specs.Writing.{hexadecimal, Written};
-
-// 2^63, and the largest number of 64 bits.
-const HALF: u64 = 9223372036854775808;
-
-const MOST: u64 = 18446744073709551615;
 
 // The last hexadecimal digit.
 fn last_digit(v: u64) -> u8

@@ -9,9 +9,9 @@ use std::num::wrapping_add_u64;
 use std::num::wrapping_sub_u64;
 
 // 2^63, and the largest number of 64 bits.
-const HALF: u64 = 9223372036854775808;
+pub const HALF: u64 = 9223372036854775808;
 
-const MOST: u64 = 18446744073709551615;
+pub const MOST: u64 = 18446744073709551615;
 
 // A signed number's 64 bits, as two's complement has them.
 pub fn bits(v: i64) -> u64
