@@ -16,11 +16,14 @@ use Rattle.build.specs.State.{used, Room, Appends}
 one-not-zero : _≡_ {A = ℕ} 1 0 → ⊥
 one-not-zero e = omega arith
 
+pub take-behind : (area : Text) (n : ℕ) (s : Text) {area′ : Text} → n ≤ length area → area′ ≡ paste area n s (length s) → take (n + length s) area′ ≡ take n area ++ s
+take-behind area n s h e = rw e (take-paste area n s (length s) h (le-refl _) ∙ rw take-length)
+
 -- a word stored at `keep`, and a text behind the text in use
 module _ (tape area : Text) (tokens : List ℕ) (at : Size) (keep : ℕ) (s : Text) (room : at .text + length s ≤ length area) (below : keep < length tokens) where
   module _ {area′ : Text} (e : area′ ≡ paste area (at .text) s (length s)) where
     used-is : take (at .text + length s) area′ ≡ used area at ++ s
-    used-is = rw e (take-paste area (at .text) s (length s) (omega arith) (le-refl _) ∙ rw take-length)
+    used-is = take-behind area (at .text) s (omega arith) e
 
     used-length : length (used area at) ≡ at .text
     used-length = length-take-le (at .text) area (omega arith)
@@ -50,19 +53,33 @@ pub place-at : (tokens : List ℕ) (keep k start len : ℕ) {v : ℕ} → keep <
     → place-of (getD (set tokens keep v) keep 0) ≡ 1
 place-at tokens keep k start len {v} below hk hs ev = ap place-of (getD-set-same tokens keep v 0 below ∙ ev) ∙ word-place k 1 start len hk (omega arith) hs
 
+-- a text behind the text in use, and its word
+module _ (tape front s : Text) (k at : ℕ) (hk : k < 8) (e : length front ≡ at) (short : at + length s < 65536) where
+  hs : at < 65536
+  hs = omega arith
+
+  hl : length s < 65536
+  hl = omega arith
+
+  pub behind-points : Points tape (front ++ s) (word k 1 at (length s))
+  behind-points =
+      word-points k 1 at (length s) hk (omega arith) hs hl tape (front ++ s) (rw (in-area tape (front ++ s) one-not-zero, length-append) (omega arith)) short
+
+  pub behind-means : token-of tape (front ++ s) (word k 1 at (length s)) ≡ token k s
+  behind-means =
+      word-means k 1 at (length s) hk (omega arith) hs hl tape (front ++ s) ∙ rw (in-area tape (front ++ s) one-not-zero, drop-at front s at e, take-length)
+
 -- a token with a copy of its text
 module _ (tape area : Text) (tokens : List ℕ) (at : Size) (k : ℕ) (s : Text) (hk : k < 8) (r : Room area tokens at (length s) 1) where
   pub copied : {area′ : Text} {v : ℕ} → area′ ≡ paste area (at .text) s (length s) → v ≡ word k 1 (at .text) (length s)
       → Appends tape area tokens at (at .tokens) (token k s) (length s) area′ (set tokens (at .tokens) v) (record { lines = at .lines; tokens = at .tokens + 1; text = at .text + length s })
-  copied {area′} e ev =
+  copied e ev =
       let ul : length (used area at) ≡ at .text = length-take-le (at .text) area (omega (arith, r .text-fits)) in
       let hs : at .text < 65536 = omega (arith, r .short) in
       let hl : length s < 65536 = omega (arith, r .short) in
       stored tape area tokens at (at .tokens) s (r .text-fits) (omega (arith, r .words-fit)) e ev
-      (word-points k 1 (at .text) (length s) hk (omega arith) hs hl tape (used area at ++ s)
-      (rw (in-area tape (used area at ++ s) one-not-zero, length-append) (omega arith)) (r .short))
-      (word-means k 1 (at .text) (length s) hk (omega arith) hs hl tape (used area at ++ s)
-      ∙ rw (in-area tape (used area at ++ s) one-not-zero, drop-at (used area at) s (at .text) ul, take-length))
+      (behind-points tape (used area at) s k (at .text) hk ul (r .short))
+      (behind-means tape (used area at) s k (at .text) hk ul (r .short))
       (λ _. rw (word-start k 1 (at .text) (length s) hk (omega arith) hs, word-len k 1 (at .text) (length s) hk (omega arith) hs hl))
       (λ m h _ _. rw (word-start k 1 (at .text) (length s) hk (omega arith) hs) h)
 

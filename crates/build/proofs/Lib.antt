@@ -4,3 +4,4 @@ pub mod Appending
 pub mod Growing
 pub mod Merging
 pub mod Pushing
+pub mod Folding
