@@ -5,3 +5,4 @@ pub mod Growing
 pub mod Merging
 pub mod Pushing
 pub mod Folding
+pub mod Stepping

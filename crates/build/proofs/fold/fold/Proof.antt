@@ -1,43 +1,38 @@
-use borrow.Author.Needs.{needs}
+-- `build::fold::fold` meets its contract. Assumes nothing.
+use Prim.Native.Nat.{_-_}
+use mathlib.Core.Path.{_≡_, refl, _∙_}
+use native.Mathlib.Omega.{arith}
+use lib.ListN.{length}
+use Rattle.build.proofs.Stepping.{Turning, turning-begin, turning-again, turning-end}
 use Rattle.build.proofs.fold.fold.Statement.{statement}
 use Rattle.build.proofs.fold.fold.Tie as tie
-use Rattle.build.proofs.fold.fold.Reads as reads
-use Rattle.build.proofs.fold.fold.Lts as lts
-use Rattle.build.proofs.fold.fold_step.Reads as fold-step-reads
 
 abbrev Inv-loop : tie.InvT-loop
-Inv-loop tape area₀ line₀ text f₀ area line f = ?
+Inv-loop tape area₀ line₀ text f₀ area line f = (length area ≡ length area₀) × (length line ≡ length line₀) × Turning tape area₀ line₀ text area line f
 
 abbrev μ-loop : tie.MeasureT-loop
-μ-loop tape area₀ line₀ text f₀ area line f = ?
+μ-loop tape area₀ line₀ text f₀ area line f = length line - f .next
 
--- src/fold.rt:157:5
 loop-holds : tie.Need-loop-holds Inv-loop μ-loop
-loop-holds c = search needs
+loop-holds c = (refl, refl, turning-begin _ _ _ _ (c .before .before .before .pre))
 
--- src/fold.rt:158:9
 fold-step-requires : tie.Need-fold-step-requires Inv-loop μ-loop
-fold-step-requires c κs = search needs
+fold-step-requires c κs = (c .before .before .before .before .loop .inv .2 .foldable, c .before .before .if1 .taken)
 
--- src/fold.rt:157:5
 loop-less : tie.Need-loop-less Inv-loop μ-loop
-loop-less c = search needs
+loop-less c = omega (arith, c .before .before .before .before .fold-step .ensures .further, c .before .before .before .before .fold-step .ensures .foldable .inside, c .before .before .before .before .fold-step .kept .1 .1 .0, c .before .before .before .before .before .before .before .if1 .taken)
 
--- src/fold.rt:157:5
 loop-again : tie.Need-loop-again Inv-loop μ-loop
-loop-again c = search needs
+loop-again c = let i = c .before .before .before .before .before .before .before .before .before .loop .inv in (c .before .before .before .before .fold-step .kept .1 .0 ∙ i .0, c .before .before .before .before .fold-step .kept .1 .1 .0 ∙ i .1, turning-again _ _ _ _ (i .2) (c .before .before .before .before .fold-step .ensures))
 
--- src/fold.rt:148:1
 same-length : tie.Need-same-length Inv-loop μ-loop
-same-length c = search needs
+same-length c = c .before .before .loop .inv .0
 
--- src/fold.rt:148:1
 same-length-2 : tie.Need-same-length-2 Inv-loop μ-loop
-same-length-2 c = search needs
+same-length-2 c = c .before .before .loop .inv .1
 
--- src/fold.rt:148:1
 returns : tie.Need-returns Inv-loop μ-loop
-returns c = search needs
+returns c = turning-end _ _ _ _ (c .before .before .loop .inv .2) (c .if1 .left) (c .before .before .loop .inv .1)
 
 pub fold-spec : {M : Type 1} → statement M
 fold-spec =

@@ -1,95 +1,81 @@
+-- `build::fold::fold_step` meets its contract. Assumes nothing.
+use Prim.Native.Nat.{_+_, _<_}
+use native.Mathlib.Omega.{arith}
+use mathlib.Core.Path.{_≡_, ap, _∙_}
+use lib.ListN.{length}
+use Rattle.reference.specs.Numbers.{show}
+use Rattle.numbers.specs.Reading.{meaning}
+use Rattle.numbers.proofs.Signed.{read-back}
+use Rattle.build.proofs.Stepping.{done-whole, left-whole, next-none, next-some, fold-inside, fold-room, fold-short, fold-text, stepped-kept, stepped-made}
 use borrow.Author.Needs.{needs}
 use Rattle.build.proofs.fold.fold_step.Statement.{statement}
 use Rattle.build.proofs.fold.fold_step.Tie as tie
-use Rattle.build.proofs.fold.fold_step.Reads as reads
-use Rattle.build.proofs.fold.fold_step.Lts as lts
-use Rattle.build.proofs.fold.fold_value.Reads as fold-value-reads
-use Rattle.lines.proofs.words.token_word.Reads as token-word-reads
-use Rattle.numbers.proofs.put_number.Reads as put-number-reads
 
--- src/fold.rt:125:11
 fold-value-requires : tie.Need-fold-value-requires
-fold-value-requires c κs = ?
+fold-value-requires c κs = let s = c .before .before .before .before .before .pre .0 in (omega (arith, s .kept-first, s .inside), s .inside, done-whole s, left-whole s)
 
--- src/fold.rt:126:22
 enum-known-v : tie.Need-enum-known-v
 enum-known-v c = search needs
 
--- src/fold.rt:127:17
 put-number-requires : tie.Need-put-number-requires
-put-number-requires c κs = ?
+put-number-requires c κs = fold-room (c .before .before .before .before .before .before .before .before .before .before .pre .0) (next-some (c .before .before .before .before .before .before .before .before .before .before .pre .0) (ap meaning (c .before .before .v .given .1)) (read-back (c .before .before .v .given .0 .0) (c .before .known-told .given .0 .1)) (c .before .before .before .before .fold-value .ensures))
 
--- src/fold.rt:128:22
 add-to : tie.Need-add-to
 add-to c = search needs
 
--- src/fold.rt:129:77
 sub-token-word : tie.Need-sub-token-word
 sub-token-word c = search needs
 
--- src/fold.rt:129:24
 token-word-requires : tie.Need-token-word-requires
-token-word-requires c κs = ?
+token-word-requires c κs = let s = c .before .before .before .before .before .before .before .before .before .before .before .before .before .pre .0 in
+    let e = next-some s (ap meaning (c .before .before .before .before .before .v .given .1)) (read-back (c .before .before .before .before .before .v .given .0 .0) (c .before .before .before .before .known-told .given .0 .1)) (c .before .before .before .before .before .before .before .fold-value .ensures) in
+    omega (arith, fold-short s e, fold-text s e, c .before .before .put-number .ensures .end-is)
 
--- src/fold.rt:129:13
 mul-line : tie.Need-mul-line
 mul-line c = search needs
 
--- src/fold.rt:129:13
 slice-write-line : tie.Need-slice-write-line
-slice-write-line c = ?
+slice-write-line c = fold-inside (c .before .before .before .before .before .before .before .before .before .before .before .before .before .before .pre .0) (next-some (c .before .before .before .before .before .before .before .before .before .before .before .before .before .before .pre .0) (ap meaning (c .before .before .before .before .before .before .v .given .1)) (read-back (c .before .before .before .before .before .before .v .given .0 .0) (c .before .before .before .before .before .known-told .given .0 .1)) (c .before .before .before .before .before .before .before .before .fold-value .ensures))
 
--- src/fold.rt:137:26
 enum-told : tie.Need-enum-told
 enum-told c = search needs
 
--- src/fold.rt:137:26
 mul-line-2 : tie.Need-mul-line-2
 mul-line-2 c = search needs
 
--- src/fold.rt:137:26
 slice-read-line : tie.Need-slice-read-line
 slice-read-line c = search needs
 
--- src/fold.rt:137:13
 mul-line-3 : tie.Need-mul-line-3
 mul-line-3 c = search needs
 
--- src/fold.rt:137:13
 slice-write-line-2 : tie.Need-slice-write-line-2
 slice-write-line-2 c = search needs
 
--- src/fold.rt:139:23
 add-t23 : tie.Need-add-t23
 add-t23 c = search needs
 
--- src/fold.rt:140:23
 add-t26 : tie.Need-add-t26
 add-t26 c = search needs
 
--- src/fold.rt:118:1
 same-length : tie.Need-same-length
 same-length c = search needs
 
--- src/fold.rt:118:1
 same-length-2 : tie.Need-same-length-2
 same-length-2 c = search needs
 
--- src/fold.rt:118:1
 returns : tie.Need-returns
-returns c = ?
+returns c = let s = c .before .before .before .before .before .before .before .before .before .before .before .before .before .before .pre .0 in
+    stepped-made s (next-some s (ap meaning (c .before .before .before .before .before .before .v .given .1)) (read-back (c .before .before .before .before .before .before .v .given .0 .0) (c .before .before .before .before .before .known-told .given .0 .1)) (c .before .before .before .before .before .before .before .before .fold-value .ensures)) (c .before .before .before .put-number .ensures) (c .token-word .ensures) (c .before .before .before .put-number .kept .1 .0)
 
--- src/fold.rt:118:1
 same-length-3 : tie.Need-same-length-3
 same-length-3 c = search needs
 
--- src/fold.rt:118:1
 same-length-4 : tie.Need-same-length-4
 same-length-4 c = search needs
 
--- src/fold.rt:118:1
 returns-2 : tie.Need-returns-2
-returns-2 c = ?
+returns-2 c = stepped-kept (c .before .before .before .before .before .before .before .before .before .pre .0) (c .before .before .before .before .before .before .before .before .before .pre .1) (next-none (c .before .before .before .before .before .before .before .before .before .pre .0) (ap meaning (c .before .enum-told .given .1)) (c .before .before .before .fold-value .ensures))
 
 pub fold-step-spec : {M : Type 1} → statement M
 fold-step-spec =
