@@ -6,3 +6,4 @@ pub mod Merging
 pub mod Pushing
 pub mod Folding
 pub mod Stepping
+pub mod FoldedLast

@@ -20,13 +20,13 @@ use Rattle.lines.proofs.words.Tokens.{word-start, holds-none, holds-drop, holds
 use Rattle.numbers.specs.Writing.{Written}
 use Rattle.build.specs.declared.fold.Folding.{Folding}
 use Rattle.build.specs.State.{Fresh}
-use Rattle.build.specs.Folding.{is-sign, number-token, last-of, fold-next, fold-behind, done-now, left-now, folds-to, text-limit, Foldable, Stepped, Folded}
+use Rattle.build.specs.Folding.{is-sign, number-token, last-of, fold-next, fold-behind, done-now, left-now, folds-to, signs-room, text-limit, Foldable, Stepped, Folded}
 use Rattle.build.proofs.Appending.{take-behind, behind-points, behind-means}
 use Rattle.build.proofs.Folding.{fold-kept, fold-made, fold-long, fold-begin, last-snoc, count-drop}
 
 module _ {tape area : Text} {line : List ℕ} {f : Folding} (s : Foldable tape area line f) where
   text-inside : f .text ≤ length area
-  unfolding text-limit
+  unfolding signs-room
   text-inside = omega (arith, s .text-fits)
 
   -- the texts in use are texts of the whole area
@@ -91,7 +91,7 @@ module _ {tape area : Text} {line : List ℕ} {f : Folding} (s : Foldable tape a
     first-points = rw (getD-drop, add-zero) at (s .left .at 0 (rw length-drop (omega arith)))
 
     limit-kept : text-limit tape area line′ f′ ≤ text-limit tape area line f
-    unfolding text-limit
+    unfolding signs-room
     limit-kept = rw (left′-is, left-is) (omega (arith, count-drop rest))
 
     pub stepped-kept : Stepped tape area line f area line′ f′
@@ -133,11 +133,11 @@ module _ {tape area : Text} {line : List ℕ} {f : Folding} (s : Foldable tape a
     fold-inside = omega (arith, facts .0, left-length)
 
     pub fold-room : f .text + 19 ≤ length area
-    unfolding text-limit
+    unfolding signs-room
     fold-room = omega (arith, facts .2, s .text-fits)
 
     pub fold-short : f .text + 19 < 65536
-    unfolding text-limit
+    unfolding signs-room
     fold-short = omega (arith, facts .2, s .short)
 
     pub fold-text : length t ≤ 19
@@ -184,7 +184,7 @@ module _ {tape area : Text} {line : List ℕ} {f : Folding} (s : Foldable tape a
           (ap (tokens-of tape (take (f .text) area)) (sym (drop-drop 3 (f .next) line)) ∙ map-drop (token-of tape (take (f .text) area)) 3 (drop (f .next) line)))
 
       limit-made : text-limit tape area′ folded-line folding ≤ text-limit tape area line f
-      unfolding text-limit
+      unfolding signs-room
       limit-made = rw left-made (omega (arith, facts .1, facts .2))
 
       module _ (la : length area′ ≡ length area) where
@@ -259,7 +259,7 @@ module _ (tape : Text) (area₀ : Text) (line₀ : List ℕ) (n : ℕ) where
     }
 
     pub turning-end : length line ≤ f .next → length line ≡ length line₀ → Folded tape area₀ line₀ n area line f
-    unfolding text-limit
+    unfolding signs-room
     turning-end over ll =
         let none-left : drop (f .next) line ≡ [] = drop-of-length-le line over in
         let e : folds-to tape area line f ≡ done-now tape area line f = rw none-left (append-nil _) in

@@ -13,7 +13,8 @@ use Rattle.reference.specs.Listing.{Token, token, is, Number}
 use Rattle.reference.specs.Numbers.{parse-c-number, wrap, show, folded, fold-at, fold}
 use Rattle.lines.specs.Words.{tokens-of, Holds}
 use Rattle.build.specs.declared.fold.Folding.{Folding}
-use Rattle.build.specs.State.{Fresh}
+use Rattle.build.specs.declared.used.Size.{Size}
+use Rattle.build.specs.State.{line-now, Fresh, Built, Grows}
 
 -- ---- what a fold makes
 
@@ -62,9 +63,13 @@ left-now tape area line f = tokens-of tape (take (f .text) area) (drop (f .next)
 abbrev pub folds-to : Text → Text → List ℕ → Folding → List Token
 folds-to tape area line f = done-now tape area line f ++ fold-behind (last-of (done-now tape area line f)) (left-now tape area line f)
 
--- how far the text may come: each fold makes at most 19 bytes, and takes away a sign behind the token at `next`
-unfoldable pub text-limit : Text → Text → List ℕ → Folding → ℕ
-text-limit tape area line f = f .text + 19 * count is-sign (drop 1 (left-now tape area line f))
+-- how many bytes the folds of the tokens ts make at most: each makes at most 19, and takes away a sign behind the token at which it is made
+unfoldable pub signs-room : List Token → ℕ
+signs-room ts = 19 * count is-sign (drop 1 ts)
+
+-- how far the text may come
+abbrev pub text-limit : Text → Text → List ℕ → Folding → ℕ
+text-limit tape area line f = f .text + signs-room (left-now tape area line f)
 
 pub record Foldable (tape area : Text) (line : List ℕ) (f : Folding) : Type 0 where
   pub kept-first : f .kept ≤ f .next
@@ -92,5 +97,13 @@ pub record Folded (tape area : Text) (line : List ℕ) (n : ℕ) (area′ : Text
   pub line-is : tokens-of tape (take (f .text) area′) (take (f .kept) line′) ≡ fold (tokens-of tape (take n area) line)
   pub text-grows : n ≤ f .text
   pub text-below : take n area′ ≡ take n area
-  pub text-most : f .text ≤ n + 19 * count is-sign (drop 1 (tokens-of tape (take n area) line))
+  pub text-most : f .text ≤ n + signs-room (tokens-of tape (take n area) line)
   pub fresh : (m : ℕ) → m ≤ n → Fresh m line → Fresh m (take (f .kept) line′)
+
+-- what folding leaves of the line that began at `from`
+pub record FoldedLast (tape area : Text) (tokens : List ℕ) (from : ℕ) (at : Size) (area′ : Text) (tokens′ : List ℕ) (at′ : Size) : Type 0 where
+  pub built : Built tape area′ tokens′ from at′
+  pub line-is : line-now tape area′ tokens′ from at′ ≡ fold (line-now tape area tokens from at)
+  pub grows : Grows area tokens from at area′ tokens′ at′
+  pub text-most : at′ .text ≤ at .text + signs-room (line-now tape area tokens from at)
+  pub words-most : at′ .tokens ≤ at .tokens

@@ -1,5 +1,6 @@
 // Numbers folded in place (`fold` of the Rust): `n + m` and `n - m` between plain delimiters, with a read and a write index. What a fold
 // makes is put at the end of the text in use, and looked at again.
+use crate::used::Size;
 use lines::words;
 use numbers::Number;
 use numbers::parse_c_number;
@@ -14,7 +15,8 @@ ghost use Rattle.reference.specs.Text.{bytes, _==_};
 ghost use Rattle.reference.specs.Numbers.{delim-before, delim-after};
 ghost use Rattle.lines.specs.Words.{token-of, tokens-of, Points, Holds};
 ghost use Rattle.numbers.specs.Reading.{meaning};
-ghost use Rattle.build.specs.Folding.{operated, sum-of, number-token, last-of, fold-next, Foldable, Stepped, Folded};
+ghost use Rattle.build.specs.Folding.{operated, sum-of, number-token, last-of, fold-next, Foldable, Stepped, Folded, signs-room, FoldedLast};
+ghost use Rattle.build.specs.State.{line-now, Room, Built};
 
 // a + b or a - b, where both were read.
 fn operate(plus: bool, a: Number, b: Number) -> Number
@@ -158,4 +160,18 @@ fn fold(tape: &[u8], area: &mut [u8], line: &mut [u64], text: usize) -> Folding
         f = fold_step(tape, area, line, f);
     }
     f
+}
+
+// Folds the line that began at `from`.
+pub fn fold_last(tape: &[u8], area: &mut [u8], tokens: &mut [u64], from: usize, size: Size) -> Size
+    requires { ⌜ Built (now tape) (now area) (now tokens) from size × Room (now area) (now tokens) size (signs-room (line-now (now tape) (now area) (now tokens) from size)) 0 ⌝ }
+    ensures { λ r. ⌜ FoldedLast (now (tape .entry)) (now (area .entry)) (now (tokens .entry)) from size (now (area .exit)) (now (tokens .exit)) r ⌝ }
+{
+    let to = size.tokens;
+    let f = fold(tape, area, &mut tokens[from..to], size.text);
+    Size {
+        lines: size.lines,
+        tokens: from + f.kept,
+        text: f.text,
+    }
 }
