@@ -1,3 +1,4 @@
 pub mod Each
 pub mod Tokens
 pub mod Lines
+pub mod Scans

@@ -12,17 +12,17 @@ use Rattle.numbers.specs.Bits.{bits-of}
 -- ---- one more, modulo m
 
 module _ (m : ℕ) where
-  last : (x : ℕ) → x < m → (m ≤ suc x) → suc x % m ≡ 0
-  last x h l = let e : suc x ≡ m = omega arith in rw e (mod-self m)
+  suc-mod-last : (x : ℕ) → x < m → (m ≤ suc x) → suc x % m ≡ 0
+  suc-mod-last x h l = let e : suc x ≡ m = omega arith in rw e (mod-self m)
 
   suc-mod-inj : (x y : ℕ) → x < m → y < m → suc x % m ≡ suc y % m → x ≡ y
   suc-mod-inj x y hx hy e =
       by-cases (decLt (suc x) m)
       (λ kx. by-cases (decLt (suc y) m)
       (λ ky. omega (arith, mod-eq-of-lt kx, mod-eq-of-lt ky))
-      (λ ky. omega (arith, mod-eq-of-lt kx, last y hy (omega arith))))
+      (λ ky. omega (arith, mod-eq-of-lt kx, suc-mod-last y hy (omega arith))))
       (λ kx. by-cases (decLt (suc y) m)
-      (λ ky. omega (arith, mod-eq-of-lt ky, last x hx (omega arith)))
+      (λ ky. omega (arith, mod-eq-of-lt ky, suc-mod-last x hx (omega arith)))
       (λ ky. omega arith))
 
   suc-add-mod : (x c : ℕ) → (x + suc c) % m ≡ suc ((x + c) % m) % m
@@ -59,7 +59,7 @@ module _ (k : ℕ) where
       rw (suc-mod n (2 ^ k), mod-eq-of-lt h, e) (sym (mod-eq-of-lt (omega (arith, pow-pos k)))))
       (λ h.
       let e : suc (2 ^ k - 1) ≡ 2 ^ k = omega (arith, pow-pos k) in
-      rw (suc-mod n (2 ^ k), last (2 ^ k) (n % 2 ^ k) r (omega arith), e, mod-self) (omega arith))
+      rw (suc-mod n (2 ^ k), suc-mod-last (2 ^ k) (n % 2 ^ k) r (omega arith), e, mod-self) (omega arith))
 
   -- the law at b - 1, from the law at b
   add-pred : (a b : ℤ) → bits-of k (a +ℤ b) ≡ (bits-of k a + bits-of k b) % 2 ^ k → bits-of k (a +ℤ predℤ b) ≡ (bits-of k a + bits-of k (predℤ b)) % 2 ^ k

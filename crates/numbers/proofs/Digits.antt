@@ -1,5 +1,5 @@
 -- The digits of a number, and what a printed number is made of. Assumes nothing.
-use Prim.Native.Nat.{ℕ, zero, suc, _+_, _*_, _-_, _/_, _%_, _^_, _<_, _≤_}
+use Prim.Native.Nat.{ℕ, zero, suc, _+_, _-_, _/_, _%_, _^_, _<_, _≤_}
 use native.Mathlib.Omega.{arith}
 use native.Mathlib.Nat.{mod-eq-of-lt, pow-suc, pow-zero, one-mul, div-lt-iff-lt-mul}
 use native.Mathlib.Decide.{decLt}
@@ -7,9 +7,7 @@ use mathlib.Core.Path.{_≡_, refl, sym, ap, _∙_}
 use mathlib.Core.Logic.{by-cases}
 use mathlib.Core.List.{[], _∷_, _++_, append-assoc}
 use lib.ListN.{length, length-append}
-use lib.IntN.{ℤ, pos, negsuc}
 use borrow.Author.Tests.{lt-ltb, le-ltb}
-use Rattle.reference.specs.Control.{if_then_else_}
 use Rattle.reference.specs.Text.{Text}
 use Rattle.reference.specs.Numbers.{digit-byte, digits, show-natural, show, as-i64}
 use Rattle.laws.proofs.Scans.{if-true, if-false}
@@ -54,14 +52,6 @@ module _ (b : ℕ) where
       ∙ digits-fuel p f (n / b) (digit-byte (n % b) ∷ rest) (div-lt-iff-lt-mul p .1 (rw pow-suc at h))
       ∙ sym (more-digits (suc f) n rest (omega arith)))
 
-  digits-length : (f n : ℕ) (rest : Text) → length (digits f b n rest) ≤ f + length rest
-  unfolding digits
-  digits-length zero n rest = omega arith
-  digits-length (suc f) n rest =
-      by-cases (decLt n b)
-      (λ h. rw (one-digit f n rest h) (omega arith))
-      (λ h. rw (more-digits f n rest (omega arith)) (omega (arith, digits-length f (n / b) (digit-byte (n % b) ∷ rest))))
-
 -- ---- hexadecimal digits
 
 module _ (v : ℕ) where
@@ -79,10 +69,6 @@ module _ (v : ℕ) where
   pub longer : 16 ≤ v → v < 2 ^ 64 → length (hexadecimal v) ≡ length (hexadecimal (v / 16)) + 1
   longer l h = ap length (hexadecimal-more l h) ∙ simp length-append
 
-  pub hexadecimal-length : length (hexadecimal v) ≤ 16
-  unfolding hexadecimal
-  hexadecimal-length = digits-length 16 16 v []
-
   -- ---- the parts of a printed number
 
   pub natural-small : v < 10 → show-natural v ≡ hexadecimal v
@@ -97,12 +83,6 @@ module _ (v : ℕ) where
   unfolding show-natural hexadecimal
   natural-large h = if-false _ _ (le-ltb v 10 h)
 
-  pub natural-length : length (show-natural v) ≤ 18
-  natural-length =
-      by-cases (decLt v 10)
-      (λ h. rw (natural-small h) (omega (arith, hexadecimal-length)))
-      (λ h. rw (natural-large (omega arith)) (omega (arith, hexadecimal-length)))
-
   pub show-low : v < 2 ^ 63 → show (as-i64 v) ≡ show-natural v
   unfolding show
   show-low h = rw (as-low v h)
@@ -110,8 +90,3 @@ module _ (v : ℕ) where
   pub show-high : 2 ^ 63 ≤ v → v < 2 ^ 64 → show (as-i64 v) ≡ (45 ∷ []) ++ show-natural (2 ^ 64 - 1 - v + 1)
   unfolding show
   show-high l h = let e : suc (2 ^ 64 - suc v) ≡ 2 ^ 64 - 1 - v + 1 = omega arith in rw (as-high v l h, e)
-
-pub show-length : (z : ℤ) → length (show z) ≤ 19
-unfolding show
-show-length (pos n) = omega (arith, natural-length n)
-show-length (negsuc n) = omega (arith, natural-length (suc n))

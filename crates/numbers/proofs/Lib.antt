@@ -1,3 +1,5 @@
+-- Laws: two's complement over any width (Bits) and at 64 bits (Signed), digits (Digits), text put into a slice (Writing),
+-- rows of digits (Reading), signs and prefixes (Parsing).
 pub mod Bits
 pub mod Signed
 pub mod Digits

@@ -1,21 +1,17 @@
 -- Prefixes, signs and bases: each way that a function of whole numbers returns, from the facts of that place. Assumes nothing.
-use Prim.Native.Nat.{ℕ, zero, suc, _-_, _^_, _<_, _≤_}
+use Prim.Native.Nat.{ℕ, suc, _-_, _^_, _≤_}
 use native.Mathlib.Omega.{arith}
-use native.Mathlib.Decide.{decLt, decLe}
 use mathlib.Core.Path.{_≡_, refl, sym, ap, _∙_}
-use mathlib.Core.Logic.{by-cases}
 use mathlib.Core.Bool.{Bool, true, false}
-use mathlib.Core.List.{[], _∷_}
 use mathlib.Core.Option.{Option, none, some}
 use lib.Dec.{leb, ltb, leb·suc-suc}
-use lib.IntN.{ℤ, pos, negsuc, negℤ}
+use lib.IntN.{ℤ, pos, negℤ}
 use lib.ListN.{length, take, drop}
-use mir.Syntax.{w64}
-use mir.Val.{SFits}
 use Rattle.reference.specs.Control.{if_then_else_, let-some_else_then_}
 use Rattle.reference.specs.Text.{Text, bytes, starts-with, strip-prefix}
 use Rattle.reference.specs.Numbers.{unsigned, read-u64, read-i64, as-i64, wrap, parse-c-number}
-use Rattle.laws.proofs.Scans.{if-true, if-false, starts-short}
+use Rattle.reference.proofs.Shapes.{starts-with-length}
+use Rattle.laws.proofs.Scans.{if-true, if-false}
 use Rattle.laws.proofs.Parts.{to-end}
 use Rattle.numbers.specs.Reading.{at-most, without-plus, positive, negative, hexadecimal, unnegated}
 use Rattle.numbers.proofs.Signed.{as-low, negated}
@@ -25,10 +21,7 @@ use Rattle.numbers.proofs.Reading.{most-is}
 
 module _ (p s : Text) {r : Bool} (e : r ≡ starts-with s p) where
   pub prefix-fits : r ≡ true → length p ≤ length s
-  prefix-fits t =
-      by-cases (decLe (length p) (length s))
-      (λ h. h)
-      (λ h. let z : _≡_ {A = ℕ} 0 1 = cc (starts-short s p (omega arith)) in omega arith)
+  prefix-fits t = starts-with-length s p (sym e ∙ t)
 
   module _ {ℓ} {B : Type ℓ} (d : B) (k : Text → B) where
     pub stripped : r ≡ true → (let-some (strip-prefix p s) else d then k) ≡ k (take (length s - length p) (drop (length p) s))
@@ -76,11 +69,6 @@ module _ (s : Text) where
   unfolding negative
   negative-is = up-to (λ n. negℤ (pos n)) (2 ^ 63) (unsigned 10 s)
 
-parse-by : Text → Bool → Option ℤ
-parse-by s b =
-    let-some (unnegated (let-some (if b then some (drop 1 s) else none) else s then λ r. r)) else none then λ n.
-    if b then some (wrap (negℤ n)) else some n
-
 module _ {A B : Type 0} (f : A → B) {o : Option A} where
   then-some : {a : A} → some a ≡ o → some (f a) ≡ (let-some o else none then λ x. some (f x))
   unfolding let-some_else_then_
@@ -110,6 +98,12 @@ module _ (s : Text) where
   negative-unread e = then-none (λ n. negℤ (pos n)) e ∙ sym (negative-is s)
 
 -- ---- with it
+
+-- `parse-c-number`, where b tells whether there is a minus
+parse-by : Text → Bool → Option ℤ
+parse-by s b =
+    let-some (unnegated (let-some (if b then some (drop 1 s) else none) else s then λ r. r)) else none then λ n.
+    if b then some (wrap (negℤ n)) else some n
 
 -- r is what a call answered of the prefix
 module _ (s : Text) {r : Bool} where
@@ -150,12 +144,12 @@ module _ (s : Text) {r : Bool} where
     unfolding parse-by let-some_else_then_ if_then_else_
     parse-plain t = sym (parse-is ∙ ap (parse-by s) t ∙ same-some (unnegated s))
 
-    minus : r ≡ true → (let-some (unnegated (take (length s - 1) (drop 1 s))) else none then λ n. some (wrap (negℤ n))) ≡ parse-c-number s
+    parse-minus : r ≡ true → (let-some (unnegated (take (length s - 1) (drop 1 s))) else none then λ n. some (wrap (negℤ n))) ≡ parse-c-number s
     unfolding parse-by let-some_else_then_ if_then_else_
-    minus t = rw to-end (sym (parse-is ∙ ap (parse-by s) t))
+    parse-minus t = rw to-end (sym (parse-is ∙ ap (parse-by s) t))
 
     pub parse-read : {v : ℤ} → r ≡ true → some v ≡ unnegated (take (length s - 1) (drop 1 s)) → some (wrap (negℤ v)) ≡ parse-c-number s
-    parse-read t u = then-some (λ n. wrap (negℤ n)) u ∙ minus t
+    parse-read t u = then-some (λ n. wrap (negℤ n)) u ∙ parse-minus t
 
     pub parse-unread : r ≡ true → none ≡ unnegated (take (length s - 1) (drop 1 s)) → none ≡ parse-c-number s
-    parse-unread t u = then-none (λ n. wrap (negℤ n)) u ∙ minus t
+    parse-unread t u = then-none (λ n. wrap (negℤ n)) u ∙ parse-minus t

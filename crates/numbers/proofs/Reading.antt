@@ -1,5 +1,5 @@
 -- Reading: each way that a reading function returns, from the facts of that place. Assumes nothing.
-use Prim.Native.Nat.{ℕ, zero, suc, _+_, _*_, _-_, _/_, _^_, _<_, _≤_}
+use Prim.Native.Nat.{ℕ, _+_, _*_, _-_, _/_, _<_, _≤_}
 use native.Mathlib.Omega.{arith}
 use native.Mathlib.Nat.{le-div-iff-mul-le, div-lt-iff-lt-mul, le-mul-of-pos-right}
 use native.Mathlib.Numerals.{add-one}
@@ -9,11 +9,11 @@ use native.Mathlib.Decide.{decLe}
 use mathlib.Core.Bool.{Bool, true, false}
 use mathlib.Core.List.{[], _∷_}
 use mathlib.Core.Option.{Option, none, some}
-use lib.Dec.{leb, ltb}
+use lib.Dec.{leb}
 use lib.ListN.{length, drop, getD, drop-of-length-le}
 use lib.Seq.{drop-cons}
 use borrow.Author.Tests.{leb-true, lt-ltb, le-ltb, le-leb, lt-leb}
-use Rattle.reference.specs.Control.{_&&_, if_then_else_, let-some_else_then_}
+use Rattle.reference.specs.Control.{_&&_, let-some_else_then_}
 use Rattle.reference.specs.Text.{Text}
 use Rattle.reference.specs.Numbers.{to-digit, digits-value, unsigned}
 use Rattle.laws.proofs.Scans.{if-true, if-false}

@@ -5,12 +5,12 @@ use native.Mathlib.Nat.{mod-eq-of-lt, mod-mod}
 use mathlib.Core.Path.{_≡_, refl, sym, ap, _∙_}
 use native.Mathlib.Decide.{decLt}
 use mathlib.Core.Logic.{by-cases}
-use mathlib.Core.Bool.{Bool, true, false}
-use lib.Dec.{T, leb, ltb, leb·zero}
-use lib.IntN.{ℤ, pos, negsuc, natAbs, negℤ, _+ℤ_, _-ℤ_, +ℤ-idl}
-use lib.Signed.{mag, leZ, nonNeg}
+use mathlib.Core.Bool.{true, false}
+use lib.Dec.{leb·zero}
+use lib.IntN.{ℤ, pos, negsuc, negℤ, _+ℤ_, _-ℤ_, +ℤ-idl}
+use lib.Signed.{mag, leZ}
 use mir.Syntax.{w64}
-use mir.Val.{Fits, SFits, toZ, ofZ}
+use mir.Val.{SFits, toZ, ofZ}
 use mir.ValLaws.{toZ-ofZ, toZ-pos}
 use borrow.Author.Tests.{lt-ltb, le-ltb}
 use Rattle.reference.specs.Control.{if_then_else_}

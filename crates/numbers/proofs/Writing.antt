@@ -4,7 +4,7 @@ use native.Mathlib.Omega.{arith}
 use native.Mathlib.Nat.{add-zero}
 use native.Mathlib.Numerals.{add-one}
 use mathlib.Core.Path.{_≡_, refl, sym, ap, _∙_}
-use mathlib.Core.List.{List, [], _∷_, _++_}
+use mathlib.Core.List.{[], _∷_, _++_}
 use lib.ListN.{length, set, length-append}
 use lib.Seq.{sets, length-sets, sets-eq, paste, take-length}
 use lib.IntN.{ℤ}
@@ -13,9 +13,10 @@ use mir.Val.{SFits, toZ, ofZ}
 use mir.ValLaws.{toZ-ofZ}
 use Rattle.reference.specs.Text.{Text}
 use Rattle.reference.specs.Numbers.{as-i64, digit-byte, show-natural, show}
+use Rattle.reference.proofs.Shapes.{show-length}
 use Rattle.numbers.specs.Bits.{bits-of}
 use Rattle.numbers.specs.Writing.{hexadecimal, Written}
-use Rattle.numbers.proofs.Digits.{hexadecimal-one, hexadecimal-more, longer, natural-small, natural-large, natural-length, show-low, show-high}
+use Rattle.numbers.proofs.Digits.{hexadecimal-one, hexadecimal-more, longer, natural-small, natural-large, show-low, show-high}
 use Rattle.numbers.proofs.Signed.{as-bits}
 
 sets-append : (l : Text) (i : ℕ) (s t : Text) → sets l i (s ++ t) ≡ sets (sets l i s) (i + length s) t
@@ -76,27 +77,35 @@ module _ {out : Text} {at v b : ℕ} (e : b ≡ digit-byte (v % 16)) where
 -- ---- a number without a sign, and with one
 
 module _ {out : Text} {at v : ℕ} {out₁ : Text} {end : ℕ} where
-  pub small : v < 10 → Written out at (hexadecimal v) out₁ end → Written out at (show-natural v) out₁ end
-  small h w = rw (natural-small v h) w
+  pub written-small : v < 10 → Written out at (hexadecimal v) out₁ end → Written out at (show-natural v) out₁ end
+  written-small h w = rw (natural-small v h) w
 
-  pub large : at + length (show-natural v) ≤ length out → 10 ≤ v
+  pub written-large : at + length (show-natural v) ≤ length out → 10 ≤ v
       → Written (set (set out at 48) (at + 1) 120) (at + 2) (hexadecimal v) out₁ end → Written out at (show-natural v) out₁ end
-  large r h w =
+  written-large r h w =
       let n : length (show-natural v) ≡ 2 + length (hexadecimal v) = ap length (natural-large v h) ∙ omega arith in
       rw (natural-large v h)
       (written-then out at (48 ∷ 120 ∷ []) (hexadecimal v) (omega arith) (written-two out at 48 120 (omega arith)) w)
 
--- b has the bits of the number z
+-- b is the bits of the number z
 module _ (z : ℤ) (f : SFits w64 z) {b : ℕ} (e : b ≡ bits-of 64 (toZ w64 (ofZ w64 z))) where
-  is : show z ≡ show (as-i64 b)
-  is = ap show (sym (rw (e, toZ-ofZ w64 z f) (as-bits z f)))
+  shown : show z ≡ show (as-i64 b)
+  shown = ap show (sym (rw (e, toZ-ofZ w64 z f) (as-bits z f)))
 
-  pub unsigned : {out : Text} {at : ℕ} {out₁ : Text} {end : ℕ} → b < 2 ^ 63 → Written out at (show-natural b) out₁ end → Written out at (show z) out₁ end
-  unsigned h w = rw (is ∙ show-low b h) w
+  module _ (h : b < 2 ^ 63) where
+    pub room-positive : length (show-natural b) ≤ 19
+    room-positive = omega (arith, ap length (shown ∙ show-low b h), show-length z)
 
-  pub negative : {out : Text} {at : ℕ} {out₁ : Text} {end : ℕ} → at + 19 ≤ length out → 2 ^ 63 ≤ b → b < 2 ^ 64
-      → Written (set out at 45) (at + 1) (show-natural (2 ^ 64 - 1 - b + 1)) out₁ end → Written out at (show z) out₁ end
-  negative {out} {at} r l h w =
-      rw (is ∙ show-high b l h)
-      (written-then out at (45 ∷ []) (show-natural (2 ^ 64 - 1 - b + 1)) (omega (arith, natural-length (2 ^ 64 - 1 - b + 1)))
-      (written-one out at 45 (omega arith)) w)
+    pub written-positive : {out : Text} {at : ℕ} {out₁ : Text} {end : ℕ} → Written out at (show-natural b) out₁ end → Written out at (show z) out₁ end
+    written-positive w = rw (shown ∙ show-low b h) w
+
+  module _ (l : 2 ^ 63 ≤ b) (h : b < 2 ^ 64) where
+    pub room-negative : length (show-natural (2 ^ 64 - 1 - b + 1)) ≤ 18
+    room-negative = omega (arith, ap length (shown ∙ show-high b l h), show-length z)
+
+    pub written-negative : {out : Text} {at : ℕ} {out₁ : Text} {end : ℕ} → at + 19 ≤ length out
+        → Written (set out at 45) (at + 1) (show-natural (2 ^ 64 - 1 - b + 1)) out₁ end → Written out at (show z) out₁ end
+    written-negative {out} {at} r w =
+        rw (shown ∙ show-high b l h)
+        (written-then out at (45 ∷ []) (show-natural (2 ^ 64 - 1 - b + 1)) (omega (arith, room-negative))
+        (written-one out at 45 (omega arith)) w)

@@ -19,9 +19,9 @@ abbrev pub natural-meaning : Natural → Option ℕ
 natural-meaning (natural.Read n) = some n
 natural-meaning natural.Unread = none
 
--- ---- parts of the definitions
+-- ---- parts of the definitions, under a name each
 
--- what a byte is worth as a digit
+-- what a byte is worth as a digit, as `to-digit` has it
 unfoldable pub worth : ℕ → ℕ
 worth c =
     if leb 48 c && leb c 57 then c - 48

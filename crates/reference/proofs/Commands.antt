@@ -1,6 +1,6 @@
 -- One command: what its first byte says of the bytes after it, and that it reads back as it was written and writes back as it was read.
 -- Assumes nothing.
-use Prim.Native.Nat.{ℕ, suc, _+_, _-_, _^_, _<_, _≤_}
+use Prim.Native.Nat.{ℕ, suc, _+_, _*_, _-_, _^_, _<_, _≤_}
 use native.Mathlib.Omega.{arith}
 use mathlib.Core.Path.{_≡_, refl, ap, _∙_}
 use mathlib.Core.Bool.{true, false, false≢true}
@@ -8,14 +8,14 @@ use mathlib.Core.List.{List, [], _∷_, _++_}
 use mathlib.Core.Option.{Option, none, some}
 use lib.Dec.{eqb}
 use lib.ListN.{length, getD, take, drop, length-drop}
-use lib.Seq.{take-suc, take-add, take-append-seam, length-take-le}
+use lib.Seq.{drop-drop, take-suc, take-add, take-append-seam, length-take-le}
 use borrow.Author.Tests.{ne-eqb, eqb-true, leb-true, le-leb}
 use Rattle.reference.specs.Control.{_&&_, _||_, if_then_else_}
 use Rattle.reference.specs.Listing.{token}
 use Rattle.reference.specs.Tape.{to-le-bytes, from-le-bytes, Command, new-line, new-token, end, write-command, text-length, command-size, command-of}
 use Rattle.reference.specs.Questions.{is-command}
 use Rattle.reference.proofs.Cases.{either, both}
-use Rattle.reference.proofs.LittleEndian.{Bytes, bytes-drop, bytes-take, from-to, from-below, to-take}
+use Rattle.reference.proofs.LittleEndian.{Bytes, bytes-drop, bytes-take, from-to, from-below, from-at, to-take}
 
 -- ---- by the first byte
 
@@ -44,6 +44,13 @@ module _ (rest : List ℕ) where
       let e₂ : eqb (getD rest 0 0) 0x02 ≡ false = ne-eqb (getD rest 0 0) 0x02 (λ e. omega arith) in
       let e₃ : eqb (getD rest 0 0) 0xFF ≡ false = ne-eqb (getD rest 0 0) 0xFF (λ e. omega arith) in
       (rw (e₁, e₂, e₃), rw (e₁, e₂, e₃))
+
+-- a text's length, as code reads it
+pub text-length-at : (tape : List ℕ) (at : ℕ) → text-length (drop at tape) ≡ getD tape (at + 1) 0 + 256 * getD tape (at + 2) 0
+unfolding from-le-bytes
+text-length-at tape at =
+    let e : suc (at + 1) ≡ at + 2 = omega arith in
+    rw (drop-drop 1 at tape, from-at 1 (at + 1) tape, from-at 0 (suc (at + 1)) tape, e) (omega arith)
 
 -- question 3's four cases
 pub data Form (rest : List ℕ) : Type 0 where

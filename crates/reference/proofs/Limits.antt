@@ -1,4 +1,4 @@
--- A listing within the limits that document 01's questions set: what the tape of an accepted listing can hold. Assumes nothing.
+-- A listing within the limits of document 01: what questions 6 and 7 let pass, with kinds and addresses that a tape can hold. Assumes nothing.
 use Prim.Native.Nat.{ℕ, zero, suc, _<_, _≤_}
 use mathlib.Core.Path.{_≡_}
 use mathlib.Core.Bool.{true, false}
@@ -25,6 +25,7 @@ module _ {A : Type 0} where
   all-modify P g h zero (x ∷ xs) k = (h x (k .0), k .1)
   all-modify P g h (suc i) (x ∷ xs) k = (k .0, all-modify P g h i xs (k .1))
 
+-- one of the eight kinds, and a text that questions 6 and 7 let pass
 pub record TokenFits (t : Token) : Type 0 where
   pub kind : t .kind < 8
   pub some-text : 1 ≤ length (t .text)
@@ -35,13 +36,14 @@ pub record LineFits (l : Line) : Type 0 where
   pub indent : l .indent ≤ 63
   pub tokens : All TokenFits (l .tokens)
 
--- the limits of question 6 and 7
+-- what an accepted tape holds, whatever its elements are
 pub record Limits (lines : Listing) : Type 0 where
   pub few-lines : length lines ≤ 256
   pub few-tokens : token-count lines ≤ 1024
   pub short-text : text lines ≤ 24576
   pub each : All LineFits lines
 
+-- what an accepted tape of bytes holds: addresses have 8 of them
 pub record Fits (lines : Listing) : Type 0 where
   pub limits : Limits lines
   pub addresses : All (λ l. AddressFits (l .address)) lines

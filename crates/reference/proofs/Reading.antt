@@ -7,7 +7,7 @@ use mathlib.Core.Path.{_≡_, refl, sym, ap, _∙_}
 use mathlib.Core.Bool.{Bool, true, false}
 use mathlib.Core.List.{List, [], _∷_, _++_}
 use lib.ListN.{length, drop, length-drop, drop-of-length-le}
-use borrow.Author.Tests.{leb-true, le-leb}
+use borrow.Author.Tests.{leb-true, le-leb, lt-leb}
 use Rattle.reference.specs.Control.{if_then_else_}
 use Rattle.reference.specs.Listing.{Listing}
 use Rattle.reference.specs.Tape.{command-size, command-of}
@@ -110,6 +110,35 @@ unfolding read-command ends-inside
 pass-command tape at t p =
     ask-yes at _ _ (is-form _ (p .known), (le-leb _ _ (p .inside), (p .begun, (p .within, (p .printable, (p .over, tt))))))
 
+-- and where one is the first answered "no"
+module _ (tape : List ℕ) (at : ℕ) (t : Totals) where
+  pub refused-3 : is-command (drop at tape) ≡ false → read-command tape at t ≡ Refused 3 at
+  unfolding read-command
+  refused-3 e = ask-no at [] _ _ _ tt e
+
+  pub refused-4 : Form (drop at tape) → length (drop at tape) < command-size (drop at tape) → read-command tape at t ≡ Refused 4 at
+  unfolding read-command ends-inside
+  refused-4 f h = ask-no at ((3, _) ∷ []) _ _ _ (is-form _ f, tt) (lt-leb _ _ h)
+
+  module _ (f : Form (drop at tape)) (inside : command-size (drop at tape) ≤ length (drop at tape)) where
+    pub refused-5 : has-line t (command-of (drop at tape)) ≡ false → read-command tape at t ≡ Refused 5 at
+    unfolding read-command ends-inside
+    refused-5 e = ask-no at ((3, _) ∷ (4, _) ∷ []) _ _ _ (is-form _ f, (le-leb _ _ inside, tt)) e
+
+    module _ (begun : has-line t (command-of (drop at tape)) ≡ true) where
+      pub refused-6 : is-within t (command-of (drop at tape)) ≡ false → read-command tape at t ≡ Refused 6 at
+      unfolding read-command ends-inside
+      refused-6 e = ask-no at ((3, _) ∷ (4, _) ∷ (5, _) ∷ []) _ _ _ (is-form _ f, (le-leb _ _ inside, (begun, tt))) e
+
+      module _ (within : is-within t (command-of (drop at tape)) ≡ true) where
+        pub refused-7 : is-printable (command-of (drop at tape)) ≡ false → read-command tape at t ≡ Refused 7 at
+        unfolding read-command ends-inside
+        refused-7 e = ask-no at ((3, _) ∷ (4, _) ∷ (5, _) ∷ (6, _) ∷ []) _ _ _ (is-form _ f, (le-leb _ _ inside, (begun, (within, tt)))) e
+
+        pub refused-8 : is-printable (command-of (drop at tape)) ≡ true → is-over (drop at tape) (command-of (drop at tape)) ≡ false → read-command tape at t ≡ Refused 8 at
+        unfolding read-command ends-inside
+        refused-8 p e = ask-no at ((3, _) ∷ (4, _) ∷ (5, _) ∷ (6, _) ∷ (7, _) ∷ []) _ _ _ (is-form _ f, (le-leb _ _ inside, (begun, (within, (p, tt))))) e
+
 pub size-positive : (rest : List ℕ) → Form rest → 1 ≤ command-size rest
 size-positive rest (is-address e) = omega (arith, address-form rest e .0)
 size-positive rest (is-plain e) = omega (arith, plain-form rest e .0)
@@ -124,10 +153,10 @@ advances tape at t p =
     let inside = rw length-drop at (p .inside) in
     omega arith
 
--- "a missing byte is 3"
+-- where there is no byte, the answer is 3
 pub no-byte : (tape : List ℕ) (at : ℕ) (t : Totals) → length tape ≤ at → read-command tape at t ≡ Refused 3 at
-unfolding read-command is-command
-no-byte tape at t h = ask-no at [] _ _ _ tt (rw (drop-of-length-le tape h))
+unfolding is-command
+no-byte tape at t h = refused-3 tape at t (rw (drop-of-length-le tape h))
 
 -- the answer depends on the numbers carried along and on the tape from the offset on
 pub read-command-rest : (s t : List ℕ) (at : ℕ) (n : Totals) → drop at s ≡ drop at t → read-command s at n ≡ read-command t at n

@@ -1,6 +1,5 @@
 -- The rows of operators: the one that writes is three rows tested one after the other; the one that an operator begins with is looked for at
 -- the first byte. Assumes nothing.
-use Prim.Native.Nat.{ℕ}
 use mathlib.Core.Path.{_≡_, refl, ap, _∙_}
 use mathlib.Core.Bool.{Bool, false}
 use mathlib.Core.List.{[], _∷_, _++_}

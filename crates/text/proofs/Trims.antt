@@ -3,9 +3,8 @@
 use Prim.Native.Nat.{ℕ, suc, _+_, _-_, _≤_, _<_}
 use native.Mathlib.Omega.{arith}
 use native.Mathlib.Numerals.{add-one}
-use mathlib.Core.Path.{_≡_, refl, sym, ap, _∙_}
-use mathlib.Core.List.{[], _∷_, _++_, reverse, reverse-append, reverse-reverse}
-use lib.Dec.{eqb}
+use mathlib.Core.Path.{_≡_, sym, ap, _∙_}
+use mathlib.Core.List.{[], _∷_, reverse, reverse-append, reverse-reverse}
 use lib.ListN.{length, take, drop, getD, drop-of-length-le}
 use lib.Seq.{drop-cons, take-suc}
 use borrow.Author.Tests.{eq-eqb, ne-eqb}

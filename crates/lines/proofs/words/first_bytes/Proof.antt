@@ -1,8 +1,8 @@
 -- `lines::words::first_bytes` meets its contract. Assumes nothing.
 use native.Mathlib.Omega.{arith}
+use borrow.Author.Needs.{needs}
 use Rattle.lines.specs.Words.{first-bytes}
 use Rattle.lines.proofs.words.Tokens.{kind-below, place-below, start-below, len-below}
-use borrow.Author.Needs.{needs}
 use Rattle.lines.proofs.words.first_bytes.Statement.{statement}
 use Rattle.lines.proofs.words.first_bytes.Tie as tie
 

@@ -1,9 +1,9 @@
 -- `lines::words::line_of` meets its contract. Assumes nothing.
 use Prim.Native.Nat.{_+_, _-_}
-use mathlib.Core.Path.{_≡_}
 use native.Mathlib.Omega.{arith}
-use Rattle.lines.specs.Lines.{count-of}
+use mathlib.Core.Path.{_≡_}
 use borrow.Author.Needs.{needs}
+use Rattle.lines.specs.Lines.{count-of}
 use Rattle.lines.proofs.words.line_of.Statement.{statement}
 use Rattle.lines.proofs.words.line_of.Tie as tie
 

@@ -1,7 +1,7 @@
 -- `lines::words::line_word` meets its contract. Assumes nothing.
 use mathlib.Core.Path.{refl}
-use Rattle.lines.specs.Lines.{line-word}
 use borrow.Author.Needs.{needs}
+use Rattle.lines.specs.Lines.{line-word}
 use Rattle.lines.proofs.words.line_word.Statement.{statement}
 use Rattle.lines.proofs.words.line_word.Tie as tie
 

@@ -1,9 +1,9 @@
 -- `lines::words::text` meets its contract. Assumes nothing.
-use mathlib.Core.Path.{sym, ap, _∙_}
 use native.Mathlib.Omega.{arith}
+use mathlib.Core.Path.{sym, ap, _∙_}
 use lib.ListN.{length}
-use Rattle.lines.proofs.words.Tokens.{in-tape, in-area, part-is}
 use borrow.Author.Needs.{needs}
+use Rattle.lines.proofs.words.Tokens.{in-tape, in-area, part-is}
 use Rattle.lines.proofs.words.text.Statement.{statement}
 use Rattle.lines.proofs.words.text.Tie as tie
 

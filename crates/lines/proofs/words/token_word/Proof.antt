@@ -1,7 +1,7 @@
 -- `lines::words::token_word` meets its contract. Assumes nothing.
 use mathlib.Core.Path.{refl}
-use Rattle.lines.specs.Words.{word}
 use borrow.Author.Needs.{needs}
+use Rattle.lines.specs.Words.{word}
 use Rattle.lines.proofs.words.token_word.Statement.{statement}
 use Rattle.lines.proofs.words.token_word.Tie as tie
 

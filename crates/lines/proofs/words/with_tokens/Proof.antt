@@ -1,8 +1,8 @@
 -- `lines::words::with_tokens` meets its contract. Assumes nothing.
 use native.Mathlib.Omega.{arith}
+use borrow.Author.Needs.{needs}
 use Rattle.lines.specs.Lines.{with-part}
 use Rattle.lines.proofs.words.Lines.{indent-below, addressed-below, origin-below}
-use borrow.Author.Needs.{needs}
 use Rattle.lines.proofs.words.with_tokens.Statement.{statement}
 use Rattle.lines.proofs.words.with_tokens.Tie as tie
 

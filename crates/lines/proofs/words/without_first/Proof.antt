@@ -1,8 +1,8 @@
 -- `lines::words::without_first` meets its contract. Assumes nothing.
 use native.Mathlib.Omega.{arith}
+use borrow.Author.Needs.{needs}
 use Rattle.lines.specs.Words.{without-first}
 use Rattle.lines.proofs.words.Tokens.{kind-below, place-below, len-below}
-use borrow.Author.Needs.{needs}
 use Rattle.lines.proofs.words.without_first.Statement.{statement}
 use Rattle.lines.proofs.words.without_first.Tie as tie
 

@@ -3,7 +3,7 @@ use native.Mathlib.Omega.{arith}
 use mathlib.Core.Path.{ap, _∙_}
 use lib.ListN.{length, length-set}
 use Rattle.numbers.proofs.Digits.{natural-small, natural-large}
-use Rattle.numbers.proofs.Writing.{small, large}
+use Rattle.numbers.proofs.Writing.{written-small, written-large}
 use borrow.Author.Needs.{needs}
 use Rattle.numbers.proofs.print.put_natural.Statement.{statement}
 use Rattle.numbers.proofs.print.put_natural.Tie as tie
@@ -15,7 +15,7 @@ same-length : tie.Need-same-length
 same-length c = search needs
 
 returns : tie.Need-returns
-returns c = small (c .before .before .before .before .if1 .taken) (c .before .before .put-digits .ensures)
+returns c = written-small (c .before .before .before .before .if1 .taken) (c .before .before .put-digits .ensures)
 
 slice-write-out : tie.Need-slice-write-out
 slice-write-out c = omega (arith, c .before .before .pre, ap length (natural-large _ (c .if1 .left)))
@@ -36,7 +36,7 @@ same-length-2 : tie.Need-same-length-2
 same-length-2 c = c .before .before .put-digits2 .kept .1 .0 ∙ simp length-set
 
 returns-2 : tie.Need-returns-2
-returns-2 c = large (c .before .before .before .before .before .before .pre) (c .before .before .before .before .if1 .left) (c .before .before .put-digits2 .ensures)
+returns-2 c = written-large (c .before .before .before .before .before .before .pre) (c .before .before .before .before .if1 .left) (c .before .before .put-digits2 .ensures)
 
 pub put-natural-spec : {M : Type 1} → statement M
 put-natural-spec =

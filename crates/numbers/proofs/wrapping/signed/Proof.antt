@@ -1,5 +1,4 @@
 -- `numbers::wrapping::signed` meets its contract. Assumes nothing.
-use native.Mathlib.Omega.{arith}
 use mathlib.Core.Path.{sym, _∙_}
 use mir.Syntax.{w64}
 use mir.ValLaws.{toZ-pos, toZ-ofZ}

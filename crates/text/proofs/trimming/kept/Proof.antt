@@ -1,7 +1,7 @@
 -- `text::trimming::kept` meets its contract: what is cut off the back of the whole is cut off the back of the front that is left.
 -- Assumes nothing.
 use Prim.Native.Nat.{ℕ, _≤_, _-_}
-use mathlib.Core.Path.{_≡_, refl, sym, ap, _∙_}
+use mathlib.Core.Path.{_≡_, sym, ap, _∙_}
 use native.Mathlib.Omega.{arith}
 use mathlib.Core.List.{reverse}
 use lib.ListN.{length, take}

@@ -1,0 +1,208 @@
+// The families of a listing's tokens (`fam_of` of the Rust), and what a line does with one.
+use crate::rules::Rules;
+use crate::shapes;
+use crate::shapes::Expr;
+use crate::shapes::Found;
+use crate::words;
+use names::Spelled;
+ghost use mathlib.Core.Path.{_≡_};
+ghost use Prim.Native.Nat.{_<_};
+ghost use lib.ListN.{length, getD};
+ghost use Rattle.reference.specs.Control.{_&&_};
+ghost use Rattle.reference.specs.Lists.{any, count, position};
+ghost use Rattle.reference.specs.Text.{_==_, has};
+ghost use Rattle.reference.specs.Names.{family, fam-of, of-family};
+ghost use Rattle.reference.specs.Rules.{volatile};
+ghost use Rattle.reference.specs.Shapes.{is-written};
+ghost use Rattle.reference.specs.Join.{is-narrow, written-from};
+ghost use Rattle.lines.specs.Rules.{rules-of};
+ghost use Rattle.lines.specs.Words.{text-of, token-of, tokens-of, Points, Holds};
+ghost use Rattle.lines.specs.Shapes.{found, expr-words, Expression};
+ghost use Rattle.lines.specs.Fams.{fam-text, fam-number, Known, Names};
+
+// A family: a row of the table of names, or the token word of its name.
+pub enum Fam {
+    Row(u64),
+    Text(u64),
+}
+
+// A family and a width.
+pub enum Named {
+    As(Fam, u64),
+    Nothing,
+}
+
+// The family and the width of a token's text, whatever its kind.
+pub fn name_of<'a>(tape: &'a [u8], area: &'a [u8], w: u64) -> Named
+    requires { ⌜ Points (now tape) (now area) w ⌝ }
+    ensures { λ r. ⌜ Names (now (tape .entry)) (now (area .entry)) (family (text-of (now (tape .entry)) (now (area .entry)) w)) r ⌝ }
+{
+    match names::family(words::text(tape, area, w)) {
+        Spelled::Row(row, width) => Named::As(Fam::Row(row), width),
+        Spelled::Front(n, width) => Named::As(Fam::Text(words::first_bytes(w, n)), width),
+        Spelled::Nothing => Named::Nothing,
+    }
+}
+
+// The family and the width of a token: of a Register alone.
+pub fn fam_of<'a>(tape: &'a [u8], area: &'a [u8], w: u64) -> Named
+    requires { ⌜ Points (now tape) (now area) w ⌝ }
+    ensures { λ r. ⌜ Names (now (tape .entry)) (now (area .entry)) (fam-of (token-of (now (tape .entry)) (now (area .entry)) w)) r ⌝ }
+{
+    if words::kind(w) != words::REGISTER {
+        return Named::Nothing;
+    }
+    name_of(tape, area, w)
+}
+
+pub fn same_family<'a>(tape: &'a [u8], area: &'a [u8], f: Fam, g: Fam) -> bool
+    requires { ⌜ Known (now tape) (now area) f × Known (now tape) (now area) g ⌝ }
+    ensures { λ r. ⌜ r ≡ (fam-text (now (tape .entry)) (now (area .entry)) f == fam-text (now (tape .entry)) (now (area .entry)) g) ⌝ }
+{
+    match f {
+        Fam::Row(a) => match g {
+            Fam::Row(b) => a == b,
+            Fam::Text(_) => false,
+        },
+        Fam::Text(v) => match g {
+            Fam::Row(_) => false,
+            Fam::Text(w) => text::same(words::text(tape, area, v), words::text(tape, area, w)),
+        },
+    }
+}
+
+// Whether a token is a Register of the family.
+pub fn is_of<'a>(tape: &'a [u8], area: &'a [u8], w: u64, f: Fam) -> bool
+    requires { ⌜ Points (now tape) (now area) w × Known (now tape) (now area) f ⌝ }
+    ensures { λ r. ⌜ r ≡ of-family (fam-text (now (tape .entry)) (now (area .entry)) f) (token-of (now (tape .entry)) (now (area .entry)) w) ⌝ }
+{
+    match fam_of(tape, area, w) {
+        Named::As(g, _) => same_family(tape, area, g, f),
+        Named::Nothing => false,
+    }
+}
+
+// Whether a token is a Register of the family, of less than 32 bits.
+pub fn is_narrow_of<'a>(tape: &'a [u8], area: &'a [u8], w: u64, f: Fam) -> bool
+    requires { ⌜ Points (now tape) (now area) w × Known (now tape) (now area) f ⌝ }
+    ensures { λ r. ⌜ r ≡ is-narrow (fam-text (now (tape .entry)) (now (area .entry)) f) (token-of (now (tape .entry)) (now (area .entry)) w) ⌝ }
+{
+    match fam_of(tape, area, w) {
+        Named::As(g, width) => {
+            if 32 <= width {
+                return false;
+            }
+            same_family(tape, area, g, f)
+        }
+        Named::Nothing => false,
+    }
+}
+
+// The family by its number.
+fn number_of<'a>(tape: &'a [u8], area: &'a [u8], f: Fam) -> u64
+    requires { ⌜ Known (now tape) (now area) f ⌝ }
+    ensures { λ r. ⌜ r ≡ fam-number (now (tape .entry)) (now (area .entry)) f ⌝ }
+{
+    match f {
+        Fam::Row(row) => row,
+        Fam::Text(w) => names::number_of(words::text(tape, area, w)),
+    }
+}
+
+// Whether a call overwrites the family.
+pub fn is_volatile<'a>(tape: &'a [u8], area: &'a [u8], f: Fam, rules: Rules) -> bool
+    requires { ⌜ Known (now tape) (now area) f ⌝ }
+    ensures { λ r. ⌜ r ≡ has (volatile (rules-of rules)) (fam-text (now (tape .entry)) (now (area .entry)) f) ⌝ }
+{
+    let n = number_of(tape, area, f);
+    names::overwritten(n, rules.convention)
+}
+
+// ---- in a line
+
+// Whether the right side x of a line has a token of the family.
+pub fn mentions<'a>(tape: &'a [u8], area: &'a [u8], line: &'a [u64], x: Expr, f: Fam) -> bool
+    requires { ⌜ Holds (now tape) (now area) (now line) × Expression (now line) x × Known (now tape) (now area) f ⌝ }
+    ensures { λ r. ⌜ r ≡ any (of-family (fam-text (now (tape .entry)) (now (area .entry)) f)) (tokens-of (now (tape .entry)) (now (area .entry)) (expr-words (now (line .entry)) x)) ⌝ }
+{
+    let n = x.count;
+    let mut k = 0;
+    while k < n {
+        if is_of(tape, area, shapes::expr_word(line, x, k), f) {
+            return true;
+        }
+        k += 1;
+    }
+    false
+}
+
+// How many tokens of the family a line has.
+pub fn count_of<'a>(tape: &'a [u8], area: &'a [u8], line: &'a [u64], f: Fam) -> usize
+    requires { ⌜ Holds (now tape) (now area) (now line) × Known (now tape) (now area) f ⌝ }
+    ensures { λ r. ⌜ r ≡ count (of-family (fam-text (now (tape .entry)) (now (area .entry)) f)) (tokens-of (now (tape .entry)) (now (area .entry)) (now (line .entry))) ⌝ }
+{
+    let mut n = 0;
+    let mut k = 0;
+    while k < line.len() {
+        if is_of(tape, area, line[k], f) {
+            n += 1;
+        }
+        k += 1;
+    }
+    n
+}
+
+// The place of the first token of the family.
+pub fn first_of<'a>(tape: &'a [u8], area: &'a [u8], line: &'a [u64], f: Fam) -> Found
+    requires { ⌜ Holds (now tape) (now area) (now line) × Known (now tape) (now area) f ⌝ }
+    ensures { λ r. ⌜ found r ≡ position (of-family (fam-text (now (tape .entry)) (now (area .entry)) f)) (tokens-of (now (tape .entry)) (now (area .entry)) (now (line .entry))) ⌝ }
+{
+    let mut k = 0;
+    while k < line.len() {
+        if is_of(tape, area, line[k], f) {
+            return Found::At(k);
+        }
+        k += 1;
+    }
+    Found::Nothing
+}
+
+// Whether a token of the family has less than 32 bits.
+pub fn has_narrow<'a>(tape: &'a [u8], area: &'a [u8], line: &'a [u64], f: Fam) -> bool
+    requires { ⌜ Holds (now tape) (now area) (now line) × Known (now tape) (now area) f ⌝ }
+    ensures { λ r. ⌜ r ≡ any (is-narrow (fam-text (now (tape .entry)) (now (area .entry)) f)) (tokens-of (now (tape .entry)) (now (area .entry)) (now (line .entry))) ⌝ }
+{
+    let mut k = 0;
+    while k < line.len() {
+        if is_narrow_of(tape, area, line[k], f) {
+            return true;
+        }
+        k += 1;
+    }
+    false
+}
+
+fn writes_at<'a>(tape: &'a [u8], area: &'a [u8], line: &'a [u64], k: usize, f: Fam) -> bool
+    requires { ⌜ Holds (now tape) (now area) (now line) × Known (now tape) (now area) f × (k < length (now line)) ⌝ }
+    ensures { λ r. ⌜ r ≡ (of-family (fam-text (now (tape .entry)) (now (area .entry)) f) (token-of (now (tape .entry)) (now (area .entry)) (getD (now (line .entry)) k 0)) && is-written (tokens-of (now (tape .entry)) (now (area .entry)) (now (line .entry))) k) ⌝ }
+{
+    if !is_of(tape, area, line[k], f) {
+        return false;
+    }
+    shapes::is_written(tape, area, line, k)
+}
+
+// Whether a token of the family is the target of an assignment.
+pub fn writes<'a>(tape: &'a [u8], area: &'a [u8], line: &'a [u64], f: Fam) -> bool
+    requires { ⌜ Holds (now tape) (now area) (now line) × Known (now tape) (now area) f ⌝ }
+    ensures { λ r. ⌜ r ≡ written-from (fam-text (now (tape .entry)) (now (area .entry)) f) (tokens-of (now (tape .entry)) (now (area .entry)) (now (line .entry))) ⌝ }
+{
+    let mut k = 0;
+    while k < line.len() {
+        if writes_at(tape, area, line, k, f) {
+            return true;
+        }
+        k += 1;
+    }
+    false
+}
