@@ -4,6 +4,7 @@ pub mod Appending
 pub mod Growing
 pub mod Merging
 pub mod Pushing
+pub mod Pushes
 pub mod Folding
 pub mod Stepping
 pub mod FoldedLast

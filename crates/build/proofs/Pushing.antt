@@ -109,3 +109,7 @@ extendable-last {kind} {tokens} {from} {at} j x e =
     let l = extends-true kind tokens from at e in
     let p = x .in-area (l .0) (rw (l .1) j) in
     (l .0, l .1, p, x .at-end (l .0) p)
+
+pub punct-joins : joinable Punct ≡ true
+unfolding joinable _||_
+punct-joins = refl

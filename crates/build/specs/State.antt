@@ -76,6 +76,12 @@ pub record Extendable (tokens : List ℕ) (from : ℕ) (at : Size) : Type 0 wher
 pub record Fresh (m : ℕ) (ws : List ℕ) : Type 0 where
   pub from-m : (k : ℕ) → k < length ws → place-of (getD ws k 0) ≡ 1 → m ≤ start-of (getD ws k 0)
 
+-- the tokens ts can be pushed
+pub record Ready (tape area : Text) (tokens : List ℕ) (from : ℕ) (at : Size) (ts : List Token) : Type 0 where
+  pub built : Built tape area tokens from at
+  pub extendable : Extendable tokens from at
+  pub room : Room area tokens at (text-in ts) (length ts)
+
 -- whether a token of this kind is joined to the last token of the line that began at `from`
 unfoldable pub extends : ℕ → List ℕ → ℕ → Size → Bool
 extends kind tokens from at = ltb from (at .tokens) && eqb (kind-of (getD tokens (at .tokens - 1) 0)) kind
