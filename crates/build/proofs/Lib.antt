@@ -5,6 +5,7 @@ pub mod Growing
 pub mod Merging
 pub mod Pushing
 pub mod Pushes
+pub mod Substituting
 pub mod Folding
 pub mod Stepping
 pub mod FoldedLast

@@ -1,64 +1,59 @@
+-- `build::merge::push_used` meets its contract. Assumes nothing.
+use mathlib.Core.Path.{_≡_, refl}
+use borrow.Author.Tests.{not-true, not-false}
+use Rattle.lines.specs.Words.{token-of}
+use Rattle.build.specs.State.{Ready, Pushed}
+use Rattle.build.proofs.Substituting.{used-kept, used-bracketed, used-plain}
 use borrow.Author.Needs.{needs}
 use Rattle.build.proofs.merge.push_used.Statement.{statement}
 use Rattle.build.proofs.merge.push_used.Tie as tie
-use Rattle.build.proofs.merge.push_used.Reads as reads
-use Rattle.build.proofs.merge.push_used.Lts as lts
-use Rattle.build.proofs.merge.push.Reads as push-reads
-use Rattle.build.proofs.merge.push_bracketed.Reads as push-bracketed-reads
-use Rattle.build.proofs.merge.push_expr.Reads as push-expr-reads
-use Rattle.lines.proofs.fams.is_of.Reads as is-of-reads
 
--- src/merge.rt:153:9
 is-of-requires : tie.Need-is-of-requires
 is-of-requires c κs = search needs
 
--- src/merge.rt:154:9
 push-requires : tie.Need-push-requires
-push-requires c κs = ?
+push-requires c κs = (c .before .before .before .before .before .before .before .before .before .before .pre .1, rw (used-kept (c .before .before .before .before .before .before .before .before .before .before .args .tape .now) (c .before .before .before .before .before .before .before .before .before .before .args .old .now) (c .before .before .before .before .before .before .before .before .before .before .args .source .now) (c .before .before .before .before .before .before .before .before .before .before .args .j) (token-of (c .before .before .before .before .before .before .before .before .before .before .args .tape .now) (c .before .before .before .before .before .before .before .before .before .before .args .old .now) (c .before .before .before .before .before .before .before .before .before .before .args .w)) (c .before .before .before .is-of .ensures) (not-true _ (c .before .before .if1 .taken))) at (c .before .before .before .before .before .before .before .before .before .before .pre .2))
 
--- src/merge.rt:154:9
 same-length : tie.Need-same-length
 same-length c = search needs
 
--- src/merge.rt:154:9
 same-length-2 : tie.Need-same-length-2
 same-length-2 c = search needs
 
--- src/merge.rt:154:9
 returns : tie.Need-returns
-returns c = ?
+returns c = rw (used-kept (c .before .before .before .before .before .before .before .before .before .before .before .before .before .before .before .args .tape .now) (c .before .before .before .before .before .before .before .before .before .before .before .before .before .before .before .args .old .now) (c .before .before .before .before .before .before .before .before .before .before .before .before .before .before .before .args .source .now) (c .before .before .before .before .before .before .before .before .before .before .before .before .before .before .before .args .j) (token-of (c .before .before .before .before .before .before .before .before .before .before .before .before .before .before .before .args .tape .now) (c .before .before .before .before .before .before .before .before .before .before .before .before .before .before .before .args .old .now) (c .before .before .before .before .before .before .before .before .before .before .before .before .before .before .before .args .w)) (c .before .before .before .before .before .before .before .before .is-of .ensures) (not-true _ (c .before .before .before .before .before .before .before .if1 .taken))) (c .before .before .before .before .push .ensures)
 
--- src/merge.rt:157:9
 push-bracketed-requires : tie.Need-push-bracketed-requires
-push-bracketed-requires c κs = ?
+push-bracketed-requires c κs = (
+  c .before .before .before .before .before .before .before .before .before .before .before .pre .0 .holds,
+  c .before .before .before .before .before .before .before .before .before .before .before .pre .0 .expression,
+  rw (used-bracketed (c .before .before .before .before .before .before .before .before .before .before .before .args .tape .now) (c .before .before .before .before .before .before .before .before .before .before .before .args .old .now) (c .before .before .before .before .before .before .before .before .before .before .before .args .source .now) (c .before .before .before .before .before .before .before .before .before .before .before .args .j) (token-of (c .before .before .before .before .before .before .before .before .before .before .before .args .tape .now) (c .before .before .before .before .before .before .before .before .before .before .before .args .old .now) (c .before .before .before .before .before .before .before .before .before .before .before .args .w)) (c .before .before .before .before .is-of .ensures) (not-false _ (c .before .before .before .if1 .left)) (c .before .before .if2 .taken)) at (c .before .before .before .before .before .before .before .before .before .before .before .pre .2),
+)
 
--- src/merge.rt:157:9
 same-length-3 : tie.Need-same-length-3
 same-length-3 c = search needs
 
--- src/merge.rt:157:9
 same-length-4 : tie.Need-same-length-4
 same-length-4 c = search needs
 
--- src/merge.rt:157:9
 returns-2 : tie.Need-returns-2
-returns-2 c = ?
+returns-2 c = rw (used-bracketed (c .before .before .before .before .before .before .before .before .before .before .before .before .before .before .before .before .args .tape .now) (c .before .before .before .before .before .before .before .before .before .before .before .before .before .before .before .before .args .old .now) (c .before .before .before .before .before .before .before .before .before .before .before .before .before .before .before .before .args .source .now) (c .before .before .before .before .before .before .before .before .before .before .before .before .before .before .before .before .args .j) (token-of (c .before .before .before .before .before .before .before .before .before .before .before .before .before .before .before .before .args .tape .now) (c .before .before .before .before .before .before .before .before .before .before .before .before .before .before .before .before .args .old .now) (c .before .before .before .before .before .before .before .before .before .before .before .before .before .before .before .before .args .w)) (c .before .before .before .before .before .before .before .before .before .is-of .ensures) (not-false _ (c .before .before .before .before .before .before .before .before .if1 .left)) (c .before .before .before .before .before .before .before .if2 .taken)) (c .before .before .before .before .push-bracketed .ensures)
 
--- src/merge.rt:159:5
 push-expr-requires : tie.Need-push-expr-requires
-push-expr-requires c κs = ?
+push-expr-requires c κs = (
+  c .before .before .before .before .before .before .before .before .before .before .before .pre .0 .holds,
+  c .before .before .before .before .before .before .before .before .before .before .before .pre .0 .expression,
+  rw (used-plain (c .before .before .before .before .before .before .before .before .before .before .before .args .tape .now) (c .before .before .before .before .before .before .before .before .before .before .before .args .old .now) (c .before .before .before .before .before .before .before .before .before .before .before .args .source .now) (c .before .before .before .before .before .before .before .before .before .before .before .args .j) (token-of (c .before .before .before .before .before .before .before .before .before .before .before .args .tape .now) (c .before .before .before .before .before .before .before .before .before .before .before .args .old .now) (c .before .before .before .before .before .before .before .before .before .before .before .args .w)) (c .before .before .before .before .is-of .ensures) (not-false _ (c .before .before .before .if1 .left)) (c .before .before .if2 .left)) at (c .before .before .before .before .before .before .before .before .before .before .before .pre .2),
+)
 
--- src/merge.rt:137:1
 same-length-5 : tie.Need-same-length-5
 same-length-5 c = search needs
 
--- src/merge.rt:137:1
 same-length-6 : tie.Need-same-length-6
 same-length-6 c = search needs
 
--- src/merge.rt:137:1
 returns-3 : tie.Need-returns-3
-returns-3 c = ?
+returns-3 c = rw (used-plain (c .before .before .before .before .before .before .before .before .before .before .before .before .before .before .before .before .args .tape .now) (c .before .before .before .before .before .before .before .before .before .before .before .before .before .before .before .before .args .old .now) (c .before .before .before .before .before .before .before .before .before .before .before .before .before .before .before .before .args .source .now) (c .before .before .before .before .before .before .before .before .before .before .before .before .before .before .before .before .args .j) (token-of (c .before .before .before .before .before .before .before .before .before .before .before .before .before .before .before .before .args .tape .now) (c .before .before .before .before .before .before .before .before .before .before .before .before .before .before .before .before .args .old .now) (c .before .before .before .before .before .before .before .before .before .before .before .before .before .before .before .before .args .w)) (c .before .before .before .before .before .before .before .before .before .is-of .ensures) (not-false _ (c .before .before .before .before .before .before .before .before .if1 .left)) (c .before .before .before .before .before .before .before .if2 .left)) (c .before .before .before .before .push-expr .ensures)
 
 pub push-used-spec : {M : Type 1} → statement M
 push-used-spec =
