@@ -9,3 +9,6 @@ pub mod Substituting
 pub mod Folding
 pub mod Stepping
 pub mod FoldedLast
+pub mod Rooms
+pub mod Laying
+pub mod Adding
