@@ -12,3 +12,4 @@ pub mod FoldedLast
 pub mod Rooms
 pub mod Laying
 pub mod Adding
+pub mod Listing

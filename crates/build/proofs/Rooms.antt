@@ -95,6 +95,9 @@ tokens-cover (t ∷ ts) = omega (arith, tokens-cover ts, token-covers t, each (i
     each true k = omega arith
     each false k = omega arith
 
+pub text-room : (ts : List Token) → text-in ts ≤ room ts
+text-room ts = omega (arith, tokens-cover ts)
+
 -- the tokens' own text, and what the folds make once they are merged
 pub room-covers : (ts : List Token) → text-in ts + signs-room (merge ts) ≤ room ts
 unfolding signs-room

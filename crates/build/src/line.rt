@@ -5,18 +5,12 @@ use crate::merge::Substitution;
 use crate::merge::merge;
 use crate::used::Size;
 use lines::words;
-ghost use mathlib.Core.Path.{_≡_};
-ghost use mathlib.Core.List.{[], _∷_, _++_};
-ghost use Prim.Native.Nat.{_+_, _<_};
-ghost use lib.ListN.{length, take};
+ghost use Prim.Native.Nat.{_<_};
+ghost use lib.ListN.{length};
 ghost use Rattle.reference.specs.Claim.{text-in};
-ghost use Rattle.reference.specs.Join.{rewrite-use};
 ghost use Rattle.lines.specs.Words.{tokens-of, Holds};
-ghost use Rattle.lines.specs.Fams.{fam-text};
-ghost use Rattle.lines.specs.Lines.{count-of, part-of, line-in, Lined};
-ghost use Rattle.build.specs.State.{room, Room, Laid};
-ghost use Rattle.build.specs.Substitution.{right-of, substituted, Substitutes};
-ghost use Rattle.build.specs.Added.{Added, Ended};
+ghost use Rattle.build.specs.State.{Room, Laid};
+ghost use Rattle.build.specs.Added.{Keepable, Kept, Rewritable, Rewritten, Ended};
 
 // Appends the tokens of an old line as they are.
 fn keep_tokens<'a>(
@@ -55,8 +49,8 @@ pub fn keep_line<'a>(
     tokens: &mut [u64],
     size: Size,
 ) -> Appended
-    requires { ⌜ Lined (now tape) (now old) (now «old_tokens») l × Room (now area) (now tokens) size (text-in (tokens-of (now tape) (now old) (part-of (now «old_tokens») l))) (count-of l) × (size .tokens < 65536) ⌝ }
-    ensures { λ r. ⌜ Added (now (tape .entry)) (now (area .entry)) (now (tokens .entry)) size (λ addresses. line-in (now (tape .entry)) (now (old .entry)) (now («old_tokens» .entry)) addresses l) (text-in (tokens-of (now (tape .entry)) (now (old .entry)) (part-of (now («old_tokens» .entry)) l))) (count-of l) (now (area .exit)) (now (tokens .exit)) r ⌝ }
+    requires { ⌜ Keepable (now tape) (now old) (now «old_tokens») l (now area) (now tokens) size ⌝ }
+    ensures { λ r. ⌜ Kept (now (tape .entry)) (now (old .entry)) (now («old_tokens» .entry)) l (now (area .entry)) (now (tokens .entry)) size (now (area .exit)) (now (tokens .exit)) r ⌝ }
 {
     let from = size.tokens;
     let s = keep_tokens(tape, old, words::line_of(old_tokens, l), area, tokens, size);
@@ -79,8 +73,8 @@ pub fn rewrite_line<'a>(
     tokens: &mut [u64],
     size: Size,
 ) -> Appended
-    requires { ⌜ Lined (now tape) (now old) (now «old_tokens») source × Substitutes (now tape) (now old) (part-of (now «old_tokens») source) j × Lined (now tape) (now old) (now «old_tokens») l × Room (now area) (now tokens) size (room (substituted (now tape) (now old) (part-of (now «old_tokens») source) j (part-of (now «old_tokens») l))) (length (substituted (now tape) (now old) (part-of (now «old_tokens») source) j (part-of (now «old_tokens») l))) × (size .tokens < 65536) × (length (substituted (now tape) (now old) (part-of (now «old_tokens») source) j (part-of (now «old_tokens») l)) < 2048) ⌝ }
-    ensures { λ r. ⌜ Added (now (tape .entry)) (now (area .entry)) (now (tokens .entry)) size (λ addresses. rewrite-use (fam-text (now (tape .entry)) (now (old .entry)) (j .family)) (right-of (now (tape .entry)) (now (old .entry)) (part-of (now («old_tokens» .entry)) source) j) (line-in (now (tape .entry)) (now (old .entry)) (now («old_tokens» .entry)) addresses l)) (room (substituted (now (tape .entry)) (now (old .entry)) (part-of (now («old_tokens» .entry)) source) j (part-of (now («old_tokens» .entry)) l))) (length (substituted (now (tape .entry)) (now (old .entry)) (part-of (now («old_tokens» .entry)) source) j (part-of (now («old_tokens» .entry)) l))) (now (area .exit)) (now (tokens .exit)) r ⌝ }
+    requires { ⌜ Rewritable (now tape) (now old) (now «old_tokens») source j l (now area) (now tokens) size ⌝ }
+    ensures { λ r. ⌜ Rewritten (now (tape .entry)) (now (old .entry)) (now («old_tokens» .entry)) source j l (now (area .entry)) (now (tokens .entry)) size (now (area .exit)) (now (tokens .exit)) r ⌝ }
 {
     let from = size.tokens;
     let merged = merge(

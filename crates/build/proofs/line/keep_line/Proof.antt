@@ -16,13 +16,13 @@ line-of-requires : tie.Need-line-of-requires
 line-of-requires c κs = search needs
 
 keep-tokens-requires : tie.Need-keep-tokens-requires
-keep-tokens-requires c κs = rw (c .before .before .line-of .ensures) (c .before .before .before .before .before .before .before .before .pre .0 .holds, rw (part-length (c .before .before .before .before .before .before .before .before .pre .0)) (c .before .before .before .before .before .before .before .before .pre .1))
+keep-tokens-requires c κs = rw (c .before .before .line-of .ensures) (c .before .before .before .before .before .before .before .before .pre .lined .holds, rw (part-length (c .before .before .before .before .before .before .before .before .pre .lined)) (c .before .before .before .before .before .before .before .before .pre .has-room))
 
 sub-count : tie.Need-sub-count
 sub-count c = search needs
 
 with-tokens-requires : tie.Need-with-tokens-requires
-with-tokens-requires c κs = (c .before .before .before .before .before .before .before .before .before .before .before .before .before .before .pre .2, omega (arith, count-below (c .before .before .before .before .before .before .before .before .before .before .before .before .before .before .args .l), part-length (c .before .before .before .before .before .before .before .before .before .before .before .before .before .before .pre .0), (rw (c .before .before .before .before .before .before .before .before .line-of .ensures) at (c .before .before .before .before .before .keep-tokens .ensures)) .words-most))
+with-tokens-requires c κs = (c .before .before .before .before .before .before .before .before .before .before .before .before .before .before .pre .first-fits, omega (arith, count-below (c .before .before .before .before .before .before .before .before .before .before .before .before .before .before .args .l), part-length (c .before .before .before .before .before .before .before .before .before .before .before .before .before .before .pre .lined), (rw (c .before .before .before .before .before .before .before .before .line-of .ensures) at (c .before .before .before .before .before .keep-tokens .ensures)) .words-most))
 
 same-length : tie.Need-same-length
 same-length c = search needs
@@ -31,7 +31,7 @@ same-length-2 : tie.Need-same-length-2
 same-length-2 c = search needs
 
 returns : tie.Need-returns
-returns c = added-kept (c .before .before .before .before .before .before .before .before .before .before .before .before .before .before .before .pre .0) (c .before .before .before .before .before .before .before .before .before .before .before .before .before .before .before .pre .2) (c .with-tokens .ensures) (rw (c .before .before .before .before .before .before .before .before .before .line-of .ensures) at (c .before .before .before .before .before .before .keep-tokens .ensures))
+returns c = added-kept (c .before .before .before .before .before .before .before .before .before .before .before .before .before .before .before .pre .lined) (c .before .before .before .before .before .before .before .before .before .before .before .before .before .before .before .pre .first-fits) (c .with-tokens .ensures) (rw (c .before .before .before .before .before .before .before .before .before .line-of .ensures) at (c .before .before .before .before .before .before .keep-tokens .ensures))
 
 pub keep-line-spec : {M : Type 1} → statement M
 keep-line-spec =

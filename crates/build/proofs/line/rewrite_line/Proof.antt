@@ -5,7 +5,8 @@ use mathlib.Core.Path.{_≡_, _∙_}
 use lib.ListN.{length}
 use Rattle.lines.specs.Fams.{fam-text}
 use Rattle.lines.specs.Lines.{part-of}
-use Rattle.build.specs.Substitution.{right-of, substituted}
+use Rattle.build.specs.Substitution.{right-of}
+use Rattle.build.specs.Added.{unmerged}
 use Rattle.build.proofs.Laying.{room-merge, room-fold, laid-folded}
 use Rattle.build.proofs.Adding.{count-fits, added-rewritten}
 use borrow.Author.Needs.{needs}
@@ -21,12 +22,12 @@ line-of-requires-2 c κs = search needs
 merge-requires : tie.Need-merge-requires
 merge-requires c κs = let a = c .before .before .before .before .before .before .before .before .before .args in
     rw (c .before .before .before .line-of .ensures, c .before .before .line-of2 .ensures)
-    (c .before .before .before .before .before .before .before .before .before .pre .1, c .before .before .before .before .before .before .before .before .before .pre .2 .holds, room-merge (substituted (a .tape .now) (a .old .now) (part-of (a .old-tokens .now) (a .source)) (a .j) (part-of (a .old-tokens .now) (a .l))) (c .before .before .before .before .before .before .before .before .before .pre .3))
+    (c .before .before .before .before .before .before .before .before .before .pre .substitutes, c .before .before .before .before .before .before .before .before .before .pre .lined .holds, room-merge (unmerged (a .tape .now) (a .old .now) (a .old-tokens .now) (a .source) (a .j) (a .l)) (c .before .before .before .before .before .before .before .before .before .pre .has-room))
 
 fold-last-requires : tie.Need-fold-last-requires
 fold-last-requires c κs = let a = c .before .before .before .before .before .before .before .before .before .before .before .before .before .before .before .before .args in
     let l = rw (c .before .before .before .before .before .before .before .before .before .before .line-of .ensures, c .before .before .before .before .before .before .before .before .before .line-of2 .ensures) at (c .before .before .before .before .before .before .merge .ensures) in
-    (l .built, room-fold (substituted (a .tape .now) (a .old .now) (part-of (a .old-tokens .now) (a .source)) (a .j) (part-of (a .old-tokens .now) (a .l))) (c .before .before .before .before .before .before .before .before .before .before .before .before .before .before .before .before .pre .3) l (c .before .before .before .before .before .before .merge .kept .1 .1 .1 .1 .1 .0) (c .before .before .before .before .before .before .merge .kept .1 .1 .1 .1 .1 .1 .0))
+    (l .built, room-fold (unmerged (a .tape .now) (a .old .now) (a .old-tokens .now) (a .source) (a .j) (a .l)) (c .before .before .before .before .before .before .before .before .before .before .before .before .before .before .before .before .pre .has-room) l (c .before .before .before .before .before .before .merge .kept .1 .1 .1 .1 .1 .0) (c .before .before .before .before .before .before .merge .kept .1 .1 .1 .1 .1 .1 .0))
 
 sub-count : tie.Need-sub-count
 sub-count c = search needs
@@ -34,8 +35,8 @@ sub-count c = search needs
 with-tokens-requires : tie.Need-with-tokens-requires
 with-tokens-requires c κs = let a = c .before .before .before .before .before .before .before .before .before .before .before .before .before .before .before .before .before .before .before .before .before .before .args in
     let l = rw (c .before .before .before .before .before .before .before .before .before .before .before .before .before .before .before .before .line-of .ensures, c .before .before .before .before .before .before .before .before .before .before .before .before .before .before .before .line-of2 .ensures) at (c .before .before .before .before .before .before .before .before .before .before .before .before .merge .ensures) in
-    let f = laid-folded (substituted (a .tape .now) (a .old .now) (part-of (a .old-tokens .now) (a .source)) (a .j) (part-of (a .old-tokens .now) (a .l))) (c .before .before .before .before .before .before .before .before .before .before .before .before .before .before .before .before .before .before .before .before .before .before .pre .3) l (c .before .before .before .before .before .fold-last .ensures) in
-    (c .before .before .before .before .before .before .before .before .before .before .before .before .before .before .before .before .before .before .before .before .before .before .pre .4, count-fits f (a .l) (c .before .before .before .before .before .before .before .before .before .before .before .before .before .before .before .before .before .before .before .before .before .before .pre .4) (c .before .before .before .before .before .before .before .before .before .before .before .before .before .before .before .before .before .before .before .before .before .before .pre .5))
+    let f = laid-folded (unmerged (a .tape .now) (a .old .now) (a .old-tokens .now) (a .source) (a .j) (a .l)) (c .before .before .before .before .before .before .before .before .before .before .before .before .before .before .before .before .before .before .before .before .before .before .pre .has-room) l (c .before .before .before .before .before .fold-last .ensures) in
+    (c .before .before .before .before .before .before .before .before .before .before .before .before .before .before .before .before .before .before .before .before .before .before .pre .first-fits, count-fits f (a .l) (c .before .before .before .before .before .before .before .before .before .before .before .before .before .before .before .before .before .before .before .before .before .before .pre .first-fits) (c .before .before .before .before .before .before .before .before .before .before .before .before .before .before .before .before .before .before .before .before .before .before .pre .few))
 
 same-length : tie.Need-same-length
 same-length c = search needs
@@ -46,9 +47,9 @@ same-length-2 c = search needs
 returns : tie.Need-returns
 returns c = let a = c .before .before .before .before .before .before .before .before .before .before .before .before .before .before .before .before .before .before .before .before .before .before .before .args in
     let l = rw (c .before .before .before .before .before .before .before .before .before .before .before .before .before .before .before .before .before .line-of .ensures, c .before .before .before .before .before .before .before .before .before .before .before .before .before .before .before .before .line-of2 .ensures) at (c .before .before .before .before .before .before .before .before .before .before .before .before .before .merge .ensures) in
-    let ts = substituted (a .tape .now) (a .old .now) (part-of (a .old-tokens .now) (a .source)) (a .j) (part-of (a .old-tokens .now) (a .l)) in
-    added-rewritten (c .before .before .before .before .before .before .before .before .before .before .before .before .before .before .before .before .before .before .before .before .before .before .before .pre .2) (c .before .before .before .before .before .before .before .before .before .before .before .before .before .before .before .before .before .before .before .before .before .before .before .pre .4) (c .with-tokens .ensures) (fam-text (a .tape .now) (a .old .now) (a .j .family)) (right-of (a .tape .now) (a .old .now) (part-of (a .old-tokens .now) (a .source)) (a .j)) (c .before .before .before .before .before .before .before .before .before .before .before .before .before .before .before .before .before .before .before .before .before .before .before .pre .5)
-    (laid-folded ts (c .before .before .before .before .before .before .before .before .before .before .before .before .before .before .before .before .before .before .before .before .before .before .before .pre .3) l (c .before .before .before .before .before .before .fold-last .ensures))
+    let ts = unmerged (a .tape .now) (a .old .now) (a .old-tokens .now) (a .source) (a .j) (a .l) in
+    added-rewritten (c .before .before .before .before .before .before .before .before .before .before .before .before .before .before .before .before .before .before .before .before .before .before .before .pre .lined) (c .before .before .before .before .before .before .before .before .before .before .before .before .before .before .before .before .before .before .before .before .before .before .before .pre .first-fits) (c .with-tokens .ensures) (fam-text (a .tape .now) (a .old .now) (a .j .family)) (right-of (a .tape .now) (a .old .now) (part-of (a .old-tokens .now) (a .source)) (a .j)) (c .before .before .before .before .before .before .before .before .before .before .before .before .before .before .before .before .before .before .before .before .before .before .before .pre .few)
+    (laid-folded ts (c .before .before .before .before .before .before .before .before .before .before .before .before .before .before .before .before .before .before .before .before .before .before .before .pre .has-room) l (c .before .before .before .before .before .before .fold-last .ensures))
 
 pub rewrite-line-spec : {M : Type 1} → statement M
 rewrite-line-spec =
