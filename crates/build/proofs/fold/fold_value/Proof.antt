@@ -1,0 +1,89 @@
+-- `build::fold::fold_value` meets its contract. Assumes nothing.
+use native.Mathlib.Omega.{arith}
+use mathlib.Core.Path.{_≡_}
+use Prim.Native.Nat.{_+_, _<_}
+use lib.ListN.{length, getD, drop, length-drop}
+use lib.Seq.{drop-drop}
+use borrow.Author.Tests.{not-true, not-false}
+use Rattle.lines.specs.Words.{Points}
+use Rattle.lines.proofs.words.Tokens.{holds-drop}
+use Rattle.build.proofs.Folding.{next-few, next-open, next-shut, next-sum, held-at}
+use borrow.Author.Needs.{needs}
+use Rattle.build.proofs.fold.fold_value.Statement.{statement}
+use Rattle.build.proofs.fold.fold_value.Tie as tie
+
+sub-if1 : tie.Need-sub-if1
+sub-if1 c = search needs
+
+returns : tie.Need-returns
+returns c = next-few (c .before .before .before .before .args .tape .now) (c .before .before .before .before .args .area .now) (c .before .before .before .before .args .line .now) _ (c .before .before .before .before .args .next) (c .if1 .taken)
+
+delimited-before-requires : tie.Need-delimited-before-requires
+delimited-before-requires c κs = search needs
+
+returns-2 : tie.Need-returns-2
+returns-2 c = next-open (c .before .before .before .before .before .before .args .tape .now) (c .before .before .before .before .before .before .args .area .now) (c .before .before .before .before .before .before .args .line .now) _ (c .before .before .before .before .before .before .args .next) (omega arith) (c .before .delimited-before .ensures) (not-true _ (c .if2 .taken))
+
+add-delimited-after : tie.Need-add-delimited-after
+add-delimited-after c = search needs
+
+delimited-after-requires : tie.Need-delimited-after-requires
+delimited-after-requires c κs = rw (← drop-drop 3 (c .before .before .before .before .before .before .args .next) (c .before .before .before .before .before .before .args .line .now)) (holds-drop (c .before .before .before .before .before .before .pre .3) 3)
+
+returns-3 : tie.Need-returns-3
+returns-3 c = next-shut (c .before .before .before .before .before .before .before .before .args .tape .now) (c .before .before .before .before .before .before .before .before .args .area .now) (c .before .before .before .before .before .before .before .before .args .line .now) _ (c .before .before .before .before .before .before .before .before .args .next) (omega arith) (c .before .before .before .delimited-before .ensures) (not-false _ (c .before .before .if2 .left)) (c .before .delimited-after .ensures) (not-true _ (c .if3 .taken))
+
+mul-sum-of : tie.Need-mul-sum-of
+mul-sum-of c = search needs
+
+shared-slice-read-sum-of : tie.Need-shared-slice-read-sum-of
+shared-slice-read-sum-of c = search needs
+
+add-sum-of : tie.Need-add-sum-of
+add-sum-of c = search needs
+
+mul-sum-of-2 : tie.Need-mul-sum-of-2
+mul-sum-of-2 c = search needs
+
+shared-slice-read-sum-of-2 : tie.Need-shared-slice-read-sum-of-2
+shared-slice-read-sum-of-2 c = search needs
+
+add-sum-of-2 : tie.Need-add-sum-of-2
+add-sum-of-2 c = search needs
+
+mul-sum-of-3 : tie.Need-mul-sum-of-3
+mul-sum-of-3 c = search needs
+
+shared-slice-read-sum-of-3 : tie.Need-shared-slice-read-sum-of-3
+shared-slice-read-sum-of-3 c = search needs
+
+sum-of-requires : tie.Need-sum-of-requires
+sum-of-requires c κs = let p = c .before .before .before .before .before .before .before .before .before .before .before .pre .3 in
+    let n = c .before .before .before .before .before .before .before .before .before .before .before .args .next in
+    let l = c .before .before .before .before .before .before .before .before .before .before .before .args .line .now in
+    (held-at n l p n (omega arith) (omega arith), held-at n l p (n + 1) (omega arith) (omega arith), held-at n l p (n + 2) (omega arith) (omega arith))
+
+returns-4 : tie.Need-returns-4
+returns-4 c = next-sum (c .before .before .before .before .before .before .before .before .before .before .before .before .args .tape .now) (c .before .before .before .before .before .before .before .before .before .before .before .before .args .area .now) (c .before .before .before .before .before .before .before .before .before .before .before .before .args .line .now) _ (c .before .before .before .before .before .before .before .before .before .before .before .before .args .next) (omega arith) (c .before .before .before .before .before .before .before .delimited-before .ensures) (not-false _ (c .before .before .before .before .before .before .if2 .left)) (c .before .before .before .before .before .delimited-after .ensures) (not-false _ (c .before .before .before .before .if3 .left)) (c .sum-of .ensures)
+
+pub fold-value-spec : {M : Type 1} → statement M
+fold-value-spec =
+    tie.close
+    (tie.spec
+    sub-if1
+    returns
+    delimited-before-requires
+    returns-2
+    add-delimited-after
+    delimited-after-requires
+    returns-3
+    mul-sum-of
+    shared-slice-read-sum-of
+    add-sum-of
+    mul-sum-of-2
+    shared-slice-read-sum-of-2
+    add-sum-of-2
+    mul-sum-of-3
+    shared-slice-read-sum-of-3
+    sum-of-requires
+    returns-4)

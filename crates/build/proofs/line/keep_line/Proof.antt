@@ -1,0 +1,46 @@
+-- `build::line::keep_line` meets its contract. Assumes nothing.
+use Prim.Native.Nat.{_-_, _<_}
+use native.Mathlib.Omega.{arith}
+use mathlib.Core.Path.{_≡_}
+use lib.ListN.{length}
+use Rattle.lines.specs.Words.{Holds}
+use Rattle.lines.specs.Lines.{part-of}
+use Rattle.lines.proofs.words.Lines.{count-below}
+use Rattle.build.specs.State.{Room, Laid}
+use Rattle.build.proofs.Adding.{part-length, added-kept}
+use borrow.Author.Needs.{needs}
+use Rattle.build.proofs.line.keep_line.Statement.{statement}
+use Rattle.build.proofs.line.keep_line.Tie as tie
+
+line-of-requires : tie.Need-line-of-requires
+line-of-requires c κs = search needs
+
+keep-tokens-requires : tie.Need-keep-tokens-requires
+keep-tokens-requires c κs = rw (c .before .before .line-of .ensures) (c .before .before .before .before .before .before .before .before .pre .lined .holds, rw (part-length (c .before .before .before .before .before .before .before .before .pre .lined)) (c .before .before .before .before .before .before .before .before .pre .has-room))
+
+sub-count : tie.Need-sub-count
+sub-count c = search needs
+
+with-tokens-requires : tie.Need-with-tokens-requires
+with-tokens-requires c κs = (c .before .before .before .before .before .before .before .before .before .before .before .before .before .before .pre .first-fits, omega (arith, count-below (c .before .before .before .before .before .before .before .before .before .before .before .before .before .before .args .l), part-length (c .before .before .before .before .before .before .before .before .before .before .before .before .before .before .pre .lined), (rw (c .before .before .before .before .before .before .before .before .line-of .ensures) at (c .before .before .before .before .before .keep-tokens .ensures)) .words-most))
+
+same-length : tie.Need-same-length
+same-length c = search needs
+
+same-length-2 : tie.Need-same-length-2
+same-length-2 c = search needs
+
+returns : tie.Need-returns
+returns c = added-kept (c .before .before .before .before .before .before .before .before .before .before .before .before .before .before .before .pre .lined) (c .before .before .before .before .before .before .before .before .before .before .before .before .before .before .before .pre .first-fits) (c .with-tokens .ensures) (rw (c .before .before .before .before .before .before .before .before .before .line-of .ensures) at (c .before .before .before .before .before .before .keep-tokens .ensures))
+
+pub keep-line-spec : {M : Type 1} → statement M
+keep-line-spec =
+    tie.close
+    (tie.spec
+    line-of-requires
+    keep-tokens-requires
+    sub-count
+    with-tokens-requires
+    same-length
+    same-length-2
+    returns)
