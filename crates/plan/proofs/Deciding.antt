@@ -1,7 +1,7 @@
 -- The plan of an attempt: the cases in which `propagate_constant`, `plan_use`, `plan_single`, `plan_for` and `decide` return. Assumes nothing.
 use Prim.Native.Nat.{ℕ, suc, _<_}
 use native.Mathlib.Omega.{arith}
-use mathlib.Core.Path.{_≡_, refl, sym, ap, _∙_}
+use mathlib.Core.Path.{_≡_, refl, sym, _∙_}
 use mathlib.Core.Bool.{Bool, true, false, not as flip}
 use mathlib.Core.List.{List}
 use mathlib.Core.Option.{Option, none, some}
@@ -23,7 +23,7 @@ use Rattle.joining.proofs.Reaching.{reach-reached}
 use Rattle.joining.proofs.Straight.{use-found}
 use Rattle.joining.proofs.Fitting.{found-at}
 use Rattle.lines.specs.Words.{token-of, tokens-of}
-use Rattle.lines.specs.Lines.{indent-of, part-of, bare-in, bare-listing}
+use Rattle.lines.specs.Lines.{indent-of, part-of, bare-listing}
 use Rattle.lines.specs.Shapes.{found, expr-words, Expression}
 use Rattle.lines.specs.Fams.{fam-text, Known}
 use Rattle.lines.proofs.shapes.Places.{found-is, found-not}
@@ -32,13 +32,13 @@ use Rattle.lines.specs.declared.shapes.Found.the-variants.{At, Nothing as Unfou
 use Rattle.plan.specs.declared.definitions.Definition.{Definition}
 use Rattle.plan.specs.declared.definitions.Defined.{Defined}
 use Rattle.plan.specs.declared.definitions.Defined.the-variants.{As, Nothing as Undefined}
-use Rattle.plan.specs.Definitions.{definition-in, Sound, Answers}
+use Rattle.plan.specs.Definitions.{definition-in, Sound, Defines}
 use Rattle.plan.specs.declared.reaches.Reach.{Reach}
 use Rattle.plan.specs.Reaches.{reach}
 use Rattle.plan.specs.declared.plans.Join.{Join}
 use Rattle.plan.specs.declared.plans.Plan.{Plan}
 use Rattle.plan.specs.declared.plans.Plan.the-variants.{Do, Nothing}
-use Rattle.plan.specs.Plans.{plan-among, Joins, Plans}
+use Rattle.plan.specs.Plans.{plan-among, join-in, Joins, Plans}
 use Rattle.plan.proofs.Reaching.{line-at}
 
 -- ---- plans
@@ -48,6 +48,17 @@ do-inj e = cc
 
 never-do : {j : Join} {X : Type 0} → Nothing ≡ Do j → X
 never-do e = absurd (let z : _≡_ {A = ℕ} 0 1 = cc in omega arith)
+
+-- what a caller has from a plan
+module _ {tape area : Text} {ws : List ℕ} {i : ℕ} {o : Option J.Plan} {r : Plan} (h : Plans tape area ws i o r) where
+  pub planned-as : {j : Join} → r ≡ Do j → o ≡ some (join-in tape area ws j)
+  planned-as e = sym (h .is) ∙ rw e
+
+  pub planned-not : r ≡ Nothing → o ≡ none
+  planned-not e = sym (h .is) ∙ rw e
+
+  pub planned-joins : {j : Join} → r ≡ Do j → Joins tape area ws i j
+  planned-joins {j} e = h .sound j e
 
 module _ {tape area : Text} {ws : List ℕ} {i : ℕ} {o : Option J.Plan} where
   no-plan : o ≡ none → Plans tape area ws i o Nothing
@@ -235,15 +246,15 @@ pub ruleset choosing = (for-other, for-constant, for-single)
 -- ---- the decision
 
 -- what is known of a definition that was found
-module _ {tape area : Text} {ws : List ℕ} {r : Defined} {d : Definition} (h : Answers tape area ws r) (e : r ≡ As d) where
-  pub answers-sound : {us : List ℕ} → ws ≡ us → Sound tape area us d
-  answers-sound f = rw (← f) (h .sound d e)
+module _ {tape area : Text} {ws : List ℕ} {r : Defined} {d : Definition} (h : Defines tape area ws r) (e : r ≡ As d) where
+  pub defines-sound : {us : List ℕ} → ws ≡ us → Sound tape area us d
+  defines-sound f = rw (← f) (h .sound d e)
 
-  pub answers-known : Known tape area (d .family)
-  answers-known = h .sound d e .known
+  pub defines-known : Known tape area (d .family)
+  defines-known = h .sound d e .known
 
 module _ (tape area : Text) (tokens lines : List ℕ) (i : ℕ) (rules : Rules) (labels : Labels) (addressed : List Text)
-    (hi : i < length lines) {ws : List ℕ} (ew : ws ≡ part-of tokens (getD lines i 0)) {r : Defined} (h : Answers tape area ws r) where
+    (hi : i < length lines) {ws : List ℕ} (ew : ws ≡ part-of tokens (getD lines i 0)) {r : Defined} (h : Defines tape area ws r) where
   decided : decide rules (bare-listing tape area tokens lines) i labels addressed
       ≡ (let-some (J.definition-of (tokens-of tape area ws)) else none then λ d.
       if has addressed (d .fam .name) then none else plan-for (bare-listing tape area tokens lines) i d labels (volatile rules))

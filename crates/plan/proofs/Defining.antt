@@ -1,21 +1,20 @@
 -- What a right side reads, and what a line defines: the cases of `reads_at`, `reads_memory` and `definition_of`. Assumes nothing.
 use Prim.Native.Nat.{ℕ, zero, suc, _+_, _-_, _≤_, _<_}
 use native.Mathlib.Omega.{arith}
-use mathlib.Core.Path.{_≡_, refl, sym, ap, _∙_}
+use mathlib.Core.Path.{_≡_, refl, sym, _∙_}
 use mathlib.Core.Bool.{Bool, true, false, not as flip}
 use mathlib.Core.List.{List}
-use mathlib.Core.Option.{Option, none, some}
-use lib.Dec.{eqb}
+use mathlib.Core.Option.{Option, none}
 use lib.ListN.{length, getD, drop, length-map, List·getD-map}
-use borrow.Author.Tests.{eq-eqb, ne-eqb}
+use borrow.Author.Tests.{ne-eqb}
 use Rattle.reference.specs.Control.{not, _&&_, _||_, if_then_else_, let-some_else_then_}
-use Rattle.reference.specs.Lists.{any, is-some, get}
+use Rattle.reference.specs.Lists.{any, is-some}
 use Rattle.reference.specs.Text.{Text, bytes, starts-with, ends-with}
 use Rattle.reference.specs.Listing.{Token, is, Register, Keyword, Symbol}
 use Rattle.reference.specs.Names.{family, of-family}
 use Rattle.reference.specs.Shapes.{call-in}
 use Rattle.reference.specs.Join.{reads-here, reads-after, reads-memory}
-use Rattle.laws.proofs.Scans.{or-only, not-same, if-true, if-false}
+use Rattle.laws.proofs.Scans.{or-only, not-same}
 use Rattle.joining.specs.Plan.{definition-of}
 use Rattle.joining.proofs.Looking.{before-of, reads-begin, reads-hit, reads-miss, reads-end}
 use Rattle.lines.specs.Words.{kind-of, text-of, token-of, tokens-of, Points, Holds}
@@ -32,9 +31,8 @@ use Rattle.lines.proofs.shapes.Right.{expr-long, expr-points}
 use Rattle.lines.proofs.shapes.Sides.{assigned-to, assigned-not, assigned-side}
 use Rattle.lines.proofs.fams.Families.{named-as, named-not, as-known}
 use Rattle.plan.specs.declared.definitions.Definition.{Definition}
-use Rattle.plan.specs.declared.definitions.Defined.{Defined}
 use Rattle.plan.specs.declared.definitions.Defined.the-variants.{As, Nothing}
-use Rattle.plan.specs.Definitions.{before-at, definition-in, Sound, Answers}
+use Rattle.plan.specs.Definitions.{before-at, Defines}
 
 -- ---- one token of the right side
 
@@ -130,28 +128,28 @@ module _ {tape area : Text} {ws : List ℕ} {r : Assigned} {x : Expr} (h : Assig
 pub ruleset assigning = (assigned-side, assigned-long, assigned-points)
 
 module _ (tape area : Text) (ws : List ℕ) where
-  undefined : none ≡ definition-of (tokens-of tape area ws) → Answers tape area ws Nothing
+  undefined : none ≡ definition-of (tokens-of tape area ws) → Defines tape area ws Nothing
   undefined e = record { is = e; sound = λ d i. never-as i }
 
   -- r is what the line assigns, n the name of its first token
   module _ {r : Assigned} (h : Assigns tape area ws r) where
-    pub no-assignment : r ≡ Unassigned → Answers tape area ws Nothing
+    pub no-assignment : r ≡ Unassigned → Defines tape area ws Nothing
     unfolding definition-of let-some_else_then_
     no-assignment e = undefined (rw (assigned-not h e))
 
     module _ {x : Expr} (e : r ≡ To x) {n : Named} (hn : Names tape area (family (text-of tape area (getD ws 0 0))) n) where
-      pub no-name : n ≡ Unnamed → Answers tape area ws Nothing
+      pub no-name : n ≡ Unnamed → Defines tape area ws Nothing
       unfolding definition-of let-some_else_then_
       no-name f = undefined (rw (assigned-to h e, named-not hn f))
 
       module _ {g : Fam} {k : ℕ} (f : n ≡ NamedAs g k) {m : Bool} (em : m ≡ any (of-family (fam-text tape area g)) (tokens-of tape area (expr-words ws x))) where
-        pub mentioned : m ≡ true → Answers tape area ws Nothing
+        pub mentioned : m ≡ true → Defines tape area ws Nothing
         unfolding definition-of let-some_else_then_ if_then_else_
         mentioned t = undefined (rw (assigned-to h e, named-as hn f, ← em, t))
 
         pub defined-as : m ≡ false → {calls reads : Bool} → calls ≡ is-some (call-in (tokens-of tape area ws))
             → reads ≡ reads-memory (tokens-of tape area (expr-words ws x))
-            → Answers tape area ws (As (record { family = g; width = k; expr = x; calls = calls; reads = reads }))
+            → Defines tape area ws (As (record { family = g; width = k; expr = x; calls = calls; reads = reads }))
         unfolding definition-of let-some_else_then_ if_then_else_
         defined-as t ec er =
             record {

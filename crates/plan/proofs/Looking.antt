@@ -1,7 +1,7 @@
--- The search for a single use: the cases in which `stays_put`, `leaves_inputs` and `look_at` return, and the turns of `use_of`. Assumes nothing.
-use Prim.Native.Nat.{ℕ, suc, _+_, _≤_, _<_}
+-- The search for a single use: the cases in which `same_run`, `leaves_inputs` and `look_at` return, and the turns of `use_of`. Assumes nothing.
+use Prim.Native.Nat.{ℕ, _+_, _≤_, _<_}
 use native.Mathlib.Numerals.{add-one}
-use mathlib.Core.Path.{_≡_, refl, sym, ap, _∙_}
+use mathlib.Core.Path.{_≡_, refl, sym, _∙_}
 use mathlib.Core.Bool.{Bool, true, false, not as flip}
 use mathlib.Core.List.{List}
 use mathlib.Core.Option.{Option, none, some}
@@ -10,13 +10,13 @@ use lib.ListN.{length, getD, drop}
 use borrow.Author.Tests.{eq-eqb, ne-eqb, not-true, not-false}
 use Rattle.reference.specs.Control.{not, _&&_, _||_, if_then_else_, let-some_else_then_}
 use Rattle.reference.specs.Lists.{any, is-some}
-use Rattle.reference.specs.Text.{Text, bytes, has, starts-with}
+use Rattle.reference.specs.Text.{Text, bytes, starts-with}
 use Rattle.reference.specs.Listing.{Token, _at_}
 use Rattle.reference.specs.Names.{family, of-family}
-use Rattle.reference.specs.Shapes.{label-tokens, braces-in, call-in, assignment-of}
+use Rattle.reference.specs.Shapes.{label-tokens, braces-in, call-in}
 use Rattle.reference.specs.Life.{touch-of, match-touch}
-use Rattle.reference.specs.Join.{reads-memory, expr-fams, harmless, use-from}
-use Rattle.laws.proofs.Scans.{and-not-here, and-not-second, not-same}
+use Rattle.reference.specs.Join.{reads-memory, harmless, use-from}
+use Rattle.laws.proofs.Scans.{not-same}
 use Rattle.joining.specs.Plan as J
 use Rattle.joining.specs.Plan.{look, use-of}
 use Rattle.joining.proofs.Looking.{mentions, use-here, use-later, use-stops, use-end}
@@ -39,35 +39,35 @@ use Rattle.plan.specs.declared.definitions.Definition.{Definition}
 use Rattle.plan.specs.Definitions.{definition-in}
 use Rattle.plan.specs.declared.uses.Look.{Look}
 use Rattle.plan.specs.declared.uses.Look.the-variants.{Use, Passes, Stops}
-use Rattle.plan.specs.Uses.{looked, stays-put, leaves-inputs}
+use Rattle.plan.specs.Uses.{looked, same-run, leaves-inputs}
 use Rattle.plan.proofs.Reaching.{line-at, line-below, line-past}
 
--- ---- calls, braces and indents
+-- ---- lines in one run
 
 module _ (tape area : Text) (tokens : List ℕ) (base : ℕ) {calls : Bool} (l : ℕ) where
-  pub put-calls : calls ≡ true → false ≡ stays-put base calls (bare-in tape area tokens l)
-  unfolding stays-put not _||_
-  put-calls t = rw t
+  pub run-calls : calls ≡ true → false ≡ same-run base calls (bare-in tape area tokens l)
+  unfolding same-run not _||_
+  run-calls t = rw t
 
   module _ (tc : calls ≡ false) {ws : List ℕ} (ew : ws ≡ part-of tokens l) {a : Bool} (ea : a ≡ braces-in (tokens-of tape area ws)) where
-    pub put-braces : a ≡ true → false ≡ stays-put base calls (bare-in tape area tokens l)
-    unfolding stays-put not _||_
-    put-braces t = rw (tc, ← ew, ← ea, t)
+    pub run-braces : a ≡ true → false ≡ same-run base calls (bare-in tape area tokens l)
+    unfolding same-run not _||_
+    run-braces t = rw (tc, ← ew, ← ea, t)
 
     module _ (ta : a ≡ false) {b : Bool} (eb : b ≡ is-some (call-in (tokens-of tape area ws))) where
-      pub put-called : b ≡ true → false ≡ stays-put base calls (bare-in tape area tokens l)
-      unfolding stays-put not _||_
-      put-called t = rw (tc, ← ew, ← ea, ta, ← eb, t)
+      pub run-called : b ≡ true → false ≡ same-run base calls (bare-in tape area tokens l)
+      unfolding same-run not _||_
+      run-called t = rw (tc, ← ew, ← ea, ta, ← eb, t)
 
-      pub put-indent : b ≡ false → {k : ℕ} → k ≡ indent-of l → eqb k base ≡ stays-put base calls (bare-in tape area tokens l)
-      unfolding stays-put not _||_
-      put-indent t {k} ek = rw (tc, ← ew, ← ea, ta, ← eb, t, ← ek) (twice (eqb k base))
+      pub run-indent : b ≡ false → {k : ℕ} → k ≡ indent-of l → eqb k base ≡ same-run base calls (bare-in tape area tokens l)
+      unfolding same-run not _||_
+      run-indent t {k} ek = rw (tc, ← ew, ← ea, ta, ← eb, t, ← ek) (twice (eqb k base))
         where
           twice : (x : Bool) → x ≡ not (not x)
           twice true = refl
           twice false = refl
 
-pub ruleset putting = (put-calls, put-braces, put-called, put-indent)
+pub ruleset sharing = (run-calls, run-braces, run-called, run-indent)
 
 -- ---- what the right side reads
 
@@ -129,9 +129,9 @@ module _ (tape area : Text) (tokens : List ℕ) (s : ℕ) (d : Definition) (vs :
       unfolding look if_then_else_ match-touch
       look-more f = rw (← ew, ← ea, ta, ← eq, e, ne-eqb n 1 f)
 
-    module _ (e : q ≡ Nothing) {i : ℕ} (ei : i ≡ indent-of s) {b : Bool} (eb : b ≡ stays-put i (d .calls) (bare-in tape area tokens l)) where
+    module _ (e : q ≡ Nothing) {i : ℕ} (ei : i ≡ indent-of s) {b : Bool} (eb : b ≡ same-run i (d .calls) (bare-in tape area tokens l)) where
       look-rest : looks ≡ (if b && leaves-inputs (tokens-of tape area (expr-words (part-of tokens s) (d .expr))) (tokens-of tape area ws) then J.passes else J.stops)
-      unfolding look if_then_else_ match-touch harmless stays-put leaves-inputs
+      unfolding look if_then_else_ match-touch harmless same-run leaves-inputs
       look-rest = rw (eb, ei, ← ew, ← ea, ta, ← eq, e)
 
       pub look-stop : flip b ≡ true → J.stops ≡ looks

@@ -41,6 +41,6 @@ pub record Sound (tape area : Text) (ws : List ℕ) (d : Definition) : Type 0 wh
   pub reads-is : d .reads ≡ reads-memory (tokens-of tape area (expr-words ws (d .expr)))
 
 -- the answer of `definition_of`
-pub record Answers (tape area : Text) (ws : List ℕ) (r : Defined) : Type 0 where
+pub record Defines (tape area : Text) (ws : List ℕ) (r : Defined) : Type 0 where
   pub is : defined tape area ws r ≡ J.definition-of (tokens-of tape area ws)
   pub sound : (d : Definition) → r ≡ As d → Sound tape area ws d

@@ -19,9 +19,9 @@ looked Use = J.found
 looked Passes = J.passes
 looked Stops = J.stops
 
--- no call, no brace, the same indent
-unfoldable pub stays-put : ℕ → Bool → Line → Bool
-stays-put base-indent calls l = not (calls || opens-or-closes l || is-some (call-at l) || not (eqb (l .indent) base-indent))
+-- a line in one run with a definition: no call, no brace, the same indent
+unfoldable pub same-run : ℕ → Bool → Line → Bool
+same-run base-indent calls l = not (calls || opens-or-closes l || is-some (call-at l) || not (eqb (l .indent) base-indent))
 
 -- an assignment that leaves alone what the expression reads
 unfoldable pub leaves-inputs : List Token → List Token → Bool

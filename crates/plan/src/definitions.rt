@@ -12,7 +12,7 @@ ghost use lib.ListN.{getD};
 ghost use Rattle.reference.specs.Join.{reads-here, reads-memory};
 ghost use Rattle.lines.specs.Words.{token-of, tokens-of, Holds};
 ghost use Rattle.lines.specs.Shapes.{expr-words, Expression};
-ghost use Rattle.plan.specs.Definitions.{before-at, Answers};
+ghost use Rattle.plan.specs.Definitions.{before-at, Defines};
 
 // The register or slot, its width, the right side, whether the line has a call mark, and whether the right side reads memory.
 pub struct Definition {
@@ -70,7 +70,7 @@ pub fn reads_memory<'a>(tape: &'a [u8], area: &'a [u8], line: &'a [u64], x: Expr
 // The line as a definition.
 pub fn definition_of<'a>(tape: &'a [u8], area: &'a [u8], line: &'a [u64]) -> Defined
     requires { ⌜ Holds (now tape) (now area) (now line) ⌝ }
-    ensures { λ r. ⌜ Answers (now (tape .entry)) (now (area .entry)) (now (line .entry)) r ⌝ }
+    ensures { λ r. ⌜ Defines (now (tape .entry)) (now (area .entry)) (now (line .entry)) r ⌝ }
 {
     let Assigned::To(x) = shapes::assignment(tape, area, line) else {
         return Defined::Nothing;

@@ -9,7 +9,7 @@ use lines::shapes;
 use lines::words;
 ghost use mathlib.Core.Path.{_≡_};
 ghost use Prim.Native.Nat.{suc, _<_};
-ghost use lib.ListN.{length, getD};
+ghost use lib.ListN.{length};
 ghost use lib.Seq.{slice};
 ghost use Rattle.reference.specs.Rules.{volatile};
 ghost use Rattle.reference.specs.Join.{ends-run, updates-first, bad-use};

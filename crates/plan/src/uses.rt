@@ -16,7 +16,7 @@ ghost use lib.Dec.{ltb, eqb};
 ghost use lib.ListN.{length, getD};
 ghost use Rattle.reference.specs.Control.{not, _&&_, _||_};
 ghost use Rattle.reference.specs.Rules.{volatile};
-ghost use Rattle.reference.specs.Join.{harmless, text-before, text-after, standalone, use-width, is-compound, replaceable};
+ghost use Rattle.reference.specs.Join.{text-before, text-after, standalone, use-width, is-compound, replaceable};
 ghost use Rattle.joining.specs.Plan.{look, use-of};
 ghost use Rattle.lines.specs.Words.{tokens-of, Holds};
 ghost use Rattle.lines.specs.Lines.{indent-of, part-of, bare-in, bare-listing, Lined, Listed};
@@ -24,7 +24,7 @@ ghost use Rattle.lines.specs.Rules.{rules-of};
 ghost use Rattle.lines.specs.Shapes.{found};
 ghost use Rattle.lines.specs.Fams.{fam-text, Known};
 ghost use Rattle.plan.specs.Definitions.{definition-in, Sound};
-ghost use Rattle.plan.specs.Uses.{looked, stays-put, leaves-inputs};
+ghost use Rattle.plan.specs.Uses.{looked, same-run, leaves-inputs};
 
 // What a line after a definition is to it: its single use, a line that it may pass, or the end of the search.
 pub enum Look {
@@ -33,8 +33,8 @@ pub enum Look {
     Stops,
 }
 
-// Whether a definition may be moved past a line as far as calls, braces and indents go; `calls` says that the definition itself calls.
-fn stays_put<'a>(
+// Whether a line is in one run with a definition at this indent: no call, no brace, the same indent. `calls` says that the definition calls.
+fn same_run<'a>(
     tape: &'a [u8],
     area: &'a [u8],
     tokens: &'a [u64],
@@ -43,7 +43,7 @@ fn stays_put<'a>(
     l: u64,
 ) -> bool
     requires { ⌜ Lined (now tape) (now area) (now tokens) l ⌝ }
-    ensures { λ r. ⌜ r ≡ stays-put «base_indent» calls (bare-in (now (tape .entry)) (now (area .entry)) (now (tokens .entry)) l) ⌝ }
+    ensures { λ r. ⌜ r ≡ same-run «base_indent» calls (bare-in (now (tape .entry)) (now (area .entry)) (now (tokens .entry)) l) ⌝ }
 {
     if calls {
         return false;
@@ -105,7 +105,7 @@ fn look_at<'a>(
     let f = d.family;
     match touches::touch(tape, area, line, f, rules) {
         Touched::Nothing => {
-            if !stays_put(tape, area, tokens, words::indent(s), d.calls, l) {
+            if !same_run(tape, area, tokens, words::indent(s), d.calls, l) {
                 return Look::Stops;
             }
             if leaves_inputs(tape, area, words::line_of(tokens, s), line, d) {

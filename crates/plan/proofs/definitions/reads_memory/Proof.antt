@@ -16,33 +16,26 @@ Inv-loop tape area line x n k₀ k = reads-memory (tokens-of tape area (expr-wor
 abbrev μ-loop : tie.MeasureT-loop
 μ-loop tape area line x n k₀ k = n - k
 
--- src/definitions.rt:61:5
 loop-holds : tie.Need-loop-holds Inv-loop μ-loop
 loop-holds c = search (needs, reads)
 
--- src/definitions.rt:62:12
 reads-at-requires : tie.Need-reads-at-requires Inv-loop μ-loop
 reads-at-requires c κs = search needs
 
--- src/definitions.rt:63:13
 returns : tie.Need-returns Inv-loop μ-loop
-returns c = search (needs, reads, expr-below, expr-past)
+returns c = search (needs, reads, expr-below)
 
--- src/definitions.rt:65:9
 add-k : tie.Need-add-k Inv-loop μ-loop
 add-k c = search needs
 
--- src/definitions.rt:61:5
 loop-less : tie.Need-loop-less Inv-loop μ-loop
 loop-less c = search needs
 
--- src/definitions.rt:61:5
 loop-again : tie.Need-loop-again Inv-loop μ-loop
-loop-again c = search (needs, reads, expr-below, expr-past)
+loop-again c = search (needs, reads, expr-below)
 
--- src/definitions.rt:55:1
 returns-2 : tie.Need-returns-2 Inv-loop μ-loop
-returns-2 c = search (needs, reads, expr-below, expr-past)
+returns-2 c = search (needs, reads, expr-past)
 
 pub reads-memory-spec : {M : Type 1} → statement M
 reads-memory-spec =

@@ -1,51 +1,40 @@
 -- `plan::plans::decide` meets its contract. Assumes nothing.
 use Rattle.plan.proofs.Reading.{reading}
-use Rattle.plan.proofs.Deciding.{answers-known, answers-sound, deciding}
+use Rattle.plan.proofs.Deciding.{defines-known, defines-sound, deciding}
 use borrow.Author.Needs.{needs}
 use Rattle.plan.proofs.plans.decide.Statement.{statement}
 use Rattle.plan.proofs.plans.decide.Tie as tie
 
--- src/plans.rt:213:75
 mul-line-of : tie.Need-mul-line-of
 mul-line-of c = search needs
 
--- src/plans.rt:213:75
 shared-slice-read-line-of : tie.Need-shared-slice-read-line-of
 shared-slice-read-line-of c = search needs
 
--- src/plans.rt:213:52
 line-of-requires : tie.Need-line-of-requires
 line-of-requires c κs = search (needs, reading)
 
--- src/plans.rt:213:26
 definition-of-requires : tie.Need-definition-of-requires
 definition-of-requires c κs = search (needs, reading)
 
--- src/plans.rt:213:21
 enum-known-d : tie.Need-enum-known-d
 enum-known-d c = search needs
 
--- src/plans.rt:214:9
 enum-told : tie.Need-enum-told
 enum-told c = search needs
 
--- src/plans.rt:214:9
 returns : tie.Need-returns
 returns c = search (needs, deciding)
 
--- src/plans.rt:217:8
 is-addressed-requires : tie.Need-is-addressed-requires
-is-addressed-requires c κs = search (needs, answers-known)
+is-addressed-requires c κs = search (needs, defines-known)
 
--- src/plans.rt:218:9
 returns-2 : tie.Need-returns-2
 returns-2 c = search (needs, deciding)
 
--- src/plans.rt:220:5
 plan-for-requires : tie.Need-plan-for-requires
-plan-for-requires c κs = search (needs, answers-sound)
+plan-for-requires c κs = search (needs, defines-sound)
 
--- src/plans.rt:199:1
 returns-3 : tie.Need-returns-3
 returns-3 c = search (needs, deciding)
 

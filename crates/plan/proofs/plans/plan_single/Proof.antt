@@ -4,27 +4,21 @@ use borrow.Author.Needs.{needs}
 use Rattle.plan.proofs.plans.plan_single.Statement.{statement}
 use Rattle.plan.proofs.plans.plan_single.Tie as tie
 
--- src/plans.rt:168:24
 use-of-requires : tie.Need-use-of-requires
 use-of-requires c κs = search needs
 
--- src/plans.rt:168:19
 enum-known-j : tie.Need-enum-known-j
 enum-known-j c = search needs
 
--- src/plans.rt:169:9
 enum-told : tie.Need-enum-told
 enum-told c = search needs
 
--- src/plans.rt:169:9
 returns : tie.Need-returns
 returns c = search (needs, single-none)
 
--- src/plans.rt:171:5
 plan-use-requires : tie.Need-plan-use-requires
 plan-use-requires c κs = let s = c .before .before .before .before .before .before .before .before .before in (s .pre .0, s .pre .1, s .pre .2, s .pre .3, search (needs, use-inside))
 
--- src/plans.rt:155:1
 returns-2 : tie.Need-returns-2
 returns-2 c = search (needs, single-at)
 

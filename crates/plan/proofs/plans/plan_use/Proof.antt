@@ -5,55 +5,42 @@ use borrow.Author.Needs.{needs}
 use Rattle.plan.proofs.plans.plan_use.Statement.{statement}
 use Rattle.plan.proofs.plans.plan_use.Tie as tie
 
--- src/plans.rt:147:13
 mul-s : tie.Need-mul-s
 mul-s c = search needs
 
--- src/plans.rt:147:13
 shared-slice-read-s : tie.Need-shared-slice-read-s
 shared-slice-read-s c = search needs
 
--- src/plans.rt:148:39
 mul-line-of : tie.Need-mul-line-of
 mul-line-of c = search needs
 
--- src/plans.rt:148:39
 shared-slice-read-line-of : tie.Need-shared-slice-read-line-of
 shared-slice-read-line-of c = search needs
 
--- src/plans.rt:148:9
 line-of-requires : tie.Need-line-of-requires
 line-of-requires c κs = search (needs, reading)
 
--- src/plans.rt:149:8
 has-while-requires : tie.Need-has-while-requires
 has-while-requires c κs = search (needs, reading)
 
--- src/plans.rt:150:9
 returns : tie.Need-returns
 returns c = search (needs, finding)
 
--- src/plans.rt:153:9
 indent-requires : tie.Need-indent-requires
 indent-requires c κs = search needs
 
--- src/plans.rt:154:9
 dead-after-requires : tie.Need-dead-after-requires
 dead-after-requires c κs = search (needs, sounding)
 
--- src/plans.rt:166:9
 returns-2 : tie.Need-returns-2
 returns-2 c = search (needs, finding)
 
--- src/plans.rt:168:28
 line-of-requires-2 : tie.Need-line-of-requires-2
 line-of-requires-2 c κs = search (needs, reading)
 
--- src/plans.rt:168:5
 plan-among-requires : tie.Need-plan-among-requires
 plan-among-requires c κs = search (needs, reading, sounding)
 
--- src/plans.rt:133:1
 returns-3 : tie.Need-returns-3
 returns-3 c = search (needs, finding)
 

@@ -4,19 +4,15 @@ use borrow.Author.Needs.{needs}
 use Rattle.plan.proofs.plans.wants_brackets.Statement.{statement}
 use Rattle.plan.proofs.plans.wants_brackets.Tie as tie
 
--- src/plans.rt:101:9
 is-operator-expr-requires : tie.Need-is-operator-expr-requires
 is-operator-expr-requires c κs = search needs
 
--- src/plans.rt:102:9
 returns : tie.Need-returns
 returns c = search (needs, brackets-not)
 
--- src/plans.rt:104:6
 is-standalone-requires : tie.Need-is-standalone-requires
 is-standalone-requires c κs = search needs
 
--- src/plans.rt:90:1
 returns-2 : tie.Need-returns-2
 returns-2 c = search (needs, brackets-by)
 

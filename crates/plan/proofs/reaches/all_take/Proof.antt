@@ -16,43 +16,33 @@ Inv-loop tape area tokens lines i last f rules j₀ j = taken-from tape area tok
 abbrev μ-loop : tie.MeasureT-loop
 μ-loop tape area tokens lines i last f rules j₀ j = last + 1 - j
 
--- src/reaches.rt:201:17
 add-j : tie.Need-add-j Inv-loop μ-loop
 add-j c = search needs
 
--- src/reaches.rt:202:5
 loop-holds : tie.Need-loop-holds Inv-loop μ-loop
 loop-holds c = search (needs, taking)
 
--- src/reaches.rt:203:49
 mul-refuses-constant : tie.Need-mul-refuses-constant Inv-loop μ-loop
 mul-refuses-constant c = search needs
 
--- src/reaches.rt:203:49
 shared-slice-read-refuses-constant : tie.Need-shared-slice-read-refuses-constant Inv-loop μ-loop
 shared-slice-read-refuses-constant c = search needs
 
--- src/reaches.rt:203:12
 refuses-constant-requires : tie.Need-refuses-constant-requires Inv-loop μ-loop
 refuses-constant-requires c κs = search (needs, reading)
 
--- src/reaches.rt:204:13
 returns : tie.Need-returns Inv-loop μ-loop
 returns c = search (needs, taking)
 
--- src/reaches.rt:206:9
 add-j-2 : tie.Need-add-j-2 Inv-loop μ-loop
 add-j-2 c = search needs
 
--- src/reaches.rt:202:5
 loop-less : tie.Need-loop-less Inv-loop μ-loop
 loop-less c = search needs
 
--- src/reaches.rt:202:5
 loop-again : tie.Need-loop-again Inv-loop μ-loop
 loop-again c = search (needs, taking)
 
--- src/reaches.rt:188:1
 returns-2 : tie.Need-returns-2 Inv-loop μ-loop
 returns-2 c = search (needs, taking)
 

@@ -5,29 +5,23 @@ use borrow.Author.Needs.{needs}
 use Rattle.plan.proofs.reaches.bad_use.Statement.{statement}
 use Rattle.plan.proofs.reaches.bad_use.Tie as tie
 
--- src/reaches.rt:159:8
 writes-requires : tie.Need-writes-requires
 writes-requires c κs = search needs
 
--- src/reaches.rt:160:9
 returns : tie.Need-returns
 unfolding bad-use
 returns c = search (needs, tests)
 
--- src/reaches.rt:162:8
 updates-first-requires : tie.Need-updates-first-requires
 updates-first-requires c κs = search needs
 
--- src/reaches.rt:163:9
 returns-2 : tie.Need-returns-2
 unfolding bad-use
 returns-2 c = search (needs, tests)
 
--- src/reaches.rt:165:5
 has-narrow-requires : tie.Need-has-narrow-requires
 has-narrow-requires c κs = search needs
 
--- src/reaches.rt:155:1
 returns-3 : tie.Need-returns-3
 unfolding bad-use
 returns-3 c = search (needs, tests)

@@ -5,43 +5,33 @@ use borrow.Author.Needs.{needs}
 use Rattle.plan.proofs.reaches.ends_at.Statement.{statement}
 use Rattle.plan.proofs.reaches.ends_at.Tie as tie
 
--- src/reaches.rt:226:37
 mul-indent : tie.Need-mul-indent
 mul-indent c = search needs
 
--- src/reaches.rt:226:37
 shared-slice-read-indent : tie.Need-shared-slice-read-indent
 shared-slice-read-indent c = search needs
 
--- src/reaches.rt:226:9
 indent-requires : tie.Need-indent-requires
 indent-requires c κs = search needs
 
--- src/reaches.rt:227:8
 dead-after-requires : tie.Need-dead-after-requires
 dead-after-requires c κs = search needs
 
--- src/reaches.rt:239:9
 returns : tie.Need-returns
 returns c = search (needs, ends-dead)
 
--- src/reaches.rt:244:32
 mul-line-of : tie.Need-mul-line-of
 mul-line-of c = search needs
 
--- src/reaches.rt:244:32
 shared-slice-read-line-of : tie.Need-shared-slice-read-line-of
 shared-slice-read-line-of c = search needs
 
--- src/reaches.rt:244:9
 line-of-requires : tie.Need-line-of-requires
 line-of-requires c κs = search (needs, reading)
 
--- src/reaches.rt:241:5
 kills-requires : tie.Need-kills-requires
 kills-requires c κs = search (needs, reading)
 
--- src/reaches.rt:212:1
 returns-2 : tie.Need-returns-2
 returns-2 c = search (needs, ends-kill)
 

@@ -5,39 +5,30 @@ use borrow.Author.Needs.{needs}
 use Rattle.plan.proofs.reaches.ends_run.Statement.{statement}
 use Rattle.plan.proofs.reaches.ends_run.Tie as tie
 
--- src/reaches.rt:36:9
 line-of-requires : tie.Need-line-of-requires
 line-of-requires c κs = search (needs, reading)
 
--- src/reaches.rt:37:8
 is-label-requires : tie.Need-is-label-requires
 is-label-requires c κs = search (needs, reading)
 
--- src/reaches.rt:38:9
 returns : tie.Need-returns
 returns c = search (needs, running)
 
--- src/reaches.rt:40:8
 indent-requires : tie.Need-indent-requires
 indent-requires c κs = search needs
 
--- src/reaches.rt:41:9
 returns-2 : tie.Need-returns-2
 returns-2 c = search (needs, running)
 
--- src/reaches.rt:43:8
 has-while-requires : tie.Need-has-while-requires
 has-while-requires c κs = search (needs, reading)
 
--- src/reaches.rt:44:9
 returns-3 : tie.Need-returns-3
 returns-3 c = search (needs, running)
 
--- src/reaches.rt:46:5
 has-goto-requires : tie.Need-has-goto-requires
 has-goto-requires c κs = search (needs, reading)
 
--- src/reaches.rt:32:1
 returns-4 : tie.Need-returns-4
 returns-4 c = search (needs, running)
 

@@ -5,47 +5,36 @@ use borrow.Author.Needs.{needs}
 use Rattle.plan.proofs.reaches.reach_at.Statement.{statement}
 use Rattle.plan.proofs.reaches.reach_at.Tie as tie
 
--- src/reaches.rt:64:8
 ends-run-requires : tie.Need-ends-run-requires
 ends-run-requires c κs = search (needs, reading)
 
--- src/reaches.rt:65:9
 returns : tie.Need-returns
 returns c = search (needs, reaching)
 
--- src/reaches.rt:71:9
 line-of-requires : tie.Need-line-of-requires
 line-of-requires c κs = search (needs, reading)
 
--- src/reaches.rt:72:9
 opens-or-closes-requires : tie.Need-opens-or-closes-requires
 opens-or-closes-requires c κs = search (needs, reading)
 
--- src/reaches.rt:73:11
 touch-requires : tie.Need-touch-requires
 touch-requires c κs = search (needs, reading)
 
--- src/reaches.rt:74:29
 enum-told : tie.Need-enum-told
 enum-told c = search needs
 
--- src/reaches.rt:79:26
 enum-told-2 : tie.Need-enum-told-2
 enum-told-2 c = search needs
 
--- src/reaches.rt:84:28
 enum-told-3 : tie.Need-enum-told-3
 enum-told-3 c = search needs
 
--- src/reaches.rt:50:1
 returns-2 : tie.Need-returns-2
 returns-2 c = search (needs, reaching)
 
--- src/reaches.rt:50:1
 returns-3 : tie.Need-returns-3
 returns-3 c = search (needs, reaching)
 
--- src/reaches.rt:50:1
 returns-4 : tie.Need-returns-4
 returns-4 c = search (needs, reaching)
 

@@ -16,55 +16,42 @@ Inv-loop tape area tokens lines i f rules base-indent r₀ j₀ r j = Reached ta
 abbrev μ-loop : tie.MeasureT-loop
 μ-loop tape area tokens lines i f rules base-indent r₀ j₀ r j = length lines - j
 
--- src/reaches.rt:105:37
 mul-indent : tie.Need-mul-indent Inv-loop μ-loop
 mul-indent c = search needs
 
--- src/reaches.rt:105:37
 shared-slice-read-indent : tie.Need-shared-slice-read-indent Inv-loop μ-loop
 shared-slice-read-indent c = search needs
 
--- src/reaches.rt:105:9
 indent-requires : tie.Need-indent-requires Inv-loop μ-loop
 indent-requires c κs = search needs
 
--- src/reaches.rt:111:17
 add-j : tie.Need-add-j Inv-loop μ-loop
 add-j c = search needs
 
--- src/reaches.rt:112:5
 loop-holds : tie.Need-loop-holds Inv-loop μ-loop
 loop-holds c = search (needs, reached-begin)
 
--- src/reaches.rt:114:13
 returns : tie.Need-returns Inv-loop μ-loop
 returns c = search (needs, reached-ended)
 
--- src/reaches.rt:120:13
 mul-reach-at : tie.Need-mul-reach-at Inv-loop μ-loop
 mul-reach-at c = search needs
 
--- src/reaches.rt:120:13
 shared-slice-read-reach-at : tie.Need-shared-slice-read-reach-at Inv-loop μ-loop
 shared-slice-read-reach-at c = search needs
 
--- src/reaches.rt:116:9
 reach-at-requires : tie.Need-reach-at-requires Inv-loop μ-loop
 reach-at-requires c κs = search (needs, reading)
 
--- src/reaches.rt:127:9
 add-j-2 : tie.Need-add-j-2 Inv-loop μ-loop
 add-j-2 c = search needs
 
--- src/reaches.rt:112:5
 loop-less : tie.Need-loop-less Inv-loop μ-loop
 loop-less c = search needs
 
--- src/reaches.rt:112:5
 loop-again : tie.Need-loop-again Inv-loop μ-loop
 loop-again c = search (needs, reached-next)
 
--- src/reaches.rt:93:1
 returns-2 : tie.Need-returns-2 Inv-loop μ-loop
 returns-2 c = search (needs, reached-end)
 

@@ -6,51 +6,39 @@ use borrow.Author.Needs.{needs}
 use Rattle.plan.proofs.reaches.updates_first.Statement.{statement}
 use Rattle.plan.proofs.reaches.updates_first.Tie as tie
 
--- src/reaches.rt:138:9
 returns : tie.Need-returns
 returns c = search (needs, updating)
 
--- src/reaches.rt:140:33
 shared-slice-read-is-of : tie.Need-shared-slice-read-is-of
 shared-slice-read-is-of c = search needs
 
--- src/reaches.rt:140:9
 is-of-requires : tie.Need-is-of-requires
 is-of-requires c κs = search (needs, holds-first)
 
--- src/reaches.rt:141:9
 returns-2 : tie.Need-returns-2
 returns-2 c = search (needs, updating)
 
--- src/reaches.rt:143:16
 shared-slice-read-next : tie.Need-shared-slice-read-next
 shared-slice-read-next c = search needs
 
--- src/reaches.rt:144:8
 kind-requires : tie.Need-kind-requires
 kind-requires c κs = search needs
 
--- src/reaches.rt:145:9
 returns-3 : tie.Need-returns-3
 returns-3 c = search (needs, updating)
 
--- src/reaches.rt:147:9
 text-requires : tie.Need-text-requires
 text-requires c κs = search (needs, holds-at)
 
--- src/reaches.rt:148:8
 begins-assign-requires : tie.Need-begins-assign-requires
 begins-assign-requires c κs = search needs
 
--- src/reaches.rt:149:9
 returns-4 : tie.Need-returns-4
 returns-4 c = search (needs, updating)
 
--- src/reaches.rt:151:6
 begins-equal-requires : tie.Need-begins-equal-requires
 begins-equal-requires c κs = search needs
 
--- src/reaches.rt:133:1
 returns-5 : tie.Need-returns-5
 returns-5 c = search (needs, updating)
 

@@ -5,27 +5,21 @@ use borrow.Author.Needs.{needs}
 use Rattle.plan.proofs.slots.is_addressed.Statement.{statement}
 use Rattle.plan.proofs.slots.is_addressed.Tie as tie
 
--- src/slots.rt:36:24
 enum-told : tie.Need-enum-told
 enum-told c = search needs
 
--- src/slots.rt:37:19
 enum-known-f : tie.Need-enum-known-f
 enum-known-f c = search needs
 
--- src/slots.rt:37:55
 text-requires : tie.Need-text-requires
 text-requires c κs = search (needs, text-points)
 
--- src/slots.rt:37:25
 slot-among-requires : tie.Need-slot-among-requires
 slot-among-requires c κs = search needs
 
--- src/slots.rt:25:1
 returns : tie.Need-returns
 returns c = search (needs, addressing)
 
--- src/slots.rt:25:1
 returns-2 : tie.Need-returns-2
 returns-2 c = search (needs, addressing)
 

@@ -16,43 +16,33 @@ Inv-loop slots slot-words s k₀ k = has (slot-names slots slot-words) s ≡ has
 abbrev μ-loop : tie.MeasureT-loop
 μ-loop slots slot-words s k₀ k = length slot-words - k
 
--- src/slots.rt:15:5
 loop-holds : tie.Need-loop-holds Inv-loop μ-loop
 loop-holds c = search (needs, addressing)
 
--- src/slots.rt:16:49
 mul-text : tie.Need-mul-text Inv-loop μ-loop
 mul-text c = search needs
 
--- src/slots.rt:16:49
 shared-slice-read-text : tie.Need-shared-slice-read-text Inv-loop μ-loop
 shared-slice-read-text c = search needs
 
--- src/slots.rt:16:23
 text-requires : tie.Need-text-requires Inv-loop μ-loop
 text-requires c κs = search (needs, holds-at)
 
--- src/slots.rt:16:12
 same-requires : tie.Need-same-requires Inv-loop μ-loop
 same-requires c κs = search needs
 
--- src/slots.rt:17:13
 returns : tie.Need-returns Inv-loop μ-loop
 returns c = search (needs, addressing)
 
--- src/slots.rt:19:9
 add-k : tie.Need-add-k Inv-loop μ-loop
 add-k c = search needs
 
--- src/slots.rt:15:5
 loop-less : tie.Need-loop-less Inv-loop μ-loop
 loop-less c = search needs
 
--- src/slots.rt:15:5
 loop-again : tie.Need-loop-again Inv-loop μ-loop
 loop-again c = search (needs, addressing)
 
--- src/slots.rt:10:1
 returns-2 : tie.Need-returns-2 Inv-loop μ-loop
 returns-2 c = search (needs, addressing)
 

@@ -5,43 +5,33 @@ use borrow.Author.Needs.{needs}
 use Rattle.plan.proofs.uses.is_compound.Statement.{statement}
 use Rattle.plan.proofs.uses.is_compound.Tie as tie
 
--- src/uses.rt:188:9
 returns : tie.Need-returns
 returns c = search (needs, compounding)
 
--- src/uses.rt:191:9
 returns-2 : tie.Need-returns-2
 returns-2 c = search (needs, compounding)
 
--- src/uses.rt:193:16
 shared-slice-read-next : tie.Need-shared-slice-read-next
 shared-slice-read-next c = search needs
 
--- src/uses.rt:194:8
 kind-requires : tie.Need-kind-requires
 kind-requires c κs = search needs
 
--- src/uses.rt:195:9
 returns-3 : tie.Need-returns-3
 returns-3 c = search (needs, compounding)
 
--- src/uses.rt:197:9
 text-requires : tie.Need-text-requires
 text-requires c κs = search (needs, holds-at)
 
--- src/uses.rt:198:9
 begins-operator-requires : tie.Need-begins-operator-requires
 begins-operator-requires c κs = search needs
 
--- src/uses.rt:199:9
 returns-4 : tie.Need-returns-4
 returns-4 c = search (needs, compounding)
 
--- src/uses.rt:201:6
 begins-assign-requires : tie.Need-begins-assign-requires
 begins-assign-requires c κs = search needs
 
--- src/uses.rt:183:1
 returns-5 : tie.Need-returns-5
 returns-5 c = search (needs, compounding)
 

@@ -6,59 +6,45 @@ use borrow.Author.Needs.{needs}
 use Rattle.plan.proofs.uses.is_standalone.Statement.{statement}
 use Rattle.plan.proofs.uses.is_standalone.Tie as tie
 
--- src/uses.rt:231:9
 returns : tie.Need-returns
 returns c = search (needs, standing)
 
--- src/uses.rt:233:14
 add-at : tie.Need-add-at
 add-at c = search needs
 
--- src/uses.rt:235:9
 returns-2 : tie.Need-returns-2
 returns-2 c = search (needs, standing)
 
--- src/uses.rt:237:60
 sub-text : tie.Need-sub-text
 sub-text c = search needs
 
--- src/uses.rt:237:55
 mul-text : tie.Need-mul-text
 mul-text c = search needs
 
--- src/uses.rt:237:55
 shared-slice-read-text : tie.Need-shared-slice-read-text
 shared-slice-read-text c = search needs
 
--- src/uses.rt:237:31
 text-requires : tie.Need-text-requires
 text-requires c κs = search (needs, holds-before)
 
--- src/uses.rt:237:9
 delimits-before-requires : tie.Need-delimits-before-requires
 delimits-before-requires c κs = search needs
 
--- src/uses.rt:238:9
 returns-3 : tie.Need-returns-3
 returns-3 c = search (needs, standing)
 
--- src/uses.rt:240:50
 mul-text-2 : tie.Need-mul-text-2
 mul-text-2 c = search needs
 
--- src/uses.rt:240:50
 shared-slice-read-text-2 : tie.Need-shared-slice-read-text-2
 shared-slice-read-text-2 c = search needs
 
--- src/uses.rt:240:26
 text-requires-2 : tie.Need-text-requires-2
 text-requires-2 c κs = search (needs, holds-at)
 
--- src/uses.rt:240:5
 delimits-after-requires : tie.Need-delimits-after-requires
 delimits-after-requires c κs = search needs
 
--- src/uses.rt:226:1
 returns-4 : tie.Need-returns-4
 returns-4 c = search (needs, standing)
 

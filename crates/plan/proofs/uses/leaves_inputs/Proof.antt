@@ -2,71 +2,55 @@
 use Rattle.lines.proofs.fams.Families.{as-known}
 use Rattle.plan.proofs.Defining.{assigning}
 use Rattle.plan.proofs.Looking.{leaving}
-use Rattle.plan.proofs.Deciding.{sound-side}
 use borrow.Author.Needs.{needs}
 use Rattle.plan.proofs.uses.leaves_inputs.Statement.{statement}
 use Rattle.plan.proofs.uses.leaves_inputs.Tie as tie
 
--- src/uses.rt:72:27
 assignment-requires : tie.Need-assignment-requires
 assignment-requires c κs = search needs
 
 enum-told : tie.Need-enum-told
 enum-told c = search needs
 
--- src/uses.rt:73:9
 enum-told-2 : tie.Need-enum-told-2
 enum-told-2 c = search needs
 
--- src/uses.rt:73:9
 returns : tie.Need-returns
 returns c = search (needs, leaving)
 
--- src/uses.rt:75:53
 shared-slice-read-name-of : tie.Need-shared-slice-read-name-of
 shared-slice-read-name-of c = search (needs, assigning)
 
--- src/uses.rt:75:27
 name-of-requires : tie.Need-name-of-requires
 name-of-requires c κs = search (needs, assigning)
 
--- src/uses.rt:75:19
 enum-known-g : tie.Need-enum-known-g
 enum-known-g c = search needs
 
--- src/uses.rt:76:9
 enum-told-3 : tie.Need-enum-told-3
 enum-told-3 c = search needs
 
--- src/uses.rt:76:9
 returns-2 : tie.Need-returns-2
 returns-2 c = search (needs, leaving)
 
--- src/uses.rt:79:8
 mentions-requires : tie.Need-mentions-requires
-mentions-requires c κs = search (needs, sound-side, as-known)
+mentions-requires c κs = search (needs, as-known)
 
--- src/uses.rt:80:9
 returns-3 : tie.Need-returns-3
 returns-3 c = search (needs, leaving)
 
--- src/uses.rt:83:9
 returns-4 : tie.Need-returns-4
 returns-4 c = search (needs, leaving)
 
--- src/uses.rt:85:48
 shared-slice-read-text : tie.Need-shared-slice-read-text
 shared-slice-read-text c = search (needs, assigning)
 
--- src/uses.rt:85:24
 text-requires : tie.Need-text-requires
 text-requires c κs = search (needs, assigning)
 
--- src/uses.rt:85:6
 begins-slot-requires : tie.Need-begins-slot-requires
 begins-slot-requires c κs = search needs
 
--- src/uses.rt:62:1
 returns-5 : tie.Need-returns-5
 returns-5 c = search (needs, leaving)
 

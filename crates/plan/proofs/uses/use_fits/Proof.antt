@@ -4,31 +4,24 @@ use borrow.Author.Needs.{needs}
 use Rattle.plan.proofs.uses.use_fits.Statement.{statement}
 use Rattle.plan.proofs.uses.use_fits.Tie as tie
 
--- src/uses.rt:216:27
 use-width-requires : tie.Need-use-width-requires
 use-width-requires c κs = search needs
 
--- src/uses.rt:216:9
 widths-fit-requires : tie.Need-widths-fit-requires
 widths-fit-requires c κs = search needs
 
--- src/uses.rt:217:9
 returns : tie.Need-returns
 returns c = search (needs, fitting)
 
--- src/uses.rt:219:8
 is-compound-requires : tie.Need-is-compound-requires
 is-compound-requires c κs = search needs
 
--- src/uses.rt:220:9
 returns-2 : tie.Need-returns-2
 returns-2 c = search (needs, fitting)
 
--- src/uses.rt:222:6
 writes-requires : tie.Need-writes-requires
 writes-requires c κs = search needs
 
--- src/uses.rt:205:1
 returns-3 : tie.Need-returns-3
 returns-3 c = search (needs, fitting)
 

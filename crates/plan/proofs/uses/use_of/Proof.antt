@@ -19,66 +19,51 @@ Inv-loop tape area tokens lines i d rules s j₀ j = use-of (bare-listing tape a
 abbrev μ-loop : tie.MeasureT-loop
 μ-loop tape area tokens lines i d rules s j₀ j = length lines - j
 
--- src/uses.rt:139:13
 mul-s : tie.Need-mul-s Inv-loop μ-loop
 mul-s c = search needs
 
--- src/uses.rt:139:13
 shared-slice-read-s : tie.Need-shared-slice-read-s Inv-loop μ-loop
 shared-slice-read-s c = search needs
 
--- src/uses.rt:140:17
 add-j : tie.Need-add-j Inv-loop μ-loop
 add-j c = search needs
 
--- src/uses.rt:141:5
 loop-holds : tie.Need-loop-holds Inv-loop μ-loop
 loop-holds c = search (needs, seeking)
 
--- src/uses.rt:142:46
 mul-look-at : tie.Need-mul-look-at Inv-loop μ-loop
 mul-look-at c = search needs
 
--- src/uses.rt:142:46
 shared-slice-read-look-at : tie.Need-shared-slice-read-look-at Inv-loop μ-loop
 shared-slice-read-look-at c = search needs
 
--- src/uses.rt:142:15
 look-at-requires : tie.Need-look-at-requires Inv-loop μ-loop
 look-at-requires c κs = search (needs, reading)
 
--- src/uses.rt:144:17
 enum-told : tie.Need-enum-told Inv-loop μ-loop
 enum-told c = search needs
 
--- src/uses.rt:144:17
 returns : tie.Need-returns Inv-loop μ-loop
 returns c = search (needs, seeking)
 
 enum-told-2 : tie.Need-enum-told-2 Inv-loop μ-loop
 enum-told-2 c = search needs
 
--- src/uses.rt:148:17
 enum-told-3 : tie.Need-enum-told-3 Inv-loop μ-loop
 enum-told-3 c = search needs
 
--- src/uses.rt:148:17
 returns-2 : tie.Need-returns-2 Inv-loop μ-loop
 returns-2 c = search (needs, seeking)
 
--- src/uses.rt:151:9
 add-j-2 : tie.Need-add-j-2 Inv-loop μ-loop
 add-j-2 c = search needs
 
--- src/uses.rt:141:5
 loop-less : tie.Need-loop-less Inv-loop μ-loop
 loop-less c = search needs
 
--- src/uses.rt:141:5
 loop-again : tie.Need-loop-again Inv-loop μ-loop
 loop-again c = search (needs, seeking)
 
--- src/uses.rt:127:1
 returns-3 : tie.Need-returns-3 Inv-loop μ-loop
 returns-3 c = search (needs, seeking)
 

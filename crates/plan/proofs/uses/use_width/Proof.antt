@@ -5,33 +5,26 @@ use borrow.Author.Needs.{needs}
 use Rattle.plan.proofs.uses.use_width.Statement.{statement}
 use Rattle.plan.proofs.uses.use_width.Tie as tie
 
--- src/uses.rt:176:37
 mul-name-of : tie.Need-mul-name-of
 mul-name-of c = search needs
 
--- src/uses.rt:176:37
 shared-slice-read-name-of : tie.Need-shared-slice-read-name-of
 shared-slice-read-name-of c = search needs
 
--- src/uses.rt:176:11
 name-of-requires : tie.Need-name-of-requires
 name-of-requires c κs = search (needs, holds-at)
 
--- src/uses.rt:177:22
 enum-known-width : tie.Need-enum-known-width
 enum-known-width c = search needs
 
--- src/uses.rt:178:27
 enum-told : tie.Need-enum-told
 enum-told c = search needs
 
--- src/uses.rt:172:1
 returns : tie.Need-returns
-returns c = search (needs, width-named, width-unnamed)
+returns c = search (needs, width-named)
 
--- src/uses.rt:172:1
 returns-2 : tie.Need-returns-2
-returns-2 c = search (needs, width-named, width-unnamed)
+returns-2 c = search (needs, width-unnamed)
 
 pub use-width-spec : {M : Type 1} → statement M
 use-width-spec =

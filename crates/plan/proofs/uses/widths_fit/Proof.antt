@@ -4,15 +4,12 @@ use Rattle.plan.proofs.Fitting.{widths-same, widths-narrow, widths-wide
 use Rattle.plan.proofs.uses.widths_fit.Statement.{statement}
 use Rattle.plan.proofs.uses.widths_fit.Tie as tie
 
--- src/uses.rt:163:9
 returns : tie.Need-returns
 returns c = search (needs, widths-same)
 
--- src/uses.rt:166:9
 returns-2 : tie.Need-returns-2
 returns-2 c = search (needs, widths-narrow)
 
--- src/uses.rt:159:1
 returns-3 : tie.Need-returns-3
 returns-3 c = search (needs, widths-wide)
 

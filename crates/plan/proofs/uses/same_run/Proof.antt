@@ -1,44 +1,36 @@
--- `plan::uses::stays_put` meets its contract. Assumes nothing.
+-- `plan::uses::same_run` meets its contract. Assumes nothing.
 use Rattle.plan.proofs.Reading.{reading}
-use Rattle.plan.proofs.Looking.{putting}
+use Rattle.plan.proofs.Looking.{sharing}
 use borrow.Author.Needs.{needs}
-use Rattle.plan.proofs.uses.stays_put.Statement.{statement}
-use Rattle.plan.proofs.uses.stays_put.Tie as tie
+use Rattle.plan.proofs.uses.same_run.Statement.{statement}
+use Rattle.plan.proofs.uses.same_run.Tie as tie
 
--- src/uses.rt:49:9
 returns : tie.Need-returns
-returns c = search (needs, putting)
+returns c = search (needs, sharing)
 
--- src/uses.rt:51:9
 line-of-requires : tie.Need-line-of-requires
 line-of-requires c κs = search (needs, reading)
 
--- src/uses.rt:52:8
 opens-or-closes-requires : tie.Need-opens-or-closes-requires
 opens-or-closes-requires c κs = search (needs, reading)
 
--- src/uses.rt:53:9
 returns-2 : tie.Need-returns-2
-returns-2 c = search (needs, putting)
+returns-2 c = search (needs, sharing)
 
--- src/uses.rt:55:8
 has-call-requires : tie.Need-has-call-requires
 has-call-requires c κs = search (needs, reading)
 
--- src/uses.rt:56:9
 returns-3 : tie.Need-returns-3
-returns-3 c = search (needs, putting)
+returns-3 c = search (needs, sharing)
 
--- src/uses.rt:58:5
 indent-requires : tie.Need-indent-requires
 indent-requires c κs = search needs
 
--- src/uses.rt:37:1
 returns-4 : tie.Need-returns-4
-returns-4 c = search (needs, putting)
+returns-4 c = search (needs, sharing)
 
-pub stays-put-spec : {M : Type 1} → statement M
-stays-put-spec =
+pub same-run-spec : {M : Type 1} → statement M
+same-run-spec =
     tie.close
     (tie.spec
     returns
