@@ -1,10 +1,10 @@
 -- A new line and its word. Assumes nothing.
-use Prim.Native.Nat.{ℕ, _+_, _-_, _≤_, _<_}
+use Prim.Native.Nat.{ℕ, _+_, _-_, _<_}
 use native.Mathlib.Omega.{arith}
 use native.Mathlib.Nat.{le-refl}
 use native.Mathlib.Numerals.{add-one}
-use mathlib.Core.Path.{_≡_, refl, sym, ap, _∙_}
-use mathlib.Core.List.{List, [], _∷_, _++_}
+use mathlib.Core.Path.{_≡_, refl, ap, _∙_}
+use mathlib.Core.List.{List, []}
 use lib.ListN.{length, set, take, drop, length-drop}
 use lib.Seq.{slice, slice-empty, take-all, take-suc-set, length-take-le, length-slice}
 use Rattle.reference.specs.Text.{Text}
@@ -16,7 +16,7 @@ use Rattle.lines.specs.Lines.{first-of, count-of, part-of, with-part, line-in, 
 use Rattle.lines.proofs.words.Lines.{count-below, with-first, with-count, with-means}
 use Rattle.build.specs.declared.used.Size.{Size}
 use Rattle.build.specs.declared.line.Appended.{Appended}
-use Rattle.build.specs.State.{used, words-from, Fresh, Laid}
+use Rattle.build.specs.State.{used, words-from, Laid}
 use Rattle.build.specs.Added.{used-words, Added, Ended}
 
 module _ {tape area : Text} {tokens : List ℕ} {at : Size} {out : List Token} {n k : ℕ} {area′ : Text} {tokens′ : List ℕ} {at′ : Size}

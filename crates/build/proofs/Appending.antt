@@ -1,14 +1,14 @@
 -- What the stores of an append come to. Assumes nothing.
-use Prim.Native.Nat.{ℕ, suc, _+_, _-_, _≤_, _<_}
+use Prim.Native.Nat.{ℕ, _+_, _≤_, _<_}
 use native.Mathlib.Omega.{arith}
 use native.Mathlib.Nat.{le-refl}
 use mathlib.Core.Path.{_≡_, refl, sym, ap, _∙_}
-use mathlib.Core.List.{List, [], _∷_, _++_}
+use mathlib.Core.List.{List, _++_}
 use lib.ListN.{length, getD, set, take, drop, length-append, length-drop}
 use lib.Seq.{paste, take-paste, take-length, take-take, take-all, take-at, take-set-le, drop-at, drop-append-le, getD-set-same, length-take-le}
 use Rattle.reference.specs.Text.{Text}
 use Rattle.reference.specs.Listing.{Token, token}
-use Rattle.lines.specs.Words.{kind-of, place-of, start-of, len-of, word, source, text-of, token-of, Points}
+use Rattle.lines.specs.Words.{kind-of, place-of, start-of, len-of, word, text-of, token-of, Points}
 use Rattle.lines.proofs.words.Tokens.{kind-below, start-below, word-place, word-start, word-len, word-means, word-points, in-tape, in-area}
 use Rattle.build.specs.declared.used.Size.{Size}
 use Rattle.build.specs.State.{used, Room, Appends}

@@ -1,9 +1,8 @@
 -- An append disturbs nothing that stands below: the line that began at `from` has one token more, or another last one. Assumes nothing.
-use Prim.Native.Nat.{ℕ, suc, _+_, _-_, _≤_, _<_}
+use Prim.Native.Nat.{ℕ, _+_, _-_, _≤_, _<_}
 use native.Mathlib.Omega.{arith}
-use native.Mathlib.Nat.{le-refl}
 use native.Mathlib.Numerals.{add-one}
-use mathlib.Core.Path.{_≡_, refl, sym, ap, _∙_}
+use mathlib.Core.Path.{_≡_, sym, ap, _∙_}
 use mathlib.Core.List.{List, [], _∷_, _++_, map-append}
 use lib.ListN.{length, getD, take, drop}
 use lib.Seq.{slice, take-take, take-add, take-suc, drop-append-le, getD-take, getD-drop, length-take-le, length-slice}

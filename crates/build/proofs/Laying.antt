@@ -1,20 +1,20 @@
 -- A new line at the end of a set: kept token by token, or merged and folded. Assumes nothing.
-use Prim.Native.Nat.{ℕ, suc, _+_, _-_, _≤_, _<_}
+use Prim.Native.Nat.{ℕ, _+_, _<_}
 use native.Mathlib.Omega.{arith}
 use native.Mathlib.Nat.{le-refl}
-use mathlib.Core.Path.{_≡_, refl, sym, ap, _∙_}
+use mathlib.Core.Path.{_≡_, ap, _∙_}
 use mathlib.Core.List.{List, [], _∷_, _++_}
-use lib.ListN.{length, getD, take, drop, length-take, length-append, length-map}
-use lib.Seq.{slice, slice-empty, take-take, length-take-le}
+use lib.ListN.{length, getD, take, drop}
+use lib.Seq.{slice-empty}
 use Rattle.reference.specs.Text.{Text}
 use Rattle.reference.specs.Listing.{Token}
 use Rattle.reference.specs.Numbers.{merge, fold}
 use Rattle.reference.specs.Claim.{size, text-in}
 use Rattle.reference.proofs.Weights.{sum-append}
-use Rattle.lines.specs.Words.{len-of, token-of, tokens-of, Points, Holds}
+use Rattle.lines.specs.Words.{len-of, token-of, tokens-of, Points}
 use Rattle.lines.proofs.words.Tokens.{holds-none, text-length}
 use Rattle.build.specs.declared.used.Size.{Size}
-use Rattle.build.specs.State.{used, line-now, room, Room, Built, Appends, Laid}
+use Rattle.build.specs.State.{used, line-now, room, Room, Appends, Laid}
 use Rattle.build.specs.Folding.{signs-room, FoldedLast}
 use Rattle.build.proofs.Growing.{built-appended, line-appended, grows-appended}
 use Rattle.build.proofs.Pushes.{grows-none, grows-then, tokens-more, tokens-split}

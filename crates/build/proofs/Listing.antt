@@ -1,11 +1,11 @@
 -- What an appended line leaves of a listing: the lines before it mean what they meant, and it stands behind them. And what it means in another
 -- set that has its words and its text at the same places. Assumes nothing.
-use Prim.Native.Nat.{ℕ, _+_, _-_, _≤_, _<_}
+use Prim.Native.Nat.{ℕ, _+_, _-_, _≤_}
 use native.Mathlib.Omega.{arith}
 use native.Mathlib.Nat.{le-refl}
 use native.Mathlib.Decide.{ℕ-discrete}
 use mathlib.Core.Logic.{by-cases}
-use mathlib.Core.Path.{_≡_, refl, sym, ap, _∙_}
+use mathlib.Core.Path.{_≡_, sym, ap, _∙_}
 use mathlib.Core.List.{List, [], _∷_, _++_, map-append}
 use lib.ListN.{length, getD, take, drop, length-take}
 use lib.Seq.{slice, drop-drop, length-take-le}

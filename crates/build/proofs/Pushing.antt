@@ -1,28 +1,27 @@
 -- What a push comes to, whether the token is joined to the last one or not, and pushes one after another. Assumes nothing.
-use Prim.Native.Nat.{ℕ, suc, _+_, _-_, _≤_, _<_}
+use Prim.Native.Nat.{ℕ, _+_, _-_, _≤_, _<_}
 use native.Mathlib.Omega.{arith}
 use native.Mathlib.Nat.{le-refl}
 use native.Mathlib.Decide.{decLt}
 use mathlib.Core.Logic.{by-cases}
 use mathlib.Core.Path.{_≡_, refl, sym, ap, _∙_}
-use mathlib.Core.Bool.{Bool, true, false}
+use mathlib.Core.Bool.{true, false}
 use mathlib.Core.List.{List, [], _∷_, _++_}
 use lib.Dec.{eqb}
-use lib.ListN.{length, getD, take}
-use lib.Seq.{slice, slice-empty, take-take}
+use lib.ListN.{length, getD}
+use lib.Seq.{slice, slice-empty}
 use borrow.Author.Tests.{eq-eqb, ne-eqb, ltb-true, eqb-true, lt-ltb, le-ltb}
 use Rattle.reference.specs.Control.{_&&_, _||_}
 use Rattle.reference.specs.Text.{Text}
 use Rattle.reference.specs.Listing.{Token, token, Punct, Plain}
 use Rattle.reference.specs.Numbers.{joins}
-use Rattle.reference.specs.Claim.{size, text-in}
+use Rattle.reference.specs.Claim.{size}
 use Rattle.reference.proofs.Cases.{both, true-false}
-use Rattle.reference.proofs.Weights.{sum-append}
 use Rattle.lines.specs.Words.{kind-of, place-of, start-of, len-of, text-of, token-of, tokens-of}
 use Rattle.build.specs.declared.used.Size.{Size}
-use Rattle.build.specs.State.{joinable, used, line-now, pushes, push-token, Built, Extendable, extends, Appends, Grows, Pushed}
+use Rattle.build.specs.State.{joinable, used, line-now, push-token, Built, Extendable, extends, Appends, Pushed}
 use Rattle.build.proofs.Growing.{built-appended, line-appended, grows-appended, line-last}
-use Rattle.build.proofs.Merging.{no-join-kind, no-join-ever, join-now, push-joined, push-added, push-first, pushes-one}
+use Rattle.build.proofs.Merging.{push-joined, push-added, push-first, pushes-one}
 
 -- ---- the tests
 

@@ -1,16 +1,15 @@
 -- How much text a line may come to take: what its tokens take, merged, and what their folds make. Assumes nothing.
 use Prim.Native.Nat.{ℕ, suc, _+_, _*_, _-_, _≤_}
 use native.Mathlib.Omega.{arith}
-use native.Mathlib.Nat.{le-trans}
-use mathlib.Core.Path.{_≡_, refl, ap, _∙_}
+use mathlib.Core.Path.{_≡_, refl, ap}
 use mathlib.Core.Bool.{Bool, true, false}
 use mathlib.Core.List.{List, [], _∷_, _++_}
-use lib.ListN.{length, drop, length-append}
-use Rattle.reference.specs.Control.{_||_, if_then_else_}
+use lib.ListN.{length, length-append}
+use Rattle.reference.specs.Control.{if_then_else_}
 use Rattle.reference.specs.Lists.{count}
-use Rattle.reference.specs.Text.{Text, bytes, _==_}
+use Rattle.reference.specs.Text.{bytes}
 use Rattle.reference.specs.Listing.{Token, token, is, Number}
-use Rattle.reference.specs.Numbers.{joins, merge-into, merge}
+use Rattle.reference.specs.Numbers.{merge-into, merge}
 use Rattle.reference.specs.Claim.{size, text-in}
 use Rattle.reference.proofs.Cases.{by-if, either}
 use Rattle.reference.proofs.Shapes.{joins-other, same-text}

@@ -1,5 +1,5 @@
 -- One step of folding in place, and where it begins and ends. Assumes nothing.
-use Prim.Native.Nat.{ℕ, suc, _+_, _-_, _*_, _≤_, _<_}
+use Prim.Native.Nat.{ℕ, suc, _+_, _-_, _≤_, _<_}
 use native.Mathlib.Omega.{arith}
 use native.Mathlib.Nat.{le-refl, add-zero}
 use native.Mathlib.Numerals.{add-one}
@@ -16,11 +16,11 @@ use Rattle.reference.specs.Listing.{Token, token, Number}
 use Rattle.reference.specs.Numbers.{show, fold}
 use Rattle.lines.specs.Words.{place-of, start-of, word, token-of, tokens-of, Points, Holds}
 use Rattle.lines.proofs.words.Each.{each-one, each-drop, each-append, map-drop}
-use Rattle.lines.proofs.words.Tokens.{word-start, holds-none, holds-drop, holds-append, holds-snoc, holds-prefix, holds-grows, tokens-prefix, tokens-grow}
+use Rattle.lines.proofs.words.Tokens.{word-start, holds-drop, holds-append, holds-snoc, holds-prefix, holds-grows, tokens-prefix, tokens-grow}
 use Rattle.numbers.specs.Writing.{Written}
 use Rattle.build.specs.declared.fold.Folding.{Folding}
 use Rattle.build.specs.State.{Fresh}
-use Rattle.build.specs.Folding.{is-sign, number-token, last-of, fold-next, fold-behind, done-now, left-now, folds-to, signs-room, text-limit, Foldable, Stepped, Folded}
+use Rattle.build.specs.Folding.{is-sign, number-token, last-of, fold-next, done-now, left-now, folds-to, signs-room, text-limit, Foldable, Stepped, Folded}
 use Rattle.build.proofs.Appending.{take-behind, behind-points, behind-means}
 use Rattle.build.proofs.Folding.{fold-kept, fold-made, fold-long, fold-begin, last-snoc, count-drop}
 

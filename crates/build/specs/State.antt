@@ -1,6 +1,6 @@
 -- A set that is being built: the text and the words in use, what the line that began at `from` means so far, and what an append leaves.
 -- Nothing is said of what stands below: a set may be begun at any marks. Assumes nothing.
-use Prim.Native.Nat.{ℕ, _+_, _-_, _*_, _≤_, _<_}
+use Prim.Native.Nat.{ℕ, _+_, _-_, _≤_, _<_}
 use mathlib.Core.Path.{_≡_}
 use mathlib.Core.Bool.{Bool, true}
 use mathlib.Core.List.{List, [], _∷_, _++_}

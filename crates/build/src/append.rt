@@ -4,7 +4,7 @@ use lines::words;
 use text::copy_bytes;
 ghost use mathlib.Core.Path.{_≡_};
 ghost use mathlib.Core.List.{_++_};
-ghost use Prim.Native.Nat.{_+_, _-_, _≤_, _<_};
+ghost use Prim.Native.Nat.{_+_, _-_, _<_};
 ghost use lib.ListN.{length, getD};
 ghost use Rattle.reference.specs.Text.{Text};
 ghost use Rattle.reference.specs.Listing.{token};

@@ -8,7 +8,7 @@ use numbers::put_number;
 use numbers::wrapping_add;
 use numbers::wrapping_sub;
 ghost use mathlib.Core.Path.{_≡_};
-ghost use Prim.Native.Nat.{_+_, _*_, _≤_, _<_};
+ghost use Prim.Native.Nat.{_+_, _≤_, _<_};
 ghost use lib.ListN.{length, take, drop};
 ghost use Rattle.reference.specs.Control.{_||_};
 ghost use Rattle.reference.specs.Text.{bytes, _==_};

@@ -18,7 +18,7 @@ ghost use Rattle.reference.specs.Text.{Text};
 ghost use Rattle.reference.specs.Listing.{token};
 ghost use Rattle.reference.specs.Claim.{text-in};
 ghost use Rattle.reference.specs.Numbers as numbers;
-ghost use Rattle.lines.specs.Words.{len-of, token-of, tokens-of, Points, Holds};
+ghost use Rattle.lines.specs.Words.{token-of, tokens-of, Points, Holds};
 ghost use Rattle.lines.specs.Shapes.{expr-words, Expression};
 ghost use Rattle.build.specs.State as state;
 ghost use Rattle.build.specs.State.{joinable, Room, Built, Extendable, Ready, Pushed, Laid};

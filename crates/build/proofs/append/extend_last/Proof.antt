@@ -1,7 +1,7 @@
 -- `build::append::extend_last` meets its contract. Assumes nothing.
 use native.Mathlib.Omega.{arith}
 use mathlib.Core.Path.{_≡_, _∙_}
-use Prim.Native.Nat.{_+_, _-_, _<_}
+use Prim.Native.Nat.{_+_, _-_}
 use lib.ListN.{length, getD}
 use Rattle.lines.specs.Words.{kind-of, start-of, len-of, word}
 use Rattle.lines.proofs.words.Tokens.{kind-below, start-below}

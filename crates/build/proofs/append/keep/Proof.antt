@@ -2,7 +2,7 @@
 use Prim.Native.Nat.{_≤_, zero-le}
 use native.Mathlib.Omega.{arith}
 use native.Mathlib.Nat.{le-refl}
-use mathlib.Core.Path.{_≡_, refl, sym, ap, _∙_}
+use mathlib.Core.Path.{refl, ap}
 use lib.ListN.{length}
 use Rattle.lines.specs.Words.{len-of}
 use Rattle.lines.proofs.words.Tokens.{kind-below, text-length}

@@ -1,8 +1,7 @@
 -- `build::fold::delimited_after` meets its contract. Assumes nothing.
 use native.Mathlib.Omega.{arith}
 use native.Mathlib.Nat.{add-zero}
-use Prim.Native.Nat.{_-_}
-use lib.ListN.{getD, length-drop}
+use lib.ListN.{length-drop}
 use lib.Seq.{getD-drop}
 use Rattle.build.proofs.Folding.{after-last, after-at}
 use borrow.Author.Needs.{needs}

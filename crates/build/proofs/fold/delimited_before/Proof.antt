@@ -1,7 +1,6 @@
 -- `build::fold::delimited_before` meets its contract. Assumes nothing.
 use native.Mathlib.Omega.{arith}
 use Prim.Native.Nat.{_-_}
-use lib.ListN.{getD, length-take}
 use lib.Seq.{getD-take, length-take-le}
 use Rattle.build.proofs.Folding.{before-first, before-at}
 use borrow.Author.Needs.{needs}

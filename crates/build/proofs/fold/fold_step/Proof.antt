@@ -1,9 +1,6 @@
 -- `build::fold::fold_step` meets its contract. Assumes nothing.
-use Prim.Native.Nat.{_+_, _<_}
 use native.Mathlib.Omega.{arith}
-use mathlib.Core.Path.{_≡_, ap, _∙_}
-use lib.ListN.{length}
-use Rattle.reference.specs.Numbers.{show}
+use mathlib.Core.Path.{ap}
 use Rattle.numbers.specs.Reading.{meaning}
 use Rattle.numbers.proofs.Signed.{read-back}
 use Rattle.build.proofs.Stepping.{done-whole, left-whole, next-none, next-some, fold-inside, fold-room, fold-short, fold-text, stepped-kept, stepped-made}

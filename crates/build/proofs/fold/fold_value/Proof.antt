@@ -1,11 +1,8 @@
 -- `build::fold::fold_value` meets its contract. Assumes nothing.
 use native.Mathlib.Omega.{arith}
-use mathlib.Core.Path.{_≡_}
-use Prim.Native.Nat.{_+_, _<_}
-use lib.ListN.{length, getD, drop, length-drop}
+use Prim.Native.Nat.{_+_}
 use lib.Seq.{drop-drop}
 use borrow.Author.Tests.{not-true, not-false}
-use Rattle.lines.specs.Words.{Points}
 use Rattle.lines.proofs.words.Tokens.{holds-drop}
 use Rattle.build.proofs.Folding.{next-few, next-open, next-shut, next-sum, held-at}
 use borrow.Author.Needs.{needs}

@@ -1,7 +1,6 @@
 -- `build::fold::sum_of` meets its contract. Assumes nothing.
-use mathlib.Core.Path.{_≡_, ap, _∙_}
+use mathlib.Core.Path.{_∙_}
 use borrow.Author.Tests.{not-true, not-false}
-use Rattle.reference.specs.Text.{bytes, _==_}
 use Rattle.lines.specs.Words.{token-of}
 use Rattle.build.proofs.Folding.{kind-is, kind-not, sum-left, sum-right, sum-sign, sum-is}
 use borrow.Author.Needs.{needs}

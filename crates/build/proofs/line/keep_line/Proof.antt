@@ -1,12 +1,6 @@
 -- `build::line::keep_line` meets its contract. Assumes nothing.
-use Prim.Native.Nat.{_-_, _<_}
 use native.Mathlib.Omega.{arith}
-use mathlib.Core.Path.{_≡_}
-use lib.ListN.{length}
-use Rattle.lines.specs.Words.{Holds}
-use Rattle.lines.specs.Lines.{part-of}
 use Rattle.lines.proofs.words.Lines.{count-below}
-use Rattle.build.specs.State.{Room, Laid}
 use Rattle.build.proofs.Adding.{part-length, added-kept}
 use borrow.Author.Needs.{needs}
 use Rattle.build.proofs.line.keep_line.Statement.{statement}

@@ -1,8 +1,4 @@
 -- `build::line::rewrite_line` meets its contract. Assumes nothing.
-use Prim.Native.Nat.{_-_, _<_}
-use native.Mathlib.Omega.{arith}
-use mathlib.Core.Path.{_≡_, _∙_}
-use lib.ListN.{length}
 use Rattle.lines.specs.Fams.{fam-text}
 use Rattle.lines.specs.Lines.{part-of}
 use Rattle.build.specs.Substitution.{right-of}

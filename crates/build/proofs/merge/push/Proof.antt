@@ -1,5 +1,4 @@
 -- `build::merge::push` meets its contract. Assumes nothing.
-use Prim.Native.Nat.{_≤_}
 use native.Mathlib.Omega.{arith}
 use native.Mathlib.Nat.{le-refl}
 use mathlib.Core.Path.{_≡_, sym, ap, _∙_}

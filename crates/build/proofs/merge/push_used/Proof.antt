@@ -1,8 +1,6 @@
 -- `build::merge::push_used` meets its contract. Assumes nothing.
-use mathlib.Core.Path.{_≡_, refl}
 use borrow.Author.Tests.{not-true, not-false}
 use Rattle.lines.specs.Words.{token-of}
-use Rattle.build.specs.State.{Ready, Pushed}
 use Rattle.build.proofs.Substituting.{used-kept, used-bracketed, used-plain}
 use borrow.Author.Needs.{needs}
 use Rattle.build.proofs.merge.push_used.Statement.{statement}
