@@ -86,6 +86,8 @@ module _ (ts : List Token) (fam : Text) (vs : List Text) {x : Bool} (ex : x ≡ 
         unfolding touch-of if_then_else_ _&&_
         touch-kept f = rw (← ex, fx, ← en, le-ltb 0 n zn, ← ec, tc, ← ev, f)
 
+pub ruleset touching = (touch-kill, touch-use, touch-plain, touch-call, touch-kept)
+
 -- ---- what a touch is
 
 module _ (r : Touched) {t : Touch} (h : touched r ≡ t) where

@@ -76,7 +76,7 @@ pub fn while_passes<'a>(
     }
     let indent = words::indent(l);
     let Found::At(d) = do_before(tape, area, tokens, &lines[..w], indent) else {
-        return false;
+        return false; // a loop whose head is not known
     };
     if start <= d {
         return true;
@@ -95,6 +95,14 @@ fn is_named<'a>(tape: &'a [u8], area: &'a [u8], tokens: &'a [u64], l: u64, w: u6
     text::same(words::text(tape, area, line[0]), words::text(tape, area, w))
 }
 
+// The line of label n.
+fn place_at(labels: &[u64], n: usize) -> usize
+    requires { ⌜ n < length (now labels) ⌝ }
+    ensures { λ r. ⌜ r ≡ getD (now (labels .entry)) n 0 ⌝ }
+{
+    labels[n] as usize
+}
+
 // The line of the label with the name that the token word w has for its text; of equal names the last.
 fn label_named<'a>(
     tape: &'a [u8],
@@ -110,7 +118,7 @@ fn label_named<'a>(
     let mut n = labels.len();
     while 0 < n {
         n -= 1;
-        let at = labels[n] as usize;
+        let at = place_at(labels, n);
         if is_named(tape, area, tokens, lines[at], w) {
             return Found::At(at);
         }
