@@ -6,20 +6,20 @@ use mathlib.Core.Path.{_≡_, refl, sym, ap, _∙_}
 use mathlib.Core.Bool.{Bool, true, false, false≢true}
 use mathlib.Core.List.{List, [], _∷_, _++_, map, map-append}
 use mathlib.Core.Option.{Option, none, some}
-use lib.Dec.{eqb, leb, ltb}
+use lib.Dec.{leb, ltb}
 use lib.ListN.{length, getD, take, drop, length-map}
 use lib.Seq.{take-suc, take-length, length-take-le}
 use borrow.Author.Tests.{le-leb, lt-leb, lt-ltb, le-ltb, eq-eqb, ne-eqb}
 use Rattle.reference.specs.Control.{not, _&&_, if_then_else_, let-some_else_then_}
 use Rattle.reference.specs.Lists.{position, last-position, find, get}
 use Rattle.reference.specs.Text.{Text, bytes, _==_}
-use Rattle.reference.specs.Listing.{Token, is, Symbol, Line, Listing, blank, _at_}
+use Rattle.reference.specs.Listing.{is, Symbol, Line, Listing, _at_}
 use Rattle.reference.specs.Shapes.{is-kw, kw-in, is-label, label-tokens}
 use Rattle.reference.specs.Join.{text-or-empty}
 use Rattle.reference.specs.Life.{Labels, lookup, touch-of, is-use, is-do, goto-target, rerun-kills, while-passes, goto-passes}
 use Rattle.laws.proofs.Scans.{if-true, if-false}
 use Rattle.joining.specs.Places.{label-at, labels-at, Labelled}
-use Rattle.joining.proofs.Labels.{label-inside, lookup-begin, lookup-hit, lookup-miss, lookup-end}
+use Rattle.joining.proofs.Labels.{label-inside, lookup-hit, lookup-miss, lookup-end}
 use Rattle.lines.specs.Words.{text-of, token-of, tokens-of}
 use Rattle.lines.specs.Lines.{indent-of, part-of, bare-in, bare-listing}
 use Rattle.lines.specs.Shapes.{found, symbol-from}

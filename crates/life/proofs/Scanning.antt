@@ -1,13 +1,12 @@
 -- `killed-first` and `dead-from`, line by line: what one line decides, and the turns of the loops over the lines. Assumes nothing.
 use Prim.Native.Nat.{ℕ, suc, _+_, _-_, _≤_, _<_}
 use native.Mathlib.Numerals.{add-one}
-use native.Mathlib.Omega.{arith}
-use mathlib.Core.Path.{_≡_, refl, sym, ap, _∙_}
+use mathlib.Core.Path.{_≡_, refl, sym, _∙_}
 use mathlib.Core.Bool.{Bool, true, false}
-use mathlib.Core.List.{List, [], _∷_, map}
+use mathlib.Core.List.{List, _∷_}
 use lib.Dec.{leb}
 use lib.ListN.{length, getD, take, drop, drop-of-length-le}
-use lib.Seq.{drop-cons, slice}
+use lib.Seq.{drop-cons}
 use borrow.Author.Tests.{le-leb, lt-leb}
 use Rattle.reference.specs.Control.{_&&_, if_then_else_}
 use Rattle.reference.specs.Text.{Text, bytes}
