@@ -28,7 +28,10 @@ use Rattle.build.proofs.Pushes.{pushed-none, tokens-more, tokens-split}
 
 module _ (tape area : Text) (source : List ℕ) (j : Substitution) where
   -- what a call answered of the token
-  module _ (t : Token) {x : Bool} (e : x ≡ of-family (fam-text tape area (j .family)) t) where
+  module _ (w : ℕ) {x : Bool} (e : x ≡ of-family (fam-text tape area (j .family)) (token-of tape area w)) where
+    abbrev t : Token
+    t = token-of tape area w
+
     pub used-kept : x ≡ false → used-as tape area source j t ≡ t ∷ []
     unfolding used-as
     used-kept h = if-false _ _ (sym e ∙ h)
