@@ -1,8 +1,10 @@
 -- `build::fold::sum_of` meets its contract. Assumes nothing.
 use mathlib.Core.Path.{_∙_}
 use borrow.Author.Tests.{not-true, not-false}
+use Rattle.reference.specs.Listing.{Number}
 use Rattle.lines.specs.Words.{token-of}
-use Rattle.build.proofs.Folding.{kind-is, kind-not, sum-left, sum-right, sum-sign, sum-is}
+use Rattle.lines.proofs.shapes.Tests.{is-it, is-not}
+use Rattle.build.proofs.Folding.{sum-left, sum-right, sum-sign, sum-is}
 use borrow.Author.Needs.{needs}
 use Rattle.build.proofs.fold.sum_of.Statement.{statement}
 use Rattle.build.proofs.fold.sum_of.Tie as tie
@@ -13,7 +15,7 @@ kind-requires c κs = search needs
 returns : tie.Need-returns
 returns c =
     let a = c .before .before .before .before .args in
-    sum-left _ _ _ (kind-not (token-of (a .tape .now) (a .area .now) (a .left)) (c .before .kind .ensures) (c .if1 .taken))
+    sum-left _ _ _ (is-not (token-of (a .tape .now) (a .area .now) (a .left)) Number (c .before .kind .ensures) (c .if1 .taken))
 
 kind-requires-2 : tie.Need-kind-requires-2
 kind-requires-2 c κs = search needs
@@ -24,7 +26,7 @@ returns-2 c =
     let kind = c .before .before .before .kind in
     let t = args .tape .now in
     let a = args .area .now in
-    sum-right _ _ _ (kind-is (token-of t a (args .left)) (kind .ensures) (c .before .before .if1 .left)) (kind-not (token-of t a (args .right)) (c .before .kind2 .ensures) (c .if2 .taken))
+    sum-right _ _ _ (is-it (token-of t a (args .left)) Number (kind .ensures) (c .before .before .if1 .left)) (is-not (token-of t a (args .right)) Number (c .before .kind2 .ensures) (c .if2 .taken))
 
 text-requires : tie.Need-text-requires
 text-requires c κs = search needs
@@ -41,7 +43,7 @@ returns-3 c =
     let if2 = c .before .before .before .if2 in
     let t = args .tape .now in
     let a = args .area .now in
-    sum-sign _ _ _ (kind-is (token-of t a (args .left)) (kind .ensures) (if1 .left)) (kind-is (token-of t a (args .right)) (kind2 .ensures) (if2 .left)) (rw (c .before .before .text .ensures) at (c .before .is-sign .ensures)) (not-true _ (c .if3 .taken))
+    sum-sign _ _ _ (is-it (token-of t a (args .left)) Number (kind .ensures) (if1 .left)) (is-it (token-of t a (args .right)) Number (kind2 .ensures) (if2 .left)) (rw (c .before .before .text .ensures) at (c .before .is-sign .ensures)) (not-true _ (c .if3 .taken))
 
 is-plus-requires : tie.Need-is-plus-requires
 is-plus-requires c κs = search needs
@@ -77,7 +79,7 @@ returns-4 c =
     let t = args .tape .now in
     let a = args .area .now in
     c .operate .ensures ∙ rw (is-plus .ensures, parse-c-number .ensures, c .before .parse-c-number2 .ensures, text .ensures, text2 .ensures, c .before .before .text3 .ensures)
-    (sum-is _ _ _ (kind-is (token-of t a (args .left)) (kind .ensures) (if1 .left)) (kind-is (token-of t a (args .right)) (kind2 .ensures) (if2 .left)) (rw (text .ensures) at (is-sign .ensures)) (not-false _ (if3 .left)))
+    (sum-is _ _ _ (is-it (token-of t a (args .left)) Number (kind .ensures) (if1 .left)) (is-it (token-of t a (args .right)) Number (kind2 .ensures) (if2 .left)) (rw (text .ensures) at (is-sign .ensures)) (not-false _ (if3 .left)))
 
 pub sum-of-spec : {M : Type 1} → statement M
 sum-of-spec =
