@@ -1,3 +1,4 @@
+-- What the code's values mean: token words, line words and listings, settings, answers on shapes, families.
 pub mod Words
 pub mod Lines
 pub mod Rules

@@ -3,7 +3,7 @@ use Prim.Native.Nat.{ℕ, _≤_, _<_}
 use native.Mathlib.Omega.{arith}
 use mathlib.Core.Path.{_≡_, refl, sym, ap, _∙_}
 use mathlib.Core.Bool.{Bool, true, false}
-use mathlib.Core.Option.{Option, none}
+use mathlib.Core.Option.{Option, none, some}
 use lib.Dec.{eqb}
 use lib.ListN.{length, take}
 use borrow.Author.Tests.{eq-eqb, ne-eqb, lt-ltb, le-ltb}
@@ -72,7 +72,18 @@ same-as e = cc
 never-as : {f : Fam} {k : ℕ} {X : Type 0} → Nothing ≡ As f k → X
 never-as e = absurd (let z : _≡_ {A = ℕ} 0 1 = cc in omega arith)
 
-pub no-name : (tape area : Text) → Names tape area none Nothing
+-- what a caller knows of the answer
+module _ {tape area : Text} {o : Option N.Fam} {r : Named} (h : Names tape area o r) where
+  pub named-as : {f : Fam} {k : ℕ} → r ≡ As f k → o ≡ some (record { name = fam-text tape area f; width = k })
+  named-as e = rw (← h .is, e)
+
+  pub named-not : r ≡ Nothing → o ≡ none
+  named-not e = rw (← h .is, e)
+
+  pub as-known : {f : Fam} {k : ℕ} → r ≡ As f k → Known tape area f
+  as-known {f} {k} e = h .known f k e
+
+no-name : (tape area : Text) → Names tape area none Nothing
 no-name tape area = record { is = refl; known = λ f k e. never-as e }
 
 -- s is the token's text, q what its bytes say
@@ -119,9 +130,6 @@ and-false : (a : Bool) → (a && false) ≡ false
 unfolding _&&_
 and-false true = refl
 and-false false = refl
-
-pub as-known : {tape area : Text} {o : Option N.Fam} {r : Named} {g : Fam} {k : ℕ} → Names tape area o r → r ≡ As g k → Known tape area g
-as-known {g = g} {k = k} h e = h .known g k e
 
 module _ (tape area : Text) (w : ℕ) {r : Named} (h : Names tape area (fam-of (token-of tape area w)) r) (fam : Text) where
   pub of-none : r ≡ Nothing → false ≡ of-family fam (token-of tape area w)

@@ -22,6 +22,12 @@ use Rattle.lines.proofs.words.Each.{map-drop}
 
 -- ---- whether there is a place
 
+pub found-is : {r : Found} {k : ℕ} {o : Option ℕ} → found r ≡ o → r ≡ At k → o ≡ some k
+found-is e a = rw (← e, a)
+
+pub found-not : {r : Found} {o : Option ℕ} → found r ≡ o → r ≡ Nothing → o ≡ none
+found-not e a = rw (← e, a)
+
 pub found-some : {r : Found} {k : ℕ} {o : Option ℕ} → found r ≡ o → r ≡ At k → true ≡ is-some o
 found-some e a = rw (← e, a)
 

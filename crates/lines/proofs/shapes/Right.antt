@@ -1,4 +1,4 @@
--- The right side of an assignment as words: the line without its ` = `, the last word without its `;`, and what `assignment-of` says of them.
+-- The right side of an assignment as words: the line without its ` = `, the last word without its last byte, and the words one by one.
 -- Assumes nothing.
 use Prim.Native.Nat.{ℕ, zero, suc, _+_, _-_, _≤_, _<_}
 use native.Mathlib.Omega.{arith}
@@ -102,11 +102,15 @@ module _ {ws : List ℕ} {x : Expr} (h : Expression ws x) where
     pub last-long : x .cut ≡ true → k + 1 ≡ x .count → 1 ≤ len-of (getD (opened ws) (x .first + k) 0)
     last-long c e = let q : x .first + x .count - 1 ≡ x .first + k = omega arith in rw q at (h .cut-is c)
 
+  -- the line has a token to assign to, and another
+  pub expr-long : 1 < length ws
+  expr-long = omega (arith, h .inside, h .first-is, h .some)
+
   pub expr-holds : {tape area : Text} → Holds tape area ws → Holds tape area (expr-words ws x)
   expr-holds {tape} {area} g = by-cut (x .cut) refl
     where
       base : Holds tape area part
-      base = holds-take (holds-drop (opened-holds g (omega (arith, h .inside, h .first-is, h .some)) (h .mark)) (x .first)) (x .count)
+      base = holds-take (holds-drop (opened-holds g expr-long (h .mark)) (x .first)) (x .count)
 
       by-cut : (b : Bool) → x .cut ≡ b → Holds tape area (expr-words ws x)
       by-cut true c =

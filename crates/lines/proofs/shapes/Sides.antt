@@ -1,16 +1,15 @@
--- `assignment-of` and `cut-semicolon` of the tokens that words mean, and what `right_side` and `assignment` answer in each of their cases.
--- Assumes nothing.
+-- What `right_side` and `assignment` answer in each of their cases, against `assignment-of`. Assumes nothing.
 use Prim.Native.Nat.{ℕ, suc, _+_, _-_, _≤_, _<_}
 use native.Mathlib.Omega.{arith}
 use native.Mathlib.Decide.{decLe}
 use mathlib.Core.Path.{_≡_, refl, sym, ap, _∙_}
 use mathlib.Core.Logic.{by-cases}
 use mathlib.Core.Bool.{Bool, true, false, false≢true}
-use mathlib.Core.List.{List, [], _∷_, _++_, dropLast, map-append, append-nil}
-use mathlib.Core.Option.{Option, none, some}
+use mathlib.Core.List.{List, [], _∷_, _++_}
+use mathlib.Core.Option.{none, some}
 use lib.Dec.{eqb}
 use lib.ListN.{length, getD, take, drop, length-drop, length-map, drop-of-length-le}
-use lib.Seq.{getD-drop, take-all, take-suc}
+use lib.Seq.{getD-drop, take-all}
 use borrow.Author.Tests.{not-true, not-false, eq-eqb, ne-eqb, eqb-true}
 use Rattle.reference.specs.Control.{if_then_else_, let-some_else_then_}
 use Rattle.reference.specs.Lists.{is-empty}
@@ -19,27 +18,16 @@ use Rattle.reference.specs.Listing.{Token, token, is, Punct}
 use Rattle.reference.specs.Shapes.{cut-semicolon, begins-assignment, right-side, assignment-of}
 use Rattle.reference.proofs.Cases.{both, true-false}
 use Rattle.laws.proofs.Scans.{if-true, if-false, starts-short}
-use Rattle.lines.specs.Words.{kind-of, len-of, without-first, without-last, text-of, token-of, tokens-of, Points, Holds}
+use Rattle.lines.specs.Words.{kind-of, len-of, without-first, text-of, token-of, tokens-of, Points, Holds}
 use Rattle.lines.specs.declared.shapes.Expr.{Expr}
 use Rattle.lines.specs.declared.shapes.Assigned.{Assigned}
 use Rattle.lines.specs.declared.shapes.Assigned.the-variants.{To, Nothing}
-use Rattle.lines.specs.Shapes.{opened, cut-last, expr-words, Expression, Opens, Sides, Assigns, sided}
-use Rattle.lines.proofs.words.Tokens.{text-length, without-first-means, first-bytes-means, holds-drop}
-use Rattle.lines.proofs.shapes.Right.{opened-length, opened-holds, cut-last-is, expr-length}
+use Rattle.lines.specs.Shapes.{opened, expr-words, Expression, Opens, Sides, Assigns, sided}
+use Rattle.lines.proofs.words.Tokens.{text-length, without-first-means, holds-drop}
+use Rattle.lines.proofs.shapes.Right.{opened-length, opened-holds, expr-length}
+use Rattle.lines.proofs.shapes.Cuts.{cut-open, cut-gone, cut-kept}
 
 -- ---- texts
-
-drop-last : (s : Text) → dropLast s ≡ take (length s - 1) s
-drop-last [] = refl
-drop-last (a ∷ []) = refl
-drop-last (a ∷ b ∷ s) =
-    let e : length (a ∷ b ∷ s) - 1 ≡ suc (length (b ∷ s) - 1) = omega arith in
-    rw e (ap (λ (l : Text). a ∷ l) (drop-last (b ∷ s)))
-
-empty-one : (s : Text) → ends-with s (bytes ";") ≡ true → is-empty (dropLast s) ≡ eqb (length s) 1
-empty-one [] h = absurd (false≢true h)
-empty-one (a ∷ []) h = refl
-empty-one (a ∷ b ∷ s) h = sym (ne-eqb (length (a ∷ b ∷ s)) 1 (λ f. omega arith))
 
 empty-three : (s : Text) → 3 ≤ length s → is-empty (drop 3 s) ≡ eqb (length s) 3
 empty-three [] h = absurd (omega arith)
@@ -54,73 +42,6 @@ ends-some (a ∷ s) e = omega arith
 
 starts-three : (s : Text) → starts-with s (bytes " = ") ≡ true → 3 ≤ length s
 starts-three s e = by-cases (decLe 3 (length s)) (λ h. h) (λ n. absurd (true-false e (starts-short s (bytes " = ") (omega (arith, n)))))
-
--- ---- the last token without its `;`
-
--- the cut goes by the last token alone
-cut-more : (x y : Token) (ts : List Token) → cut-semicolon (x ∷ y ∷ ts) ≡ (let-some (cut-semicolon (y ∷ ts)) else none then λ r. some (x ∷ r))
-unfolding cut-semicolon
-cut-more x y ts = refl
-
-after : List Token → Option (List Token) → Option (List Token)
-after front o = let-some o else none then λ r. some (front ++ r)
-
-after-none : (o : Option (List Token)) → o ≡ after [] o
-unfolding after let-some_else_then_
-after-none none = refl
-after-none (some r) = refl
-
-after-more : (x : Token) (front : List Token) (o : Option (List Token)) → (let-some (after front o) else none then λ r. some (x ∷ r)) ≡ after (x ∷ front) o
-unfolding after let-some_else_then_
-after-more x front none = refl
-after-more x front (some r) = refl
-
-cut-after : (front : List Token) (t : Token) → cut-semicolon (front ++ (t ∷ [])) ≡ after front (cut-semicolon (t ∷ []))
-cut-after [] t = after-none (cut-semicolon (t ∷ []))
-cut-after (x ∷ front) t = more front (cut-after front t) ∙ after-more x front (cut-semicolon (t ∷ []))
-  where
-    more : (f : List Token) {o : Option (List Token)} → cut-semicolon (f ++ (t ∷ [])) ≡ o → cut-semicolon (x ∷ f ++ (t ∷ [])) ≡ (let-some o else none then λ r. some (x ∷ r))
-    more [] e = cut-more x t [] ∙ rw e
-    more (y ∷ f) e = cut-more x y (f ++ (t ∷ [])) ∙ rw e
-
-last-split : (n : ℕ) (ws : List ℕ) → length ws ≡ suc n → ws ≡ take n ws ++ (getD ws n 0 ∷ [])
-last-split n ws e = sym (take-all (suc n) ws (omega arith)) ∙ take-suc ws n 0 (omega arith)
-
-module _ (tape area : Text) where
-  -- one token that ends so, by its length
-  one-cut : (w : ℕ) → Points tape area w → ends-with (text-of tape area w) (bytes ";") ≡ true
-      → cut-semicolon (token-of tape area w ∷ []) ≡ some (if eqb (len-of w) 1 then [] else token-of tape area (without-last w) ∷ [])
-  unfolding cut-semicolon
-  one-cut w p e =
-      if-true _ _ e
-      ∙ rw (empty-one (text-of tape area w) e, text-length p, drop-last (text-of tape area w), text-length p, first-bytes-means tape area w (len-of w - 1) p (omega arith))
-
-  one-open : (w : ℕ) → ends-with (text-of tape area w) (bytes ";") ≡ false → cut-semicolon (token-of tape area w ∷ []) ≡ none
-  unfolding cut-semicolon
-  one-open w e = if-false _ _ e
-
-  module _ (n : ℕ) (ws : List ℕ) (size : length ws ≡ suc n) where
-    split : cut-semicolon (tokens-of tape area ws) ≡ after (tokens-of tape area (take n ws)) (cut-semicolon (token-of tape area (getD ws n 0) ∷ []))
-    split =
-        ap (λ (l : List ℕ). cut-semicolon (tokens-of tape area l)) (last-split n ws size)
-        ∙ ap cut-semicolon (map-append (token-of tape area) (take n ws) (getD ws n 0 ∷ []))
-        ∙ cut-after (tokens-of tape area (take n ws)) (token-of tape area (getD ws n 0))
-
-    pub cut-open : ends-with (text-of tape area (getD ws n 0)) (bytes ";") ≡ false → cut-semicolon (tokens-of tape area ws) ≡ none
-    unfolding after let-some_else_then_
-    cut-open e = split ∙ rw (one-open (getD ws n 0) e)
-
-    module _ (h : Holds tape area ws) (e : ends-with (text-of tape area (getD ws n 0)) (bytes ";") ≡ true) where
-      cut : cut-semicolon (tokens-of tape area ws)
-          ≡ some (tokens-of tape area (take n ws) ++ (if eqb (len-of (getD ws n 0)) 1 then [] else token-of tape area (without-last (getD ws n 0)) ∷ []))
-      unfolding after let-some_else_then_
-      cut = split ∙ rw (one-cut (getD ws n 0) (h .at n (omega arith)) e)
-
-      pub cut-gone : len-of (getD ws n 0) ≡ 1 → cut-semicolon (tokens-of tape area ws) ≡ some (tokens-of tape area (take n ws))
-      cut-gone f = cut ∙ ap some (rw (if-true _ _ (eq-eqb _ _ f)) (append-nil (tokens-of tape area (take n ws))))
-
-      pub cut-kept : (len-of (getD ws n 0) ≡ 1 → ⊥) → cut-semicolon (tokens-of tape area ws) ≡ some (tokens-of tape area (cut-last ws))
-      cut-kept f = cut ∙ ap some (rw (if-false _ _ (ne-eqb _ _ f), cut-last-is n ws size) (sym (map-append (token-of tape area) (take n ws) (without-last (getD ws n 0) ∷ []))))
 
 -- ---- the cases of `right_side`
 
@@ -286,6 +207,17 @@ module _ {tape area : Text} {ws : List ℕ} (h : Holds tape area ws) where
 
         pub assigned-rest : (n ≡ 3 → ⊥) → Sides tape area ws 1 r → Assigns tape area ws r
         assigned-rest e s = from-side s (if-false _ _ (ne-eqb _ _ (λ q. e (en ∙ q))))
+
+-- what a caller knows of the answer
+pub assigned-to : {tape area : Text} {ws : List ℕ} {r : Assigned} {x : Expr} → Assigns tape area ws r → r ≡ To x
+    → assignment-of (tokens-of tape area ws) ≡ some (record { lhs = token-of tape area (getD ws 0 0); expr = tokens-of tape area (expr-words ws x) })
+assigned-to h e = rw (← h .is, e)
+
+pub assigned-not : {tape area : Text} {ws : List ℕ} {r : Assigned} → Assigns tape area ws r → r ≡ Nothing → assignment-of (tokens-of tape area ws) ≡ none
+assigned-not h e = rw (← h .is, e)
+
+pub assigned-side : {tape area : Text} {ws : List ℕ} {r : Assigned} {x : Expr} → Assigns tape area ws r → r ≡ To x → Expression ws x
+assigned-side {x = x} h e = h .side x e
 
 -- `search (needs, sides)` proves what `right_side` and `assignment` leave
 pub ruleset sides = (not-true, not-false, side-empty, last-points, side-open, side-kept, side-only, side-gone, opens, assigned-short, assigned-other, assigned-next, assigned-rest)

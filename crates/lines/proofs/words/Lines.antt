@@ -14,9 +14,9 @@ use Rattle.reference.specs.Text.{Text}
 use Rattle.reference.specs.Listing.{_at_, with-tokens}
 use Rattle.laws.proofs.Parts.{part-below}
 use Rattle.lines.specs.Words.{tokens-of, Holds}
-use Rattle.lines.specs.Lines.{first-of, count-of, indent-of, addressed-of, origin-of, line-word, with-part, part-of, address-in, line-in, listing-of, bare, bare-listing, Lined, Listed}
+use Rattle.lines.specs.Lines.{first-of, count-of, indent-of, addressed-of, origin-of, line-word, with-part, part-of, address-in, line-in, listing-of, bare, bare-in, bare-listing, Lined, Listed}
 use Rattle.lines.proofs.words.Each.{each-none, each-one, each-take, each-drop, each-append, each-set, each-remove, map-at, map-same}
-use Rattle.lines.proofs.words.Tokens.{holds-take, holds-drop, holds-prefix, tokens-prefix}
+use Rattle.lines.proofs.words.Tokens.{holds-take, holds-drop, holds-prefix, tokens-prefix, holds-length}
 
 pub first-below : (l : ℕ) → first-of l < 65536
 unfolding first-of
@@ -102,6 +102,9 @@ module _ (tape area : Text) (tokens addresses lines : List ℕ) where
   pub bare-means : bare-listing tape area tokens lines ≡ map bare (listing-of tape area tokens addresses lines)
   bare-means = sym (map-map bare (line-in tape area tokens addresses) lines)
 
+  pub bare-at : (k : ℕ) → k < length lines → bare-listing tape area tokens lines at k ≡ bare-in tape area tokens (getD lines k 0)
+  bare-at k h = map-at (bare-in tape area tokens) lines k _ h
+
 -- ---- lists of lines
 
 pub listed-at : {tape area : Text} {tokens lines : List ℕ} (k : ℕ) → Listed tape area tokens lines → k < length lines → Lined tape area tokens (getD lines k 0)
@@ -149,6 +152,13 @@ module _ {tape : Text} (m : ℕ) (area : Text) (n : ℕ) (tokens : List ℕ) {li
       map-same (line-in tape (take m area) (take n tokens) addresses) (line-in tape area tokens addresses) lines
       (λ k b. line-prefix m area n tokens (h .at k b) addresses)
 
+  pub bare-prefix : Listed tape (take m area) (take n tokens) lines
+      → bare-listing tape (take m area) (take n tokens) lines ≡ bare-listing tape area tokens lines
+  bare-prefix h =
+      bare-means tape (take m area) (take n tokens) [] lines
+      ∙ ap (map bare) (listing-prefix [] h)
+      ∙ sym (bare-means tape area tokens [] lines)
+
 -- nothing but the used parts matters
 pub listing-same : {tape : Text} (m : ℕ) (area area′ : Text) (n : ℕ) (tokens tokens′ addresses : List ℕ) {lines : List ℕ}
     → Listed tape (take m area) (take n tokens) lines → take m area ≡ take m area′ → take n tokens ≡ take n tokens′
@@ -168,3 +178,7 @@ module _ {tape used : Text} {tokens : List ℕ} (more : Text) (next : List ℕ) 
   pub listing-grows : (addresses : List ℕ) → listing-of tape (used ++ more) (tokens ++ next) addresses lines ≡ listing-of tape used tokens addresses lines
   listing-grows addresses =
       sym (listing-prefix (length used) (used ++ more) (length tokens) (tokens ++ next) addresses in-front) ∙ rw (take-append-seam, take-append-seam)
+
+-- what stands in the area does not matter for where words point
+pub listed-length : {tape area : Text} (area′ : Text) {tokens lines : List ℕ} → length area ≡ length area′ → Listed tape area tokens lines → Listed tape area′ tokens lines
+listed-length area′ e h = record { at = λ k b. record { inside = h .at k b .inside; holds = holds-length area′ e (h .at k b .holds) } }

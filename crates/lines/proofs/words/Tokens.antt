@@ -133,12 +133,9 @@ module _ {tape area : Text} {ws : List ℕ} (h : Holds tape area ws) where
 
 -- a part of the first n bytes of the area is the same part of the area
 module _ {tape : Text} (n : ℕ) (area : Text) {w : ℕ} (h : Points tape (take n area) w) where
-  by-source : {A : Type 0} → (place-of w ≡ 0 → A) → ((place-of w ≡ 0 → ⊥) → A) → A
-  by-source f g = by-cases (ℕ-discrete (place-of w) 0) f g
-
   pub points-prefix : Points tape area w
   points-prefix = record {
-    inside = by-source
+    inside = by-cases (ℕ-discrete (place-of w) 0)
         (λ e. rw (in-tape tape area e) (rw (in-tape tape (take n area) e) at (h .inside)))
         (λ e. rw (in-area tape area e) (omega (arith, h .inside, ap length (in-area tape (take n area) e), length-take n area)));
     short = h .short;
@@ -146,7 +143,7 @@ module _ {tape : Text} (n : ℕ) (area : Text) {w : ℕ} (h : Points tape (take 
 
   pub text-prefix : text-of tape (take n area) w ≡ text-of tape area w
   unfolding text-of
-  text-prefix = by-source
+  text-prefix = by-cases (ℕ-discrete (place-of w) 0)
       (λ e. rw (in-tape tape area e, in-tape tape (take n area) e))
       (λ e.
       let b : start-of w + len-of w ≤ n = omega (arith, h .inside, ap length (in-area tape (take n area) e), length-take n area) in
@@ -159,19 +156,40 @@ module _ {tape : Text} (n : ℕ) (area : Text) {ws : List ℕ} (h : Holds tape (
   pub tokens-prefix : tokens-of tape (take n area) ws ≡ tokens-of tape area ws
   tokens-prefix = map-same (token-of tape (take n area)) (token-of tape area) ws (λ k l. ap (token (kind-of (getD ws k 0))) (text-prefix n area (h .at k l)))
 
-  -- nothing but the used part matters
-  pub tokens-same : (area′ : Text) → take n area ≡ take n area′ → tokens-of tape area ws ≡ tokens-of tape area′ ws
-  tokens-same area′ e =
-      sym tokens-prefix ∙ ap (λ (a : Text). tokens-of tape a ws) e
-      ∙ map-same (token-of tape (take n area′)) (token-of tape area′) ws (λ k l. ap (token (kind-of (getD ws k 0))) (text-prefix n area′ (rw e at (h .at k l))))
+-- nothing but the used part matters
+pub tokens-same : {tape : Text} (n : ℕ) (area area′ : Text) {ws : List ℕ} → Holds tape (take n area) ws → take n area ≡ take n area′
+    → tokens-of tape area ws ≡ tokens-of tape area′ ws
+tokens-same n area area′ h e = sym (tokens-prefix n area h) ∙ rw e (tokens-prefix n area′ (rw e at h))
 
 -- the area grows beyond its used part
+module _ {tape used : Text} (more : Text) {w : ℕ} (h : Points tape used w) where
+  word-front : Points tape (take (length used) (used ++ more)) w
+  word-front = rw take-append-seam h
+
+  pub points-grows : Points tape (used ++ more) w
+  points-grows = points-prefix (length used) (used ++ more) word-front
+
+  pub text-grows : text-of tape (used ++ more) w ≡ text-of tape used w
+  text-grows = sym (text-prefix (length used) (used ++ more) word-front) ∙ rw take-append-seam
+
 module _ {tape used : Text} (more : Text) {ws : List ℕ} (h : Holds tape used ws) where
-  in-front : Holds tape (take (length used) (used ++ more)) ws
-  in-front = rw take-append-seam h
+  words-front : Holds tape (take (length used) (used ++ more)) ws
+  words-front = rw take-append-seam h
 
   pub holds-grows : Holds tape (used ++ more) ws
-  holds-grows = holds-prefix (length used) (used ++ more) in-front
+  holds-grows = holds-prefix (length used) (used ++ more) words-front
 
   pub tokens-grow : tokens-of tape (used ++ more) ws ≡ tokens-of tape used ws
-  tokens-grow = sym (tokens-prefix (length used) (used ++ more) in-front) ∙ rw take-append-seam
+  tokens-grow = sym (tokens-prefix (length used) (used ++ more) words-front) ∙ rw take-append-seam
+
+-- what stands in the area does not matter for where words point
+pub points-length : {tape area : Text} (area′ : Text) {w : ℕ} → length area ≡ length area′ → Points tape area w → Points tape area′ w
+points-length {tape} {area} area′ {w} e h = record {
+  inside = by-cases (ℕ-discrete (place-of w) 0)
+      (λ z. rw (in-tape tape area′ z) (rw (in-tape tape area z) at (h .inside)))
+      (λ z. rw (in-area tape area′ z) (omega (arith, h .inside, ap length (in-area tape area z))));
+  short = h .short;
+}
+
+pub holds-length : {tape area : Text} (area′ : Text) {ws : List ℕ} → length area ≡ length area′ → Holds tape area ws → Holds tape area′ ws
+holds-length area′ e h = record { at = λ k l. points-length area′ e (h .at k l) }

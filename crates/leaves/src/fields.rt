@@ -1,0 +1,34 @@
+// Parts of a text between separators.
+ghost use Prim.Native.Nat.{_-_, _≤_};
+ghost use lib.ListN.{length};
+
+// The place of the first b; the text's length where there is none.
+fn find(s: &[u8], b: u8) -> usize
+    ensures { λ r. ⌜ r ≤ length (now (s .entry)) ⌝ }
+{
+    let mut i = 0;
+    while i < s.len() {
+        if s[i] == b {
+            return i;
+        }
+        i += 1;
+    }
+    i
+}
+
+// What stands before the first b; all where there is none.
+pub fn before(s: &[u8], b: u8) -> &[u8] {
+    let n = find(s, b);
+    &s[0..n]
+}
+
+// What stands behind the first b; nothing where there is none.
+pub fn behind(s: &[u8], b: u8) -> &[u8]
+    ensures { λ r. ⌜ length (now r) ≤ length (now (s .entry)) - 1 ⌝ }
+{
+    let n = find(s, b);
+    if n == s.len() {
+        return &s[n..];
+    }
+    &s[n + 1..]
+}

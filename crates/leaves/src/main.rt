@@ -1,0 +1,61 @@
+// Asks the crates `names` and `numbers` the questions of standard input, one a line, each with the Rust's answer behind it (tests/leaves). Prints each
+// line whose answer is another here, with that answer, and last how many lines there were and how many differ. Input past 65,536 bytes is not read.
+mod answers; // the questions, and what this repository answers
+mod fields; // parts of a text between separators
+
+use answers::expected;
+use answers::put_answer;
+use fields::before;
+use fields::behind;
+ghost use Prim.Native.Nat.{_≤_};
+ghost use lib.ListN.{length};
+
+fn print(s: &[u8]) {
+    io::write_all(libc::STDOUT_FILENO, s);
+}
+
+// Whether the answer is the one on the line; prints both where it is not.
+fn agrees(line: &[u8], out: &mut [u8]) -> bool
+    requires { ⌜ 19 ≤ length (now out) ⌝ }
+{
+    let n = put_answer(line, out);
+    if text::same(expected(line), &out[0..n]) {
+        return true;
+    }
+    print(line);
+    print(b" but here ");
+    print(&out[0..n]);
+    print(b"\n");
+    false
+}
+
+fn report(lines: u64, differing: u64) {
+    io::print_decimal(libc::STDOUT_FILENO, lines);
+    print(b" vectors, ");
+    io::print_decimal(libc::STDOUT_FILENO, differing);
+    print(b" differ\n");
+}
+
+fn run(input: &[u8], out: &mut [u8])
+    requires { ⌜ 19 ≤ length (now out) ⌝ }
+{
+    let mut left = input;
+    let mut lines = 0;
+    let mut differing = 0;
+    while 0 < left.len() {
+        if !agrees(before(left, b'\n'), out) {
+            differing += 1;
+        }
+        lines += 1;
+        let next = behind(left, b'\n');
+        left = next;
+    }
+    report(lines, differing);
+}
+
+fn main() {
+    let mut input = io::large_buffer();
+    let n = io::read_full(libc::STDIN_FILENO, &mut input);
+    let mut out = io::buffer();
+    run(&input[..n], &mut out);
+}

@@ -1,0 +1,76 @@
+-- `life::dead::dead_after` meets its contract. Assumes nothing.
+use Prim.Native.Nat.{_-_}
+use mathlib.Core.Path.{_≡_}
+use lib.ListN.{length}
+use borrow.Author.Needs.{needs}
+use Rattle.reference.specs.Life.{dead-after}
+use Rattle.reference.specs.Rules.{volatile}
+use Rattle.joining.specs.Places.{labels-at}
+use Rattle.lines.specs.Fams.{fam-text}
+use Rattle.lines.specs.Lines.{bare-listing}
+use Rattle.lines.specs.Rules.{rules-of}
+use Rattle.life.proofs.Scanning.{dead-rest, dead-begin, dead-dead, dead-live, dead-open, dead-end}
+use Rattle.life.proofs.dead.dead_after.Statement.{statement}
+use Rattle.life.proofs.dead.dead_after.Tie as tie
+
+abbrev Inv-loop : tie.InvT-loop
+Inv-loop tape area tokens lines labels from f base-indent start rules w₀ w = dead-after (bare-listing tape area tokens lines) from (fam-text tape area f) base-indent (labels-at (bare-listing tape area tokens lines) labels) start (volatile (rules-of rules))
+    ≡ dead-rest tape area tokens lines (fam-text tape area f) base-indent (labels-at (bare-listing tape area tokens lines) labels) start (volatile (rules-of rules)) w
+
+abbrev μ-loop : tie.MeasureT-loop
+μ-loop tape area tokens lines labels from f base-indent start rules w₀ w = length lines - w
+
+add-w : tie.Need-add-w Inv-loop μ-loop
+add-w c = search needs
+
+loop-holds : tie.Need-loop-holds Inv-loop μ-loop
+loop-holds c = dead-begin _ _ _ (c .before .before .before .before .before .args .lines .now) _ _ _ _ _ (c .before .before .before .before .before .args .from)
+
+fate-after-requires : tie.Need-fate-after-requires Inv-loop μ-loop
+fate-after-requires c κs = (c .before .before .before .before .before .before .before .pre .0, c .before .before .before .before .before .before .before .pre .1, c .before .before .before .before .before .before .before .pre .2, search needs, c .before .before .before .before .before .before .before .pre .4)
+
+enum-told : tie.Need-enum-told Inv-loop μ-loop
+enum-told c = search needs
+
+returns : tie.Need-returns Inv-loop μ-loop
+returns c = search (needs, dead-dead)
+
+enum-told-2 : tie.Need-enum-told-2 Inv-loop μ-loop
+enum-told-2 c = search needs
+
+returns-2 : tie.Need-returns-2 Inv-loop μ-loop
+returns-2 c = search (needs, dead-live)
+
+enum-told-3 : tie.Need-enum-told-3 Inv-loop μ-loop
+enum-told-3 c = search needs
+
+add-w-2 : tie.Need-add-w-2 Inv-loop μ-loop
+add-w-2 c = search needs
+
+loop-less : tie.Need-loop-less Inv-loop μ-loop
+loop-less c = search needs
+
+loop-again : tie.Need-loop-again Inv-loop μ-loop
+loop-again c = search (needs, dead-open)
+
+returns-3 : tie.Need-returns-3 Inv-loop μ-loop
+returns-3 c = search (needs, dead-end)
+
+pub dead-after-spec : {M : Type 1} → statement M
+dead-after-spec =
+    tie.close
+    (tie.spec
+    Inv-loop
+    μ-loop
+    add-w
+    loop-holds
+    fate-after-requires
+    enum-told
+    returns
+    enum-told-2
+    returns-2
+    enum-told-3
+    add-w-2
+    loop-less
+    loop-again
+    returns-3)

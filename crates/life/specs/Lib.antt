@@ -1,0 +1,4 @@
+pub mod Touches
+pub mod Fates
+pub mod Jumps
+pub mod Labels

@@ -1,0 +1,5 @@
+pub mod Definitions
+pub mod Slots
+pub mod Reaches
+pub mod Uses
+pub mod Plans

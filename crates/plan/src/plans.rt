@@ -1,0 +1,238 @@
+// The plan of an attempt: `propagate_constant` and `try_at` of the Rust, up to where they change the listing.
+use crate::definitions::Defined;
+use crate::definitions::Definition;
+use crate::definitions::definition_of;
+use crate::reaches;
+use crate::slots::is_addressed;
+use crate::uses;
+use life::dead::dead_after;
+use lines::fams;
+use lines::fams::Fam;
+use lines::rules::Rules;
+use lines::shapes;
+use lines::shapes::Expr;
+use lines::shapes::Found;
+use lines::words;
+ghost use mathlib.Core.Path.{_≡_};
+ghost use Prim.Native.Nat.{_<_};
+ghost use lib.ListN.{length, getD};
+ghost use Rattle.reference.specs.Rules.{volatile};
+ghost use Rattle.joining.specs.Places.{labels-at, Labelled};
+ghost use Rattle.joining.specs.Plan.{wants-brackets, plan-constant, plan-use, plan-single, plan-for, decide};
+ghost use Rattle.lines.specs.Words.{tokens-of, Holds};
+ghost use Rattle.lines.specs.Lines.{part-of, bare-listing, Listed};
+ghost use Rattle.lines.specs.Rules.{rules-of};
+ghost use Rattle.lines.specs.Shapes.{expr-words, Expression};
+ghost use Rattle.plan.specs.Definitions.{definition-in, Sound};
+ghost use Rattle.plan.specs.Slots.{slot-names, Slotted};
+ghost use Rattle.plan.specs.Plans.{plan-among, Plans};
+
+// The right side of line `line` takes the place of each token of the family in each line after it, up to line `last`, that uses the family,
+// in brackets or without; and the line is removed. (Where the right side is not a constant, that is one token in one line.)
+pub struct Join {
+    pub line: usize,
+    pub last: usize,
+    pub brackets: bool,
+    pub family: Fam,
+    pub expr: Expr,
+}
+
+pub enum Plan {
+    Do(Join),
+    Nothing,
+}
+
+// The joining of the definition d of line i into its uses up to line `last`.
+fn join_of(i: usize, last: usize, brackets: bool, d: Definition) -> Plan
+    ensures { λ r. ⌜ r ≡ Plan.Do (record { line = i; last = last; brackets = brackets; family = d .family; expr = d .expr }) ⌝ }
+{
+    let f = d.family;
+    let x = d.expr;
+    Plan::Do(Join {
+        line: i,
+        last,
+        brackets,
+        family: f,
+        expr: x,
+    })
+}
+
+// Constants may be copied into several uses inside one straight-line run.
+fn propagate_constant<'a>(
+    tape: &'a [u8],
+    area: &'a [u8],
+    tokens: &'a [u64],
+    lines: &'a [u64],
+    labels: &'a [u64],
+    i: usize,
+    d: Definition,
+    rules: Rules,
+) -> Plan
+    requires { ⌜ Listed (now tape) (now area) (now tokens) (now lines) × Labelled (bare-listing (now tape) (now area) (now tokens) (now lines)) (now labels) × Sound (now tape) (now area) (part-of (now tokens) (getD (now lines) i 0)) d × (i < length (now lines)) ⌝ }
+    ensures { λ r. ⌜ Plans (now (tape .entry)) (now (area .entry)) (part-of (now (tokens .entry)) (getD (now (lines .entry)) i 0)) i (plan-constant (bare-listing (now (tape .entry)) (now (area .entry)) (now (tokens .entry)) (now (lines .entry))) i (definition-in (now (tape .entry)) (now (area .entry)) (part-of (now (tokens .entry)) (getD (now (lines .entry)) i 0)) d) (labels-at (bare-listing (now (tape .entry)) (now (area .entry)) (now (tokens .entry)) (now (lines .entry))) (now (labels .entry))) (volatile (rules-of rules))) r ⌝ }
+{
+    let f = d.family;
+    let r = reaches::reach_of(tape, area, tokens, lines, i, f, rules);
+    let last = r.last;
+    if !r.used {
+        return Plan::Nothing;
+    }
+    if !reaches::ends_at(tape, area, tokens, lines, labels, i, last, f, rules) {
+        return Plan::Nothing;
+    }
+    if !reaches::all_take(tape, area, tokens, lines, i, last, f, rules) {
+        return Plan::Nothing;
+    }
+    join_of(i, last, false, d)
+}
+
+// Whether the right side x of the line `source` wants brackets at the token `pos` of a line.
+fn wants_brackets<'a>(
+    tape: &'a [u8],
+    area: &'a [u8],
+    source: &'a [u64],
+    x: Expr,
+    line: &'a [u64],
+    pos: usize,
+) -> bool
+    requires { ⌜ Holds (now tape) (now area) (now source) × Expression (now source) x × Holds (now tape) (now area) (now line) × (pos < length (now line)) ⌝ }
+    ensures { λ r. ⌜ r ≡ wants-brackets (tokens-of (now (tape .entry)) (now (area .entry)) (expr-words (now (source .entry)) x)) (tokens-of (now (tape .entry)) (now (area .entry)) (now (line .entry))) pos ⌝ }
+{
+    if !shapes::is_operator_expr(tape, area, source, x) {
+        return false;
+    }
+    !uses::is_standalone(tape, area, line, pos)
+}
+
+// The plan for the use among the tokens of `line`, which is line j, of the definition d of line i, whose tokens are `source`.
+fn plan_among<'a>(
+    tape: &'a [u8],
+    area: &'a [u8],
+    source: &'a [u64],
+    line: &'a [u64],
+    i: usize,
+    j: usize,
+    d: Definition,
+) -> Plan
+    requires { ⌜ Holds (now tape) (now area) (now source) × Holds (now tape) (now area) (now line) × Sound (now tape) (now area) (now source) d ⌝ }
+    ensures { λ r. ⌜ Plans (now (tape .entry)) (now (area .entry)) (now (source .entry)) i (plan-among (definition-in (now (tape .entry)) (now (area .entry)) (now (source .entry)) d) (tokens-of (now (tape .entry)) (now (area .entry)) (now (line .entry))) j) r ⌝ }
+{
+    let f = d.family;
+    let Found::At(pos) = fams::first_of(tape, area, line, f) else {
+        return Plan::Nothing;
+    };
+    if !uses::use_fits(tape, area, line, pos, f, d.width) {
+        return Plan::Nothing;
+    }
+    let x = d.expr;
+    let brackets = wants_brackets(tape, area, source, x, line, pos);
+    join_of(i, j, brackets, d)
+}
+
+// The plan for the use on line j of the definition d of line i.
+fn plan_use<'a>(
+    tape: &'a [u8],
+    area: &'a [u8],
+    tokens: &'a [u64],
+    lines: &'a [u64],
+    labels: &'a [u64],
+    i: usize,
+    j: usize,
+    d: Definition,
+    rules: Rules,
+) -> Plan
+    requires { ⌜ Listed (now tape) (now area) (now tokens) (now lines) × Labelled (bare-listing (now tape) (now area) (now tokens) (now lines)) (now labels) × Sound (now tape) (now area) (part-of (now tokens) (getD (now lines) i 0)) d × (i < length (now lines)) × (j < length (now lines)) ⌝ }
+    ensures { λ r. ⌜ Plans (now (tape .entry)) (now (area .entry)) (part-of (now (tokens .entry)) (getD (now (lines .entry)) i 0)) i (plan-use (bare-listing (now (tape .entry)) (now (area .entry)) (now (tokens .entry)) (now (lines .entry))) i (definition-in (now (tape .entry)) (now (area .entry)) (part-of (now (tokens .entry)) (getD (now (lines .entry)) i 0)) d) (labels-at (bare-listing (now (tape .entry)) (now (area .entry)) (now (tokens .entry)) (now (lines .entry))) (now (labels .entry))) (volatile (rules-of rules)) j) r ⌝ }
+{
+    let s = lines[i];
+    let line = words::line_of(tokens, lines[j]);
+    if shapes::has_while(tape, area, line) {
+        return Plan::Nothing;
+    }
+    let f = d.family;
+    let base_indent = words::indent(s);
+    if !dead_after(
+        tape,
+        area,
+        tokens,
+        lines,
+        labels,
+        j,
+        f,
+        base_indent,
+        i,
+        rules,
+    ) {
+        return Plan::Nothing;
+    }
+    plan_among(tape, area, words::line_of(tokens, s), line, i, j, d)
+}
+
+// The plan for the single use of the definition d of line i.
+fn plan_single<'a>(
+    tape: &'a [u8],
+    area: &'a [u8],
+    tokens: &'a [u64],
+    lines: &'a [u64],
+    labels: &'a [u64],
+    i: usize,
+    d: Definition,
+    rules: Rules,
+) -> Plan
+    requires { ⌜ Listed (now tape) (now area) (now tokens) (now lines) × Labelled (bare-listing (now tape) (now area) (now tokens) (now lines)) (now labels) × Sound (now tape) (now area) (part-of (now tokens) (getD (now lines) i 0)) d × (i < length (now lines)) ⌝ }
+    ensures { λ r. ⌜ Plans (now (tape .entry)) (now (area .entry)) (part-of (now (tokens .entry)) (getD (now (lines .entry)) i 0)) i (plan-single (bare-listing (now (tape .entry)) (now (area .entry)) (now (tokens .entry)) (now (lines .entry))) i (definition-in (now (tape .entry)) (now (area .entry)) (part-of (now (tokens .entry)) (getD (now (lines .entry)) i 0)) d) (labels-at (bare-listing (now (tape .entry)) (now (area .entry)) (now (tokens .entry)) (now (lines .entry))) (now (labels .entry))) (volatile (rules-of rules))) r ⌝ }
+{
+    let Found::At(j) = uses::use_of(tape, area, tokens, lines, i, d, rules) else {
+        return Plan::Nothing;
+    };
+    plan_use(tape, area, tokens, lines, labels, i, j, d, rules)
+}
+
+// The plan for the definition d of line i.
+fn plan_for<'a>(
+    tape: &'a [u8],
+    area: &'a [u8],
+    tokens: &'a [u64],
+    lines: &'a [u64],
+    labels: &'a [u64],
+    i: usize,
+    d: Definition,
+    rules: Rules,
+) -> Plan
+    requires { ⌜ Listed (now tape) (now area) (now tokens) (now lines) × Labelled (bare-listing (now tape) (now area) (now tokens) (now lines)) (now labels) × Sound (now tape) (now area) (part-of (now tokens) (getD (now lines) i 0)) d × (i < length (now lines)) ⌝ }
+    ensures { λ r. ⌜ Plans (now (tape .entry)) (now (area .entry)) (part-of (now (tokens .entry)) (getD (now (lines .entry)) i 0)) i (plan-for (bare-listing (now (tape .entry)) (now (area .entry)) (now (tokens .entry)) (now (lines .entry))) i (definition-in (now (tape .entry)) (now (area .entry)) (part-of (now (tokens .entry)) (getD (now (lines .entry)) i 0)) d) (labels-at (bare-listing (now (tape .entry)) (now (area .entry)) (now (tokens .entry)) (now (lines .entry))) (now (labels .entry))) (volatile (rules-of rules))) r ⌝ }
+{
+    let x = d.expr;
+    if !shapes::is_lone_number(words::line_of(tokens, lines[i]), x) {
+        return plan_single(tape, area, tokens, lines, labels, i, d, rules);
+    }
+    match propagate_constant(tape, area, tokens, lines, labels, i, d, rules) {
+        Plan::Do(j) => Plan::Do(j),
+        Plan::Nothing => plan_single(tape, area, tokens, lines, labels, i, d, rules),
+    }
+}
+
+// The plan for line i: `labels` are the places of the round's labels, `slots` and `slot_words` the names that were addressed when it began.
+pub fn decide<'a>(
+    tape: &'a [u8],
+    area: &'a [u8],
+    tokens: &'a [u64],
+    lines: &'a [u64],
+    labels: &'a [u64],
+    slots: &'a [u8],
+    slot_words: &'a [u64],
+    i: usize,
+    rules: Rules,
+) -> Plan
+    requires { ⌜ Listed (now tape) (now area) (now tokens) (now lines) × Labelled (bare-listing (now tape) (now area) (now tokens) (now lines)) (now labels) × Slotted (now slots) (now «slot_words») × (i < length (now lines)) ⌝ }
+    ensures { λ r. ⌜ Plans (now (tape .entry)) (now (area .entry)) (part-of (now (tokens .entry)) (getD (now (lines .entry)) i 0)) i (decide (rules-of rules) (bare-listing (now (tape .entry)) (now (area .entry)) (now (tokens .entry)) (now (lines .entry))) i (labels-at (bare-listing (now (tape .entry)) (now (area .entry)) (now (tokens .entry)) (now (lines .entry))) (now (labels .entry))) (slot-names (now (slots .entry)) (now («slot_words» .entry)))) r ⌝ }
+{
+    let Defined::As(d) = definition_of(tape, area, words::line_of(tokens, lines[i])) else {
+        return Plan::Nothing;
+    };
+    let f = d.family;
+    if is_addressed(tape, area, slots, slot_words, f) {
+        return Plan::Nothing;
+    }
+    plan_for(tape, area, tokens, lines, labels, i, d, rules)
+}

@@ -1,0 +1,60 @@
+-- `tape::commands::command_from` meets its contract. Assumes nothing.
+use native.Mathlib.Omega.{arith}
+use Rattle.tape.proofs.commands.Standing.{no-byte, no-command, ending}
+use borrow.Author.Needs.{needs}
+use Rattle.tape.proofs.commands.command_from.Statement.{statement}
+use Rattle.tape.proofs.commands.command_from.Tie as tie
+
+returns : tie.Need-returns
+returns c = let a = c .before .before .args in no-byte (a .tape .now) (a .at) (c .if1 .taken)
+
+shared-slice-read-b : tie.Need-shared-slice-read-b
+shared-slice-read-b c = search needs
+
+addressed-from-requires : tie.Need-addressed-from-requires
+addressed-from-requires c κs = search needs
+
+returns-2 : tie.Need-returns-2
+returns-2 c = search needs
+
+plain-from-requires : tie.Need-plain-from-requires
+plain-from-requires c κs = search needs
+
+returns-3 : tie.Need-returns-3
+returns-3 c = search needs
+
+returns-4 : tie.Need-returns-4
+returns-4 c = let a = c .before .before .before .before .before .before .args in
+    ending (a .tape .now) (a .at) (c .before .before .before .before .if1 .left) (c .if4 .taken)
+
+returns-5 : tie.Need-returns-5
+returns-5 c = let a = c .before .before .before .before .before .before .before .args in
+    let no-line = c .before .before .before .if2 .left in
+    no-command (a .tape .now) (a .at) no-line (c .before .before .if3 .left) (c .before .if4 .left) (λ low high. omega (arith, c .if5 .taken))
+
+returns-6 : tie.Need-returns-6
+returns-6 c = let a = c .before .before .before .before .before .before .before .before .args in
+    let no-line = c .before .before .before .before .if2 .left in
+    no-command (a .tape .now) (a .at) no-line (c .before .before .before .if3 .left) (c .before .before .if4 .left) (λ low high. omega (arith, c .if6 .taken))
+
+token-from-requires : tie.Need-token-from-requires
+token-from-requires c κs = search needs
+
+returns-7 : tie.Need-returns-7
+returns-7 c = search needs
+
+pub command-from-spec : {M : Type 1} → statement M
+command-from-spec =
+    tie.close
+    (tie.spec
+    returns
+    shared-slice-read-b
+    addressed-from-requires
+    returns-2
+    plain-from-requires
+    returns-3
+    returns-4
+    returns-5
+    returns-6
+    token-from-requires
+    returns-7)

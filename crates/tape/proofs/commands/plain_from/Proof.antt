@@ -1,0 +1,29 @@
+-- `tape::commands::plain_from` meets its contract. Assumes nothing.
+use Rattle.tape.proofs.commands.Standing.{plain-cut, plain-whole}
+use borrow.Author.Needs.{needs}
+use Rattle.tape.proofs.commands.plain_from.Statement.{statement}
+use Rattle.tape.proofs.commands.plain_from.Tie as tie
+
+sub-if1 : tie.Need-sub-if1
+sub-if1 c = search needs
+
+returns : tie.Need-returns
+returns c = let s = c .before .before in
+    plain-cut (s .args .tape .now) (s .args .at) (s .pre .1) (c .if1 .taken)
+
+add-wide : tie.Need-add-wide
+add-wide c = search needs
+
+shared-slice-read-wide : tie.Need-shared-slice-read-wide
+shared-slice-read-wide c = search needs
+
+wide-requires : tie.Need-wide-requires
+wide-requires c κs = search needs
+
+returns-2 : tie.Need-returns-2
+returns-2 c = let s = c .before .before .before .before in
+    plain-whole (s .args .tape .now) (s .args .at) (s .pre .1) (c .before .before .if1 .left) (c .wide .ensures)
+
+pub plain-from-spec : {M : Type 1} → statement M
+plain-from-spec =
+    tie.close (tie.spec sub-if1 returns add-wide shared-slice-read-wide wide-requires returns-2)

@@ -1,0 +1,170 @@
+-- The questions of one command: by the number of the first "no", and as the code asks them after `command_from`. Assumes nothing.
+use Prim.Native.Nat.{ℕ, _+_, _-_, _≤_, _<_}
+use native.Mathlib.Omega.{arith}
+use mathlib.Core.Path.{_≡_, refl, sym, ap, _∙_}
+use mathlib.Core.Bool.{Bool, true, false}
+use mathlib.Core.List.{List, [], _∷_, _++_}
+use mathlib.Core.Option.{Option, none}
+use lib.ListN.{length, take, drop, length-drop, drop-of-length-le}
+use lib.Seq.{length-take-le}
+use borrow.Author.Tests.{leb-true, le-leb}
+use Rattle.reference.specs.Control.{if_then_else_}
+use Rattle.reference.specs.Lists.{is-empty}
+use Rattle.reference.specs.Listing.{Token, token}
+use Rattle.reference.specs.Tape.{new-line, new-token, end, command-of}
+use Rattle.reference.specs.Questions as Q
+use Rattle.reference.specs.Questions.{is-command, ends-inside, has-line, is-within, is-printable, is-over, is-end, Answer, Refused, Passed, ask, count-in, Advance, read-command}
+use Rattle.reference.proofs.Cases.{by-if, both}
+use Rattle.reference.proofs.Commands.{is-form}
+use Rattle.reference.proofs.Reading.{Yes, ask-yes, refused-passed, advance}
+use Rattle.tape.specs.Commands.{command-in, size-of, ends, standing}
+use Rattle.tape.specs.Questions.{first-no, totals-of, questions, counted, Counts}
+use Rattle.tape.specs.declared.commands.Command.{Command}
+use Rattle.tape.specs.declared.commands.Command.the-variants.{Addressed, Plain, Token as NewToken, End}
+use Rattle.tape.specs.declared.questions.Totals.{Totals}
+use Rattle.tape.proofs.commands.Standing.{Stands, stands-inside}
+
+-- ---- the first "no"
+
+-- no question has the number 0
+abbrev pub Numbered : List (ℕ × Bool) → Type 0
+Numbered [] = Unit {0}
+Numbered (q ∷ more) = (1 ≤ q .0) × Numbered more
+
+pub none-no : (qs : List (ℕ × Bool)) → Numbered qs → first-no qs ≡ 0 → Yes qs
+unfolding first-no
+none-no [] n = λ e. tt
+none-no (q ∷ more) n =
+    by-if (λ (r : ℕ). r ≡ 0 → Yes (q ∷ more)) (λ yes e. (yes, none-no more (n .1) e)) (λ no e. absurd (omega (arith, n .0)))
+
+by-test : {X : Type 0} (b : Bool) → (b ≡ true → X) → (b ≡ false → X) → X
+by-test true f g = f refl
+by-test false f g = g refl
+
+module _ {A : Type 0} (place : ℕ) where
+  pub ask-number : (qs : List (ℕ × Bool)) (a : Answer A) {n : ℕ} → (n ≡ 0 → ⊥) → first-no qs ≡ n → ask place qs a ≡ Refused n place
+  unfolding first-no ask if_then_else_
+  ask-number [] a z e = absurd (z (sym e))
+  ask-number (q ∷ more) a z e =
+      by-test (q .1) (λ t. rw t (ask-number more a z (rw t at e))) (λ t. rw t (ap (λ (k : ℕ). Refused k place) (rw t at e)))
+
+  -- a refusal by the first questions is a refusal by all
+  ask-front : {B : Type 0} (qs more : List (ℕ × Bool)) (x : B) (a : Answer A) {n p : ℕ} → ask place qs (Passed x) ≡ Refused n p
+      → ask place (qs ++ more) a ≡ Refused n p
+  unfolding ask if_then_else_
+  ask-front [] more x a e = absurd (refused-passed (sym e))
+  ask-front (q ∷ qs) more x a e =
+      by-test (q .1) (λ t. rw t (ask-front qs more x a (rw t at e))) (λ t. rw t (let z = rw t at e in cc))
+
+  -- questions that are answered "yes" can be left out
+  ask-later : (qs more : List (ℕ × Bool)) (a : Answer A) → Yes qs → ask place (qs ++ more) a ≡ ask place more a
+  unfolding ask if_then_else_
+  ask-later [] more a h = refl
+  ask-later (q ∷ qs) more a h = rw (h .0) (ask-later qs more a (h .1))
+
+-- ---- the questions 5 to 8, kind by kind
+
+module _ (rest : List ℕ) (t : Q.Totals) where
+  pub line-fits : (address : Option ℕ) (indent : ℕ) {x : Bool} → x ≡ is-within t (new-line none indent) → x ≡ true
+      → 0 ≡ first-no (questions rest t (new-line address indent))
+  unfolding first-no is-within has-line is-printable is-over if_then_else_
+  line-fits address indent e f = rw (sym e ∙ f)
+
+  pub line-exceeds : (address : Option ℕ) (indent : ℕ) {x : Bool} → x ≡ is-within t (new-line none indent) → x ≡ false
+      → 6 ≡ first-no (questions rest t (new-line address indent))
+  unfolding first-no is-within has-line is-printable is-over if_then_else_
+  line-exceeds address indent e f = rw (sym e ∙ f)
+
+  token-asked : (s : Token) → first-no (questions [] t (new-token s)) ≡ first-no (questions rest t (new-token s))
+  unfolding is-over
+  token-asked s = refl
+
+  end-asked : first-no (questions rest t end) ≡ (if is-empty (drop 1 rest) then 0 else 8)
+  unfolding first-no has-line is-within is-printable is-over if_then_else_
+  end-asked = refl
+
+module _ (tape : List ℕ) (at : ℕ) (t : Q.Totals) where
+  -- of the token's text, a part of the tape
+  pub token-refuses : (kind count : ℕ) {text : List ℕ} {r : ℕ} → r ≡ first-no (questions [] t (new-token (token kind text))) → text ≡ take count (drop (at + 3) tape)
+      → r ≡ first-no (questions (drop at tape) t (command-in tape at (NewToken kind count)))
+  token-refuses kind count e f =
+      e ∙ ap (λ (s : List ℕ). first-no (questions [] t (new-token (token kind s)))) f ∙ token-asked (drop at tape) t (token kind (take count (drop (at + 3) tape)))
+
+  pub end-over : length tape - at ≡ 1 → 0 ≡ first-no (questions (drop at tape) t end)
+  unfolding if_then_else_
+  end-over h =
+      let e : drop 1 (drop at tape) ≡ [] = drop-of-length-le (drop at tape) {i = 1} (rw length-drop (omega arith)) in
+      sym (end-asked (drop at tape) t ∙ rw e)
+
+  pub end-follows : at + 1 ≤ length tape → (length tape - at ≡ 1 → ⊥) → 8 ≡ first-no (questions (drop at tape) t end)
+  unfolding if_then_else_
+  end-follows h n =
+      let more : 0 < length (drop 1 (drop at tape)) = rw (length-drop 1 (drop at tape), length-drop at tape) (omega (arith, n)) in
+      sym (end-asked (drop at tape) t ∙ rw (not-empty (drop 1 (drop at tape)) more))
+    where
+      not-empty : (s : List ℕ) → 0 < length s → is-empty s ≡ false
+      not-empty [] h = absurd (omega arith)
+      not-empty (x ∷ s) h = refl
+
+-- ---- one command
+
+module _ (tape : List ℕ) (at : ℕ) where
+  -- question 3 or 4 refuses it
+  pub stops : (t : Q.Totals) {n p : ℕ} → Refused n p ≡ standing tape at → Refused n p ≡ read-command tape at t
+  unfolding standing read-command
+  stops t e =
+      sym (ask-front at ((3, is-command (drop at tape)) ∷ (4, ends-inside (drop at tape)) ∷ []) (questions (drop at tape) t (command-of (drop at tape))) _ _ (sym e))
+
+  text-long : {kind count : ℕ} → Stands tape at (NewToken kind count) → length (take count (drop (at + 3) tape)) ≡ count
+  text-long {count = count} s = length-take-le count (drop (at + 3) tape) (rw length-drop (omega (arith, stands-inside s)))
+
+  module _ (t : Q.Totals) where
+    counted-same : {c : Command} → Stands tape at c → count-in (command-in tape at c) t ≡ counted c t
+    unfolding count-in
+    counted-same {c = Addressed address indent} s = refl
+    counted-same {c = Plain indent} s = refl
+    counted-same {c = NewToken kind count} s = rw (text-long s)
+    counted-same {c = End} s = refl
+
+    pub counted-as : {c : Command} → Stands tape at c → count-in (command-of (drop at tape)) t ≡ counted c t
+    counted-as s = ap (λ k. count-in k t) (sym (s .same)) ∙ counted-same s
+
+    abbrev pub advanced : Command → Advance
+    advanced c = record { command = command-in tape at c; next = at + size-of c; totals = counted c t }
+
+    pub advanced-same : {c : Command} → Stands tape at c → advance tape at t ≡ advanced c
+    advanced-same s = rw (s .same, s .size, ← counted-as s)
+
+    asks : {c : Command} → Stands tape at c → read-command tape at t ≡ ask at (questions (drop at tape) t (command-in tape at c)) (Passed (advanced c))
+    unfolding read-command ends-inside
+    asks s =
+        ask-later at ((3, is-command (drop at tape)) ∷ (4, ends-inside (drop at tape)) ∷ []) _ _ (is-form _ (s .known), (le-leb _ _ (s .inside), tt))
+        ∙ rw (← advanced-same s, s .same)
+
+    -- a later question refuses it
+    pub refuses : {c : Command} {n : ℕ} → Stands tape at c → (n ≡ 0 → ⊥) → n ≡ first-no (questions (drop at tape) t (command-in tape at c))
+        → Refused n at ≡ read-command tape at t
+    refuses s z e = sym (asks s ∙ ask-number at _ _ z (sym e))
+
+    -- none does
+    pub all-yes : (c : Command) {n : ℕ} → n ≡ 0 → n ≡ first-no (questions (drop at tape) t (command-in tape at c))
+        → Yes (questions (drop at tape) t (command-in tape at c))
+    all-yes c z e = none-no _ (omega arith, (omega arith, (omega arith, (omega arith, tt)))) (sym e ∙ z)
+
+    pub passes : {c : Command} {n : ℕ} → Stands tape at c → n ≡ 0 → n ≡ first-no (questions (drop at tape) t (command-in tape at c))
+        → Passed (advanced c) ≡ read-command tape at t
+    passes {c} s z e = sym (asks s ∙ ask-yes at _ _ (all-yes c z e))
+
+  pub within-counts : {c : Command} (t : Totals) → Stands tape at c → is-within (totals-of t) (command-in tape at c) ≡ true → Counts c t
+  unfolding is-within
+  within-counts {c = Addressed address indent} t s w = omega (arith, leb-true (t .lines + 1) 256 (both w .1))
+  within-counts {c = Plain indent} t s w = omega (arith, leb-true (t .lines + 1) 256 (both w .1))
+  within-counts {c = NewToken kind count} t s w =
+      omega (arith, leb-true (t .tokens + 1) 1024 (both w .0), leb-true (t .text + length (take count (drop (at + 3) tape))) 24576 (both (both w .1) .0), text-long s)
+  within-counts {c = End} t s w = tt
+
+  pub ends-same : (c : Command) → is-end (command-in tape at c) ≡ ends c
+  ends-same (Addressed address indent) = refl
+  ends-same (Plain indent) = refl
+  ends-same (NewToken kind count) = refl
+  ends-same End = refl

@@ -1,0 +1,90 @@
+-- The place that a reading has come to, as a loop's invariant: what each answer at one command says of the whole tape. Assumes nothing.
+use Prim.Native.Nat.{ℕ, _<_, _≤_}
+use native.Mathlib.Omega.{arith}
+use mathlib.Core.Path.{_≡_, refl, sym, ap, _∙_}
+use mathlib.Core.Bool.{true, false}
+use mathlib.Core.List.{List, []}
+use lib.ListN.{length, drop}
+use Rattle.reference.specs.Control.{if_then_else_}
+use Rattle.reference.specs.Listing.{Listing}
+use Rattle.reference.specs.Questions.{Totals, Answer, Refused, Passed, let-passed_then_, Advance, read-command, is-end, add, read}
+use Rattle.reference.proofs.Reading.{refused-passed, by-passed, let-refused, let-is, Passes, command-passed, advances, reading, reading-step, Reached, here, on, reading-of, accepted}
+use Rattle.reference.proofs.Tapes.{totals-so-far}
+use Rattle.tape.specs.Questions.{totals-in}
+use Rattle.tape.specs.Tables.{Accepted}
+
+-- the reading comes to this offset with these totals
+pub record Reads (tape : List ℕ) (at : ℕ) (t : Totals) : Type 0 where
+  pub lines : Listing
+  pub reached : Reached tape (record { at = at; totals = t; lines = lines })
+
+abbrev pub reads-begin : (tape : List ℕ) → Reads tape 0 (record { lines = 0; tokens = 0; text = 0 })
+reads-begin tape = record { lines = []; reached = here }
+
+module _ {tape : List ℕ} {at : ℕ} {t : Totals} (r : Reads tape at t) where
+  step-of : read tape
+      ≡ (let-passed (read-command tape at t) then λ a.
+      if is-end (a .command) then Passed (r .lines) else reading tape (a .next) (a .totals) (add (a .command) (r .lines)))
+  step-of = reading-of tape (r .reached) ∙ reading-step tape at t (r .lines)
+
+  pub read-refused : {n p : ℕ} → Refused n p ≡ read-command tape at t → read tape ≡ Refused n p
+  read-refused e = step-of ∙ let-refused _ (sym e)
+
+  module _ {a : Advance} (e : Passed a ≡ read-command tape at t) where
+    pub moves : (at < a .next) × (a .next ≤ length tape)
+    moves =
+        let p = command-passed tape at t a (sym e) in
+        omega (arith, advances tape at t (p .0), ap (λ (a : Advance). a .next) (p .1))
+
+    abbrev pub reads-on : is-end (a .command) ≡ false → Reads tape (a .next) (a .totals)
+    reads-on n =
+        let p = command-passed tape at t a (sym e) in
+        record { lines = add (a .command) (r .lines); reached = rw (p .1) (on (r .reached) (p .0) (rw (p .1) at n)) }
+
+    pub read-passed : is-end (a .command) ≡ true → read tape ≡ Passed (r .lines)
+    read-passed n =
+        let p = command-passed tape at t a (sym e) in
+        accepted tape (r .lines)
+        (record {
+          state = record { at = at; totals = t; lines = r .lines };
+          reached = r .reached;
+          passes = p .0;
+          ends = rw (p .1) at n;
+          listing = refl;
+        })
+
+  pub totals-are : t ≡ totals-in (r .lines)
+  totals-are = totals-so-far tape (r .reached)
+
+  -- on an accepted tape every command passes
+  pub accepted-passes : Accepted tape → Passes (drop at tape) t
+  accepted-passes k =
+      by-passed (λ (x : Answer Listing). x ≡ Passed (k .listing) → Passes (drop at tape) t)
+      (λ number place u e. absurd (refused-passed e))
+      (λ a known e. command-passed tape at t a known .0)
+      (sym step-of ∙ k .reads)
+
+-- ---- what `check` answers
+
+abbrev pub Verdict : List ℕ → Answer Totals
+Verdict tape = let-passed (read tape) then λ lines. Passed (totals-in lines)
+
+module _ (tape : List ℕ) where
+  pub verdict-refused : {n p : ℕ} → read tape ≡ Refused n p → Refused n p ≡ Verdict tape
+  verdict-refused e = sym (let-refused _ e)
+
+  pub verdict-passed : {lines : Listing} → read tape ≡ Passed lines → Passed (totals-in lines) ≡ Verdict tape
+  verdict-passed e = sym (let-is _ e)
+
+  -- and what its answers say of the tape
+  pub refused-by : {n p : ℕ} → Refused n p ≡ Verdict tape → read tape ≡ Refused n p
+  refused-by {n} {p} =
+      by-passed (λ (x : Answer Totals). Refused n p ≡ x → read tape ≡ Refused n p)
+      (λ number place u e. u ∙ sym (let z = e in cc))
+      (λ lines u e. absurd (refused-passed e))
+
+  pub accepted-by : {t : Totals} → Passed t ≡ Verdict tape → Accepted tape
+  accepted-by {t} =
+      by-passed (λ (x : Answer Totals). Passed t ≡ x → Accepted tape)
+      (λ number place u e. absurd (refused-passed (sym e)))
+      (λ lines u e. record { listing = lines; reads = u })

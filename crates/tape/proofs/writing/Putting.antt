@@ -1,0 +1,218 @@
+-- Bytes put into a list one after the other, and a loop that writes what each word of a list means. Assumes nothing.
+use Prim.Native.Nat.{ℕ, _+_, _≤_, _<_}
+use native.Mathlib.Nat.{add-zero, zero-add}
+use native.Mathlib.Omega.{arith}
+use native.Mathlib.Numerals.{add-one}
+use mathlib.Core.Path.{_≡_, refl, sym, ap, _∙_}
+use mathlib.Core.Option.{none, some}
+use mathlib.Core.List.{List, [], _∷_, _++_, map, flatMap, append-assoc, append-nil}
+use lib.ListN.{length, take, drop, set, getD, length-append, length-drop, length-set, take-append-drop, drop-of-length-le}
+use lib.Seq.{length-take-le, take-length, take-at, drop-at, drop-drop, drop-cons, set-split, append-snoc, paste}
+use borrow.Author.Tests.{eq-eqb, ne-eqb}
+use Rattle.reference.specs.Listing.{token, Listing}
+use Rattle.reference.specs.Tape.{to-le-bytes, new-line, write-command, write-line, write-lines, write}
+use Rattle.reference.proofs.LittleEndian.{to-length}
+use Rattle.laws.proofs.Scans.{if-true, if-false}
+use Rattle.lines.specs.Words.{tokens-of}
+use Rattle.lines.specs.Lines.{indent-of, addressed-of, origin-of, part-of, address-in, line-in}
+use Rattle.tape.specs.Writing.{put, Puts, token-bytes, line-bytes, tokens-bytes, Wrote}
+
+module _ (out : List ℕ) where
+  pub put-front : (bytes : List ℕ) → put out 0 bytes ≡ bytes ++ drop (length bytes) out
+  unfolding put
+  put-front bytes = rw zero-add
+
+  module _ (at : ℕ) where
+    pub put-none : put out at [] ≡ out
+    unfolding put
+    put-none = rw (append-nil, add-zero) (take-append-drop at out)
+
+    pub put-pasted : (bytes : List ℕ) → paste out at bytes (length bytes) ≡ put out at bytes
+    unfolding put
+    put-pasted bytes = rw take-length
+
+    pub put-one : (b : ℕ) → at < length out → set out at b ≡ put out at (b ∷ [])
+    unfolding put
+    put-one b h = set-split out at b h ∙ rw (add-one, append-snoc)
+
+    pub put-length : (bytes : List ℕ) → at + length bytes ≤ length out → length (put out at bytes) ≡ length out
+    unfolding put
+    put-length bytes h =
+        let e : length (take at out) ≡ at = length-take-le at out (omega arith) in
+        simp (length-append, length-drop) (omega arith)
+
+    pub put-append : (a b : List ℕ) → at ≤ length out → put (put out at a) (at + length a) b ≡ put out at (a ++ b)
+    unfolding put
+    put-append a b h =
+        let head : List ℕ = take at out ++ a in
+        let tail : List ℕ = drop (at + length a) out in
+        let n : length head ≡ at + length a = rw length-append (omega (arith, length-take-le at out h)) in
+        let s : at + length a + length b ≡ at + length (a ++ b) = rw length-append (omega arith) in
+        let back : drop (at + length a + length b) (head ++ tail) ≡ drop (at + length (a ++ b)) out =
+        sym (drop-drop (length b) (at + length a) (head ++ tail))
+        ∙ ap (drop (length b)) (drop-at head tail (at + length a) n)
+        ∙ drop-drop (length b) (at + length a) out
+        ∙ ap (λ (k : ℕ). drop k out) s in
+        rw (take-at head tail (at + length a) n, back, append-assoc (take at out) a b)
+
+    pub put-cons : (b : ℕ) (bytes : List ℕ) → at < length out → put out at (b ∷ bytes) ≡ put (set out at b) (at + 1) bytes
+    put-cons b bytes h = sym (put-append (b ∷ []) bytes (omega arith)) ∙ ap (λ (o : List ℕ). put o (at + 1) bytes) (sym (put-one b h))
+
+-- ---- functions that write
+
+module _ (out : List ℕ) (at : ℕ) where
+  -- one after the other
+  pub puts-append : (a b : List ℕ) {mid after : List ℕ} {m n : ℕ} → at ≤ length out → Puts out at a mid m → Puts mid m b after n → Puts out at (a ++ b) after n
+  puts-append a b h p q =
+      record {
+        holds = q .holds ∙ rw (p .holds, p .ends) (put-append out at a b h);
+        ends = omega (arith, p .ends, q .ends, length-append a b);
+      }
+
+  pub puts-length : (bytes : List ℕ) {after : List ℕ} {n : ℕ} → at + length bytes ≤ length out → Puts out at bytes after n → length after ≡ length out
+  puts-length bytes h p = ap length (p .holds) ∙ put-length out at bytes h
+
+  -- the commands, from their parts: `mid` is what the writing of the number leaves
+
+  pub addressed-puts : (address indent : ℕ) {mid : List ℕ} → at + 10 ≤ length out → mid ≡ put (set out at 1) (at + 1) (to-le-bytes 8 address)
+      → Puts out at (write-command (new-line (some address) indent)) (set mid (at + 9) indent) (at + 10)
+  unfolding write-command
+  addressed-puts address indent {mid} h e =
+      let number : List ℕ = to-le-bytes 8 address in
+      let n : length number ≡ 8 = to-length 8 address in
+      let begun : List ℕ = set out at 1 in
+      let long : length begun ≡ length out = length-set out at 1 in
+      let wide : length mid ≡ length out = ap length e ∙ put-length begun (at + 1) number (omega arith) ∙ long in
+      let k : at + 9 ≡ at + 1 + length number = omega arith in
+      record {
+        holds =
+            put-one mid (at + 9) indent (omega arith)
+            ∙ rw (k, e) (put-append begun (at + 1) number (indent ∷ []) (omega arith))
+            ∙ sym (put-cons out at 1 (number ++ (indent ∷ [])) (omega arith));
+        ends = omega (arith, length-append number (indent ∷ []));
+      }
+
+  pub plain-puts : (indent : ℕ) → at + 2 ≤ length out → Puts out at (write-command (new-line none indent)) (set (set out at 2) (at + 1) indent) (at + 2)
+  unfolding write-command
+  plain-puts indent h =
+      record {
+        holds = put-one (set out at 2) (at + 1) indent (rw length-set (omega arith)) ∙ sym (put-cons out at 2 (indent ∷ []) (omega arith));
+        ends = refl;
+      }
+
+  pub token-puts : (kind : ℕ) (text : List ℕ) {mid after : List ℕ} → at + 3 + length text ≤ length out
+      → mid ≡ put (set out at (16 + kind)) (at + 1) (to-le-bytes 2 (length text)) → after ≡ paste mid (at + 3) text (length text)
+      → Puts out at (token-bytes (token kind text)) after (at + 3 + length text)
+  unfolding write-command
+  token-puts kind text {mid} h e f =
+      let number : List ℕ = to-le-bytes 2 (length text) in
+      let n : length number ≡ 2 = to-length 2 (length text) in
+      let begun : List ℕ = set out at (16 + kind) in
+      let long : length begun ≡ length out = length-set out at (16 + kind) in
+      let k : at + 3 ≡ at + 1 + length number = omega arith in
+      record {
+        holds =
+            f
+            ∙ put-pasted mid (at + 3) text
+            ∙ rw (k, e) (put-append begun (at + 1) number text (omega arith))
+            ∙ sym (put-cons out at (16 + kind) (number ++ text) (omega arith));
+        ends = omega (arith, length-append number text);
+      }
+
+-- the whole tape
+module _ (out : List ℕ) where
+  pub wrote : {bytes : List ℕ} {mid : List ℕ} {m : ℕ} → length bytes + 1 ≤ length out → Puts out 0 bytes mid m
+      → Wrote (bytes ++ (0xFF ∷ [])) out (set mid m 0xFF) (m + 1)
+  wrote {bytes} {mid} {m} h p =
+      let e : m ≡ length bytes = omega (arith, p .ends) in
+      let wide : length mid ≡ length out = ap length (p .holds) ∙ put-length out 0 bytes (omega arith) in
+      record {
+        holds = put-one mid m 0xFF (omega arith) ∙ rw (p .holds, p .ends) (put-append out 0 bytes (0xFF ∷ []) (omega arith)) ∙ put-front out (bytes ++ (0xFF ∷ []));
+        ends = omega (arith, length-append bytes (0xFF ∷ []));
+      }
+
+-- ---- what is written of a line, and of a listing
+
+pub write-split : (listing : Listing) → write listing ≡ flatMap write-line listing ++ (0xFF ∷ [])
+unfolding write write-lines write-command
+write-split listing = refl
+
+pub write-room : (listing : Listing) {n : ℕ} → length (write listing) ≤ n → length (flatMap write-line listing) + 1 ≤ n
+write-room listing h = omega (arith, ap length (write-split listing), length-append (flatMap write-line listing) (0xFF ∷ []))
+
+module _ (tape area tokens addresses : List ℕ) (l : ℕ) where
+  pub line-split : write-line (line-in tape area tokens addresses l) ≡ line-bytes addresses l ++ tokens-bytes (tokens-of tape area (part-of tokens l))
+  unfolding write-line
+  line-split = refl
+
+  pub line-room : (at : ℕ) {n : ℕ} → at + length (write-line (line-in tape area tokens addresses l)) ≤ n
+      → at + length (line-bytes addresses l) + length (tokens-bytes (tokens-of tape area (part-of tokens l))) ≤ n
+  line-room at h =
+      omega (arith, ap length line-split, length-append (line-bytes addresses l) (tokens-bytes (tokens-of tape area (part-of tokens l))))
+
+pub addressed-bytes : (addresses : List ℕ) (l : ℕ) → addressed-of l ≡ 1
+    → line-bytes addresses l ≡ write-command (new-line (some (getD addresses (origin-of l) 0)) (indent-of l))
+unfolding address-in
+addressed-bytes addresses l e = rw (if-true (some (getD addresses (origin-of l) 0)) none (eq-eqb (addressed-of l) 1 e))
+
+pub plain-bytes : (addresses : List ℕ) (l : ℕ) → (addressed-of l ≡ 1 → ⊥) → line-bytes addresses l ≡ write-command (new-line none (indent-of l))
+unfolding address-in
+plain-bytes addresses l e = rw (if-false (some (getD addresses (origin-of l) 0)) none (ne-eqb (addressed-of l) 1 e))
+
+pub addressed-size : (address indent : ℕ) → length (write-command (new-line (some address) indent)) ≡ 10
+unfolding write-command
+addressed-size address indent = omega (arith, length-append (to-le-bytes 8 address) (indent ∷ []), to-length 8 address)
+
+pub plain-size : (indent : ℕ) → length (write-command (new-line none indent)) ≡ 2
+unfolding write-command
+plain-size indent = refl
+
+pub token-size : (kind : ℕ) (text : List ℕ) → length (token-bytes (token kind text)) ≡ 3 + length text
+unfolding write-command
+token-size kind text = omega (arith, length-append (to-le-bytes 2 (length text)) text, to-length 2 (length text))
+
+-- ---- a loop that writes g of what f says each word means: what is still to be written, put where the loop stands, makes the whole
+
+module _ {A : Type 0} (f : ℕ → A) (g : A → List ℕ) (ws : List ℕ) where
+  abbrev pub rest : ℕ → List ℕ
+  rest k = flatMap g (map f (drop k ws))
+
+  pub record Written (out₀ : List ℕ) (at₀ : ℕ) (out : List ℕ) (at k : ℕ) : Type 0 where
+    pub place : at + length (rest k) ≡ at₀ + length (rest 0)
+    pub whole : put out at (rest k) ≡ put out₀ at₀ (rest 0)
+    pub long : length out ≡ length out₀
+
+  pub written-begin : (out₀ : List ℕ) (at₀ : ℕ) → Written out₀ at₀ out₀ at₀ 0
+  written-begin out₀ at₀ = record { place = refl; whole = refl; long = refl }
+
+  rest-at : (k : ℕ) → k < length ws → rest k ≡ g (f (getD ws k 0)) ++ rest (k + 1)
+  unfolding flatMap
+  rest-at k h = rw (add-one, drop-cons ws k 0)
+
+  rest-end : (k : ℕ) → length ws ≤ k → rest k ≡ []
+  unfolding flatMap
+  rest-end k h = rw (drop-of-length-le ws h)
+
+module _ {A : Type 0} {f : ℕ → A} {g : A → List ℕ} {ws out₀ : List ℕ} {at₀ : ℕ} {out : List ℕ} {at k : ℕ} (w : Written f g ws out₀ at₀ out at k) where
+  module _ (room : at₀ + length (rest f g ws 0) ≤ length out₀) (h : k < length ws) where
+    size-at : length (rest f g ws k) ≡ length (g (f (getD ws k 0))) + length (rest f g ws (k + 1))
+    size-at = ap length (rest-at f g ws k h) ∙ length-append (g (f (getD ws k 0))) (rest f g ws (k + 1))
+
+    pub written-room : at + length (g (f (getD ws k 0))) ≤ length out
+    written-room = omega (arith, size-at, w .place, w .long)
+
+    pub written-more : {out′ : List ℕ} {at′ : ℕ} → Puts out at (g (f (getD ws k 0))) out′ at′ → Written f g ws out₀ at₀ out′ at′ (k + 1)
+    written-more p =
+        let bytes : List ℕ = g (f (getD ws k 0)) in
+        let more : List ℕ = rest f g ws (k + 1) in
+        let fits : at + length bytes ≤ length out = written-room in
+        record {
+          place = omega (arith, p .ends, size-at, w .place);
+          whole = rw (p .holds, p .ends, put-append out at bytes more (omega arith)) (ap (put out at) (sym (rest-at f g ws k h)) ∙ w .whole);
+          long = puts-length out at bytes fits p ∙ w .long;
+        }
+
+  pub written-end : length ws ≤ k → Puts out₀ at₀ (rest f g ws 0) out at
+  written-end h =
+      let e : rest f g ws k ≡ [] = rest-end f g ws k h in
+      record { holds = sym (put-none out at) ∙ ap (put out at) (sym e) ∙ w .whole; ends = omega (arith, ap length e, w .place) }

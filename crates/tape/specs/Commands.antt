@@ -1,0 +1,54 @@
+-- What the code's commands mean, and what stands at an offset of a tape: document 01's questions 3 and 4. Assumes nothing.
+use Prim.Native.Nat.{ℕ, _+_}
+use mathlib.Core.Path.{_≡_}
+use mathlib.Core.Bool.{Bool, true, false}
+use mathlib.Core.List.{List, [], _∷_}
+use mathlib.Core.Option.{none, some}
+use lib.ListN.{take, drop}
+use Rattle.reference.specs.Listing.{token}
+use Rattle.reference.specs.Tape as Tape
+use Rattle.reference.specs.Questions.{is-command, ends-inside, Answer, Refused, Passed, ask}
+use Rattle.tape.specs.declared.commands.Command.{Command}
+use Rattle.tape.specs.declared.commands.Command.the-variants.{Addressed, Plain, Token, End}
+use Rattle.tape.specs.declared.commands.Found.{Found}
+use Rattle.tape.specs.declared.commands.Found.the-variants.{Whole, Unknown, CutOff}
+
+-- the command at an offset of a tape; a token's text is a part of the tape
+abbrev pub command-in : List ℕ → ℕ → Command → Tape.Command
+command-in tape at (Addressed address indent) = Tape.new-line (some address) indent
+command-in tape at (Plain indent) = Tape.new-line none indent
+command-in tape at (Token kind count) = Tape.new-token (token kind (take count (drop (at + 3) tape)))
+command-in tape at End = Tape.end
+
+abbrev pub size-of : Command → ℕ
+size-of (Addressed address indent) = 10
+size-of (Plain indent) = 2
+size-of (Token kind count) = 3 + count
+size-of End = 1
+
+abbrev pub ends : Command → Bool
+ends (Addressed address indent) = false
+ends (Plain indent) = false
+ends (Token kind count) = false
+ends End = true
+
+-- a command and its size
+abbrev pub Sized : Type 0
+Sized = Tape.Command × ℕ
+
+abbrev pub found-in : List ℕ → ℕ → Found → Answer Sized
+found-in tape at (Whole c) = Passed (command-in tape at c, size-of c)
+found-in tape at Unknown = Refused 3 at
+found-in tape at CutOff = Refused 4 at
+
+-- the questions 3 and 4, and the command where both are answered "yes"
+unfoldable pub standing : List ℕ → ℕ → Answer Sized
+standing tape at =
+    ask at
+    ((3, is-command (drop at tape)) ∷ (4, ends-inside (drop at tape)) ∷ [])
+    (Passed (Tape.command-of (drop at tape), Tape.command-size (drop at tape)))
+
+-- a command stands at the offset
+pub record Stood (tape : List ℕ) (at : ℕ) : Type 0 where
+  pub what : Sized
+  pub stands : standing tape at ≡ Passed what

@@ -1,0 +1,135 @@
+// What stands at an offset of a tape. The questions and the loading read a tape through `command_from` and `text_of` alone.
+use crate::little_endian::number_at;
+use crate::little_endian::wide;
+ghost use mathlib.Core.Path.{_≡_};
+ghost use Prim.Native.Nat.{_+_, _^_, _≤_, _<_};
+ghost use lib.ListN.{length, take, drop, getD};
+ghost use Rattle.tape.specs.Commands.{size-of, found-in, standing, Stood};
+
+// A command: a line, with an address or without; a token of a kind, whose text has `count` bytes and stands three bytes after the offset; the end.
+pub enum Command {
+    Addressed { address: u64, indent: u64 },
+    Plain { indent: u64 },
+    Token { kind: u64, count: usize },
+    End,
+}
+
+// What stands at an offset: a command whose operand and text are in the tape, no command, or one that is cut off.
+pub enum Found {
+    Whole(Command),
+    Unknown,
+    CutOff,
+}
+
+// `count` bytes of the tape from `from` on.
+pub fn text_of(tape: &[u8], from: usize, count: usize) -> &[u8]
+    requires { ⌜ from + count ≤ length (now tape) ⌝ }
+    ensures { λ r. ⌜ now r ≡ take count (drop from (now (tape .entry))) ⌝ }
+{
+    let to = from + count;
+    &tape[from..to]
+}
+
+// The text of the token at an offset: a part of the tape itself.
+pub fn token_text(tape: &[u8], at: usize, count: usize) -> &[u8]
+    requires { ⌜ at + 3 + count ≤ length (now tape) ⌝ }
+    ensures { λ r. ⌜ now r ≡ take count (drop (at + 3) (now (tape .entry))) ⌝ }
+{
+    text_of(tape, at + 3, count)
+}
+
+// How many bytes a command has, its operand and text included.
+pub fn size_of(command: Command) -> usize
+    requires { ⌜ size-of command < 2 ^ 64 ⌝ }
+    ensures { λ r. ⌜ r ≡ size-of command ⌝ }
+{
+    match command {
+        Command::Addressed {
+            address: _,
+            indent: _,
+        } => 10,
+        Command::Plain { indent: _ } => 2,
+        Command::Token { kind: _, count } => 3 + count,
+        Command::End => 1,
+    }
+}
+
+// The line with an address that begins at `at`.
+fn addressed_from(tape: &[u8], at: usize) -> Found
+    requires { ⌜ (at < length (now tape)) × (getD (now tape) at 0 ≡ 0x01) ⌝ }
+    ensures { λ r. ⌜ found-in (now (tape .entry)) at r ≡ standing (now (tape .entry)) at ⌝ }
+{
+    if tape.len() - at < 10 {
+        return Found::CutOff;
+    }
+    let address = number_at(tape, at + 1, 8);
+    let indent = wide(tape[at + 9]);
+    Found::Whole(Command::Addressed { address, indent })
+}
+
+// The line without an address that begins at `at`.
+fn plain_from(tape: &[u8], at: usize) -> Found
+    requires { ⌜ (at < length (now tape)) × (getD (now tape) at 0 ≡ 0x02) ⌝ }
+    ensures { λ r. ⌜ found-in (now (tape .entry)) at r ≡ standing (now (tape .entry)) at ⌝ }
+{
+    if tape.len() - at < 2 {
+        return Found::CutOff;
+    }
+    let indent = wide(tape[at + 1]);
+    Found::Whole(Command::Plain { indent })
+}
+
+// The token that begins at `at`.
+fn token_from(tape: &[u8], at: usize) -> Found
+    requires { ⌜ (at < length (now tape)) × (0x10 ≤ getD (now tape) at 0) × (getD (now tape) at 0 ≤ 0x17) ⌝ }
+    ensures { λ r. ⌜ found-in (now (tape .entry)) at r ≡ standing (now (tape .entry)) at ⌝ }
+{
+    let left = tape.len() - at;
+    if left < 3 {
+        return Found::CutOff;
+    }
+    let count = number_at(tape, at + 1, 2) as usize;
+    if left - 3 < count {
+        return Found::CutOff;
+    }
+    let kind = wide(tape[at]) - 16;
+    Found::Whole(Command::Token { kind, count })
+}
+
+// What stands at an offset of the tape.
+pub fn command_from(tape: &[u8], at: usize) -> Found
+    ensures { λ r. ⌜ found-in (now (tape .entry)) at r ≡ standing (now (tape .entry)) at ⌝ }
+{
+    if tape.len() <= at {
+        return Found::Unknown;
+    }
+    let b = tape[at];
+    if b == 1 {
+        return addressed_from(tape, at);
+    }
+    if b == 2 {
+        return plain_from(tape, at);
+    }
+    if b == 255 {
+        return Found::Whole(Command::End);
+    }
+    if b < 16 {
+        return Found::Unknown;
+    }
+    if 23 < b {
+        return Found::Unknown;
+    }
+    token_from(tape, at)
+}
+
+// The command at an offset where one is known to stand.
+pub fn known_command(tape: &[u8], at: usize) -> Command
+    requires { ⌜ Stood (now tape) at ⌝ }
+    ensures { λ r. ⌜ found-in (now (tape .entry)) at (Found.Whole r) ≡ standing (now (tape .entry)) at ⌝ }
+{
+    match command_from(tape, at) {
+        Found::Whole(command) => command,
+        Found::Unknown => Command::End,
+        Found::CutOff => Command::End,
+    }
+}

@@ -1,0 +1,241 @@
+// Document 01's questions, asked of each command from the left. Nothing is written.
+use crate::commands::Command;
+use crate::commands::Found;
+use crate::commands::command_from;
+use crate::commands::size_of;
+use crate::commands::token_text;
+use lines::rules::Rules;
+use lines::words::NUMBER;
+ghost use mathlib.Core.Path.{_≡_};
+ghost use mathlib.Core.List.{[], _∷_};
+ghost use Prim.Native.Nat.{_+_, _≤_};
+ghost use lib.ListN.{length, drop};
+ghost use Rattle.reference.specs.Listing.{token};
+ghost use Rattle.reference.specs.Tape.{new-line, new-token};
+ghost use mathlib.Core.Option.{none};
+ghost use Rattle.reference.specs.Questions.{is-convention, has-room, is-within, is-printable, read-command, let-passed_then_, Passed, read};
+ghost use Rattle.lines.specs.Rules.{rules-of};
+ghost use Rattle.tape.specs.Commands.{size-of, command-in, ends};
+ghost use Rattle.tape.specs.Questions.{first-no, questions, totals-of, totals-in, Counts, counted, stepped, checked};
+
+// What was read so far.
+pub struct Totals {
+    pub lines: usize,
+    pub tokens: usize,
+    pub text: usize,
+}
+
+// A command that passed the questions 3 to 8, the offset after it and the totals with it; or the number of the question that refuses it.
+pub enum Stepped {
+    Passed {
+        command: Command,
+        next: usize,
+        totals: Totals,
+    },
+    Refused(u64),
+}
+
+// The totals of an accepted tape, or the number and place of the question that refuses it.
+pub enum Checked {
+    Passed(Totals),
+    Refused { number: u64, place: usize },
+}
+
+// ---- one command
+
+fn line_fits(indent: u64, totals: Totals) -> bool
+    ensures { λ r. ⌜ r ≡ is-within (totals-of totals) (new-line none indent) ⌝ }
+{
+    if 63 < indent {
+        return false;
+    }
+    if 256 <= totals.lines {
+        return false;
+    }
+    true
+}
+
+fn token_fits(kind: u64, text: &[u8], totals: Totals) -> bool
+    ensures { λ r. ⌜ r ≡ is-within (totals-of totals) (new-token (token kind (now (text .entry)))) ⌝ }
+{
+    let n = text.len();
+    if 1024 <= totals.tokens {
+        return false;
+    }
+    if 24576 < totals.text {
+        return false;
+    }
+    if 24576 - totals.text < n {
+        return false;
+    }
+    if n == 0 {
+        return false;
+    }
+    if kind != NUMBER {
+        return true;
+    }
+    n <= 24
+}
+
+fn printable(kind: u64, text: &[u8]) -> bool
+    ensures { λ r. ⌜ r ≡ is-printable (new-token (token kind (now (text .entry)))) ⌝ }
+{
+    let mut i = 0;
+    while i < text.len() {
+        let b = text[i];
+        if b < 32 {
+            return false;
+        }
+        if 126 < b {
+            return false;
+        }
+        i += 1;
+    }
+    true
+}
+
+fn token_refusal(kind: u64, text: &[u8], totals: Totals) -> u64
+    ensures { λ r. ⌜ r ≡ first-no (questions [] (totals-of totals) (new-token (token kind (now (text .entry))))) ⌝ }
+{
+    if totals.lines == 0 {
+        return 5;
+    }
+    if !token_fits(kind, text, totals) {
+        return 6;
+    }
+    if !printable(kind, text) {
+        return 7;
+    }
+    0
+}
+
+// The number of the question from 5 to 8 that refuses a command, or 0.
+fn refusal(tape: &[u8], at: usize, command: Command, totals: Totals) -> u64
+    requires { ⌜ at + size-of command ≤ length (now tape) ⌝ }
+    ensures { λ r. ⌜ r ≡ first-no (questions (drop at (now (tape .entry))) (totals-of totals) (command-in (now (tape .entry)) at command)) ⌝ }
+{
+    match command {
+        Command::Addressed { address: _, indent } => {
+            if line_fits(indent, totals) { 0 } else { 6 }
+        }
+        Command::Plain { indent } => { if line_fits(indent, totals) { 0 } else { 6 } }
+        Command::Token { kind, count } => token_refusal(kind, token_text(tape, at, count), totals),
+        Command::End => { if tape.len() - at == 1 { 0 } else { 8 } }
+    }
+}
+
+// The totals with one command more.
+pub fn count_in(command: Command, totals: Totals) -> Totals
+    requires { ⌜ Counts command totals ⌝ }
+    ensures { λ r. ⌜ totals-of r ≡ counted command (totals-of totals) ⌝ }
+{
+    match command {
+        Command::Addressed {
+            address: _,
+            indent: _,
+        } => Totals {
+            lines: totals.lines + 1,
+            tokens: totals.tokens,
+            text: totals.text,
+        },
+        Command::Plain { indent: _ } => Totals {
+            lines: totals.lines + 1,
+            tokens: totals.tokens,
+            text: totals.text,
+        },
+        Command::Token { kind: _, count } => Totals {
+            lines: totals.lines,
+            tokens: totals.tokens + 1,
+            text: totals.text + count,
+        },
+        Command::End => totals,
+    }
+}
+
+// Reads the command at an offset, the totals so far being given.
+pub fn step(tape: &[u8], at: usize, totals: Totals) -> Stepped
+    ensures { λ r. ⌜ stepped (now (tape .entry)) at r ≡ read-command (now (tape .entry)) at (totals-of totals) ⌝ }
+{
+    match command_from(tape, at) {
+        Found::Unknown => Stepped::Refused(3),
+        Found::CutOff => Stepped::Refused(4),
+        Found::Whole(command) => {
+            let number = refusal(tape, at, command, totals);
+            if number != 0 {
+                return Stepped::Refused(number);
+            }
+            Stepped::Passed {
+                command,
+                next: at + size_of(command),
+                totals: count_in(command, totals),
+            }
+        }
+    }
+}
+
+// ---- the whole tape
+
+pub fn is_end(command: Command) -> bool
+    ensures { λ r. ⌜ r ≡ ends command ⌝ }
+{
+    match command {
+        Command::Addressed {
+            address: _,
+            indent: _,
+        } => false,
+        Command::Plain { indent: _ } => false,
+        Command::Token { kind: _, count: _ } => false,
+        Command::End => true,
+    }
+}
+
+// Asks the questions 3 to 8 of every command.
+pub fn check(tape: &[u8]) -> Checked
+    ensures { λ r. ⌜ checked r ≡ (let-passed (read (now (tape .entry))) then λ lines. Passed (totals-in lines)) ⌝ }
+{
+    let mut at = 0;
+    let mut totals = Totals {
+        lines: 0,
+        tokens: 0,
+        text: 0,
+    };
+    loop {
+        match step(tape, at, totals) {
+            Stepped::Refused(number) => {
+                return Checked::Refused { number, place: at };
+            }
+            Stepped::Passed {
+                command,
+                next,
+                totals: more,
+            } => {
+                if is_end(command) {
+                    return Checked::Passed(totals);
+                }
+                at = next;
+                totals = more;
+            }
+        }
+    }
+}
+
+// ---- before the tape
+
+// The number of the question that refuses the settings (1) or the lengths of what is lent (2), or 0.
+pub fn asked(rules: Rules, work_a: usize, work_b: usize, output: usize) -> u64
+    ensures { λ r. ⌜ r ≡ first-no ((1, is-convention (rules-of rules)) ∷ (2, has-room «work_a» «work_b» output) ∷ []) ⌝ }
+{
+    if 2 < rules.convention {
+        return 1;
+    }
+    if work_a < 65536 {
+        return 2;
+    }
+    if work_b < 65536 {
+        return 2;
+    }
+    if output < 54785 {
+        return 2;
+    }
+    0
+}
