@@ -10,16 +10,16 @@ use lib.IntN.{ℤ, _+ℤ_, _-ℤ_}
 use lib.ListN.{length, getD, take, drop, drop-of-length-le, length-map, length-drop}
 use lib.Seq.{take-suc, drop-cons, getD-drop}
 use Rattle.reference.specs.Control.{_&&_, _||_, if_then_else_, let-some_else_then_}
-use Rattle.reference.specs.Lists.{count}
 use Rattle.reference.specs.Text.{Text, bytes, _==_, starts-with, ends-with}
 use Rattle.reference.specs.Listing.{Token, token, is, Number}
 use Rattle.reference.specs.Numbers.{parse-c-number, wrap, show, delim-before, delim-after, folded, fold-at, fold}
 use Rattle.reference.specs.Claim.{size}
 use Rattle.reference.proofs.Cases.{none-some}
 use Rattle.reference.proofs.Shapes.{folds}
+use Rattle.joining.proofs.Room.{is-sign, signs, keep-room}
 use Rattle.laws.proofs.Scans.{if-true, if-false, and-true, and-false}
 use Rattle.lines.specs.Words.{text-of, token-of, tokens-of, Points, Holds}
-use Rattle.build.specs.Folding.{is-sign, operated, sum-of, number-token, last-of, fold-next, fold-behind}
+use Rattle.build.specs.Folding.{operated, sum-of, number-token, last-of, fold-next, fold-behind}
 
 -- ---- two numbers
 
@@ -121,18 +121,15 @@ module _ (before : Option Token) (n : Token) where
   fold-made (a ∷ b ∷ c ∷ rest) e = rw e
 
   -- three tokens, the one in the middle a sign; and what they make is short
-  pub fold-long : (ts : List Token) → fold-next before ts ≡ some n → (3 ≤ length ts) × (size n ≤ 19) × (1 + count is-sign (drop 3 ts) ≤ count is-sign (drop 1 ts))
-  unfolding is-sign if_then_else_
+  pub fold-long : (ts : List Token) → fold-next before ts ≡ some n → (3 ≤ length ts) × (size n ≤ 19) × (1 + signs (drop 3 ts) ≤ signs (drop 1 ts))
+  unfolding is-sign
   fold-long [] e = absurd (none-some e)
   fold-long (a ∷ []) e = absurd (none-some e)
   fold-long (a ∷ b ∷ []) e = absurd (none-some e)
   fold-long (a ∷ b ∷ c ∷ rest) e =
       let f = folds before a b c rest n e in
-      (omega arith, f .small, rw (f .sign) (more (is-sign c) (count is-sign rest)))
-    where
-      more : (x : Bool) (k : ℕ) → 1 + k ≤ suc (if x then suc k else k)
-      more true k = omega arith
-      more false k = omega arith
+      let one : signs (b ∷ c ∷ rest) ≡ suc (signs (c ∷ rest)) = if-true _ _ (f .sign) in
+      (omega arith, f .small, omega (arith, keep-room c rest))
 
 pub fold-begin : (ts : List Token) → fold ts ≡ fold-behind none ts
 unfolding fold
@@ -144,14 +141,9 @@ last-snoc [] t = refl
 last-snoc (a ∷ []) t = refl
 last-snoc (a ∷ b ∷ ts) t = last-snoc (b ∷ ts) t
 
-pub count-drop : (ts : List Token) → count is-sign (drop 1 ts) ≤ count is-sign ts
-unfolding if_then_else_
-count-drop [] = omega arith
-count-drop (t ∷ ts) = less (is-sign t) (count is-sign ts)
-  where
-    less : (x : Bool) (k : ℕ) → k ≤ (if x then suc k else k)
-    less true k = omega arith
-    less false k = omega arith
+pub signs-drop : (ts : List Token) → signs (drop 1 ts) ≤ signs ts
+signs-drop [] = omega arith
+signs-drop (t ∷ ts) = keep-room t ts
 
 -- ---- in a line of words
 

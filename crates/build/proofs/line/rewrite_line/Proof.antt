@@ -21,7 +21,7 @@ merge-requires c κs =
     let line-of = c .before .before .before .line-of in
     let p = c .before .before .before .before .before .before .before .before .before .pre in
     rw (line-of .ensures, c .before .before .line-of2 .ensures)
-    (p .substitutes, p .lined .holds, room-merge (unmerged (a .tape .now) (a .old .now) (a .old-tokens .now) (a .source) (a .j) (a .l)) (p .has-room))
+    (p .substitutes, p .lined .holds, room-merge (unmerged (a .tape .now) (a .old .now) (a .old-tokens .now) (a .source) (a .j) (a .l)) (p .numbers-short) (p .has-room))
 
 fold-last-requires : tie.Need-fold-last-requires
 fold-last-requires c κs =
@@ -31,7 +31,7 @@ fold-last-requires c κs =
     let merge = c .before .before .before .before .before .before .merge in
     let p = c .before .before .before .before .before .before .before .before .before .before .before .before .before .before .before .before .pre in
     let l = rw (line-of .ensures, line-of2 .ensures) at (merge .ensures) in
-    (l .built, room-fold (unmerged (a .tape .now) (a .old .now) (a .old-tokens .now) (a .source) (a .j) (a .l)) (p .has-room) l (merge .kept .1 .1 .1 .1 .1 .0) (merge .kept .1 .1 .1 .1 .1 .1 .0))
+    (l .built, room-fold (unmerged (a .tape .now) (a .old .now) (a .old-tokens .now) (a .source) (a .j) (a .l)) (p .numbers-short) (p .has-room) l (merge .kept .1 .1 .1 .1 .1 .0) (merge .kept .1 .1 .1 .1 .1 .1 .0))
 
 sub-count : tie.Need-sub-count
 sub-count c = search needs
@@ -45,7 +45,7 @@ with-tokens-requires c κs =
     let p = c .before .before .before .before .before .before .before .before .before .before .before .before .before .before .before .before .before .before .before .before .before .before .pre in
     let fold-last = c .before .before .before .before .before .fold-last in
     let l = rw (line-of .ensures, line-of2 .ensures) at (merge .ensures) in
-    let f = laid-folded (unmerged (a .tape .now) (a .old .now) (a .old-tokens .now) (a .source) (a .j) (a .l)) (p .has-room) l (fold-last .ensures) in
+    let f = laid-folded (unmerged (a .tape .now) (a .old .now) (a .old-tokens .now) (a .source) (a .j) (a .l)) (p .numbers-short) (p .has-room) l (fold-last .ensures) in
     (p .first-fits, count-fits f (a .l) (p .first-fits) (p .few))
 
 same-length : tie.Need-same-length
@@ -65,7 +65,7 @@ returns c =
     let l = rw (line-of .ensures, line-of2 .ensures) at (merge .ensures) in
     let ts = unmerged (a .tape .now) (a .old .now) (a .old-tokens .now) (a .source) (a .j) (a .l) in
     added-rewritten (p .lined) (p .first-fits) (c .with-tokens .ensures) (fam-text (a .tape .now) (a .old .now) (a .j .family)) (right-of (a .tape .now) (a .old .now) (part-of (a .old-tokens .now) (a .source)) (a .j)) (p .few)
-    (laid-folded ts (p .has-room) l (fold-last .ensures))
+    (laid-folded ts (p .numbers-short) (p .has-room) l (fold-last .ensures))
 
 pub rewrite-line-spec : {M : Type 1} → statement M
 rewrite-line-spec =
