@@ -9,18 +9,17 @@ use mathlib.Core.Option.{Option, none, some}
 use lib.IntN.{ℤ, _+ℤ_, _-ℤ_}
 use lib.ListN.{length, getD, take, drop, drop-of-length-le, length-map, length-drop}
 use lib.Seq.{take-suc, drop-cons, getD-drop}
-use borrow.Author.Tests.{eq-eqb, ne-eqb}
 use Rattle.reference.specs.Control.{_&&_, _||_, if_then_else_, let-some_else_then_}
-use Rattle.reference.specs.Lists.{count}
 use Rattle.reference.specs.Text.{Text, bytes, _==_, starts-with, ends-with}
 use Rattle.reference.specs.Listing.{Token, token, is, Number}
 use Rattle.reference.specs.Numbers.{parse-c-number, wrap, show, delim-before, delim-after, folded, fold-at, fold}
 use Rattle.reference.specs.Claim.{size}
 use Rattle.reference.proofs.Cases.{none-some}
 use Rattle.reference.proofs.Shapes.{folds}
+use Rattle.joining.proofs.Room.{is-sign, signs, keep-room}
 use Rattle.laws.proofs.Scans.{if-true, if-false, and-true, and-false}
 use Rattle.lines.specs.Words.{text-of, token-of, tokens-of, Points, Holds}
-use Rattle.build.specs.Folding.{is-sign, operated, sum-of, number-token, last-of, fold-next, fold-behind}
+use Rattle.build.specs.Folding.{operated, sum-of, number-token, last-of, fold-next, fold-behind}
 
 -- ---- two numbers
 
@@ -45,15 +44,6 @@ module _ (plus : Bool) {o : Option ℤ} (p : Option ℤ) where
 
 -- ---- three tokens
 
-module _ {k n : ℕ} (t : Token) (e : k ≡ t .kind) where
-  pub kind-is : k ≡ n → is n t ≡ true
-  unfolding is
-  kind-is h = eq-eqb _ _ (sym e ∙ h)
-
-  pub kind-not : (k ≡ n → ⊥) → is n t ≡ false
-  unfolding is
-  kind-not h = ne-eqb _ _ (λ q. h (e ∙ q))
-
 -- the tests around the three first
 folded-shape : (d e n m s plus : Bool) (o p : Option ℤ)
     → (if d && e && n && m && s
@@ -73,24 +63,24 @@ folded-shape true true true true true plus (some x) none = refl
 folded-shape true true true true true plus (some x) (some y) = refl
 
 module _ (a b c : Token) where
-  pub sum-left : is Number a ≡ false → none ≡ sum-of a b c
+  pub sum-left : false ≡ is Number a → none ≡ sum-of a b c
   unfolding sum-of
-  sum-left e = sym (if-false _ _ (and-false _ e))
+  sum-left e = sym (if-false _ _ (and-false _ (sym e)))
 
-  module _ (e : is Number a ≡ true) where
-    pub sum-right : is Number c ≡ false → none ≡ sum-of a b c
+  module _ (e : true ≡ is Number a) where
+    pub sum-right : false ≡ is Number c → none ≡ sum-of a b c
     unfolding sum-of
-    sum-right f = sym (if-false _ _ (and-true _ e ∙ and-false _ f))
+    sum-right f = sym (if-false _ _ (and-true _ (sym e) ∙ and-false _ (sym f)))
 
     -- x is what a call answered of the sign
-    module _ {x : Bool} (f : is Number c ≡ true) (g : x ≡ ((b .text == bytes " + ") || (b .text == bytes " - "))) where
+    module _ {x : Bool} (f : true ≡ is Number c) (g : x ≡ ((b .text == bytes " + ") || (b .text == bytes " - "))) where
       pub sum-sign : x ≡ false → none ≡ sum-of a b c
       unfolding sum-of is-sign
-      sum-sign h = sym (if-false _ _ (and-true _ e ∙ and-true _ f ∙ sym g ∙ h))
+      sum-sign h = sym (if-false _ _ (and-true _ (sym e) ∙ and-true _ (sym f) ∙ sym g ∙ h))
 
       pub sum-is : x ≡ true → operated (b .text == bytes " + ") (parse-c-number (a .text)) (parse-c-number (c .text)) ≡ sum-of a b c
       unfolding sum-of is-sign
-      sum-is h = sym (if-true _ _ (and-true _ e ∙ and-true _ f ∙ sym g ∙ h))
+      sum-is h = sym (if-true _ _ (and-true _ (sym e) ∙ and-true _ (sym f) ∙ sym g ∙ h))
 
   module _ (before : Option Token) (rest : List Token) where
     folded-is : folded before a b c rest ≡ (if delim-before before && delim-after rest then number-token (sum-of a b c) else none)
@@ -131,18 +121,15 @@ module _ (before : Option Token) (n : Token) where
   fold-made (a ∷ b ∷ c ∷ rest) e = rw e
 
   -- three tokens, the one in the middle a sign; and what they make is short
-  pub fold-long : (ts : List Token) → fold-next before ts ≡ some n → (3 ≤ length ts) × (size n ≤ 19) × (1 + count is-sign (drop 3 ts) ≤ count is-sign (drop 1 ts))
-  unfolding is-sign if_then_else_
+  pub fold-long : (ts : List Token) → fold-next before ts ≡ some n → (3 ≤ length ts) × (size n ≤ 19) × (1 + signs (drop 3 ts) ≤ signs (drop 1 ts))
+  unfolding is-sign
   fold-long [] e = absurd (none-some e)
   fold-long (a ∷ []) e = absurd (none-some e)
   fold-long (a ∷ b ∷ []) e = absurd (none-some e)
   fold-long (a ∷ b ∷ c ∷ rest) e =
       let f = folds before a b c rest n e in
-      (omega arith, f .small, rw (f .sign) (more (is-sign c) (count is-sign rest)))
-    where
-      more : (x : Bool) (k : ℕ) → 1 + k ≤ suc (if x then suc k else k)
-      more true k = omega arith
-      more false k = omega arith
+      let one : signs (b ∷ c ∷ rest) ≡ suc (signs (c ∷ rest)) = if-true _ _ (f .sign) in
+      (omega arith, f .small, omega (arith, keep-room c rest))
 
 pub fold-begin : (ts : List Token) → fold ts ≡ fold-behind none ts
 unfolding fold
@@ -154,14 +141,9 @@ last-snoc [] t = refl
 last-snoc (a ∷ []) t = refl
 last-snoc (a ∷ b ∷ ts) t = last-snoc (b ∷ ts) t
 
-pub count-drop : (ts : List Token) → count is-sign (drop 1 ts) ≤ count is-sign ts
-unfolding if_then_else_
-count-drop [] = omega arith
-count-drop (t ∷ ts) = less (is-sign t) (count is-sign ts)
-  where
-    less : (x : Bool) (k : ℕ) → k ≤ (if x then suc k else k)
-    less true k = omega arith
-    less false k = omega arith
+pub signs-drop : (ts : List Token) → signs (drop 1 ts) ≤ signs ts
+signs-drop [] = omega arith
+signs-drop (t ∷ ts) = keep-room t ts
 
 -- ---- in a line of words
 

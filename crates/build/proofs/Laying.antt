@@ -9,12 +9,13 @@ use lib.Seq.{slice-empty}
 use Rattle.reference.specs.Text.{Text}
 use Rattle.reference.specs.Listing.{Token}
 use Rattle.reference.specs.Numbers.{merge, fold}
-use Rattle.reference.specs.Claim.{size, text-in}
+use Rattle.reference.specs.Claim.{sum, size, text-in}
 use Rattle.reference.proofs.Weights.{sum-append}
+use Rattle.joining.specs.Limits.{room, over}
 use Rattle.lines.specs.Words.{len-of, token-of, tokens-of, Points}
 use Rattle.lines.proofs.words.Tokens.{holds-none, text-length}
 use Rattle.build.specs.declared.used.Size.{Size}
-use Rattle.build.specs.State.{used, line-now, room, Room, Appends, Laid}
+use Rattle.build.specs.State.{used, line-now, Room, Appends, Laid}
 use Rattle.build.specs.Folding.{signs-room, FoldedLast}
 use Rattle.build.proofs.Growing.{built-appended, line-appended, grows-appended}
 use Rattle.build.proofs.Pushes.{grows-none, grows-then, tokens-more, tokens-split}
@@ -80,25 +81,25 @@ module _ (tape old : Text) (ws : List ℕ) (i : ℕ) (h : i < length ws) (p : Po
 
 -- ---- merged and folded
 
-module _ {area : Text} {tokens : List ℕ} {at : Size} (ts : List Token) (r : Room area tokens at (room ts) (length ts)) where
+module _ {area : Text} {tokens : List ℕ} {at : Size} (ts : List Token) (short : sum over ts ≡ 0) (r : Room area tokens at (sum room ts) (length ts)) where
   pub room-merge : Room area tokens at (text-in ts) (length ts)
   room-merge =
-      record { text-fits = omega (arith, r .text-fits, room-covers ts); short = omega (arith, r .short, room-covers ts); words-fit = r .words-fit }
+      record { text-fits = omega (arith, r .text-fits, room-covers ts short); short = omega (arith, r .short, room-covers ts short); words-fit = r .words-fit }
 
   module _ {tape area′ : Text} {tokens′ : List ℕ} {at′ : Size} (l : Laid tape area tokens at (merge ts) (text-in ts) (length ts) area′ tokens′ at′) where
     pub room-fold : length area′ ≡ length area → length tokens′ ≡ length tokens → Room area′ tokens′ at′ (signs-room (line-now tape area′ tokens′ (at .tokens) at′)) 0
     room-fold la lt = rw (l .line-is) (record {
-      text-fits = omega (arith, r .text-fits, room-covers ts, l .text-most);
-      short = omega (arith, r .short, room-covers ts, l .text-most);
+      text-fits = omega (arith, r .text-fits, room-covers ts short, l .text-most);
+      short = omega (arith, r .short, room-covers ts short, l .text-most);
       words-fit = omega (arith, r .words-fit, l .words-most);
     })
 
     pub laid-folded : {area″ : Text} {tokens″ : List ℕ} {at″ : Size} → FoldedLast tape area′ tokens′ (at .tokens) at′ area″ tokens″ at″
-        → Laid tape area tokens at (fold (merge ts)) (room ts) (length ts) area″ tokens″ at″
+        → Laid tape area tokens at (fold (merge ts)) (sum room ts) (length ts) area″ tokens″ at″
     laid-folded f = record {
       built = f .built;
       line-is = f .line-is ∙ ap fold (l .line-is);
       grows = grows-then (l .grows) (f .grows);
-      text-most = omega (arith, room-covers ts, l .text-most, ap signs-room (l .line-is), f .text-most);
+      text-most = omega (arith, room-covers ts short, l .text-most, ap signs-room (l .line-is), f .text-most);
       words-most = omega (arith, l .words-most, f .words-most);
     }

@@ -10,19 +10,19 @@ use lib.IntN.{ℤ}
 use lib.ListN.{length, getD, set, take, drop, length-set, length-map, length-drop, drop-of-length-le}
 use lib.Seq.{take-take, take-suc-set, take-set-le, take-at, drop-set-lt, drop-cons, drop-drop, getD-drop, getD-set-same, length-take-le}
 use Rattle.reference.specs.Control.{let-some_else_then_}
-use Rattle.reference.specs.Lists.{count}
 use Rattle.reference.specs.Text.{Text}
 use Rattle.reference.specs.Listing.{Token, token, Number}
 use Rattle.reference.specs.Numbers.{show, fold}
+use Rattle.joining.proofs.Room.{signs}
 use Rattle.lines.specs.Words.{place-of, start-of, word, token-of, tokens-of, Points, Holds}
 use Rattle.lines.proofs.words.Each.{each-one, each-drop, each-append, map-drop}
 use Rattle.lines.proofs.words.Tokens.{word-start, holds-drop, holds-append, holds-snoc, holds-prefix, holds-grows, tokens-prefix, tokens-grow}
 use Rattle.numbers.specs.Writing.{Written}
 use Rattle.build.specs.declared.fold.Folding.{Folding}
 use Rattle.build.specs.State.{Fresh}
-use Rattle.build.specs.Folding.{is-sign, number-token, last-of, fold-next, done-now, left-now, folds-to, signs-room, text-limit, Foldable, Stepped, Folded}
+use Rattle.build.specs.Folding.{number-token, last-of, fold-next, done-now, left-now, folds-to, signs-room, text-limit, Foldable, Stepped, Folded}
 use Rattle.build.proofs.Appending.{take-behind, behind-points, behind-means}
-use Rattle.build.proofs.Folding.{fold-kept, fold-made, fold-long, fold-begin, last-snoc, count-drop}
+use Rattle.build.proofs.Folding.{fold-kept, fold-made, fold-long, fold-begin, last-snoc, signs-drop}
 
 module _ {tape area : Text} {line : List ℕ} {f : Folding} (s : Foldable tape area line f) where
   text-inside : f .text ≤ length area
@@ -92,7 +92,7 @@ module _ {tape area : Text} {line : List ℕ} {f : Folding} (s : Foldable tape a
 
     limit-kept : text-limit tape area line′ f′ ≤ text-limit tape area line f
     unfolding signs-room
-    limit-kept = rw (left′-is, left-is) (omega (arith, count-drop rest))
+    limit-kept = rw (left′-is, left-is) (omega (arith, signs-drop rest))
 
     pub stepped-kept : Stepped tape area line f area line′ f′
     stepped-kept = record {
@@ -126,7 +126,7 @@ module _ {tape area : Text} {line : List ℕ} {f : Folding} (s : Foldable tape a
     left-length = length-map (drop (f .next) line) (token-of tape (take (f .text) area)) ∙ length-drop (f .next) line
 
     facts : (3 ≤ length (left-now tape area line f)) × (length t ≤ 19)
-        × (1 + count is-sign (drop 3 (left-now tape area line f)) ≤ count is-sign (drop 1 (left-now tape area line f)))
+        × (1 + signs (drop 3 (left-now tape area line f)) ≤ signs (drop 1 (left-now tape area line f)))
     facts = fold-long (last-of (done-now tape area line f)) (token Number t) (left-now tape area line f) e
 
     pub fold-inside : f .next + 2 < length line

@@ -15,6 +15,7 @@ use Rattle.reference.specs.Numbers.{merge}
 use Rattle.reference.specs.Join.{substitute}
 use Rattle.reference.specs.Claim.{text-in}
 use Rattle.laws.proofs.Scans.{if-true, if-false}
+use Rattle.joining.specs.Plan.{Plan, right-side-of}
 use Rattle.lines.specs.Words.{token-of, tokens-of}
 use Rattle.lines.specs.Shapes.{expr-words}
 use Rattle.lines.specs.Fams.{fam-text}
@@ -28,7 +29,10 @@ use Rattle.build.proofs.Pushes.{pushed-none, tokens-more, tokens-split}
 
 module _ (tape area : Text) (source : List ℕ) (j : Substitution) where
   -- what a call answered of the token
-  module _ (t : Token) {x : Bool} (e : x ≡ of-family (fam-text tape area (j .family)) t) where
+  module _ (w : ℕ) {x : Bool} (e : x ≡ of-family (fam-text tape area (j .family)) (token-of tape area w)) where
+    abbrev t : Token
+    t = token-of tape area w
+
     pub used-kept : x ≡ false → used-as tape area source j t ≡ t ∷ []
     unfolding used-as
     used-kept h = if-false _ _ (sym e ∙ h)
@@ -105,3 +109,11 @@ laid-merged {tokens = tokens} {at} {ts} p = record {
   text-most = p .text-most;
   words-most = p .words-most;
 }
+
+-- ---- the plan
+
+-- what takes the place of a token is the plan's right side
+pub right-is : (tape area : Text) (source : List ℕ) (j : Substitution) (p : Plan) → p .expr ≡ tokens-of tape area (expr-words source (j .expr)) → p .brackets ≡ j .brackets
+    → right-of tape area source j ≡ right-side-of p
+unfolding right-of right-side-of
+right-is tape area source j p e b = rw (e, b)

@@ -6,14 +6,15 @@ use lib.ListN.{length, take}
 use Rattle.reference.specs.Text.{Text}
 use Rattle.reference.specs.Listing.{Token, Line}
 use Rattle.reference.specs.Join.{rewrite-use}
-use Rattle.reference.specs.Claim.{text-in}
+use Rattle.reference.specs.Claim.{sum, text-in}
+use Rattle.joining.specs.Limits.{room, over}
 use Rattle.lines.specs.Words.{tokens-of}
 use Rattle.lines.specs.Fams.{fam-text}
 use Rattle.lines.specs.Lines.{first-of, count-of, part-of, line-in, Lined}
 use Rattle.build.specs.declared.used.Size.{Size}
 use Rattle.build.specs.declared.line.Appended.{Appended}
 use Rattle.build.specs.declared.merge.Substitution.{Substitution}
-use Rattle.build.specs.State.{used, room, Room, Fresh}
+use Rattle.build.specs.State.{used, Room, Fresh}
 use Rattle.build.specs.Substitution.{right-of, substituted, Substitutes}
 
 -- the words in use
@@ -59,7 +60,8 @@ pub record Rewritable (tape old : Text) (words : List ℕ) (source : ℕ) (j : S
   pub source-lined : Lined tape old words source
   pub substitutes : Substitutes tape old (part-of words source) j
   pub lined : Lined tape old words l
-  pub has-room : Room area tokens at (room (unmerged tape old words source j l)) (length (unmerged tape old words source j l))
+  pub numbers-short : sum over (unmerged tape old words source j l) ≡ 0
+  pub has-room : Room area tokens at (sum room (unmerged tape old words source j l)) (length (unmerged tape old words source j l))
   pub first-fits : at .tokens < 65536
   pub few : length (unmerged tape old words source j l) < 2048
 
@@ -68,7 +70,7 @@ abbrev pub Rewritten : Text → Text → List ℕ → ℕ → Substitution → �
 Rewritten tape old words source j l area tokens at =
     Added tape area tokens at
     (λ addresses. rewrite-use (fam-text tape old (j .family)) (right-of tape old (part-of words source) j) (line-in tape old words addresses l))
-    (room (unmerged tape old words source j l)) (length (unmerged tape old words source j l))
+    (sum room (unmerged tape old words source j l)) (length (unmerged tape old words source j l))
 
 -- ---- the end of a line
 

@@ -6,21 +6,17 @@ use mathlib.Core.List.{List, [], _∷_, _++_}
 use mathlib.Core.Option.{Option, none, some}
 use lib.IntN.{ℤ, _+ℤ_, _-ℤ_}
 use lib.ListN.{length, take, drop}
-use Rattle.reference.specs.Control.{_&&_, _||_, if_then_else_, let-some_else_then_}
-use Rattle.reference.specs.Lists.{count}
+use Rattle.reference.specs.Control.{_&&_, if_then_else_, let-some_else_then_}
 use Rattle.reference.specs.Text.{Text, bytes, _==_}
 use Rattle.reference.specs.Listing.{Token, token, is, Number}
 use Rattle.reference.specs.Numbers.{parse-c-number, wrap, show, folded, fold-at, fold}
+use Rattle.joining.proofs.Room.{is-sign, signs}
 use Rattle.lines.specs.Words.{tokens-of, Holds}
 use Rattle.build.specs.declared.fold.Folding.{Folding}
 use Rattle.build.specs.declared.used.Size.{Size}
 use Rattle.build.specs.State.{line-now, Fresh, Built, Grows}
 
 -- ---- what a fold makes
-
--- a token between two numbers
-unfoldable pub is-sign : Token → Bool
-is-sign t = (t .text == bytes " + ") || (t .text == bytes " - ")
 
 unfoldable pub operated : Bool → Option ℤ → Option ℤ → Option ℤ
 operated plus o p = let-some o else none then λ x. let-some p else none then λ y. some (wrap (if plus then x +ℤ y else x -ℤ y))
@@ -65,7 +61,7 @@ folds-to tape area line f = done-now tape area line f ++ fold-behind (last-of (d
 
 -- how many bytes the folds of the tokens ts make at most: each makes at most 19, and takes away a sign behind the token at which it is made
 unfoldable pub signs-room : List Token → ℕ
-signs-room ts = 19 * count is-sign (drop 1 ts)
+signs-room ts = 19 * signs (drop 1 ts)
 
 -- how far the text may come
 abbrev pub text-limit : Text → Text → List ℕ → Folding → ℕ

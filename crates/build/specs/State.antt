@@ -9,9 +9,9 @@ use lib.ListN.{length, getD, take}
 use lib.Seq.{slice}
 use Rattle.reference.specs.Control.{_&&_, _||_, if_then_else_}
 use Rattle.reference.specs.Text.{Text}
-use Rattle.reference.specs.Listing.{Token, token, is, Number, Plain, Punct}
+use Rattle.reference.specs.Listing.{Token, token, Plain, Punct}
 use Rattle.reference.specs.Numbers.{joins}
-use Rattle.reference.specs.Claim.{sum, size, text-in}
+use Rattle.reference.specs.Claim.{text-in}
 use Rattle.lines.specs.Words.{kind-of, place-of, start-of, len-of, token-of, tokens-of, Points, Holds}
 use Rattle.build.specs.declared.used.Size.{Size}
 
@@ -29,16 +29,6 @@ pushes out (t ∷ ts) = pushes (push-token out t) ts
 -- the kinds that are joined
 unfoldable pub joinable : ℕ → Bool
 joinable k = eqb k Punct || eqb k Plain
-
--- ---- room
-
--- the bytes that a token before merging may come to take: its own, and of a number at least 24, of another token 24 more. What a fold makes,
--- at most 19 bytes, is counted for the operator that it takes away.
-unfoldable pub room-of : Token → ℕ
-room-of t = if is Number t then size t - 24 + 24 else size t + 24
-
-abbrev pub room : List Token → ℕ
-room = sum room-of
 
 -- so much text and so many words more can be appended
 pub record Room (area : Text) (tokens : List ℕ) (at : Size) (text count : ℕ) : Type 0 where

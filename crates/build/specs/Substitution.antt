@@ -17,7 +17,9 @@ bracketed expr = token Punct (bytes "(") ∷ expr ++ (token Punct (bytes ")") �
 -- the right side of the line `source`, in brackets or without
 unfoldable pub right-of : Text → Text → List ℕ → Substitution → List Token
 right-of tape area source j =
-    if j .brackets then bracketed (tokens-of tape area (expr-words source (j .expr))) else tokens-of tape area (expr-words source (j .expr))
+    if j .brackets
+    then bracketed (tokens-of tape area (expr-words source (j .expr)))
+    else tokens-of tape area (expr-words source (j .expr))
 
 -- what a token becomes
 unfoldable pub used-as : Text → Text → List ℕ → Substitution → Token → List Token

@@ -150,10 +150,11 @@ fn push_used<'a>(
 {
     let f = j.family;
     let x = j.expr;
+    let brackets = j.brackets;
     if !is_of(tape, old, w, f) {
         return push(tape, old, w, area, tokens, from, size);
     }
-    if j.brackets {
+    if brackets {
         return push_bracketed(tape, old, source, x, area, tokens, from, size);
     }
     push_expr(tape, old, source, x, area, tokens, from, size)

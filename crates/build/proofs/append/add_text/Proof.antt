@@ -31,9 +31,11 @@ same-length-2 : tie.Need-same-length-2
 same-length-2 c = search needs
 
 returns : tie.Need-returns
-returns c = let a = c .before .before .before .before .before .before .before .before .args in
-    let p = c .before .before .before .before .before .before .before .before .pre in (
-      λ tape. copied tape (a .area .now) (a .tokens .now) (a .size) (a .kind) (a .s .now) (p .0) (p .1) (c .before .before .before .copy-bytes .ensures) (c .token-word .ensures),
+returns c =
+    let a = c .before .before .before .before .before .before .before .before .args in
+    let p = c .before .before .before .before .before .before .before .before .pre in
+    let copy-bytes = c .before .before .before .copy-bytes in (
+      λ tape. copied tape (a .area .now) (a .tokens .now) (a .size) (a .kind) (a .s .now) (p .0) (p .1) (copy-bytes .ensures) (c .token-word .ensures),
       place-at (a .tokens .now) (a .size .tokens) (a .kind) (a .size .text) (length (a .s .now)) (omega (arith, p .1 .words-fit)) (p .0) (omega (arith, p .1 .short)) (c .token-word .ensures),
     )
 

@@ -35,7 +35,10 @@ add-token-word : tie.Need-add-token-word
 add-token-word c = search needs
 
 token-word-requires : tie.Need-token-word-requires
-token-word-requires c κs = let w = getD (c .before .before .before .before .before .before .before .before .before .before .before .before .args .tokens .now) (c .before .before .before .before .before .before .before .before .before .before .before .before .args .size .tokens - 1) 0 in omega (arith, kind-below w, start-below w, c .before .before .kind .ensures, c .before .start .ensures, c .len .ensures, c .before .before .before .before .before .before .before .before .before .before .before .before .pre .1 .short, c .before .before .before .before .before .before .before .before .before .before .before .before .pre .3)
+token-word-requires c κs =
+    let a = c .before .before .before .before .before .before .before .before .before .before .before .before .args in
+    let p = c .before .before .before .before .before .before .before .before .before .before .before .before .pre in
+    let w = getD (a .tokens .now) (a .size .tokens - 1) 0 in omega (arith, kind-below w, start-below w, c .before .before .kind .ensures, c .before .start .ensures, c .len .ensures, p .1 .short, p .3)
 
 mul-tokens : tie.Need-mul-tokens
 mul-tokens c = search needs
@@ -56,12 +59,15 @@ same-length-2 : tie.Need-same-length-2
 same-length-2 c = search needs
 
 returns : tie.Need-returns
-returns c = let a = c .before .before .before .before .before .before .before .before .before .before .before .before .before .args in
+returns c =
+    let a = c .before .before .before .before .before .before .before .before .before .before .before .before .before .args in
     let p = c .before .before .before .before .before .before .before .before .before .before .before .before .before .pre in
+    let kind = c .before .before .before .kind in
+    let copy-bytes = c .before .before .before .before .before .before .copy-bytes in
     let n = a .size .tokens - 1 in
     let w = getD (a .tokens .now) n 0 in
-    let ew : c .token-word .result ≡ word (kind-of w) 1 (start-of w) (len-of w + length (a .s .now)) = c .token-word .ensures ∙ rw (c .before .before .before .kind .ensures, c .before .before .start .ensures, c .before .len .ensures) in (
-      λ tape. lengthened tape (a .area .now) (a .tokens .now) (a .size) n (a .s .now) (p .1) (omega arith) (p .2) (p .3) (c .before .before .before .before .before .before .copy-bytes .ensures) ew,
+    let ew : c .token-word .result ≡ word (kind-of w) 1 (start-of w) (len-of w + length (a .s .now)) = c .token-word .ensures ∙ rw (kind .ensures, c .before .before .start .ensures, c .before .len .ensures) in (
+      λ tape. lengthened tape (a .area .now) (a .tokens .now) (a .size) n (a .s .now) (p .1) (omega arith) (p .2) (p .3) (copy-bytes .ensures) ew,
       place-at (a .tokens .now) n (kind-of w) (start-of w) (len-of w + length (a .s .now)) (omega (arith, p .1 .words-fit)) (kind-below w) (start-below w) ew,
     )
 

@@ -21,7 +21,10 @@ same-length : tie.Need-same-length
 same-length c = search needs
 
 returns : tie.Need-returns
-returns c = let a = c .before .before .before .before .before .before .before .before .before .before .args in appends-within refl zero-le (c .before .before .add-word .ensures (a .tape .now) (a .old .now) (a .area .now) (c .before .before .before .before .before .before .before .before .before .before .pre .0))
+returns c =
+    let a = c .before .before .before .before .before .before .before .before .before .before .args in
+    let p = c .before .before .before .before .before .before .before .before .before .before .pre in
+    appends-within refl zero-le (c .before .before .add-word .ensures (a .tape .now) (a .old .now) (a .area .now) (p .0))
 
 kind-requires : tie.Need-kind-requires
 kind-requires c κs = search needs
@@ -30,8 +33,13 @@ text-requires : tie.Need-text-requires
 text-requires c κs = search needs
 
 add-text-requires : tie.Need-add-text-requires
-add-text-requires c κs = let l : length (c .before .before .text .result .now) ≤ len-of (c .before .before .before .before .before .before .before .before .before .before .args .w) = omega (arith, ap length (c .before .before .text .ensures), text-length (c .before .before .before .before .before .before .before .before .before .before .pre .0)) in
-    (omega (arith, c .before .before .before .kind .ensures, kind-below (c .before .before .before .before .before .before .before .before .before .before .args .w)), room-within l (le-refl _) (c .before .before .before .before .before .before .before .before .before .before .pre .1))
+add-text-requires c κs =
+    let text = c .before .before .text in
+    let a = c .before .before .before .before .before .before .before .before .before .before .args in
+    let p = c .before .before .before .before .before .before .before .before .before .before .pre in
+    let kind = c .before .before .before .kind in
+    let l : length (text .result .now) ≤ len-of (a .w) = omega (arith, ap length (text .ensures), text-length (p .0)) in
+    (omega (arith, kind .ensures, kind-below (a .w)), room-within l (le-refl _) (p .1))
 
 same-length-2 : tie.Need-same-length-2
 same-length-2 c = search needs
@@ -40,8 +48,14 @@ same-length-3 : tie.Need-same-length-3
 same-length-3 c = search needs
 
 returns-2 : tie.Need-returns-2
-returns-2 c = let l : length (c .before .before .before .before .before .before .before .text .result .now) ≤ len-of (c .before .before .before .before .before .before .before .before .before .before .before .before .before .before .before .args .w) = omega (arith, ap length (c .before .before .before .before .before .before .before .text .ensures), text-length (c .before .before .before .before .before .before .before .before .before .before .before .before .before .before .before .pre .0)) in
-    appends-within (rw (c .before .before .before .before .before .before .before .before .kind .ensures, c .before .before .before .before .before .before .before .text .ensures)) l (c .before .before .before .before .add-text .ensures .0 (c .before .before .before .before .before .before .before .before .before .before .before .before .before .before .before .args .tape .now))
+returns-2 c =
+    let text = c .before .before .before .before .before .before .before .text in
+    let a = c .before .before .before .before .before .before .before .before .before .before .before .before .before .before .before .args in
+    let p = c .before .before .before .before .before .before .before .before .before .before .before .before .before .before .before .pre in
+    let kind = c .before .before .before .before .before .before .before .before .kind in
+    let add-text = c .before .before .before .before .add-text in
+    let l : length (text .result .now) ≤ len-of (a .w) = omega (arith, ap length (text .ensures), text-length (p .0)) in
+    appends-within (rw (kind .ensures, text .ensures)) l (add-text .ensures .0 (a .tape .now))
 
 pub keep-spec : {M : Type 1} → statement M
 keep-spec =

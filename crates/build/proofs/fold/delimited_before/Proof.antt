@@ -8,7 +8,9 @@ use Rattle.build.proofs.fold.delimited_before.Statement.{statement}
 use Rattle.build.proofs.fold.delimited_before.Tie as tie
 
 returns : tie.Need-returns
-returns c = before-first (c .before .before .before .before .args .tape .now) (c .before .before .before .before .args .area .now) (c .before .before .before .before .args .line .now) (c .if1 .taken)
+returns c =
+    let a = c .before .before .before .before .args in
+    before-first (a .tape .now) (a .area .now) (a .line .now) (c .if1 .taken)
 
 sub-text : tie.Need-sub-text
 sub-text c = search needs
@@ -20,14 +22,20 @@ shared-slice-read-text : tie.Need-shared-slice-read-text
 shared-slice-read-text c = search needs
 
 text-requires : tie.Need-text-requires
-text-requires c κs = let k = c .before .before .before .before .before .args .kept in
-    rw (getD-take k (c .before .before .before .before .before .args .line .now) (k - 1) 0 (omega arith)) at (c .before .before .before .before .before .pre .1 .at (k - 1) (rw (length-take-le k (c .before .before .before .before .before .args .line .now) (c .before .before .before .before .before .pre .0)) (omega arith)))
+text-requires c κs =
+    let a = c .before .before .before .before .before .args in
+    let p = c .before .before .before .before .before .pre in
+    let k = a .kept in
+    rw (getD-take k (a .line .now) (k - 1) 0 (omega arith)) at (p .1 .at (k - 1) (rw (length-take-le k (a .line .now) (p .0)) (omega arith)))
 
 delimits-before-requires : tie.Need-delimits-before-requires
 delimits-before-requires c κs = search needs
 
 returns-2 : tie.Need-returns-2
-returns-2 c = before-at (c .before .before .before .before .before .before .before .args .tape .now) (c .before .before .before .before .before .before .before .args .area .now) (c .before .before .before .before .before .before .before .args .line .now) (c .before .before .before .before .before .before .before .args .kept) (omega arith) (c .before .before .before .before .before .before .before .pre .0) (c .before .text .ensures) (c .delimits-before .ensures)
+returns-2 c =
+    let a = c .before .before .before .before .before .before .before .args in
+    let p = c .before .before .before .before .before .before .before .pre in
+    before-at (a .tape .now) (a .area .now) (a .line .now) (a .kept) (omega arith) (p .0) (c .before .text .ensures) (c .delimits-before .ensures)
 
 pub delimited-before-spec : {M : Type 1} → statement M
 delimited-before-spec =

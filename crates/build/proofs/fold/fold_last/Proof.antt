@@ -17,7 +17,9 @@ part-fold-end : tie.Need-part-fold-end
 part-fold-end c = search needs
 
 fold-requires : tie.Need-fold-requires
-fold-requires c κs = foldable-last (c .before .before .before .before .before .pre .0) (c .before .before .before .before .before .pre .1)
+fold-requires c κs =
+    let p = c .before .before .before .before .before .pre in
+    foldable-last (p .0) (p .1)
 
 add-t10 : tie.Need-add-t10
 add-t10 c = search needs
@@ -29,7 +31,10 @@ same-length-2 : tie.Need-same-length-2
 same-length-2 c = search needs
 
 returns : tie.Need-returns
-returns c = folded-last (c .before .before .before .before .before .before .before .before .before .before .before .pre .0) _ (c .before .before .before .before .before .fold .ensures) (c .before .before .before .before .before .fold .kept .1 .0) (c .before .before .before .before .before .fold .kept .1 .1 .0) (c .before .before .before .before .before .before .before .before .before .before .before .pre .1)
+returns c =
+    let p = c .before .before .before .before .before .before .before .before .before .before .before .pre in
+    let fold = c .before .before .before .before .before .fold in
+    folded-last (p .0) _ (fold .ensures) (fold .kept .1 .0) (fold .kept .1 .1 .0) (p .1)
 
 pub fold-last-spec : {M : Type 1} → statement M
 fold-last-spec =

@@ -9,13 +9,19 @@ use Rattle.build.proofs.fold.fold_step.Statement.{statement}
 use Rattle.build.proofs.fold.fold_step.Tie as tie
 
 fold-value-requires : tie.Need-fold-value-requires
-fold-value-requires c κs = let s = c .before .before .before .before .before .pre .0 in (omega (arith, s .kept-first, s .inside), s .inside, done-whole s, left-whole s)
+fold-value-requires c κs =
+    let p = c .before .before .before .before .before .pre in
+    let s = p .0 in (omega (arith, s .kept-first, s .inside), s .inside, done-whole s, left-whole s)
 
 enum-known-v : tie.Need-enum-known-v
 enum-known-v c = search needs
 
 put-number-requires : tie.Need-put-number-requires
-put-number-requires c κs = fold-room (c .before .before .before .before .before .before .before .before .before .before .pre .0) (next-some (c .before .before .before .before .before .before .before .before .before .before .pre .0) (ap meaning (c .before .before .v .given .1)) (read-back (c .before .before .v .given .0 .0) (c .before .known-told .given .0 .1)) (c .before .before .before .before .fold-value .ensures))
+put-number-requires c κs =
+    let p = c .before .before .before .before .before .before .before .before .before .before .pre in
+    let v = c .before .before .v in
+    let fold-value = c .before .before .before .before .fold-value in
+    fold-room (p .0) (next-some (p .0) (ap meaning (v .given .1)) (read-back (v .given .0 .0) (c .before .known-told .given .0 .1)) (fold-value .ensures))
 
 add-to : tie.Need-add-to
 add-to c = search needs
@@ -24,15 +30,25 @@ sub-token-word : tie.Need-sub-token-word
 sub-token-word c = search needs
 
 token-word-requires : tie.Need-token-word-requires
-token-word-requires c κs = let s = c .before .before .before .before .before .before .before .before .before .before .before .before .before .pre .0 in
-    let e = next-some s (ap meaning (c .before .before .before .before .before .v .given .1)) (read-back (c .before .before .before .before .before .v .given .0 .0) (c .before .before .before .before .known-told .given .0 .1)) (c .before .before .before .before .before .before .before .fold-value .ensures) in
+token-word-requires c κs =
+    let p = c .before .before .before .before .before .before .before .before .before .before .before .before .before .pre in
+    let v = c .before .before .before .before .before .v in
+    let known-told = c .before .before .before .before .known-told in
+    let fold-value = c .before .before .before .before .before .before .before .fold-value in
+    let s = p .0 in
+    let e = next-some s (ap meaning (v .given .1)) (read-back (v .given .0 .0) (known-told .given .0 .1)) (fold-value .ensures) in
     omega (arith, fold-short s e, fold-text s e, c .before .before .put-number .ensures .end-is)
 
 mul-line : tie.Need-mul-line
 mul-line c = search needs
 
 slice-write-line : tie.Need-slice-write-line
-slice-write-line c = fold-inside (c .before .before .before .before .before .before .before .before .before .before .before .before .before .before .pre .0) (next-some (c .before .before .before .before .before .before .before .before .before .before .before .before .before .before .pre .0) (ap meaning (c .before .before .before .before .before .before .v .given .1)) (read-back (c .before .before .before .before .before .before .v .given .0 .0) (c .before .before .before .before .before .known-told .given .0 .1)) (c .before .before .before .before .before .before .before .before .fold-value .ensures))
+slice-write-line c =
+    let p = c .before .before .before .before .before .before .before .before .before .before .before .before .before .before .pre in
+    let v = c .before .before .before .before .before .before .v in
+    let known-told = c .before .before .before .before .before .known-told in
+    let fold-value = c .before .before .before .before .before .before .before .before .fold-value in
+    fold-inside (p .0) (next-some (p .0) (ap meaning (v .given .1)) (read-back (v .given .0 .0) (known-told .given .0 .1)) (fold-value .ensures))
 
 enum-told : tie.Need-enum-told
 enum-told c = search needs
@@ -62,8 +78,14 @@ same-length-2 : tie.Need-same-length-2
 same-length-2 c = search needs
 
 returns : tie.Need-returns
-returns c = let s = c .before .before .before .before .before .before .before .before .before .before .before .before .before .before .pre .0 in
-    stepped-made s (next-some s (ap meaning (c .before .before .before .before .before .before .v .given .1)) (read-back (c .before .before .before .before .before .before .v .given .0 .0) (c .before .before .before .before .before .known-told .given .0 .1)) (c .before .before .before .before .before .before .before .before .fold-value .ensures)) (c .before .before .before .put-number .ensures) (c .token-word .ensures) (c .before .before .before .put-number .kept .1 .0)
+returns c =
+    let p = c .before .before .before .before .before .before .before .before .before .before .before .before .before .before .pre in
+    let v = c .before .before .before .before .before .before .v in
+    let known-told = c .before .before .before .before .before .known-told in
+    let fold-value = c .before .before .before .before .before .before .before .before .fold-value in
+    let put-number = c .before .before .before .put-number in
+    let s = p .0 in
+    stepped-made s (next-some s (ap meaning (v .given .1)) (read-back (v .given .0 .0) (known-told .given .0 .1)) (fold-value .ensures)) (put-number .ensures) (c .token-word .ensures) (put-number .kept .1 .0)
 
 same-length-3 : tie.Need-same-length-3
 same-length-3 c = search needs
@@ -72,7 +94,10 @@ same-length-4 : tie.Need-same-length-4
 same-length-4 c = search needs
 
 returns-2 : tie.Need-returns-2
-returns-2 c = stepped-kept (c .before .before .before .before .before .before .before .before .before .pre .0) (c .before .before .before .before .before .before .before .before .before .pre .1) (next-none (c .before .before .before .before .before .before .before .before .before .pre .0) (ap meaning (c .before .enum-told .given .1)) (c .before .before .before .fold-value .ensures))
+returns-2 c =
+    let p = c .before .before .before .before .before .before .before .before .before .pre in
+    let fold-value = c .before .before .before .fold-value in
+    stepped-kept (p .0) (p .1) (next-none (p .0) (ap meaning (c .before .enum-told .given .1)) (fold-value .ensures))
 
 pub fold-step-spec : {M : Type 1} → statement M
 fold-step-spec =

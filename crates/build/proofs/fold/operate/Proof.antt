@@ -14,7 +14,9 @@ enum-told : tie.Need-enum-told
 enum-told c = search needs
 
 returns : tie.Need-returns
-returns c = unread-left (c .before .before .args .plus) (meaning (c .before .before .args .b)) (ap meaning (c .enum-told .given .1))
+returns c =
+    let a = c .before .before .args in
+    unread-left (a .plus) (meaning (a .b)) (ap meaning (c .enum-told .given .1))
 
 enum-known-b : tie.Need-enum-known-b
 enum-known-b c = search needs
@@ -23,21 +25,34 @@ enum-told-2 : tie.Need-enum-told-2
 enum-told-2 c = search needs
 
 returns-2 : tie.Need-returns-2
-returns-2 c = unread-right (c .before .before .before .before .before .args .plus) (meaning (c .before .before .before .before .before .args .b)) (ap meaning (c .before .before .before .a .given .1)) (ap meaning (c .enum-told2 .given .1))
+returns-2 c =
+    let args = c .before .before .before .before .before .args in
+    let a = c .before .before .before .a in
+    unread-right (args .plus) (meaning (args .b)) (ap meaning (a .given .1)) (ap meaning (c .enum-told2 .given .1))
 
 wrapping-add-requires : tie.Need-wrapping-add-requires
 wrapping-add-requires c κs = search needs
 
 returns-3 : tie.Need-returns-3
-returns-3 c = read-sum (c .before .before .before .before .before .before .before .before .args .plus) (meaning (c .before .before .before .before .before .before .before .before .args .b)) (ap meaning (c .before .before .before .before .before .before .a .given .1)) (ap meaning (c .before .before .before .b .given .1)) (read-back (c .before .before .before .before .before .before .a .given .0 .0) (c .before .before .before .before .before .known-told .given .0 .1))
-    (read-back (c .before .before .before .b .given .0 .0) (c .before .before .known-told2 .given .0 .1)) (read-back _ (c .wrapping-add .ok)) (c .before .if1 .taken) (c .wrapping-add .ensures)
+returns-3 c =
+    let args = c .before .before .before .before .before .before .before .before .args in
+    let a = c .before .before .before .before .before .before .a in
+    let b = c .before .before .before .b in
+    let known-told = c .before .before .before .before .before .known-told in
+    read-sum (args .plus) (meaning (args .b)) (ap meaning (a .given .1)) (ap meaning (b .given .1)) (read-back (a .given .0 .0) (known-told .given .0 .1))
+    (read-back (b .given .0 .0) (c .before .before .known-told2 .given .0 .1)) (read-back _ (c .wrapping-add .ok)) (c .before .if1 .taken) (c .wrapping-add .ensures)
 
 wrapping-sub-requires : tie.Need-wrapping-sub-requires
 wrapping-sub-requires c κs = search needs
 
 returns-4 : tie.Need-returns-4
-returns-4 c = read-difference (c .before .before .before .before .before .before .before .before .args .plus) (meaning (c .before .before .before .before .before .before .before .before .args .b)) (ap meaning (c .before .before .before .before .before .before .a .given .1)) (ap meaning (c .before .before .before .b .given .1)) (read-back (c .before .before .before .before .before .before .a .given .0 .0) (c .before .before .before .before .before .known-told .given .0 .1))
-    (read-back (c .before .before .before .b .given .0 .0) (c .before .before .known-told2 .given .0 .1)) (read-back _ (c .wrapping-sub .ok)) (c .before .if1 .left) (c .wrapping-sub .ensures)
+returns-4 c =
+    let args = c .before .before .before .before .before .before .before .before .args in
+    let a = c .before .before .before .before .before .before .a in
+    let b = c .before .before .before .b in
+    let known-told = c .before .before .before .before .before .known-told in
+    read-difference (args .plus) (meaning (args .b)) (ap meaning (a .given .1)) (ap meaning (b .given .1)) (read-back (a .given .0 .0) (known-told .given .0 .1))
+    (read-back (b .given .0 .0) (c .before .before .known-told2 .given .0 .1)) (read-back _ (c .wrapping-sub .ok)) (c .before .if1 .left) (c .wrapping-sub .ensures)
 
 pub operate-spec : {M : Type 1} → statement M
 operate-spec =

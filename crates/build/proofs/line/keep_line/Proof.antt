@@ -10,13 +10,20 @@ line-of-requires : tie.Need-line-of-requires
 line-of-requires c κs = search needs
 
 keep-tokens-requires : tie.Need-keep-tokens-requires
-keep-tokens-requires c κs = rw (c .before .before .line-of .ensures) (c .before .before .before .before .before .before .before .before .pre .lined .holds, rw (part-length (c .before .before .before .before .before .before .before .before .pre .lined)) (c .before .before .before .before .before .before .before .before .pre .has-room))
+keep-tokens-requires c κs =
+    let p = c .before .before .before .before .before .before .before .before .pre in
+    rw (c .before .before .line-of .ensures) (p .lined .holds, rw (part-length (p .lined)) (p .has-room))
 
 sub-count : tie.Need-sub-count
 sub-count c = search needs
 
 with-tokens-requires : tie.Need-with-tokens-requires
-with-tokens-requires c κs = (c .before .before .before .before .before .before .before .before .before .before .before .before .before .before .pre .first-fits, omega (arith, count-below (c .before .before .before .before .before .before .before .before .before .before .before .before .before .before .args .l), part-length (c .before .before .before .before .before .before .before .before .before .before .before .before .before .before .pre .lined), (rw (c .before .before .before .before .before .before .before .before .line-of .ensures) at (c .before .before .before .before .before .keep-tokens .ensures)) .words-most))
+with-tokens-requires c κs =
+    let p = c .before .before .before .before .before .before .before .before .before .before .before .before .before .before .pre in
+    let a = c .before .before .before .before .before .before .before .before .before .before .before .before .before .before .args in
+    let line-of = c .before .before .before .before .before .before .before .before .line-of in
+    let keep-tokens = c .before .before .before .before .before .keep-tokens in
+    (p .first-fits, omega (arith, count-below (a .l), part-length (p .lined), (rw (line-of .ensures) at (keep-tokens .ensures)) .words-most))
 
 same-length : tie.Need-same-length
 same-length c = search needs
@@ -25,7 +32,11 @@ same-length-2 : tie.Need-same-length-2
 same-length-2 c = search needs
 
 returns : tie.Need-returns
-returns c = added-kept (c .before .before .before .before .before .before .before .before .before .before .before .before .before .before .before .pre .lined) (c .before .before .before .before .before .before .before .before .before .before .before .before .before .before .before .pre .first-fits) (c .with-tokens .ensures) (rw (c .before .before .before .before .before .before .before .before .before .line-of .ensures) at (c .before .before .before .before .before .before .keep-tokens .ensures))
+returns c =
+    let p = c .before .before .before .before .before .before .before .before .before .before .before .before .before .before .before .pre in
+    let line-of = c .before .before .before .before .before .before .before .before .before .line-of in
+    let keep-tokens = c .before .before .before .before .before .before .keep-tokens in
+    added-kept (p .lined) (p .first-fits) (c .with-tokens .ensures) (rw (line-of .ensures) at (keep-tokens .ensures))
 
 pub keep-line-spec : {M : Type 1} → statement M
 keep-line-spec =

@@ -20,7 +20,10 @@ abbrev μ-loop : tie.MeasureT-loop
 μ-loop tape old line area₀ tokens₀ s₀ k₀ area tokens s k = length line - k
 
 loop-holds : tie.Need-loop-holds Inv-loop μ-loop
-loop-holds c = (omega arith, refl, refl, laid-none (c .before .before .before .before .before .args .tape .now) (c .before .before .before .before .before .pre .1))
+loop-holds c =
+    let a = c .before .before .before .before .before .args in
+    let p = c .before .before .before .before .before .pre in
+    (omega arith, refl, refl, laid-none (a .tape .now) (p .1))
 
 mul-keep : tie.Need-mul-keep Inv-loop μ-loop
 mul-keep c = search needs
@@ -29,10 +32,14 @@ shared-slice-read-keep : tie.Need-shared-slice-read-keep Inv-loop μ-loop
 shared-slice-read-keep c = search needs
 
 keep-requires : tie.Need-keep-requires Inv-loop μ-loop
-keep-requires c κs = let a = c .before .before .before .before .before .before .before .before .before .before .args in
-    let i = c .before .before .before .before .loop .inv in
-    let p = c .before .before .before .before .before .before .before .before .before .before .pre .0 .at (c .before .before .before .before .loop .k) (c .before .before .before .loop-test .taken) in
-    (p, room-next (a .tape .now) (a .old .now) (a .line .now) (c .before .before .before .before .loop .k) (c .before .before .before .loop-test .taken) p (i .3) (c .before .before .before .before .before .before .before .before .before .before .pre .1) (i .1) (i .2))
+keep-requires c κs =
+    let a = c .before .before .before .before .before .before .before .before .before .before .args in
+    let l = c .before .before .before .before .loop in
+    let pre = c .before .before .before .before .before .before .before .before .before .before .pre in
+    let loop-test = c .before .before .before .loop-test in
+    let i = l .inv in
+    let p = pre .0 .at (l .k) (loop-test .taken) in
+    (p, room-next (a .tape .now) (a .old .now) (a .line .now) (l .k) (loop-test .taken) p (i .3) (pre .1) (i .1) (i .2))
 
 add-k : tie.Need-add-k Inv-loop μ-loop
 add-k c = search needs
@@ -41,14 +48,19 @@ loop-less : tie.Need-loop-less Inv-loop μ-loop
 loop-less c = search needs
 
 loop-again : tie.Need-loop-again Inv-loop μ-loop
-loop-again c = let a = c .before .before .before .before .before .before .before .before .before .before .before .before .before .before .before .args in
-    let i = c .before .before .before .before .before .before .before .before .before .loop .inv in
-    let p = c .before .before .before .before .before .before .before .before .before .before .before .before .before .before .before .pre .0 .at (c .before .before .before .before .before .before .before .before .before .loop .k) (c .before .before .before .before .before .before .before .before .loop-test .taken) in
-    let r = room-next (a .tape .now) (a .old .now) (a .line .now) (c .before .before .before .before .before .before .before .before .before .loop .k) (c .before .before .before .before .before .before .before .before .loop-test .taken) p (i .3) (c .before .before .before .before .before .before .before .before .before .before .before .before .before .before .before .pre .1) (i .1) (i .2) in (
+loop-again c =
+    let a = c .before .before .before .before .before .before .before .before .before .before .before .before .before .before .before .args in
+    let l = c .before .before .before .before .before .before .before .before .before .loop in
+    let pre = c .before .before .before .before .before .before .before .before .before .before .before .before .before .before .before .pre in
+    let loop-test = c .before .before .before .before .before .before .before .before .loop-test in
+    let keep = c .before .before .before .before .keep in
+    let i = l .inv in
+    let p = pre .0 .at (l .k) (loop-test .taken) in
+    let r = room-next (a .tape .now) (a .old .now) (a .line .now) (l .k) (loop-test .taken) p (i .3) (pre .1) (i .1) (i .2) in (
       omega arith,
-      c .before .before .before .before .keep .kept .1 .1 .1 .0 ∙ i .1,
-      c .before .before .before .before .keep .kept .1 .1 .1 .1 .0 ∙ i .2,
-      laid-next (a .tape .now) (a .old .now) (a .line .now) (c .before .before .before .before .before .before .before .before .before .loop .k) (c .before .before .before .before .before .before .before .before .loop-test .taken) p (laid-kept (i .3) (c .before .before .before .before .keep .ensures) (c .before .before .before .before .keep .kept .1 .1 .1 .0) (c .before .before .before .before .keep .kept .1 .1 .1 .1 .0) r),
+      keep .kept .1 .1 .1 .0 ∙ i .1,
+      keep .kept .1 .1 .1 .1 .0 ∙ i .2,
+      laid-next (a .tape .now) (a .old .now) (a .line .now) (l .k) (loop-test .taken) p (laid-kept (i .3) (keep .ensures) (keep .kept .1 .1 .1 .0) (keep .kept .1 .1 .1 .1 .0) r),
     )
 
 same-length : tie.Need-same-length Inv-loop μ-loop
@@ -58,9 +70,12 @@ same-length-2 : tie.Need-same-length-2 Inv-loop μ-loop
 same-length-2 c = c .before .loop .inv .2
 
 returns : tie.Need-returns Inv-loop μ-loop
-returns c = let l = c .before .before .before .before .before .before .before .args .line .now in
-    let e : c .before .loop .k ≡ length l = omega arith in
-    rw (take-all (c .before .loop .k) l (c .loop-test .left), e) at (c .before .loop .inv .3)
+returns c =
+    let a = c .before .before .before .before .before .before .before .args in
+    let loop = c .before .loop in
+    let l = a .line .now in
+    let e : loop .k ≡ length l = omega arith in
+    rw (take-all (loop .k) l (c .loop-test .left), e) at (loop .inv .3)
 
 pub keep-tokens-spec : {M : Type 1} → statement M
 keep-tokens-spec =

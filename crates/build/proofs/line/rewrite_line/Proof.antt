@@ -16,23 +16,37 @@ line-of-requires-2 : tie.Need-line-of-requires-2
 line-of-requires-2 c κs = search needs
 
 merge-requires : tie.Need-merge-requires
-merge-requires c κs = let a = c .before .before .before .before .before .before .before .before .before .args in
-    rw (c .before .before .before .line-of .ensures, c .before .before .line-of2 .ensures)
-    (c .before .before .before .before .before .before .before .before .before .pre .substitutes, c .before .before .before .before .before .before .before .before .before .pre .lined .holds, room-merge (unmerged (a .tape .now) (a .old .now) (a .old-tokens .now) (a .source) (a .j) (a .l)) (c .before .before .before .before .before .before .before .before .before .pre .has-room))
+merge-requires c κs =
+    let a = c .before .before .before .before .before .before .before .before .before .args in
+    let line-of = c .before .before .before .line-of in
+    let p = c .before .before .before .before .before .before .before .before .before .pre in
+    rw (line-of .ensures, c .before .before .line-of2 .ensures)
+    (p .substitutes, p .lined .holds, room-merge (unmerged (a .tape .now) (a .old .now) (a .old-tokens .now) (a .source) (a .j) (a .l)) (p .numbers-short) (p .has-room))
 
 fold-last-requires : tie.Need-fold-last-requires
-fold-last-requires c κs = let a = c .before .before .before .before .before .before .before .before .before .before .before .before .before .before .before .before .args in
-    let l = rw (c .before .before .before .before .before .before .before .before .before .before .line-of .ensures, c .before .before .before .before .before .before .before .before .before .line-of2 .ensures) at (c .before .before .before .before .before .before .merge .ensures) in
-    (l .built, room-fold (unmerged (a .tape .now) (a .old .now) (a .old-tokens .now) (a .source) (a .j) (a .l)) (c .before .before .before .before .before .before .before .before .before .before .before .before .before .before .before .before .pre .has-room) l (c .before .before .before .before .before .before .merge .kept .1 .1 .1 .1 .1 .0) (c .before .before .before .before .before .before .merge .kept .1 .1 .1 .1 .1 .1 .0))
+fold-last-requires c κs =
+    let a = c .before .before .before .before .before .before .before .before .before .before .before .before .before .before .before .before .args in
+    let line-of = c .before .before .before .before .before .before .before .before .before .before .line-of in
+    let line-of2 = c .before .before .before .before .before .before .before .before .before .line-of2 in
+    let merge = c .before .before .before .before .before .before .merge in
+    let p = c .before .before .before .before .before .before .before .before .before .before .before .before .before .before .before .before .pre in
+    let l = rw (line-of .ensures, line-of2 .ensures) at (merge .ensures) in
+    (l .built, room-fold (unmerged (a .tape .now) (a .old .now) (a .old-tokens .now) (a .source) (a .j) (a .l)) (p .numbers-short) (p .has-room) l (merge .kept .1 .1 .1 .1 .1 .0) (merge .kept .1 .1 .1 .1 .1 .1 .0))
 
 sub-count : tie.Need-sub-count
 sub-count c = search needs
 
 with-tokens-requires : tie.Need-with-tokens-requires
-with-tokens-requires c κs = let a = c .before .before .before .before .before .before .before .before .before .before .before .before .before .before .before .before .before .before .before .before .before .before .args in
-    let l = rw (c .before .before .before .before .before .before .before .before .before .before .before .before .before .before .before .before .line-of .ensures, c .before .before .before .before .before .before .before .before .before .before .before .before .before .before .before .line-of2 .ensures) at (c .before .before .before .before .before .before .before .before .before .before .before .before .merge .ensures) in
-    let f = laid-folded (unmerged (a .tape .now) (a .old .now) (a .old-tokens .now) (a .source) (a .j) (a .l)) (c .before .before .before .before .before .before .before .before .before .before .before .before .before .before .before .before .before .before .before .before .before .before .pre .has-room) l (c .before .before .before .before .before .fold-last .ensures) in
-    (c .before .before .before .before .before .before .before .before .before .before .before .before .before .before .before .before .before .before .before .before .before .before .pre .first-fits, count-fits f (a .l) (c .before .before .before .before .before .before .before .before .before .before .before .before .before .before .before .before .before .before .before .before .before .before .pre .first-fits) (c .before .before .before .before .before .before .before .before .before .before .before .before .before .before .before .before .before .before .before .before .before .before .pre .few))
+with-tokens-requires c κs =
+    let a = c .before .before .before .before .before .before .before .before .before .before .before .before .before .before .before .before .before .before .before .before .before .before .args in
+    let line-of = c .before .before .before .before .before .before .before .before .before .before .before .before .before .before .before .before .line-of in
+    let line-of2 = c .before .before .before .before .before .before .before .before .before .before .before .before .before .before .before .line-of2 in
+    let merge = c .before .before .before .before .before .before .before .before .before .before .before .before .merge in
+    let p = c .before .before .before .before .before .before .before .before .before .before .before .before .before .before .before .before .before .before .before .before .before .before .pre in
+    let fold-last = c .before .before .before .before .before .fold-last in
+    let l = rw (line-of .ensures, line-of2 .ensures) at (merge .ensures) in
+    let f = laid-folded (unmerged (a .tape .now) (a .old .now) (a .old-tokens .now) (a .source) (a .j) (a .l)) (p .numbers-short) (p .has-room) l (fold-last .ensures) in
+    (p .first-fits, count-fits f (a .l) (p .first-fits) (p .few))
 
 same-length : tie.Need-same-length
 same-length c = search needs
@@ -41,11 +55,17 @@ same-length-2 : tie.Need-same-length-2
 same-length-2 c = search needs
 
 returns : tie.Need-returns
-returns c = let a = c .before .before .before .before .before .before .before .before .before .before .before .before .before .before .before .before .before .before .before .before .before .before .before .args in
-    let l = rw (c .before .before .before .before .before .before .before .before .before .before .before .before .before .before .before .before .before .line-of .ensures, c .before .before .before .before .before .before .before .before .before .before .before .before .before .before .before .before .line-of2 .ensures) at (c .before .before .before .before .before .before .before .before .before .before .before .before .before .merge .ensures) in
+returns c =
+    let a = c .before .before .before .before .before .before .before .before .before .before .before .before .before .before .before .before .before .before .before .before .before .before .before .args in
+    let line-of = c .before .before .before .before .before .before .before .before .before .before .before .before .before .before .before .before .before .line-of in
+    let line-of2 = c .before .before .before .before .before .before .before .before .before .before .before .before .before .before .before .before .line-of2 in
+    let merge = c .before .before .before .before .before .before .before .before .before .before .before .before .before .merge in
+    let p = c .before .before .before .before .before .before .before .before .before .before .before .before .before .before .before .before .before .before .before .before .before .before .before .pre in
+    let fold-last = c .before .before .before .before .before .before .fold-last in
+    let l = rw (line-of .ensures, line-of2 .ensures) at (merge .ensures) in
     let ts = unmerged (a .tape .now) (a .old .now) (a .old-tokens .now) (a .source) (a .j) (a .l) in
-    added-rewritten (c .before .before .before .before .before .before .before .before .before .before .before .before .before .before .before .before .before .before .before .before .before .before .before .pre .lined) (c .before .before .before .before .before .before .before .before .before .before .before .before .before .before .before .before .before .before .before .before .before .before .before .pre .first-fits) (c .with-tokens .ensures) (fam-text (a .tape .now) (a .old .now) (a .j .family)) (right-of (a .tape .now) (a .old .now) (part-of (a .old-tokens .now) (a .source)) (a .j)) (c .before .before .before .before .before .before .before .before .before .before .before .before .before .before .before .before .before .before .before .before .before .before .before .pre .few)
-    (laid-folded ts (c .before .before .before .before .before .before .before .before .before .before .before .before .before .before .before .before .before .before .before .before .before .before .before .pre .has-room) l (c .before .before .before .before .before .before .fold-last .ensures))
+    added-rewritten (p .lined) (p .first-fits) (c .with-tokens .ensures) (fam-text (a .tape .now) (a .old .now) (a .j .family)) (right-of (a .tape .now) (a .old .now) (part-of (a .old-tokens .now) (a .source)) (a .j)) (p .few)
+    (laid-folded ts (p .numbers-short) (p .has-room) l (fold-last .ensures))
 
 pub rewrite-line-spec : {M : Type 1} → statement M
 rewrite-line-spec =

@@ -5,7 +5,9 @@ use Rattle.build.proofs.merge.extends.Statement.{statement}
 use Rattle.build.proofs.merge.extends.Tie as tie
 
 returns : tie.Need-returns
-returns c = extends-not (c .before .before .args .kind) (c .before .before .args .tokens .now) (c .before .before .args .from) (c .before .before .args .size) (c .if1 .taken)
+returns c =
+    let a = c .before .before .args in
+    extends-not (a .kind) (a .tokens .now) (a .from) (a .size) (c .if1 .taken)
 
 sub-kind : tie.Need-sub-kind
 sub-kind c = search needs
@@ -20,7 +22,9 @@ kind-requires : tie.Need-kind-requires
 kind-requires c κs = search needs
 
 returns-2 : tie.Need-returns-2
-returns-2 c = extends-is (c .before .before .before .before .args .kind) (c .before .before .before .before .args .tokens .now) (c .before .before .before .before .args .from) (c .before .before .before .before .args .size) (c .before .before .if1 .left) (c .kind .ensures)
+returns-2 c =
+    let a = c .before .before .before .before .args in
+    extends-is (a .kind) (a .tokens .now) (a .from) (a .size) (c .before .before .if1 .left) (c .kind .ensures)
 
 pub extends-spec : {M : Type 1} → statement M
 extends-spec =

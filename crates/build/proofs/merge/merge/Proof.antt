@@ -20,7 +20,10 @@ abbrev μ-loop : tie.MeasureT-loop
 μ-loop tape old source line j area₀ tokens₀ from s₀ k₀ area tokens s k = length line - k
 
 loop-holds : tie.Need-loop-holds Inv-loop μ-loop
-loop-holds c = (omega arith, refl, refl, refl, merge-begin (c .before .before .before .before .before .before .args .tape .now) (c .before .before .before .before .before .before .args .old .now) (c .before .before .before .before .before .before .args .source .now) (c .before .before .before .before .before .before .args .j) (c .before .before .before .before .before .before .args .line .now) (c .before .before .before .before .before .before .pre .2))
+loop-holds c =
+    let a = c .before .before .before .before .before .before .args in
+    let p = c .before .before .before .before .before .before .pre in
+    (omega arith, refl, refl, refl, merge-begin (a .tape .now) (a .old .now) (a .source .now) (a .j) (a .line .now) (p .2))
 
 mul-push-used : tie.Need-mul-push-used Inv-loop μ-loop
 mul-push-used c = search needs
@@ -29,12 +32,16 @@ shared-slice-read-push-used : tie.Need-shared-slice-read-push-used Inv-loop μ-l
 shared-slice-read-push-used c = search needs
 
 push-used-requires : tie.Need-push-used-requires Inv-loop μ-loop
-push-used-requires c κs = let a = c .before .before .before .before .before .before .before .before .before .before .before .args in
-    let i = c .before .before .before .before .loop .inv in (
-      c .before .before .before .before .before .before .before .before .before .before .before .pre .0,
-      c .before .before .before .before .before .before .before .before .before .before .before .pre .1 .at (c .before .before .before .before .loop .k) (c .before .before .before .loop-test .taken),
-      ready-then (i .4) _ (substituted (a .tape .now) (a .old .now) (a .source .now) (a .j) (drop (c .before .before .before .before .loop .k + 1) (a .line .now))) (c .before .before .before .before .before .before .before .before .before .before .before .pre .2)
-          (substituted-split (a .tape .now) (a .old .now) (a .source .now) (a .j) (a .line .now) (c .before .before .before .before .loop .k) (c .before .before .before .loop-test .taken)) (i .2) (i .3),
+push-used-requires c κs =
+    let a = c .before .before .before .before .before .before .before .before .before .before .before .args in
+    let l = c .before .before .before .before .loop in
+    let p = c .before .before .before .before .before .before .before .before .before .before .before .pre in
+    let loop-test = c .before .before .before .loop-test in
+    let i = l .inv in (
+      p .0,
+      p .1 .at (l .k) (loop-test .taken),
+      ready-then (i .4) _ (substituted (a .tape .now) (a .old .now) (a .source .now) (a .j) (drop (l .k + 1) (a .line .now))) (p .2)
+          (substituted-split (a .tape .now) (a .old .now) (a .source .now) (a .j) (a .line .now) (l .k) (loop-test .taken)) (i .2) (i .3),
     )
 
 add-k : tie.Need-add-k Inv-loop μ-loop
@@ -44,13 +51,17 @@ loop-less : tie.Need-loop-less Inv-loop μ-loop
 loop-less c = search needs
 
 loop-again : tie.Need-loop-again Inv-loop μ-loop
-loop-again c = let a = c .before .before .before .before .before .before .before .before .before .before .before .before .before .before .before .before .args in
-    let i = c .before .before .before .before .before .before .before .before .before .loop .inv in (
+loop-again c =
+    let a = c .before .before .before .before .before .before .before .before .before .before .before .before .before .before .before .before .args in
+    let l = c .before .before .before .before .before .before .before .before .before .loop in
+    let push-used = c .before .before .before .before .push-used in
+    let loop-test = c .before .before .before .before .before .before .before .before .loop-test in
+    let i = l .inv in (
       omega arith,
       i .1,
-      c .before .before .before .before .push-used .kept .1 .1 .1 .1 .1 .0 ∙ i .2,
-      c .before .before .before .before .push-used .kept .1 .1 .1 .1 .1 .1 .0 ∙ i .3,
-      rw (substituted-more (a .tape .now) (a .old .now) (a .source .now) (a .j) (a .line .now) (c .before .before .before .before .before .before .before .before .before .loop .k) (c .before .before .before .before .before .before .before .before .loop-test .taken)) (pushed-then (i .4) (c .before .before .before .before .push-used .ensures)),
+      push-used .kept .1 .1 .1 .1 .1 .0 ∙ i .2,
+      push-used .kept .1 .1 .1 .1 .1 .1 .0 ∙ i .3,
+      rw (substituted-more (a .tape .now) (a .old .now) (a .source .now) (a .j) (a .line .now) (l .k) (loop-test .taken)) (pushed-then (i .4) (push-used .ensures)),
     )
 
 same-length : tie.Need-same-length Inv-loop μ-loop
@@ -60,7 +71,9 @@ same-length-2 : tie.Need-same-length-2 Inv-loop μ-loop
 same-length-2 c = c .before .loop .inv .3
 
 returns : tie.Need-returns Inv-loop μ-loop
-returns c = laid-merged (rw (take-all (c .before .loop .k) (c .before .before .before .before .before .before .before .before .args .line .now) (c .loop-test .left)) at (c .before .loop .inv .4))
+returns c =
+    let a = c .before .before .before .before .before .before .before .before .args in
+    laid-merged (rw (take-all (c .before .loop .k) (a .line .now) (c .loop-test .left)) at (c .before .loop .inv .4))
 
 pub merge-spec : {M : Type 1} → statement M
 merge-spec =

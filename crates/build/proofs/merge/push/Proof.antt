@@ -25,12 +25,17 @@ text-requires : tie.Need-text-requires
 text-requires c κs = search needs
 
 push-text-requires : tie.Need-push-text-requires
-push-text-requires c κs = (
-  sym (c .before .before .before .before .is-joined .ensures) ∙ c .before .before .before .if1 .taken,
-  omega (arith, c .before .before .before .before .before .kind .ensures, kind-below (c .before .before .before .before .before .before .before .before .before .before .args .w)),
-  c .before .before .before .before .before .before .before .before .before .before .pre .1 .extendable,
-  room-within (omega (arith, ap length (c .before .before .text .ensures))) (le-refl _) (c .before .before .before .before .before .before .before .before .before .before .pre .1 .room),
-)
+push-text-requires c κs =
+    let is-joined = c .before .before .before .before .is-joined in
+    let if1 = c .before .before .before .if1 in
+    let kind = c .before .before .before .before .before .kind in
+    let a = c .before .before .before .before .before .before .before .before .before .before .args in
+    let p = c .before .before .before .before .before .before .before .before .before .before .pre in (
+      sym (is-joined .ensures) ∙ if1 .taken,
+      omega (arith, kind .ensures, kind-below (a .w)),
+      p .1 .extendable,
+      room-within (omega (arith, ap length (c .before .before .text .ensures))) (le-refl _) (p .1 .room),
+    )
 
 same-length : tie.Need-same-length
 same-length c = search needs
@@ -39,10 +44,18 @@ same-length-2 : tie.Need-same-length-2
 same-length-2 c = search needs
 
 returns : tie.Need-returns
-returns c = rw (c .before .before .before .before .before .before .before .before .before .before .kind .ensures, c .before .before .before .before .before .before .before .text .ensures) at (c .before .before .before .before .push-text .ensures (c .before .before .before .before .before .before .before .before .before .before .before .before .before .before .before .args .tape .now) (c .before .before .before .before .before .before .before .before .before .before .before .before .before .before .before .pre .1 .built))
+returns c =
+    let kind = c .before .before .before .before .before .before .before .before .before .before .kind in
+    let text = c .before .before .before .before .before .before .before .text in
+    let push-text = c .before .before .before .before .push-text in
+    let a = c .before .before .before .before .before .before .before .before .before .before .before .before .before .before .before .args in
+    let p = c .before .before .before .before .before .before .before .before .before .before .before .before .before .before .before .pre in
+    rw (kind .ensures, text .ensures) at (push-text .ensures (a .tape .now) (p .1 .built))
 
 keep-requires : tie.Need-keep-requires
-keep-requires c κs = (c .before .before .before .before .before .before .before .before .before .pre .0, room-within (omega (arith, text-length (c .before .before .before .before .before .before .before .before .before .pre .0))) (le-refl _) (c .before .before .before .before .before .before .before .before .before .pre .1 .room))
+keep-requires c κs =
+    let p = c .before .before .before .before .before .before .before .before .before .pre in
+    (p .0, room-within (omega (arith, text-length (p .0))) (le-refl _) (p .1 .room))
 
 same-length-3 : tie.Need-same-length-3
 same-length-3 c = search needs
@@ -51,10 +64,17 @@ same-length-4 : tie.Need-same-length-4
 same-length-4 c = search needs
 
 returns-2 : tie.Need-returns-2
-returns-2 c = let r = c .before .before .before .before .before .before .before .before .before .before .before .before .before .before .pre .1 in
-    let n : joinable (kind-of (c .before .before .before .before .before .before .before .before .before .before .before .before .before .before .args .w)) ≡ false = sym (c .before .before .before .before .before .before .before .before .is-joined .ensures ∙ ap joinable (c .before .before .before .before .before .before .before .before .before .kind .ensures)) ∙ c .before .before .before .before .before .before .before .if1 .left in
-    pushed-added (r .built) (c .before .before .before .before .keep .kept .1 .1 .1 .0) (c .before .before .before .before .keep .kept .1 .1 .1 .1 .0) (omega (arith, r .room .text-fits, text-length (c .before .before .before .before .before .before .before .before .before .before .before .before .before .before .pre .0))) (omega (arith, text-length (c .before .before .before .before .before .before .before .before .before .before .before .before .before .before .pre .0)))
-    (c .before .before .before .before .keep .ensures) (omega (arith, r .room .words-fit)) (λ y. absurd (true-false y n)) (λ h. no-join-ever _ (token-of (c .before .before .before .before .before .before .before .before .before .before .before .before .before .before .args .tape .now) (c .before .before .before .before .before .before .before .before .before .before .before .before .before .before .args .old .now) (c .before .before .before .before .before .before .before .before .before .before .before .before .before .before .args .w)) n)
+returns-2 c =
+    let p = c .before .before .before .before .before .before .before .before .before .before .before .before .before .before .pre in
+    let a = c .before .before .before .before .before .before .before .before .before .before .before .before .before .before .args in
+    let is-joined = c .before .before .before .before .before .before .before .before .is-joined in
+    let kind = c .before .before .before .before .before .before .before .before .before .kind in
+    let if1 = c .before .before .before .before .before .before .before .if1 in
+    let keep = c .before .before .before .before .keep in
+    let r = p .1 in
+    let n : joinable (kind-of (a .w)) ≡ false = sym (is-joined .ensures ∙ ap joinable (kind .ensures)) ∙ if1 .left in
+    pushed-added (r .built) (keep .kept .1 .1 .1 .0) (keep .kept .1 .1 .1 .1 .0) (omega (arith, r .room .text-fits, text-length (p .0))) (omega (arith, text-length (p .0)))
+    (keep .ensures) (omega (arith, r .room .words-fit)) (λ y. absurd (true-false y n)) (λ h. no-join-ever _ (token-of (a .tape .now) (a .old .now) (a .w)) n)
 
 pub push-spec : {M : Type 1} → statement M
 push-spec =

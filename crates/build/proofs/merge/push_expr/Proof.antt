@@ -21,18 +21,24 @@ abbrev μ-loop : tie.MeasureT-loop
 μ-loop tape old source x area₀ tokens₀ from n s₀ k₀ area tokens s k = n - k
 
 loop-holds : tie.Need-loop-holds Inv-loop μ-loop
-loop-holds c = (omega arith, refl, refl, refl, pushed-none (c .before .before .before .before .before .pre .2))
+loop-holds c =
+    let p = c .before .before .before .before .before .pre in
+    (omega arith, refl, refl, refl, pushed-none (p .2))
 
 expr-word-requires : tie.Need-expr-word-requires Inv-loop μ-loop
 expr-word-requires c κs = search needs
 
 push-requires : tie.Need-push-requires Inv-loop μ-loop
-push-requires c κs = let a = c .before .before .before .before .before .before .before .before .before .before .args in
-    let i = c .before .before .before .before .loop .inv in
+push-requires c κs =
+    let a = c .before .before .before .before .before .before .before .before .before .before .args in
+    let l = c .before .before .before .before .loop in
+    let p = c .before .before .before .before .before .before .before .before .before .before .pre in
+    let expr-word = c .before .before .expr-word in
+    let i = l .inv in
     let ws = expr-words (a .source .now) (a .x) in
-    let h : c .before .before .before .before .loop .k < length ws = omega (arith, expr-length (c .before .before .before .before .before .before .before .before .before .before .pre .1)) in (
-      expr-points (c .before .before .before .before .before .before .before .before .before .before .pre .0) (c .before .before .before .before .before .before .before .before .before .before .pre .1) (omega arith) (c .before .before .expr-word .ensures),
-      rw (c .before .before .expr-word .ensures) (ready-then (i .4) _ (tokens-of (a .tape .now) (a .old .now) (drop (c .before .before .before .before .loop .k + 1) ws)) (c .before .before .before .before .before .before .before .before .before .before .pre .2 .room) (tokens-split (a .tape .now) (a .old .now) ws (c .before .before .before .before .loop .k) h) (i .2) (i .3)),
+    let h : l .k < length ws = omega (arith, expr-length (p .1)) in (
+      expr-points (p .0) (p .1) (omega arith) (expr-word .ensures),
+      rw (expr-word .ensures) (ready-then (i .4) _ (tokens-of (a .tape .now) (a .old .now) (drop (l .k + 1) ws)) (p .2 .room) (tokens-split (a .tape .now) (a .old .now) ws (l .k) h) (i .2) (i .3)),
     )
 
 add-k : tie.Need-add-k Inv-loop μ-loop
@@ -42,15 +48,20 @@ loop-less : tie.Need-loop-less Inv-loop μ-loop
 loop-less c = search needs
 
 loop-again : tie.Need-loop-again Inv-loop μ-loop
-loop-again c = let a = c .before .before .before .before .before .before .before .before .before .before .before .before .before .before .before .args in
-    let i = c .before .before .before .before .before .before .before .before .before .loop .inv in
+loop-again c =
+    let a = c .before .before .before .before .before .before .before .before .before .before .before .before .before .before .before .args in
+    let l = c .before .before .before .before .before .before .before .before .before .loop in
+    let p = c .before .before .before .before .before .before .before .before .before .before .before .before .before .before .before .pre in
+    let push = c .before .before .before .before .push in
+    let expr-word = c .before .before .before .before .before .before .before .expr-word in
+    let i = l .inv in
     let ws = expr-words (a .source .now) (a .x) in
-    let h : c .before .before .before .before .before .before .before .before .before .loop .k < length ws = omega (arith, expr-length (c .before .before .before .before .before .before .before .before .before .before .before .before .before .before .before .pre .1)) in (
+    let h : l .k < length ws = omega (arith, expr-length (p .1)) in (
       omega arith,
       i .1,
-      c .before .before .before .before .push .kept .1 .1 .1 .0 ∙ i .2,
-      c .before .before .before .before .push .kept .1 .1 .1 .1 .0 ∙ i .3,
-      rw (tokens-more (a .tape .now) (a .old .now) ws (c .before .before .before .before .before .before .before .before .before .loop .k) h) (pushed-then (i .4) (rw (c .before .before .before .before .before .before .before .expr-word .ensures) at (c .before .before .before .before .push .ensures))),
+      push .kept .1 .1 .1 .0 ∙ i .2,
+      push .kept .1 .1 .1 .1 .0 ∙ i .3,
+      rw (tokens-more (a .tape .now) (a .old .now) ws (l .k) h) (pushed-then (i .4) (rw (expr-word .ensures) at (push .ensures))),
     )
 
 same-length : tie.Need-same-length Inv-loop μ-loop
@@ -60,9 +71,11 @@ same-length-2 : tie.Need-same-length-2 Inv-loop μ-loop
 same-length-2 c = c .before .loop .inv .3
 
 returns : tie.Need-returns Inv-loop μ-loop
-returns c = let a = c .before .before .before .before .before .before .before .args in
+returns c =
+    let a = c .before .before .before .before .before .before .before .args in
+    let p = c .before .before .before .before .before .before .before .pre in
     let ws = expr-words (a .source .now) (a .x) in
-    rw (take-all (c .before .loop .k) ws (omega (arith, expr-length (c .before .before .before .before .before .before .before .pre .1)))) at (c .before .loop .inv .4)
+    rw (take-all (c .before .loop .k) ws (omega (arith, expr-length (p .1)))) at (c .before .loop .inv .4)
 
 pub push-expr-spec : {M : Type 1} → statement M
 push-expr-spec =

@@ -1,6 +1,5 @@
 -- `build::merge::push_used` meets its contract. Assumes nothing.
 use borrow.Author.Tests.{not-true, not-false}
-use Rattle.lines.specs.Words.{token-of}
 use Rattle.build.proofs.Substituting.{used-kept, used-bracketed, used-plain}
 use borrow.Author.Needs.{needs}
 use Rattle.build.proofs.merge.push_used.Statement.{statement}
@@ -10,7 +9,11 @@ is-of-requires : tie.Need-is-of-requires
 is-of-requires c κs = search needs
 
 push-requires : tie.Need-push-requires
-push-requires c κs = (c .before .before .before .before .before .before .before .before .before .before .pre .1, rw (used-kept (c .before .before .before .before .before .before .before .before .before .before .args .tape .now) (c .before .before .before .before .before .before .before .before .before .before .args .old .now) (c .before .before .before .before .before .before .before .before .before .before .args .source .now) (c .before .before .before .before .before .before .before .before .before .before .args .j) (token-of (c .before .before .before .before .before .before .before .before .before .before .args .tape .now) (c .before .before .before .before .before .before .before .before .before .before .args .old .now) (c .before .before .before .before .before .before .before .before .before .before .args .w)) (c .before .before .before .is-of .ensures) (not-true _ (c .before .before .if1 .taken))) at (c .before .before .before .before .before .before .before .before .before .before .pre .2))
+push-requires c κs =
+    let p = c .before .before .before .before .before .before .before .before .before .before .pre in
+    let a = c .before .before .before .before .before .before .before .before .before .before .args in
+    let is-of = c .before .before .before .is-of in
+    (p .1, rw (used-kept (a .tape .now) (a .old .now) (a .source .now) (a .j) (a .w) (is-of .ensures) (not-true _ (c .before .before .if1 .taken))) at (p .2))
 
 same-length : tie.Need-same-length
 same-length c = search needs
@@ -19,14 +22,23 @@ same-length-2 : tie.Need-same-length-2
 same-length-2 c = search needs
 
 returns : tie.Need-returns
-returns c = rw (used-kept (c .before .before .before .before .before .before .before .before .before .before .before .before .before .before .before .args .tape .now) (c .before .before .before .before .before .before .before .before .before .before .before .before .before .before .before .args .old .now) (c .before .before .before .before .before .before .before .before .before .before .before .before .before .before .before .args .source .now) (c .before .before .before .before .before .before .before .before .before .before .before .before .before .before .before .args .j) (token-of (c .before .before .before .before .before .before .before .before .before .before .before .before .before .before .before .args .tape .now) (c .before .before .before .before .before .before .before .before .before .before .before .before .before .before .before .args .old .now) (c .before .before .before .before .before .before .before .before .before .before .before .before .before .before .before .args .w)) (c .before .before .before .before .before .before .before .before .is-of .ensures) (not-true _ (c .before .before .before .before .before .before .before .if1 .taken))) (c .before .before .before .before .push .ensures)
+returns c =
+    let a = c .before .before .before .before .before .before .before .before .before .before .before .before .before .before .before .args in
+    let is-of = c .before .before .before .before .before .before .before .before .is-of in
+    let if1 = c .before .before .before .before .before .before .before .if1 in
+    let push = c .before .before .before .before .push in
+    rw (used-kept (a .tape .now) (a .old .now) (a .source .now) (a .j) (a .w) (is-of .ensures) (not-true _ (if1 .taken))) (push .ensures)
 
 push-bracketed-requires : tie.Need-push-bracketed-requires
-push-bracketed-requires c κs = (
-  c .before .before .before .before .before .before .before .before .before .before .before .pre .0 .holds,
-  c .before .before .before .before .before .before .before .before .before .before .before .pre .0 .expression,
-  rw (used-bracketed (c .before .before .before .before .before .before .before .before .before .before .before .args .tape .now) (c .before .before .before .before .before .before .before .before .before .before .before .args .old .now) (c .before .before .before .before .before .before .before .before .before .before .before .args .source .now) (c .before .before .before .before .before .before .before .before .before .before .before .args .j) (token-of (c .before .before .before .before .before .before .before .before .before .before .before .args .tape .now) (c .before .before .before .before .before .before .before .before .before .before .before .args .old .now) (c .before .before .before .before .before .before .before .before .before .before .before .args .w)) (c .before .before .before .before .is-of .ensures) (not-false _ (c .before .before .before .if1 .left)) (c .before .before .if2 .taken)) at (c .before .before .before .before .before .before .before .before .before .before .before .pre .2),
-)
+push-bracketed-requires c κs =
+    let p = c .before .before .before .before .before .before .before .before .before .before .before .pre in
+    let a = c .before .before .before .before .before .before .before .before .before .before .before .args in
+    let is-of = c .before .before .before .before .is-of in
+    let if1 = c .before .before .before .if1 in (
+      p .0 .holds,
+      p .0 .expression,
+      rw (used-bracketed (a .tape .now) (a .old .now) (a .source .now) (a .j) (a .w) (is-of .ensures) (not-false _ (if1 .left)) (c .before .before .if2 .taken)) at (p .2),
+    )
 
 same-length-3 : tie.Need-same-length-3
 same-length-3 c = search needs
@@ -35,14 +47,24 @@ same-length-4 : tie.Need-same-length-4
 same-length-4 c = search needs
 
 returns-2 : tie.Need-returns-2
-returns-2 c = rw (used-bracketed (c .before .before .before .before .before .before .before .before .before .before .before .before .before .before .before .before .args .tape .now) (c .before .before .before .before .before .before .before .before .before .before .before .before .before .before .before .before .args .old .now) (c .before .before .before .before .before .before .before .before .before .before .before .before .before .before .before .before .args .source .now) (c .before .before .before .before .before .before .before .before .before .before .before .before .before .before .before .before .args .j) (token-of (c .before .before .before .before .before .before .before .before .before .before .before .before .before .before .before .before .args .tape .now) (c .before .before .before .before .before .before .before .before .before .before .before .before .before .before .before .before .args .old .now) (c .before .before .before .before .before .before .before .before .before .before .before .before .before .before .before .before .args .w)) (c .before .before .before .before .before .before .before .before .before .is-of .ensures) (not-false _ (c .before .before .before .before .before .before .before .before .if1 .left)) (c .before .before .before .before .before .before .before .if2 .taken)) (c .before .before .before .before .push-bracketed .ensures)
+returns-2 c =
+    let a = c .before .before .before .before .before .before .before .before .before .before .before .before .before .before .before .before .args in
+    let is-of = c .before .before .before .before .before .before .before .before .before .is-of in
+    let if1 = c .before .before .before .before .before .before .before .before .if1 in
+    let if2 = c .before .before .before .before .before .before .before .if2 in
+    let push-bracketed = c .before .before .before .before .push-bracketed in
+    rw (used-bracketed (a .tape .now) (a .old .now) (a .source .now) (a .j) (a .w) (is-of .ensures) (not-false _ (if1 .left)) (if2 .taken)) (push-bracketed .ensures)
 
 push-expr-requires : tie.Need-push-expr-requires
-push-expr-requires c κs = (
-  c .before .before .before .before .before .before .before .before .before .before .before .pre .0 .holds,
-  c .before .before .before .before .before .before .before .before .before .before .before .pre .0 .expression,
-  rw (used-plain (c .before .before .before .before .before .before .before .before .before .before .before .args .tape .now) (c .before .before .before .before .before .before .before .before .before .before .before .args .old .now) (c .before .before .before .before .before .before .before .before .before .before .before .args .source .now) (c .before .before .before .before .before .before .before .before .before .before .before .args .j) (token-of (c .before .before .before .before .before .before .before .before .before .before .before .args .tape .now) (c .before .before .before .before .before .before .before .before .before .before .before .args .old .now) (c .before .before .before .before .before .before .before .before .before .before .before .args .w)) (c .before .before .before .before .is-of .ensures) (not-false _ (c .before .before .before .if1 .left)) (c .before .before .if2 .left)) at (c .before .before .before .before .before .before .before .before .before .before .before .pre .2),
-)
+push-expr-requires c κs =
+    let p = c .before .before .before .before .before .before .before .before .before .before .before .pre in
+    let a = c .before .before .before .before .before .before .before .before .before .before .before .args in
+    let is-of = c .before .before .before .before .is-of in
+    let if1 = c .before .before .before .if1 in (
+      p .0 .holds,
+      p .0 .expression,
+      rw (used-plain (a .tape .now) (a .old .now) (a .source .now) (a .j) (a .w) (is-of .ensures) (not-false _ (if1 .left)) (c .before .before .if2 .left)) at (p .2),
+    )
 
 same-length-5 : tie.Need-same-length-5
 same-length-5 c = search needs
@@ -51,7 +73,13 @@ same-length-6 : tie.Need-same-length-6
 same-length-6 c = search needs
 
 returns-3 : tie.Need-returns-3
-returns-3 c = rw (used-plain (c .before .before .before .before .before .before .before .before .before .before .before .before .before .before .before .before .args .tape .now) (c .before .before .before .before .before .before .before .before .before .before .before .before .before .before .before .before .args .old .now) (c .before .before .before .before .before .before .before .before .before .before .before .before .before .before .before .before .args .source .now) (c .before .before .before .before .before .before .before .before .before .before .before .before .before .before .before .before .args .j) (token-of (c .before .before .before .before .before .before .before .before .before .before .before .before .before .before .before .before .args .tape .now) (c .before .before .before .before .before .before .before .before .before .before .before .before .before .before .before .before .args .old .now) (c .before .before .before .before .before .before .before .before .before .before .before .before .before .before .before .before .args .w)) (c .before .before .before .before .before .before .before .before .before .is-of .ensures) (not-false _ (c .before .before .before .before .before .before .before .before .if1 .left)) (c .before .before .before .before .before .before .before .if2 .left)) (c .before .before .before .before .push-expr .ensures)
+returns-3 c =
+    let a = c .before .before .before .before .before .before .before .before .before .before .before .before .before .before .before .before .args in
+    let is-of = c .before .before .before .before .before .before .before .before .before .is-of in
+    let if1 = c .before .before .before .before .before .before .before .before .if1 in
+    let if2 = c .before .before .before .before .before .before .before .if2 in
+    let push-expr = c .before .before .before .before .push-expr in
+    rw (used-plain (a .tape .now) (a .old .now) (a .source .now) (a .j) (a .w) (is-of .ensures) (not-false _ (if1 .left)) (if2 .left)) (push-expr .ensures)
 
 pub push-used-spec : {M : Type 1} → statement M
 push-used-spec =
