@@ -60,8 +60,8 @@ module _ {tape area : Text} {tokens : List ℕ} {at : Size} {out : List Token} {
           words-below = l .grows .words-below;
           text-below = l .grows .text-below;
           text-grows = l .grows .text-grows;
-          text-inside = l .text-most;
-          words-inside = l .words-most;
+          text-most = l .text-most;
+          words-most = l .words-most;
         }
 
 pub part-length : {tape area : Text} {words : List ℕ} {w : ℕ} → Lined tape area words w → length (part-of words w) ≡ count-of w

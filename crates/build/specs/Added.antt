@@ -33,8 +33,8 @@ pub record Added (tape area : Text) (tokens : List ℕ) (at : Size) (line : List
   pub words-below : used-words tokens′ at ≡ used-words tokens at
   pub text-below : used area′ at ≡ used area at
   pub text-grows : at .text ≤ r .size .text
-  pub text-inside : r .size .text ≤ at .text + n
-  pub words-inside : r .size .tokens ≤ at .tokens + k
+  pub text-most : r .size .text ≤ at .text + n
+  pub words-most : r .size .tokens ≤ at .tokens + k
 
 -- ---- a line kept
 

@@ -56,11 +56,14 @@ pub record Built (tape area : Text) (tokens : List ℕ) (from : ℕ) (at : Size)
   pub after : from ≤ at .tokens
   pub holds : Holds tape (used area at) (words-from from tokens at)
 
+-- the last word in use
+abbrev pub last-word : List ℕ → Size → ℕ
+last-word tokens at = getD tokens (at .tokens - 1) 0
+
 -- its last token can be joined to: what may be extended stands at the end of the text
 pub record Extendable (tokens : List ℕ) (from : ℕ) (at : Size) : Type 0 where
-  pub in-area : from < at .tokens → joinable (kind-of (getD tokens (at .tokens - 1) 0)) ≡ true → place-of (getD tokens (at .tokens - 1) 0) ≡ 1
-  pub at-end : from < at .tokens → place-of (getD tokens (at .tokens - 1) 0) ≡ 1
-      → start-of (getD tokens (at .tokens - 1) 0) + len-of (getD tokens (at .tokens - 1) 0) ≡ at .text
+  pub in-area : from < at .tokens → joinable (kind-of (last-word tokens at)) ≡ true → place-of (last-word tokens at) ≡ 1
+  pub at-end : from < at .tokens → place-of (last-word tokens at) ≡ 1 → start-of (last-word tokens at) + len-of (last-word tokens at) ≡ at .text
 
 -- no word points into the area below m
 pub record Fresh (m : ℕ) (ws : List ℕ) : Type 0 where
@@ -74,7 +77,7 @@ pub record Ready (tape area : Text) (tokens : List ℕ) (from : ℕ) (at : Size)
 
 -- whether a token of this kind is joined to the last token of the line that began at `from`
 unfoldable pub extends : ℕ → List ℕ → ℕ → Size → Bool
-extends kind tokens from at = ltb from (at .tokens) && eqb (kind-of (getD tokens (at .tokens - 1) 0)) kind
+extends kind tokens from at = ltb from (at .tokens) && eqb (kind-of (last-word tokens at)) kind
 
 -- ---- what is left
 

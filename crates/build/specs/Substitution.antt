@@ -1,11 +1,11 @@
 -- What a substitution puts in the place of a token of its family. Assumes nothing.
+use Prim.Native.Nat.{ℕ}
 use mathlib.Core.List.{List, [], _∷_, _++_}
 use Rattle.reference.specs.Control.{if_then_else_}
 use Rattle.reference.specs.Text.{Text, bytes}
 use Rattle.reference.specs.Listing.{Token, token, Punct}
 use Rattle.reference.specs.Names.{of-family}
 use Rattle.reference.specs.Join.{substitute}
-use Prim.Native.Nat.{ℕ}
 use Rattle.lines.specs.Words.{tokens-of, Holds}
 use Rattle.lines.specs.Shapes.{expr-words, Expression}
 use Rattle.lines.specs.Fams.{fam-text, Known}

@@ -9,7 +9,7 @@ ghost use lib.ListN.{length, getD};
 ghost use Rattle.reference.specs.Text.{Text};
 ghost use Rattle.reference.specs.Listing.{token};
 ghost use Rattle.lines.specs.Words.{kind-of, place-of, start-of, len-of, text-of, token-of, Points};
-ghost use Rattle.build.specs.State.{used, Room, Appends};
+ghost use Rattle.build.specs.State.{used, last-word, Room, Appends};
 
 // Appends a token whose text is in the tape.
 fn add_word(w: u64, tokens: &mut [u64], size: Size) -> Size
@@ -43,8 +43,8 @@ pub fn add_text(kind: u64, s: &[u8], area: &mut [u8], tokens: &mut [u64], size: 
 
 // Appends a text to that of the last token, which ends where the text in use ends.
 pub fn extend_last(s: &[u8], area: &mut [u8], tokens: &mut [u64], size: Size) -> Size
-    requires { ⌜ (0 < size .tokens) × Room (now area) (now tokens) size (length (now s)) 0 × (place-of (getD (now tokens) (size .tokens - 1) 0) ≡ 1) × (start-of (getD (now tokens) (size .tokens - 1) 0) + len-of (getD (now tokens) (size .tokens - 1) 0) ≡ size .text) ⌝ }
-    ensures { λ r. ⌜ ((tape : Text) → Appends tape (now (area .entry)) (now (tokens .entry)) size (size .tokens - 1) (token (kind-of (getD (now (tokens .entry)) (size .tokens - 1) 0)) (text-of tape (used (now (area .entry)) size) (getD (now (tokens .entry)) (size .tokens - 1) 0) ++ now (s .entry))) (length (now (s .entry))) (now (area .exit)) (now (tokens .exit)) r) × (place-of (getD (now (tokens .exit)) (size .tokens - 1) 0) ≡ 1) ⌝ }
+    requires { ⌜ (0 < size .tokens) × Room (now area) (now tokens) size (length (now s)) 0 × (place-of (last-word (now tokens) size) ≡ 1) × (start-of (last-word (now tokens) size) + len-of (last-word (now tokens) size) ≡ size .text) ⌝ }
+    ensures { λ r. ⌜ ((tape : Text) → Appends tape (now (area .entry)) (now (tokens .entry)) size (size .tokens - 1) (token (kind-of (last-word (now (tokens .entry)) size)) (text-of tape (used (now (area .entry)) size) (last-word (now (tokens .entry)) size) ++ now (s .entry))) (length (now (s .entry))) (now (area .exit)) (now (tokens .exit)) r) × (place-of (getD (now (tokens .exit)) (size .tokens - 1) 0) ≡ 1) ⌝ }
 {
     let n = size.tokens - 1;
     let at = size.text;
