@@ -69,8 +69,8 @@ def split(text):
     return out
 
 
-def lines_of(texts, indent=0):
-    return [Line(None, indent, split(t)) for t in texts]
+def lines_of(texts):
+    return [Line(None, 0, split(t)) for t in texts]
 
 
 def spelled(text):
@@ -501,15 +501,17 @@ h() while (rbx);""".replace("\n", "|").split("|")
             name = wide = self.choice(["var_8", "r08", "r8x"])
         texts = []
         if self.chance(40):
-            texts += [self.choice(["L:", "L:", "do {{", "M:"]), self.choice(["h({w});", "{w} = 1;", "{n} = 2;", "h();", "rbp = 3;", "if (rbp) {{", "f(&var_8);"])]
+            texts += [self.choice(["L:", "L:", "do {{", "M:"]),
+                      self.choice(["h({w});", "{w} = 1;", "{n} = 2;", "h();", "rbp = 3;", "if (rbp) {{", "f(&var_8);"])]
         texts.append("{n} = " + self.choice(["7", "rbp", "rbp + 1", "f()", "*(int *)(rbp)", "var_10", "M", "&M", "f(rbp)"]) + ";")
         if self.chance(50):
-            texts.append(self.choice(["rsi = 1;", "rbp = 1;", "ebp = 1;", "var_10 = 1;", "var_18 = rsi;", "rsi = h();", "rx = 1;", "rsi = {{;", "rsi = }};", "rsi += 1;", "h();", "L:",
-                                      "rsi = 2", "rsi = {n};", "f({n}, {n});", "{w} = 3;"]))
-        texts.append(self.choice(["rdi = {n};", "rdi = {n};", "g({n});", "g({n}, 4);", "rdi = {n} - 4;", "return {n};", "rdi = rdi - {n};", "rdi = {w};", "if ({n}) goto L;", "g({n}, {w});"]))
+            texts.append(self.choice(["rsi = 1;", "rbp = 1;", "ebp = 1;", "var_10 = 1;", "var_18 = rsi;", "rsi = h();", "rx = 1;", "rsi = {{;",
+                                      "rsi = }};", "rsi += 1;", "h();", "L:", "rsi = 2", "rsi = {n};", "f({n}, {n});", "{w} = 3;"]))
+        texts.append(self.choice(["rdi = {n};", "rdi = {n};", "g({n});", "g({n}, 4);", "rdi = {n} - 4;", "return {n};", "rdi = rdi - {n};",
+                                  "rdi = {w};", "if ({n}) goto L;", "g({n}, {w});"]))
         if self.chance(60):
-            texts.append(self.choice(["h();", "((void (*)())rsi)();", "return;", "goto L;", "if (rsi) goto L;", "goto M;", "}} while (rsi);", "}} while ({w});", "{n} = 1;", "{w} = 1;", "L:", "M:",
-                                      "goto *rsi;", "}}"]))
+            texts.append(self.choice(["h();", "((void (*)())rsi)();", "return;", "goto L;", "if (rsi) goto L;", "goto M;", "}} while (rsi);",
+                                      "}} while ({w});", "{n} = 1;", "{w} = 1;", "L:", "M:", "goto *rsi;", "}}"]))
         if self.chance(60):
             texts.append("h({w});")
         indent, outer, out = 1, self.randrange(2), []
@@ -539,6 +541,8 @@ h() while (rbx);""".replace("\n", "|").split("|")
     def soup_text(self):
         if self.chance(18):
             return self.choice(NUMBERS)
+        if self.chance(5):
+            return "".join(chr(self.randint(0x20, 0x7E)) for _ in range(self.randint(1, 8)))
         return self.choice(SOUP) + (self.choice(SOUP) if self.chance(5) else "")
 
     def soup_token(self):
@@ -620,8 +624,10 @@ h() while (rbx);""".replace("\n", "|").split("|")
         return lines
 
     def any(self):
-        makers = [(15, lambda: self.realistic(self.choice([self.randint(1, 8), self.randint(4, 25), self.randint(1, 60)]))), (10, self.site), (8, self.sums),
-                  (11, self.quirk), (10, self.life), (14, self.frame), (5, self.chain), (5, self.layers), (4, self.pairs), (6, self.soup), (12, self.spoilt), (1, self.long)]
+        """A listing by one of the makers, each with its weight."""
+        makers = [(15, lambda: self.realistic(self.choice([self.randint(1, 8), self.randint(4, 25), self.randint(1, 60)]))),
+                  (10, self.site), (8, self.sums), (11, self.quirk), (10, self.life), (14, self.frame), (5, self.chain), (5, self.layers),
+                  (4, self.pairs), (6, self.soup), (12, self.spoilt), (1, self.long)]
         return self.choices([m for _, m in makers], [w for w, _ in makers])[0]()
 
 

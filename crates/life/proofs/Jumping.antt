@@ -6,20 +6,20 @@ use mathlib.Core.Path.{_≡_, refl, sym, ap, _∙_}
 use mathlib.Core.Bool.{Bool, true, false, false≢true}
 use mathlib.Core.List.{List, [], _∷_, _++_, map, map-append}
 use mathlib.Core.Option.{Option, none, some}
-use lib.Dec.{eqb, leb, ltb}
+use lib.Dec.{leb, ltb}
 use lib.ListN.{length, getD, take, drop, length-map}
 use lib.Seq.{take-suc, take-length, length-take-le}
 use borrow.Author.Tests.{le-leb, lt-leb, lt-ltb, le-ltb, eq-eqb, ne-eqb}
 use Rattle.reference.specs.Control.{not, _&&_, if_then_else_, let-some_else_then_}
 use Rattle.reference.specs.Lists.{position, last-position, find, get}
 use Rattle.reference.specs.Text.{Text, bytes, _==_}
-use Rattle.reference.specs.Listing.{Token, is, Symbol, Line, Listing, blank, _at_}
-use Rattle.reference.specs.Shapes.{is-kw, kw-in, label-tokens}
+use Rattle.reference.specs.Listing.{is, Symbol, Line, Listing, _at_}
+use Rattle.reference.specs.Shapes.{is-kw, kw-in, is-label, label-tokens}
 use Rattle.reference.specs.Join.{text-or-empty}
 use Rattle.reference.specs.Life.{Labels, lookup, touch-of, is-use, is-do, goto-target, rerun-kills, while-passes, goto-passes}
 use Rattle.laws.proofs.Scans.{if-true, if-false}
 use Rattle.joining.specs.Places.{label-at, labels-at, Labelled}
-use Rattle.joining.proofs.Labels.{label-inside, lookup-begin, lookup-hit, lookup-miss, lookup-end}
+use Rattle.joining.proofs.Labels.{label-inside, lookup-hit, lookup-miss, lookup-end}
 use Rattle.lines.specs.Words.{text-of, token-of, tokens-of}
 use Rattle.lines.specs.Lines.{indent-of, part-of, bare-in, bare-listing}
 use Rattle.lines.specs.Shapes.{found, symbol-from}
@@ -99,36 +99,38 @@ first-text tape area [] h = absurd (omega arith)
 first-text tape area (w ∷ ws) h = refl
 
 module _ (tape area : Text) (tokens lines places : List ℕ) (ok : Labelled (bare-listing tape area tokens lines) places) where
-  module _ (k : ℕ) (h : k < length places) where
-    pub place-inside : getD places k 0 < length lines
-    place-inside = rw (length-map lines (bare-in tape area tokens)) at (label-inside (bare-listing tape area tokens lines) (getD places k 0) (ok k h))
+  -- p is the line of label k
+  module _ (k : ℕ) (h : k < length places) {p : ℕ} (ep : p ≡ getD places k 0) where
+    labelled : is-label (bare-listing tape area tokens lines at p) ≡ true
+    labelled = rw ep (ok k h)
 
-    at-place : bare-listing tape area tokens lines at getD places k 0 ≡ bare-in tape area tokens (getD lines (getD places k 0) 0)
-    at-place = bare-at tape area tokens [] lines (getD places k 0) place-inside
+    pub place-inside : p < length lines
+    place-inside = rw (length-map lines (bare-in tape area tokens)) at (label-inside (bare-listing tape area tokens lines) p labelled)
 
-    pub place-long : 0 < length (part-of tokens (getD lines (getD places k 0) 0))
-    place-long = label-long tape area (part-of tokens (getD lines (getD places k 0) 0)) (ap (λ (l : Line). label-tokens (l .tokens)) (sym at-place) ∙ ok k h)
+    at-place : bare-listing tape area tokens lines at p ≡ bare-in tape area tokens (getD lines p 0)
+    at-place = bare-at tape area tokens [] lines p place-inside
 
-    name-is : label-at (bare-listing tape area tokens lines) (getD places k 0) .name ≡ text-of tape area (getD (part-of tokens (getD lines (getD places k 0) 0)) 0 0)
-    name-is = ap (λ (l : Line). text-or-empty (get (l .tokens) 0)) at-place ∙ first-text tape area (part-of tokens (getD lines (getD places k 0) 0)) place-long
+    pub place-long : 0 < length (part-of tokens (getD lines p 0))
+    place-long = label-long tape area (part-of tokens (getD lines p 0)) (ap is-label (sym at-place) ∙ labelled)
 
+    name-is : label-at (bare-listing tape area tokens lines) p .name ≡ text-of tape area (getD (part-of tokens (getD lines p 0)) 0 0)
+    name-is = ap (λ (l : Line). text-or-empty (get (l .tokens) 0)) at-place ∙ first-text tape area (part-of tokens (getD lines p 0)) place-long
+
+  -- o is what the whole search is to find, from the last label back
   module _ (name : Text) (n : ℕ) {o : Option ℕ} (inv : o ≡ lookup (labels-at (bare-listing tape area tokens lines) (take n places)) name) where
-    module _ (h : 0 < n) (b : n ≤ length places) {x : Bool}
-        (ex : x ≡ (text-of tape area (getD (part-of tokens (getD lines (getD places (n - 1) 0) 0)) 0 0) == name)) where
-      below : n - 1 < length places
-      below = omega arith
-
+    module _ (h : 0 < n) (b : n ≤ length places) {p : ℕ} (ep : p ≡ getD places (n - 1) 0) {x : Bool}
+        (ex : x ≡ (text-of tape area (getD (part-of tokens (getD lines p 0)) 0 0) == name)) where
       told : {y : Bool} → x ≡ y → (label-at (bare-listing tape area tokens lines) (getD places (n - 1) 0) .name == name) ≡ y
-      told e = ap (λ (s : Text). s == name) (name-is (n - 1) below) ∙ sym ex ∙ e
+      told e = rw (← ep, name-is (n - 1) (omega arith) ep) (sym ex ∙ e)
 
       before : o ≡ lookup (labels-at (bare-listing tape area tokens lines) (take (n - 1 + 1) places)) name
       before = let e : n ≡ n - 1 + 1 = omega arith in inv ∙ ap (λ (m : ℕ). lookup (labels-at (bare-listing tape area tokens lines) (take m places)) name) e
 
-      pub named-hit : x ≡ true → some (getD places (n - 1) 0) ≡ o
-      named-hit t = sym (before ∙ lookup-hit (bare-listing tape area tokens lines) places name (n - 1) below (told t))
+      pub named-hit : x ≡ true → some p ≡ o
+      named-hit t = ap some ep ∙ sym (before ∙ lookup-hit (bare-listing tape area tokens lines) places name (n - 1) (omega arith) (told t))
 
       pub named-miss : x ≡ false → o ≡ lookup (labels-at (bare-listing tape area tokens lines) (take (n - 1) places)) name
-      named-miss t = before ∙ lookup-miss (bare-listing tape area tokens lines) places name (n - 1) below (told t)
+      named-miss t = before ∙ lookup-miss (bare-listing tape area tokens lines) places name (n - 1) (omega arith) (told t)
 
     pub named-end : n ≤ 0 → none ≡ o
     named-end h =
@@ -138,6 +140,14 @@ module _ (tape area : Text) (tokens lines places : List ℕ) (ok : Labelled (bar
 
 -- ---- where a `goto` jumps to
 
+pub goto-inside : (tape area : Text) (ws : List ℕ) {r : Found} {g : ℕ} → found r ≡ position (is-kw (bytes "goto")) (tokens-of tape area ws) → r ≡ At g → g < length ws
+goto-inside tape area ws {g = g} er e =
+    let b = find-at (is-kw (bytes "goto")) (tokens-of tape area ws) g (token-of tape area 0) (found-is er e) .0 in
+    rw (length-map ws (token-of tape area)) at b
+
+pub symbol-inside : (tape area : Text) (ws : List ℕ) (n : ℕ) {s : ℕ} {q : Found} → found q ≡ symbol-from (tokens-of tape area ws) n → q ≡ At s → s < length ws
+symbol-inside tape area ws n {s} eq f = symbol-at tape area ws n s (found-is eq f) .0
+
 module _ (tape area : Text) (labels : Labels) (line : List ℕ) {ws : List ℕ} (ew : ws ≡ line)
     (r : Found) (er : found r ≡ position (is-kw (bytes "goto")) (tokens-of tape area ws)) where
   pub target-stays : r ≡ Nothing → none ≡ goto-target (tokens-of tape area line) labels
@@ -145,11 +155,6 @@ module _ (tape area : Text) (labels : Labels) (line : List ℕ) {ws : List ℕ} 
   target-stays e = rw (← ew, found-not er e)
 
   module _ {g : ℕ} (e : r ≡ At g) where
-    pub goto-inside : g < length ws
-    goto-inside =
-        let b = find-at (is-kw (bytes "goto")) (tokens-of tape area ws) g (token-of tape area 0) (found-is er e) .0 in
-        rw (length-map ws (token-of tape area)) at b
-
     at-goto : goto-target (tokens-of tape area line) labels
         ≡ some (let-some (find (is Symbol) (drop (g + 1) (tokens-of tape area ws))) else none then λ t. lookup labels (t .text))
     unfolding goto-target let-some_else_then_
@@ -161,9 +166,6 @@ module _ (tape area : Text) (labels : Labels) (line : List ℕ) {ws : List ℕ} 
       target-none f = sym (at-goto ∙ rw (symbol-fromone tape area ws (g + 1) (found-not eq f)))
 
       module _ {s : ℕ} (f : q ≡ At s) where
-        pub symbol-inside : s < length ws
-        symbol-inside = symbol-at tape area ws (g + 1) s (found-is eq f) .0
-
         at-symbol : goto-target (tokens-of tape area line) labels ≡ some (lookup labels (text-of tape area (getD ws s 0)))
         unfolding let-some_else_then_
         at-symbol = at-goto ∙ rw (symbol-at tape area ws (g + 1) s (found-is eq f) .1)
@@ -183,7 +185,7 @@ unless true true = refl
 unless true false = refl
 unless false b = refl
 
-module _ (tape area : Text) (tokens lines : List ℕ) (fam : Text) (start : ℕ) (vs : List Text) where
+module _ (lines : List ℕ) (tape area : Text) (tokens : List ℕ) (fam : Text) (start : ℕ) (vs : List Text) where
   abbrev listing : Listing
   listing = bare-listing tape area tokens lines
 

@@ -10,8 +10,8 @@ use lib.Seq.{take-suc, take-all, drop-cons, length-take-le, set-at, getD-at, app
 use borrow.Author.Tests.{lt-ltb, le-ltb}
 use Rattle.reference.specs.Control.{if_then_else_}
 use Rattle.reference.specs.Text.{Text}
-use Rattle.reference.specs.Listing.{Line, blank, _at_}
-use Rattle.reference.specs.Shapes.{is-label, label-tokens}
+use Rattle.reference.specs.Listing.{_at_}
+use Rattle.reference.specs.Shapes.{label-tokens}
 use Rattle.laws.proofs.Scans.{if-true, if-false}
 use Rattle.joining.specs.Places.{label-places, shift-place}
 use Rattle.joining.proofs.Labels.{places-turn}

@@ -1,13 +1,12 @@
 -- `killed-first` and `dead-from`, line by line: what one line decides, and the turns of the loops over the lines. Assumes nothing.
 use Prim.Native.Nat.{ℕ, suc, _+_, _-_, _≤_, _<_}
 use native.Mathlib.Numerals.{add-one}
-use native.Mathlib.Omega.{arith}
-use mathlib.Core.Path.{_≡_, refl, sym, ap, _∙_}
+use mathlib.Core.Path.{_≡_, refl, sym, _∙_}
 use mathlib.Core.Bool.{Bool, true, false}
-use mathlib.Core.List.{List, [], _∷_, map}
+use mathlib.Core.List.{List, _∷_}
 use lib.Dec.{leb}
 use lib.ListN.{length, getD, take, drop, drop-of-length-le}
-use lib.Seq.{drop-cons, slice}
+use lib.Seq.{drop-cons}
 use borrow.Author.Tests.{le-leb, lt-leb}
 use Rattle.reference.specs.Control.{_&&_, if_then_else_}
 use Rattle.reference.specs.Text.{Text, bytes}
@@ -24,18 +23,6 @@ use Rattle.life.specs.declared.fates.Fate.{Fate}
 use Rattle.life.specs.declared.fates.Fate.the-variants.{Dead, Live, Open}
 use Rattle.life.specs.Touches.{touched}
 use Rattle.life.specs.Fates.{decided, line-fate, returns-at, or-returns, scan-fate, fate-after}
-
--- ---- the turns of a loop that goes by fates: x is what the definition says of all lines, `here` of those from this line on, `next` of those after it
-
-module _ (r : Fate) (next : Bool) {x here : Bool} (inv : x ≡ here) (step : here ≡ decided r next) where
-  pub turn-dead : r ≡ Dead → true ≡ x
-  turn-dead e = sym (inv ∙ step ∙ rw e)
-
-  pub turn-live : r ≡ Live → false ≡ x
-  turn-live e = sym (inv ∙ step ∙ rw e)
-
-  pub turn-open : r ≡ Open → x ≡ next
-  turn-open e = inv ∙ step ∙ rw e
 
 -- ---- one line
 
@@ -78,14 +65,24 @@ module _ (fam : Text) (deep : ℕ) (vs : List Text) where
       go Kill false = refl
       go (Use n) b = refl
 
-  module _ (tape area : Text) (tokens lines : List ℕ) (k : ℕ) where
-    pub killed-step : {r : Fate} → k < length lines → r ≡ line-fate fam deep vs (bare-in tape area tokens (getD lines k 0))
-        → killed-first (bare-listing tape area tokens (drop k lines)) fam deep vs ≡ decided r (killed-first (bare-listing tape area tokens (drop (k + 1) lines)) fam deep vs)
-    killed-step h e = rw (e, add-one k, drop-cons lines k 0 h) (killed-line _ _)
+  -- x is what the definition says of all lines
+  module _ (tape area : Text) (tokens lines : List ℕ) (k : ℕ) {x : Bool} (inv : x ≡ killed-first (bare-listing tape area tokens (drop k lines)) fam deep vs) where
+    module _ (h : k < length lines) (r : Fate) (e : r ≡ line-fate fam deep vs (bare-in tape area tokens (getD lines k 0))) where
+      killed-step : x ≡ decided r (killed-first (bare-listing tape area tokens (drop (k + 1) lines)) fam deep vs)
+      killed-step = inv ∙ rw (e, add-one k, drop-cons lines k 0 h) (killed-line _ _)
 
-    pub killed-end : {x : Bool} → x ≡ killed-first (bare-listing tape area tokens (drop k lines)) fam deep vs → length lines ≤ k → false ≡ x
+      pub killed-dead : r ≡ Dead → true ≡ x
+      killed-dead f = sym (killed-step ∙ rw f)
+
+      pub killed-live : r ≡ Live → false ≡ x
+      killed-live f = sym (killed-step ∙ rw f)
+
+      pub killed-open : r ≡ Open → x ≡ killed-first (bare-listing tape area tokens (drop (k + 1) lines)) fam deep vs
+      killed-open f = killed-step ∙ rw f
+
+    pub killed-end : length lines ≤ k → false ≡ x
     unfolding killed-first
-    killed-end inv h = sym (inv ∙ rw (drop-of-length-le lines {i = k} h))
+    killed-end h = sym (inv ∙ rw (drop-of-length-le lines {i = k} h))
 
 -- the lines that a jump back runs again
 pub rerun-part : (tape area : Text) (tokens lines : List ℕ) (fam : Text) (start : ℕ) (vs : List Text) (to indent : ℕ) {x : Bool}
@@ -174,37 +171,49 @@ module _ (tape area : Text) (tokens lines : List ℕ) (fam : Text) (base : ℕ) 
   unfolding dead-after
   dead-begin from = rw (add-one, map-drop)
 
-  pub dead-step : (w : ℕ) {r : Fate} → w < length lines
-      → r ≡ fate-after (bare-listing tape area tokens lines) fam base labels start vs w (bare-in tape area tokens (getD lines w 0))
-      → dead-rest w ≡ decided r (dead-rest (w + 1))
-  dead-step w h e = rw (e, add-one w, drop-cons lines w 0 h) (dead-line _ fam base labels start vs w _ _)
+  -- x is what the definition says of all lines
+  module _ (w : ℕ) {x : Bool} (inv : x ≡ dead-rest w) where
+    module _ (h : w < length lines) (r : Fate)
+        (e : r ≡ fate-after (bare-listing tape area tokens lines) fam base labels start vs w (bare-in tape area tokens (getD lines w 0))) where
+      dead-step : x ≡ decided r (dead-rest (w + 1))
+      dead-step = inv ∙ rw (e, add-one w, drop-cons lines w 0 h) (dead-line _ fam base labels start vs w _ _)
 
-  pub dead-end : (w : ℕ) {x : Bool} → x ≡ dead-rest w → length lines ≤ w → true ≡ x
-  unfolding dead-from
-  dead-end w inv h = sym (inv ∙ rw (drop-of-length-le lines {i = w} h))
+      pub dead-dead : r ≡ Dead → true ≡ x
+      dead-dead f = sym (dead-step ∙ rw f)
 
-  -- the line w of the scan, whose word is l
-  module _ (w l : ℕ) {ws : List ℕ} (ew : ws ≡ part-of tokens l) {x : Bool} (ex : x ≡ kw-in (tokens-of tape area ws) (bytes "while")) where
-    has : x ≡ kw-in (tokens-of tape area (part-of tokens l)) (bytes "while")
-    has = rw ew at ex
+      pub dead-live : r ≡ Live → false ≡ x
+      dead-live f = sym (dead-step ∙ rw f)
 
-    abbrev after : Fate
-    after = fate-after (bare-listing tape area tokens lines) fam base labels start vs w (bare-in tape area tokens l)
+      pub dead-open : r ≡ Open → x ≡ dead-rest (w + 1)
+      dead-open f = dead-step ∙ rw f
 
-    module _ (t : x ≡ true) {y : Bool} (ey : y ≡ while-passes (bare-listing tape area tokens lines) fam start vs w (bare-in tape area tokens l)) where
-      pub after-while : y ≡ true → Open ≡ after
-      unfolding fate-after if_then_else_
-      after-while u = rw (← has, t, ← ey, u)
+    pub dead-end : length lines ≤ w → true ≡ x
+    unfolding dead-from
+    dead-end h = sym (inv ∙ rw (drop-of-length-le lines {i = w} h))
 
-      pub after-loop : y ≡ false → Live ≡ after
-      unfolding fate-after if_then_else_
-      after-loop u = rw (← has, t, ← ey, u)
+-- the line w of the scan, whose word is l
+module _ (lines : List ℕ) (tape area : Text) (tokens : List ℕ) (fam : Text) (base : ℕ) (labels : Labels) (start : ℕ) (vs : List Text)
+    (w l : ℕ) {ws : List ℕ} (ew : ws ≡ part-of tokens l) {x : Bool} (ex : x ≡ kw-in (tokens-of tape area ws) (bytes "while")) where
+  has : x ≡ kw-in (tokens-of tape area (part-of tokens l)) (bytes "while")
+  has = rw ew at ex
 
-    module _ (t : x ≡ false) {y : Bool} (ey : y ≡ goto-passes (bare-listing tape area tokens lines) fam start vs labels (bare-in tape area tokens l)) where
-      pub after-goto : y ≡ false → Live ≡ after
-      unfolding fate-after if_then_else_
-      after-goto u = rw (← has, t, ← ey, u)
+  abbrev after : Fate
+  after = fate-after (bare-listing tape area tokens lines) fam base labels start vs w (bare-in tape area tokens l)
 
-      pub after-scan : {r : Fate} → y ≡ true → r ≡ scan-fate fam base vs (bare-in tape area tokens l) → r ≡ after
-      unfolding fate-after if_then_else_
-      after-scan u e = e ∙ rw (← has, t, ← ey, u)
+  module _ (t : x ≡ true) {y : Bool} (ey : y ≡ while-passes (bare-listing tape area tokens lines) fam start vs w (bare-in tape area tokens l)) where
+    pub after-while : y ≡ true → Open ≡ after
+    unfolding fate-after if_then_else_
+    after-while u = rw (← has, t, ← ey, u)
+
+    pub after-loop : y ≡ false → Live ≡ after
+    unfolding fate-after if_then_else_
+    after-loop u = rw (← has, t, ← ey, u)
+
+  module _ (t : x ≡ false) {y : Bool} (ey : y ≡ goto-passes (bare-listing tape area tokens lines) fam start vs labels (bare-in tape area tokens l)) where
+    pub after-goto : y ≡ false → Live ≡ after
+    unfolding fate-after if_then_else_
+    after-goto u = rw (← has, t, ← ey, u)
+
+    pub after-scan : {r : Fate} → y ≡ true → r ≡ scan-fate fam base vs (bare-in tape area tokens l) → r ≡ after
+    unfolding fate-after if_then_else_
+    after-scan u e = e ∙ rw (← has, t, ← ey, u)

@@ -3,7 +3,7 @@ use Prim.Native.Nat.{ℕ, _≤_, _<_}
 use mathlib.Core.Path.{_≡_, refl, sym, _∙_}
 use mathlib.Core.Bool.{Bool, true, false, not as flip}
 use mathlib.Core.List.{List}
-use lib.Dec.{leb, ltb}
+use lib.Dec.{leb}
 use lib.ListN.{getD}
 use borrow.Author.Tests.{lt-ltb, le-ltb, le-leb, lt-leb}
 use Rattle.reference.specs.Control.{not, _&&_, if_then_else_, let-some_else_then_}
@@ -85,6 +85,8 @@ module _ (ts : List Token) (fam : Text) (vs : List Text) {x : Bool} (ex : x ≡ 
         pub touch-kept : v ≡ false → None ≡ touch-of ts fam vs
         unfolding touch-of if_then_else_ _&&_
         touch-kept f = rw (← ex, fx, ← en, le-ltb 0 n zn, ← ec, tc, ← ev, f)
+
+pub ruleset touching = (touch-kill, touch-use, touch-plain, touch-call, touch-kept)
 
 -- ---- what a touch is
 

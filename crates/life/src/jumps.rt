@@ -7,14 +7,14 @@ use lines::shapes;
 use lines::shapes::Found;
 use lines::words;
 ghost use mathlib.Core.Path.{_≡_};
-ghost use Prim.Native.Nat.{_≤_, _<_};
+ghost use Prim.Native.Nat.{_<_};
 ghost use lib.ListN.{length, getD};
 ghost use Rattle.reference.specs.Lists.{last-position};
 ghost use Rattle.reference.specs.Text.{_==_};
 ghost use Rattle.reference.specs.Listing.{_at_};
 ghost use Rattle.reference.specs.Rules.{volatile};
 ghost use Rattle.reference.specs.Life.{lookup, is-do, goto-target, while-passes, goto-passes};
-ghost use Rattle.joining.specs.Places.{label-at, labels-at, Labelled};
+ghost use Rattle.joining.specs.Places.{labels-at, Labelled};
 ghost use Rattle.lines.specs.Rules.{rules-of};
 ghost use Rattle.lines.specs.Words.{text-of, tokens-of, Points};
 ghost use Rattle.lines.specs.Lines.{part-of, bare-in, bare-listing, Lined, Listed};
@@ -76,7 +76,7 @@ pub fn while_passes<'a>(
     }
     let indent = words::indent(l);
     let Found::At(d) = do_before(tape, area, tokens, &lines[..w], indent) else {
-        return false;
+        return false; // a loop whose head is not known
     };
     if start <= d {
         return true;
@@ -95,6 +95,14 @@ fn is_named<'a>(tape: &'a [u8], area: &'a [u8], tokens: &'a [u64], l: u64, w: u6
     text::same(words::text(tape, area, line[0]), words::text(tape, area, w))
 }
 
+// The line of label n.
+fn place_at(labels: &[u64], n: usize) -> usize
+    requires { ⌜ n < length (now labels) ⌝ }
+    ensures { λ r. ⌜ r ≡ getD (now (labels .entry)) n 0 ⌝ }
+{
+    labels[n] as usize
+}
+
 // The line of the label with the name that the token word w has for its text; of equal names the last.
 fn label_named<'a>(
     tape: &'a [u8],
@@ -110,7 +118,7 @@ fn label_named<'a>(
     let mut n = labels.len();
     while 0 < n {
         n -= 1;
-        let at = labels[n] as usize;
+        let at = place_at(labels, n);
         if is_named(tape, area, tokens, lines[at], w) {
             return Found::At(at);
         }

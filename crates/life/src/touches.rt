@@ -65,7 +65,7 @@ pub fn touch<'a>(tape: &'a [u8], area: &'a [u8], line: &'a [u64], f: Fam, rules:
         return Touched::Nothing;
     }
     if fams::is_volatile(tape, area, f, rules) {
-        return Touched::Kill;
+        return Touched::Kill; // by the call
     }
     Touched::Nothing
 }

@@ -1,6 +1,7 @@
-// The limits of document 01's sheet, each a tape that is built here and asked the questions 3 to 8. A line each: what the tape is, and
-// `accepted` or `refused`, number, `at`, place. The file `stdout` has the answers of the Rust.
+// The limits of document 01's sheet: for each a tape is built and asked the questions 3 to 8. A line each: what the tape is, and `accepted`
+// or `refused`, number, `at`, place. The file `stdout` has the answers of the Rust behind the same questions.
 use libc::STDOUT_FILENO;
+use tape::commands::text_of;
 use tape::questions::Checked;
 
 // The example of document 01: `rax = f();` `return;`.
@@ -47,6 +48,8 @@ const EXAMPLE: [u8; 40] = [
     0xFF,
 ];
 
+// ---- answers
+
 fn write(s: &[u8]) {
     io::write_all(STDOUT_FILENO, s);
 }
@@ -59,10 +62,10 @@ fn write_number(n: usize) {
 fn answer(tape: &[u8]) {
     match tape::check(tape) {
         Checked::Passed(_) => {
-            write(b"accepted\n");
+            write(b": accepted\n");
         }
         Checked::Refused { number, place } => {
-            write(b"refused ");
+            write(b": refused ");
             io::print_decimal(STDOUT_FILENO, number);
             write(b" at ");
             write_number(place);
@@ -74,11 +77,13 @@ fn answer(tape: &[u8]) {
 // Writes the answer to the first n bytes.
 fn answer_first(tape: &[u8], n: usize) {
     if n <= tape.len() {
-        answer(&tape[..n]);
+        answer(text_of(tape, 0, n));
     }
 }
 
-// Puts bytes behind the first `at`, if there is room.
+// ---- tapes
+
+// Puts bytes behind the first `at`, if there is room, and says where they end.
 fn append(buffer: &mut [u8], at: usize, part: &[u8]) -> usize {
     if buffer.len() < at {
         return at;
@@ -100,40 +105,129 @@ fn append_times(buffer: &mut [u8], at: usize, part: &[u8], times: usize) -> usiz
     to
 }
 
+// A line with one token, of a command's kind, whose text is a byte many times.
+fn append_token(buffer: &mut [u8], command: u8, byte: u8, times: usize) -> usize {
+    let low = (times % 256) as u8;
+    let high = (times / 256 % 256) as u8;
+    let n = append(buffer, 0, &[0x02, 0x00, command, low, high]);
+    append_times(buffer, n, &[byte], times)
+}
+
+fn answer_token(buffer: &mut [u8], command: u8, byte: u8, times: usize) {
+    let n = append_token(buffer, command, byte, times);
+    let n = append(buffer, n, &[0xFF]);
+    answer_first(buffer, n);
+}
+
+// ---- limits
+
 fn lines(buffer: &mut [u8], count: usize) {
     write_number(count);
-    write(b" lines: ");
+    write(b" lines");
     let n = append_times(buffer, 0, &[0x02, 0x00], count);
     let n = append(buffer, n, &[0xFF]);
     answer_first(buffer, n);
 }
 
-fn indent(buffer: &mut [u8], indent: u8) {
+fn indent(depth: u8) {
     write(b"indent ");
-    write_number(indent as usize);
-    write(b": ");
-    let n = append(buffer, 0, &[0x02, indent, 0xFF]);
-    answer_first(buffer, n);
+    write_number(depth as usize);
+    answer(&[0x02, depth, 0xFF]);
 }
 
 fn tokens(buffer: &mut [u8], count: usize) {
     write_number(count);
-    write(b" tokens: ");
+    write(b" tokens");
     let n = append(buffer, 0, &[0x02, 0x00]);
     let n = append_times(buffer, n, &[0x10, 0x01, 0x00, 0x66], count);
     let n = append(buffer, n, &[0xFF]);
     answer_first(buffer, n);
 }
 
-// A line with a token of each kind and length.
+fn text_bytes(buffer: &mut [u8], count: usize) {
+    write_number(count);
+    write(b" bytes of text");
+    answer_token(buffer, 0x10, b'a', count);
+}
+
+// The bytes of all texts count, not those of each.
+fn text_in_two(buffer: &mut [u8], count: usize) {
+    write_number(count);
+    write(b" bytes of text and 1 more");
+    let n = append_token(buffer, 0x10, b'a', count);
+    let n = append(buffer, n, &[0x10, 0x01, 0x00, 0x66, 0xFF]);
+    answer_first(buffer, n);
+}
+
+fn number(buffer: &mut [u8], count: usize) {
+    write(b"Number of ");
+    write_number(count);
+    answer_token(buffer, 0x12, b'5', count);
+}
+
+fn byte(b: u8) {
+    write(b"byte ");
+    write_number(b as usize);
+    answer(&[0x02, 0x00, 0x10, 0x01, 0x00, b, 0xFF]);
+}
+
+// ---- one of each refusal, where several questions would refuse
+
+fn refusals() {
+    write(b"no byte");
+    answer(&[]);
+    write(b"no command");
+    answer(&[0x02, 0x00, 0x18, 0x01, 0x00, 0x66, 0xFF]);
+    write(b"no end");
+    answer(&[0x02, 0x00]);
+    write(b"cut off before a line");
+    answer(&[0x10, 0x02, 0x00, 0x66]);
+    write(b"more announced than there is");
+    answer(&[0x02, 0x00, 0x10, 0xFF, 0xFF, 0x66]);
+    write(b"empty before a line");
+    answer(&[0x10, 0x00, 0x00, 0xFF]);
+    write(b"empty");
+    answer(&[0x02, 0x00, 0x10, 0x00, 0x00, 0xFF]);
+    write(b"after the end");
+    answer(&[0x02, 0x00, 0xFF, 0x00]);
+    write(b"end alone");
+    answer(&[0xFF]);
+}
+
+fn truncation(tape: &[u8], n: usize) {
+    write(b"example, ");
+    write_number(n);
+    write(b" bytes");
+    answer_first(tape, n);
+}
+
+// Every truncation of a tape, and the whole.
+fn truncations(tape: &[u8]) {
+    let mut n = 0;
+    while n <= tape.len() {
+        truncation(tape, n);
+        n += 1;
+    }
+}
+
 fn main() {
     let mut buffer = [0u8; 65536];
-    write(b"no byte: ");
-    answer(&[]);
     lines(&mut buffer, 256);
     lines(&mut buffer, 257);
-    indent(&mut buffer, 63);
-    indent(&mut buffer, 64);
+    indent(63);
+    indent(64);
     tokens(&mut buffer, 1024);
     tokens(&mut buffer, 1025);
+    text_bytes(&mut buffer, 24576);
+    text_bytes(&mut buffer, 24577);
+    text_in_two(&mut buffer, 24575);
+    text_in_two(&mut buffer, 24576);
+    number(&mut buffer, 24);
+    number(&mut buffer, 25);
+    byte(0x1F);
+    byte(0x20);
+    byte(0x7E);
+    byte(0x7F);
+    refusals();
+    truncations(&EXAMPLE);
 }

@@ -5,7 +5,7 @@ use crate::definitions::definition_of;
 use crate::reaches;
 use crate::slots::is_addressed;
 use crate::uses;
-use life::dead::dead_after;
+use life::dead_after;
 use lines::fams;
 use lines::fams::Fam;
 use lines::rules::Rules;

@@ -1,7 +1,6 @@
 // How far a constant reaches, and whether every use takes it: the scan and the tests of `propagate_constant` of the Rust.
-use life::dead::dead_after;
-use life::touches;
-use life::touches::Touched;
+use life::Touched;
+use life::dead_after;
 use lines::fams;
 use lines::fams::Fam;
 use lines::rules::Rules;
@@ -70,7 +69,7 @@ fn reach_at<'a>(
     }
     let line = words::line_of(tokens, l);
     let ended = shapes::opens_or_closes(tape, area, line);
-    match touches::touch(tape, area, line, f, rules) {
+    match life::touch(tape, area, line, f, rules) {
         Touched::Nothing => Reach {
             used: r.used,
             last: r.last,
@@ -168,7 +167,7 @@ fn refuses_constant<'a>(
     ensures { λ r. ⌜ r ≡ refuses (fam-text (now (tape .entry)) (now (area .entry)) f) (volatile (rules-of rules)) (bare-in (now (tape .entry)) (now (area .entry)) (now (tokens .entry)) l) ⌝ }
 {
     let line = words::line_of(tokens, l);
-    if !touches::uses(tape, area, line, f, rules) {
+    if !life::uses(tape, area, line, f, rules) {
         return false;
     }
     bad_use(tape, area, line, f)
@@ -228,5 +227,5 @@ pub fn ends_at<'a>(
     ) {
         return true;
     }
-    touches::kills(tape, area, words::line_of(tokens, lines[last]), f, rules)
+    life::kills(tape, area, words::line_of(tokens, lines[last]), f, rules)
 }

@@ -1,7 +1,6 @@
 // The single use of a definition, and whether the right side can take its place there: the second half of `try_at` of the Rust.
 use crate::definitions::Definition;
-use life::touches;
-use life::touches::Touched;
+use life::Touched;
 use lines::fams;
 use lines::fams::Fam;
 use lines::fams::Named;
@@ -103,7 +102,7 @@ fn look_at<'a>(
         return Look::Stops;
     }
     let f = d.family;
-    match touches::touch(tape, area, line, f, rules) {
+    match life::touch(tape, area, line, f, rules) {
         Touched::Nothing => {
             if !same_run(tape, area, tokens, words::indent(s), d.calls, l) {
                 return Look::Stops;

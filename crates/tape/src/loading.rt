@@ -37,7 +37,8 @@ fn add_token(
     lines: &mut [u64],
     totals: Totals,
 )
-    requires { ⌜ (kind < 8) × (at + 3 + size < 65536) × (totals .tokens < length (now tokens)) × (0 < totals .lines) × (totals .lines ≤ length (now lines)) × (count-of (getD (now lines) (totals .lines - 1) 0) < 2047) ⌝ }
+    requires { ⌜ (kind < 8) × (at + 3 + size < 65536) × (totals .tokens < length (now tokens)) ⌝ }
+    requires { ⌜ (0 < totals .lines) × (totals .lines ≤ length (now lines)) × (count-of (getD (now lines) (totals .lines - 1) 0) < 2047) ⌝ }
     ensures { λ _. ⌜ now (tokens .exit) ≡ set (now (tokens .entry)) (totals .tokens) (word kind 0 (at + 3) size) ⌝ }
     ensures { λ _. ⌜ now (lines .exit) ≡ lengthened (now (lines .entry)) totals ⌝ }
 {

@@ -2,8 +2,7 @@
 use Prim.Native.Nat.{ℕ, _+_, _-_, _<_, _≤_}
 use native.Mathlib.Nat.{add-zero}
 use native.Mathlib.Omega.{arith}
-use mathlib.Core.Path.{_≡_, refl, sym, ap, _∙_}
-use mathlib.Core.Bool.{true, false}
+use mathlib.Core.Path.{_≡_, sym, ap, _∙_}
 use mathlib.Core.List.{List, [], _∷_}
 use mathlib.Core.Option.{none, some}
 use lib.ListN.{length, getD, take, drop, length-drop, drop-of-length-le}
@@ -95,9 +94,6 @@ module _ (tape : List ℕ) (at : ℕ) where
 
     high′ : getD here 0 0 ≤ 0x17
     high′ = rw head high
-
-    count-at : ℕ
-    count-at = from-le-bytes (take 2 (drop (at + 1) tape))
 
     size-at : command-size here ≡ 3 + from-le-bytes (take 2 (drop (at + 1) tape))
     size-at = token-form here low′ high′ .0 ∙ rw (drop-drop 1 at tape)

@@ -15,11 +15,11 @@ use Rattle.reference.specs.Tape.{new-line, new-token}
 use Rattle.reference.specs.Questions as Q
 use Rattle.reference.proofs.Writing.{with-token, add-last}
 use Rattle.laws.proofs.Parts.{part-below}
-use Rattle.lines.specs.Words.{word, token-of, tokens-of, source, Holds}
-use Rattle.lines.specs.Lines.{first-of, count-of, indent-of, addressed-of, origin-of, line-word, with-part, part-of, address-in, line-in, listing-of, Listed}
+use Rattle.lines.specs.Words.{word, token-of, tokens-of, Holds}
+use Rattle.lines.specs.Lines.{first-of, count-of, indent-of, addressed-of, origin-of, with-part, part-of, address-in, line-in, listing-of}
 use Rattle.lines.proofs.words.Each.{Each, each-none, each-one, each-take, each-append, map-same}
 use Rattle.lines.proofs.words.Tokens.{word-means, word-points, in-tape, holds-none, holds-snoc}
-use Rattle.lines.proofs.words.Lines.{first-below, indent-below, addressed-below, origin-below, word-first, word-count, word-origin, line-word-means, with-first, with-count, with-means, lined-of}
+use Rattle.lines.proofs.words.Lines.{first-below, indent-below, addressed-below, origin-below, word-first, word-count, word-origin, line-word-means, with-first, with-count, with-means}
 use Rattle.tape.specs.Commands.{command-in, size-of}
 use Rattle.tape.specs.Questions.{totals-of, counted}
 use Rattle.tape.specs.Tables.{begun, longer, lengthened, tokens-after, lines-after, addresses-after, Adds, Room}
@@ -72,6 +72,13 @@ module _ {tape tokens lines addresses : List ℕ} {listing : Listing} (t : Total
     unfolding address-in
     same-line area l o = rw (kept (origin-of l) o)
 
+    same-lines : (area : Text)
+        → listing-of tape area (take (t .tokens) tokens) addresses′ (take (t .lines) lines)
+        ≡ listing-of tape area (take (t .tokens) tokens) addresses (take (t .lines) lines)
+    same-lines area =
+        map-same (line-in tape area (take (t .tokens) tokens) addresses′) (line-in tape area (take (t .tokens) tokens) addresses) (take (t .lines) lines)
+        (λ k b. same-line area _ (h .origins k b))
+
     pub table-line : {address : Option ℕ} → (if eqb flag 1 then some (getD addresses′ (t .lines) 0) else none) ≡ address
         → Table tape tokens (set lines (t .lines) (begun indent flag t)) addresses′ (record { lines = t .lines + 1; tokens = t .tokens; text = t .text })
         (Q.add (new-line address indent) listing)
@@ -102,7 +109,7 @@ module _ {tape tokens lines addresses : List ℕ} {listing : Listing} (t : Total
               (let F = line-in tape area (take n tokens) addresses′ in
               ap (map F) front
               ∙ map-append F (take (t .lines) lines) (w ∷ [])
-              ∙ rw (map-same F (line-in tape area (take n tokens) addresses) (take (t .lines) lines) (λ k b. same-line area _ (h .origins k b)), h .means area, new-line-means area, e, add-line listing address indent));
+              ∙ rw (same-lines area, h .means area, new-line-means area, e, add-line listing address indent));
         }
 
   -- ---- a token
@@ -153,6 +160,22 @@ module _ {tape tokens lines addresses : List ℕ} {listing : Listing} (t : Total
         part-below f c (t .tokens + 1) tokens′ (omega arith)
         ∙ sym (part-below f c (t .tokens) tokens′ i)
         ∙ ap (λ (ws : List ℕ). take c (drop f ws)) (take-set-le (t .tokens) tokens (t .tokens) (word kind 0 (at + 3) count) (omega arith))
+
+    before : Each (λ l. first-of l + count-of l ≤ t .tokens) (take (t .lines - 1) lines)
+    before =
+        rw (take-take (t .lines - 1) (t .lines) lines (omega arith)) at
+        (each-take (λ l. first-of l + count-of l ≤ t .tokens) (take (t .lines) lines) (h .inside) (t .lines - 1))
+
+    same-init : (area : Text)
+        → listing-of tape area (take (t .tokens + 1) (set tokens (t .tokens) (word kind 0 (at + 3) count))) addresses (take (t .lines - 1) lines)
+        ≡ listing-of tape area (take (t .tokens) tokens) addresses (take (t .lines - 1) lines)
+    same-init area =
+        let init : List ℕ = take (t .lines - 1) lines in
+        map-same (line-in tape area _ addresses) (line-in tape area (take (t .tokens) tokens) addresses) init
+        (λ k b. ap (line-of area (getD init k 0)) (same-part (getD init k 0) (before k b)))
+      where
+        line-of : Text → ℕ → List ℕ → Line
+        line-of area l ws = record { address = address-in addresses l; indent = indent-of l; tokens = tokens-of tape area ws }
 
     -- those of the last line are one more
     last-part : (l : ℕ) → first-of l + count-of l ≡ t .tokens
@@ -214,13 +237,9 @@ module _ {tape tokens lines addresses : List ℕ} {listing : Listing} (t : Total
               λ area.
               (let F = line-in tape area T addresses in
               let F′ = line-in tape area T′ addresses in
-              let before : Each (λ l. first-of l + count-of l ≤ t .tokens) init =
-              rw (take-take (t .lines - 1) (t .lines) lines (omega arith)) at (each-take (λ l. first-of l + count-of l ≤ t .tokens) (take (t .lines) lines) (h .inside) (t .lines - 1)) in
-              let same : map F′ init ≡ map F init =
-              map-same F′ F init (λ k b. ap (λ (ws : List ℕ). record { address = address-in addresses (getD init k 0); indent = indent-of (getD init k 0); tokens = tokens-of tape area ws }) (same-part (getD init k 0) (before k b))) in
               ap (map F′) lines-next
               ∙ map-append F′ init (longer l ∷ [])
-              ∙ rw (same, longer-means area)
+              ∙ rw (same-init area, longer-means area)
               (sym (add-last (token kind (take count (drop (at + 3) tape))) (map F init) (F l))
               ∙ ap (Q.add (new-token (token kind (take count (drop (at + 3) tape))))) (sym (map-append F init (l ∷ [])) ∙ ap (map F) (sym lines-are) ∙ h .means area)));
         }

@@ -11,7 +11,7 @@ use borrow.Author.Tests.{leb-true, le-leb}
 use Rattle.reference.specs.Control.{if_then_else_}
 use Rattle.reference.specs.Lists.{is-empty}
 use Rattle.reference.specs.Listing.{Token, token}
-use Rattle.reference.specs.Tape.{new-line, new-token, end, command-of, command-size}
+use Rattle.reference.specs.Tape.{new-line, new-token, end, command-of}
 use Rattle.reference.specs.Questions as Q
 use Rattle.reference.specs.Questions.{is-command, ends-inside, has-line, is-within, is-printable, is-over, is-end, Answer, Refused, Passed, ask, count-in, Advance, read-command}
 use Rattle.reference.proofs.Cases.{by-if, both}

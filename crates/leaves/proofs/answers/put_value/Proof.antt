@@ -6,7 +6,7 @@ use borrow.Author.Needs.{needs}
 use Rattle.reference.specs.Text.{Text}
 use Rattle.reference.specs.Numbers.{show}
 use Rattle.numbers.specs.Writing.{Written}
-use Rattle.numbers.proofs.Digits.{show-length}
+use Rattle.reference.proofs.Shapes.{show-length}
 use Rattle.leaves.proofs.answers.put_value.Statement.{statement}
 use Rattle.leaves.proofs.answers.put_value.Tie as tie
 

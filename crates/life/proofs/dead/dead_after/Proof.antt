@@ -9,7 +9,7 @@ use Rattle.joining.specs.Places.{labels-at}
 use Rattle.lines.specs.Fams.{fam-text}
 use Rattle.lines.specs.Lines.{bare-listing}
 use Rattle.lines.specs.Rules.{rules-of}
-use Rattle.life.proofs.Scanning.{turn-dead, turn-live, turn-open, dead-rest, dead-begin, dead-step, dead-end}
+use Rattle.life.proofs.Scanning.{dead-rest, dead-begin, dead-dead, dead-live, dead-open, dead-end}
 use Rattle.life.proofs.dead.dead_after.Statement.{statement}
 use Rattle.life.proofs.dead.dead_after.Tie as tie
 
@@ -33,13 +33,13 @@ enum-told : tie.Need-enum-told Inv-loop μ-loop
 enum-told c = search needs
 
 returns : tie.Need-returns Inv-loop μ-loop
-returns c = turn-dead _ _ (c .before .before .before .before .loop .inv) (dead-step _ _ _ (c .before .before .before .before .before .before .before .before .before .before .args .lines .now) _ _ _ _ _ (c .before .before .before .before .loop .w) (search needs) (c .before .before .fate-after .ensures)) (c .enum-told .given .1)
+returns c = search (needs, dead-dead)
 
 enum-told-2 : tie.Need-enum-told-2 Inv-loop μ-loop
 enum-told-2 c = search needs
 
 returns-2 : tie.Need-returns-2 Inv-loop μ-loop
-returns-2 c = turn-live _ _ (c .before .before .before .before .loop .inv) (dead-step _ _ _ (c .before .before .before .before .before .before .before .before .before .before .args .lines .now) _ _ _ _ _ (c .before .before .before .before .loop .w) (search needs) (c .before .before .fate-after .ensures)) (c .enum-told2 .given .1)
+returns-2 c = search (needs, dead-live)
 
 enum-told-3 : tie.Need-enum-told-3 Inv-loop μ-loop
 enum-told-3 c = search needs
@@ -51,10 +51,10 @@ loop-less : tie.Need-loop-less Inv-loop μ-loop
 loop-less c = search needs
 
 loop-again : tie.Need-loop-again Inv-loop μ-loop
-loop-again c = turn-open _ _ (c .before .before .before .before .loop .inv) (dead-step _ _ _ (c .before .before .before .before .before .before .before .before .before .before .args .lines .now) _ _ _ _ _ (c .before .before .before .before .loop .w) (search needs) (c .before .before .fate-after .ensures)) (c .enum-told3 .given .1)
+loop-again c = search (needs, dead-open)
 
 returns-3 : tie.Need-returns-3 Inv-loop μ-loop
-returns-3 c = dead-end _ _ _ (c .before .before .before .before .before .before .before .args .lines .now) _ _ _ _ _ (c .before .loop .w) (c .before .loop .inv) (search needs)
+returns-3 c = search (needs, dead-end)
 
 pub dead-after-spec : {M : Type 1} → statement M
 dead-after-spec =

@@ -19,25 +19,25 @@ has-while-requires : tie.Need-has-while-requires
 has-while-requires c κs = lined-holds (c .before .before .before .before .before .before .before .pre .0 .at (c .before .before .before .before .before .before .before .args .w) (search needs)) (c .line-of .ensures)
 
 while-passes-requires : tie.Need-while-passes-requires
-while-passes-requires c κs = (c .before .before .before .before .before .before .before .before .before .pre .0, c .before .before .before .before .before .before .before .before .before .pre .2, c .before .before .before .before .before .before .before .before .before .pre .3, c .before .before .before .before .before .before .before .before .before .pre .4)
+while-passes-requires c κs = let p = c .before .before .before .before .before .before .before .before .before .pre in (p .0, p .2, p .3, p .4)
 
 returns : tie.Need-returns
-returns c = after-while _ _ _ (c .before .before .before .before .before .before .before .before .before .before .before .args .lines .now) _ _ _ (c .before .before .before .before .before .before .before .before .before .before .before .args .start) _ (c .before .before .before .before .before .before .before .before .before .before .before .args .w) _ (c .before .before .before .before .line-of .ensures) (c .before .before .before .has-while .ensures) (c .before .before .if1 .taken) (c .before .while-passes .ensures) (c .if2 .taken)
+returns c = search (needs, after-while (c .before .before .before .before .before .before .before .before .before .before .before .args .lines .now))
 
 returns-2 : tie.Need-returns-2
-returns-2 c = after-loop _ _ _ (c .before .before .before .before .before .before .before .before .before .before .before .args .lines .now) _ _ _ (c .before .before .before .before .before .before .before .before .before .before .before .args .start) _ (c .before .before .before .before .before .before .before .before .before .before .before .args .w) _ (c .before .before .before .before .line-of .ensures) (c .before .before .before .has-while .ensures) (c .before .before .if1 .taken) (c .before .while-passes .ensures) (c .if2 .left)
+returns-2 c = search (needs, after-loop (c .before .before .before .before .before .before .before .before .before .before .before .args .lines .now))
 
 goto-passes-requires : tie.Need-goto-passes-requires
-goto-passes-requires c κs = (c .before .before .before .before .before .before .before .before .before .pre .0, c .before .before .before .before .before .before .before .before .before .pre .1, c .before .before .before .before .before .before .before .before .before .pre .0 .at (c .before .before .before .before .before .before .before .before .before .args .w) (search needs), c .before .before .before .before .before .before .before .before .before .pre .2, c .before .before .before .before .before .before .before .before .before .pre .4)
+goto-passes-requires c κs = let p = c .before .before .before .before .before .before .before .before .before .pre in (p .0, p .1, p .0 .at (c .before .before .before .before .before .before .before .before .before .args .w) (search needs), p .2, p .4)
 
 returns-3 : tie.Need-returns-3
-returns-3 c = after-goto _ _ _ (c .before .before .before .before .before .before .before .before .before .before .before .args .lines .now) _ _ _ (c .before .before .before .before .before .before .before .before .before .before .before .args .start) _ (c .before .before .before .before .before .before .before .before .before .before .before .args .w) _ (c .before .before .before .before .line-of .ensures) (c .before .before .before .has-while .ensures) (c .before .before .if1 .left) (c .before .goto-passes .ensures) (not-true _ (c .if3 .taken))
+returns-3 c = search (needs, not-true, after-goto (c .before .before .before .before .before .before .before .before .before .before .before .args .lines .now))
 
 scan-requires : tie.Need-scan-requires
-scan-requires c κs = (c .before .before .before .before .before .before .before .before .before .before .before .pre .0 .at (c .before .before .before .before .before .before .before .before .before .before .before .args .w) (search needs), c .before .before .before .before .before .before .before .before .before .before .before .pre .2)
+scan-requires c κs = let p = c .before .before .before .before .before .before .before .before .before .before .before .pre in (p .0 .at (c .before .before .before .before .before .before .before .before .before .before .before .args .w) (search needs), p .2)
 
 returns-4 : tie.Need-returns-4
-returns-4 c = after-scan _ _ _ (c .before .before .before .before .before .before .before .before .before .before .before .before .args .lines .now) _ _ _ (c .before .before .before .before .before .before .before .before .before .before .before .before .args .start) _ (c .before .before .before .before .before .before .before .before .before .before .before .before .args .w) _ (c .before .before .before .before .before .line-of .ensures) (c .before .before .before .before .has-while .ensures) (c .before .before .before .if1 .left) (c .before .before .goto-passes .ensures) (not-false _ (c .before .if3 .left)) (c .scan .ensures)
+returns-4 c = search (needs, not-false, after-scan (c .before .before .before .before .before .before .before .before .before .before .before .before .args .lines .now))
 
 pub fate-after-spec : {M : Type 1} → statement M
 fate-after-spec =

@@ -20,16 +20,16 @@ returns-at-requires : tie.Need-returns-at-requires
 returns-at-requires c κs = search needs
 
 returns : tie.Need-returns
-returns c = scan-returns _ _ _ _ (c .before .before .before .before .fate-at .ensures) (c .before .before .enum-told3 .given .1) (c .before .returns-at .ensures) (c .if1 .taken)
+returns c = search (needs, scan-dead, scan-live, scan-returns, scan-open)
 
 returns-2 : tie.Need-returns-2
-returns-2 c = scan-dead _ _ _ _ (c .before .before .fate-at .ensures) (c .enum-told .given .1)
+returns-2 c = search (needs, scan-dead, scan-live, scan-returns, scan-open)
 
 returns-3 : tie.Need-returns-3
-returns-3 c = scan-live _ _ _ _ (c .before .before .fate-at .ensures) (c .enum-told2 .given .1)
+returns-3 c = search (needs, scan-dead, scan-live, scan-returns, scan-open)
 
 returns-4 : tie.Need-returns-4
-returns-4 c = scan-open _ _ _ _ (c .before .before .before .before .fate-at .ensures) (c .before .before .enum-told3 .given .1) (c .before .returns-at .ensures) (c .if1 .left)
+returns-4 c = search (needs, scan-dead, scan-live, scan-returns, scan-open)
 
 pub scan-spec : {M : Type 1} → statement M
 scan-spec =

@@ -1,15 +1,15 @@
 -- `life::fates::fate_at` meets its contract. Assumes nothing.
 use borrow.Author.Needs.{needs}
-use Rattle.life.proofs.Reading.{lined-holds}
+use Rattle.life.proofs.Reading.{reading}
 use Rattle.life.proofs.Scanning.{fate-use, fate-none, fate-kill, fate-deep}
 use Rattle.life.proofs.fates.fate_at.Statement.{statement}
 use Rattle.life.proofs.fates.fate_at.Tie as tie
 
 line-of-requires : tie.Need-line-of-requires
-line-of-requires c κs = c .before .before .before .pre .0 .inside
+line-of-requires c κs = search (needs, reading)
 
 touch-requires : tie.Need-touch-requires
-touch-requires c κs = (lined-holds (c .before .before .before .before .pre .0) (c .line-of .ensures), c .before .before .before .before .pre .1)
+touch-requires c κs = search (needs, reading)
 
 enum-told : tie.Need-enum-told
 enum-told c = search needs
@@ -21,19 +21,19 @@ indent-requires : tie.Need-indent-requires
 indent-requires c κs = search needs
 
 returns : tie.Need-returns
-returns c = fate-kill _ _ _ _ _ _ _ (c .before .before .before .before .before .line-of .ensures) _ (c .before .before .before .before .touch .ensures) (c .before .before .enum-told2 .given .1) (c .before .indent .ensures) (c .if1 .taken)
+returns c = search (needs, fate-use, fate-none, fate-kill, fate-deep)
 
 enum-told-3 : tie.Need-enum-told-3
 enum-told-3 c = search needs
 
 returns-2 : tie.Need-returns-2
-returns-2 c = fate-use _ _ _ _ _ _ _ (c .before .before .before .line-of .ensures) _ (c .before .before .touch .ensures) (c .enum-told .given .1)
+returns-2 c = search (needs, fate-use, fate-none, fate-kill, fate-deep)
 
 returns-3 : tie.Need-returns-3
-returns-3 c = fate-deep _ _ _ _ _ _ _ (c .before .before .before .before .before .line-of .ensures) _ (c .before .before .before .before .touch .ensures) (c .before .before .enum-told2 .given .1) (c .before .indent .ensures) (c .if1 .left)
+returns-3 c = search (needs, fate-use, fate-none, fate-kill, fate-deep)
 
 returns-4 : tie.Need-returns-4
-returns-4 c = fate-none _ _ _ _ _ _ _ (c .before .before .before .line-of .ensures) _ (c .before .before .touch .ensures) (c .enum-told3 .given .1)
+returns-4 c = search (needs, fate-use, fate-none, fate-kill, fate-deep)
 
 pub fate-at-spec : {M : Type 1} → statement M
 fate-at-spec =

@@ -5,10 +5,11 @@ use lib.ListN.{length, drop}
 use borrow.Author.Needs.{needs}
 use Rattle.reference.specs.Life.{killed-first}
 use Rattle.reference.specs.Rules.{volatile}
+use Rattle.lines.proofs.words.Lines.{listed-at}
 use Rattle.lines.specs.Fams.{fam-text}
 use Rattle.lines.specs.Lines.{bare-listing}
 use Rattle.lines.specs.Rules.{rules-of}
-use Rattle.life.proofs.Scanning.{turn-dead, turn-live, turn-open, killed-step, killed-end}
+use Rattle.life.proofs.Scanning.{killed-dead, killed-live, killed-open, killed-end}
 use Rattle.life.proofs.fates.killed_first.Statement.{statement}
 use Rattle.life.proofs.fates.killed_first.Tie as tie
 
@@ -29,19 +30,19 @@ shared-slice-read-fate-at : tie.Need-shared-slice-read-fate-at Inv-loop μ-loop
 shared-slice-read-fate-at c = search needs
 
 fate-at-requires : tie.Need-fate-at-requires Inv-loop μ-loop
-fate-at-requires c κs = (c .before .before .before .before .before .before .before .pre .0 .at (c .before .before .loop .k) (search needs), c .before .before .before .before .before .before .before .pre .1)
+fate-at-requires c κs = search (needs, listed-at)
 
 enum-told : tie.Need-enum-told Inv-loop μ-loop
 enum-told c = search needs
 
 returns : tie.Need-returns Inv-loop μ-loop
-returns c = turn-dead _ _ (c .before .before .before .before .before .loop .inv) (killed-step _ _ _ _ _ _ (c .before .before .before .before .before .before .before .before .before .before .args .lines .now) (c .before .before .before .before .before .loop .k) (search needs) (c .before .before .fate-at .ensures)) (c .enum-told .given .1)
+returns c = search (needs, killed-dead)
 
 enum-told-2 : tie.Need-enum-told-2 Inv-loop μ-loop
 enum-told-2 c = search needs
 
 returns-2 : tie.Need-returns-2 Inv-loop μ-loop
-returns-2 c = turn-live _ _ (c .before .before .before .before .before .loop .inv) (killed-step _ _ _ _ _ _ (c .before .before .before .before .before .before .before .before .before .before .args .lines .now) (c .before .before .before .before .before .loop .k) (search needs) (c .before .before .fate-at .ensures)) (c .enum-told2 .given .1)
+returns-2 c = search (needs, killed-live)
 
 enum-told-3 : tie.Need-enum-told-3 Inv-loop μ-loop
 enum-told-3 c = search needs
@@ -53,10 +54,10 @@ loop-less : tie.Need-loop-less Inv-loop μ-loop
 loop-less c = search needs
 
 loop-again : tie.Need-loop-again Inv-loop μ-loop
-loop-again c = turn-open _ _ (c .before .before .before .before .before .loop .inv) (killed-step _ _ _ _ _ _ (c .before .before .before .before .before .before .before .before .before .before .args .lines .now) (c .before .before .before .before .before .loop .k) (search needs) (c .before .before .fate-at .ensures)) (c .enum-told3 .given .1)
+loop-again c = search (needs, killed-open)
 
 returns-3 : tie.Need-returns-3 Inv-loop μ-loop
-returns-3 c = killed-end _ _ _ _ _ _ (c .before .before .before .before .before .before .args .lines .now) (c .before .loop .k) (c .before .loop .inv) (search needs)
+returns-3 c = search (needs, killed-end)
 
 pub killed-first-spec : {M : Type 1} → statement M
 killed-first-spec =

@@ -1,5 +1,4 @@
 -- `life::fates::rerun_kills` meets its contract. Assumes nothing.
-use Prim.Native.Nat.{_+_, _-_}
 use borrow.Author.Needs.{needs}
 use Rattle.lines.proofs.words.Lines.{listed-take, listed-drop}
 use Rattle.life.proofs.Scanning.{rerun-part}
@@ -28,10 +27,10 @@ add-killed-first : tie.Need-add-killed-first
 add-killed-first c = search needs
 
 killed-first-requires : tie.Need-killed-first-requires
-killed-first-requires c κs = (listed-take (listed-drop (c .before .before .before .before .before .pre .0) (c .before .before .before .before .before .args .to + 1)) (c .before .before .before .before .before .args .start + 1 - (c .before .before .before .before .before .args .to + 1)), c .before .before .before .before .before .pre .1)
+killed-first-requires c κs = search (needs, listed-take, listed-drop)
 
 returns : tie.Need-returns
-returns c = let a = c .before .before .before .before .before .before .args in rerun-part (a .tape .now) (a .area .now) (a .tokens .now) (a .lines .now) _ (a .start) _ (a .to) (a .indent) (c .killed-first .ensures)
+returns c = search (needs, rerun-part)
 
 pub rerun-kills-spec : {M : Type 1} → statement M
 rerun-kills-spec =

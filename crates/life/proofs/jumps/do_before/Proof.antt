@@ -18,7 +18,7 @@ abbrev μ-loop : tie.MeasureT-loop
 μ-loop tape area tokens lines indent n₀ n = n
 
 loop-holds : tie.Need-loop-holds Inv-loop μ-loop
-loop-holds c = (search needs, last-begin _ _ (c .before .before .before .before .args .lines .now))
+loop-holds c = (search needs, search (needs, last-begin))
 
 sub-n : tie.Need-sub-n Inv-loop μ-loop
 sub-n c = search needs
@@ -33,16 +33,16 @@ is-do-requires : tie.Need-is-do-requires Inv-loop μ-loop
 is-do-requires c κs = c .before .before .before .before .before .before .before .pre .at (c .before .before .loop .n - 1) (search needs)
 
 returns : tie.Need-returns Inv-loop μ-loop
-returns c = last-hit _ _ (c .before .before .before .before .before .before .before .before .before .args .lines .now) (c .before .before .before .before .loop .n) (c .before .before .before .before .loop .inv .1) (search needs) (search needs) (c .before .is-do .ensures) (c .if1 .taken)
+returns c = search (needs, last-hit)
 
 loop-less : tie.Need-loop-less Inv-loop μ-loop
 loop-less c = search needs
 
 loop-again : tie.Need-loop-again Inv-loop μ-loop
-loop-again c = (search needs, last-miss _ _ (c .before .before .before .before .before .before .before .before .before .args .lines .now) (c .before .before .before .before .loop .n) (c .before .before .before .before .loop .inv .1) (search needs) (search needs) (c .before .is-do .ensures) (c .if1 .left))
+loop-again c = (search needs, search (needs, last-miss))
 
 returns-2 : tie.Need-returns-2 Inv-loop μ-loop
-returns-2 c = last-end _ _ (c .before .before .before .before .before .before .args .lines .now) (c .before .loop .n) (c .before .loop .inv .1) (search needs)
+returns-2 c = search (needs, last-end)
 
 pub do-before-spec : {M : Type 1} → statement M
 do-before-spec =

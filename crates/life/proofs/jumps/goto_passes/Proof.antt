@@ -18,7 +18,7 @@ enum-known-at : tie.Need-enum-known-at
 enum-known-at c = search needs
 
 returns : tie.Need-returns
-returns c = passes-on _ _ _ (c .before .before .before .before .before .before .before .before .before .before .args .lines .now) _ (c .before .before .before .before .before .before .before .before .before .before .args .start) _ _ _ (c .before .before .before .before .goto-target .result) (c .before .before .before .before .goto-target .ensures) (c .before .before .at .given .1) (c .if1 .taken)
+returns c = search (needs, passes-on (c .before .before .before .before .before .before .before .before .before .before .args .lines .now))
 
 mul-indent : tie.Need-mul-indent
 mul-indent c = search needs
@@ -30,16 +30,16 @@ indent-requires : tie.Need-indent-requires
 indent-requires c κs = search needs
 
 rerun-kills-requires : tie.Need-rerun-kills-requires
-rerun-kills-requires c κs = (c .before .before .before .before .before .before .before .before .before .before .before .before .pre .0, c .before .before .before .before .before .before .before .before .before .before .before .before .pre .3, c .before .before .if1 .left, c .before .before .before .before .before .before .before .before .before .before .before .before .pre .4, rw (c .indent .ensures) (indent-below _))
+rerun-kills-requires c κs = let p = c .before .before .before .before .before .before .before .before .before .before .before .before .pre in (p .0, p .3, search needs, p .4, rw (c .indent .ensures) (indent-below _))
 
 returns-2 : tie.Need-returns-2
-returns-2 c = passes-stays _ _ _ (c .before .before .before .before .before .before .before .before .args .lines .now) _ (c .before .before .before .before .before .before .before .before .args .start) _ _ _ (c .before .before .goto-target .result) (c .before .before .goto-target .ensures) (c .enum-told .given .1)
+returns-2 c = search (needs, passes-stays (c .before .before .before .before .before .before .before .before .args .lines .now))
 
 returns-3 : tie.Need-returns-3
-returns-3 c = passes-unknown _ _ _ (c .before .before .before .before .before .before .before .before .args .lines .now) _ (c .before .before .before .before .before .before .before .before .args .start) _ _ _ (c .before .before .goto-target .result) (c .before .before .goto-target .ensures) (c .enum-told2 .given .1)
+returns-3 c = search (needs, passes-unknown (c .before .before .before .before .before .before .before .before .args .lines .now))
 
 returns-4 : tie.Need-returns-4
-returns-4 c = passes-back _ _ _ (c .before .before .before .before .before .before .before .before .before .before .before .before .before .args .lines .now) _ (c .before .before .before .before .before .before .before .before .before .before .before .before .before .args .start) _ _ _ (c .before .before .before .before .before .before .before .goto-target .result) (c .before .before .before .before .before .before .before .goto-target .ensures) (c .before .before .before .before .before .at .given .1) (c .before .before .before .if1 .left) (c .before .before .before .before .before .before .before .before .before .before .before .before .before .pre .4) (c .before .indent .ensures) (c .rerun-kills .ensures)
+returns-4 c = search (needs, passes-back (c .before .before .before .before .before .before .before .before .before .before .before .before .before .args .lines .now))
 
 pub goto-passes-spec : {M : Type 1} → statement M
 goto-passes-spec =

@@ -1,16 +1,17 @@
 -- `life::jumps::goto_target` meets its contract. Assumes nothing.
-use mathlib.Core.List.{[]}
+use Prim.Native.Nat.{_<_}
+use lib.ListN.{length}
 use borrow.Author.Needs.{needs}
 use Rattle.life.proofs.Jumping.{target-stays, goto-inside, target-none, symbol-inside, target-unknown, target-to}
-use Rattle.life.proofs.Reading.{lined-holds}
+use Rattle.life.proofs.Reading.{reading, lined-holds}
 use Rattle.life.proofs.jumps.goto_target.Statement.{statement}
 use Rattle.life.proofs.jumps.goto_target.Tie as tie
 
 line-of-requires : tie.Need-line-of-requires
-line-of-requires c κs = c .before .before .before .before .before .pre .2 .inside
+line-of-requires c κs = search (needs, reading)
 
 goto-at-requires : tie.Need-goto-at-requires
-goto-at-requires c κs = lined-holds (c .before .before .before .before .before .before .pre .2) (c .line-of .ensures)
+goto-at-requires c κs = search (needs, reading)
 
 enum-known-g : tie.Need-enum-known-g
 enum-known-g c = search needs
@@ -19,10 +20,10 @@ enum-told : tie.Need-enum-told
 enum-told c = search needs
 
 returns : tie.Need-returns
-returns c = let a = c .before .before .before .before .before .before .before .before .before .args in target-stays (a .tape .now) (a .area .now) _ _ (c .before .before .before .line-of .ensures) (c .before .before .goto-at .result) (c .before .before .goto-at .ensures) (c .enum-told .given .1)
+returns c = search (needs, target-stays)
 
 add-symbol-from : tie.Need-add-symbol-from
-add-symbol-from c = let a = c .before .before .before .before .before .before .before .before .before .before .args in let h = goto-inside (a .tape .now) (a .area .now) [] _ (c .before .before .before .before .line-of .ensures) (c .before .before .before .goto-at .result) (c .before .before .before .goto-at .ensures) (c .before .g .given .1) in search needs
+add-symbol-from c = let a = c .before .before .before .before .before .before .before .before .before .before .args in let h = goto-inside (a .tape .now) (a .area .now) (c .before .before .before .before .line-of .result .now) (c .before .before .before .goto-at .ensures) (c .before .g .given .1) in search needs
 
 symbol-from-requires : tie.Need-symbol-from-requires
 symbol-from-requires c κs = search needs
@@ -34,16 +35,20 @@ enum-told-2 : tie.Need-enum-told-2
 enum-told-2 c = search needs
 
 returns-2 : tie.Need-returns-2
-returns-2 c = let a = c .before .before .before .before .before .before .before .before .before .before .before .before .before .args in target-none (a .tape .now) (a .area .now) _ _ (c .before .before .before .before .before .before .before .line-of .ensures) (c .before .before .before .before .before .before .goto-at .result) (c .before .before .before .before .before .before .goto-at .ensures) (c .before .before .before .before .g .given .1) (c .before .before .symbol-from .result) (c .before .before .symbol-from .ensures (a .tape .now) (a .area .now)) (c .enum-told2 .given .1)
+returns-2 c = let a = c .before .before .before .before .before .before .before .before .before .before .before .before .before .args in let e = c .before .before .symbol-from .ensures (a .tape .now) (a .area .now) in search (needs, target-none)
+
+-- the Symbol after the `goto`
+inside : (c : tie.After-known-told2) → c .before .s .given .0 .0 < length (c .before .before .before .before .before .before .before .before .line-of .result .now)
+inside c = let a = c .before .before .before .before .before .before .before .before .before .before .before .before .before .before .args in symbol-inside (a .tape .now) (a .area .now) (c .before .before .before .before .before .before .before .before .line-of .result .now) _ (c .before .before .before .symbol-from .ensures (a .tape .now) (a .area .now)) (c .before .s .given .1)
 
 mul-label-named : tie.Need-mul-label-named
-mul-label-named c = let a = c .before .before .before .before .before .before .before .before .before .before .before .before .before .before .args in let h = symbol-inside (a .tape .now) (a .area .now) [] _ (c .before .before .before .before .before .before .before .before .line-of .ensures) (c .before .before .before .before .before .before .before .goto-at .result) (c .before .before .before .before .before .before .before .goto-at .ensures) (c .before .before .before .before .before .g .given .1) (c .before .before .before .symbol-from .result) (c .before .before .before .symbol-from .ensures (a .tape .now) (a .area .now)) (c .before .s .given .1) in search needs
+mul-label-named c = let h = inside c in search needs
 
 shared-slice-read-label-named : tie.Need-shared-slice-read-label-named
-shared-slice-read-label-named c = let a = c .before .before .before .before .before .before .before .before .before .before .before .before .before .before .before .args in symbol-inside (a .tape .now) (a .area .now) [] _ (c .before .before .before .before .before .before .before .before .before .line-of .ensures) (c .before .before .before .before .before .before .before .before .goto-at .result) (c .before .before .before .before .before .before .before .before .goto-at .ensures) (c .before .before .before .before .before .before .g .given .1) (c .before .before .before .before .symbol-from .result) (c .before .before .before .before .symbol-from .ensures (a .tape .now) (a .area .now)) (c .before .before .s .given .1)
+shared-slice-read-label-named c = inside (c .before)
 
 label-named-requires : tie.Need-label-named-requires
-label-named-requires c κs = let a = c .before .before .before .before .before .before .before .before .before .before .before .before .before .before .before .args in (c .before .before .before .before .before .before .before .before .before .before .before .before .before .before .before .pre .0, c .before .before .before .before .before .before .before .before .before .before .before .before .before .before .before .pre .1, lined-holds (c .before .before .before .before .before .before .before .before .before .before .before .before .before .before .before .pre .2) (c .before .before .before .before .before .before .before .before .before .line-of .ensures) .at _ (symbol-inside (a .tape .now) (a .area .now) [] _ (c .before .before .before .before .before .before .before .before .before .line-of .ensures) (c .before .before .before .before .before .before .before .before .goto-at .result) (c .before .before .before .before .before .before .before .before .goto-at .ensures) (c .before .before .before .before .before .before .g .given .1) (c .before .before .before .before .symbol-from .result) (c .before .before .before .before .symbol-from .ensures (a .tape .now) (a .area .now)) (c .before .before .s .given .1)))
+label-named-requires c κs = let p = c .before .before .before .before .before .before .before .before .before .before .before .before .before .before .before .pre in (p .0, p .1, lined-holds (p .2) (c .before .before .before .before .before .before .before .before .before .line-of .ensures) .at _ (inside (c .before)))
 
 enum-known-at : tie.Need-enum-known-at
 enum-known-at c = search needs
@@ -52,10 +57,10 @@ enum-told-3 : tie.Need-enum-told-3
 enum-told-3 c = search needs
 
 returns-3 : tie.Need-returns-3
-returns-3 c = let a = c .before .before .before .before .before .before .before .before .before .before .before .before .before .before .before .before .before .before .args in target-unknown (a .tape .now) (a .area .now) _ _ (c .before .before .before .before .before .before .before .before .before .before .before .before .line-of .ensures) (c .before .before .before .before .before .before .before .before .before .before .before .goto-at .result) (c .before .before .before .before .before .before .before .before .before .before .before .goto-at .ensures) (c .before .before .before .before .before .before .before .before .before .g .given .1) (c .before .before .before .before .before .before .before .symbol-from .result) (c .before .before .before .before .before .before .before .symbol-from .ensures (a .tape .now) (a .area .now)) (c .before .before .before .before .before .s .given .1) (c .before .before .label-named .result) (c .before .before .label-named .ensures) (c .enum-told3 .given .1)
+returns-3 c = let a = c .before .before .before .before .before .before .before .before .before .before .before .before .before .before .before .before .before .before .args in let e = c .before .before .before .before .before .before .before .symbol-from .ensures (a .tape .now) (a .area .now) in search (needs, target-unknown)
 
 returns-4 : tie.Need-returns-4
-returns-4 c = let a = c .before .before .before .before .before .before .before .before .before .before .before .before .before .before .before .before .before .before .before .args in target-to (a .tape .now) (a .area .now) _ _ (c .before .before .before .before .before .before .before .before .before .before .before .before .before .line-of .ensures) (c .before .before .before .before .before .before .before .before .before .before .before .before .goto-at .result) (c .before .before .before .before .before .before .before .before .before .before .before .before .goto-at .ensures) (c .before .before .before .before .before .before .before .before .before .before .g .given .1) (c .before .before .before .before .before .before .before .before .symbol-from .result) (c .before .before .before .before .before .before .before .before .symbol-from .ensures (a .tape .now) (a .area .now)) (c .before .before .before .before .before .before .s .given .1) (c .before .before .before .label-named .result) (c .before .before .before .label-named .ensures) (c .before .at .given .1)
+returns-4 c = let a = c .before .before .before .before .before .before .before .before .before .before .before .before .before .before .before .before .before .before .before .args in let e = c .before .before .before .before .before .before .before .before .symbol-from .ensures (a .tape .now) (a .area .now) in search (needs, target-to)
 
 pub goto-target-spec : {M : Type 1} → statement M
 goto-target-spec =

@@ -1,7 +1,7 @@
 -- `life::jumps::is_do` meets its contract. Assumes nothing.
 use borrow.Author.Needs.{needs}
 use Rattle.life.proofs.Jumping.{do-other, do-here}
-use Rattle.life.proofs.Reading.{lined-holds}
+use Rattle.life.proofs.Reading.{reading}
 use Rattle.life.proofs.jumps.is_do.Statement.{statement}
 use Rattle.life.proofs.jumps.is_do.Tie as tie
 
@@ -9,16 +9,16 @@ indent-requires : tie.Need-indent-requires
 indent-requires c κs = search needs
 
 returns : tie.Need-returns
-returns c = do-other _ _ _ _ _ (c .before .indent .ensures) (c .if1 .taken)
+returns c = search (needs, do-other, do-here)
 
 line-of-requires : tie.Need-line-of-requires
-line-of-requires c κs = c .before .before .before .before .before .pre .inside
+line-of-requires c κs = search (needs, reading)
 
 has-do-requires : tie.Need-has-do-requires
-has-do-requires c κs = lined-holds (c .before .before .before .before .before .before .pre) (c .line-of .ensures)
+has-do-requires c κs = search (needs, reading)
 
 returns-2 : tie.Need-returns-2
-returns-2 c = do-here _ _ _ _ _ (c .before .before .before .indent .ensures) (c .before .before .if1 .left) (c .before .line-of .ensures) (c .has-do .ensures)
+returns-2 c = search (needs, do-other, do-here)
 
 pub is-do-spec : {M : Type 1} → statement M
 is-do-spec =

@@ -1,5 +1,5 @@
 -- `life::jumps::label_named` meets its contract. Assumes nothing.
-use Prim.Native.Nat.{_-_, _≤_}
+use Prim.Native.Nat.{_-_, _≤_, _<_}
 use mathlib.Core.Path.{_≡_}
 use lib.ListN.{length, take}
 use borrow.Author.Needs.{needs}
@@ -26,29 +26,30 @@ loop-holds c = let a = c .before .before .before .before .before .args in (searc
 sub-n : tie.Need-sub-n Inv-loop μ-loop
 sub-n c = search needs
 
-mul-at : tie.Need-mul-at Inv-loop μ-loop
-mul-at c = search needs
+place-at-requires : tie.Need-place-at-requires Inv-loop μ-loop
+place-at-requires c κs = search needs
 
-shared-slice-read-at : tie.Need-shared-slice-read-at Inv-loop μ-loop
-shared-slice-read-at c = search needs
+-- the line of the label that is looked at
+inside : (c : tie.After-place-at Inv-loop μ-loop) → c .place-at .result < length (c .before .before .before .before .before .before .before .before .args .lines .now)
+inside c = let a = c .before .before .before .before .before .before .before .before .args in place-inside (a .tape .now) (a .area .now) (a .tokens .now) (a .lines .now) (a .labels .now) (c .before .before .before .before .before .before .before .before .pre .1) (c .before .before .loop .n - 1) (search needs) (c .place-at .ensures)
 
 mul-is-named : tie.Need-mul-is-named Inv-loop μ-loop
-mul-is-named c = let a = c .before .before .before .before .before .before .before .before .args in let h = place-inside (a .tape .now) (a .area .now) (a .tokens .now) (a .lines .now) (a .labels .now) (c .before .before .before .before .before .before .before .before .pre .1) (c .before .before .loop .n - 1) (search needs) in search needs
+mul-is-named c = let h = inside c in search needs
 
 shared-slice-read-is-named : tie.Need-shared-slice-read-is-named Inv-loop μ-loop
-shared-slice-read-is-named c = let a = c .before .before .before .before .before .before .before .before .before .args in place-inside (a .tape .now) (a .area .now) (a .tokens .now) (a .lines .now) (a .labels .now) (c .before .before .before .before .before .before .before .before .before .pre .1) (c .before .before .before .loop .n - 1) (search needs)
+shared-slice-read-is-named c = inside (c .before)
 
 is-named-requires : tie.Need-is-named-requires Inv-loop μ-loop
-is-named-requires c κs = let a = c .before .before .before .before .before .before .before .before .before .args in (c .before .before .before .before .before .before .before .before .before .pre .0 .at _ (place-inside (a .tape .now) (a .area .now) (a .tokens .now) (a .lines .now) (a .labels .now) (c .before .before .before .before .before .before .before .before .before .pre .1) (c .before .before .before .loop .n - 1) (search needs)), c .before .before .before .before .before .before .before .before .before .pre .2, place-long (a .tape .now) (a .area .now) (a .tokens .now) (a .lines .now) (a .labels .now) (c .before .before .before .before .before .before .before .before .before .pre .1) (c .before .before .before .loop .n - 1) (search needs))
+is-named-requires c κs = let a = c .before .before .before .before .before .before .before .before .before .args in (c .before .before .before .before .before .before .before .before .before .pre .0 .at _ (inside (c .before)), c .before .before .before .before .before .before .before .before .before .pre .2, place-long (a .tape .now) (a .area .now) (a .tokens .now) (a .lines .now) (a .labels .now) (c .before .before .before .before .before .before .before .before .before .pre .1) (c .before .before .before .loop .n - 1) (search needs) (c .before .place-at .ensures))
 
 returns : tie.Need-returns Inv-loop μ-loop
-returns c = let a = c .before .before .before .before .before .before .before .before .before .before .before .args in named-hit (a .tape .now) (a .area .now) (a .tokens .now) (a .lines .now) (a .labels .now) (c .before .before .before .before .before .before .before .before .before .before .before .pre .1) _ (c .before .before .before .before .before .loop .n) (c .before .before .before .before .before .loop .inv .1) (search needs) (search needs) (c .before .is-named .ensures) (c .if1 .taken)
+returns c = let a = c .before .before .before .before .before .before .before .before .before .before .before .args in named-hit (a .tape .now) (a .area .now) (a .tokens .now) (a .lines .now) (a .labels .now) (c .before .before .before .before .before .before .before .before .before .before .before .pre .1) _ (c .before .before .before .before .before .loop .n) (c .before .before .before .before .before .loop .inv .1) (search needs) (search needs) (c .before .before .before .place-at .ensures) (c .before .is-named .ensures) (c .if1 .taken)
 
 loop-less : tie.Need-loop-less Inv-loop μ-loop
 loop-less c = search needs
 
 loop-again : tie.Need-loop-again Inv-loop μ-loop
-loop-again c = let a = c .before .before .before .before .before .before .before .before .before .before .before .args in (search needs, named-miss (a .tape .now) (a .area .now) (a .tokens .now) (a .lines .now) (a .labels .now) (c .before .before .before .before .before .before .before .before .before .before .before .pre .1) _ (c .before .before .before .before .before .loop .n) (c .before .before .before .before .before .loop .inv .1) (search needs) (search needs) (c .before .is-named .ensures) (c .if1 .left))
+loop-again c = let a = c .before .before .before .before .before .before .before .before .before .before .before .args in (search needs, named-miss (a .tape .now) (a .area .now) (a .tokens .now) (a .lines .now) (a .labels .now) (c .before .before .before .before .before .before .before .before .before .before .before .pre .1) _ (c .before .before .before .before .before .loop .n) (c .before .before .before .before .before .loop .inv .1) (search needs) (search needs) (c .before .before .before .place-at .ensures) (c .before .is-named .ensures) (c .if1 .left))
 
 returns-2 : tie.Need-returns-2 Inv-loop μ-loop
 returns-2 c = let a = c .before .before .before .before .before .before .before .args in named-end (a .tape .now) (a .area .now) (a .tokens .now) (a .lines .now) (a .labels .now) (c .before .before .before .before .before .before .before .pre .1) _ (c .before .loop .n) (c .before .loop .inv .1) (search needs)
@@ -61,8 +62,7 @@ label-named-spec =
     μ-loop
     loop-holds
     sub-n
-    mul-at
-    shared-slice-read-at
+    place-at-requires
     mul-is-named
     shared-slice-read-is-named
     is-named-requires

@@ -21,7 +21,7 @@ uses-requires : tie.Need-uses-requires
 uses-requires c κs = (lined-holds (c .before .before .before .before .before .before .pre .0 .at (c .before .before .before .before .before .before .args .w) (search needs)) (c .line-of .ensures), c .before .before .before .before .before .before .pre .1)
 
 returns : tie.Need-returns
-returns c = loop-uses _ _ _ (c .before .before .before .before .before .before .before .before .args .lines .now) _ (c .before .before .before .before .before .before .before .before .args .start) _ (c .before .before .before .before .before .before .before .before .args .w) _ (c .before .before .line-of .ensures) (c .before .uses .ensures) (c .if1 .taken)
+returns c = search (needs, loop-uses (c .before .before .before .before .before .before .before .before .args .lines .now))
 
 indent-requires : tie.Need-indent-requires
 indent-requires c κs = search needs
@@ -39,16 +39,16 @@ enum-told : tie.Need-enum-told
 enum-told c = search needs
 
 returns-2 : tie.Need-returns-2
-returns-2 c = loop-none _ _ _ (c .before .before .before .before .before .before .before .before .before .before .before .before .before .args .lines .now) _ (c .before .before .before .before .before .before .before .before .before .before .before .before .before .args .start) _ (c .before .before .before .before .before .before .before .before .before .before .before .before .before .args .w) _ (c .before .before .before .before .before .before .before .line-of .ensures) (c .before .before .before .before .before .before .uses .ensures) (c .before .before .before .before .before .if1 .left) (c .before .before .before .before .indent .ensures) (c .before .before .do-before .result) (c .before .before .do-before .ensures) (c .enum-told .given .1)
+returns-2 c = search (needs, loop-none (c .before .before .before .before .before .before .before .before .before .before .before .before .before .args .lines .now))
 
 returns-3 : tie.Need-returns-3
-returns-3 c = loop-after _ _ _ (c .before .before .before .before .before .before .before .before .before .before .before .before .before .before .before .args .lines .now) _ (c .before .before .before .before .before .before .before .before .before .before .before .before .before .before .before .args .start) _ (c .before .before .before .before .before .before .before .before .before .before .before .before .before .before .before .args .w) _ (c .before .before .before .before .before .before .before .before .before .line-of .ensures) (c .before .before .before .before .before .before .before .before .uses .ensures) (c .before .before .before .before .before .before .before .if1 .left) (c .before .before .before .before .before .before .indent .ensures) (c .before .before .before .before .do-before .result) (c .before .before .before .before .do-before .ensures) (c .before .before .d .given .1) (c .if2 .taken)
+returns-3 c = search (needs, loop-after (c .before .before .before .before .before .before .before .before .before .before .before .before .before .before .before .args .lines .now))
 
 rerun-kills-requires : tie.Need-rerun-kills-requires
-rerun-kills-requires c κs = (c .before .before .before .before .before .before .before .before .before .before .before .before .before .before .before .pre .0, c .before .before .before .before .before .before .before .before .before .before .before .before .before .before .before .pre .1, search needs, c .before .before .before .before .before .before .before .before .before .before .before .before .before .before .before .pre .3, rw (c .before .before .before .before .before .before .indent .ensures) (indent-below _))
+rerun-kills-requires c κs = let p = c .before .before .before .before .before .before .before .before .before .before .before .before .before .before .before .pre in (p .0, p .1, search needs, p .3, rw (c .before .before .before .before .before .before .indent .ensures) (indent-below _))
 
 returns-4 : tie.Need-returns-4
-returns-4 c = loop-around _ _ _ (c .before .before .before .before .before .before .before .before .before .before .before .before .before .before .before .before .args .lines .now) _ (c .before .before .before .before .before .before .before .before .before .before .before .before .before .before .before .before .args .start) _ (c .before .before .before .before .before .before .before .before .before .before .before .before .before .before .before .before .args .w) _ (c .before .before .before .before .before .before .before .before .before .before .line-of .ensures) (c .before .before .before .before .before .before .before .before .before .uses .ensures) (c .before .before .before .before .before .before .before .before .if1 .left) (c .before .before .before .before .before .before .before .indent .ensures) (c .before .before .before .before .before .do-before .result) (c .before .before .before .before .before .do-before .ensures) (c .before .before .before .d .given .1) (c .before .if2 .left) (c .rerun-kills .ensures)
+returns-4 c = search (needs, loop-around (c .before .before .before .before .before .before .before .before .before .before .before .before .before .before .before .before .args .lines .now))
 
 pub while-passes-spec : {M : Type 1} → statement M
 while-passes-spec =

@@ -1,8 +1,7 @@
 -- `life::labels::gather_labels` meets its contract. Assumes nothing.
 use Prim.Native.Nat.{_≤_, _-_}
-use native.Mathlib.Omega.{arith}
 use mathlib.Core.Logic.{⊎-elim}
-use mathlib.Core.Path.{_≡_, refl}
+use mathlib.Core.Path.{_≡_}
 use lib.ListN.{length}
 use borrow.Author.Needs.{needs}
 use Rattle.life.specs.Labels.{Gathered}
@@ -16,6 +15,10 @@ Inv-loop tape area tokens lines labels₀ n₀ k₀ labels n k = (n ≤ k) × (k
 
 abbrev μ-loop : tie.MeasureT-loop
 μ-loop tape area tokens lines labels₀ n₀ k₀ labels n k = length lines - k
+
+-- the array keeps its length
+size : (c : tie.At-loop Inv-loop μ-loop) → length (c .loop .labels) ≡ length (c .before .before .before .before .before .before .args .labels .now)
+size c = let a = c .before .before .before .before .before .before .args in gathered-length (a .tape .now) (a .area .now) (a .tokens .now) (a .lines .now) (c .loop .n) (c .loop .k) (c .loop .inv .2) (search needs)
 
 loop-holds : tie.Need-loop-holds Inv-loop μ-loop
 loop-holds c = (search needs, search needs, search (needs, gathered-begin))
@@ -36,7 +39,7 @@ mul-labels : tie.Need-mul-labels Inv-loop μ-loop
 mul-labels c = search needs
 
 slice-write-labels : tie.Need-slice-write-labels Inv-loop μ-loop
-slice-write-labels c = let a = c .before .before .before .before .before .before .before .before .before .before .before .args in let s = gathered-length (a .tape .now) (a .area .now) (a .tokens .now) (a .lines .now) (c .before .before .before .before .before .loop .n) (c .before .before .before .before .before .loop .k) (c .before .before .before .before .before .loop .inv .2) (search needs) in search needs
+slice-write-labels c = let s = size (c .before .before .before .before .before) in search needs
 
 add-n : tie.Need-add-n Inv-loop μ-loop
 add-n c = search needs
@@ -48,10 +51,14 @@ loop-less : tie.Need-loop-less Inv-loop μ-loop
 loop-less c = search needs
 
 loop-again : tie.Need-loop-again Inv-loop μ-loop
-loop-again c = let a = c .before .before .before .before .before .before .before .before .before .before .before .args in ⊎-elim (λ w. (search needs, search needs, rw (w .1, w .2) (gathered-hit (a .tape .now) (a .area .now) (a .tokens .now) (a .lines .now) _ (c .before .before .before .before .before .loop .k) (c .before .before .before .before .before .loop .inv .2) (search needs) (c .before .before .line-of .ensures) (c .before .is-label .ensures) (w .0 .taken) (search needs)))) (λ w. (search needs, search needs, rw (w .1, w .2) (gathered-miss (a .tape .now) (a .area .now) (a .tokens .now) (a .lines .now) _ (c .before .before .before .before .before .loop .k) (c .before .before .before .before .before .loop .inv .2) (search needs) (c .before .before .line-of .ensures) (c .before .is-label .ensures) (w .0 .left)))) (c .if1 .came)
+loop-again c = let a = c .before .before .before .before .before .before .before .before .before .before .before .args in let l = c .before .before .before .before .before .loop in
+    ⊎-elim
+    (λ w. (search needs, search needs, rw (w .1, w .2) (gathered-hit (a .tape .now) (a .area .now) (a .tokens .now) (a .lines .now) _ (l .k) (l .inv .2) (search needs) (c .before .before .line-of .ensures) (c .before .is-label .ensures) (w .0 .taken) (search needs))))
+    (λ w. (search needs, search needs, rw (w .1, w .2) (gathered-miss (a .tape .now) (a .area .now) (a .tokens .now) (a .lines .now) _ (l .k) (l .inv .2) (search needs) (c .before .before .line-of .ensures) (c .before .is-label .ensures) (w .0 .left))))
+    (c .if1 .came)
 
 same-length : tie.Need-same-length Inv-loop μ-loop
-same-length c = let a = c .before .before .before .before .before .before .before .args in gathered-length (a .tape .now) (a .area .now) (a .tokens .now) (a .lines .now) (c .before .loop .n) (c .before .loop .k) (c .before .loop .inv .2) (search needs)
+same-length c = size (c .before)
 
 returns : tie.Need-returns Inv-loop μ-loop
 returns c = search (needs, gathered-end)

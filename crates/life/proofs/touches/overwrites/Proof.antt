@@ -1,5 +1,6 @@
 -- `life::touches::overwrites` meets its contract. Assumes nothing.
 use borrow.Author.Needs.{needs}
+use Rattle.lines.proofs.shapes.Sides.{assigned-side}
 use Rattle.life.proofs.Touching.{kills-none, kills-to}
 use Rattle.life.proofs.touches.overwrites.Statement.{statement}
 use Rattle.life.proofs.touches.overwrites.Tie as tie
@@ -14,13 +15,13 @@ enum-told : tie.Need-enum-told
 enum-told c = search needs
 
 returns : tie.Need-returns
-returns c = kills-none _ _ _ _ (c .before .before .assignment .ensures) (c .enum-told .given .1)
+returns c = search (needs, kills-none, kills-to)
 
 overwrites-by-requires : tie.Need-overwrites-by-requires
-overwrites-by-requires c κs = (c .before .before .before .before .before .before .before .pre .0, c .before .before .before .assignment .ensures .side _ (c .before .x .given .1), c .before .before .before .before .before .before .before .pre .1)
+overwrites-by-requires c κs = search (needs, assigned-side)
 
 returns-2 : tie.Need-returns-2
-returns-2 c = kills-to _ _ _ _ (c .before .before .before .before .assignment .ensures) (c .before .before .x .given .1) (c .overwrites-by .ensures)
+returns-2 c = search (needs, kills-none, kills-to)
 
 pub overwrites-spec : {M : Type 1} → statement M
 overwrites-spec =

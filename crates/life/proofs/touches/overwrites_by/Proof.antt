@@ -19,22 +19,22 @@ enum-told : tie.Need-enum-told
 enum-told c = search needs
 
 returns : tie.Need-returns
-returns c = by-none _ _ _ _ _ (c .before .before .name-of .ensures) (c .enum-told .given .1)
+returns c = search (needs, not-true, not-false, by-none, by-other, by-narrow, by-right)
 
 same-family-requires : tie.Need-same-family-requires
-same-family-requires c κs = (as-known (c .before .before .before .name-of .ensures) (c .before .g .given .1), c .before .before .before .before .before .before .before .before .pre .2)
+same-family-requires c κs = search (needs, as-known)
 
 returns-2 : tie.Need-returns-2
-returns-2 c = by-other _ _ _ _ _ (c .before .before .before .before .before .name-of .ensures) (c .before .before .before .g .given .1) (c .before .same-family .ensures) (not-true _ (c .if1 .taken))
+returns-2 c = search (needs, not-true, not-false, by-none, by-other, by-narrow, by-right)
 
 returns-3 : tie.Need-returns-3
-returns-3 c = by-narrow _ _ _ _ _ (c .before .before .before .before .before .before .name-of .ensures) (c .before .before .before .before .g .given .1) (c .before .before .same-family .ensures) (not-false _ (c .before .if1 .left)) (c .if2 .taken)
+returns-3 c = search (needs, not-true, not-false, by-none, by-other, by-narrow, by-right)
 
 mentions-requires : tie.Need-mentions-requires
 mentions-requires c κs = search needs
 
 returns-4 : tie.Need-returns-4
-returns-4 c = by-right _ _ _ _ _ (c .before .before .before .before .before .before .before .name-of .ensures) (c .before .before .before .before .before .g .given .1) (c .before .before .before .same-family .ensures) (not-false _ (c .before .before .if1 .left)) (c .before .if2 .left) (c .mentions .ensures)
+returns-4 c = search (needs, not-true, not-false, by-none, by-other, by-narrow, by-right)
 
 pub overwrites-by-spec : {M : Type 1} → statement M
 overwrites-by-spec =

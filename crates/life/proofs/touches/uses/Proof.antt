@@ -17,13 +17,13 @@ enum-told-3 : tie.Need-enum-told-3
 enum-told-3 c = search needs
 
 returns : tie.Need-returns
-returns c = use-use _ (c .before .before .touch .ensures) (c .enum-told .given .1)
+returns c = search (needs, use-use, use-kill, use-none)
 
 returns-2 : tie.Need-returns-2
-returns-2 c = use-kill _ (c .before .before .touch .ensures) (c .enum-told2 .given .1)
+returns-2 c = search (needs, use-use, use-kill, use-none)
 
 returns-3 : tie.Need-returns-3
-returns-3 c = use-none _ (c .before .before .touch .ensures) (c .enum-told3 .given .1)
+returns-3 c = search (needs, use-use, use-kill, use-none)
 
 pub uses-spec : {M : Type 1} → statement M
 uses-spec =

@@ -8,7 +8,8 @@ sub-if1 : tie.Need-sub-if1
 sub-if1 c = search needs
 
 returns : tie.Need-returns
-returns c = let a = c .before .before in addressed-cut (a .args .tape .now) (a .args .at) (a .pre .1) (c .if1 .taken)
+returns c = let s = c .before .before in
+    addressed-cut (s .args .tape .now) (s .args .at) (s .pre .1) (c .if1 .taken)
 
 add-number-at : tie.Need-add-number-at
 add-number-at c = search needs
@@ -26,7 +27,9 @@ wide-requires : tie.Need-wide-requires
 wide-requires c κs = search needs
 
 returns-2 : tie.Need-returns-2
-returns-2 c = let a = c .before .before .before .before .before in addressed-whole (a .args .tape .now) (a .args .at) (a .pre .1) (c .before .before .before .if1 .left) (c .before .before .number-at .ensures) (c .wide .ensures)
+returns-2 c = let s = c .before .before .before .before .before in
+    let long = c .before .before .before .if1 .left in
+    addressed-whole (s .args .tape .now) (s .args .at) (s .pre .1) long (c .before .before .number-at .ensures) (c .wide .ensures)
 
 pub addressed-from-spec : {M : Type 1} → statement M
 addressed-from-spec =

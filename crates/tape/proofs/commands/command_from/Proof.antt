@@ -24,13 +24,18 @@ returns-3 : tie.Need-returns-3
 returns-3 c = search needs
 
 returns-4 : tie.Need-returns-4
-returns-4 c = let a = c .before .before .before .before .before .before .args in ending (a .tape .now) (a .at) (c .before .before .before .before .if1 .left) (c .if4 .taken)
+returns-4 c = let a = c .before .before .before .before .before .before .args in
+    ending (a .tape .now) (a .at) (c .before .before .before .before .if1 .left) (c .if4 .taken)
 
 returns-5 : tie.Need-returns-5
-returns-5 c = let a = c .before .before .before .before .before .before .before .args in no-command (a .tape .now) (a .at) (c .before .before .before .if2 .left) (c .before .before .if3 .left) (c .before .if4 .left) (λ low high. omega (arith, c .if5 .taken))
+returns-5 c = let a = c .before .before .before .before .before .before .before .args in
+    let no-line = c .before .before .before .if2 .left in
+    no-command (a .tape .now) (a .at) no-line (c .before .before .if3 .left) (c .before .if4 .left) (λ low high. omega (arith, c .if5 .taken))
 
 returns-6 : tie.Need-returns-6
-returns-6 c = let a = c .before .before .before .before .before .before .before .before .args in no-command (a .tape .now) (a .at) (c .before .before .before .before .if2 .left) (c .before .before .before .if3 .left) (c .before .before .if4 .left) (λ low high. omega (arith, c .if6 .taken))
+returns-6 c = let a = c .before .before .before .before .before .before .before .before .args in
+    let no-line = c .before .before .before .before .if2 .left in
+    no-command (a .tape .now) (a .at) no-line (c .before .before .before .if3 .left) (c .before .before .if4 .left) (λ low high. omega (arith, c .if6 .taken))
 
 token-from-requires : tie.Need-token-from-requires
 token-from-requires c κs = search needs

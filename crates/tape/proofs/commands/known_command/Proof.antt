@@ -21,10 +21,12 @@ returns : tie.Need-returns
 returns c = rw (c .before .command .given .1) at (c .before .before .before .command-from .ensures)
 
 returns-2 : tie.Need-returns-2
-returns-2 c = absurd (refused-passed ((rw (c .enum-told .given .1) at (c .before .before .command-from .ensures)) ∙ c .before .before .before .before .pre .stands))
+returns-2 c = let e = rw (c .enum-told .given .1) at (c .before .before .command-from .ensures) in
+    absurd (refused-passed (e ∙ c .before .before .before .before .pre .stands))
 
 returns-3 : tie.Need-returns-3
-returns-3 c = absurd (refused-passed ((rw (c .enum-told2 .given .1) at (c .before .before .command-from .ensures)) ∙ c .before .before .before .before .pre .stands))
+returns-3 c = let e = rw (c .enum-told2 .given .1) at (c .before .before .command-from .ensures) in
+    absurd (refused-passed (e ∙ c .before .before .before .before .pre .stands))
 
 pub known-command-spec : {M : Type 1} → statement M
 known-command-spec =

@@ -1,5 +1,4 @@
 -- `tape::commands::plain_from` meets its contract. Assumes nothing.
-use native.Mathlib.Omega.{arith}
 use Rattle.tape.proofs.commands.Standing.{plain-cut, plain-whole}
 use borrow.Author.Needs.{needs}
 use Rattle.tape.proofs.commands.plain_from.Statement.{statement}
@@ -9,7 +8,8 @@ sub-if1 : tie.Need-sub-if1
 sub-if1 c = search needs
 
 returns : tie.Need-returns
-returns c = let a = c .before .before in plain-cut (a .args .tape .now) (a .args .at) (a .pre .1) (c .if1 .taken)
+returns c = let s = c .before .before in
+    plain-cut (s .args .tape .now) (s .args .at) (s .pre .1) (c .if1 .taken)
 
 add-wide : tie.Need-add-wide
 add-wide c = search needs
@@ -21,7 +21,8 @@ wide-requires : tie.Need-wide-requires
 wide-requires c κs = search needs
 
 returns-2 : tie.Need-returns-2
-returns-2 c = let a = c .before .before .before .before in plain-whole (a .args .tape .now) (a .args .at) (a .pre .1) (c .before .before .if1 .left) (c .wide .ensures)
+returns-2 c = let s = c .before .before .before .before in
+    plain-whole (s .args .tape .now) (s .args .at) (s .pre .1) (c .before .before .if1 .left) (c .wide .ensures)
 
 pub plain-from-spec : {M : Type 1} → statement M
 plain-from-spec =

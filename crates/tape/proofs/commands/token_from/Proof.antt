@@ -10,7 +10,8 @@ sub-left : tie.Need-sub-left
 sub-left c = search needs
 
 returns : tie.Need-returns
-returns c = let a = c .before .before in token-short (a .args .tape .now) (a .args .at) (a .pre .1) (a .pre .2) (c .if1 .taken)
+returns c = let s = c .before .before in
+    token-short (s .args .tape .now) (s .args .at) (s .pre .1) (s .pre .2) (c .if1 .taken)
 
 add-number-at : tie.Need-add-number-at
 add-number-at c = search needs
@@ -19,7 +20,8 @@ number-at-requires : tie.Need-number-at-requires
 number-at-requires c κs = search needs
 
 returns-2 : tie.Need-returns-2
-returns-2 c = let a = c .before .before .before .before in token-cut (a .args .tape .now) (a .args .at) (a .pre .1) (a .pre .2) (c .before .number-at .ensures) (c .if2 .taken)
+returns-2 c = let s = c .before .before .before .before in
+    token-cut (s .args .tape .now) (s .args .at) (s .pre .1) (s .pre .2) (c .before .number-at .ensures) (c .if2 .taken)
 
 shared-slice-read-wide : tie.Need-shared-slice-read-wide
 shared-slice-read-wide c = search needs
@@ -31,8 +33,11 @@ sub-kind : tie.Need-sub-kind
 sub-kind c = search needs
 
 returns-3 : tie.Need-returns-3
-returns-3 c = let a = c .before .before .before .before .before .before in
-    token-whole (a .args .tape .now) (a .args .at) (a .pre .1) (a .pre .2) (c .before .before .before .number-at .ensures) (ap (λ (n : ℕ). n - 16) (c .wide .ensures)) (c .before .before .before .before .if1 .left) (c .before .before .if2 .left)
+returns-3 c = let s = c .before .before .before .before .before .before in
+    let kind = ap (λ (n : ℕ). n - 16) (c .wide .ensures) in
+    let count = c .before .before .before .number-at .ensures in
+    let long = c .before .before .before .before .if1 .left in
+    token-whole (s .args .tape .now) (s .args .at) (s .pre .1) (s .pre .2) count kind long (c .before .before .if2 .left)
 
 pub token-from-spec : {M : Type 1} → statement M
 token-from-spec =

@@ -1,11 +1,10 @@
--- `tape::little_endian::number_at` meets its contract: the loop goes from the highest byte down, and has the number of the bytes passed. Assumes nothing.
-use Prim.Native.Nat.{ℕ, suc, _+_, _*_, _-_, _^_, _≤_, _<_}
+-- `tape::little_endian::number_at` meets its contract: the loop goes from the highest byte down, and has the number of the bytes passed.
+-- Assumes nothing.
+use Prim.Native.Nat.{suc, _+_, _-_, _^_, _≤_, _<_}
 use native.Mathlib.Nat.{lt-of-lt-of-le, pow-le-pow-right, pow-suc, add-zero, sub-zero}
 use native.Mathlib.Omega.{arith}
-use native.Mathlib.Numerals.{add-one}
-use mathlib.Core.Path.{_≡_, refl, sym, ap, _∙_}
-use mathlib.Core.List.{List}
-use lib.ListN.{length, take, drop, getD}
+use mathlib.Core.Path.{_≡_}
+use lib.ListN.{take, drop}
 use Rattle.reference.specs.Tape.{from-le-bytes}
 use Rattle.reference.proofs.LittleEndian.{from-at}
 use borrow.Author.Needs.{needs}
@@ -19,8 +18,11 @@ abbrev μ-loop : tie.MeasureT-loop
 μ-loop tape at n v₀ i₀ v i = i
 
 -- the bytes passed are seven at most while there is one to come
-seven : (n i v : ℕ) → n ≤ 8 → 0 < i → v < 256 ^ (n - i) → v < 256 ^ 7
-seven n i v h p b = lt-of-lt-of-le b (pow-le-pow-right {n = 256} (omega arith) {i = n - i} {j = 7} (omega arith))
+seven : (c : tie.In-loop Inv-loop μ-loop) → c .before .loop .v < 256 ^ 7
+seven c =
+    let a = c .before .before .before .args in
+    let l = c .before .loop in
+    lt-of-lt-of-le (l .inv .2) (pow-le-pow-right {n = 256} (omega arith) {i = a .n - l .i} {j = 7} (omega arith))
 
 loop-holds : tie.Need-loop-holds Inv-loop μ-loop
 unfolding from-le-bytes
@@ -32,7 +34,7 @@ sub-i : tie.Need-sub-i Inv-loop μ-loop
 sub-i c = search needs
 
 mul-v : tie.Need-mul-v Inv-loop μ-loop
-mul-v c = let b = seven (c .before .before .before .args .n) (c .before .loop .i) (c .before .loop .v) (c .before .before .before .pre .0) (c .loop-test .taken) (c .before .loop .inv .2) in omega arith
+mul-v c = let b = seven c in omega arith
 
 add-wide : tie.Need-add-wide Inv-loop μ-loop
 add-wide c = search needs
@@ -44,8 +46,9 @@ wide-requires : tie.Need-wide-requires Inv-loop μ-loop
 wide-requires c κs = search needs
 
 add-v : tie.Need-add-v Inv-loop μ-loop
-add-v c = let b = seven (c .before .before .before .before .before .args .n) (c .before .before .before .loop .i) (c .before .before .before .loop .v) (c .before .before .before .before .before .pre .0) (c .before .before .loop-test .taken) (c .before .before .before .loop .inv .2) in
-    omega (arith, c .wide .ensures, c .before .shared-slice-known2 .given (c .before .before .before .before .before .args .at + (c .before .before .before .loop .i - 1)))
+add-v c = let b = seven (c .before .before) in
+    let a = c .before .before .before .before .before .args in
+    omega (arith, c .wide .ensures, c .before .shared-slice-known2 .given (a .at + (c .before .before .before .loop .i - 1)))
 
 loop-less : tie.Need-loop-less Inv-loop μ-loop
 loop-less c = search needs
@@ -53,11 +56,14 @@ loop-less c = search needs
 loop-again : tie.Need-loop-again Inv-loop μ-loop
 loop-again c = let l = c .before .before .before .loop in
     let a = c .before .before .before .before .before .args in
-    let k : a .n - (l .i - 1) ≡ suc (a .n - l .i) = omega (arith, l .inv .0, c .before .before .loop-test .taken) in
-    let s : suc (a .at + (l .i - 1)) ≡ a .at + l .i = omega (arith, c .before .before .loop-test .taken) in (
+    let t = c .before .before .loop-test .taken in
+    let w = c .wide .ensures in
+    let k : a .n - (l .i - 1) ≡ suc (a .n - l .i) = omega (arith, l .inv .0) in
+    let s : suc (a .at + (l .i - 1)) ≡ a .at + l .i = omega arith in
+    let byte = c .before .shared-slice-known2 .given (a .at + (l .i - 1)) in (
       search needs,
-      rw (k, from-at (a .n - l .i) (a .at + (l .i - 1)) (a .tape .now), s) (omega (arith, c .wide .ensures, l .inv .1)),
-      rw (k, pow-suc 256 (a .n - l .i)) (omega (arith, c .wide .ensures, c .before .shared-slice-known2 .given (a .at + (l .i - 1)), l .inv .2)),
+      rw (k, from-at (a .n - l .i) (a .at + (l .i - 1)) (a .tape .now), s) (omega (arith, l .inv .1)),
+      rw (k, pow-suc 256 (a .n - l .i)) (omega (arith, l .inv .2)),
     )
 
 returns : tie.Need-returns Inv-loop μ-loop

@@ -1,6 +1,5 @@
 -- `tape::loading::add` meets its contract. Assumes nothing.
 use native.Mathlib.Omega.{arith}
-use mathlib.Core.Path.{refl}
 use borrow.Author.Needs.{needs}
 use Rattle.tape.proofs.loading.add.Statement.{statement}
 use Rattle.tape.proofs.loading.add.Tie as tie
@@ -12,22 +11,30 @@ mul-addresses : tie.Need-mul-addresses
 mul-addresses c = search needs
 
 slice-write-addresses : tie.Need-slice-write-addresses
-slice-write-addresses c = let p = rw (c .before .command .given .1) at (c .before .before .before .before .before .before .pre .1) in omega (arith, c .before .before .before .before .before .before .pre .0)
+slice-write-addresses c = let s = c .before .before .before .before .before .before in
+    let p = rw (c .before .command .given .1) at (s .pre .1) in
+    omega (arith, s .pre .0)
 
 add-line-requires : tie.Need-add-line-requires
-add-line-requires c κs = let p = rw (c .before .before .command .given .1) at (c .before .before .before .before .before .before .before .pre .1) in omega (arith, c .before .before .before .before .before .before .before .pre .0)
+add-line-requires c κs = let s = c .before .before .before .before .before .before .before in
+    let p = rw (c .before .before .command .given .1) at (s .pre .1) in
+    omega (arith, s .pre .0)
 
 enum-known-command-2 : tie.Need-enum-known-command-2
 enum-known-command-2 c = search needs
 
 add-line-requires-2 : tie.Need-add-line-requires-2
-add-line-requires-2 c κs = let p = rw (c .before .before .command2 .given .1) at (c .before .before .before .before .before .before .before .pre .1) in omega (arith, c .before .before .before .before .before .before .before .pre .0)
+add-line-requires-2 c κs = let s = c .before .before .before .before .before .before .before in
+    let p = rw (c .before .before .command2 .given .1) at (s .pre .1) in
+    omega (arith, s .pre .0)
 
 enum-known-command-3 : tie.Need-enum-known-command-3
 enum-known-command-3 c = search needs
 
 add-token-requires : tie.Need-add-token-requires
-add-token-requires c κs = let p = rw (c .before .before .before .command3 .given .1) at (c .before .before .before .before .before .before .before .before .pre .1) in omega (arith, c .before .before .before .before .before .before .before .before .pre .0)
+add-token-requires c κs = let s = c .before .before .before .before .before .before .before .before in
+    let p = rw (c .before .before .before .command3 .given .1) at (s .pre .1) in
+    omega (arith, s .pre .0)
 
 enum-told : tie.Need-enum-told
 enum-told c = search needs
@@ -39,13 +46,15 @@ same-length-2 : tie.Need-same-length-2
 same-length-2 c = search needs
 
 returns : tie.Need-returns
-returns c = record { tokens-are = rw (c .before .before .before .before .before .command .given .1); lines-are = rw (c .before .before .before .before .before .command .given .1) (c .before .before .add-line .ensures); addresses-are = rw (c .before .before .before .before .before .command .given .1) }
+returns c = let e = c .before .before .before .before .before .command .given .1 in
+    record { tokens-are = rw e; lines-are = rw e (c .before .before .add-line .ensures); addresses-are = rw e }
 
 same-length-3 : tie.Need-same-length-3
 same-length-3 c = search needs
 
 returns-2 : tie.Need-returns-2
-returns-2 c = record { tokens-are = rw (c .before .before .before .before .before .command2 .given .1); lines-are = rw (c .before .before .before .before .before .command2 .given .1) (c .before .before .add-line2 .ensures); addresses-are = rw (c .before .before .before .before .before .command2 .given .1) }
+returns-2 c = let e = c .before .before .before .before .before .command2 .given .1 in
+    record { tokens-are = rw e; lines-are = rw e (c .before .before .add-line2 .ensures); addresses-are = rw e }
 
 same-length-4 : tie.Need-same-length-4
 same-length-4 c = search needs
@@ -54,7 +63,9 @@ same-length-5 : tie.Need-same-length-5
 same-length-5 c = search needs
 
 returns-3 : tie.Need-returns-3
-returns-3 c = record { tokens-are = rw (c .before .before .before .before .before .before .before .before .command3 .given .1) (c .before .before .before .before .add-token .ensures .0); lines-are = rw (c .before .before .before .before .before .before .before .before .command3 .given .1) (c .before .before .before .before .add-token .ensures .1); addresses-are = rw (c .before .before .before .before .before .before .before .before .command3 .given .1) }
+returns-3 c = let e = c .before .before .before .before .before .before .before .before .command3 .given .1 in
+    let t = c .before .before .before .before .add-token .ensures in
+    record { tokens-are = rw e (t .0); lines-are = rw e (t .1); addresses-are = rw e }
 
 returns-4 : tie.Need-returns-4
 returns-4 c = search needs

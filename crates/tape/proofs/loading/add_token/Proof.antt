@@ -36,7 +36,8 @@ add-with-tokens : tie.Need-add-with-tokens
 add-with-tokens c = search needs
 
 with-tokens-requires : tie.Need-with-tokens-requires
-with-tokens-requires c κs = (rw (c .before .first .ensures) (first-below _), omega (arith, c .count .ensures, c .before .before .before .before .before .before .before .pre))
+with-tokens-requires c κs = let s = c .before .before .before .before .before .before .before in
+    (rw (c .before .first .ensures) (first-below _), omega (arith, c .count .ensures, s .pre))
 
 mul-lines : tie.Need-mul-lines
 mul-lines c = search needs
@@ -51,7 +52,10 @@ same-length-2 : tie.Need-same-length-2
 same-length-2 c = search needs
 
 returns : tie.Need-returns
-returns c = (rw (c .before .before .before .before .before .token-word .ensures), rw (c .with-tokens .ensures, c .before .before .first .ensures, c .before .count .ensures))
+returns c = (
+  rw (c .before .before .before .before .before .token-word .ensures),
+  rw (c .with-tokens .ensures, c .before .before .first .ensures, c .before .count .ensures),
+)
 
 pub add-token-spec : {M : Type 1} → statement M
 add-token-spec =

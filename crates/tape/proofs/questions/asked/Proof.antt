@@ -3,7 +3,6 @@ use borrow.Author.Tests.{le-leb, lt-leb}
 use Rattle.reference.specs.Control.{_&&_, if_then_else_}
 use Rattle.reference.specs.Questions.{is-convention, has-room}
 use Rattle.tape.specs.Questions.{first-no}
-use borrow.Author.Needs.{needs}
 use Rattle.tape.proofs.questions.asked.Statement.{statement}
 use Rattle.tape.proofs.questions.asked.Tie as tie
 

@@ -1,8 +1,7 @@
 -- `tape::questions::printable` meets its contract: the whole text has a byte outside 20 to 7E if the rest from here has one. Assumes nothing.
 use Prim.Native.Nat.{ℕ, _-_}
-use mathlib.Core.Path.{_≡_, refl, sym, ap, _∙_}
+use mathlib.Core.Path.{_≡_, refl, _∙_}
 use mathlib.Core.Bool.{Bool}
-use mathlib.Core.List.{List}
 use lib.Dec.{ltb}
 use lib.ListN.{length, drop}
 use borrow.Author.Tests.{lt-ltb, le-ltb}
@@ -32,11 +31,16 @@ shared-slice-read-b c = search needs
 
 returns : tie.Need-returns Inv-loop μ-loop
 unfolding is-printable not
-returns c = let l = c .before .before .before .loop in rw (l .inv ∙ any-hit outside (c .before .before .before .before .args .text .now) (l .i) 0 (search needs) (or-true _ (lt-ltb _ _ (c .if1 .taken))))
+returns c = let l = c .before .before .before .loop in
+    let text = c .before .before .before .before .args .text .now in
+    rw (l .inv ∙ any-hit outside text (l .i) 0 (search needs) (or-true _ (lt-ltb _ _ (c .if1 .taken))))
 
 returns-2 : tie.Need-returns-2 Inv-loop μ-loop
 unfolding is-printable not
-returns-2 c = let l = c .before .before .before .before .loop in rw (l .inv ∙ any-hit outside (c .before .before .before .before .before .args .text .now) (l .i) 0 (search needs) (or-false _ (le-ltb _ _ (c .before .if1 .left)) ∙ lt-ltb _ _ (c .if2 .taken)))
+returns-2 c = let l = c .before .before .before .before .loop in
+    let text = c .before .before .before .before .before .args .text .now in
+    let high = or-false _ (le-ltb _ _ (c .before .if1 .left)) ∙ lt-ltb _ _ (c .if2 .taken) in
+    rw (l .inv ∙ any-hit outside text (l .i) 0 (search needs) high)
 
 add-i : tie.Need-add-i Inv-loop μ-loop
 add-i c = search needs
@@ -45,11 +49,15 @@ loop-less : tie.Need-loop-less Inv-loop μ-loop
 loop-less c = search needs
 
 loop-again : tie.Need-loop-again Inv-loop μ-loop
-loop-again c = let l = c .before .before .before .before .loop in l .inv ∙ any-miss outside (c .before .before .before .before .before .args .text .now) (l .i) 0 (search needs) (or-false _ (le-ltb _ _ (c .before .if1 .left)) ∙ le-ltb _ _ (c .if2 .left))
+loop-again c = let l = c .before .before .before .before .loop in
+    let text = c .before .before .before .before .before .args .text .now in
+    let inside = or-false _ (le-ltb _ _ (c .before .if1 .left)) ∙ le-ltb _ _ (c .if2 .left) in
+    l .inv ∙ any-miss outside text (l .i) 0 (search needs) inside
 
 returns-3 : tie.Need-returns-3 Inv-loop μ-loop
 unfolding is-printable not
-returns-3 c = let l = c .before .loop in rw (l .inv ∙ any-end outside (c .before .before .args .text .now) (l .i) (search needs))
+returns-3 c = let l = c .before .loop in
+    rw (l .inv ∙ any-end outside (c .before .before .args .text .now) (l .i) (search needs))
 
 pub printable-spec : {M : Type 1} → statement M
 printable-spec =

@@ -46,15 +46,20 @@ returns-4 : tie.Need-returns-4
 returns-4 c = rw (c .before .before .before .command2 .given .1) (line-exceeds _ _ _ _ (c .before .line-fits2 .ensures) (c .if2 .left))
 
 returns-5 : tie.Need-returns-5
-returns-5 c = rw (c .before .before .before .command3 .given .1)
-    (token-refuses (c .before .before .before .before .before .before .args .tape .now) (c .before .before .before .before .before .before .args .at) (totals-of (c .before .before .before .before .before .before .args .totals)) (c .before .before .before .command3 .given .0 .0) (c .before .before .before .command3 .given .0 .1 .0) (c .token-refusal .ensures) (c .before .token-text .ensures))
+returns-5 c = let a = c .before .before .before .before .before .before .args in
+    let w = c .before .before .before .command3 .given in
+    rw (w .1) (token-refuses (a .tape .now) (a .at) (totals-of (a .totals)) (w .0 .0) (w .0 .1 .0) (c .token-refusal .ensures) (c .before .token-text .ensures))
 
 returns-6 : tie.Need-returns-6
-returns-6 c = rw (c .before .enum-told .given .1) (end-over (c .before .before .before .before .args .tape .now) (c .before .before .before .before .args .at) (totals-of (c .before .before .before .before .args .totals)) (c .if3 .taken))
+returns-6 c = let a = c .before .before .before .before .args in
+    rw (c .before .enum-told .given .1) (end-over (a .tape .now) (a .at) (totals-of (a .totals)) (c .if3 .taken))
 
 returns-7 : tie.Need-returns-7
-returns-7 c = let p = rw (c .before .enum-told .given .1) at (c .before .before .before .before .pre) in
-    rw (c .before .enum-told .given .1) (end-follows (c .before .before .before .before .args .tape .now) (c .before .before .before .before .args .at) (totals-of (c .before .before .before .before .args .totals)) p (c .if3 .left))
+returns-7 c = let s = c .before .before .before .before in
+    let a = s .args in
+    let e = c .before .enum-told .given .1 in
+    let p = rw e at (s .pre) in
+    rw e (end-follows (a .tape .now) (a .at) (totals-of (a .totals)) p (c .if3 .left))
 
 pub refusal-spec : {M : Type 1} → statement M
 refusal-spec =

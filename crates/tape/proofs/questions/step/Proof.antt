@@ -8,7 +8,7 @@ use Rattle.tape.proofs.questions.step.Statement.{statement}
 use Rattle.tape.proofs.questions.step.Tie as tie
 
 -- the command that was found
-here : (c : tie.After-command) → Stands (c .before .before .before .before .args .tape .now) (c .before .before .before .before .args .at) (c .command .given .0 .0)
+here : (c : tie.After-command) → let a = c .before .before .before .before .args in Stands (a .tape .now) (a .at) (c .command .given .0 .0)
 here c = stands {c = c .command .given .0 .0} (rw (c .command .given .1) at (c .before .before .command-from .ensures))
 
 command-from-requires : tie.Need-command-from-requires
@@ -31,21 +31,26 @@ returns c = let a = c .before .before .before .before .before .before .before .a
     refuses (a .tape .now) (a .at) (totals-of (a .totals)) (here (c .before .before .before)) (c .if1 .taken) (c .before .refusal .ensures)
 
 size-of-requires : tie.Need-size-of-requires
-size-of-requires c κs = omega (arith, stands-inside (here (c .before .before .before)), c .before .before .before .before .before .before .before .good .0 .0)
+size-of-requires c κs = omega (arith, stands-inside (here (c .before .before .before)), c .before .before .before .before .before .before .before .good)
 
 add-t10 : tie.Need-add-t10
-add-t10 c = omega (arith, stands-inside (here (c .before .before .before .before)), c .before .before .before .before .before .before .before .before .good .0 .0, c .size-of .ensures)
+add-t10 c = omega
+    (arith, stands-inside (here (c .before .before .before .before)), c .size-of .ensures, c .before .before .before .before .before .before .before .before .good)
 
 count-in-requires : tie.Need-count-in-requires
 count-in-requires c κs = let a = c .before .before .before .before .before .before .before .before .args in
-    within-counts (a .tape .now) (a .at) (a .totals) (here (c .before .before .before .before))
-    (all-yes (a .tape .now) (a .at) (totals-of (a .totals)) (c .before .before .before .before .command .given .0 .0) (c .before .if1 .left) (c .before .before .refusal .ensures) .1 .0)
+    let p = c .before .before .before .before in
+    let none = c .before .if1 .left in
+    let yes = all-yes (a .tape .now) (a .at) (totals-of (a .totals)) (p .command .given .0 .0) none (c .before .before .refusal .ensures) in
+    within-counts (a .tape .now) (a .at) (a .totals) (here p) (yes .1 .0)
 
 returns-2 : tie.Need-returns-2
-returns-2 c = let a = c .before .before .before .before .args in stops (a .tape .now) (a .at) (totals-of (a .totals)) (rw (c .enum-told .given .1) at (c .before .before .command-from .ensures))
+returns-2 c = let a = c .before .before .before .before .args in
+    stops (a .tape .now) (a .at) (totals-of (a .totals)) (rw (c .enum-told .given .1) at (c .before .before .command-from .ensures))
 
 returns-3 : tie.Need-returns-3
-returns-3 c = let a = c .before .before .before .before .args in stops (a .tape .now) (a .at) (totals-of (a .totals)) (rw (c .enum-told2 .given .1) at (c .before .before .command-from .ensures))
+returns-3 c = let a = c .before .before .before .before .args in
+    stops (a .tape .now) (a .at) (totals-of (a .totals)) (rw (c .enum-told2 .given .1) at (c .before .before .command-from .ensures))
 
 returns-4 : tie.Need-returns-4
 returns-4 c = let a = c .before .before .before .before .before .before .before .before .before .args in

@@ -22,20 +22,24 @@ add-out : tie.Need-add-out
 add-out c = search needs
 
 slice-write-out-2 : tie.Need-slice-write-out-2
-slice-write-out-2 c = let k = c .before .before .put-number .kept .1 .1 .0 in
-    let s = length-set (c .before .before .before .before .before .args .out .now) (c .before .before .before .before .before .args .at) 1 in
-    omega (arith, c .before .before .before .before .before .pre)
+slice-write-out-2 c = let s = c .before .before .before .before .before in
+    let k = c .before .before .put-number .kept .1 .1 .0 in
+    let e = length-set (s .args .out .now) (s .args .at) 1 in
+    omega (arith, s .pre)
 
 add-result : tie.Need-add-result
 add-result c = search needs
 
 same-length : tie.Need-same-length
-same-length c = let a = c .before .before .before .before .before .args in
-    puts-length (a .out .now) (a .at) _ (omega (arith, addressed-size (a .address) (a .indent), c .before .before .before .before .before .pre))
-    (addressed-puts (a .out .now) (a .at) (a .address) (a .indent) (c .before .before .before .before .before .pre .1) (c .before .before .put-number .ensures))
+same-length c = let s = c .before .before .before .before .before in
+    let a = s .args in
+    puts-length (a .out .now) (a .at) _ (omega (arith, addressed-size (a .address) (a .indent), s .pre))
+    (addressed-puts (a .out .now) (a .at) (a .address) (a .indent) (s .pre .1) (c .before .before .put-number .ensures))
 
 returns : tie.Need-returns
-returns c = let a = c .before .before .before .before .before .args in addressed-puts (a .out .now) (a .at) (a .address) (a .indent) (c .before .before .before .before .before .pre .1) (c .before .before .put-number .ensures)
+returns c = let s = c .before .before .before .before .before in
+    let a = s .args in
+    addressed-puts (a .out .now) (a .at) (a .address) (a .indent) (s .pre .1) (c .before .before .put-number .ensures)
 
 pub put-addressed-spec : {M : Type 1} → statement M
 put-addressed-spec =

@@ -1,9 +1,7 @@
 -- `tape::writing::put_token` meets its contract. Assumes nothing.
 use Prim.Native.Nat.{_+_}
-use mathlib.Core.Path.{_≡_, ap, _∙_}
 use native.Mathlib.Omega.{arith}
-use lib.ListN.{length, length-set}
-use lib.Seq.{length-paste}
+use lib.ListN.{length-set}
 use Rattle.tape.proofs.writing.Putting.{token-puts, token-size, puts-length}
 use borrow.Author.Needs.{needs}
 use Rattle.tape.proofs.writing.put_token.Statement.{statement}
@@ -28,9 +26,10 @@ add-copy-bytes : tie.Need-add-copy-bytes
 add-copy-bytes c = search needs
 
 copy-bytes-requires : tie.Need-copy-bytes-requires
-copy-bytes-requires c κs = let k = c .before .before .before .put-number .kept .1 .1 .0 in
-    let s = length-set (c .before .before .before .before .before .before .before .args .out .now) (c .before .before .before .before .before .before .before .args .at) (16 + c .before .before .before .before .before .before .before .args .kind) in
-    omega (arith, c .before .before .before .before .before .before .before .pre)
+copy-bytes-requires c κs = let s = c .before .before .before .before .before .before .before in
+    let k = c .before .before .before .put-number .kept .1 .1 .0 in
+    let e = length-set (s .args .out .now) (s .args .at) (16 + s .args .kind) in
+    omega (arith, s .pre)
 
 add-result : tie.Need-add-result
 add-result c = search needs
@@ -39,10 +38,15 @@ add-result-2 : tie.Need-add-result-2
 add-result-2 c = search needs
 
 same-length : tie.Need-same-length
-same-length c = puts-length (c .before .before .before .before .before .before .before .before .before .before .args .out .now) (c .before .before .before .before .before .before .before .before .before .before .args .at) _ (omega (arith, token-size (c .before .before .before .before .before .before .before .before .before .before .args .kind) (c .before .before .before .before .before .before .before .before .before .before .args .s .now), c .before .before .before .before .before .before .before .before .before .before .pre)) (token-puts (c .before .before .before .before .before .before .before .before .before .before .args .out .now) (c .before .before .before .before .before .before .before .before .before .before .args .at) (c .before .before .before .before .before .before .before .before .before .before .args .kind) (c .before .before .before .before .before .before .before .before .before .before .args .s .now) (c .before .before .before .before .before .before .before .before .before .before .pre .1) (c .before .before .before .before .before .before .put-number .ensures) (c .before .before .copy-bytes .ensures))
+same-length c = let s = c .before .before .before .before .before .before .before .before .before .before in
+    let a = s .args in
+    puts-length (a .out .now) (a .at) _ (omega (arith, token-size (a .kind) (a .s .now), s .pre))
+    (token-puts (a .out .now) (a .at) (a .kind) (a .s .now) (s .pre .1) (c .before .before .before .before .before .before .put-number .ensures) (c .before .before .copy-bytes .ensures))
 
 returns : tie.Need-returns
-returns c = token-puts (c .before .before .before .before .before .before .before .before .before .before .args .out .now) (c .before .before .before .before .before .before .before .before .before .before .args .at) (c .before .before .before .before .before .before .before .before .before .before .args .kind) (c .before .before .before .before .before .before .before .before .before .before .args .s .now) (c .before .before .before .before .before .before .before .before .before .before .pre .1) (c .before .before .before .before .before .before .put-number .ensures) (c .before .before .copy-bytes .ensures)
+returns c = let s = c .before .before .before .before .before .before .before .before .before .before in
+    let a = s .args in
+    token-puts (a .out .now) (a .at) (a .kind) (a .s .now) (s .pre .1) (c .before .before .before .before .before .before .put-number .ensures) (c .before .before .copy-bytes .ensures)
 
 pub put-token-spec : {M : Type 1} → statement M
 put-token-spec =

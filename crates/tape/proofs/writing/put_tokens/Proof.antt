@@ -18,7 +18,8 @@ abbrev μ-loop : tie.MeasureT-loop
 μ-loop tape area ws out₀ at to₀ k₀ out to k = length ws - k
 
 loop-holds : tie.Need-loop-holds Inv-loop μ-loop
-loop-holds c = let a = c .before .before .before .before .args in written-begin (token-of (a .tape .now) (a .area .now)) token-bytes (a .ws .now) (a .out .now) (a .at)
+loop-holds c = let a = c .before .before .before .before .args in
+    written-begin (token-of (a .tape .now) (a .area .now)) token-bytes (a .ws .now) (a .out .now) (a .at)
 
 mul-w : tie.Need-mul-w Inv-loop μ-loop
 mul-w c = search needs
@@ -34,11 +35,11 @@ text-requires c κs = c .before .before .before .before .before .before .before 
 
 put-token-requires : tie.Need-put-token-requires Inv-loop μ-loop
 put-token-requires c κs = let s = c .before .before .before .before .before .before .before .before .before .before in
-    let tape = s .args .tape .now in
-    let area = s .args .area .now in
-    let w = getD (s .args .ws .now) (c .before .before .before .before .before .loop .k) 0 in
-    omega
-    (arith, written-room (c .before .before .before .before .before .loop .inv) (s .pre .1) (c .before .before .before .before .loop-test .taken), c .before .before .kind .ensures, kind-below w, ap length (c .before .text .ensures), token-size (kind-of w) (text-of tape area w))
+    let l = c .before .before .before .before .before .loop in
+    let w = getD (s .args .ws .now) (l .k) 0 in
+    let room = written-room (l .inv) (s .pre .1) (c .before .before .before .before .loop-test .taken) in
+    let size = token-size (kind-of w) (text-of (s .args .tape .now) (s .args .area .now) w) in
+    omega (arith, c .before .before .kind .ensures, kind-below w, ap length (c .before .text .ensures))
 
 add-k : tie.Need-add-k Inv-loop μ-loop
 add-k c = search needs
@@ -47,9 +48,10 @@ loop-less : tie.Need-loop-less Inv-loop μ-loop
 loop-less c = search needs
 
 loop-again : tie.Need-loop-again Inv-loop μ-loop
-loop-again c = let l = c .before .before .before .before .before .before .before .before .loop in
-    written-more (l .inv) (c .before .before .before .before .before .before .before .before .before .before .before .before .before .pre .1) (c .before .before .before .before .before .before .before .loop-test .taken)
-    (rw (c .before .before .before .before .before .kind .ensures, c .before .before .before .before .text .ensures) at (c .before .before .put-token .ensures))
+loop-again c = let s = c .before .before .before .before .before .before .before .before .before .before .before .before .before in
+    let l = c .before .before .before .before .before .before .before .before .loop in
+    let p = rw (c .before .before .before .before .before .kind .ensures, c .before .before .before .before .text .ensures) at (c .before .before .put-token .ensures) in
+    written-more (l .inv) (s .pre .1) (c .before .before .before .before .before .before .before .loop-test .taken) p
 
 same-length : tie.Need-same-length Inv-loop μ-loop
 same-length c = c .before .loop .inv .long

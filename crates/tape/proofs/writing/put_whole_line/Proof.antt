@@ -32,8 +32,9 @@ same-length c = search needs
 returns : tie.Need-returns
 returns c = let s = c .before .before .before .before .before .before .before .before .before .before .before .before .before .before in
     let a = s .args in
+    let more = rw (c .before .before .before .before .line-of .ensures) at (c .before .before .put-tokens .ensures) in
     rw (line-split (a .tape .now) (a .area .now) (a .tokens .now) (a .addresses .now) (a .l))
-    (puts-append (a .out .now) (a .at) _ _ (omega (arith, room s)) (c .before .before .before .before .before .before .before .put-line .ensures) (rw (c .before .before .before .before .line-of .ensures) at (c .before .before .put-tokens .ensures)))
+    (puts-append (a .out .now) (a .at) _ _ (omega (arith, room s)) (c .before .before .before .before .before .before .before .put-line .ensures) more)
 
 pub put-whole-line-spec : {M : Type 1} → statement M
 put-whole-line-spec =

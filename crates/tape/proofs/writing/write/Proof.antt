@@ -24,7 +24,8 @@ room : (c : tie.Start Inv-loop μ-loop) → length (flatMap write-line (listing 
 room c = write-room (listing c) (c .pre .1 .1)
 
 loop-holds : tie.Need-loop-holds Inv-loop μ-loop
-loop-holds c = let a = c .before .before .before .before .before .before .args in written-begin (line-in (a .tape .now) (a .area .now) (a .tokens .now) (a .addresses .now)) write-line (a .lines .now) (a .out .now) 0
+loop-holds c = let a = c .before .before .before .before .before .before .args in
+    written-begin (line-in (a .tape .now) (a .area .now) (a .tokens .now) (a .addresses .now)) write-line (a .lines .now) (a .out .now) 0
 
 mul-put-whole-line : tie.Need-mul-put-whole-line Inv-loop μ-loop
 mul-put-whole-line c = search needs
@@ -35,7 +36,8 @@ shared-slice-read-put-whole-line c = search needs
 put-whole-line-requires : tie.Need-put-whole-line-requires Inv-loop μ-loop
 put-whole-line-requires c κs = let s = c .before .before .before .before .before .before .before .before .before .before in
     let l = c .before .before .before .loop in
-    (s .pre .0 .at (l .k) (c .before .before .loop-test .taken), (s .pre .1 .0, written-room (l .inv) (omega (arith, room s)) (c .before .before .loop-test .taken)))
+    let t = c .before .before .loop-test .taken in
+    (s .pre .0 .at (l .k) t, (s .pre .1 .0, written-room (l .inv) (omega (arith, room s)) t))
 
 add-k : tie.Need-add-k Inv-loop μ-loop
 add-k c = search needs
@@ -45,19 +47,27 @@ loop-less c = search needs
 
 loop-again : tie.Need-loop-again Inv-loop μ-loop
 loop-again c = let s = c .before .before .before .before .before .before .before .before .before .before .before .before .before in
-    written-more (c .before .before .before .before .before .before .loop .inv) (omega (arith, room s)) (c .before .before .before .before .before .loop-test .taken) (c .before .before .put-whole-line .ensures)
+    let l = c .before .before .before .before .before .before .loop in
+    let t = c .before .before .before .before .before .loop-test .taken in
+    written-more (l .inv) (omega (arith, room s)) t (c .before .before .put-whole-line .ensures)
 
 slice-write-out : tie.Need-slice-write-out Inv-loop μ-loop
-slice-write-out c = omega (arith, written-end (c .before .loop .inv) (c .loop-test .left) .ends, c .before .loop .inv .long, room (c .before .before .before .before .before .before .before .before))
+slice-write-out c = let s = c .before .before .before .before .before .before .before .before in
+    let l = c .before .loop in
+    omega (arith, written-end (l .inv) (c .loop-test .left) .ends, l .inv .long, room s)
 
 add-result : tie.Need-add-result Inv-loop μ-loop
-add-result c = omega (arith, written-end (c .before .loop .inv) (c .loop-test .left) .ends, room (c .before .before .before .before .before .before .before .before), c .before .before .before .before .before .before .before .before .good)
+add-result c = let s = c .before .before .before .before .before .before .before .before in
+    let l = c .before .loop in
+    omega (arith, written-end (l .inv) (c .loop-test .left) .ends, room s, s .good)
 
 same-length : tie.Need-same-length Inv-loop μ-loop
 same-length c = simp length-set (c .before .loop .inv .long)
 
 returns : tie.Need-returns Inv-loop μ-loop
-returns c = let s = c .before .before .before .before .before .before .before .before in rw (write-split (listing s)) (wrote (s .args .out .now) (room s) (written-end (c .before .loop .inv) (c .loop-test .left)))
+returns c = let s = c .before .before .before .before .before .before .before .before in
+    let l = c .before .loop in
+    rw (write-split (listing s)) (wrote (s .args .out .now) (room s) (written-end (l .inv) (c .loop-test .left)))
 
 pub write-spec : {M : Type 1} → statement M
 write-spec =

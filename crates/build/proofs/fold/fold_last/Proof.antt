@@ -1,0 +1,51 @@
+-- `build::fold::fold_last` meets its contract. Assumes nothing.
+use Rattle.build.proofs.FoldedLast.{foldable-last, folded-last}
+use borrow.Author.Needs.{needs}
+use Rattle.build.proofs.fold.fold_last.Statement.{statement}
+use Rattle.build.proofs.fold.fold_last.Tie as tie
+
+mul-fold : tie.Need-mul-fold
+mul-fold c = search needs
+
+sub-fold : tie.Need-sub-fold
+sub-fold c = search needs
+
+part-fold-start : tie.Need-part-fold-start
+part-fold-start c = search needs
+
+part-fold-end : tie.Need-part-fold-end
+part-fold-end c = search needs
+
+fold-requires : tie.Need-fold-requires
+fold-requires c κs =
+    let p = c .before .before .before .before .before .pre in
+    foldable-last (p .0) (p .1)
+
+add-t10 : tie.Need-add-t10
+add-t10 c = search needs
+
+same-length : tie.Need-same-length
+same-length c = search needs
+
+same-length-2 : tie.Need-same-length-2
+same-length-2 c = search needs
+
+returns : tie.Need-returns
+returns c =
+    let p = c .before .before .before .before .before .before .before .before .before .before .before .pre in
+    let fold = c .before .before .before .before .before .fold in
+    folded-last (p .0) _ (fold .ensures) (fold .kept .1 .0) (fold .kept .1 .1 .0) (p .1)
+
+pub fold-last-spec : {M : Type 1} → statement M
+fold-last-spec =
+    tie.close
+    (tie.spec
+    mul-fold
+    sub-fold
+    part-fold-start
+    part-fold-end
+    fold-requires
+    add-t10
+    same-length
+    same-length-2
+    returns)
