@@ -1,4 +1,5 @@
--- The plan of an attempt: the cases in which `propagate_constant`, `plan_use`, `plan_single`, `plan_for` and `decide` return. Assumes nothing.
+-- The plan of an attempt: the cases in which `propagate_constant`, `plan_among`, `plan_use`, `plan_single`, `plan_for` and
+-- `decide` return. Assumes nothing.
 use Prim.Native.Nat.{ℕ, suc, _<_}
 use native.Mathlib.Omega.{arith}
 use mathlib.Core.Path.{_≡_, refl, sym, _∙_}
@@ -26,9 +27,9 @@ use Rattle.lines.specs.Words.{token-of, tokens-of}
 use Rattle.lines.specs.Lines.{indent-of, part-of, bare-listing}
 use Rattle.lines.specs.Shapes.{found, expr-words, Expression}
 use Rattle.lines.specs.Fams.{fam-text, Known}
-use Rattle.lines.proofs.shapes.Places.{found-is, found-not}
 use Rattle.lines.specs.declared.shapes.Found.{Found}
 use Rattle.lines.specs.declared.shapes.Found.the-variants.{At, Nothing as Unfound}
+use Rattle.lines.proofs.shapes.Places.{found-is, found-not}
 use Rattle.plan.specs.declared.definitions.Definition.{Definition}
 use Rattle.plan.specs.declared.definitions.Defined.{Defined}
 use Rattle.plan.specs.declared.definitions.Defined.the-variants.{As, Nothing as Undefined}

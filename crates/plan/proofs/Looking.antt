@@ -24,14 +24,14 @@ use Rattle.lines.specs.Words.{text-of, tokens-of}
 use Rattle.lines.specs.Lines.{indent-of, part-of, bare-in, bare-listing}
 use Rattle.lines.specs.Shapes.{expr-words, Assigns}
 use Rattle.lines.specs.Fams.{fam-text, Names}
-use Rattle.lines.proofs.shapes.Sides.{assigned-to, assigned-not}
-use Rattle.lines.proofs.fams.Families.{named-as, named-not}
 use Rattle.lines.specs.declared.fams.Fam.{Fam}
 use Rattle.lines.specs.declared.fams.Named.{Named}
 use Rattle.lines.specs.declared.fams.Named.the-variants.{As as NamedAs, Nothing as Unnamed}
 use Rattle.lines.specs.declared.shapes.Expr.{Expr}
 use Rattle.lines.specs.declared.shapes.Assigned.{Assigned}
 use Rattle.lines.specs.declared.shapes.Assigned.the-variants.{To, Nothing as Unassigned}
+use Rattle.lines.proofs.shapes.Sides.{assigned-to, assigned-not}
+use Rattle.lines.proofs.fams.Families.{named-as, named-not}
 use Rattle.life.specs.declared.touches.Touched.{Touched}
 use Rattle.life.specs.declared.touches.Touched.the-variants.{Nothing, Kill, Use as Uses}
 use Rattle.life.specs.Touches.{touched}

@@ -1,7 +1,7 @@
 -- `plan::definitions::definition_of` meets its contract. Assumes nothing.
+use borrow.Author.Needs.{needs}
 use Rattle.lines.proofs.fams.Families.{as-known}
 use Rattle.plan.proofs.Defining.{assigning, defining}
-use borrow.Author.Needs.{needs}
 use Rattle.plan.proofs.definitions.definition_of.Statement.{statement}
 use Rattle.plan.proofs.definitions.definition_of.Tie as tie
 

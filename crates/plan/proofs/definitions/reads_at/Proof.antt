@@ -1,7 +1,7 @@
 -- `plan::definitions::reads_at` meets its contract. Assumes nothing.
-use Rattle.plan.proofs.Defining.{reading, before-points}
-use Rattle.lines.proofs.shapes.Right.{expr-points, expr-below}
 use borrow.Author.Needs.{needs}
+use Rattle.lines.proofs.shapes.Right.{expr-points, expr-below}
+use Rattle.plan.proofs.Defining.{reading, before-points}
 use Rattle.plan.proofs.definitions.reads_at.Statement.{statement}
 use Rattle.plan.proofs.definitions.reads_at.Tie as tie
 

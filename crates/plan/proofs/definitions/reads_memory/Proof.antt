@@ -1,7 +1,7 @@
 -- `plan::definitions::reads_memory` meets its contract. Assumes nothing.
-use borrow.Author.Needs.{needs}
 use Prim.Native.Nat.{_-_}
 use mathlib.Core.Path.{_≡_}
+use borrow.Author.Needs.{needs}
 use Rattle.reference.specs.Join.{reads-memory}
 use Rattle.lines.specs.Words.{tokens-of}
 use Rattle.lines.specs.Shapes.{expr-words}

@@ -1,7 +1,7 @@
 -- `plan::plans::decide` meets its contract. Assumes nothing.
+use borrow.Author.Needs.{needs}
 use Rattle.plan.proofs.Reading.{reading}
 use Rattle.plan.proofs.Deciding.{defines-known, defines-sound, deciding}
-use borrow.Author.Needs.{needs}
 use Rattle.plan.proofs.plans.decide.Statement.{statement}
 use Rattle.plan.proofs.plans.decide.Tie as tie
 

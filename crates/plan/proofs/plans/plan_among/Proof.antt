@@ -1,6 +1,6 @@
 -- `plan::plans::plan_among` meets its contract. Assumes nothing.
-use Rattle.plan.proofs.Deciding.{sounding, found-inside, placing}
 use borrow.Author.Needs.{needs}
+use Rattle.plan.proofs.Deciding.{sounding, found-inside, placing}
 use Rattle.plan.proofs.plans.plan_among.Statement.{statement}
 use Rattle.plan.proofs.plans.plan_among.Tie as tie
 

@@ -1,7 +1,7 @@
 -- `plan::plans::plan_for` meets its contract. Assumes nothing.
+use borrow.Author.Needs.{needs}
 use Rattle.plan.proofs.Reading.{reading}
 use Rattle.plan.proofs.Deciding.{sounding, choosing}
-use borrow.Author.Needs.{needs}
 use Rattle.plan.proofs.plans.plan_for.Statement.{statement}
 use Rattle.plan.proofs.plans.plan_for.Tie as tie
 

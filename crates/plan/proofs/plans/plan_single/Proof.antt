@@ -1,6 +1,6 @@
 -- `plan::plans::plan_single` meets its contract. Assumes nothing.
-use Rattle.plan.proofs.Deciding.{use-inside, single-none, single-at}
 use borrow.Author.Needs.{needs}
+use Rattle.plan.proofs.Deciding.{use-inside, single-none, single-at}
 use Rattle.plan.proofs.plans.plan_single.Statement.{statement}
 use Rattle.plan.proofs.plans.plan_single.Tie as tie
 

@@ -1,7 +1,7 @@
 -- `plan::plans::plan_use` meets its contract. Assumes nothing.
+use borrow.Author.Needs.{needs}
 use Rattle.plan.proofs.Reading.{reading}
 use Rattle.plan.proofs.Deciding.{sounding, finding}
-use borrow.Author.Needs.{needs}
 use Rattle.plan.proofs.plans.plan_use.Statement.{statement}
 use Rattle.plan.proofs.plans.plan_use.Tie as tie
 

@@ -1,6 +1,6 @@
 -- `plan::plans::propagate_constant` meets its contract. Assumes nothing.
-use Rattle.plan.proofs.Deciding.{sounding, reach-inside, propagating}
 use borrow.Author.Needs.{needs}
+use Rattle.plan.proofs.Deciding.{sounding, reach-inside, propagating}
 use Rattle.plan.proofs.plans.propagate_constant.Statement.{statement}
 use Rattle.plan.proofs.plans.propagate_constant.Tie as tie
 

@@ -1,6 +1,6 @@
 -- `plan::plans::wants_brackets` meets its contract. Assumes nothing.
-use Rattle.plan.proofs.Fitting.{brackets-not, brackets-by}
 use borrow.Author.Needs.{needs}
+use Rattle.plan.proofs.Fitting.{brackets-not, brackets-by}
 use Rattle.plan.proofs.plans.wants_brackets.Statement.{statement}
 use Rattle.plan.proofs.plans.wants_brackets.Tie as tie
 

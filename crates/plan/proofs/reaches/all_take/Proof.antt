@@ -1,11 +1,11 @@
 -- `plan::reaches::all_take` meets its contract. Assumes nothing.
-use borrow.Author.Needs.{needs}
-use Rattle.plan.proofs.Reading.{reading}
 use Prim.Native.Nat.{suc, _+_, _-_}
 use mathlib.Core.Path.{_≡_}
+use borrow.Author.Needs.{needs}
 use Rattle.reference.specs.Rules.{volatile}
 use Rattle.lines.specs.Rules.{rules-of}
 use Rattle.lines.specs.Fams.{fam-text}
+use Rattle.plan.proofs.Reading.{reading}
 use Rattle.plan.proofs.Reaching.{taken-from, taking}
 use Rattle.plan.proofs.reaches.all_take.Statement.{statement}
 use Rattle.plan.proofs.reaches.all_take.Tie as tie

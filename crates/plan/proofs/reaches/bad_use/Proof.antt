@@ -1,7 +1,7 @@
 -- `plan::reaches::bad_use` meets its contract. Assumes nothing.
+use borrow.Author.Needs.{needs}
 use Rattle.reference.specs.Join.{bad-use}
 use Rattle.laws.proofs.Scans.{tests}
-use borrow.Author.Needs.{needs}
 use Rattle.plan.proofs.reaches.bad_use.Statement.{statement}
 use Rattle.plan.proofs.reaches.bad_use.Tie as tie
 

@@ -1,7 +1,7 @@
 -- `plan::reaches::ends_at` meets its contract. Assumes nothing.
+use borrow.Author.Needs.{needs}
 use Rattle.plan.proofs.Reading.{reading}
 use Rattle.plan.proofs.Reaching.{ends-dead, ends-kill}
-use borrow.Author.Needs.{needs}
 use Rattle.plan.proofs.reaches.ends_at.Statement.{statement}
 use Rattle.plan.proofs.reaches.ends_at.Tie as tie
 

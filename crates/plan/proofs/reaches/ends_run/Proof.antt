@@ -1,7 +1,7 @@
 -- `plan::reaches::ends_run` meets its contract. Assumes nothing.
+use borrow.Author.Needs.{needs}
 use Rattle.plan.proofs.Reading.{reading}
 use Rattle.plan.proofs.Reaching.{running}
-use borrow.Author.Needs.{needs}
 use Rattle.plan.proofs.reaches.ends_run.Statement.{statement}
 use Rattle.plan.proofs.reaches.ends_run.Tie as tie
 

@@ -1,7 +1,7 @@
 -- `plan::reaches::reach_at` meets its contract. Assumes nothing.
+use borrow.Author.Needs.{needs}
 use Rattle.plan.proofs.Reading.{reading}
 use Rattle.plan.proofs.Reaching.{reaching}
-use borrow.Author.Needs.{needs}
 use Rattle.plan.proofs.reaches.reach_at.Statement.{statement}
 use Rattle.plan.proofs.reaches.reach_at.Tie as tie
 

@@ -1,11 +1,11 @@
 -- `plan::reaches::reach_of` meets its contract. Assumes nothing.
-use borrow.Author.Needs.{needs}
-use Rattle.plan.proofs.Reading.{reading}
 use Prim.Native.Nat.{_-_}
 use lib.ListN.{length}
+use borrow.Author.Needs.{needs}
 use Rattle.reference.specs.Rules.{volatile}
 use Rattle.lines.specs.Rules.{rules-of}
 use Rattle.lines.specs.Fams.{fam-text}
+use Rattle.plan.proofs.Reading.{reading}
 use Rattle.plan.proofs.Reaching.{Reached, reached-begin, reached-ended, reached-end, reached-next}
 use Rattle.plan.proofs.reaches.reach_of.Statement.{statement}
 use Rattle.plan.proofs.reaches.reach_of.Tie as tie

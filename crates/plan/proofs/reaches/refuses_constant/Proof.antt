@@ -1,7 +1,7 @@
 -- `plan::reaches::refuses_constant` meets its contract. Assumes nothing.
+use borrow.Author.Needs.{needs}
 use Rattle.plan.proofs.Reading.{reading}
 use Rattle.plan.proofs.Reaching.{refuses-not, refuses-by}
-use borrow.Author.Needs.{needs}
 use Rattle.plan.proofs.reaches.refuses_constant.Statement.{statement}
 use Rattle.plan.proofs.reaches.refuses_constant.Tie as tie
 

@@ -1,8 +1,8 @@
 -- `plan::reaches::updates_first` meets its contract. Assumes nothing.
-use Rattle.plan.proofs.Reading.{holds-first}
-use Rattle.lines.proofs.words.Tokens.{holds-at}
-use Rattle.plan.proofs.Reaching.{updating}
 use borrow.Author.Needs.{needs}
+use Rattle.lines.proofs.words.Tokens.{holds-at}
+use Rattle.plan.proofs.Reading.{holds-first}
+use Rattle.plan.proofs.Reaching.{updating}
 use Rattle.plan.proofs.reaches.updates_first.Statement.{statement}
 use Rattle.plan.proofs.reaches.updates_first.Tie as tie
 

@@ -1,7 +1,7 @@
 -- `plan::slots::is_addressed` meets its contract. Assumes nothing.
+use borrow.Author.Needs.{needs}
 use Rattle.lines.proofs.fams.Families.{text-points}
 use Rattle.plan.proofs.Addressing.{addressing}
-use borrow.Author.Needs.{needs}
 use Rattle.plan.proofs.slots.is_addressed.Statement.{statement}
 use Rattle.plan.proofs.slots.is_addressed.Tie as tie
 

@@ -1,8 +1,8 @@
 -- `plan::slots::slot_among` meets its contract. Assumes nothing.
-use borrow.Author.Needs.{needs}
 use Prim.Native.Nat.{_-_}
 use mathlib.Core.Path.{_≡_}
 use lib.ListN.{length, drop}
+use borrow.Author.Needs.{needs}
 use Rattle.reference.specs.Text.{has}
 use Rattle.lines.proofs.words.Tokens.{holds-at}
 use Rattle.plan.specs.Slots.{slot-names}

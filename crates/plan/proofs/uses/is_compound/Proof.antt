@@ -1,7 +1,7 @@
 -- `plan::uses::is_compound` meets its contract. Assumes nothing.
+use borrow.Author.Needs.{needs}
 use Rattle.lines.proofs.words.Tokens.{holds-at}
 use Rattle.plan.proofs.Fitting.{compounding}
-use borrow.Author.Needs.{needs}
 use Rattle.plan.proofs.uses.is_compound.Statement.{statement}
 use Rattle.plan.proofs.uses.is_compound.Tie as tie
 

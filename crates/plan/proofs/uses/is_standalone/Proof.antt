@@ -1,8 +1,8 @@
 -- `plan::uses::is_standalone` meets its contract. Assumes nothing.
-use Rattle.plan.proofs.Reading.{holds-before}
-use Rattle.lines.proofs.words.Tokens.{holds-at}
-use Rattle.plan.proofs.Fitting.{standing}
 use borrow.Author.Needs.{needs}
+use Rattle.lines.proofs.words.Tokens.{holds-at}
+use Rattle.plan.proofs.Reading.{holds-before}
+use Rattle.plan.proofs.Fitting.{standing}
 use Rattle.plan.proofs.uses.is_standalone.Statement.{statement}
 use Rattle.plan.proofs.uses.is_standalone.Tie as tie
 

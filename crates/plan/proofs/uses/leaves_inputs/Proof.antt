@@ -1,8 +1,8 @@
 -- `plan::uses::leaves_inputs` meets its contract. Assumes nothing.
+use borrow.Author.Needs.{needs}
 use Rattle.lines.proofs.fams.Families.{as-known}
 use Rattle.plan.proofs.Defining.{assigning}
 use Rattle.plan.proofs.Looking.{leaving}
-use borrow.Author.Needs.{needs}
 use Rattle.plan.proofs.uses.leaves_inputs.Statement.{statement}
 use Rattle.plan.proofs.uses.leaves_inputs.Tie as tie
 

@@ -1,8 +1,8 @@
 -- `plan::uses::look_at` meets its contract. Assumes nothing.
+use borrow.Author.Needs.{needs}
 use Rattle.plan.proofs.Deciding.{sound-at}
 use Rattle.plan.proofs.Reading.{reading}
 use Rattle.plan.proofs.Looking.{looking}
-use borrow.Author.Needs.{needs}
 use Rattle.plan.proofs.uses.look_at.Statement.{statement}
 use Rattle.plan.proofs.uses.look_at.Tie as tie
 

@@ -1,7 +1,7 @@
 -- `plan::uses::same_run` meets its contract. Assumes nothing.
+use borrow.Author.Needs.{needs}
 use Rattle.plan.proofs.Reading.{reading}
 use Rattle.plan.proofs.Looking.{sharing}
-use borrow.Author.Needs.{needs}
 use Rattle.plan.proofs.uses.same_run.Statement.{statement}
 use Rattle.plan.proofs.uses.same_run.Tie as tie
 

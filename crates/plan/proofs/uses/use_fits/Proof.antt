@@ -1,6 +1,6 @@
 -- `plan::uses::use_fits` meets its contract. Assumes nothing.
-use Rattle.plan.proofs.Fitting.{fitting}
 use borrow.Author.Needs.{needs}
+use Rattle.plan.proofs.Fitting.{fitting}
 use Rattle.plan.proofs.uses.use_fits.Statement.{statement}
 use Rattle.plan.proofs.uses.use_fits.Tie as tie
 

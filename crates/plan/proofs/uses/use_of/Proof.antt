@@ -1,14 +1,14 @@
 -- `plan::uses::use_of` meets its contract. Assumes nothing.
-use borrow.Author.Needs.{needs}
-use Rattle.plan.proofs.Reading.{reading}
 use Prim.Native.Nat.{_-_}
 use mathlib.Core.Path.{_≡_}
 use lib.ListN.{length, getD}
+use borrow.Author.Needs.{needs}
 use Rattle.reference.specs.Rules.{volatile}
 use Rattle.joining.specs.Plan.{use-of}
 use Rattle.lines.specs.Rules.{rules-of}
 use Rattle.lines.specs.Lines.{part-of, bare-listing}
 use Rattle.plan.specs.Definitions.{definition-in}
+use Rattle.plan.proofs.Reading.{reading}
 use Rattle.plan.proofs.Looking.{used-from, seeking}
 use Rattle.plan.proofs.uses.use_of.Statement.{statement}
 use Rattle.plan.proofs.uses.use_of.Tie as tie

@@ -1,7 +1,7 @@
 -- `plan::uses::use_width` meets its contract. Assumes nothing.
+use borrow.Author.Needs.{needs}
 use Rattle.lines.proofs.words.Tokens.{holds-at}
 use Rattle.plan.proofs.Fitting.{width-named, width-unnamed}
-use borrow.Author.Needs.{needs}
 use Rattle.plan.proofs.uses.use_width.Statement.{statement}
 use Rattle.plan.proofs.uses.use_width.Tie as tie
 
