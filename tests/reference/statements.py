@@ -10,7 +10,7 @@ HERE = Path(__file__).resolve().parent
 CRATE = HERE.parent.parent / "crates" / "reference"
 SPEC = "Rattle.reference.specs."
 
-# The modules that a statement speaks of, and the one that opens every definition.
+# The modules that a statement speaks of, and the one that opens every definition: it is of the crate's proofs, and here stands behind the definitions.
 ROOTS = ["Run", "Rules", "Listing", "Text", "Opened"]
 
 HEAD = """use Prim.Native.Nat.{ℕ}
@@ -96,7 +96,7 @@ def definitions(edit=None):
     while todo:
         module = todo.pop()
         if module not in found:
-            found[module] = (CRATE / "specs" / f"{module}.antt").read_text(encoding="utf-8")
+            found[module] = (CRATE / ("proofs" if module == "Opened" else "specs") / f"{module}.antt").read_text(encoding="utf-8")
             todo += re.findall(rf"^use {re.escape(SPEC)}(\w+)", found[module], re.M)
     if edit:
         module, old, new = edit
@@ -104,7 +104,7 @@ def definitions(edit=None):
             raise RuntimeError(f"the text to edit is {found[module].count(old)} times in {module}.antt, not once: {old}")
         found[module] = found[module].replace(old, new)
     order = re.findall(r"^pub mod (\w+)", (CRATE / "specs" / "Lib.antt").read_text(encoding="utf-8"), re.M)
-    return {m: found[m] for m in order if m in found}
+    return {m: found[m] for m in [*order, "Opened"] if m in found}
 
 
 def write_repository(root, cases, edit=None):

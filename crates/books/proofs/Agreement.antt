@@ -11,7 +11,7 @@ use Rattle.reference.specs.Control.{if_then_else_}
 use Rattle.reference.specs.Text.{Text}
 use Rattle.reference.specs.Names.{Fam, family}
 use Rattle.reference.specs.Numbers.{parse-c-number}
-use Rattle.reference.specs.Opened.{opened}
+use Rattle.reference.proofs.Opened.{opened}
 use Rattle.books.specs.Registers.{Register, registers, register, family-of}
 use Rattle.books.specs.Constants.{Octal}
 use Rattle.books.specs.Agreement.{Agreement}

@@ -13,7 +13,7 @@ use Rattle.reference.specs.Control.{_&&_, _||_, if_then_else_, let-some_else_th
 use Rattle.reference.specs.Lists.{any, is-empty}
 use Rattle.reference.specs.Text.{Text, bytes, starts-with, contains}
 use Rattle.reference.specs.Numbers.{to-digit, digits-value, as-i64, parse-c-number}
-use Rattle.reference.specs.Opened.{opened}
+use Rattle.reference.proofs.Opened.{opened}
 use Rattle.laws.proofs.Scans.{or-true, or-false, any-append}
 use Rattle.books.specs.Tables.{_∈_}
 use Rattle.books.specs.Constants.{digits, nonzero-digits, octal-digits, hexadecimal-digits, hexadecimal-prefixes, integer-suffix, Decimal, nonzero-digit, then-digit, Octal, zero-digit, then-octal, Hexadecimal, prefix-then, then-hexadecimal, Unsuffixed, decimal, octal, hexadecimal, Constant, unsuffixed, suffixed}

@@ -9,7 +9,7 @@ use lib.Seq.{getD-drop}
 use Rattle.reference.specs.Lists.{position, get, is-empty}
 use Rattle.reference.specs.Text.{Text, bytes, has, _==_, starts-with, strip-prefix}
 use Rattle.reference.specs.Names.{Fam, LEGACY, legacy, high-byte, numbered, stack-slot, digits-of, is-digit, family}
-use Rattle.reference.specs.Opened.{opened}
+use Rattle.reference.proofs.Opened.{opened}
 use Rattle.reference.proofs.Cases.{by-if, by-some, either, none-some}
 use Rattle.reference.proofs.Shapes.{same-text}
 use Rattle.books.specs.Tables.{_∈_}

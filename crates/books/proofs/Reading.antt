@@ -14,7 +14,7 @@ use Rattle.reference.specs.Control.{not, _&&_, _||_, if_then_else_, let-some_el
 use Rattle.reference.specs.Lists.{any, is-some, is-empty}
 use Rattle.reference.specs.Text.{Text, bytes, starts-with, contains, strip-prefix}
 use Rattle.reference.specs.Numbers.{to-digit, digits-value, unsigned, read-u64, read-i64, as-i64, parse-c-number}
-use Rattle.reference.specs.Opened.{opened}
+use Rattle.reference.proofs.Opened.{opened}
 use Rattle.reference.proofs.Cases.{by-if, both, neither}
 use Rattle.laws.proofs.Scans.{or-false}
 use Rattle.books.specs.Tables.{words, _∈_}

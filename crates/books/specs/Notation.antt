@@ -15,7 +15,7 @@ use Rattle.reference.specs.Listing.{Token, token, Register, Number, Keyword, Sy
 use Rattle.reference.specs.Names.{family, is-digit}
 use Rattle.reference.specs.Rules.{Rules}
 use Rattle.reference.specs.Run.{finished}
-use Rattle.reference.specs.Opened.{opened}
+use Rattle.reference.proofs.Opened.{opened}
 use Rattle.books.specs.Tables.{words}
 
 -- whether a text begins with a byte of a word: a letter, a digit, `_` (95), or a minus (45) before a digit

@@ -1,5 +1,8 @@
--- The proof of demand 3, from the ground up; its last file states it. Code crates cite Cases (the control words), Shapes (what a success knows), Fits (how
--- large a listing grows) and Rounds (the rounds and cuts without fuel).
+-- The examples of document 01, by computation; then the proof of demand 3, from the ground up: its last file states it. Code crates cite Cases
+-- (the control words), Shapes (what a success knows), Fits (how large a listing grows) and Rounds (the rounds and cuts without fuel).
+pub mod Opened
+pub mod Examples
+pub mod TapeExamples
 pub mod Cases
 pub mod Shapes
 pub mod Weights

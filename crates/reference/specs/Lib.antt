@@ -12,8 +12,5 @@ pub mod Run
 pub mod Tape
 pub mod Questions
 pub mod Reply
-pub mod Opened
-pub mod Examples
-pub mod TapeExamples
 pub mod Claim
 pub mod Demand

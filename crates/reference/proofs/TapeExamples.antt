@@ -11,7 +11,7 @@ use Rattle.reference.specs.Numbers.{unsigned}
 use Rattle.reference.specs.Run.{Counts}
 use Rattle.reference.specs.Questions.{WORK, OUTPUT, Refused, Passed, read}
 use Rattle.reference.specs.Reply.{Reply, reply, output-after, work-after, report}
-use Rattle.reference.specs.Opened.{opened}
+use Rattle.reference.proofs.Opened.{opened}
 
 -- bytes as the document writes them: `hex (bytes "02 3F")` is 2 ∷ 63 ∷ []
 abbrev hex : Text → List ℕ

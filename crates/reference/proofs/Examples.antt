@@ -11,7 +11,7 @@ use Rattle.reference.specs.Names.{Fam, family}
 use Rattle.reference.specs.Rules.{Rules}
 use Rattle.reference.specs.Numbers.{parse-c-number, fold}
 use Rattle.reference.specs.Run.{run, finished, Counts, counts}
-use Rattle.reference.specs.Opened.{opened}
+use Rattle.reference.proofs.Opened.{opened}
 
 abbrev fam : String → ℕ → Option Fam
 fam s w = some (record { name = bytes s; width = w })
