@@ -1,0 +1,101 @@
+-- `join::attempt::try_at` meets its contract. Assumes nothing.
+use mathlib.Core.Path.{_≡_, sym}
+use lib.Seq.{length-take-le}
+use Rattle.lines.specs.Rules.{rules-of}
+use Rattle.plan.specs.declared.plans.Plan.the-variants.{Do, Nothing}
+use Rattle.join.proofs.Trying.{inside, nothing-done, plannable, joined-done}
+use borrow.Author.Needs.{needs}
+use Rattle.join.proofs.attempt.try_at.Statement.{statement}
+use Rattle.join.proofs.attempt.try_at.Tie as tie
+
+slice-reshare-prefix-decide : tie.Need-slice-reshare-prefix-decide
+slice-reshare-prefix-decide c = search needs
+
+slice-aggregate-decide : tie.Need-slice-aggregate-decide
+slice-aggregate-decide c = sym (length-take-le _ _ (c .before .before .before .before .before .before .before .before .before .before .pre .current .text-fits))
+
+slice-reshare-prefix-decide-2 : tie.Need-slice-reshare-prefix-decide-2
+slice-reshare-prefix-decide-2 c = search needs
+
+slice-aggregate-decide-2 : tie.Need-slice-aggregate-decide-2
+slice-aggregate-decide-2 c = sym (length-take-le _ _ (c .before .before .before .before .before .before .before .before .before .before .before .pre .current .words-fit))
+
+slice-reshare-prefix-decide-3 : tie.Need-slice-reshare-prefix-decide-3
+slice-reshare-prefix-decide-3 c = search needs
+
+slice-aggregate-decide-3 : tie.Need-slice-aggregate-decide-3
+slice-aggregate-decide-3 c = sym (length-take-le _ _ (c .before .before .before .before .before .before .before .before .before .before .before .before .pre .current .lines-fit))
+
+decide-requires : tie.Need-decide-requires
+decide-requires c κs =
+    let p = c .before .before .before .before .before .before .before .before .before .before .before .before .pre in
+    (p .current .listed, p .labelled, p .slotted, inside (rules-of (c .before .before .before .before .before .before .before .before .before .before .before .before .args .rules)) p)
+
+enum-known-j : tie.Need-enum-known-j
+enum-known-j c = search needs
+
+enum-told : tie.Need-enum-told
+enum-told c = search needs
+
+same-length : tie.Need-same-length
+same-length c = search needs
+
+same-length-2 : tie.Need-same-length-2
+same-length-2 c = search needs
+
+same-length-3 : tie.Need-same-length-3
+same-length-3 c = search needs
+
+returns : tie.Need-returns
+returns c =
+    let e : c .before .before .decide .result ≡ Nothing = search needs in
+    nothing-done (rules-of (c .before .before .before .before .before .before .before .before .before .before .before .before .before .before .before .args .rules)) (c .before .before .before .before .before .before .before .before .before .before .before .before .before .before .before .pre) (c .before .before .decide .ensures) e
+
+apply-requires : tie.Need-apply-requires
+apply-requires c κs =
+    let p = c .before .before .before .before .before .before .before .before .before .before .before .before .before .before .before .before .before .before .before .before .before .pre in
+    (plannable (rules-of (c .before .before .before .before .before .before .before .before .before .before .before .before .before .before .before .before .before .before .before .before .before .args .rules)) p (c .before .before .before .before .before .before .before .before .decide .ensures) (search needs), p .current, p .lent)
+
+same-length-4 : tie.Need-same-length-4
+same-length-4 c = search needs
+
+same-length-5 : tie.Need-same-length-5
+same-length-5 c = search needs
+
+same-length-6 : tie.Need-same-length-6
+same-length-6 c = search needs
+
+same-length-7 : tie.Need-same-length-7
+same-length-7 c = search needs
+
+same-length-8 : tie.Need-same-length-8
+same-length-8 c = search needs
+
+returns-2 : tie.Need-returns-2
+returns-2 c =
+    joined-done (rules-of (c .before .before .before .before .before .before .before .before .before .before .before .before .before .before .before .before .before .before .before .before .before .before .before .before .before .before .before .before .before .before .before .before .args .rules)) (c .before .before .before .before .before .before .before .before .before .before .before .before .before .before .before .before .before .before .before .before .before .before .before .before .before .before .before .before .before .before .before .before .pre) (c .before .before .before .before .before .before .before .before .before .before .before .before .before .before .before .before .before .before .before .decide .ensures) (search needs) (c .before .before .before .before .before .before .before .before .before .before .apply .ensures)
+
+pub try-at-spec : {M : Type 1} → statement M
+try-at-spec =
+    tie.close
+    (tie.spec
+    slice-reshare-prefix-decide
+    slice-aggregate-decide
+    slice-reshare-prefix-decide-2
+    slice-aggregate-decide-2
+    slice-reshare-prefix-decide-3
+    slice-aggregate-decide-3
+    decide-requires
+    enum-known-j
+    enum-told
+    same-length
+    same-length-2
+    same-length-3
+    returns
+    apply-requires
+    same-length-4
+    same-length-5
+    same-length-6
+    same-length-7
+    same-length-8
+    returns-2)
