@@ -1,0 +1,98 @@
+-- What each answer of `clean` says of the whole call. Assumes nothing.
+use Prim.Native.Nat.{ℕ}
+use native.Mathlib.Omega.{arith}
+use mathlib.Core.Path.{_≡_, refl, sym, ap, _∙_}
+use mathlib.Core.Bool.{Bool}
+use mathlib.Core.List.{List, [], _∷_}
+use lib.ListN.{length}
+use borrow.Author.Tests.{leb-true}
+use Rattle.reference.specs.Rules.{Rules}
+use Rattle.reference.specs.Questions.{is-convention, has-room, Answer, Refused, Passed, let-passed_then_, read}
+use Rattle.reference.specs.Reply.{Reply, Report, reply, output-after, work-after, report}
+use Rattle.reference.proofs.Cases.{both}
+use Rattle.reference.proofs.Reading.{Yes, ask-yes, let-refused, let-is}
+use Rattle.reference.proofs.Guarantee.{demand3-tape}
+use Rattle.tape.specs.Questions.{first-no}
+use Rattle.tape.specs.Tables.{Accepted}
+use Rattle.tape.proofs.questions.Asking.{none-no, ask-number}
+use Rattle.clean.specs.Replies.{finished-report, report-of, Summary, answer-of, summary, Leaves, Cleans, cleaned}
+use Rattle.clean.specs.Cleaning.{Cleanable}
+use Rattle.clean.specs.declared.cleaning.Finished.{Finished}
+use Rattle.clean.specs.declared.entry.Reply as C
+use Rattle.clean.specs.declared.entry.Reply.the-variants as Said
+
+-- the summary that a report of a finished call gives
+abbrev summarized : Report → Answer Summary
+summarized r =
+    Passed
+    (record {
+      length = r .length;
+      counts =
+          record {
+            attempts₁ = r .attempts₁;
+            attempts₂ = r .attempts₂;
+            attempts₃ = r .attempts₃;
+            lines-removed = r .removed;
+            results-cut = r .cut;
+          };
+    })
+
+-- the questions 1 and 2, of the settings and of the lengths of what is lent
+abbrev door : Rules → ℕ → ℕ → ℕ → List (ℕ × Bool)
+door rules work-a work-b output = (1, is-convention rules) ∷ (2, has-room work-a work-b output) ∷ []
+
+module _ (rules : Rules) (tape work-a work-b out : List ℕ) where
+  abbrev answer : Reply
+  answer = reply rules tape (length work-a) (length work-b) (length out)
+
+  -- what `clean` promises of its answer
+  abbrev Promise : List ℕ → List ℕ → List ℕ → C.Reply → Type 0
+  Promise work-a′ work-b′ out′ r = Cleans rules tape work-a work-b out work-a′ work-b′ out′ (report-of r) × (answer-of r ≡ summary answer)
+
+  refused : {n p : ℕ} → answer ≡ Refused n p → Promise work-a work-b out (Said.Refused n p)
+  unfolding report output-after work-after
+  refused e = (
+    record {
+      leaves = rw e (record { report-is = refl; output-is = refl; work-a-is = refl; work-b-is = refl });
+      demand3 = demand3-tape rules tape;
+    },
+    rw e refl,
+  )
+
+  module _ {n : ℕ} (e : n ≡ first-no (door rules (length work-a) (length work-b) (length out))) where
+    -- question 1 or 2 refuses the call
+    pub refused-at-door : (n ≡ 0 → ⊥) → Promise work-a work-b out (Said.Refused n 0)
+    unfolding reply
+    refused-at-door z = refused (ask-number 0 (door rules (length work-a) (length work-b) (length out)) _ z (sym e))
+
+    module _ (z : n ≡ 0) where
+      open-door : Yes (door rules (length work-a) (length work-b) (length out))
+      open-door = none-no _ (omega arith, (omega arith, tt)) (sym e ∙ z)
+
+      answer-is : answer ≡ (let-passed (read tape) then λ lines. cleaned rules lines)
+      unfolding reply
+      answer-is = ask-yes 0 (door rules (length work-a) (length work-b) (length out)) _ open-door
+
+      -- a later question refuses the tape
+      pub refused-on-tape : {number place : ℕ} → read tape ≡ Refused number place → Promise work-a work-b out (Said.Refused number place)
+      refused-on-tape r = refused (answer-is ∙ let-refused _ r)
+
+      -- none does
+      pub cleanable : Accepted tape → Cleanable tape work-a work-b out
+      unfolding has-room
+      cleanable a =
+          let room = both (open-door .1 .0) in
+          record {
+            accepted = a;
+            room-a = leb-true _ _ (room .0);
+            room-b = leb-true _ _ (both (room .1) .0);
+            room = leb-true _ _ (both (room .1) .1);
+          }
+
+      pub finished-call : (a : Accepted tape) {work-a′ work-b′ out′ : List ℕ} {f : Finished}
+          → Leaves (cleaned rules (a .listing)) work-a work-b out work-a′ work-b′ out′ (finished-report f)
+          → Promise work-a′ work-b′ out′ (Said.Finished f)
+      unfolding report
+      finished-call a l =
+          let e = answer-is ∙ let-is _ (a .reads) in
+          (record { leaves = rw e l; demand3 = demand3-tape rules tape }, rw e (ap summarized (l .report-is)))

@@ -1,0 +1,53 @@
+-- `clean::export::puchkewa_clean` meets its contract: what `clean` says of its answer. Assumes nothing.
+use borrow.Author.Needs.{needs}
+use Rattle.clean.proofs.export.puchkewa_clean.Statement.{statement}
+use Rattle.clean.proofs.export.puchkewa_clean.Tie as tie
+
+clean-requires : tie.Need-clean-requires
+clean-requires c κs = search needs
+
+enum-known-number : tie.Need-enum-known-number
+enum-known-number c = search needs
+
+enum-known-f : tie.Need-enum-known-f
+enum-known-f c = search needs
+
+same-length : tie.Need-same-length
+same-length c = search needs
+
+same-length-2 : tie.Need-same-length-2
+same-length-2 c = search needs
+
+same-length-3 : tie.Need-same-length-3
+same-length-3 c = search needs
+
+returns : tie.Need-returns
+returns c = rw (c .before .number .given .1) at (c .before .before .before .before .before .before .before .before .before .clean .ensures .0)
+
+same-length-4 : tie.Need-same-length-4
+same-length-4 c = search needs
+
+same-length-5 : tie.Need-same-length-5
+same-length-5 c = search needs
+
+same-length-6 : tie.Need-same-length-6
+same-length-6 c = search needs
+
+returns-2 : tie.Need-returns-2
+returns-2 c = rw (c .before .f .given .1) at (c .before .before .before .before .before .before .before .before .before .clean .ensures .0)
+
+pub puchkewa-clean-spec : {M : Type 1} → statement M
+puchkewa-clean-spec =
+    tie.close
+    (tie.spec
+    clean-requires
+    enum-known-number
+    enum-known-f
+    same-length
+    same-length-2
+    same-length-3
+    returns
+    same-length-4
+    same-length-5
+    same-length-6
+    returns-2)

@@ -1,0 +1,44 @@
+-- What the parts of a cleaning find and leave, once the tape has passed all questions. Assumes nothing.
+use Prim.Native.Nat.{ℕ, _≤_}
+use mathlib.Core.Path.{_≡_}
+use mathlib.Core.List.{List}
+use lib.ListN.{length}
+use Rattle.reference.specs.Text.{Text}
+use Rattle.reference.specs.Questions.{WORK, OUTPUT}
+use Rattle.reference.specs.Reply as R
+use Rattle.joining.specs.Limits.{Limits}
+use Rattle.build.specs.declared.used.Size.{Size}
+use Rattle.join.specs.Current.{bare-now, Current}
+use Rattle.tape.specs.Tables.{Accepted}
+
+-- how many bytes of a work area are used
+abbrev pub TEXT : ℕ
+TEXT = 49152
+
+-- a listing within the limits stands in the first set, and what is lent has room for its rounds
+pub record Loadable (tape area : Text) (tokens lines : List ℕ) (area2 : Text) (at : Size) : Type 0 where
+  pub current : Current tape area tokens lines at
+  pub limits : Limits (bare-now tape area tokens lines at)
+  pub first-text : TEXT ≤ length area
+  pub first-words : 1024 ≤ length tokens
+  pub words-short : length tokens ≤ 65536
+  pub second-text : TEXT ≤ length area2
+
+-- an accepted tape, and room to work and for the output
+pub record Writable (tape area area2 out : List ℕ) : Type 0 where
+  pub accepted : Accepted tape
+  pub first-text : TEXT ≤ length area
+  pub second-text : TEXT ≤ length area2
+  pub room : OUTPUT ≤ length out
+
+-- the report and the output are those of a reply of the definition
+pub record Written (reply : R.Reply) (out out′ : List ℕ) (report : R.Report) : Type 0 where
+  pub report-is : report ≡ R.report reply
+  pub output-is : out′ ≡ R.output-after reply out
+
+-- what the questions have shown
+pub record Cleanable (tape work-a work-b out : List ℕ) : Type 0 where
+  pub accepted : Accepted tape
+  pub room-a : WORK ≤ length work-a
+  pub room-b : WORK ≤ length work-b
+  pub room : OUTPUT ≤ length out

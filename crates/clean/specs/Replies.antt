@@ -1,0 +1,96 @@
+-- What the code's replies mean, and what a call promises. Assumes nothing.
+use Prim.Native.Nat.{ℕ}
+use mathlib.Core.Path.{_≡_}
+use mathlib.Core.List.{List}
+use lib.ListN.{length}
+use Rattle.reference.specs.Rules.{Rules}
+use Rattle.reference.specs.Listing.{Listing}
+use Rattle.reference.specs.Run.{run, finished, Counts, counts}
+use Rattle.reference.specs.Tape.{write}
+use Rattle.reference.specs.Questions as Q
+use Rattle.reference.specs.Questions.{Answer, Passed, read}
+use Rattle.reference.specs.Demand.{Demand3}
+use Rattle.reference.specs.Reply as R
+use Rattle.clean.specs.declared.cleaning.Finished.{Finished}
+use Rattle.clean.specs.declared.entry.Reply.{Reply}
+use Rattle.clean.specs.declared.entry.Reply.the-variants.{Refused, Finished as Done}
+use Rattle.clean.specs.declared.export.Report.{Report as Exported}
+
+-- ---- the reply in document 01's eight numbers
+
+abbrev pub finished-report : Finished → R.Report
+finished-report f =
+    record {
+      refusal = 0;
+      place = 0;
+      length = f .length;
+      attempts₁ = f .first;
+      attempts₂ = f .second;
+      attempts₃ = f .third;
+      removed = f .removed;
+      cut = f .cut;
+    }
+
+abbrev pub report-of : Reply → R.Report
+report-of (Refused number place) =
+    record { refusal = number; place = place; length = 0; attempts₁ = 0; attempts₂ = 0; attempts₃ = 0; removed = 0; cut = 0 }
+report-of (Done f) = finished-report f
+
+-- the struct that C gets
+abbrev pub exported : Exported → R.Report
+exported r =
+    record {
+      refusal = r .refusal;
+      place = r .place;
+      length = r .length;
+      attempts₁ = r .attempts_1;
+      attempts₂ = r .attempts_2;
+      attempts₃ = r .attempts_3;
+      removed = r .removed;
+      cut = r .cut;
+    }
+
+-- ---- the reply as the definition's answer: which of the two it is, and its numbers
+
+pub record Summary : Type 0 where
+  pub length : ℕ
+  pub counts : Counts
+
+abbrev pub answer-of : Reply → Answer Summary
+answer-of (Refused number place) = Q.Refused number place
+answer-of (Done f) =
+    Q.Passed
+    (record {
+      length = f .length;
+      counts =
+          record {
+            attempts₁ = f .first;
+            attempts₂ = f .second;
+            attempts₃ = f .third;
+            lines-removed = f .removed;
+            results-cut = f .cut;
+          };
+    })
+
+abbrev pub summary : R.Reply → Answer Summary
+summary (Q.Refused number place) = Q.Refused number place
+summary (Q.Passed c) = Q.Passed (record { length = length (c .tape); counts = c .counts })
+
+-- ---- a call
+
+-- the report, and every lent byte afterwards, are those of a reply of the definition
+pub record Leaves (reply : R.Reply) (work-a work-b out : List ℕ) (work-a′ work-b′ out′ : List ℕ) (report : R.Report) : Type 0 where
+  pub report-is : report ≡ R.report reply
+  pub output-is : out′ ≡ R.output-after reply out
+  pub work-a-is : work-a′ ≡ R.work-after reply work-a
+  pub work-b-is : work-b′ ≡ R.work-after reply work-b
+
+-- One call: its report and every lent byte afterwards are the definition's, on every tape and all lengths; and demand 3 holds of the run of
+-- the listing that it cleaned.
+pub record Cleans (rules : Rules) (tape work-a work-b out : List ℕ) (work-a′ work-b′ out′ : List ℕ) (report : R.Report) : Type 0 where
+  pub leaves : Leaves (R.reply rules tape (length work-a) (length work-b) (length out)) work-a work-b out work-a′ work-b′ out′ report
+  pub demand3 : (input : Listing) → read tape ≡ Passed input → Demand3 rules input
+
+-- the definition's reply to the tape of a listing
+abbrev pub cleaned : Rules → Listing → R.Reply
+cleaned rules input = Passed (record { tape = write (finished rules input); counts = counts (run rules input) })

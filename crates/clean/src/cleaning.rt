@@ -1,0 +1,114 @@
+// The cleaning of a tape that passed all questions.
+use build::used::Size;
+use lines::rules::Rules;
+use rounds::Outcome;
+use rounds::optimize;
+use text::wipe;
+ghost use mathlib.Core.Path.{_≡_};
+ghost use Rattle.reference.specs.Listing.{Listing};
+ghost use Rattle.reference.specs.Questions.{Passed, read};
+ghost use Rattle.lines.specs.Rules.{rules-of};
+ghost use Rattle.rounds.specs.Runs.{Ran};
+ghost use Rattle.clean.specs.Replies.{finished-report, cleaned, Leaves};
+ghost use Rattle.clean.specs.Cleaning.{Loadable, Writable, Written, Cleanable};
+
+// How many bytes of each work area are used, and how many are zero afterwards.
+const TEXT: usize = 49152;
+
+const WORK: usize = 65536;
+
+// What a cleaning did: the output's length, the attempts of each round, the lines removed and the results cut.
+pub struct Finished {
+    pub length: usize,
+    pub first: u64,
+    pub second: u64,
+    pub third: u64,
+    pub removed: u64,
+    pub cut: u64,
+}
+
+// Cleans a listing that was loaded into the tables, in which the texts are all in the tape.
+fn optimized(
+    tape: &[u8],
+    area: &mut [u8],
+    tokens: &mut [u64],
+    lines: &mut [u64],
+    area2: &mut [u8],
+    size: Size,
+    rules: Rules,
+) -> Outcome
+    requires { ⌜ Loadable (now tape) (now area) (now tokens) (now lines) (now area2) size ⌝ }
+    ensures { λ r. ⌜ Ran (rules-of rules) (now (tape .entry)) (now (area .entry)) (now (tokens .entry)) (now (lines .entry)) size (now (area .exit)) (now (tokens .exit)) (now (lines .exit)) r ⌝ }
+{
+    let mut tokens2 = [0u64; 2048];
+    let mut labels = [0u64; 256];
+    let mut slots = [0u8; 49152];
+    let mut slot_words = [0u64; 1024];
+    optimize(
+        tape,
+        area,
+        tokens,
+        lines,
+        area2,
+        &mut tokens2,
+        &mut labels,
+        &mut slots,
+        &mut slot_words,
+        size,
+        rules,
+    )
+}
+
+// Cleans a tape that passed all questions into the output. The areas are only worked in.
+fn written(rules: Rules, tape: &[u8], area: &mut [u8], area2: &mut [u8], out: &mut [u8]) -> Finished
+    requires { ⌜ Writable (now tape) (now area) (now area2) (now out) ⌝ }
+    ensures { λ r. ⌜ ((input : Listing) → read (now (tape .entry)) ≡ Passed input → Written (cleaned (rules-of rules) input) (now (out .entry)) (now (out .exit)) (finished-report r)) ⌝ }
+{
+    let mut tokens = [0u64; 2048];
+    let mut lines = [0u64; 256];
+    let mut addresses = [0u64; 256];
+    let loaded = tape::load(tape, &mut tokens, &mut lines, &mut addresses);
+    let size = Size {
+        lines: loaded.lines,
+        tokens: loaded.tokens,
+        text: 0,
+    };
+    let r = optimized(tape, area, &mut tokens, &mut lines, area2, size, rules);
+    let left = r.size;
+    let n = left.lines;
+    let used = left.tokens;
+    let text = left.text;
+    let length = tape::write(
+        tape,
+        &area[..text],
+        &tokens[..used],
+        &lines[..n],
+        &addresses,
+        out,
+    );
+    Finished {
+        length,
+        first: r.first,
+        second: r.second,
+        third: r.third,
+        removed: r.removed,
+        cut: r.cut,
+    }
+}
+
+// Cleans a tape that passed all questions, and wipes both work areas.
+pub fn finish(
+    rules: Rules,
+    tape: &[u8],
+    work_a: &mut [u8],
+    work_b: &mut [u8],
+    out: &mut [u8],
+) -> Finished
+    requires { ⌜ Cleanable (now tape) (now «work_a») (now «work_b») (now out) ⌝ }
+    ensures { λ r. ⌜ ((input : Listing) → read (now (tape .entry)) ≡ Passed input → Leaves (cleaned (rules-of rules) input) (now («work_a» .entry)) (now («work_b» .entry)) (now (out .entry)) (now («work_a» .exit)) (now («work_b» .exit)) (now (out .exit)) (finished-report r)) ⌝ }
+{
+    let r = written(rules, tape, &mut work_a[..TEXT], &mut work_b[..TEXT], out);
+    wipe(work_a, WORK);
+    wipe(work_b, WORK);
+    r
+}

@@ -1,0 +1,52 @@
+// The entry for C and Rust (include/puchkewa.h): the reply as eight numbers.
+use crate::entry::Reply;
+use crate::entry::clean;
+ghost use Rattle.clean.specs.Replies.{exported, Cleans};
+
+// `refusal` is 0 when finished, else the number of the question that refused, at `place`; then all other numbers are 0.
+#[repr(C)]
+pub struct Report {
+    pub refusal: u64,
+    pub place: u64,
+    pub length: u64,
+    pub attempts_1: u64,
+    pub attempts_2: u64,
+    pub attempts_3: u64,
+    pub removed: u64,
+    pub cut: u64,
+}
+
+// Cleans the listing of a tape under a convention, as `clean` does.
+#[no_mangle]
+pub extern "C" fn puchkewa_clean(
+    convention: u8,
+    tape: &[u8],
+    work_a: &mut [u8],
+    work_b: &mut [u8],
+    out: &mut [u8],
+) -> Report
+    ensures { λ r. ⌜ Cleans (record { convention = convention }) (now (tape .entry)) (now («work_a» .entry)) (now («work_b» .entry)) (now (out .entry)) (now («work_a» .exit)) (now («work_b» .exit)) (now (out .exit)) (exported r) ⌝ }
+{
+    match clean(convention, tape, work_a, work_b, out) {
+        Reply::Refused { number, place } => Report {
+            refusal: number,
+            place: place as u64,
+            length: 0,
+            attempts_1: 0,
+            attempts_2: 0,
+            attempts_3: 0,
+            removed: 0,
+            cut: 0,
+        },
+        Reply::Finished(f) => Report {
+            refusal: 0,
+            place: 0,
+            length: f.length as u64,
+            attempts_1: f.first,
+            attempts_2: f.second,
+            attempts_3: f.third,
+            removed: f.removed,
+            cut: f.cut,
+        },
+    }
+}

@@ -1,0 +1,15 @@
+// The filter program of document 01: a convention byte and a tape in; the new tape, or the refusal, out. Of a longer tape the first 65,536 bytes
+// are the tape, since no more is read.
+mod response; // what is answered to an input
+
+use libc::STDIN_FILENO;
+use libc::STDOUT_FILENO;
+use response::respond;
+
+fn main() {
+    let mut input = [0u8; 65537];
+    let n = io::read_full(STDIN_FILENO, &mut input);
+    let mut out = [0u8; 54785];
+    let m = respond(&input[..n], &mut out);
+    io::write_all(STDOUT_FILENO, &out[..m]);
+}

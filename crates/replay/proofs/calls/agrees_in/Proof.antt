@@ -1,0 +1,96 @@
+-- `replay::calls::agrees_in` is safe. Assumes nothing.
+use native.Mathlib.Omega.{arith}
+use mathlib.Core.Path.{sym}
+use lib.Seq.{length-take-le}
+use borrow.Author.Needs.{needs}
+use Rattle.replay.proofs.calls.agrees_in.Statement.{statement}
+use Rattle.replay.proofs.calls.agrees_in.Tie as tie
+
+number-requires : tie.Need-number-requires
+number-requires c κs = search needs
+
+number-requires-2 : tie.Need-number-requires-2
+number-requires-2 c κs = search needs
+
+number-requires-3 : tie.Need-number-requires-3
+number-requires-3 c κs = search needs
+
+returns : tie.Need-returns
+returns c = search needs
+
+returns-2 : tie.Need-returns-2
+returns-2 c = search needs
+
+returns-3 : tie.Need-returns-3
+returns-3 c = search needs
+
+number-requires-4 : tie.Need-number-requires-4
+number-requires-4 c κs = search needs
+
+cast-convention : tie.Need-cast-convention
+cast-convention c = search needs
+
+tape-of-requires : tie.Need-tape-of-requires
+tape-of-requires c κs = search needs
+
+slice-relend-prefix-clean : tie.Need-slice-relend-prefix-clean
+slice-relend-prefix-clean c = search needs
+
+slice-aggregate-clean : tie.Need-slice-aggregate-clean
+slice-aggregate-clean c = sym (length-take-le _ _ (omega arith))
+
+slice-relend-prefix-clean-2 : tie.Need-slice-relend-prefix-clean-2
+slice-relend-prefix-clean-2 c = search needs
+
+slice-aggregate-clean-2 : tie.Need-slice-aggregate-clean-2
+slice-aggregate-clean-2 c = sym (length-take-le _ _ (omega arith))
+
+slice-relend-prefix-clean-3 : tie.Need-slice-relend-prefix-clean-3
+slice-relend-prefix-clean-3 c = search needs
+
+slice-aggregate-clean-3 : tie.Need-slice-aggregate-clean-3
+slice-aggregate-clean-3 c = sym (length-take-le _ _ (omega arith))
+
+clean-requires : tie.Need-clean-requires
+clean-requires c κs = search needs
+
+is-right-requires : tie.Need-is-right-requires
+is-right-requires c κs = search needs
+
+same-length : tie.Need-same-length
+same-length c = search needs
+
+same-length-2 : tie.Need-same-length-2
+same-length-2 c = search needs
+
+same-length-3 : tie.Need-same-length-3
+same-length-3 c = search needs
+
+returns-4 : tie.Need-returns-4
+returns-4 c = search needs
+
+pub agrees-in-spec : {M : Type 1} → statement M
+agrees-in-spec =
+    tie.close
+    (tie.spec
+    number-requires
+    number-requires-2
+    number-requires-3
+    returns
+    returns-2
+    returns-3
+    number-requires-4
+    cast-convention
+    tape-of-requires
+    slice-relend-prefix-clean
+    slice-aggregate-clean
+    slice-relend-prefix-clean-2
+    slice-aggregate-clean-2
+    slice-relend-prefix-clean-3
+    slice-aggregate-clean-3
+    clean-requires
+    is-right-requires
+    same-length
+    same-length-2
+    same-length-3
+    returns-4)

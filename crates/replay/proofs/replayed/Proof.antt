@@ -1,0 +1,69 @@
+-- `replay::replayed` meets its contract: each frame counted took a byte of the list or more. Assumes nothing.
+use Prim.Native.Nat.{_+_, _≤_}
+use native.Mathlib.Omega.{arith}
+use mathlib.Core.Path.{_≡_, _∙_}
+use lib.ListN.{length}
+use Rattle.replay.specs.Frames.{said-size}
+use Rattle.replay.proofs.Framing.{found, left-behind}
+use borrow.Author.Needs.{needs}
+use Rattle.replay.proofs.replayed.Statement.{statement}
+use Rattle.replay.proofs.replayed.Tie as tie
+
+abbrev Inv-loop : tie.InvT-loop
+Inv-loop list class left₀ counts₀ left counts = (counts .tapes + length left ≤ length list) × (counts .differ ≤ counts .tapes)
+
+abbrev μ-loop : tie.MeasureT-loop
+μ-loop list class left₀ counts₀ left counts = length left
+
+-- the frame is whole, and the size is its own
+frame : (c : tie.Else1 Inv-loop μ-loop)
+    → let left = c .before .before .loop .left .now in
+    (c .before .size .result ≡ said-size left) × (said-size left ≤ length left)
+frame c =
+    let f = found _ (λ e. c .if1 .left (c .before .size .ensures ∙ e)) in
+    (c .before .size .ensures ∙ f .0, f .1)
+
+loop-holds : tie.Need-loop-holds Inv-loop μ-loop
+loop-holds c = search needs
+
+size-requires : tie.Need-size-requires Inv-loop μ-loop
+size-requires c κs = search needs
+
+returns : tie.Need-returns Inv-loop μ-loop
+returns c = search needs
+
+counted-requires : tie.Need-counted-requires Inv-loop μ-loop
+counted-requires c κs = (frame c .1, (omega (arith, c .before .before .before .before .pre), c .before .before .loop .inv .1))
+
+sub-next : tie.Need-sub-next Inv-loop μ-loop
+sub-next c = let f = frame (c .before) in omega arith
+
+part-next-start : tie.Need-part-next-start Inv-loop μ-loop
+part-next-start c = let f = frame (c .before) in omega arith
+
+part-next-end : tie.Need-part-next-end Inv-loop μ-loop
+part-next-end c = search needs
+
+loop-less : tie.Need-loop-less Inv-loop μ-loop
+loop-less c = let f = frame (c .before .before) in omega (arith, left-behind (c .before .before .before .before .loop .left .now) (c .before .before .before .size .result))
+
+loop-again : tie.Need-loop-again Inv-loop μ-loop
+loop-again c =
+    let f = frame (c .before .before) in
+    (omega (arith, left-behind (c .before .before .before .before .loop .left .now) (c .before .before .before .size .result)), c .before .counted .ensures .0)
+
+pub replayed-spec : {M : Type 1} → statement M
+replayed-spec =
+    tie.close
+    (tie.spec
+    Inv-loop
+    μ-loop
+    loop-holds
+    size-requires
+    returns
+    counted-requires
+    sub-next
+    part-next-start
+    part-next-end
+    loop-less
+    loop-again)

@@ -1,0 +1,203 @@
+// One call, and whether it did what its frame wants: the report, and every byte that was lent.
+use crate::frames::CONVENTION;
+use crate::frames::CUT;
+use crate::frames::FIRST;
+use crate::frames::LENGTH;
+use crate::frames::OUT;
+use crate::frames::PLACE;
+use crate::frames::REFUSAL;
+use crate::frames::REMOVED;
+use crate::frames::SECOND;
+use crate::frames::THIRD;
+use crate::frames::WORK_A;
+use crate::frames::WORK_B;
+use crate::frames::number;
+use crate::frames::output_of;
+use crate::frames::tape_of;
+use clean::Reply;
+use libc::STDOUT_FILENO;
+use text::copy_bytes;
+use text::same;
+use text::wipe;
+ghost use mathlib.Core.Path.{_≡_};
+ghost use Prim.Native.Nat.{_+_, _*_, _≤_};
+ghost use lib.ListN.{length};
+ghost use Rattle.reference.specs.Text.{_==_};
+ghost use Rattle.clean.specs.Replies.{report-of};
+ghost use Rattle.replay.specs.Frames.{Whole};
+ghost use Rattle.replay.specs.Answers.{is-number, is-report, are-counts, is-wanted, work-wanted, out-wanted, all-right, is-right};
+
+// What is lent is longer than a call asks for, and every byte of it has this value before the call.
+const MARK: u8 = 170;
+
+const LONG_WORK: usize = 65600;
+
+const LONG_OUT: usize = 54850;
+
+// How many bytes of a work area a finished call leaves zero.
+const WORK: usize = 65536;
+
+fn print(s: &[u8]) {
+    io::write_all(STDOUT_FILENO, s);
+}
+
+// ---- the report
+
+// Whether a number of the frame is n.
+fn is_number(list: &[u8], k: usize, n: u64) -> bool
+    requires { ⌜ 4 * k + 4 ≤ length (now list) ⌝ }
+    ensures { λ r. ⌜ r ≡ is-number (now (list .entry)) k n ⌝ }
+{
+    number(list, k) == n
+}
+
+fn is_report(list: &[u8], refusal: u64, place: u64, length: u64, cut: u64) -> bool
+    requires { ⌜ Whole (now list) ⌝ }
+    ensures { λ r. ⌜ r ≡ is-report (now (list .entry)) refusal place length cut ⌝ }
+{
+    is_number(list, REFUSAL, refusal)
+        && (is_number(list, PLACE, place)
+            && (is_number(list, LENGTH, length) && is_number(list, CUT, cut)))
+}
+
+fn are_counts(list: &[u8], first: u64, second: u64, third: u64, removed: u64) -> bool
+    requires { ⌜ Whole (now list) ⌝ }
+    ensures { λ r. ⌜ r ≡ are-counts (now (list .entry)) first second third removed ⌝ }
+{
+    is_number(list, FIRST, first)
+        && (is_number(list, SECOND, second)
+            && (is_number(list, THIRD, third) && is_number(list, REMOVED, removed)))
+}
+
+// Whether a reply is the one that the frame wants.
+fn is_wanted(list: &[u8], r: Reply) -> bool
+    requires { ⌜ Whole (now list) ⌝ }
+    ensures { λ b. ⌜ b ≡ is-wanted (now (list .entry)) (report-of r) ⌝ }
+{
+    match r {
+        Reply::Refused { number, place } => {
+            is_report(list, number, place as u64, 0, 0) && are_counts(list, 0, 0, 0, 0)
+        }
+        Reply::Finished(f) => {
+            is_report(list, 0, 0, f.length as u64, f.cut)
+                && are_counts(list, f.first, f.second, f.third, f.removed)
+        }
+    }
+}
+
+// ---- the lent bytes
+
+// Puts what a work area holds afterwards in the place of what it held.
+fn want_work(list: &[u8], area: &mut [u8])
+    requires { ⌜ Whole (now list) ⌝ }
+    requires { ⌜ 65536 ≤ length (now area) ⌝ }
+    ensures { λ _. ⌜ now (area .exit) ≡ work-wanted (now (list .entry)) (now (area .entry)) ⌝ }
+{
+    if is_number(list, REFUSAL, 0) {
+        wipe(area, WORK);
+    }
+}
+
+// Puts what the output holds afterwards in the place of what it held.
+fn want_out(list: &[u8], out: &mut [u8])
+    requires { ⌜ Whole (now list) ⌝ }
+    ensures { λ _. ⌜ now (out .exit) ≡ out-wanted (now (list .entry)) (now (out .entry)) ⌝ }
+{
+    let wanted = output_of(list);
+    if wanted.len() <= out.len() {
+        copy_bytes(wanted, out, 0);
+    }
+}
+
+// ---- the call
+
+// Whether the reply is right; says so where it is not.
+fn reply_right(list: &[u8], r: Reply) -> bool
+    requires { ⌜ Whole (now list) ⌝ }
+    ensures { λ b. ⌜ b ≡ is-wanted (now (list .entry)) (report-of r) ⌝ }
+{
+    let right = is_wanted(list, r);
+    if !right {
+        print(b"another reply\n");
+    }
+    right
+}
+
+// Likewise for a lent part.
+fn part_right(part: &[u8], wanted: &[u8], what: &[u8]) -> bool
+    ensures { λ b. ⌜ b ≡ (now (part .entry) == now (wanted .entry)) ⌝ }
+{
+    let right = same(part, wanted);
+    if !right {
+        print(what);
+    }
+    right
+}
+
+// Whether the reply is right and each part is as wanted.
+fn all_right<'a>(
+    list: &'a [u8],
+    r: Reply,
+    work_a: &'a [u8],
+    work_b: &'a [u8],
+    out: &'a [u8],
+    work: &'a [u8],
+    written: &'a [u8],
+) -> bool
+    requires { ⌜ Whole (now list) ⌝ }
+    ensures { λ b. ⌜ b ≡ all-right (now (list .entry)) (report-of r) (now («work_a» .entry)) (now («work_b» .entry)) (now (out .entry)) (now (work .entry)) (now (written .entry)) ⌝ }
+{
+    reply_right(list, r)
+        && (part_right(work_a, work, b"another first work area\n")
+            && (part_right(work_b, work, b"another second work area\n")
+                && part_right(out, written, b"another output\n")))
+}
+
+// The same, what is wanted being made from parts that hold the mark everywhere.
+fn is_right<'a>(list: &'a [u8], r: Reply, work_a: &'a [u8], work_b: &'a [u8], out: &'a [u8]) -> bool
+    requires { ⌜ Whole (now list) ⌝ }
+    ensures { λ b. ⌜ b ≡ is-right (now (list .entry)) (report-of r) (now («work_a» .entry)) (now («work_b» .entry)) (now (out .entry)) ⌝ }
+{
+    let mut work = [MARK; LONG_WORK];
+    let mut written = [MARK; LONG_OUT];
+    want_work(list, &mut work);
+    want_out(list, &mut written);
+    all_right(list, r, work_a, work_b, out, &work, &written)
+}
+
+// Makes the call in lent bytes that all have the mark's value, and says whether all is as wanted.
+fn agrees_in(list: &[u8], work_a: &mut [u8], work_b: &mut [u8], out: &mut [u8]) -> bool
+    requires { ⌜ Whole (now list) ⌝ }
+{
+    let a = number(list, WORK_A) as usize;
+    let b = number(list, WORK_B) as usize;
+    let o = number(list, OUT) as usize;
+    if work_a.len() < a {
+        return false;
+    }
+    if work_b.len() < b {
+        return false;
+    }
+    if out.len() < o {
+        return false;
+    }
+    let convention = (number(list, CONVENTION) % 256) as u8;
+    let r = clean::clean(
+        convention,
+        tape_of(list),
+        &mut work_a[..a],
+        &mut work_b[..b],
+        &mut out[..o],
+    );
+    is_right(list, r, work_a, work_b, out)
+}
+
+// Makes the call of the frame at the list's front.
+pub fn agrees(list: &[u8]) -> bool
+    requires { ⌜ Whole (now list) ⌝ }
+{
+    let mut work_a = [MARK; LONG_WORK];
+    let mut work_b = [MARK; LONG_WORK];
+    let mut out = [MARK; LONG_OUT];
+    agrees_in(list, &mut work_a, &mut work_b, &mut out)
+}

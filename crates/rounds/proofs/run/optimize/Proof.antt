@@ -1,0 +1,96 @@
+-- `rounds::run::optimize` meets its contract. Assumes nothing.
+use native.Mathlib.Omega.{arith}
+use mathlib.Core.Path.{sym}
+use lib.Seq.{length-take-le}
+use borrow.Author.Needs.{needs}
+use Rattle.rounds.proofs.Turning.{now-few}
+use Rattle.rounds.proofs.Running.{run-made}
+use Rattle.rounds.proofs.run.optimize.Statement.{statement}
+use Rattle.rounds.proofs.run.optimize.Tie as tie
+
+three-rounds-requires : tie.Need-three-rounds-requires
+three-rounds-requires c κs = search needs
+
+slice-reshare-prefix-drop-dead-results : tie.Need-slice-reshare-prefix-drop-dead-results
+slice-reshare-prefix-drop-dead-results c = search needs
+
+slice-aggregate-drop-dead-results : tie.Need-slice-aggregate-drop-dead-results
+slice-aggregate-drop-dead-results c = sym (length-take-le _ _ (c .before .before .before .before .before .before .before .before .before .before .before .before .before .before .before .before .before .before .three-rounds .ensures .current .text-fits))
+
+slice-reshare-prefix-drop-dead-results-2 : tie.Need-slice-reshare-prefix-drop-dead-results-2
+slice-reshare-prefix-drop-dead-results-2 c = search needs
+
+slice-aggregate-drop-dead-results-2 : tie.Need-slice-aggregate-drop-dead-results-2
+slice-aggregate-drop-dead-results-2 c = sym (length-take-le _ _ (c .before .before .before .before .before .before .before .before .before .before .before .before .before .before .before .before .before .before .before .three-rounds .ensures .current .words-fit))
+
+slice-relend-prefix-drop-dead-results : tie.Need-slice-relend-prefix-drop-dead-results
+slice-relend-prefix-drop-dead-results c = search needs
+
+slice-aggregate-drop-dead-results-3 : tie.Need-slice-aggregate-drop-dead-results-3
+slice-aggregate-drop-dead-results-3 c = sym (length-take-le _ _ (c .before .before .before .before .before .before .before .before .before .before .before .before .before .before .before .before .before .before .before .before .three-rounds .ensures .current .lines-fit))
+
+drop-dead-results-requires : tie.Need-drop-dead-results-requires
+drop-dead-results-requires c κs =
+    let p = c .before .before .before .before .before .before .before .before .before .before .before .before .before .before .before .before .before .before .before .before .before .before .before .before .before .before .before .before .before .before .before .before .before .before .before .before .before .before .before .pre in
+    let t = c .before .before .before .before .before .before .before .before .before .before .before .before .before .before .before .before .before .before .before .before .before .three-rounds in
+    let e = t .ensures in
+    let s = t .result .size in (
+      e .current .listed,
+      omega (arith, p .words-short, t .kept .1 .1 .0, length-take-le (s .tokens) (t .last .1 .1 .0) (e .current .words-fit), e .current .words-fit),
+      omega (
+        arith,
+        p .for-labels,
+        t .kept .1 .1 .1 .1 .1 .1 .0,
+        length-take-le (s .lines) (t .last .1 .1 .1 .0) (e .current .lines-fit),
+        now-few _ (t .last .1 .0) (t .last .1 .1 .0) (t .last .1 .1 .1 .0) s (e .current) (e .limits),
+      ),
+    )
+
+same-length : tie.Need-same-length
+same-length c = search needs
+
+same-length-2 : tie.Need-same-length-2
+same-length-2 c = search needs
+
+same-length-3 : tie.Need-same-length-3
+same-length-3 c = search needs
+
+same-length-4 : tie.Need-same-length-4
+same-length-4 c = search needs
+
+same-length-5 : tie.Need-same-length-5
+same-length-5 c = search needs
+
+same-length-6 : tie.Need-same-length-6
+same-length-6 c = search needs
+
+same-length-7 : tie.Need-same-length-7
+same-length-7 c = search needs
+
+same-length-8 : tie.Need-same-length-8
+same-length-8 c = search needs
+
+returns : tie.Need-returns
+returns c = run-made _ (c .before .before .before .before .before .before .before .before .before .before .before .before .before .before .before .before .before .before .before .before .before .before .before .before .before .before .three-rounds .ensures) (c .before .before .before .before .drop-dead-results .ensures) (c .before .before .before .before .drop-dead-results .kept .1 .1 .1 .0)
+
+pub optimize-spec : {M : Type 1} → statement M
+optimize-spec =
+    tie.close
+    (tie.spec
+    three-rounds-requires
+    slice-reshare-prefix-drop-dead-results
+    slice-aggregate-drop-dead-results
+    slice-reshare-prefix-drop-dead-results-2
+    slice-aggregate-drop-dead-results-2
+    slice-relend-prefix-drop-dead-results
+    slice-aggregate-drop-dead-results-3
+    drop-dead-results-requires
+    same-length
+    same-length-2
+    same-length-3
+    same-length-4
+    same-length-5
+    same-length-6
+    same-length-7
+    same-length-8
+    returns)

@@ -1,0 +1,4 @@
+pub mod Cuts
+pub mod Slots
+pub mod Rounds
+pub mod Runs

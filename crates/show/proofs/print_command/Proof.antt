@@ -1,0 +1,86 @@
+-- `show::print_command` is safe: a token's text lies in the tape. Assumes nothing.
+use native.Mathlib.Omega.{arith}
+use borrow.Author.Needs.{needs}
+use Rattle.show.proofs.print_command.Statement.{statement}
+use Rattle.show.proofs.print_command.Tie as tie
+
+enum-known-command : tie.Need-enum-known-command
+enum-known-command c = search needs
+
+end-line-requires : tie.Need-end-line-requires
+end-line-requires c κs = search needs
+
+print-hex-requires : tie.Need-print-hex-requires
+print-hex-requires c κs = search needs
+
+print-gap-requires : tie.Need-print-gap-requires
+print-gap-requires c κs = search needs
+
+print-indent-requires : tie.Need-print-indent-requires
+print-indent-requires c κs = search needs
+
+enum-known-command-2 : tie.Need-enum-known-command-2
+enum-known-command-2 c = search needs
+
+end-line-requires-2 : tie.Need-end-line-requires-2
+end-line-requires-2 c κs = search needs
+
+slice-aggregate-print : tie.Need-slice-aggregate-print
+slice-aggregate-print c = search needs
+
+print-requires : tie.Need-print-requires
+print-requires c κs = search needs
+
+print-indent-requires-2 : tie.Need-print-indent-requires-2
+print-indent-requires-2 c κs = search needs
+
+enum-known-command-3 : tie.Need-enum-known-command-3
+enum-known-command-3 c = search needs
+
+token-text-requires : tie.Need-token-text-requires
+token-text-requires c κs = let p = rw (c .before .command3 .given .1) at (c .before .before .before .before .pre) in omega arith
+
+print-requires-2 : tie.Need-print-requires-2
+print-requires-2 c κs = search needs
+
+enum-told : tie.Need-enum-told
+enum-told c = search needs
+
+end-line-requires-3 : tie.Need-end-line-requires-3
+end-line-requires-3 c κs = search needs
+
+returns : tie.Need-returns
+returns c = search needs
+
+returns-2 : tie.Need-returns-2
+returns-2 c = search needs
+
+returns-3 : tie.Need-returns-3
+returns-3 c = search needs
+
+returns-4 : tie.Need-returns-4
+returns-4 c = search needs
+
+pub print-command-spec : {M : Type 1} → statement M
+print-command-spec =
+    tie.close
+    (tie.spec
+    enum-known-command
+    end-line-requires
+    print-hex-requires
+    print-gap-requires
+    print-indent-requires
+    enum-known-command-2
+    end-line-requires-2
+    slice-aggregate-print
+    print-requires
+    print-indent-requires-2
+    enum-known-command-3
+    token-text-requires
+    print-requires-2
+    enum-told
+    end-line-requires-3
+    returns
+    returns-2
+    returns-3
+    returns-4)

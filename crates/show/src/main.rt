@@ -1,0 +1,187 @@
+// Prints a tape as text, a line for each line of the listing: the address in hexadecimal or blanks, two spaces an indent, the texts of the tokens.
+//
+//     show          standard input is a bare tape, as the filter writes it
+//     show input    standard input is a convention byte and a tape, as the filter reads them
+//
+// Wrong input gives `refused`, the number of the question, `at`, its place, and what that means. The filter's input is asked all questions before a
+// line is printed. A bare tape is printed up to the command that is wrong, and the totals of a listing are not asked: cleaning may lengthen a text.
+// The filter's own refusal is printed again, with its meaning.
+mod refusals; // the questions in words
+
+use libc::STDIN_FILENO;
+use libc::STDOUT_FILENO;
+use refusals::print_meaning;
+use refusals::print_refusal;
+use tape::commands::Command;
+use tape::commands::Found;
+use tape::commands::command_from;
+use tape::commands::token_text;
+use tape::little_endian::wide;
+use tape::questions::Checked;
+use tape::questions::Stepped;
+use tape::questions::Totals;
+use tape::questions::is_end;
+use tape::questions::step;
+ghost use Prim.Native.Nat.{_+_, _-_, _≤_, min};
+ghost use lib.ListN.{length};
+ghost use mathlib.Core.Path.{_≡_};
+ghost use Rattle.tape.specs.Commands.{size-of};
+
+fn print(s: &[u8]) {
+    io::write_all(STDOUT_FILENO, s);
+}
+
+// ---- one command
+
+fn print_gap() {
+    print(b"  ");
+}
+
+fn print_indent(depth: u64) {
+    let mut k = 0;
+    while k < depth {
+        print_gap();
+        k += 1;
+    }
+}
+
+// Ends the line before, if there is one.
+fn end_line(at: usize) {
+    if 0 < at {
+        print(b"\n");
+    }
+}
+
+fn print_command(tape: &[u8], at: usize, command: Command)
+    requires { ⌜ at + size-of command ≤ length (now tape) ⌝ }
+{
+    match command {
+        Command::Addressed { address, indent } => {
+            end_line(at);
+            io::print_hex(STDOUT_FILENO, address, 8);
+            print_gap();
+            print_indent(indent);
+        }
+        Command::Plain { indent } => {
+            end_line(at);
+            print(b"          ");
+            print_indent(indent);
+        }
+        Command::Token { kind: _, count } => {
+            print(token_text(tape, at, count));
+        }
+        Command::End => {
+            end_line(at);
+        }
+    }
+}
+
+// Prints the command at an offset.
+fn print_at(tape: &[u8], at: usize) {
+    match command_from(tape, at) {
+        Found::Whole(command) => {
+            print_command(tape, at, command);
+        }
+        Found::Unknown => {}
+        Found::CutOff => {}
+    }
+}
+
+// ---- the listing
+
+// Whether a line has begun before an offset; the totals are not asked.
+fn begun(at: usize) -> Totals
+    ensures { λ r. ⌜ (r .lines ≡ min at 1) × (r .tokens ≡ 0) × (r .text ≡ 0) ⌝ }
+{
+    if at == 0 {
+        return Totals {
+            lines: 0,
+            tokens: 0,
+            text: 0,
+        };
+    }
+    Totals {
+        lines: 1,
+        tokens: 0,
+        text: 0,
+    }
+}
+
+// Prints the commands up to the end or the first that is wrong.
+fn print_listing(tape: &[u8]) {
+    let mut at = 0;
+    loop {
+        match step(tape, at, begun(at)) {
+            Stepped::Refused(number) => {
+                end_line(at);
+                print_refusal(number, at);
+                return;
+            }
+            Stepped::Passed {
+                command,
+                next,
+                totals: _,
+            } => {
+                print_at(tape, at);
+                if is_end(command) {
+                    return;
+                }
+                at = next;
+            }
+        }
+    }
+}
+
+// ---- the two kinds of input
+
+// The value of a decimal digit; 0 for a byte before the digits.
+fn digit(b: u8) -> u64
+    ensures { λ r. ⌜ r ≡ b - 48 ⌝ }
+{
+    if b < 48 {
+        return 0;
+    }
+    wide(b) - 48
+}
+
+// What the filter wrote: a tape, or its refusal, whose number stands behind eight bytes.
+fn show_output(written: &[u8]) {
+    if !text::starts(written, b"refused ") {
+        print_listing(written);
+        return;
+    }
+    print(written);
+    if 8 < written.len() {
+        print_meaning(digit(written[8]));
+    }
+}
+
+// What the filter reads.
+fn show_input(convention: u8, tape: &[u8]) {
+    if 2 < convention {
+        print_refusal(1, 0);
+        return;
+    }
+    match tape::check(tape) {
+        Checked::Refused { number, place } => {
+            print_refusal(number, place);
+        }
+        Checked::Passed(_) => {
+            print_listing(tape);
+        }
+    }
+}
+
+fn main() {
+    let mut input = [0u8; 65537];
+    let n = io::read_full(STDIN_FILENO, &mut input);
+    if os::arg_count() < 2 {
+        show_output(&input[..n]);
+        return;
+    }
+    if n == 0 {
+        print_refusal(1, 0);
+        return;
+    }
+    show_input(input[0], &input[1..n]);
+}

@@ -1,0 +1,77 @@
+/* Puchkewa: cleans a listing of pseudocode. One call: a tape in, the cleaned tape out.
+ *
+ * The function is proved to meet what is said here, for every input (crates/clean/src/export.rt, its promise `Cleans` in
+ * crates/clean/specs/Replies.antt). It keeps no state, calls nothing of C and allocates nothing; it needs some 150,000 bytes of stack.
+ * Calls in several threads are safe where they share no memory that one of them writes.
+ *
+ * Link with target/staticlib/libclean.a, which `rt staticlib clean` writes (x86-64 Linux). */
+#ifndef PUCHKEWA_H
+#define PUCHKEWA_H
+
+#include <stddef.h>
+#include <stdint.h>
+
+#ifdef __cplusplus
+extern "C" {
+#endif
+
+/* The least that each work area and the output must have, in bytes. 54,785 bytes are enough for the output of every tape. */
+#define PUCHKEWA_WORK 65536
+#define PUCHKEWA_OUTPUT 54785
+
+/* The calling convention of the listed code: which registers a call overwrites. */
+enum puchkewa_convention {
+    PUCHKEWA_32_BIT = 0,    /* 32 bits: rax rcx rdx and their parts */
+    PUCHKEWA_SYSV_64 = 1,   /* 64 bits, System V: rax rcx rdx rsi rdi r8 r9 r10 r11 */
+    PUCHKEWA_WINDOWS_64 = 2 /* 64 bits, Windows: rax rcx rdx r8 r9 r10 r11 */
+};
+
+/* Why a call was refused: the first question that was answered "no". Questions 3 to 8 are asked of each command of the tape from the left. */
+enum puchkewa_refusal {
+    PUCHKEWA_FINISHED = 0,           /* nothing was refused */
+    PUCHKEWA_BAD_CONVENTION = 1,     /* the convention is not 0, 1 or 2 */
+    PUCHKEWA_TOO_LITTLE_ROOM = 2,    /* a work area has fewer than 65,536 bytes, or the output fewer than 54,785 */
+    PUCHKEWA_NO_COMMAND = 3,         /* the tape ends where a command must begin, or the byte there is no command */
+    PUCHKEWA_CUT_OFF = 4,            /* the command's operand or text runs past the end of the tape */
+    PUCHKEWA_TOKEN_BEFORE_LINE = 5,  /* a token before any line */
+    PUCHKEWA_BEYOND_LIMITS = 6,      /* indent above 63; more than 256 lines, 1,024 tokens or 24,576 bytes of text; a text that is empty; a
+                                        Number of more than 24 bytes */
+    PUCHKEWA_NOT_PRINTABLE = 7,      /* a text byte outside 20 to 7E (hexadecimal) */
+    PUCHKEWA_AFTER_END = 8           /* bytes after the end command FF */
+};
+
+/* What a call did. */
+struct puchkewa_report {
+    uint64_t refusal;    /* 0 when finished, else the number of the question that refused: enum puchkewa_refusal */
+    uint64_t place;      /* of a refusal by 3 to 8: the offset in the tape of the command that was refused; otherwise 0 */
+    uint64_t length;     /* the length of the new tape, at the front of the output */
+    uint64_t attempts_1; /* attempts to join a line into a later one, in the first round .. */
+    uint64_t attempts_2; /* .. in the second, 0 if it was not run .. */
+    uint64_t attempts_3; /* .. in the third, 0 if it was not run */
+    uint64_t removed;    /* lines removed: the attempts that succeeded */
+    uint64_t cut;        /* results of calls that were cut because nothing reads them */
+};
+
+/* Cleans the listing of a tape.
+ *
+ * convention    0, 1 or 2: enum puchkewa_convention.
+ * tape          the tape: tape_length bytes, only read.
+ * work_a        a work area of work_a_length bytes, at least PUCHKEWA_WORK. What it holds before the call does not matter.
+ * work_b        a second one.
+ * out           the output: out_length bytes, at least PUCHKEWA_OUTPUT.
+ *
+ * When finished, the first `length` bytes of the output are the tape of the cleaned listing and its other bytes are as before; the first
+ * 65,536 bytes of each work area are zero and its other bytes as before. When refused, all counts are 0 and nothing that was lent is changed.
+ *
+ * The tape, both work areas and the output must not overlap, and no pointer may be null (for an empty tape pass any valid pointer and 0). */
+struct puchkewa_report puchkewa_clean(uint8_t convention,
+                                      const uint8_t *tape, size_t tape_length,
+                                      uint8_t *work_a, size_t work_a_length,
+                                      uint8_t *work_b, size_t work_b_length,
+                                      uint8_t *out, size_t out_length);
+
+#ifdef __cplusplus
+}
+#endif
+
+#endif

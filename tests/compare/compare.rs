@@ -1,0 +1,169 @@
+//! Compares the static library with the Rust: reply, counts, output and every lent byte.
+//!
+//!     compare run SEED COUNT      COUNT inputs of a set; prints the figures and the shortest inputs that differ
+//!     compare answer              one input, a convention byte and a tape, from standard input: the Rust's whole answer
+//!     compare input SEED NUMBER   writes one input of a set, a convention byte and a tape, to standard output
+
+include!("stand_ins.rs");
+mod door;
+#[cfg(more)]
+mod gen;
+mod inputs;
+mod library;
+
+use door::{Report, MOST_TAPE, WORK};
+use inputs::Input;
+use std::collections::BTreeMap;
+use std::io::{Read, Write};
+use std::time::Instant;
+
+/// Every lent byte has this value before a call, and the buffers are longer than any lent length.
+const MARK: u8 = 170;
+const LONG: usize = 65_700;
+
+struct Lent {
+    work_a: Vec<u8>,
+    work_b: Vec<u8>,
+    out: Vec<u8>,
+}
+
+impl Lent {
+    fn new() -> Lent {
+        Lent { work_a: vec![MARK; LONG], work_b: vec![MARK; LONG], out: vec![MARK; LONG] }
+    }
+}
+
+fn all(s: &[u8], b: u8) -> bool {
+    s.iter().fold(0, |differ, x| differ | (x ^ b)) == 0
+}
+
+/// What the library did otherwise than the Rust and document 01. The buffers hold the mark before and after.
+fn difference(input: &Input, want: &Report, tape: &[u8], lent: &mut Lent) -> Option<String> {
+    let [a, b, o] = input.lent;
+    let got = library::clean(input.convention, &input.tape, &mut lent.work_a[..a], &mut lent.work_b[..b], &mut lent.out[..o]);
+    let wiped = if want.refusal == 0 { WORK } else { 0 };
+    let n = tape.len();
+    let said = if got != *want {
+        Some(format!("the reply {got:?} for {want:?}"))
+    } else if lent.out[..n] != *tape {
+        Some("the output".into())
+    } else if !all(&lent.out[n..], MARK) {
+        Some("the output past its length".into())
+    } else if !all(&lent.work_a[..wiped], 0) || !all(&lent.work_a[wiped..], MARK) {
+        Some("the first work area".into())
+    } else if !all(&lent.work_b[..wiped], 0) || !all(&lent.work_b[wiped..], MARK) {
+        Some("the second work area".into())
+    } else {
+        None
+    };
+    if said.is_some() {
+        *lent = Lent::new();
+    } else {
+        lent.out[..n].fill(MARK);
+        lent.work_a[..wiped].fill(MARK);
+        lent.work_b[..wiped].fill(MARK);
+    }
+    said
+}
+
+fn hex(b: &[u8]) -> String {
+    b.iter().map(|x| format!("{x:02x}")).collect()
+}
+
+#[cfg(more)]
+fn input(seed: u64, number: u64) -> Input {
+    if number % 2 == 0 {
+        return inputs::case(seed, number / 2);
+    }
+    let made = gen::case(seed, number / 2);
+    let Some((&convention, tape)) = made.split_first() else {
+        return Input { convention: 255, tape: Vec::new(), lent: inputs::ENOUGH };
+    };
+    Input { convention, tape: tape[..tape.len().min(MOST_TAPE)].to_vec(), lent: inputs::ENOUGH }
+}
+
+#[cfg(not(more))]
+fn input(seed: u64, number: u64) -> Input {
+    inputs::case(seed, number)
+}
+
+fn run(seed: u64, count: u64) -> bool {
+    let began = Instant::now();
+    let mut lent = Lent::new();
+    let mut refusals: BTreeMap<u64, u64> = BTreeMap::new();
+    let (mut conventions, mut removed, mut cut, mut rounds) = ([0u64; 3], 0, 0, [0u64; 3]);
+    let (mut with_removals, mut with_cuts, mut bytes, mut longest) = (0u64, 0u64, 0u64, 0u64);
+    let mut wrong: Vec<(Input, String)> = Vec::new();
+    for number in 0..count {
+        let one = input(seed, number);
+        let (want, tape) = door::answer(one.convention, &one.tape, one.lent);
+        *refusals.entry(want.refusal).or_default() += 1;
+        if want.refusal == 0 {
+            conventions[one.convention as usize] += 1;
+            for (sum, attempts) in rounds.iter_mut().zip(want.attempts) {
+                *sum += attempts;
+            }
+            removed += want.removed;
+            cut += want.cut;
+            with_removals += (want.removed > 0) as u64;
+            with_cuts += (want.cut > 0) as u64;
+            longest = longest.max(want.length);
+        }
+        bytes += one.tape.len() as u64;
+        if let Some(what) = difference(&one, &want, &tape, &mut lent) {
+            wrong.push((one, what));
+        }
+    }
+    let passed = refusals.remove(&0).unwrap_or(0);
+    println!("inputs: {count}, {bytes} bytes");
+    println!("accepted: {passed}, under convention 0, 1, 2: {} {} {}", conventions[0], conventions[1], conventions[2]);
+    println!("refused by question: {}", refusals.iter().map(|(k, n)| format!("{k}: {n}")).collect::<Vec<_>>().join(", "));
+    println!("attempts in round 1, 2, 3: {} {} {}", rounds[0], rounds[1], rounds[2]);
+    println!("lines removed: {removed}, in {with_removals} listings; results cut: {cut}, in {with_cuts}");
+    println!("longest output: {longest} bytes");
+    println!("seconds: {:.0}", began.elapsed().as_secs_f64());
+    wrong.sort_by_key(|w| w.0.tape.len());
+    for (one, what) in wrong.iter().take(10) {
+        println!("{what}\n  convention {}, lent {:?}, tape {}", one.convention, one.lent, hex(&one.tape));
+    }
+    println!("{} same, {} different", count - wrong.len() as u64, wrong.len());
+    wrong.is_empty()
+}
+
+fn answer() {
+    let mut data = Vec::new();
+    std::io::stdin().lock().read_to_end(&mut data).expect("standard input");
+    let (convention, tape) = data.split_first().map_or((255, &[][..]), |(c, t)| (*c, t));
+    let (r, out) = door::answer(convention, &tape[..tape.len().min(MOST_TAPE)], inputs::ENOUGH);
+    if r.refusal != 0 {
+        println!("refused {} {}", r.refusal, r.place);
+    } else {
+        let [a, b, c] = r.attempts;
+        println!("ok {} {a} {b} {c} {} {} {}", r.length, r.removed, r.cut, hex(&out));
+    }
+}
+
+fn main() {
+    let args: Vec<String> = std::env::args().skip(1).collect();
+    let number = |i: usize| args.get(i).and_then(|s| s.parse::<u64>().ok()).expect("a number");
+    let right = match args.first().map(String::as_str) {
+        Some("run") => run(number(1), number(2)),
+        Some("answer") => {
+            answer();
+            true
+        }
+        Some("input") => {
+            let one = input(number(1), number(2));
+            let mut out = std::io::stdout().lock();
+            out.write_all(&[one.convention]).and_then(|()| out.write_all(&one.tape)).expect("standard output");
+            true
+        }
+        _ => {
+            eprintln!("usage: compare run SEED COUNT | compare answer | compare input SEED NUMBER");
+            std::process::exit(2)
+        }
+    };
+    if !right {
+        std::process::exit(1);
+    }
+}

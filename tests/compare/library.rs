@@ -1,0 +1,34 @@
+//! The static library's entry.
+
+use crate::door::Report;
+
+extern "C" {
+    fn puchkewa_clean(
+        convention: u8,
+        tape: *const u8,
+        tape_length: usize,
+        work_a: *mut u8,
+        work_a_length: usize,
+        work_b: *mut u8,
+        work_b_length: usize,
+        out: *mut u8,
+        out_length: usize,
+    ) -> Report;
+}
+
+pub fn clean(convention: u8, tape: &[u8], work_a: &mut [u8], work_b: &mut [u8], out: &mut [u8]) -> Report {
+    // SAFETY: each pointer and length is of a slice, and the slices that are written to do not overlap.
+    unsafe {
+        puchkewa_clean(
+            convention,
+            tape.as_ptr(),
+            tape.len(),
+            work_a.as_mut_ptr(),
+            work_a.len(),
+            work_b.as_mut_ptr(),
+            work_b.len(),
+            out.as_mut_ptr(),
+            out.len(),
+        )
+    }
+}
