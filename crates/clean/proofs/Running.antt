@@ -89,7 +89,7 @@ module _ {tape tokens lines addresses : List ℕ} {t : Totals} (l : Loaded tape 
 
   pub loadable : (area2 : Text) → TEXT ≤ length area → TEXT ≤ length area2 → 1024 ≤ length tokens → length tokens ≤ 65536 → 256 ≤ length lines
       → Loadable tape area tokens lines area2 (start t)
-  loadable area2 a b h u k =
+  loadable area2 a b h s k =
       let few = loaded-limits l in
       record {
         current =
@@ -104,7 +104,7 @@ module _ {tape tokens lines addresses : List ℕ} {t : Totals} (l : Loaded tape 
             (bare-limits (read-limits tape _ loaded-is));
         first-text = a;
         first-words = h;
-        words-short = u;
+        words-short = s;
         second-text = b;
       }
 

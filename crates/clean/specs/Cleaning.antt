@@ -15,7 +15,8 @@ use Rattle.tape.specs.Tables.{Accepted}
 abbrev pub TEXT : ℕ
 TEXT = 49152
 
--- a listing within the limits stands in the first set, and what is lent has room for its rounds
+-- A listing within the limits stands in the first set, and what is lent has room for its rounds; the table of token words is no larger than a
+-- line word can name.
 pub record Loadable (tape area : Text) (tokens lines : List ℕ) (area2 : Text) (at : Size) : Type 0 where
   pub current : Current tape area tokens lines at
   pub limits : Limits (bare-now tape area tokens lines at)

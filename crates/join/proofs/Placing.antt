@@ -2,10 +2,10 @@
 use Prim.Native.Nat.{ℕ, _≤_, _<_}
 use native.Mathlib.Omega.{arith}
 use mathlib.Core.Path.{_≡_, refl, sym, ap, _∙_}
-use mathlib.Core.Bool.{Bool, true, false, not}
+use mathlib.Core.Bool.{Bool, true, false}
 use mathlib.Core.List.{List}
 use lib.ListN.{length, length-map}
-use borrow.Author.Tests.{le-ltb, le-leb, lt-leb, not-true, not-false}
+use borrow.Author.Tests.{le-ltb, le-leb, lt-leb}
 use Rattle.reference.specs.Text.{Text}
 use Rattle.reference.specs.Listing.{Token, Line, with-tokens}
 use Rattle.reference.specs.Rules.{Rules, volatile}
@@ -20,12 +20,11 @@ use Rattle.plan.specs.declared.plans.Join.{Join}
 use Rattle.plan.specs.Plans.{join-in}
 use Rattle.build.specs.declared.used.Size.{Size}
 use Rattle.build.specs.declared.line.Appended.{Appended}
-use Rattle.build.specs.declared.merge.Substitution.{Substitution}
 use Rattle.build.specs.Substitution.{right-of}
 use Rattle.build.specs.Added.{Keepable, Kept, unmerged, Rewritable, Rewritten}
 use Rattle.build.proofs.Rooms.{text-room}
 use Rattle.build.proofs.Adding.{part-length}
-use Rattle.join.specs.Building.{new-tokens, Placeable, Placed}
+use Rattle.join.specs.Building.{substitution-of, new-tokens, Placeable, Placed}
 
 -- ---- whether it is changed
 
@@ -42,10 +41,6 @@ module _ (vol : List Text) (i : ℕ) (p : Plan) (k : ℕ) (l : Line) where
 
 -- ---- what is appended
 
--- the plan's substitution
-abbrev pub substitution-of : Join → Substitution
-substitution-of j = record { family = j .family; expr = j .expr; brackets = j .brackets }
-
 module _ {rules : Rules} {tape old : Text} {words : List ℕ} {source : ℕ} {j : Join} {k l : ℕ} {area : Text} {tokens : List ℕ} {at : Size}
     (h : Placeable rules tape old words source j k l area tokens at) where
   abbrev plan : Plan
@@ -55,9 +50,9 @@ module _ {rules : Rules} {tape old : Text} {words : List ℕ} {source : ℕ} {j 
   old-tokens = tokens-of tape old (part-of words l)
 
   -- a line that stays as it is
-  module _ {b : Bool} (is : b ≡ changes (volatile rules) (j .line) plan k (bare-in tape old words l)) (no : not b ≡ true) where
+  module _ {b : Bool} (is : b ≡ changes (volatile rules) (j .line) plan k (bare-in tape old words l)) (left : b ≡ false) where
     same : changes (volatile rules) (j .line) plan k (bare-in tape old words l) ≡ false
-    same = sym is ∙ not-true b no
+    same = sym is ∙ left
 
     kept-tokens : new-tokens rules tape old words source j k l ≡ old-tokens
     kept-tokens = ap (λ (x : Line). x .tokens) (line-kept (volatile rules) (j .line) plan _ k (bare-in tape old words l) same)
@@ -97,9 +92,9 @@ module _ {rules : Rules} {tape old : Text} {words : List ℕ} {source : ℕ} {j 
     }
 
   -- a line with the right side for each token of the family
-  module _ {b : Bool} (is : b ≡ changes (volatile rules) (j .line) plan k (bare-in tape old words l)) (yes : not b ≡ false) where
+  module _ {b : Bool} (is : b ≡ changes (volatile rules) (j .line) plan k (bare-in tape old words l)) (taken : b ≡ true) where
     other : changes (volatile rules) (j .line) plan k (bare-in tape old words l) ≡ true
-    other = sym is ∙ not-false b yes
+    other = sym is ∙ taken
 
     rewritten-tokens : new-tokens rules tape old words source j k l ≡ unmerged tape old words source (substitution-of j) l
     unfolding right-of right-side-of

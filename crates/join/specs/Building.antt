@@ -19,9 +19,14 @@ use Rattle.build.specs.State.{used, Room}
 use Rattle.build.specs.Added.{used-words, Added}
 use Rattle.build.specs.declared.used.Size.{Size}
 use Rattle.build.specs.declared.line.Appended.{Appended}
+use Rattle.build.specs.declared.merge.Substitution.{Substitution}
 use Rattle.join.specs.Current.{listing-now, Current}
 
 -- ---- a line
+
+-- the plan's substitution
+abbrev pub substitution-of : Join → Substitution
+substitution-of j = record { family = j .family; expr = j .expr; brackets = j .brackets }
 
 -- what line k, whose word is l, becomes; `source` is the word of the line that is joined
 abbrev pub new-line : Rules → Text → Text → List ℕ → ℕ → Join → ℕ → ℕ → List ℕ → Line
@@ -74,6 +79,21 @@ acted-upto rules j p = built (acted-line (volatile rules) (j .line) p) (j .line)
 abbrev pub unmerged-upto : Rules → Join → Plan → Listing → ℕ → Listing
 unmerged-upto rules j p = built (unmerged-line (volatile rules) (j .line) p) (j .line)
 
+-- behind the marks `from`, no more is written than the first k lines take before they are merged and folded
+pub record Within (rules : Rules) (tape old : Text) (words lines : List ℕ) (j : Join) (from : Size) (k : ℕ) (at : Size) : Type 0 where
+  pub text-most : at .text ≤ from .text + each-token room (unmerged-upto rules j (plan-of tape old words lines j) (bare-listing tape old words lines) k)
+  pub words-most : at .tokens ≤ from .tokens + token-count (unmerged-upto rules j (plan-of tape old words lines j) (bare-listing tape old words lines) k)
+
+-- behind the used marks there is room for the lines of any plan
+pub record Spare (area : Text) (tokens : List ℕ) (at : Size) : Type 0 where
+  pub text-fits : at .text + 49152 ≤ length area
+  pub text-short : at .text + 49152 < 65536
+  pub words-fit : at .tokens + 1024 ≤ length tokens
+  pub words-short : at .tokens + 1024 < 65536
+
+abbrev pub nothing-used : Size
+nothing-used = record { lines = 0; tokens = 0; text = 0 }
+
 -- the first k lines are done: the words from there on are still the old ones
 pub record Upto (rules : Rules) (tape old : Text) (words lines : List ℕ) (j : Join) (k : ℕ) (area : Text) (tokens lines′ : List ℕ) (at : Size) : Type 0 where
   pub as-many : length lines′ ≡ length lines
@@ -82,8 +102,7 @@ pub record Upto (rules : Rules) (tape old : Text) (words lines : List ℕ) (j : 
   pub listed : Listed tape (used area at) (used-words tokens at) (take (at .lines) lines′)
   pub means : (addresses : List ℕ) → listing-now tape area tokens lines′ at addresses
       ≡ acted-upto rules j (plan-of tape old words lines j) (listing-of tape old words addresses lines) k
-  pub text-most : at .text ≤ each-token room (unmerged-upto rules j (plan-of tape old words lines j) (bare-listing tape old words lines) k)
-  pub words-most : at .tokens ≤ token-count (unmerged-upto rules j (plan-of tape old words lines j) (bare-listing tape old words lines) k)
+  pub within : Within rules tape old words lines j nothing-used k at
 
 -- the new listing, whatever the addresses are
 pub record Acted (rules : Rules) (tape old : Text) (words lines : List ℕ) (j : Join) (area : Text) (tokens lines′ : List ℕ) (at : Size) : Type 0 where

@@ -1,3 +1,4 @@
 pub mod Current
 pub mod Attempts
 pub mod Building
+pub mod Patching

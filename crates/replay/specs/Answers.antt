@@ -1,5 +1,5 @@
 -- What a frame wants of its call: the report, and every lent byte afterwards; and whether a call does that. Assumes nothing.
-use Prim.Native.Nat.{ℕ}
+use Prim.Native.Nat.{ℕ, _%_}
 use mathlib.Core.Bool.{Bool}
 use mathlib.Core.List.{List, _++_}
 use lib.Dec.{eqb, leb}
@@ -7,8 +7,9 @@ use lib.ListN.{length, take, drop, replicate}
 use lib.Seq.{paste}
 use Rattle.reference.specs.Control.{_&&_, if_then_else_}
 use Rattle.reference.specs.Text.{_==_}
-use Rattle.reference.specs.Reply.{Report}
-use Rattle.replay.specs.Frames.{number-in, output-in}
+use Rattle.reference.specs.Rules.{Rules}
+use Rattle.reference.specs.Reply.{Reply, Report, reply, report, output-after, work-after}
+use Rattle.replay.specs.Frames.{number-in, tape-in, output-in}
 
 -- a number of the frame is this one
 abbrev pub is-number : List ℕ → ℕ → ℕ → Bool
@@ -41,3 +42,28 @@ all-right list report work-a work-b out work written = is-wanted list report && 
 unfoldable pub is-right : List ℕ → Report → List ℕ → List ℕ → List ℕ → Bool
 is-right list report work-a work-b out =
     all-right list report work-a work-b out (work-wanted list (replicate 65600 170)) (out-wanted list (replicate 54850 170))
+
+-- ---- the call
+
+abbrev pub rules-in : List ℕ → Rules
+rules-in list = record { convention = number-in list 1 % 256 }
+
+-- the reply to the frame's call, these being the lent parts
+abbrev pub reply-to : List ℕ → List ℕ → List ℕ → List ℕ → Reply
+reply-to list a b o = reply (rules-in list) (tape-in list) (length a) (length b) (length o)
+
+-- what is as wanted, where a, b and o are lent, and behind them lie more bytes that are not
+abbrev pub called : List ℕ → List ℕ → List ℕ → List ℕ → List ℕ → List ℕ → List ℕ → Bool
+called list a more-a b more-b o more-o =
+    let r = reply-to list a b o in
+    is-right list (report r) (work-after r a ++ more-a) (work-after r b ++ more-b) (output-after r o ++ more-o)
+
+-- The call does what the frame wants, the fronts of these parts being lent as far as the frame says. The answer is the definition's: the code of the
+-- cleaner has no part in it.
+unfoldable pub agrees : List ℕ → List ℕ → List ℕ → List ℕ → Bool
+agrees list work-a work-b out =
+    leb (number-in list 2) (length work-a)
+    && leb (number-in list 3) (length work-b)
+    && leb (number-in list 4) (length out)
+    && called list (take (number-in list 2) work-a) (drop (number-in list 2) work-a) (take (number-in list 3) work-b) (drop (number-in list 3) work-b)
+    (take (number-in list 4) out) (drop (number-in list 4) out)

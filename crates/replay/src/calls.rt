@@ -21,11 +21,11 @@ use text::same;
 use text::wipe;
 ghost use mathlib.Core.Path.{_≡_};
 ghost use Prim.Native.Nat.{_+_, _*_, _≤_};
-ghost use lib.ListN.{length};
+ghost use lib.ListN.{length, replicate};
 ghost use Rattle.reference.specs.Text.{_==_};
 ghost use Rattle.clean.specs.Replies.{report-of};
 ghost use Rattle.replay.specs.Frames.{Whole};
-ghost use Rattle.replay.specs.Answers.{is-number, is-report, are-counts, is-wanted, work-wanted, out-wanted, all-right, is-right};
+ghost use Rattle.replay.specs.Answers.{is-number, is-report, are-counts, is-wanted, work-wanted, out-wanted, all-right, is-right, agrees};
 
 // What is lent is longer than a call asks for, and every byte of it has this value before the call.
 const MARK: u8 = 170;
@@ -168,6 +168,7 @@ fn is_right<'a>(list: &'a [u8], r: Reply, work_a: &'a [u8], work_b: &'a [u8], ou
 // Makes the call in lent bytes that all have the mark's value, and says whether all is as wanted.
 fn agrees_in(list: &[u8], work_a: &mut [u8], work_b: &mut [u8], out: &mut [u8]) -> bool
     requires { ⌜ Whole (now list) ⌝ }
+    ensures { λ r. ⌜ r ≡ agrees (now (list .entry)) (now («work_a» .entry)) (now («work_b» .entry)) (now (out .entry)) ⌝ }
 {
     let a = number(list, WORK_A) as usize;
     let b = number(list, WORK_B) as usize;
@@ -193,8 +194,9 @@ fn agrees_in(list: &[u8], work_a: &mut [u8], work_b: &mut [u8], out: &mut [u8]) 
 }
 
 // Makes the call of the frame at the list's front.
-pub fn agrees(list: &[u8]) -> bool
+pub fn agrees_marked(list: &[u8]) -> bool
     requires { ⌜ Whole (now list) ⌝ }
+    ensures { λ r. ⌜ r ≡ agrees (now (list .entry)) (replicate 65600 170) (replicate 65600 170) (replicate 54850 170) ⌝ }
 {
     let mut work_a = [MARK; LONG_WORK];
     let mut work_b = [MARK; LONG_WORK];

@@ -4,7 +4,7 @@
 mod calls; // one call
 mod frames; // the list
 
-use calls::agrees;
+use calls::agrees_marked;
 use frames::CLASS;
 use frames::number;
 use frames::size;
@@ -73,7 +73,7 @@ fn counted(list: &[u8], class: u64, counts: Counts) -> Counts
     if number(list, CLASS) != class {
         return counts;
     }
-    if agrees(list) {
+    if agrees_marked(list) {
         return Counts {
             tapes: counts.tapes + 1,
             differ: counts.differ,

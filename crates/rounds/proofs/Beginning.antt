@@ -1,18 +1,15 @@
 -- A round's beginning: the labels and the addressed names of the listing, gathered, are what its attempts are made with. Assumes nothing.
 use Prim.Native.Nat.{ℕ, _≤_}
 use native.Mathlib.Omega.{arith}
-use mathlib.Core.Path.{_≡_, refl, sym, ap, _∙_}
+use mathlib.Core.Path.{_≡_, sym, ap, _∙_}
 use mathlib.Core.List.{List}
 use lib.ListN.{length, take}
 use Rattle.reference.specs.Text.{Text}
-use Rattle.reference.specs.Listing.{Listing}
 use Rattle.reference.specs.Rules.{Rules}
-use Rattle.reference.specs.Life.{Labels}
 use Rattle.reference.specs.Claim.{text, token-count}
 use Rattle.reference.specs.Run.{labels-from, addressed-in, propagate-once}
 use Rattle.reference.proofs.Fits.{fits-text}
 use Rattle.joining.specs.Places.{label-places, labels-at}
-use Rattle.joining.specs.Rounds.{attempts}
 use Rattle.joining.proofs.Bare.{addressed-bare}
 use Rattle.joining.proofs.Rounds.{round-begins}
 use Rattle.build.specs.declared.used.Size.{Size}
@@ -25,12 +22,13 @@ use Rattle.life.specs.Labels.{Gathered}
 use Rattle.rounds.specs.declared.slots.Slots.{Slots}
 use Rattle.rounds.specs.declared.rounds.Round.{Round}
 use Rattle.rounds.specs.Slots.{Roomy, Gathers}
-use Rattle.rounds.specs.Rounds.{Roundable, Ready, Made, attempts-with}
+use Rattle.rounds.specs.Rounds.{Roundable, Made, attempts-with}
+use Rattle.rounds.specs.Runs.{Runnable}
 use Rattle.rounds.proofs.Cutting.{gathered-inside, gathered-labelled, gathered-labels}
 use Rattle.rounds.proofs.Turning.{bare-is}
 
 module _ {tape area : Text} {tokens lines : List ℕ} {area2 : Text} {tokens2 labels : List ℕ} {slots : Text} {slot-words : List ℕ} {at : Size}
-    (b : Ready tape area tokens lines area2 tokens2 labels slots slot-words at) where
+    (b : Runnable tape area tokens lines area2 tokens2 labels slots slot-words at) where
   pub begin-room : Roomy slots slot-words (record { count = 0; text = 0 }) (text (bare-now tape area tokens lines at)) (token-count (bare-now tape area tokens lines at))
   begin-room =
       let most = fits-text (b .limits .fits) in

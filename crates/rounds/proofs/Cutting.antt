@@ -6,16 +6,15 @@ use native.Mathlib.Nat.{add-zero}
 use native.Mathlib.Numerals.{add-one}
 use mathlib.Core.Path.{_≡_, refl, sym, ap, _∙_}
 use mathlib.Core.Bool.{Bool, true, false}
-use mathlib.Core.List.{List, [], _∷_, _++_, map, append-nil}
-use mathlib.Core.Option.{Option, none, some}
-use lib.Dec.{eqb}
+use mathlib.Core.List.{List, [], _∷_, _++_, append-nil}
+use mathlib.Core.Option.{some}
 use lib.ListN.{length, take, drop, getD, set, length-map, length-take, length-append}
 use lib.Seq.{drop-drop, append-snoc, take-at}
 use borrow.Author.Tests.{ne-eqb}
-use Rattle.reference.specs.Control.{_&&_, _||_, if_then_else_, let-some_else_then_}
-use Rattle.reference.specs.Lists.{windows, get}
+use Rattle.reference.specs.Control.{_&&_, _||_, let-some_else_then_}
+use Rattle.reference.specs.Lists.{windows}
 use Rattle.reference.specs.Text.{Text, bytes, _==_}
-use Rattle.reference.specs.Listing.{Token, Line, Listing, with-tokens}
+use Rattle.reference.specs.Listing.{Token, Listing, with-tokens}
 use Rattle.reference.specs.Rules.{Rules, volatile}
 use Rattle.reference.specs.Shapes.{calls-here, call-in}
 use Rattle.reference.specs.Life.{Labels, dead-after}
@@ -23,7 +22,7 @@ use Rattle.reference.specs.Run.{labels-from, dead-result, last-of, drop-dead-re
 use Rattle.reference.proofs.Cases.{both, some-true, same-number, true-false}
 use Rattle.laws.proofs.Scans.{and-here, and-second}
 use Rattle.laws.proofs.Parts.{drop-take}
-use Rattle.joining.specs.Bare.{bare, bare-lines}
+use Rattle.joining.specs.Bare.{bare-lines}
 use Rattle.joining.specs.Places.{label-places, labels-at, Labelled}
 use Rattle.joining.specs.Rounds.{cut-at, cuts}
 use Rattle.joining.proofs.Bare.{labels-bare, dead-result-bare, cut-bare}
@@ -32,13 +31,13 @@ use Rattle.joining.proofs.Moving.{cut-labels, cut-labelled}
 use Rattle.joining.proofs.Rounds.{cuts-begin, cuts-end, cuts-kept, cuts-cut}
 use Rattle.names.specs.Families.{row-name}
 use Rattle.lines.specs.Words.{text-of, token-of, tokens-of}
-use Rattle.lines.specs.Lines.{first-of, count-of, indent-of, with-part, part-of, line-in, listing-of, bare-in, bare-listing, Lined, Listed}
+use Rattle.lines.specs.Lines.{first-of, count-of, indent-of, with-part, part-of, line-in, listing-of, bare-listing, Lined, Listed}
 use Rattle.lines.specs.Shapes.{found}
 use Rattle.lines.specs.declared.shapes.Found.{Found}
 use Rattle.lines.specs.declared.shapes.Found.the-variants.{At, Nothing}
 use Rattle.lines.proofs.words.Each.{map-drop, map-set}
 use Rattle.lines.proofs.words.Tokens.{holds-drop}
-use Rattle.lines.proofs.words.Lines.{first-below, count-below, with-first, with-count, with-means, bare-at, bare-means, listed-set}
+use Rattle.lines.proofs.words.Lines.{count-below, with-first, with-count, with-means, bare-at, bare-means, listed-set}
 use Rattle.lines.proofs.shapes.Places.{found-is, found-not, find-at, get-at}
 use Rattle.life.specs.Labels.{Gathered}
 use Rattle.rounds.specs.Cuts.{keeps-result, Cuttable, labels-now, dead-at, Dropped, Cut}
@@ -88,8 +87,6 @@ module _ (tape area : Text) (ws : List ℕ) {r : Found} (h : found r ≡ call-in
         pub keeps-assigned : x ≡ true → {t : Text} → t ≡ text-of tape area (getD ws 1 0) → {y : Bool} → y ≡ (t == bytes " = ") → y ≡ keeps-result (tokens-of tape area ws)
         keeps-assigned f et ey = and-second (rw es at ex) f (rw et at ey) ∙ sym keeps-at
 
-pub ruleset keeping = (keeps-uncalled, keeps-elsewhere, keeps-other, keeps-assigned)
-
 -- ---- a result that is never read
 
 regroup : (a b c d : Bool) → (a && b && c && d) ≡ ((a && b && c) && d)
@@ -116,7 +113,7 @@ module _ (rules : Rules) (tape area : Text) (tokens lines labels : List ℕ) (i 
 
   -- ---- one cut
 
-  pub dead-long : dead-at rules tape area tokens lines labels i ≡ true → 2 < count-of (getD lines i 0)
+  dead-long : dead-at rules tape area tokens lines labels i ≡ true → 2 < count-of (getD lines i 0)
   unfolding keeps-result
   dead-long e =
       let k = some-true (both (both (sym dead-is ∙ e) .0) .0) in
@@ -133,9 +130,6 @@ module _ (rules : Rules) (tape area : Text) (tokens lines labels : List ℕ) (i 
     dropped-kept f = record { kept = λ e. (refl, refl); cut = λ e. absurd (true-false e (sym ex ∙ f)) }
 
     module _ (t : x ≡ true) where
-      l : ℕ
-      l = getD lines i 0
-
       pub cut-count : 2 ≤ count-of (getD lines i 0)
       cut-count = omega (arith, dead-long (sym ex ∙ t))
 

@@ -6,11 +6,11 @@ use native.Mathlib.Nat.{le-refl}
 use native.Mathlib.Numerals.{add-one}
 use mathlib.Core.Path.{_≡_, refl, sym, ap, _∙_}
 use mathlib.Core.Bool.{Bool, true, false}
-use mathlib.Core.List.{List, [], _∷_, _++_, map, map-append, append-assoc, append-nil}
+use mathlib.Core.List.{List, [], _∷_, _++_, map-append, append-assoc, append-nil}
 use lib.ListN.{length, take, drop, getD, set, length-map, length-drop, length-append, length-set, drop-of-length-le, List·getD-map}
 use lib.Seq.{paste, length-paste, drop-cons, take-append-seam, take-suc-set, length-take-le}
 use Rattle.reference.specs.Control.{_&&_, if_then_else_}
-use Rattle.reference.specs.Lists.{windows, pairs-from}
+use Rattle.reference.specs.Lists.{windows}
 use Rattle.reference.specs.Text.{Text, bytes, starts-with, ends-with}
 use Rattle.reference.specs.Listing.{Token, Listing, blank, _at_}
 use Rattle.reference.specs.Claim.{size, text-in, token-count, text}

@@ -1,11 +1,11 @@
 -- The run: rounds one after the other, each with what the one before it left, then the cuts. Assumes nothing.
-use Prim.Native.Nat.{ℕ, suc, _+_, _≤_, _<_}
+use Prim.Native.Nat.{ℕ, suc, _+_}
 use native.Mathlib.Omega.{arith}
 use mathlib.Core.Path.{_≡_, refl, sym, ap, _∙_}
 use mathlib.Core.Logic.{_⊎_, ⊎-elim, inl, inr}
 use mathlib.Core.Bool.{Bool, true, false}
 use mathlib.Core.List.{List, [], _∷_, _++_, map}
-use lib.ListN.{length, take, drop, length-take}
+use lib.ListN.{length, take, drop}
 use lib.Seq.{take-at, length-take-le, length-front}
 use borrow.Author.Tests.{eq-eqb, ne-eqb}
 use Rattle.reference.specs.Control.{_||_, if_then_else_}
@@ -18,11 +18,11 @@ use Rattle.lines.specs.Lines.{listing-of}
 use Rattle.build.specs.declared.used.Size.{Size}
 use Rattle.build.specs.State.{used}
 use Rattle.build.specs.Added.{used-words}
-use Rattle.join.specs.Current.{used-lines, listing-now, Current, Lent}
+use Rattle.join.specs.Current.{used-lines, listing-now}
 use Rattle.rounds.specs.declared.rounds.Round.{Round}
 use Rattle.rounds.specs.declared.run.Outcome.{Outcome}
 use Rattle.rounds.specs.Cuts.{Cut}
-use Rattle.rounds.specs.Rounds.{Ready, Made, round-after}
+use Rattle.rounds.specs.Rounds.{Made, round-after}
 use Rattle.rounds.specs.Runs.{Runnable, after-rounds, Rounded, counts-of, Ran}
 use Rattle.rounds.proofs.Cutting.{last-append}
 use Rattle.rounds.proofs.Turning.{lent-same}
@@ -59,7 +59,7 @@ module _ (rules : Rules) (removed : ℕ) (lines : Listing) where
   round-made n = if-false _ _ (ne-eqb removed 0 n)
 
 module _ (rules : Rules) {tape area : Text} {tokens lines : List ℕ} {at : Size} (removed : ℕ) where
-  pub made-none : {area2 : Text} {tokens2 labels : List ℕ} {slots : Text} {slot-words : List ℕ} → Ready tape area tokens lines area2 tokens2 labels slots slot-words at → removed ≡ 0
+  pub made-none : {area2 : Text} {tokens2 labels : List ℕ} {slots : Text} {slot-words : List ℕ} → Runnable tape area tokens lines area2 tokens2 labels slots slot-words at → removed ≡ 0
       → Made (round-after rules removed) tape area tokens lines at area tokens lines (record { next = 0; attempts = 0; removed = 0; size = at })
   unfolding after-attempts removals
   made-none b e =
@@ -84,31 +84,21 @@ module _ (rules : Rules) {tape area : Text} {tokens lines : List ℕ} {at : Size
     removed-is = λ addresses. rw (round-made rules removed (listing-now tape area tokens lines at addresses) n) (m .removed-is addresses);
   }
 
--- the tables are ready for the next round
-pub ready-again : {round : Listing → List Attempt} {tape area : Text} {tokens lines : List ℕ} {area2 : Text} {tokens2 labels : List ℕ} {slots : Text} {slot-words : List ℕ} {at : Size}
+-- the tables are large enough for the next round
+pub runnable-again : {round : Listing → List Attempt} {tape area : Text} {tokens lines : List ℕ} {area2 : Text} {tokens2 labels : List ℕ} {slots : Text} {slot-words : List ℕ} {at : Size}
     (area2′ : Text) (tokens2′ labels′ : List ℕ) (slots′ : Text) (slot-words′ : List ℕ) {area′ : Text} {tokens′ lines′ : List ℕ} {r : Round}
-    → Ready tape area tokens lines area2 tokens2 labels slots slot-words at → Made round tape area tokens lines at area′ tokens′ lines′ r
+    → Runnable tape area tokens lines area2 tokens2 labels slots slot-words at → Made round tape area tokens lines at area′ tokens′ lines′ r
     → length area′ ≡ length area → length tokens′ ≡ length tokens → length area2′ ≡ length area2 → length tokens2′ ≡ length tokens2
     → length labels′ ≡ length labels → length slots′ ≡ length slots → length slot-words′ ≡ length slot-words
-    → Ready tape area′ tokens′ lines′ area2′ tokens2′ labels′ slots′ slot-words′ (r .size)
-ready-again area2′ tokens2′ labels′ slots′ slot-words′ {area′} {tokens′} b m ea et ea2 et2 el es ew = record {
+    → Runnable tape area′ tokens′ lines′ area2′ tokens2′ labels′ slots′ slot-words′ (r .size)
+runnable-again area2′ tokens2′ labels′ slots′ slot-words′ {area′} {tokens′} b m ea et ea2 et2 el es ew = record {
   current = m .current;
   limits = m .limits;
   lent = lent-same area′ tokens′ area2′ tokens2′ (b .lent) ea et ea2 et2;
   for-labels = omega (arith, b .for-labels);
   for-slots = omega (arith, b .for-slots);
   for-slot-words = omega (arith, b .for-slot-words);
-}
-
-pub runnable-ready : {tape area : Text} {tokens lines : List ℕ} {area2 : Text} {tokens2 labels : List ℕ} {slots : Text} {slot-words : List ℕ} {at : Size}
-    → Runnable tape area tokens lines area2 tokens2 labels slots slot-words at → Ready tape area tokens lines area2 tokens2 labels slots slot-words at
-runnable-ready r = record {
-  current = r .current;
-  limits = r .limits;
-  lent = r .lent;
-  for-labels = r .for-labels;
-  for-slots = r .for-slots;
-  for-slot-words = r .for-slot-words;
+  words-short = omega (arith, b .words-short);
 }
 
 -- ---- three rounds

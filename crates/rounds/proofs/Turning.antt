@@ -6,8 +6,8 @@ use mathlib.Core.Path.{_≡_, refl, sym, ap, _∙_}
 use mathlib.Core.Logic.{⊎-elim, inl, inr}
 use mathlib.Core.Bool.{Bool, true, false}
 use mathlib.Core.List.{List, [], _∷_, _++_, append-nil}
-use mathlib.Core.Option.{Option, none, some}
-use lib.ListN.{length, take, length-map, length-append}
+use mathlib.Core.Option.{none, some}
+use lib.ListN.{length, length-map, length-append}
 use lib.Seq.{append-snoc, length-take-le}
 use Rattle.reference.specs.Control.{if_then_else_, let-some_else_then_}
 use Rattle.reference.specs.Text.{Text}
@@ -24,7 +24,7 @@ use Rattle.joining.proofs.Bare.{labels-at-bare, try-at-bare}
 use Rattle.joining.proofs.Bounds.{limits-after}
 use Rattle.joining.proofs.Moving.{shift-labels, shift-labelled}
 use Rattle.joining.proofs.Rounds.{success-length, attempts-end, attempts-failed, attempts-succeeded}
-use Rattle.lines.specs.Lines.{line-in, bare-in}
+use Rattle.lines.specs.Lines.{bare-in}
 use Rattle.lines.proofs.words.Lines.{bare-means}
 use Rattle.build.specs.declared.used.Size.{Size}
 use Rattle.build.specs.State.{used}
@@ -34,7 +34,7 @@ use Rattle.join.specs.Current.{used-lines, listing-now, bare-now, Current, Lent
 use Rattle.join.specs.Attempts.{Attemptable, Attempted}
 use Rattle.join.specs.declared.attempt.Tried.{Tried}
 use Rattle.rounds.specs.declared.rounds.Round.{Round}
-use Rattle.rounds.specs.Rounds.{answer, Failed, Succeeded, Turned, Countable, Roundable, Made, attempts-with}
+use Rattle.rounds.specs.Rounds.{Failed, Succeeded, Turned, Countable, Roundable, Made, attempts-with}
 
 -- ---- what is read off attempts, one after the other
 

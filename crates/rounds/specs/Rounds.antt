@@ -1,5 +1,5 @@
 -- What an attempt and a round leave. Assumes nothing.
-use Prim.Native.Nat.{ℕ, pred, _+_, _≤_, _<_}
+use Prim.Native.Nat.{ℕ, pred, _+_, _≤_}
 use mathlib.Core.Path.{_≡_}
 use mathlib.Core.Logic.{_⊎_}
 use mathlib.Core.List.{List, []}
@@ -64,15 +64,6 @@ pub record Roundable (tape area : Text) (tokens lines : List ℕ) (area2 : Text)
   pub lent : Lent area tokens area2 tokens2
   pub labelled : Labelled (bare-now tape area tokens lines at) labels
   pub slotted : Slotted slots words
-
--- a listing within the limits, and tables large enough for a round
-pub record Ready (tape area : Text) (tokens lines : List ℕ) (area2 : Text) (tokens2 labels : List ℕ) (slots : Text) (slot-words : List ℕ) (at : Size) : Type 0 where
-  pub current : Current tape area tokens lines at
-  pub limits : Limits (bare-now tape area tokens lines at)
-  pub lent : Lent area tokens area2 tokens2
-  pub for-labels : 256 ≤ length labels
-  pub for-slots : 49152 ≤ length slots
-  pub for-slot-words : 1024 ≤ length slot-words
 
 -- The attempts `round` were made, one after the other: what they leave, how many they are and how many of them succeeded; whatever the addresses are.
 pub record Made (round : Listing → List Attempt) (tape area : Text) (tokens lines : List ℕ) (at : Size) (area′ : Text) (tokens′ lines′ : List ℕ) (r : Round) : Type 0 where

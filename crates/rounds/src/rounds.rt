@@ -10,7 +10,8 @@ ghost use Prim.Native.Nat.{pred};
 ghost use Rattle.reference.specs.Run.{propagate-once};
 ghost use Rattle.lines.specs.Rules.{rules-of};
 ghost use Rattle.join.specs.Attempts.{Attemptable};
-ghost use Rattle.rounds.specs.Rounds.{Turned, Countable, Roundable, Ready, Made, attempts-with};
+ghost use Rattle.rounds.specs.Rounds.{Turned, Countable, Roundable, Made, attempts-with};
+ghost use Rattle.rounds.specs.Runs.{Runnable};
 
 // How far a round has come: the next line to try, the attempts and the removals so far, and the listing's size.
 pub struct Round {
@@ -136,7 +137,7 @@ pub fn propagate_once(
     size: Size,
     rules: Rules,
 ) -> Round
-    requires { ⌜ Ready (now tape) (now area) (now tokens) (now lines) (now area2) (now tokens2) (now labels) (now slots) (now «slot_words») size ⌝ }
+    requires { ⌜ Runnable (now tape) (now area) (now tokens) (now lines) (now area2) (now tokens2) (now labels) (now slots) (now «slot_words») size ⌝ }
     ensures { λ r. ⌜ Made (propagate-once (rules-of rules)) (now (tape .entry)) (now (area .entry)) (now (tokens .entry)) (now (lines .entry)) size (now (area .exit)) (now (tokens .exit)) (now (lines .exit)) r ⌝ }
 {
     let n = size.lines;

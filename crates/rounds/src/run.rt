@@ -5,7 +5,7 @@ use crate::rounds::propagate_once;
 use build::used::Size;
 use lines::rules::Rules;
 ghost use Rattle.lines.specs.Rules.{rules-of};
-ghost use Rattle.rounds.specs.Rounds.{Ready, Made, round-after};
+ghost use Rattle.rounds.specs.Rounds.{Made, round-after};
 ghost use Rattle.rounds.specs.Runs.{Runnable, Rounded, Ran};
 
 // What a run left: the attempts of each round, the lines removed, the results cut, and the listing's size.
@@ -32,7 +32,7 @@ fn next_round(
     before: Round,
     rules: Rules,
 ) -> Round
-    requires { ⌜ Ready (now tape) (now area) (now tokens) (now lines) (now area2) (now tokens2) (now labels) (now slots) (now «slot_words») (before .size) ⌝ }
+    requires { ⌜ Runnable (now tape) (now area) (now tokens) (now lines) (now area2) (now tokens2) (now labels) (now slots) (now «slot_words») (before .size) ⌝ }
     ensures { λ r. ⌜ Made (round-after (rules-of rules) (before .removed)) (now (tape .entry)) (now (area .entry)) (now (tokens .entry)) (now (lines .entry)) (before .size) (now (area .exit)) (now (tokens .exit)) (now (lines .exit)) r ⌝ }
 {
     let size = before.size;

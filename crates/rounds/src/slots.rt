@@ -4,7 +4,6 @@ use text::begins_slot;
 use text::copy_bytes;
 use text::ends_ampersand;
 ghost use mathlib.Core.List.{[], _∷_};
-ghost use Prim.Native.Nat.{_≤_};
 ghost use lib.ListN.{length};
 ghost use Rattle.reference.specs.Lists.{windows};
 ghost use Rattle.reference.specs.Claim.{text-in, token-count, text as text-of-all};

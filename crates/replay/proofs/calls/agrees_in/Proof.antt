@@ -1,7 +1,8 @@
--- `replay::calls::agrees_in` is safe. Assumes nothing.
+-- `replay::calls::agrees_in` meets its contract. Assumes nothing.
 use native.Mathlib.Omega.{arith}
 use mathlib.Core.Path.{sym}
 use lib.Seq.{length-take-le}
+use Rattle.replay.proofs.Calling.{short-a, short-b, short-o, made}
 use borrow.Author.Needs.{needs}
 use Rattle.replay.proofs.calls.agrees_in.Statement.{statement}
 use Rattle.replay.proofs.calls.agrees_in.Tie as tie
@@ -16,13 +17,13 @@ number-requires-3 : tie.Need-number-requires-3
 number-requires-3 c κs = search needs
 
 returns : tie.Need-returns
-returns c = search needs
+returns c = short-a _ _ _ _ (omega (arith, c .before .before .before .number .ensures))
 
 returns-2 : tie.Need-returns-2
-returns-2 c = search needs
+returns-2 c = short-b _ _ _ _ (omega (arith, c .before .before .before .before .number .ensures)) (omega (arith, c .before .before .before .number2 .ensures))
 
 returns-3 : tie.Need-returns-3
-returns-3 c = search needs
+returns-3 c = short-o _ _ _ _ (omega (arith, c .before .before .before .before .before .number .ensures)) (omega (arith, c .before .before .before .before .number2 .ensures)) (omega (arith, c .before .before .before .number3 .ensures))
 
 number-requires-4 : tie.Need-number-requires-4
 number-requires-4 c κs = search needs
@@ -67,7 +68,12 @@ same-length-3 : tie.Need-same-length-3
 same-length-3 c = search needs
 
 returns-4 : tie.Need-returns-4
-returns-4 c = search needs
+returns-4 c =
+    let k = c .before .before .before .before .before .before .before .before .before .before in
+    let t = k .before .before .before .before .before in
+    made _ _ _ _ (t .before .before .before .before .before .before .number .ensures) (t .before .before .before .before .before .number2 .ensures)
+    (t .before .before .before .before .number3 .ensures) (t .number4 .ensures) (k .before .before .before .before .tape-of .ensures) (omega arith) (omega arith) (omega arith)
+    (k .clean .ensures .0) (c .is-right .ensures)
 
 pub agrees-in-spec : {M : Type 1} → statement M
 agrees-in-spec =

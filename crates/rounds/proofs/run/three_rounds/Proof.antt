@@ -2,7 +2,7 @@
 use native.Mathlib.Omega.{arith}
 use mathlib.Core.Path.{_∙_}
 use borrow.Author.Needs.{needs}
-use Rattle.rounds.proofs.Running.{ready-again, runnable-ready, rounds-made}
+use Rattle.rounds.proofs.Running.{runnable-again, rounds-made}
 use Rattle.rounds.proofs.run.three_rounds.Statement.{statement}
 use Rattle.rounds.proofs.run.three_rounds.Tie as tie
 
@@ -12,13 +12,13 @@ propagate-once-requires c κs = search needs
 next-round-requires : tie.Need-next-round-requires
 next-round-requires c κs =
     let one = c .before .before .before .before .before .before .before .before .before .before .before .before .before .before .before .before .before .before .before .before .before .before .before .before .propagate-once in
-    ready-again (one .last .1 .1 .1 .1 .0) (one .last .1 .1 .1 .1 .1 .0) (one .last .1 .1 .1 .1 .1 .1 .0) (one .last .1 .1 .1 .1 .1 .1 .1 .0) (one .last .1 .1 .1 .1 .1 .1 .1 .1 .0) (runnable-ready (c .before .before .before .before .before .before .before .before .before .before .before .before .before .before .before .before .before .before .before .before .before .before .before .before .before .before .before .before .before .before .before .before .before .before .before .before .before .before .before .before .before .before .pre)) (one .ensures) (one .kept .1 .0) (one .kept .1 .1 .0) (one .kept .1 .1 .1 .1 .0) (one .kept .1 .1 .1 .1 .1 .0) (one .kept .1 .1 .1 .1 .1 .1 .0) (one .kept .1 .1 .1 .1 .1 .1 .1 .0) (one .kept .1 .1 .1 .1 .1 .1 .1 .1 .0)
+    runnable-again (one .last .1 .1 .1 .1 .0) (one .last .1 .1 .1 .1 .1 .0) (one .last .1 .1 .1 .1 .1 .1 .0) (one .last .1 .1 .1 .1 .1 .1 .1 .0) (one .last .1 .1 .1 .1 .1 .1 .1 .1 .0) (c .before .before .before .before .before .before .before .before .before .before .before .before .before .before .before .before .before .before .before .before .before .before .before .before .before .before .before .before .before .before .before .before .before .before .before .before .before .before .before .before .before .before .pre) (one .ensures) (one .kept .1 .0) (one .kept .1 .1 .0) (one .kept .1 .1 .1 .1 .0) (one .kept .1 .1 .1 .1 .1 .0) (one .kept .1 .1 .1 .1 .1 .1 .0) (one .kept .1 .1 .1 .1 .1 .1 .1 .0) (one .kept .1 .1 .1 .1 .1 .1 .1 .1 .0)
 
 next-round-requires-2 : tie.Need-next-round-requires-2
 next-round-requires-2 c κs =
     let one = c .before .before .before .before .before .before .before .before .before .before .before .before .before .before .before .before .before .before .before .before .before .before .before .before .before .before .before .before .before .before .before .before .before .before .before .before .before .before .before .before .before .before .before .before .before .before .before .before .before .propagate-once in
     let two = c .before .before .before .before .before .before .before .before .before .before .before .before .before .before .before .before .before .before .before .before .before .before .before .before .next-round in
-    ready-again (two .last .1 .1 .1 .1 .0) (two .last .1 .1 .1 .1 .1 .0) (two .last .1 .1 .1 .1 .1 .1 .0) (two .last .1 .1 .1 .1 .1 .1 .1 .0) (two .last .1 .1 .1 .1 .1 .1 .1 .1 .0) (ready-again (one .last .1 .1 .1 .1 .0) (one .last .1 .1 .1 .1 .1 .0) (one .last .1 .1 .1 .1 .1 .1 .0) (one .last .1 .1 .1 .1 .1 .1 .1 .0) (one .last .1 .1 .1 .1 .1 .1 .1 .1 .0) (runnable-ready (c .before .before .before .before .before .before .before .before .before .before .before .before .before .before .before .before .before .before .before .before .before .before .before .before .before .before .before .before .before .before .before .before .before .before .before .before .before .before .before .before .before .before .before .before .before .before .before .before .before .before .before .before .before .before .before .before .before .before .before .before .before .before .before .before .before .before .before .pre)) (one .ensures) (one .kept .1 .0) (one .kept .1 .1 .0) (one .kept .1 .1 .1 .1 .0) (one .kept .1 .1 .1 .1 .1 .0) (one .kept .1 .1 .1 .1 .1 .1 .0) (one .kept .1 .1 .1 .1 .1 .1 .1 .0) (one .kept .1 .1 .1 .1 .1 .1 .1 .1 .0)) (two .ensures) (two .kept .1 .0) (two .kept .1 .1 .0) (two .kept .1 .1 .1 .1 .0) (two .kept .1 .1 .1 .1 .1 .0) (two .kept .1 .1 .1 .1 .1 .1 .0) (two .kept .1 .1 .1 .1 .1 .1 .1 .0) (two .kept .1 .1 .1 .1 .1 .1 .1 .1 .0)
+    runnable-again (two .last .1 .1 .1 .1 .0) (two .last .1 .1 .1 .1 .1 .0) (two .last .1 .1 .1 .1 .1 .1 .0) (two .last .1 .1 .1 .1 .1 .1 .1 .0) (two .last .1 .1 .1 .1 .1 .1 .1 .1 .0) (runnable-again (one .last .1 .1 .1 .1 .0) (one .last .1 .1 .1 .1 .1 .0) (one .last .1 .1 .1 .1 .1 .1 .0) (one .last .1 .1 .1 .1 .1 .1 .1 .0) (one .last .1 .1 .1 .1 .1 .1 .1 .1 .0) (c .before .before .before .before .before .before .before .before .before .before .before .before .before .before .before .before .before .before .before .before .before .before .before .before .before .before .before .before .before .before .before .before .before .before .before .before .before .before .before .before .before .before .before .before .before .before .before .before .before .before .before .before .before .before .before .before .before .before .before .before .before .before .before .before .before .before .before .pre) (one .ensures) (one .kept .1 .0) (one .kept .1 .1 .0) (one .kept .1 .1 .1 .1 .0) (one .kept .1 .1 .1 .1 .1 .0) (one .kept .1 .1 .1 .1 .1 .1 .0) (one .kept .1 .1 .1 .1 .1 .1 .1 .0) (one .kept .1 .1 .1 .1 .1 .1 .1 .1 .0)) (two .ensures) (two .kept .1 .0) (two .kept .1 .1 .0) (two .kept .1 .1 .1 .1 .0) (two .kept .1 .1 .1 .1 .1 .0) (two .kept .1 .1 .1 .1 .1 .1 .0) (two .kept .1 .1 .1 .1 .1 .1 .1 .0) (two .kept .1 .1 .1 .1 .1 .1 .1 .1 .0)
 
 add-t64 : tie.Need-add-t64
 add-t64 c = omega (arith, c .before .before .before .before .before .before .before .before .before .before .before .before .before .before .before .before .before .before .before .before .before .before .before .before .before .before .before .before .before .before .before .before .before .before .before .before .before .before .before .before .before .before .before .before .before .before .before .before .before .before .before .before .before .before .before .before .before .before .before .before .before .before .before .before .before .before .before .before .before .propagate-once .ensures .few .1, c .before .before .before .before .before .before .before .before .before .before .before .before .before .before .before .before .before .before .before .before .before .before .before .before .before .before .before .before .before .before .before .before .before .before .before .before .before .before .before .before .before .before .before .before .next-round .ensures .few .1)

@@ -1,8 +1,8 @@
--- `join::apply::is_changed` meets its contract. Assumes nothing.
+-- `join::changing::is_changed` meets its contract. Assumes nothing.
 use borrow.Author.Needs.{needs}
 use Rattle.join.proofs.Placing.{not-later, past-last, by-use}
-use Rattle.join.proofs.apply.is_changed.Statement.{statement}
-use Rattle.join.proofs.apply.is_changed.Tie as tie
+use Rattle.join.proofs.changing.is_changed.Statement.{statement}
+use Rattle.join.proofs.changing.is_changed.Tie as tie
 
 returns : tie.Need-returns
 returns c source = search (needs, not-later)

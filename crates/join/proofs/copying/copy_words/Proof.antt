@@ -1,4 +1,4 @@
--- `join::apply::copy_words` meets its contract. Assumes nothing.
+-- `join::copying::copy_words` meets its contract. Assumes nothing.
 use Prim.Native.Nat.{_≤_, _-_}
 use mathlib.Core.Path.{_≡_, refl, _∙_}
 use native.Mathlib.Omega.{arith}
@@ -6,8 +6,8 @@ use native.Mathlib.Numerals.{add-one}
 use lib.ListN.{length, length-set}
 use lib.Seq.{paste, paste-zero, paste-suc}
 use borrow.Author.Needs.{needs}
-use Rattle.join.proofs.apply.copy_words.Statement.{statement}
-use Rattle.join.proofs.apply.copy_words.Tie as tie
+use Rattle.join.proofs.copying.copy_words.Statement.{statement}
+use Rattle.join.proofs.copying.copy_words.Tie as tie
 
 abbrev Inv-loop : tie.InvT-loop
 Inv-loop from to₀ at i₀ to i = (i ≤ length from) × (to ≡ paste to₀ at from i) × (length to ≡ length to₀)

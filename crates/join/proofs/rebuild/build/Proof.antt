@@ -1,4 +1,4 @@
--- `join::apply::build` meets its contract. Assumes nothing.
+-- `join::rebuild::build` meets its contract. Assumes nothing.
 use Prim.Native.Nat.{_-_, _≤_, _<_}
 use native.Mathlib.Omega.{arith}
 use mathlib.Core.Path.{_≡_, refl, sym, ap, _∙_}
@@ -6,9 +6,10 @@ use lib.ListN.{length}
 use borrow.Author.Needs.{needs}
 use Rattle.lines.specs.Rules.{rules-of}
 use Rattle.join.specs.Building.{Upto}
-use Rattle.join.proofs.Building.{begun, text-few, words-few, passed, placeable, placed, finished}
-use Rattle.join.proofs.apply.build.Statement.{statement}
-use Rattle.join.proofs.apply.build.Tie as tie
+use Rattle.join.proofs.Rows.{text-few, words-few, placeable}
+use Rattle.join.proofs.Building.{rest-at, spare-whole, begun, passed, placed, finished}
+use Rattle.join.proofs.rebuild.build.Statement.{statement}
+use Rattle.join.proofs.rebuild.build.Tie as tie
 
 abbrev Inv-loop : tie.InvT-loop
 Inv-loop tape area tokens lines₀ j rules area2₀ tokens2₀ gone source size₀ next₀ lines area2 tokens2 size next = (next ≤ length lines₀)
@@ -41,7 +42,8 @@ build-line-requires : tie.Need-build-line-requires Inv-loop μ-loop
 build-line-requires c κs =
     let p = c .before .before .before .before .before .before .before .before .before .before .before .before .before .pre in
     let i = c .before .before .before .before .before .loop .inv in
-    placeable (p .0) (i .3) (omega (arith, i .3 .as-many, c .before .before .before .before .loop-test .taken)) (c .before .before .before .if1 .taken) (omega (arith, p .1, i .1)) (omega (arith, p .2, i .2)) refl
+    let b : c .before .before .before .before .before .loop .next < length (c .before .before .before .before .before .before .before .before .before .before .before .before .before .args .lines .now) = omega (arith, i .3 .as-many, c .before .before .before .before .loop-test .taken) in
+    placeable (p .0) (i .3 .within) b (c .before .before .before .if1 .taken) refl (rest-at (c .before .before .before .before .before .loop .next) (c .before .before .before .before .before .loop .lines) (c .before .before .before .before .before .before .before .before .before .before .before .before .before .args .lines .now) (i .3 .rest-is)) (spare-whole (omega (arith, p .1, i .1)) (omega (arith, p .2, i .2)))
 
 put-line-requires : tie.Need-put-line-requires Inv-loop μ-loop
 put-line-requires c κs = omega (arith, c .before .before .before .before .before .build-line .ensures .lines-are, c .before .before .before .before .before .before .before .before .before .before .before .loop .inv .3 .behind, c .before .before .before .before .before .before .before .before .before .before .loop-test .taken)
@@ -82,7 +84,7 @@ returns : tie.Need-returns Inv-loop μ-loop
 returns c =
     let p = c .before .before .before .before .before .before .before .before .before .pre in
     let i = c .before .loop .inv in
-    finished (p .0) (i .3) (omega (arith, i .0, i .3 .as-many, c .loop-test .left)) (omega (arith, text-few (p .0) (i .3), p .1, i .1)) (omega (arith, words-few (p .0) (i .3), p .2, i .2))
+    finished (p .0) (i .3) (omega (arith, i .0, i .3 .as-many, c .loop-test .left)) (omega (arith, text-few (p .0) (i .3 .within), p .1, i .1)) (omega (arith, words-few (p .0) (i .3 .within), p .2, i .2))
 
 pub build-spec : {M : Type 1} → statement M
 build-spec =
