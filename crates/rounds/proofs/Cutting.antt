@@ -125,49 +125,61 @@ module _ (rules : Rules) (tape area : Text) (tokens lines labels : List ℕ) (i 
         length-take (count-of (getD lines i 0)) (drop (first-of (getD lines i 0)) tokens),
       )
 
-  module _ (c : Cuttable tape area tokens lines labels) {x : Bool} (ex : x ≡ dead-at rules tape area tokens lines labels i) where
-    pub dropped-kept : x ≡ false → Dropped rules tape area tokens lines labels i lines 0
-    dropped-kept f = record { kept = λ e. (refl, refl); cut = λ e. absurd (true-false e (sym ex ∙ f)) }
+-- the word of a line without its first two tokens
+abbrev cut-word : ℕ → ℕ
+cut-word l = with-part l (first-of l + 2) (count-of l - 2)
 
-    module _ (t : x ≡ true) where
-      pub cut-count : 2 ≤ count-of (getD lines i 0)
-      cut-count = omega (arith, dead-long (sym ex ∙ t))
+pub cut-fewer : (l : ℕ) → count-of l - 2 < 2048
+cut-fewer l = omega (arith, count-below l)
 
-      pub cut-first : first-of (getD lines i 0) + 2 < 65536
-      cut-first = omega (arith, dead-long (sym ex ∙ t), c .listed .at i h .inside, c .short)
+-- it is a part of the same tokens
+module _ (tape area : Text) (tokens : List ℕ) (l : ℕ) (h : Lined tape area tokens l) (few : 2 ≤ count-of l) (low : first-of l + 2 < 65536) where
+  part : take (count-of l - 2) (drop (first-of l + 2) tokens) ≡ drop 2 (part-of tokens l)
+  part = rw (drop-take, drop-drop)
 
-      pub cut-fewer : count-of (getD lines i 0) - 2 < 2048
-      cut-fewer = omega (arith, count-below (getD lines i 0))
+  cut-lined : Lined tape area tokens (cut-word l)
+  cut-lined =
+      let first = with-first l (first-of l + 2) (count-of l - 2) low (cut-fewer l) in
+      let count = with-count l (first-of l + 2) (count-of l - 2) low (cut-fewer l) in
+      record { inside = rw (first, count) (omega (arith, h .inside)); holds = rw (first, count, part) (holds-drop (h .holds) 2) }
 
-      part : take (count-of (getD lines i 0) - 2) (drop (first-of (getD lines i 0) + 2) tokens) ≡ drop 2 (part-of tokens (getD lines i 0))
-      part = rw (drop-take, drop-drop)
+  cut-means : (addresses : List ℕ)
+      → line-in tape area tokens addresses (cut-word l)
+      ≡ with-tokens (drop 2 (line-in tape area tokens addresses l .tokens)) (line-in tape area tokens addresses l)
+  cut-means addresses =
+      with-means l (first-of l + 2) (count-of l - 2) low (cut-fewer l) tape area tokens addresses
+      ∙ ap (λ (ts : List Token). with-tokens ts (line-in tape area tokens addresses l))
+      (ap (tokens-of tape area) part ∙ map-drop (token-of tape area) 2 (part-of tokens l))
 
-      lined : {v : ℕ} → v ≡ with-part (getD lines i 0) (first-of (getD lines i 0) + 2) (count-of (getD lines i 0) - 2) → Lined tape area tokens v
-      lined ev =
-          let f = with-first (getD lines i 0) (first-of (getD lines i 0) + 2) (count-of (getD lines i 0) - 2) cut-first cut-fewer in
-          let k = with-count (getD lines i 0) (first-of (getD lines i 0) + 2) (count-of (getD lines i 0) - 2) cut-first cut-fewer in
-          rw ev
-          (record {
-            inside = rw (f, k) (omega (arith, cut-count, c .listed .at i h .inside));
-            holds = rw (f, k, part) (holds-drop (c .listed .at i h .holds) 2);
-          })
+module _ {tape area : Text} {tokens lines labels : List ℕ} (c : Cuttable tape area tokens lines labels) (rules : Rules) (i : ℕ) (h : i < length lines)
+    {x : Bool} (ex : x ≡ dead-at rules tape area tokens lines labels i) where
+  pub dropped-kept : x ≡ false → Dropped rules tape area tokens lines labels i lines 0
+  dropped-kept f = record { kept = λ e. (refl, refl); cut = λ e. absurd (true-false e (sym ex ∙ f)) }
 
-      means : {v : ℕ} → v ≡ with-part (getD lines i 0) (first-of (getD lines i 0) + 2) (count-of (getD lines i 0) - 2) → (addresses : List ℕ)
-          → line-in tape area tokens addresses v
-          ≡ with-tokens (drop 2 (line-in tape area tokens addresses (getD lines i 0) .tokens)) (line-in tape area tokens addresses (getD lines i 0))
-      means ev addresses =
-          ap (line-in tape area tokens addresses) ev
-          ∙ with-means (getD lines i 0) (first-of (getD lines i 0) + 2) (count-of (getD lines i 0) - 2) cut-first cut-fewer tape area tokens addresses
-          ∙ ap (λ (ts : List Token). with-tokens ts (line-in tape area tokens addresses (getD lines i 0)))
-          (ap (tokens-of tape area) part ∙ map-drop (token-of tape area) 2 (part-of tokens (getD lines i 0)))
+  module _ (t : x ≡ true) where
+    long : 2 < count-of (getD lines i 0)
+    long = dead-long rules tape area tokens lines labels i h (sym ex ∙ t)
 
-      pub dropped-cut : {v : ℕ} → v ≡ with-part (getD lines i 0) (first-of (getD lines i 0) + 2) (count-of (getD lines i 0) - 2)
-          → Dropped rules tape area tokens lines labels i (set lines i v) 1
-      dropped-cut {v} ev =
-          record {
-            kept = λ e. absurd (true-false (sym ex ∙ t) e);
-            cut = λ e. (refl, listed-set (c .listed) i (lined ev), λ addresses. map-set (line-in tape area tokens addresses) _ i lines v (λ _. means ev addresses));
-          }
+    -- what the new word asks
+    pub cut-count : 2 ≤ count-of (getD lines i 0)
+    cut-count = omega (arith, long)
+
+    pub cut-first : first-of (getD lines i 0) + 2 < 65536
+    cut-first = omega (arith, long, c .listed .at i h .inside, c .short)
+
+    pub dropped-cut : {v : ℕ} → v ≡ cut-word (getD lines i 0) → Dropped rules tape area tokens lines labels i (set lines i v) 1
+    dropped-cut {v} ev =
+        let l = c .listed .at i h in
+        record {
+          kept = λ e. absurd (true-false (sym ex ∙ t) e);
+          cut = λ e. (
+            refl,
+            listed-set (c .listed) i (rw ev (cut-lined tape area tokens (getD lines i 0) l cut-count cut-first)),
+            λ addresses.
+                map-set (line-in tape area tokens addresses) _ i lines v
+                (λ _. ap (line-in tape area tokens addresses) ev ∙ cut-means tape area tokens (getD lines i 0) l cut-count cut-first addresses),
+          );
+        }
 
 -- ---- all cuts
 
@@ -216,17 +228,17 @@ module _ (rules : Rules) (labels : Labels) where
 
 -- ---- in the tables
 
-module _ (rules : Rules) (tape area : Text) (tokens start labels : List ℕ) where
-  -- the cuts of the lines before line i were made, n of them
-  pub record Cutting (lines : List ℕ) (n i : ℕ) : Type 0 where
-    pub listed : Listed tape area tokens lines
-    pub labelled : Labelled (bare-listing tape area tokens lines) labels
-    pub labels-same : labels-now tape area tokens lines labels ≡ labels-now tape area tokens start labels
-    pub few : n ≤ i
-    pub upto : (addresses : List ℕ)
-        → Upto rules (labels-now tape area tokens start labels) (listing-of tape area tokens addresses start) i n (listing-of tape area tokens addresses lines)
+-- the cuts of the lines before line i were made, n of them, and what was `start` is now `lines`
+pub record Cutting (rules : Rules) (tape area : Text) (tokens start labels lines : List ℕ) (n i : ℕ) : Type 0 where
+  pub listed : Listed tape area tokens lines
+  pub labelled : Labelled (bare-listing tape area tokens lines) labels
+  pub labels-same : labels-now tape area tokens lines labels ≡ labels-now tape area tokens start labels
+  pub few : n ≤ i
+  pub upto : (addresses : List ℕ)
+      → Upto rules (labels-now tape area tokens start labels) (listing-of tape area tokens addresses start) i n (listing-of tape area tokens addresses lines)
 
-  pub cutting-begin : Cuttable tape area tokens start labels → Cutting start 0 0
+module _ {rules : Rules} {tape area : Text} {tokens start labels : List ℕ} where
+  pub cutting-begin : Cuttable tape area tokens start labels → Cutting rules tape area tokens start labels start 0 0
   cutting-begin c = record {
     listed = c .listed;
     labelled = c .labelled;
@@ -235,7 +247,7 @@ module _ (rules : Rules) (tape area : Text) (tokens start labels : List ℕ) whe
     upto = λ addresses. upto-begin rules _ _;
   }
 
-  module _ {lines : List ℕ} {n i : ℕ} (s : Cutting lines n i) where
+  module _ {lines : List ℕ} {n i : ℕ} (s : Cutting rules tape area tokens start labels lines n i) where
     pub cutting-now : length tokens ≤ 65536 → Cuttable tape area tokens lines labels
     cutting-now h = record { listed = s .listed; short = h; labelled = s .labelled }
 
@@ -250,7 +262,7 @@ module _ (rules : Rules) (tape area : Text) (tokens start labels : List ℕ) whe
       inside : (addresses : List ℕ) → i < length (listing-of tape area tokens addresses lines)
       inside addresses = rw length-map h
 
-      next : (b : Bool) → dead-at rules tape area tokens lines labels i ≡ b → Cutting lines′ (n + r) (i + 1)
+      next : (b : Bool) → dead-at rules tape area tokens lines labels i ≡ b → Cutting rules tape area tokens start labels lines′ (n + r) (i + 1)
       next false e =
           let k = d .kept e in
           rw (k .0, k .1, add-zero n)
@@ -277,7 +289,7 @@ module _ (rules : Rules) (tape area : Text) (tokens start labels : List ℕ) whe
             upto = λ addresses. rw (k .2 addresses) (upto-cut rules _ (s .upto addresses) (inside addresses) (dead-same addresses e));
           })
 
-      pub cutting-next : Cutting lines′ (n + r) (i + 1)
+      pub cutting-next : Cutting rules tape area tokens start labels lines′ (n + r) (i + 1)
       cutting-next = next (dead-at rules tape area tokens lines labels i) refl
 
       pub dropped-few : r ≤ 1

@@ -1,4 +1,5 @@
--- Laws of the cuts (Cutting), of the names that are gathered (Noting), of a round (Turning) and of the run (Running), which the functions' proofs cite.
+-- Laws that the functions' proofs cite: of the cuts (Cutting), of the names that are gathered (Noting), of a round's attempts (Turning), of a round's
+-- beginning (Beginning) and of the run (Running).
 pub mod Cutting
 pub mod Noting
 pub mod Turning

@@ -104,18 +104,19 @@ module _ (rules : Rules) (names : List Text) (first : Labels) where
 
 -- ---- the listing with its addresses and without
 
-module _ (tape area : Text) (tokens lines : List ℕ) (at : Size) where
-  pub now-length : Current tape area tokens lines at → (addresses : List ℕ) → length (listing-now tape area tokens lines at addresses) ≡ at .lines
-  now-length c addresses = length-map (used-lines lines at) _ ∙ length-take-le (at .lines) lines (c .lines-fit)
+module _ {tape area : Text} {tokens lines : List ℕ} {at : Size} (c : Current tape area tokens lines at) where
+  pub now-length : (addresses : List ℕ) → length (listing-now tape area tokens lines at addresses) ≡ at .lines
+  now-length addresses = length-map (used-lines lines at) _ ∙ length-take-le (at .lines) lines (c .lines-fit)
 
-  pub now-few : Current tape area tokens lines at → Limits (bare-now tape area tokens lines at) → at .lines ≤ 256
-  now-few c l = omega (
+  pub now-few : Limits (bare-now tape area tokens lines at) → at .lines ≤ 256
+  now-few l = omega (
     arith,
     l .lines-fit,
     length-map (used-lines lines at) (bare-in tape (used area at) (used-words tokens at)),
     length-take-le (at .lines) lines (c .lines-fit),
   )
 
+module _ (tape area : Text) (tokens lines : List ℕ) (at : Size) where
   pub bare-is : (addresses : List ℕ) → bare-now tape area tokens lines at ≡ bare-lines (listing-now tape area tokens lines at addresses)
   bare-is addresses = bare-means tape (used area at) (used-words tokens at) addresses (used-lines lines at)
 
@@ -170,29 +171,31 @@ back (suc i) = omega arith
 abbrev pub left-over : Round → ℕ
 left-over r = r .size .lines + r .size .lines - r .next
 
-module _ (rules : Rules) (tape area₀ : Text) (tokens₀ lines₀ : List ℕ) (at₀ : Size) (labels₀ : List ℕ) (slots : Text) (words : List ℕ) where
-  pub record Rounding (area : Text) (tokens lines labels : List ℕ) (r : Round) : Type 0 where
-    pub current : Current tape area tokens lines (r .size)
-    pub limits : Limits (bare-now tape area tokens lines (r .size))
-    pub labelled : Labelled (bare-now tape area tokens lines (r .size)) labels
-    pub few : r .attempts + left-over r ≤ 512
-    pub fewer : r .removed ≤ r .attempts
-    pub sofar : (addresses : List ℕ)
-        → Sofar rules (slot-names slots words) (labels-at (bare-now tape area₀ tokens₀ lines₀ at₀) labels₀) (listing-now tape area₀ tokens₀ lines₀ at₀ addresses)
-        (r .next) (r .attempts) (r .removed) (labels-at (bare-now tape area tokens lines (r .size)) labels) (listing-now tape area tokens lines (r .size) addresses)
+-- a round stands at r: what began as the first listing is now the second
+pub record Rounding (rules : Rules) (tape area₀ : Text) (tokens₀ lines₀ : List ℕ) (at₀ : Size) (labels₀ : List ℕ) (slots : Text) (words : List ℕ)
+    (area : Text) (tokens lines labels : List ℕ) (r : Round) : Type 0 where
+  pub current : Current tape area tokens lines (r .size)
+  pub limits : Limits (bare-now tape area tokens lines (r .size))
+  pub labelled : Labelled (bare-now tape area tokens lines (r .size)) labels
+  pub few : r .attempts + left-over r ≤ 512
+  pub fewer : r .removed ≤ r .attempts
+  pub sofar : (addresses : List ℕ)
+      → Sofar rules (slot-names slots words) (labels-at (bare-now tape area₀ tokens₀ lines₀ at₀) labels₀) (listing-now tape area₀ tokens₀ lines₀ at₀ addresses)
+      (r .next) (r .attempts) (r .removed) (labels-at (bare-now tape area tokens lines (r .size)) labels) (listing-now tape area tokens lines (r .size) addresses)
 
+module _ {rules : Rules} {tape area₀ : Text} {tokens₀ lines₀ : List ℕ} {at₀ : Size} {labels₀ : List ℕ} {slots : Text} {words : List ℕ} where
   pub rounding-begin : {area2 : Text} {tokens2 : List ℕ} → Roundable tape area₀ tokens₀ lines₀ area2 tokens2 labels₀ slots words at₀
-      → Rounding area₀ tokens₀ lines₀ labels₀ (record { next = 0; attempts = 0; removed = 0; size = at₀ })
+      → Rounding rules tape area₀ tokens₀ lines₀ at₀ labels₀ slots words area₀ tokens₀ lines₀ labels₀ (record { next = 0; attempts = 0; removed = 0; size = at₀ })
   rounding-begin b = record {
     current = b .current;
     limits = b .limits;
     labelled = b .labelled;
-    few = omega (arith, now-few tape area₀ tokens₀ lines₀ at₀ (b .current) (b .limits));
+    few = omega (arith, now-few (b .current) (b .limits));
     fewer = omega arith;
     sofar = λ addresses. sofar-begin rules (slot-names slots words) _ _;
   }
 
-  module _ {area : Text} {tokens lines labels : List ℕ} {r : Round} (s : Rounding area tokens lines labels r) where
+  module _ {area : Text} {tokens lines labels : List ℕ} {r : Round} (s : Rounding rules tape area₀ tokens₀ lines₀ at₀ labels₀ slots words area tokens lines labels r) where
     pub rounding-counts : Countable r
     rounding-counts = (omega (arith, s .few), omega (arith, s .few, s .fewer))
 
@@ -204,7 +207,7 @@ module _ (rules : Rules) (tape area₀ : Text) (tokens₀ lines₀ : List ℕ) (
         → Made (attempts-with rules tape area₀ tokens₀ lines₀ at₀ labels₀ slots words) tape area₀ tokens₀ lines₀ at₀ area tokens lines r
     rounding-end h =
         let over : (addresses : List ℕ) → length (listing-now tape area tokens lines (r .size) addresses) ≤ r .next =
-        (λ addresses. rw (now-length tape area tokens lines (r .size) (s .current) addresses) h) in
+        (λ addresses. rw (now-length (s .current) addresses) h) in
         record {
           current = s .current;
           limits = s .limits;
@@ -215,11 +218,11 @@ module _ (rules : Rules) (tape area₀ : Text) (tokens₀ lines₀ : List ℕ) (
         }
 
     inside : r .next < r .size .lines → (addresses : List ℕ) → r .next < length (listing-now tape area tokens lines (r .size) addresses)
-    inside h addresses = rw (now-length tape area tokens lines (r .size) (s .current) addresses) h
+    inside h addresses = rw (now-length (s .current) addresses) h
 
     module _ (h : r .next < r .size .lines) {area′ : Text} {tokens′ lines′ labels′ : List ℕ} {r′ : Round} where
       next-failed : Failed rules tape area tokens lines labels slots words r area′ tokens′ lines′ labels′ r′
-          → Rounding area′ tokens′ lines′ labels′ r′ × (left-over r′ < left-over r)
+          → Rounding rules tape area₀ tokens₀ lines₀ at₀ labels₀ slots words area′ tokens′ lines′ labels′ r′ × (left-over r′ < left-over r)
       next-failed f =
           rw (f .area-is, f .tokens-are, f .lines-are, f .labels-are, f .round-is) (
             record {
@@ -253,7 +256,7 @@ module _ (rules : Rules) (tape area₀ : Text) (tokens₀ lines₀ : List ℕ) (
 
         fewer-lines : suc (r′ .size .lines) ≡ r .size .lines
         fewer-lines =
-            rw (now-length tape area′ tokens′ lines′ (r′ .size) (f .current) [], now-length tape area tokens lines (r .size) (s .current) [])
+            rw (now-length (f .current) [], now-length (s .current) [])
             at (success-length rules (slot-names slots words) (listing-now tape area tokens lines (r .size) []) (r .next) _ (gave []))
 
         labels-move : labels-at (bare-now tape area′ tokens′ lines′ (r′ .size)) labels′ ≡ shift (r .next) (labels-at (bare-now tape area tokens lines (r .size)) labels)
@@ -263,7 +266,7 @@ module _ (rules : Rules) (tape area₀ : Text) (tokens₀ lines₀ : List ℕ) (
         less : left-over r′ < left-over r
         less = omega (arith, fewer-lines, f .next-is, back (r .next))
 
-        next-succeeded : Rounding area′ tokens′ lines′ labels′ r′ × (left-over r′ < left-over r)
+        next-succeeded : Rounding rules tape area₀ tokens₀ lines₀ at₀ labels₀ slots words area′ tokens′ lines′ labels′ r′ × (left-over r′ < left-over r)
         next-succeeded = (
           record {
             current = f .current;
@@ -278,10 +281,10 @@ module _ (rules : Rules) (tape area₀ : Text) (tokens₀ lines₀ : List ℕ) (
           less,
         )
 
-      turned : Turned rules tape area tokens lines labels slots words r area′ tokens′ lines′ labels′ r′ → Rounding area′ tokens′ lines′ labels′ r′ × (left-over r′ < left-over r)
+      turned : Turned rules tape area tokens lines labels slots words r area′ tokens′ lines′ labels′ r′ → Rounding rules tape area₀ tokens₀ lines₀ at₀ labels₀ slots words area′ tokens′ lines′ labels′ r′ × (left-over r′ < left-over r)
       turned t = ⊎-elim next-failed next-succeeded t
 
-      pub rounding-next : Turned rules tape area tokens lines labels slots words r area′ tokens′ lines′ labels′ r′ → Rounding area′ tokens′ lines′ labels′ r′
+      pub rounding-next : Turned rules tape area tokens lines labels slots words r area′ tokens′ lines′ labels′ r′ → Rounding rules tape area₀ tokens₀ lines₀ at₀ labels₀ slots words area′ tokens′ lines′ labels′ r′
       rounding-next t = turned t .0
 
       pub rounding-less : Turned rules tape area tokens lines labels slots words r area′ tokens′ lines′ labels′ r′ → left-over r′ < left-over r

@@ -1,8 +1,8 @@
 -- `rounds::cuts::drop_at` meets its contract. Assumes nothing.
+use native.Mathlib.Omega.{arith}
 use borrow.Author.Needs.{needs}
 use borrow.Author.Tests.{not-true, not-false}
-use native.Mathlib.Omega.{arith}
-use Rattle.rounds.proofs.Cutting.{dropped-kept, cut-count, cut-first, cut-fewer, dropped-cut}
+use Rattle.rounds.proofs.Cutting.{cut-fewer, dropped-kept, cut-count, cut-first, dropped-cut}
 use Rattle.rounds.proofs.cuts.drop_at.Statement.{statement}
 use Rattle.rounds.proofs.cuts.drop_at.Tie as tie
 
@@ -13,7 +13,9 @@ same-length : tie.Need-same-length
 same-length c = search needs
 
 returns : tie.Need-returns
-returns c = let a = c .before .before .before .before .before .before .before .before .args in let p = c .before .before .before .before .before .before .before .before .pre in dropped-kept _ (a .tape .now) (a .area .now) (a .tokens .now) (a .lines .now) (a .labels .now) (a .i) (p .1) (p .0) (c .before .is-dead-result .ensures) (not-true _ (c .if1 .taken))
+returns c =
+    let p = c .before .before .before .before .before .before .before .before .pre in
+    dropped-kept (p .0) _ (c .before .before .before .before .before .before .before .before .args .i) (p .1) (c .before .is-dead-result .ensures) (not-true _ (c .if1 .taken))
 
 mul-l : tie.Need-mul-l
 mul-l c = search needs
@@ -25,16 +27,24 @@ first-requires : tie.Need-first-requires
 first-requires c κs = search needs
 
 add-with-tokens : tie.Need-add-with-tokens
-add-with-tokens c = let a = c .before .before .before .before .before .before .before .before .before .before .args in let p = c .before .before .before .before .before .before .before .before .before .before .pre in omega (arith, c .first .ensures, cut-first _ (a .tape .now) (a .area .now) (a .tokens .now) (a .lines .now) (a .labels .now) (a .i) (p .1) (p .0) (c .before .before .before .is-dead-result .ensures) (not-false _ (c .before .before .if1 .left)))
+add-with-tokens c =
+    let p = c .before .before .before .before .before .before .before .before .before .before .pre in
+    let low = cut-first (p .0) _ (c .before .before .before .before .before .before .before .before .before .before .args .i) (p .1) (c .before .before .before .is-dead-result .ensures) (not-false _ (c .before .before .if1 .left)) in
+    omega (arith, c .first .ensures)
 
 count-requires : tie.Need-count-requires
 count-requires c κs = search needs
 
 sub-with-tokens : tie.Need-sub-with-tokens
-sub-with-tokens c = let a = c .before .before .before .before .before .before .before .before .before .before .before .args in let p = c .before .before .before .before .before .before .before .before .before .before .before .pre in rw (c .count .ensures) (cut-count _ (a .tape .now) (a .area .now) (a .tokens .now) (a .lines .now) (a .labels .now) (a .i) (p .1) (p .0) (c .before .before .before .before .is-dead-result .ensures) (not-false _ (c .before .before .before .if1 .left)))
+sub-with-tokens c =
+    let p = c .before .before .before .before .before .before .before .before .before .before .before .pre in
+    rw (c .count .ensures) (cut-count (p .0) _ (c .before .before .before .before .before .before .before .before .before .before .before .args .i) (p .1) (c .before .before .before .before .is-dead-result .ensures) (not-false _ (c .before .before .before .if1 .left)))
 
 with-tokens-requires : tie.Need-with-tokens-requires
-with-tokens-requires c κs = let a = c .before .before .before .before .before .before .before .before .before .before .before .args in let p = c .before .before .before .before .before .before .before .before .before .before .before .pre in (rw (c .before .first .ensures) (cut-first _ (a .tape .now) (a .area .now) (a .tokens .now) (a .lines .now) (a .labels .now) (a .i) (p .1) (p .0) (c .before .before .before .before .is-dead-result .ensures) (not-false _ (c .before .before .before .if1 .left))), rw (c .count .ensures) (cut-fewer _ (a .tape .now) (a .area .now) (a .tokens .now) (a .lines .now) (a .labels .now) (a .i) (p .1) (p .0) (c .before .before .before .before .is-dead-result .ensures) (not-false _ (c .before .before .before .if1 .left))))
+with-tokens-requires c κs =
+    let p = c .before .before .before .before .before .before .before .before .before .before .before .pre in
+    let low = cut-first (p .0) _ (c .before .before .before .before .before .before .before .before .before .before .before .args .i) (p .1) (c .before .before .before .before .is-dead-result .ensures) (not-false _ (c .before .before .before .if1 .left)) in
+    (rw (c .before .first .ensures) low, rw (c .count .ensures) (cut-fewer _))
 
 mul-lines : tie.Need-mul-lines
 mul-lines c = search needs
@@ -46,7 +56,10 @@ same-length-2 : tie.Need-same-length-2
 same-length-2 c = search needs
 
 returns-2 : tie.Need-returns-2
-returns-2 c = let a = c .before .before .before .before .before .before .before .before .before .before .before .before .args in let p = c .before .before .before .before .before .before .before .before .before .before .before .before .pre in dropped-cut _ (a .tape .now) (a .area .now) (a .tokens .now) (a .lines .now) (a .labels .now) (a .i) (p .1) (p .0) (c .before .before .before .before .before .is-dead-result .ensures) (not-false _ (c .before .before .before .before .if1 .left)) (rw (c .before .before .first .ensures, c .before .count .ensures) at (c .with-tokens .ensures))
+returns-2 c =
+    let p = c .before .before .before .before .before .before .before .before .before .before .before .before .pre in
+    dropped-cut (p .0) _ (c .before .before .before .before .before .before .before .before .before .before .before .before .args .i) (p .1) (c .before .before .before .before .before .is-dead-result .ensures) (not-false _ (c .before .before .before .before .if1 .left))
+    (rw (c .before .before .first .ensures, c .before .count .ensures) at (c .with-tokens .ensures))
 
 pub drop-at-spec : {M : Type 1} → statement M
 drop-at-spec =

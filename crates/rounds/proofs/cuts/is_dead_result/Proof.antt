@@ -18,7 +18,10 @@ keeps-result-requires : tie.Need-keeps-result-requires
 keeps-result-requires c κs = rw (c .line-of .ensures) (c .before .before .before .before .before .before .before .pre .0 .listed .at _ (c .before .before .before .before .before .before .before .pre .1) .holds)
 
 returns : tie.Need-returns
-returns c = let a = c .before .before .before .before .before .before .before .before .before .args in dead-not _ (a .tape .now) (a .area .now) (a .tokens .now) (a .lines .now) (a .labels .now) (a .i) (c .before .before .before .before .before .before .before .before .before .pre .1) (c .before .before .line-of .ensures) (c .before .keeps-result .ensures) (not-true _ (c .if1 .taken))
+returns c =
+    let a = c .before .before .before .before .before .before .before .before .before .args in
+    dead-not _ (a .tape .now) (a .area .now) (a .tokens .now) (a .lines .now) (a .labels .now) (a .i) (c .before .before .before .before .before .before .before .before .before .pre .1)
+    (c .before .before .line-of .ensures) (c .before .keeps-result .ensures) (not-true _ (c .if1 .taken))
 
 indent-requires : tie.Need-indent-requires
 indent-requires c κs = search needs
@@ -27,7 +30,10 @@ dead-after-requires : tie.Need-dead-after-requires
 dead-after-requires c κs = search needs
 
 returns-2 : tie.Need-returns-2
-returns-2 c = let a = c .before .before .before .before .before .before .before .before .before .before .before .args in dead-then _ (a .tape .now) (a .area .now) (a .tokens .now) (a .lines .now) (a .labels .now) (a .i) (c .before .before .before .before .before .before .before .before .before .before .before .pre .1) (c .before .before .before .before .line-of .ensures) (c .before .before .before .keeps-result .ensures) (not-false _ (c .before .before .if1 .left)) (c .before .indent .ensures) (c .dead-after .ensures)
+returns-2 c =
+    let a = c .before .before .before .before .before .before .before .before .before .before .before .args in
+    dead-then _ (a .tape .now) (a .area .now) (a .tokens .now) (a .lines .now) (a .labels .now) (a .i) (c .before .before .before .before .before .before .before .before .before .before .before .pre .1)
+    (c .before .before .before .before .line-of .ensures) (c .before .before .before .keeps-result .ensures) (not-false _ (c .before .before .if1 .left)) (c .before .indent .ensures) (c .dead-after .ensures)
 
 pub is-dead-result-spec : {M : Type 1} → statement M
 is-dead-result-spec =

@@ -29,15 +29,9 @@ slice-aggregate-gather-labels-3 c = sym (length-take-le _ _ (c .before .before .
 gather-labels-requires : tie.Need-gather-labels-requires
 gather-labels-requires c κs =
     let a = c .before .before .before .before .before .before .before .before .before .before .before .before .before .args in
-    let p = c .before .before .before .before .before .before .before .before .before .before .before .before .before .pre in (
-      p .current .listed,
-      omega (
-        arith,
-        p .for-labels,
-        length-take-le (a .size .lines) (a .lines .now) (p .current .lines-fit),
-        now-few (a .tape .now) (a .area .now) (a .tokens .now) (a .lines .now) (a .size) (p .current) (p .limits),
-      ),
-    )
+    let p = c .before .before .before .before .before .before .before .before .before .before .before .before .before .pre in
+    let size = length-take-le (a .size .lines) (a .lines .now) (p .current .lines-fit) in
+    (p .current .listed, omega (arith, p .for-labels, now-few (p .current) (p .limits)))
 
 slice-reshare-prefix-gather-slots : tie.Need-slice-reshare-prefix-gather-slots
 slice-reshare-prefix-gather-slots c = search needs
@@ -97,7 +91,10 @@ same-length-5 : tie.Need-same-length-5
 same-length-5 c = search needs
 
 same-length-6 : tie.Need-same-length-6
-same-length-6 c = length-front (c .before .before .before .before .before .before .before .before .before .before .before .before .before .before .before .before .before .before .before .before .before .before .before .before .before .before .before .before .before .before .before .before .before .gather-labels .last .1 .1 .1 .1 .0) (c .before .before .before .before .before .before .before .before .before .before .before .before .turns .last .1 .1 .1 .1 .1 .1 .0) (c .before .before .before .before .before .before .before .before .before .before .before .before .before .before .before .before .before .before .before .before .before .before .before .before .before .before .before .before .before .before .before .before .before .gather-labels .result) (c .before .before .before .before .before .before .before .before .before .before .before .before .turns .kept .1 .1 .1 .1 .1 .1 .0) ∙ c .before .before .before .before .before .before .before .before .before .before .before .before .before .before .before .before .before .before .before .before .before .before .before .before .before .before .before .before .before .before .before .before .before .gather-labels .kept .1 .1 .1 .1 .0
+same-length-6 c =
+    let g = c .before .before .before .before .before .before .before .before .before .before .before .before .before .before .before .before .before .before .before .before .before .before .before .before .before .before .before .before .before .before .before .before .before .gather-labels in
+    let t = c .before .before .before .before .before .before .before .before .before .before .before .before .turns in
+    length-front (g .last .1 .1 .1 .1 .0) (t .last .1 .1 .1 .1 .1 .1 .0) (g .result) (t .kept .1 .1 .1 .1 .1 .1 .0) ∙ g .kept .1 .1 .1 .1 .0
 
 same-length-7 : tie.Need-same-length-7
 same-length-7 c = search needs

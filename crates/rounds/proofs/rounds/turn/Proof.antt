@@ -10,7 +10,9 @@ try-at-requires : tie.Need-try-at-requires
 try-at-requires c κs = search needs
 
 add-t29 : tie.Need-add-t29
-add-t29 c = let a = c .before .before .before .before .before .before .before .before .before .before .before .before .before .before .before .before .before .before .before .before .before .before .before .before .before .before .before .before .before .before .args in let p = c .before .before .before .before .before .before .before .before .before .before .before .before .before .before .before .before .before .before .before .before .before .before .before .before .before .before .before .before .before .before .pre .0 in omega (arith, p .inside, now-few (a .tape .now) (a .area .now) (a .tokens .now) (a .lines .now) (a .r .size) (p .current) (p .limits))
+add-t29 c =
+    let p = c .before .before .before .before .before .before .before .before .before .before .before .before .before .before .before .before .before .before .before .before .before .before .before .before .before .before .before .before .before .before .pre .0 in
+    omega (arith, p .inside, now-few (p .current) (p .limits))
 
 add-t30 : tie.Need-add-t30
 add-t30 c = omega (arith, c .before .before .before .before .before .before .before .before .before .before .before .before .before .before .before .before .before .before .before .before .before .before .before .before .before .before .before .before .before .before .before .pre .1 .0)

@@ -16,25 +16,21 @@ abbrev μ-loop : tie.MeasureT-loop
 μ-loop tape area₀ tokens₀ lines₀ area2₀ tokens2₀ labels₀ slots slot-words rules r₀ area tokens lines area2 tokens2 labels r = left-over r
 
 loop-holds : tie.Need-loop-holds Inv-loop μ-loop
-loop-holds c = let a = c .before .before .before .before .before .before .before .before .before .args in (refl, refl, refl, refl, refl, refl, rounding-begin _ (a .tape .now) (a .area .now) (a .tokens .now) (a .lines .now) (a .size) (a .labels .now) (a .slots .now) (a .slot-words .now) (c .before .before .before .before .before .before .before .before .before .pre))
+loop-holds c = (refl, refl, refl, refl, refl, refl, rounding-begin (c .before .before .before .before .before .before .before .before .before .pre))
 
 turn-requires : tie.Need-turn-requires Inv-loop μ-loop
 turn-requires c κs =
-    let a = c .before .before .before .before .before .before .before .before .before .before .before .before .before .before .before .before .before .before .args in
     let p = c .before .before .before .before .before .before .before .before .before .before .before .before .before .before .before .before .before .before .pre in
     let l = c .before .before .before .before .before .before .before .before .loop in
-    let i = l .inv in (
-      rounding-attempt _ (a .tape .now) (a .area .now) (a .tokens .now) (a .lines .now) (a .size) (a .labels .now) (a .slots .now) (a .slot-words .now) (i .6)
-          (lent-same (l .area) (l .tokens) (l .area2) (l .tokens2) (p .lent) (i .0) (i .1) (i .3) (i .4)) (p .slotted) (c .before .before .before .before .before .before .if1 .taken),
-      rounding-counts _ (a .tape .now) (a .area .now) (a .tokens .now) (a .lines .now) (a .size) (a .labels .now) (a .slots .now) (a .slot-words .now) (i .6),
-    )
+    let i = l .inv in
+    let lent = lent-same (l .area) (l .tokens) (l .area2) (l .tokens2) (p .lent) (i .0) (i .1) (i .3) (i .4) in
+    (rounding-attempt (i .6) lent (p .slotted) (c .before .before .before .before .before .before .if1 .taken), rounding-counts (i .6))
 
 loop-less : tie.Need-loop-less Inv-loop μ-loop
-loop-less c = let a = c .before .before .before .before .before .before .before .before .before .before .before .before .before .before .before .before .before .before .before .before .before .before .before .before .before .before .before .before .before .before .before .args in rounding-less _ (a .tape .now) (a .area .now) (a .tokens .now) (a .lines .now) (a .size) (a .labels .now) (a .slots .now) (a .slot-words .now) (c .before .before .before .before .before .before .before .before .before .before .before .before .before .before .before .before .before .before .before .before .before .loop .inv .6) (c .before .before .before .before .before .before .before .before .before .before .before .before .before .before .before .before .before .before .before .if1 .taken) (c .before .before .before .before .before .before .before .before .before .before .before .before .turn .ensures)
+loop-less c = rounding-less (c .before .before .before .before .before .before .before .before .before .before .before .before .before .before .before .before .before .before .before .before .before .loop .inv .6) (c .before .before .before .before .before .before .before .before .before .before .before .before .before .before .before .before .before .before .before .if1 .taken) (c .before .before .before .before .before .before .before .before .before .before .before .before .turn .ensures)
 
 loop-again : tie.Need-loop-again Inv-loop μ-loop
 loop-again c =
-    let a = c .before .before .before .before .before .before .before .before .before .before .before .before .before .before .before .before .before .before .before .before .before .before .before .before .before .before .before .before .before .before .before .args in
     let i = c .before .before .before .before .before .before .before .before .before .before .before .before .before .before .before .before .before .before .before .before .before .loop .inv in
     let t = c .before .before .before .before .before .before .before .before .before .before .before .before .turn in (
       t .kept .1 .0 ∙ i .0,
@@ -43,7 +39,7 @@ loop-again c =
       t .kept .1 .1 .1 .1 .0 ∙ i .3,
       t .kept .1 .1 .1 .1 .1 .0 ∙ i .4,
       t .kept .1 .1 .1 .1 .1 .1 .0 ∙ i .5,
-      rounding-next _ (a .tape .now) (a .area .now) (a .tokens .now) (a .lines .now) (a .size) (a .labels .now) (a .slots .now) (a .slot-words .now) (i .6) (c .before .before .before .before .before .before .before .before .before .before .before .before .before .before .before .before .before .before .before .if1 .taken) (t .ensures),
+      rounding-next (i .6) (c .before .before .before .before .before .before .before .before .before .before .before .before .before .before .before .before .before .before .before .if1 .taken) (t .ensures),
     )
 
 same-length : tie.Need-same-length Inv-loop μ-loop
@@ -65,7 +61,7 @@ same-length-6 : tie.Need-same-length-6 Inv-loop μ-loop
 same-length-6 c = c .before .before .loop .inv .5
 
 returns : tie.Need-returns Inv-loop μ-loop
-returns c = let a = c .before .before .before .before .before .before .before .before .before .before .before .before .args in rounding-end _ (a .tape .now) (a .area .now) (a .tokens .now) (a .lines .now) (a .size) (a .labels .now) (a .slots .now) (a .slot-words .now) (c .before .before .loop .inv .6) (c .if1 .left)
+returns c = rounding-end (c .before .before .loop .inv .6) (c .if1 .left)
 
 pub turns-spec : {M : Type 1} → statement M
 turns-spec =

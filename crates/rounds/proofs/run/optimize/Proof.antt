@@ -33,17 +33,12 @@ drop-dead-results-requires : tie.Need-drop-dead-results-requires
 drop-dead-results-requires c κs =
     let p = c .before .before .before .before .before .before .before .before .before .before .before .before .before .before .before .before .before .before .before .before .before .before .before .before .before .before .before .before .before .before .before .before .before .before .before .before .before .before .before .pre in
     let t = c .before .before .before .before .before .before .before .before .before .before .before .before .before .before .before .before .before .before .before .before .before .three-rounds in
-    let e = t .ensures in
-    let s = t .result .size in (
-      e .current .listed,
-      omega (arith, p .words-short, t .kept .1 .1 .0, length-take-le (s .tokens) (t .last .1 .1 .0) (e .current .words-fit), e .current .words-fit),
-      omega (
-        arith,
-        p .for-labels,
-        t .kept .1 .1 .1 .1 .1 .1 .0,
-        length-take-le (s .lines) (t .last .1 .1 .1 .0) (e .current .lines-fit),
-        now-few _ (t .last .1 .0) (t .last .1 .1 .0) (t .last .1 .1 .1 .0) s (e .current) (e .limits),
-      ),
+    let now = t .ensures .current in
+    let words = length-take-le (t .result .size .tokens) (t .last .1 .1 .0) (now .words-fit) in
+    let lines = length-take-le (t .result .size .lines) (t .last .1 .1 .1 .0) (now .lines-fit) in (
+      now .listed,
+      omega (arith, p .words-short, t .kept .1 .1 .0, now .words-fit),
+      omega (arith, p .for-labels, t .kept .1 .1 .1 .1 .1 .1 .0, now-few now (t .ensures .limits)),
     )
 
 same-length : tie.Need-same-length

@@ -19,19 +19,31 @@ ends-ampersand-requires : tie.Need-ends-ampersand-requires
 ends-ampersand-requires c κs = search needs
 
 returns : tie.Need-returns
-returns c = let a = c .before .before .before .before .before .before .before .before .args in noted-plain (a .tape .now) (a .area .now) (a .before) (a .w) (c .before .before .before .before .before .before .before .before .pre .2) (c .before .before .text2 .ensures) (c .before .ends-ampersand .ensures) (not-true _ (c .if1 .taken))
+returns c =
+    let a = c .before .before .before .before .before .before .before .before .args in
+    noted-plain (a .tape .now) (a .area .now) (a .before) (a .w) (c .before .before .before .before .before .before .before .before .pre .2) (c .before .before .text2 .ensures) (c .before .ends-ampersand .ensures)
+    (not-true _ (c .if1 .taken))
 
 begins-slot-requires : tie.Need-begins-slot-requires
 begins-slot-requires c κs = search needs
 
 returns-2 : tie.Need-returns-2
-returns-2 c = let a = c .before .before .before .before .before .before .before .before .before .before .args in noted-other (a .tape .now) (a .area .now) (a .before) (a .w) (c .before .before .before .before .before .before .before .before .before .before .pre .2) (c .before .before .before .before .text2 .ensures) (c .before .before .before .ends-ampersand .ensures) (not-false _ (c .before .before .if1 .left)) (c .before .before .before .before .before .text .ensures) (c .before .begins-slot .ensures) (not-true _ (c .if2 .taken))
+returns-2 c =
+    let a = c .before .before .before .before .before .before .before .before .before .before .args in
+    noted-other (a .tape .now) (a .area .now) (a .before) (a .w) (c .before .before .before .before .before .before .before .before .before .before .pre .2) (c .before .before .before .before .text2 .ensures) (c .before .before .before .ends-ampersand .ensures)
+    (not-false _ (c .before .before .if1 .left)) (c .before .before .before .before .before .text .ensures) (c .before .begins-slot .ensures) (not-true _ (c .if2 .taken))
 
 copy-bytes-requires : tie.Need-copy-bytes-requires
-copy-bytes-requires c κs = let p = c .before .before .before .before .before .before .before .before .before .before .before .pre in let e = ap length (c .before .before .before .before .before .before .text .ensures) ∙ text-length (p .1) in omega (arith, p .3 .text-fits)
+copy-bytes-requires c κs =
+    let p = c .before .before .before .before .before .before .before .before .before .before .before .pre in
+    let e = ap length (c .before .before .before .before .before .before .text .ensures) ∙ text-length (p .1) in
+    omega (arith, p .3 .text-fits)
 
 token-word-requires : tie.Need-token-word-requires
-token-word-requires c κs = let p = c .before .before .before .before .before .before .before .before .before .before .before .before .before .before .pre in let e = ap length (c .before .before .before .before .before .before .before .before .before .text .ensures) ∙ text-length (p .1) in (omega arith, omega arith, omega (arith, p .3 .short), omega (arith, p .3 .short))
+token-word-requires c κs =
+    let p = c .before .before .before .before .before .before .before .before .before .before .before .before .before .before .pre in
+    let e = ap length (c .before .before .before .before .before .before .before .before .before .text .ensures) ∙ text-length (p .1) in
+    (omega arith, omega arith, omega (arith, p .3 .short), omega (arith, p .3 .short))
 
 mul-slot-words : tie.Need-mul-slot-words
 mul-slot-words c = search needs
@@ -52,7 +64,11 @@ same-length-2 : tie.Need-same-length-2
 same-length-2 c = search needs
 
 returns-3 : tie.Need-returns-3
-returns-3 c = let a = c .before .before .before .before .before .before .before .before .before .before .before .before .before .before .before .args in noted-slot (a .tape .now) (a .area .now) (a .before) (a .w) (c .before .before .before .before .before .before .before .before .before .before .before .before .before .before .before .pre .2) (c .before .before .before .before .before .before .before .before .before .text2 .ensures) (c .before .before .before .before .before .before .before .before .ends-ampersand .ensures) (not-false _ (c .before .before .before .before .before .before .before .if1 .left)) (c .before .before .before .before .before .before .before .before .before .before .text .ensures) (c .before .before .before .before .before .before .begins-slot .ensures) (not-false _ (c .before .before .before .before .before .if2 .left)) (c .before .before .before .before .before .before .before .before .before .before .before .before .before .before .before .pre .1) (c .before .before .before .before .before .before .before .before .before .before .before .before .before .before .before .pre .3) (c .before .before .before .copy-bytes .ensures) (c .token-word .ensures)
+returns-3 c =
+    let a = c .before .before .before .before .before .before .before .before .before .before .before .before .before .before .before .args in
+    noted-slot (a .tape .now) (a .area .now) (a .before) (a .w) (c .before .before .before .before .before .before .before .before .before .before .before .before .before .before .before .pre .2) (c .before .before .before .before .before .before .before .before .before .text2 .ensures) (c .before .before .before .before .before .before .before .before .ends-ampersand .ensures)
+    (not-false _ (c .before .before .before .before .before .before .before .if1 .left)) (c .before .before .before .before .before .before .before .before .before .before .text .ensures) (c .before .before .before .before .before .before .begins-slot .ensures) (not-false _ (c .before .before .before .before .before .if2 .left))
+    (c .before .before .before .before .before .before .before .before .before .before .before .before .before .before .before .pre .1) (c .before .before .before .before .before .before .before .before .before .before .before .before .before .before .before .pre .3) (c .before .before .before .copy-bytes .ensures) (c .token-word .ensures)
 
 pub gather-slot-spec : {M : Type 1} → statement M
 gather-slot-spec =
