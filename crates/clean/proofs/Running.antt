@@ -17,17 +17,16 @@ use Rattle.reference.specs.Questions.{WORK, OUTPUT, Passed, read}
 use Rattle.reference.specs.Reply.{Cleaned, output-after, work-after, Report, report}
 use Rattle.reference.proofs.Cases.{by-if}
 use Rattle.reference.proofs.Weights.{weigh, plain, excess, plain-text}
-use Rattle.reference.proofs.Fits.{Fits}
 use Rattle.reference.proofs.Limits as L
 use Rattle.reference.proofs.Limits.{All, TokenFits}
 use Rattle.reference.proofs.Reading.{passed-inj}
 use Rattle.reference.proofs.Tapes.{read-limits}
 use Rattle.reference.proofs.Guarantee.{output-length}
 use Rattle.joining.specs.Limits.{Limits}
-use Rattle.lines.specs.Lines.{bare, Listed, listing-of}
+use Rattle.lines.specs.Lines.{bare}
 use Rattle.lines.proofs.words.Lines.{bare-means}
 use Rattle.build.specs.declared.used.Size.{Size}
-use Rattle.join.specs.Current.{listing-now, bare-now}
+use Rattle.join.specs.Current.{listing-now}
 use Rattle.rounds.specs.Runs.{counts-of, Ran}
 use Rattle.rounds.specs.declared.run.Outcome.{Outcome}
 use Rattle.tape.specs.Tables.{Loaded}

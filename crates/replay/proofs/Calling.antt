@@ -39,4 +39,4 @@ module _ (list a b o : List ℕ) where
       → r ≡ is-right list report (a′ ++ drop na a) (b′ ++ drop nb b) (o′ ++ drop no o) → r ≡ agrees list a b o
   made ea eb eo en et ha hb ho k e =
       fits (rw ea at ha) (rw eb at hb) (rw eo at ho)
-      (rw (k .leaves .report-is, k .leaves .work-a-is, k .leaves .work-b-is, k .leaves .output-is, ea, eb, eo, en, et) at e)
+      (let l = k .leaves in rw (l .report-is, l .work-a-is, l .work-b-is, l .output-is, ea, eb, eo, en, et) at e)

@@ -14,6 +14,7 @@ ghost use mathlib.Core.Path.{_≡_};
 ghost use Prim.Native.Nat.{_+_, _≤_};
 ghost use lib.ListN.{length};
 ghost use Rattle.replay.specs.Frames.{Whole};
+ghost use Rattle.replay.specs.Tallies.{counted, replayed};
 
 // The longest list that is read.
 const LONGEST: usize = 400000;
@@ -68,6 +69,7 @@ fn print_class(class: u64) {
 fn counted(list: &[u8], class: u64, counts: Counts) -> Counts
     requires { ⌜ Whole (now list) ⌝ }
     requires { ⌜ (counts .tapes ≤ 400000) × (counts .differ ≤ counts .tapes) ⌝ }
+    ensures { λ r. ⌜ r ≡ counted (now (list .entry)) class counts ⌝ }
     ensures { λ r. ⌜ (r .differ ≤ r .tapes) × (r .tapes ≤ counts .tapes + 1) ⌝ }
 {
     if number(list, CLASS) != class {
@@ -88,6 +90,7 @@ fn counted(list: &[u8], class: u64, counts: Counts) -> Counts
 // Replays the frames of a class.
 fn replayed(list: &[u8], class: u64) -> Counts
     requires { ⌜ length (now list) ≤ 400000 ⌝ }
+    ensures { λ r. ⌜ r ≡ replayed (now (list .entry)) class ⌝ }
     ensures { λ r. ⌜ (r .differ ≤ r .tapes) × (r .tapes ≤ length (now (list .entry))) ⌝ }
 {
     let mut left = list;

@@ -1,3 +1,5 @@
 pub mod Tables
 pub mod Filling
 pub mod Loaded
+pub mod Records
+pub mod Turns

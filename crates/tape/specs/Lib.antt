@@ -1,4 +1,5 @@
 pub mod Commands
 pub mod Questions
+pub mod Records
 pub mod Tables
 pub mod Writing

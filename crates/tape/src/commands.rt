@@ -1,10 +1,10 @@
-// What stands at an offset of a tape. The questions and the loading read a tape through `command_from` and `text_of` alone.
+// What stands at an offset of a tape.
 use crate::little_endian::number_at;
 use crate::little_endian::wide;
 ghost use mathlib.Core.Path.{_≡_};
 ghost use Prim.Native.Nat.{_+_, _^_, _≤_, _<_};
 ghost use lib.ListN.{length, take, drop, getD};
-ghost use Rattle.tape.specs.Commands.{size-of, found-in, standing, Stood};
+ghost use Rattle.tape.specs.Commands.{size-of, found-in, standing};
 
 // A command: a line, with an address or without; a token of a kind, whose text has `count` bytes and stands three bytes after the offset; the end.
 pub enum Command {
@@ -31,7 +31,7 @@ pub fn text_of(tape: &[u8], from: usize, count: usize) -> &[u8]
 }
 
 // The text of the token at an offset: a part of the tape itself.
-pub fn token_text(tape: &[u8], at: usize, count: usize) -> &[u8]
+pub fn text_at(tape: &[u8], at: usize, count: usize) -> &[u8]
     requires { ⌜ at + 3 + count ≤ length (now tape) ⌝ }
     ensures { λ r. ⌜ now r ≡ take count (drop (at + 3) (now (tape .entry))) ⌝ }
 {
@@ -97,7 +97,7 @@ fn token_from(tape: &[u8], at: usize) -> Found
 }
 
 // What stands at an offset of the tape.
-pub fn command_from(tape: &[u8], at: usize) -> Found
+pub fn found_at(tape: &[u8], at: usize) -> Found
     ensures { λ r. ⌜ found-in (now (tape .entry)) at r ≡ standing (now (tape .entry)) at ⌝ }
 {
     if tape.len() <= at {
@@ -120,16 +120,4 @@ pub fn command_from(tape: &[u8], at: usize) -> Found
         return Found::Unknown;
     }
     token_from(tape, at)
-}
-
-// The command at an offset where one is known to stand.
-pub fn known_command(tape: &[u8], at: usize) -> Command
-    requires { ⌜ Stood (now tape) at ⌝ }
-    ensures { λ r. ⌜ found-in (now (tape .entry)) at (Found.Whole r) ≡ standing (now (tape .entry)) at ⌝ }
-{
-    match command_from(tape, at) {
-        Found::Whole(command) => command,
-        Found::Unknown => Command::End,
-        Found::CutOff => Command::End,
-    }
 }

@@ -3,6 +3,8 @@ pub mod commands; // one command, at an offset of the tape
 pub mod little_endian; // numbers in bytes, the lowest first
 pub mod loading; // the listing of an accepted tape
 pub mod questions; // which tapes are accepted
+pub mod reader; // a tape and its offset
+pub mod records; // the records of lines
 pub mod writing; // the tape of a listing
 
 pub use loading::load;

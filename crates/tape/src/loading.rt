@@ -1,102 +1,190 @@
 // The listing of an accepted tape, in tables: a word for each token and each line, and the addresses by the number of the line. All texts are
-// parts of the tape.
+// parts of the tape. The lines are laid as records first; the line words are made of them.
 use crate::commands::Command;
-use crate::commands::known_command;
 use crate::commands::size_of;
 use crate::questions::Totals;
 use crate::questions::count_in;
 use crate::questions::is_end;
+use crate::reader::known_command;
+use crate::records::LineRecord;
+use crate::records::line_at;
+use crate::records::store_line;
 use lines::words::IN_TAPE;
-use lines::words::count;
-use lines::words::first;
 use lines::words::line_word;
 use lines::words::token_word;
-use lines::words::with_tokens;
 ghost use mathlib.Core.Path.{_≡_};
-ghost use Prim.Native.Nat.{_+_, _-_, _≤_, _<_};
-ghost use lib.ListN.{length, getD, set};
-ghost use Rattle.lines.specs.Words.{word};
-ghost use Rattle.lines.specs.Lines.{count-of};
-ghost use Rattle.tape.specs.Tables.{Accepted, begun, lengthened, Adds, Room, Added, Loaded};
+ghost use Prim.Native.Nat.{_≤_};
+ghost use lib.ListN.{length};
+ghost use Rattle.tape.specs.Records.{Fitting, Holding, Recorded, line-after, place-after, start-of, TakesToken, Grows, Ready, Lays};
+ghost use Rattle.tape.specs.Tables.{Accepted, tokens-after, Loaded};
 
-// Begins a line behind the lines so far.
-fn add_line(indent: u64, addressed: u64, lines: &mut [u64], totals: Totals)
-    requires { ⌜ (indent < 64) × (addressed < 2) × (totals .lines < 256) × (totals .tokens ≤ 1024) × (256 ≤ length (now lines)) ⌝ }
-    ensures { λ _. ⌜ now (lines .exit) ≡ set (now (lines .entry)) (totals .lines) (begun indent addressed totals) ⌝ }
-{
-    let n = totals.lines;
-    lines[n] = line_word(totals.tokens, 0, indent, addressed, n);
+// Where the laying of the lines stands: the offset in the tape, the place of the last line's record, what was read so far, and whether FF is
+// still to come.
+pub struct Laying {
+    pub at: usize,
+    pub line: usize,
+    pub totals: Totals,
+    pub going: bool,
 }
 
-// Adds a token to the last line.
-fn add_token(
-    at: usize,
-    kind: u64,
-    size: usize,
-    tokens: &mut [u64],
-    lines: &mut [u64],
-    totals: Totals,
-)
-    requires { ⌜ (kind < 8) × (at + 3 + size < 65536) × (totals .tokens < length (now tokens)) ⌝ }
-    requires { ⌜ (0 < totals .lines) × (totals .lines ≤ length (now lines)) × (count-of (getD (now lines) (totals .lines - 1) 0) < 2047) ⌝ }
-    ensures { λ _. ⌜ now (tokens .exit) ≡ set (now (tokens .entry)) (totals .tokens) (word kind 0 (at + 3) size) ⌝ }
-    ensures { λ _. ⌜ now (lines .exit) ≡ lengthened (now (lines .entry)) totals ⌝ }
-{
-    let n = totals.tokens;
-    tokens[n] = token_word(kind, IN_TAPE, at + 3, size);
-    let k = totals.lines - 1;
-    let l = lines[k];
-    lines[k] = with_tokens(l, first(l), count(l) + 1);
+// The record that a command is about, and where the laying stands after the command.
+pub struct Laid {
+    pub line: LineRecord,
+    pub next: Laying,
 }
 
-// Adds the command at an offset to the tables.
-fn add(
-    at: usize,
-    command: Command,
-    tokens: &mut [u64],
-    lines: &mut [u64],
-    addresses: &mut [u64],
-    totals: Totals,
-)
-    requires { ⌜ Room (now tokens) (now lines) (now addresses) totals ⌝ }
-    requires { ⌜ Adds at command totals (now lines) ⌝ }
-    ensures { λ _. ⌜ Added at command totals (now (tokens .entry)) (now (lines .entry)) (now (addresses .entry)) (now (tokens .exit)) (now (lines .exit)) (now (addresses .exit)) ⌝ }
+// ---- one command
+
+fn start() -> Laying
+    ensures { λ r. ⌜ r ≡ start-of ⌝ }
+{
+    Laying {
+        at: 0,
+        line: 0,
+        totals: Totals {
+            lines: 0,
+            tokens: 0,
+            text: 0,
+        },
+        going: true,
+    }
+}
+
+// The record of the line that a command begins, or of the last line with one token more.
+fn record_after(command: Command, totals: Totals, line: LineRecord) -> LineRecord
+    requires { ⌜ Grows command line ⌝ }
+    ensures { λ r. ⌜ r ≡ line-after command totals line ⌝ }
 {
     match command {
-        Command::Addressed { address, indent } => {
-            let n = totals.lines;
-            addresses[n] = address;
-            add_line(indent, 1, lines, totals);
-        }
-        Command::Plain { indent } => {
-            add_line(indent, 0, lines, totals);
-        }
+        Command::Addressed { address, indent } => LineRecord {
+            address,
+            addressed: 1,
+            indent,
+            first: totals.tokens,
+            count: 0,
+        },
+        Command::Plain { indent } => LineRecord {
+            address: 0,
+            addressed: 0,
+            indent,
+            first: totals.tokens,
+            count: 0,
+        },
+        Command::Token { kind: _, count: _ } => LineRecord {
+            address: line.address,
+            addressed: line.addressed,
+            indent: line.indent,
+            first: line.first,
+            count: line.count + 1,
+        },
+        Command::End => line,
+    }
+}
+
+// The place of that record.
+fn place_after(command: Command, totals: Totals, last: usize) -> usize
+    ensures { λ r. ⌜ r ≡ place-after command totals last ⌝ }
+{
+    match command {
+        Command::Addressed {
+            address: _,
+            indent: _,
+        } => totals.lines,
+        Command::Plain { indent: _ } => totals.lines,
+        Command::Token { kind: _, count: _ } => last,
+        Command::End => last,
+    }
+}
+
+// Adds a token's word behind the tokens so far.
+fn add_token(at: usize, command: Command, tokens: &mut [u64], totals: Totals)
+    requires { ⌜ TakesToken at command totals (now tokens) ⌝ }
+    ensures { λ _. ⌜ now (tokens .exit) ≡ tokens-after at command totals (now (tokens .entry)) ⌝ }
+{
+    match command {
+        Command::Addressed {
+            address: _,
+            indent: _,
+        } => {}
+        Command::Plain { indent: _ } => {}
         Command::Token { kind, count } => {
-            add_token(at, kind, count, tokens, lines, totals);
+            let n = totals.tokens;
+            tokens[n] = token_word(kind, IN_TAPE, at + 3, count);
         }
         Command::End => {}
     }
 }
 
-// Fills the tables with the listing of a tape that passed the questions, and says how many lines, tokens and bytes of text it has.
+// Takes the command at the offset, `line` being the record of the last line.
+fn lay(tape: &[u8], s: Laying, line: LineRecord, tokens: &mut [u64]) -> Laid
+    requires { ⌜ Ready (now tape) (now tokens) s line ⌝ }
+    ensures { λ r. ⌜ Lays (now (tape .entry)) s line (now (tokens .entry)) (now (tokens .exit)) r ⌝ }
+{
+    let at = s.at;
+    let totals = s.totals;
+    let command = known_command(tape, at);
+    add_token(at, command, tokens, totals);
+    let ended = is_end(command);
+    let next = Laying {
+        at: at + size_of(command),
+        line: place_after(command, totals, s.line),
+        totals: count_in(command, totals),
+        going: !ended,
+    };
+    Laid {
+        line: record_after(command, totals, line),
+        next,
+    }
+}
+
+// ---- the whole tape
+
+// Lays the lines of a tape that passed the questions: a record for each line and a word for each token. Proved by hand.
+pub fn fill(tape: &[u8], tokens: &mut [u64], lines: &mut [LineRecord]) -> Totals
+    requires { ⌜ Accepted (now tape) × (1024 ≤ length (now tokens)) × (256 ≤ length (now lines)) ⌝ }
+    ensures { λ r. ⌜ Recorded (now (tape .entry)) (now (tokens .exit)) (now (lines .exit)) r ⌝ }
+{
+    let mut s = start();
+    while s.going {
+        let k = s.line;
+        let line = line_at(lines, k);
+        let t = lay(tape, s, line, tokens);
+        store_line(lines, t.next.line, t.line);
+        s = t.next;
+    }
+    s.totals
+}
+
+// Writes the words and the addresses of the first n records into the tables.
+fn spread(records: [LineRecord; 256], n: usize, lines: &mut [u64], addresses: &mut [u64])
+    requires { ⌜ (n ≤ 256) × Fitting records n × (256 ≤ length (now lines)) × (256 ≤ length (now addresses)) ⌝ }
+    ensures { λ _. ⌜ Holding records n (now (lines .exit)) (now (addresses .exit)) ⌝ }
+{
+    let mut k = 0;
+    while k < n {
+        let r = records[k];
+        lines[k] = line_word(r.first, r.count, r.indent, r.addressed, k);
+        addresses[k] = r.address;
+        k += 1;
+    }
+}
+
+// Fills the tables with the listing of a tape that passed the questions, and says how many lines, tokens and bytes of text it has. The lines go
+// through an array of records of the call's own. Proved by hand.
 pub fn load(tape: &[u8], tokens: &mut [u64], lines: &mut [u64], addresses: &mut [u64]) -> Totals
     requires { ⌜ Accepted (now tape) ⌝ }
     requires { ⌜ (1024 ≤ length (now tokens)) × (256 ≤ length (now lines)) × (256 ≤ length (now addresses)) ⌝ }
     ensures { λ r. ⌜ Loaded (now (tape .entry)) (now (tokens .exit)) (now (lines .exit)) (now (addresses .exit)) r ⌝ }
 {
-    let mut at = 0;
-    let mut totals = Totals {
-        lines: 0,
-        tokens: 0,
-        text: 0,
+    let blank = LineRecord {
+        address: 0,
+        addressed: 0,
+        indent: 0,
+        first: 0,
+        count: 0,
     };
-    loop {
-        let command = known_command(tape, at);
-        if is_end(command) {
-            return totals;
-        }
-        add(at, command, tokens, lines, addresses, totals);
-        at += size_of(command);
-        totals = count_in(command, totals);
-    }
+    let mut records = [blank; 256];
+    let totals = fill(tape, tokens, &mut records);
+    spread(records, totals.lines, lines, addresses);
+    totals
 }

@@ -1,9 +1,9 @@
 // Document 01's questions, asked of each command from the left. Nothing is written.
 use crate::commands::Command;
 use crate::commands::Found;
-use crate::commands::command_from;
 use crate::commands::size_of;
-use crate::commands::token_text;
+use crate::reader::command_from;
+use crate::reader::token_text;
 use lines::rules::Rules;
 use lines::words::NUMBER;
 ghost use mathlib.Core.Path.{_≡_};

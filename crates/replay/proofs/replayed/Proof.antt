@@ -1,16 +1,18 @@
--- `replay::replayed` meets its contract: each frame counted took a byte of the list or more. Assumes nothing.
+-- `replay::replayed` meets its contract: the tally of the list is that of what is left, and each frame counted took a byte or more. Assumes nothing.
 use Prim.Native.Nat.{_+_, _≤_}
 use native.Mathlib.Omega.{arith}
-use mathlib.Core.Path.{_≡_, _∙_}
+use mathlib.Core.Path.{_≡_, refl, sym, _∙_}
 use lib.ListN.{length}
 use Rattle.replay.specs.Frames.{said-size}
+use Rattle.replay.specs.Tallies.{replayed, tally}
 use Rattle.replay.proofs.Framing.{found, left-behind}
+use Rattle.replay.proofs.Tallying.{ended, turned}
 use borrow.Author.Needs.{needs}
 use Rattle.replay.proofs.replayed.Statement.{statement}
 use Rattle.replay.proofs.replayed.Tie as tie
 
 abbrev Inv-loop : tie.InvT-loop
-Inv-loop list class left₀ counts₀ left counts = (counts .tapes + length left ≤ length list) × (counts .differ ≤ counts .tapes)
+Inv-loop list class left₀ counts₀ left counts = (replayed list class ≡ tally (length left) left class counts) × (counts .tapes + length left ≤ length list) × (counts .differ ≤ counts .tapes)
 
 abbrev μ-loop : tie.MeasureT-loop
 μ-loop list class left₀ counts₀ left counts = length left
@@ -24,16 +26,18 @@ frame c =
     (c .before .size .ensures ∙ f .0, f .1)
 
 loop-holds : tie.Need-loop-holds Inv-loop μ-loop
-loop-holds c = search needs
+loop-holds c = (refl, search needs, search needs)
 
 size-requires : tie.Need-size-requires Inv-loop μ-loop
 size-requires c κs = search needs
 
 returns : tie.Need-returns Inv-loop μ-loop
-returns c = search needs
+returns c =
+    let l = c .before .before .loop in
+    (sym (l .inv .0 ∙ ended _ _ _ (sym (c .before .size .ensures) ∙ c .if1 .taken)), search needs)
 
 counted-requires : tie.Need-counted-requires Inv-loop μ-loop
-counted-requires c κs = (frame c .1, (omega (arith, c .before .before .before .before .pre), c .before .before .loop .inv .1))
+counted-requires c κs = (frame c .1, (omega (arith, c .before .before .before .before .pre), c .before .before .loop .inv .2))
 
 sub-next : tie.Need-sub-next Inv-loop μ-loop
 sub-next c = let f = frame (c .before) in omega arith
@@ -50,7 +54,13 @@ loop-less c = let f = frame (c .before .before) in omega (arith, left-behind (c 
 loop-again : tie.Need-loop-again Inv-loop μ-loop
 loop-again c =
     let f = frame (c .before .before) in
-    (omega (arith, left-behind (c .before .before .before .before .loop .left .now) (c .before .before .before .size .result)), c .before .counted .ensures .0)
+    let t = c .before .before in
+    let l = t .before .before .loop in (
+      l .inv .0
+          ∙ turned _ (l .left .now) _ (t .before .size .ensures) (λ e. t .if1 .left (t .before .size .ensures ∙ e)) (c .before .counted .ensures .0),
+      omega (arith, c .before .counted .ensures .1, left-behind (l .left .now) (t .before .size .result)),
+      c .before .counted .ensures .1 .0,
+    )
 
 pub replayed-spec : {M : Type 1} → statement M
 replayed-spec =

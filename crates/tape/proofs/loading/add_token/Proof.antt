@@ -1,79 +1,62 @@
 -- `tape::loading::add_token` meets its contract. Assumes nothing.
 use native.Mathlib.Omega.{arith}
-use Rattle.lines.proofs.words.Lines.{first-below}
 use borrow.Author.Needs.{needs}
 use Rattle.tape.proofs.loading.add_token.Statement.{statement}
 use Rattle.tape.proofs.loading.add_token.Tie as tie
 
+enum-told : tie.Need-enum-told
+enum-told c = search needs
+
+enum-told-2 : tie.Need-enum-told-2
+enum-told-2 c = search needs
+
+enum-known-command : tie.Need-enum-known-command
+enum-known-command c = search needs
+
 add-token-word : tie.Need-add-token-word
-add-token-word c = search needs
+add-token-word c = let p = rw (c .before .command .given .1) at (c .before .before .before .before .pre) in omega arith
 
 token-word-requires : tie.Need-token-word-requires
-token-word-requires c κs = search needs
+token-word-requires c κs = let p = rw (c .before .command .given .1) at (c .before .before .before .before .pre) in omega arith
 
 mul-tokens : tie.Need-mul-tokens
-mul-tokens c = search needs
+mul-tokens c = let p = rw (c .before .before .command .given .1) at (c .before .before .before .before .before .pre) in search needs
 
 slice-write-tokens : tie.Need-slice-write-tokens
-slice-write-tokens c = search needs
+slice-write-tokens c = let p = rw (c .before .before .command .given .1) at (c .before .before .before .before .before .pre) in omega arith
 
-sub-k : tie.Need-sub-k
-sub-k c = search needs
+enum-told-3 : tie.Need-enum-told-3
+enum-told-3 c = search needs
 
-mul-l : tie.Need-mul-l
-mul-l c = search needs
+returns : tie.Need-returns
+returns c = search needs
 
-slice-read-l : tie.Need-slice-read-l
-slice-read-l c = search needs
-
-first-requires : tie.Need-first-requires
-first-requires c κs = search needs
-
-count-requires : tie.Need-count-requires
-count-requires c κs = search needs
-
-add-with-tokens : tie.Need-add-with-tokens
-add-with-tokens c = search needs
-
-with-tokens-requires : tie.Need-with-tokens-requires
-with-tokens-requires c κs = let s = c .before .before .before .before .before .before .before in
-    (rw (c .before .first .ensures) (first-below _), omega (arith, c .count .ensures, s .pre))
-
-mul-lines : tie.Need-mul-lines
-mul-lines c = search needs
-
-slice-write-lines : tie.Need-slice-write-lines
-slice-write-lines c = search needs
+returns-2 : tie.Need-returns-2
+returns-2 c = search needs
 
 same-length : tie.Need-same-length
 same-length c = search needs
 
-same-length-2 : tie.Need-same-length-2
-same-length-2 c = search needs
+returns-3 : tie.Need-returns-3
+returns-3 c = rw (c .before .before .command .given .1, c .token-word .ensures)
 
-returns : tie.Need-returns
-returns c = (
-  rw (c .before .before .before .before .before .token-word .ensures),
-  rw (c .with-tokens .ensures, c .before .before .first .ensures, c .before .count .ensures),
-)
+returns-4 : tie.Need-returns-4
+returns-4 c = search needs
 
 pub add-token-spec : {M : Type 1} → statement M
 add-token-spec =
     tie.close
     (tie.spec
+    enum-told
+    enum-told-2
+    enum-known-command
     add-token-word
     token-word-requires
     mul-tokens
     slice-write-tokens
-    sub-k
-    mul-l
-    slice-read-l
-    first-requires
-    count-requires
-    add-with-tokens
-    with-tokens-requires
-    mul-lines
-    slice-write-lines
+    enum-told-3
+    returns
+    returns-2
     same-length
-    same-length-2
-    returns)
+    returns-3
+    returns-4)

@@ -1,9 +1,9 @@
--- `tape::commands::known_command` meets its contract. Assumes nothing.
+-- `tape::reader::known_command` meets its contract. Assumes nothing.
 use mathlib.Core.Path.{_∙_}
 use Rattle.reference.proofs.Reading.{refused-passed}
 use borrow.Author.Needs.{needs}
-use Rattle.tape.proofs.commands.known_command.Statement.{statement}
-use Rattle.tape.proofs.commands.known_command.Tie as tie
+use Rattle.tape.proofs.reader.known_command.Statement.{statement}
+use Rattle.tape.proofs.reader.known_command.Tie as tie
 
 command-from-requires : tie.Need-command-from-requires
 command-from-requires c κs = search needs

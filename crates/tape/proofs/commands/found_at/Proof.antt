@@ -1,9 +1,9 @@
--- `tape::commands::command_from` meets its contract. Assumes nothing.
+-- `tape::commands::found_at` meets its contract. Assumes nothing.
 use native.Mathlib.Omega.{arith}
 use Rattle.tape.proofs.commands.Standing.{no-byte, no-command, ending}
 use borrow.Author.Needs.{needs}
-use Rattle.tape.proofs.commands.command_from.Statement.{statement}
-use Rattle.tape.proofs.commands.command_from.Tie as tie
+use Rattle.tape.proofs.commands.found_at.Statement.{statement}
+use Rattle.tape.proofs.commands.found_at.Tie as tie
 
 returns : tie.Need-returns
 returns c = let a = c .before .before .args in no-byte (a .tape .now) (a .at) (c .if1 .taken)
@@ -43,8 +43,8 @@ token-from-requires c κs = search needs
 returns-7 : tie.Need-returns-7
 returns-7 c = search needs
 
-pub command-from-spec : {M : Type 1} → statement M
-command-from-spec =
+pub found-at-spec : {M : Type 1} → statement M
+found-at-spec =
     tie.close
     (tie.spec
     returns
