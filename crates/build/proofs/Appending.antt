@@ -127,7 +127,7 @@ module _ (tape old area : Text) (tokens : List ℕ) (at : Size) (w : ℕ) (pl : 
         text-grows = le-refl _;
         text-most = omega arith;
         text-below = refl;
-        points = rw here (record { inside = rw (in-tape tape (used area at) pl) (rw (in-tape tape old pl) at (p .inside)); short = p .short });
+        points = rw here (record { inside = rw (in-tape tape (used area at) pl) (rw (in-tape tape old pl) at (p .inside)); short = p .short; coded = p .coded });
         means = rw (here, in-tape tape (used area at) pl, in-tape tape old pl);
         at-end = rw here (λ e. absurd (omega arith));
         fresh = rw here (λ m h f e. absurd (omega arith));

@@ -91,6 +91,7 @@ module _ {tape area : Text} {tokens : List ℕ} {at : Size} {line : List ℕ →
             (λ e. rw (in-tape tape (used area″ (r .size)) e) (rw (in-tape tape (used area′ (r .size)) e) at (p .inside)))
             (λ e. rw (in-area tape (used area″ (r .size)) e, used-long) (omega (arith, p .inside, ap length (in-area tape (used area′ (r .size)) e), length-take (r .size .text) area′)));
         short = p .short;
+        coded = p .coded;
       }
 
     same-part : part-of (used-words tokens″ (r .size)) (r .line) ≡ part-of (used-words tokens′ (r .size)) (r .line)

@@ -1,4 +1,5 @@
--- What the code's values mean: token words, line words and listings, settings, answers on shapes, families.
+-- What the code's values mean: codes of names, token words, line words and listings, settings, answers on shapes, families.
+pub mod Codes
 pub mod Words
 pub mod Lines
 pub mod Rules

@@ -1,13 +1,16 @@
 -- What a token word means, and the words that point into their texts. Assumes nothing.
 use Prim.Native.Nat.{ℕ, _+_, _-_, _*_, _/_, _%_, _≤_, _<_}
+use mathlib.Core.Logic.{_⊎_}
+use mathlib.Core.Path.{_≡_}
 use mathlib.Core.List.{List, map}
 use lib.Dec.{eqb}
 use lib.ListN.{length, take, drop, getD}
 use Rattle.reference.specs.Control.{if_then_else_}
 use Rattle.reference.specs.Text.{Text}
 use Rattle.reference.specs.Listing.{Token, token}
+use Rattle.lines.specs.Codes.{Says}
 
--- kind in 3 bits, place in 1 bit, start in 16 bits, length in 16 bits; the bits above are free
+-- kind in 3 bits, place in 1 bit, start in 16 bits, length in 16 bits; the bits above are the code of the text, or 0
 
 unfoldable pub kind-of : ℕ → ℕ
 kind-of w = w % 8
@@ -21,9 +24,16 @@ start-of w = w / 16 % 65536
 unfoldable pub len-of : ℕ → ℕ
 len-of w = w / 1048576 % 65536
 
--- the word of these parts
+unfoldable pub code-of : ℕ → ℕ
+code-of w = w / 68719476736
+
+-- the word of these parts, with no code
 unfoldable pub word : ℕ → ℕ → ℕ → ℕ → ℕ
 word kind place start len = kind + place * 8 + start * 16 + len * 1048576
+
+-- the same word with the code c
+unfoldable pub with-code : ℕ → ℕ → ℕ
+with-code w c = w % 68719476736 + c * 68719476736
 
 -- shorter parts of a word's text: without its first n bytes, its first n bytes, without its last byte
 unfoldable pub without-first : ℕ → ℕ → ℕ
@@ -48,11 +58,26 @@ token-of tape area w = token (kind-of w) (text-of tape area w)
 abbrev pub tokens-of : Text → Text → List ℕ → List Token
 tokens-of tape area ws = map (token-of tape area) ws
 
--- the word's text lies within its source, and below the place that a start can name
+-- the word has no code, or its text is in the tape and the code is true of it
+unfoldable pub Coded : Text → ℕ → Type 0
+Coded tape w = (code-of w ≡ 0) ⊎ ((place-of w ≡ 0) × Says (code-of w) (take (len-of w) (drop (start-of w) tape)))
+
+-- the word's text lies within its source, and below the place that a start can name; its code says nothing false
 pub record Points (tape area : Text) (w : ℕ) : Type 0 where
   pub inside : start-of w + len-of w ≤ length (source tape area (place-of w))
   pub short : start-of w + len-of w < 65536
+  pub coded : Coded tape w
 
 -- every word of the list points into its text
 pub record Holds (tape area : Text) (ws : List ℕ) : Type 0 where
   pub at : (k : ℕ) → k < length ws → Points tape area (getD ws k 0)
+
+-- r is the same token as w, and points wherever w does
+pub record Recoded (tape : Text) (w r : ℕ) : Type 0 where
+  pub means : (area : Text) → token-of tape area r ≡ token-of tape area w
+  pub points : (area : Text) → Points tape area w → Points tape area r
+
+-- so do the words of two lists, each with its own
+pub record Recodes (tape : Text) (ws us : List ℕ) : Type 0 where
+  pub long : length us ≡ length ws
+  pub at : (k : ℕ) → k < length ws → Recoded tape (getD ws k 0) (getD us k 0)

@@ -1,4 +1,5 @@
 // The families of a listing's tokens (`fam_of` of the Rust), and what a line does with one.
+use crate::codes;
 use crate::rules::Rules;
 use crate::shapes;
 use crate::shapes::Expr;
@@ -32,8 +33,8 @@ pub enum Named {
     Nothing,
 }
 
-// The family and the width of a token's text, whatever its kind.
-pub fn name_of<'a>(tape: &'a [u8], area: &'a [u8], w: u64) -> Named
+// The family and the width of a token's text, read from its bytes.
+fn spelled<'a>(tape: &'a [u8], area: &'a [u8], w: u64) -> Named
     requires { ⌜ Points (now tape) (now area) w ⌝ }
     ensures { λ r. ⌜ Names (now (tape .entry)) (now (area .entry)) (family (text-of (now (tape .entry)) (now (area .entry)) w)) r ⌝ }
 {
@@ -42,6 +43,17 @@ pub fn name_of<'a>(tape: &'a [u8], area: &'a [u8], w: u64) -> Named
         Spelled::Front(n, width) => Named::As(Fam::Text(words::first_bytes(w, n)), width),
         Spelled::Nothing => Named::Nothing,
     }
+}
+
+// The family and the width of a token's text, whatever its kind.
+pub fn name_of<'a>(tape: &'a [u8], area: &'a [u8], w: u64) -> Named
+    requires { ⌜ Points (now tape) (now area) w ⌝ }
+    ensures { λ r. ⌜ Names (now (tape .entry)) (now (area .entry)) (family (text-of (now (tape .entry)) (now (area .entry)) w)) r ⌝ }
+{
+    if words::code(w) == 0 {
+        return spelled(tape, area, w);
+    }
+    codes::decoded(tape, area, w)
 }
 
 // The family and the width of a token: of a Register alone.
@@ -66,7 +78,7 @@ pub fn same_family<'a>(tape: &'a [u8], area: &'a [u8], f: Fam, g: Fam) -> bool
         },
         Fam::Text(v) => match g {
             Fam::Row(_) => false,
-            Fam::Text(w) => text::same(words::text(tape, area, v), words::text(tape, area, w)),
+            Fam::Text(w) => codes::same_text(tape, area, v, w),
         },
     }
 }

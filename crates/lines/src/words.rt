@@ -1,13 +1,14 @@
 // Token words and line words: a token and a line, each in one number, read by / and %.
 //
-// A token word: kind in 3 bits, place in 1 bit, start in 16 bits, length in 16 bits. Its text is
-// `len` bytes from `start` on, in the tape or, once rewritten, in the area.
+// A token word: kind in 3 bits, place in 1 bit, start in 16 bits, length in 16 bits, and above them
+// the code of its text, or 0 (codes.rt). Its text is `len` bytes from `start` on, in the tape or,
+// once rewritten, in the area.
 // A line word: first token in 16 bits, count in 11 bits, indent in 6 bits, whether it has an
 // address in 1 bit, and its origin, the number of the input line that it was, in 8 bits.
 ghost use mathlib.Core.Path.{_≡_};
 ghost use Prim.Native.Nat.{_+_, _≤_, _<_};
 ghost use lib.ListN.{length};
-ghost use Rattle.lines.specs.Words.{kind-of, place-of, start-of, len-of, word, without-first, first-bytes, without-last, text-of, Points};
+ghost use Rattle.lines.specs.Words.{kind-of, place-of, start-of, len-of, code-of, word, with-code, without-first, first-bytes, without-last, text-of, Points};
 ghost use Rattle.lines.specs.Lines.{first-of, count-of, indent-of, addressed-of, origin-of, line-word, with-part, part-of};
 
 // The kinds that the cleaner asks about. (Address is 5 and Prefix is 7.)
@@ -57,6 +58,21 @@ pub fn len(w: u64) -> usize
     ensures { λ r. ⌜ r ≡ len-of w ⌝ }
 {
     (w / 1048576 % 65536) as usize
+}
+
+// The code of the token's text, or 0.
+pub fn code(w: u64) -> u64
+    ensures { λ r. ⌜ r ≡ code-of w ⌝ }
+{
+    w / 68719476736
+}
+
+// The token with the code c.
+pub fn with_code(w: u64, c: u64) -> u64
+    requires { ⌜ c < 268435456 ⌝ }
+    ensures { λ r. ⌜ r ≡ with-code w c ⌝ }
+{
+    w % 68719476736 + c * 68719476736
 }
 
 // The token without the first n bytes of its text.

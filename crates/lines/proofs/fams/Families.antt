@@ -40,9 +40,8 @@ module _ (tape area : Text) {f g : Fam} (kf : Known tape area f) (kg : Known tap
   pub text-row : {a w : ℕ} → f ≡ Spelt w → g ≡ Row a → false ≡ (fam-text tape area f == fam-text tape area g)
   text-row {a} {w} ef eg = rw (ef, eg) (sym (text-not-row a (text-of tape area w) (rw eg at kg) ((rw ef at kf) .1)))
 
-  pub text-text : {v w : ℕ} {x : Bool} {s t : Text} → f ≡ Spelt v → g ≡ Spelt w → s ≡ text-of tape area v → t ≡ text-of tape area w → x ≡ (s == t)
-      → x ≡ (fam-text tape area f == fam-text tape area g)
-  text-text ef eg es et e = rw (ef, eg, ← es, ← et) e
+  pub text-text : {v w : ℕ} {x : Bool} → f ≡ Spelt v → g ≡ Spelt w → x ≡ (text-of tape area v == text-of tape area w) → x ≡ (fam-text tape area f == fam-text tape area g)
+  text-text ef eg e = rw (ef, eg) e
 
 pub text-points : (tape area : Text) {f : Fam} {w : ℕ} → Known tape area f → f ≡ Spelt w → Points tape area w
 text-points tape area k e = (rw e at k) .0

@@ -3,7 +3,7 @@
 use Prim.Native.Nat.{ℕ, _+_, _-_, _≤_, _<_}
 use native.Mathlib.Omega.{arith}
 use native.Mathlib.Decide.{ℕ-discrete}
-use mathlib.Core.Logic.{by-cases}
+use mathlib.Core.Logic.{by-cases, inl}
 use mathlib.Core.Path.{_≡_, sym, ap, _∙_}
 use mathlib.Core.List.{List, [], _∷_, _++_}
 use lib.ListN.{length, take, drop, getD, set, length-take, length-drop}
@@ -13,7 +13,7 @@ use Rattle.reference.specs.Text.{Text}
 use Rattle.reference.specs.Listing.{token}
 use Rattle.laws.proofs.Parts.{drop-take, part-below}
 use Rattle.laws.proofs.Scans.{if-true, if-false}
-use Rattle.lines.specs.Words.{kind-of, place-of, start-of, len-of, word, without-first, first-bytes, source, text-of, token-of, tokens-of, Points, Holds}
+use Rattle.lines.specs.Words.{kind-of, place-of, start-of, len-of, code-of, word, with-code, without-first, first-bytes, source, text-of, token-of, tokens-of, Coded, Points, Holds}
 use Rattle.lines.proofs.words.Each.{each-none, each-one, each-take, each-drop, each-append, each-set, map-same}
 
 pub kind-below : (w : ℕ) → kind-of w < 8
@@ -52,13 +52,40 @@ module _ (k p s l : ℕ) (hk : k < 8) (hp : p < 2) (hs : s < 65536) where
     unfolding word len-of
     word-len = omega arith
 
+    pub word-code : code-of (word k p s l) ≡ 0
+    unfolding word code-of
+    word-code = omega arith
+
     module _ (tape area : Text) where
       pub word-means : token-of tape area (word k p s l) ≡ token k (take l (drop s (source tape area p)))
       unfolding text-of
       word-means = rw (word-kind, word-place, word-start, word-len)
 
       pub word-points : s + l ≤ length (source tape area p) → s + l < 65536 → Points tape area (word k p s l)
-      word-points hi ho = record { inside = rw (word-place, word-start, word-len) hi; short = rw (word-start, word-len) ho }
+      unfolding Coded
+      word-points hi ho = record { inside = rw (word-place, word-start, word-len) hi; short = rw (word-start, word-len) ho; coded = inl word-code }
+
+-- a code changes nothing else
+module _ (w c : ℕ) where
+  pub coded-kind : kind-of (with-code w c) ≡ kind-of w
+  unfolding with-code kind-of
+  coded-kind = omega arith
+
+  pub coded-place : place-of (with-code w c) ≡ place-of w
+  unfolding with-code place-of
+  coded-place = omega arith
+
+  pub coded-start : start-of (with-code w c) ≡ start-of w
+  unfolding with-code start-of
+  coded-start = omega arith
+
+  pub coded-len : len-of (with-code w c) ≡ len-of w
+  unfolding with-code len-of
+  coded-len = omega arith
+
+  pub coded-code : code-of (with-code w c) ≡ c
+  unfolding with-code code-of
+  coded-code = omega arith
 
 pub in-tape : (tape area : Text) {p : ℕ} → p ≡ 0 → source tape area p ≡ tape
 unfolding source
@@ -139,6 +166,7 @@ module _ {tape : Text} (n : ℕ) (area : Text) {w : ℕ} (h : Points tape (take 
         (λ e. rw (in-tape tape area e) (rw (in-tape tape (take n area) e) at (h .inside)))
         (λ e. rw (in-area tape area e) (omega (arith, h .inside, ap length (in-area tape (take n area) e), length-take n area)));
     short = h .short;
+    coded = h .coded;
   }
 
   pub text-prefix : text-of tape (take n area) w ≡ text-of tape area w
@@ -189,6 +217,7 @@ points-length {tape} {area} area′ {w} e h = record {
       (λ z. rw (in-tape tape area′ z) (rw (in-tape tape area z) at (h .inside)))
       (λ z. rw (in-area tape area′ z) (omega (arith, h .inside, ap length (in-area tape area z))));
   short = h .short;
+  coded = h .coded;
 }
 
 pub holds-length : {tape area : Text} (area′ : Text) {ws : List ℕ} → length area ≡ length area′ → Holds tape area ws → Holds tape area′ ws

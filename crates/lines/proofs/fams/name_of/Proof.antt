@@ -1,46 +1,23 @@
 -- `lines::fams::name_of` meets its contract. Assumes nothing.
 use borrow.Author.Needs.{needs}
-use Rattle.lines.proofs.fams.Families.{families}
+use mathlib.Core.Path.{sym, _∙_}
 use Rattle.lines.proofs.fams.name_of.Statement.{statement}
 use Rattle.lines.proofs.fams.name_of.Tie as tie
 
-text-requires : tie.Need-text-requires
-text-requires c κs = search needs
+code-requires : tie.Need-code-requires
+code-requires c κs = search needs
 
-family-requires : tie.Need-family-requires
-family-requires c κs = search needs
-
-enum-known-row : tie.Need-enum-known-row
-enum-known-row c = search needs
-
-enum-known-n : tie.Need-enum-known-n
-enum-known-n c = search needs
-
-first-bytes-requires : tie.Need-first-bytes-requires
-first-bytes-requires c κs = search (needs, families)
-
-enum-told : tie.Need-enum-told
-enum-told c = search needs
+spelled-requires : tie.Need-spelled-requires
+spelled-requires c κs = search needs
 
 returns : tie.Need-returns
-returns c = search (needs, families)
+returns c = search needs
+
+decoded-requires : tie.Need-decoded-requires
+decoded-requires c κs = (search needs, λ e. c .if1 .left (c .before .code .ensures ∙ e))
 
 returns-2 : tie.Need-returns-2
-returns-2 c = search (needs, families)
-
-returns-3 : tie.Need-returns-3
-returns-3 c = search (needs, families)
+returns-2 c = search needs
 
 pub name-of-spec : {M : Type 1} → statement M
-name-of-spec =
-    tie.close
-    (tie.spec
-    text-requires
-    family-requires
-    enum-known-row
-    enum-known-n
-    first-bytes-requires
-    enum-told
-    returns
-    returns-2
-    returns-3)
+name-of-spec = tie.close (tie.spec code-requires spelled-requires returns decoded-requires returns-2)

@@ -22,14 +22,8 @@ enum-told-2 c = search needs
 enum-known-g-2 : tie.Need-enum-known-g-2
 enum-known-g-2 c = search needs
 
-text-requires : tie.Need-text-requires
-text-requires c κs = search (needs, families)
-
-text-requires-2 : tie.Need-text-requires-2
-text-requires-2 c κs = search (needs, families)
-
-same-requires : tie.Need-same-requires
-same-requires c κs = search needs
+same-text-requires : tie.Need-same-text-requires
+same-text-requires c κs = search (needs, families)
 
 returns : tie.Need-returns
 returns c = search (needs, families)
@@ -53,9 +47,7 @@ same-family-spec =
     enum-known-f-2
     enum-told-2
     enum-known-g-2
-    text-requires
-    text-requires-2
-    same-requires
+    same-text-requires
     returns
     returns-2
     returns-3

@@ -1,0 +1,173 @@
+// Codes: the family and the width of a token's text, found once and kept in its word.
+use crate::fams::Fam;
+use crate::fams::Named;
+use crate::words;
+use names::Spelled;
+ghost use mathlib.Core.Path.{_≡_};
+ghost use Prim.Native.Nat.{_+_, _*_, _%_};
+ghost use Rattle.reference.specs.Text.{_==_};
+ghost use Rattle.reference.specs.Names.{family};
+ghost use Rattle.names.specs.Families.{Spells};
+ghost use Rattle.names.specs.declared.families.Spelled.the-variants.{Row, Front};
+ghost use Rattle.lines.specs.Codes.{bucket, coded-width, Codes};
+ghost use Rattle.lines.specs.Words.{code-of, text-of, Points, Recoded, Recodes};
+ghost use Rattle.lines.specs.Fams.{Names};
+
+fn mixed(a: u8, b: u8) -> u64
+    ensures { λ r. ⌜ r ≡ (a + 3 * b) % 7 ⌝ }
+{
+    (a as u64 + 3 * (b as u64)) % 7
+}
+
+// A number below 7 of a name.
+pub fn bucket(s: &[u8]) -> u64
+    ensures { λ r. ⌜ r ≡ bucket (now (s .entry)) ⌝ }
+{
+    let n = s.len();
+    if n < 2 {
+        return 0;
+    }
+    mixed(s[n - 1], s[n - 2])
+}
+
+// ---- from the code
+
+fn width_of(c: u64) -> u64
+    ensures { λ r. ⌜ r ≡ coded-width c ⌝ }
+{
+    match c % 4 {
+        0 => 64,
+        1 => 32,
+        2 => 16,
+        _ => 8,
+    }
+}
+
+// The family and the width that the code of a word says.
+pub fn decoded<'a>(tape: &'a [u8], area: &'a [u8], w: u64) -> Named
+    requires { ⌜ Points (now tape) (now area) w × (code-of w ≡ 0 → ⊥) ⌝ }
+    ensures { λ r. ⌜ Names (now (tape .entry)) (now (area .entry)) (family (text-of (now (tape .entry)) (now (area .entry)) w)) r ⌝ }
+{
+    let c = words::code(w);
+    let width = width_of(c);
+    if c < 36 {
+        return Named::As(Fam::Row(c / 4 - 1), width);
+    }
+    if c % 4 == 0 {
+        return Named::As(Fam::Text(w), width);
+    }
+    Named::As(Fam::Text(words::without_last(w)), width)
+}
+
+// Whether two tokens have one text: codes that differ tell at once.
+pub fn same_text<'a>(tape: &'a [u8], area: &'a [u8], v: u64, w: u64) -> bool
+    requires { ⌜ Points (now tape) (now area) v × Points (now tape) (now area) w ⌝ }
+    ensures { λ r. ⌜ r ≡ (text-of (now (tape .entry)) (now (area .entry)) v == text-of (now (tape .entry)) (now (area .entry)) w) ⌝ }
+{
+    let a = words::code(v);
+    let b = words::code(w);
+    if a != b {
+        if a != 0 {
+            if b != 0 {
+                return false;
+            }
+        }
+    }
+    text::same(words::text(tape, area, v), words::text(tape, area, w))
+}
+
+// ---- to the code
+
+// The code of a row and a width; 0 for another width.
+fn row_code(s: &[u8], row: u64, width: u64) -> u64
+    requires { ⌜ Spells (now s) (family (now s)) (Row row width) ⌝ }
+    ensures { λ r. ⌜ Codes (now (s .entry)) r ⌝ }
+{
+    let base = 4 + 4 * row;
+    if s.len() == 0 {
+        return 0;
+    }
+    match width {
+        64 => base,
+        32 => base + 1,
+        16 => base + 2,
+        8 => base + 3,
+        _ => 0,
+    }
+}
+
+// The code of a text that is its family's name.
+fn whole_code(s: &[u8], n: usize) -> u64
+    requires { ⌜ Spells (now s) (family (now s)) (Front n 64) ⌝ }
+    ensures { λ r. ⌜ Codes (now (s .entry)) r ⌝ }
+{
+    if n == 0 {
+        return 0;
+    }
+    if n != s.len() {
+        return 0;
+    }
+    36 + 4 * bucket(s)
+}
+
+// The code of a text that is its family's name and one byte more; 0 for a width of 64 bits.
+fn front_code(s: &[u8], n: usize, width: u64) -> u64
+    requires { ⌜ Spells (now s) (family (now s)) (Front n width) ⌝ }
+    ensures { λ r. ⌜ Codes (now (s .entry)) r ⌝ }
+{
+    if n + 1 != s.len() {
+        return 0;
+    }
+    let base = 36 + 4 * bucket(&s[..n]);
+    match width {
+        32 => base + 1,
+        16 => base + 2,
+        8 => base + 3,
+        _ => 0,
+    }
+}
+
+// The code of a name; 0 where it has no family.
+fn code_of(s: &[u8]) -> u64
+    ensures { λ r. ⌜ Codes (now (s .entry)) r ⌝ }
+{
+    match names::family(s) {
+        Spelled::Row(row, width) => row_code(s, row, width),
+        Spelled::Front(n, width) => {
+            if width == 64 {
+                return whole_code(s, n);
+            }
+            front_code(s, n, width)
+        }
+        Spelled::Nothing => 0,
+    }
+}
+
+// The word with the code of its text, where it is a Register in the tape.
+pub fn coded(tape: &[u8], w: u64) -> u64
+    ensures { λ r. ⌜ Recoded (now (tape .entry)) w r ⌝ }
+{
+    if words::kind(w) != words::REGISTER {
+        return w;
+    }
+    if words::place(w) != words::IN_TAPE {
+        return w;
+    }
+    let from = words::start(w);
+    let to = from + words::len(w);
+    if tape.len() < to {
+        return w;
+    }
+    words::with_code(w, code_of(&tape[from..to]))
+}
+
+// Codes every word.
+pub fn code_all(tape: &[u8], tokens: &mut [u64])
+    ensures { λ r. ⌜ Recodes (now (tape .entry)) (now (tokens .entry)) (now (tokens .exit)) ⌝ }
+{
+    let mut k = 0;
+    while k < tokens.len() {
+        tokens[k] = coded(tape, tokens[k]);
+        k += 1;
+    }
+}
