@@ -9,12 +9,14 @@ use crate::reader::known_command;
 use crate::records::LineRecord;
 use crate::records::line_at;
 use crate::records::store_line;
+use lines::codes::coded;
 use lines::words::IN_TAPE;
 use lines::words::line_word;
 use lines::words::token_word;
 ghost use mathlib.Core.Path.{_≡_};
 ghost use Prim.Native.Nat.{_≤_};
 ghost use lib.ListN.{length};
+ghost use Rattle.lines.specs.Words.{Recodes};
 ghost use Rattle.tape.specs.Records.{Fitting, Holding, Recorded, line-after, place-after, start-of, TakesToken, Grows, Ready, Lays};
 ghost use Rattle.tape.specs.Tables.{Accepted, tokens-after, Loaded};
 
@@ -171,7 +173,7 @@ fn spread(records: [LineRecord; 256], n: usize, lines: &mut [u64], addresses: &m
 
 // Fills the tables with the listing of a tape that passed the questions, and says how many lines, tokens and bytes of text it has. The lines go
 // through an array of records of the call's own. Proved by hand.
-pub fn load(tape: &[u8], tokens: &mut [u64], lines: &mut [u64], addresses: &mut [u64]) -> Totals
+fn tabled(tape: &[u8], tokens: &mut [u64], lines: &mut [u64], addresses: &mut [u64]) -> Totals
     requires { ⌜ Accepted (now tape) ⌝ }
     requires { ⌜ (1024 ≤ length (now tokens)) × (256 ≤ length (now lines)) × (256 ≤ length (now addresses)) ⌝ }
     ensures { λ r. ⌜ Loaded (now (tape .entry)) (now (tokens .exit)) (now (lines .exit)) (now (addresses .exit)) r ⌝ }
@@ -186,5 +188,29 @@ pub fn load(tape: &[u8], tokens: &mut [u64], lines: &mut [u64], addresses: &mut 
     let mut records = [blank; 256];
     let totals = fill(tape, tokens, &mut records);
     spread(records, totals.lines, lines, addresses);
+    totals
+}
+
+// Codes the first n words.
+fn code_first(tape: &[u8], tokens: &mut [u64], n: usize)
+    requires { ⌜ n ≤ length (now tokens) ⌝ }
+    ensures { λ _. ⌜ Recodes (now (tape .entry)) (now (tokens .entry)) (now (tokens .exit)) ⌝ }
+{
+    let mut k = 0;
+    while k < n {
+        tokens[k] = coded(tape, tokens[k]);
+        k += 1;
+    }
+}
+
+// Fills the tables so, each Register with the code of its family.
+pub fn load(tape: &[u8], tokens: &mut [u64], lines: &mut [u64], addresses: &mut [u64]) -> Totals
+    requires { ⌜ Accepted (now tape) ⌝ }
+    requires { ⌜ (1024 ≤ length (now tokens)) × (256 ≤ length (now lines)) × (256 ≤ length (now addresses)) ⌝ }
+    ensures { λ r. ⌜ Loaded (now (tape .entry)) (now (tokens .exit)) (now (lines .exit)) (now (addresses .exit)) r ⌝ }
+{
+    let totals = tabled(tape, tokens, lines, addresses);
+    let n = totals.tokens;
+    code_first(tape, tokens, n);
     totals
 }

@@ -10,7 +10,9 @@ use Rattle.reference.specs.Questions.{Passed, read}
 use Rattle.reference.proofs.Reading.{passed-inj, let-is}
 use Rattle.reference.proofs.Tapes.{read-limits}
 use Rattle.lines.specs.Lines.{listing-of, Listed}
+use Rattle.lines.specs.Words.{Recodes}
 use Rattle.lines.proofs.words.Lines.{listed-prefix, listing-prefix}
+use Rattle.lines.proofs.codes.Recoding.{recodes-take, listed-recoded, listing-recoded}
 use Rattle.tape.specs.Questions.{totals-of, totals-in}
 use Rattle.tape.specs.Tables.{Loaded}
 use Rattle.tape.specs.declared.questions.Totals.{Totals}
@@ -33,3 +35,11 @@ module _ {tape tokens lines addresses : List ℕ} {r : Totals} (l : Loaded tape 
       passed-inj (sym (let-is (λ lines. Passed (totals-in lines)) e) ∙ l .totals) in
       omega
       (arith, limits .few-lines, limits .few-tokens, limits .short-text, ap (λ (t : Q.Totals). t .lines) t, ap (λ (t : Q.Totals). t .tokens) t, ap (λ (t : Q.Totals). t .text) t)
+
+-- words that were coded are the same listing
+pub loaded-recoded : {tape tokens coded lines addresses : List ℕ} {r : Totals} → Loaded tape tokens lines addresses r → Recodes tape tokens coded → Loaded tape coded lines addresses r
+loaded-recoded {lines = lines} {addresses = addresses} {r = r} l c = record {
+  listing = λ area. l .listing area ∙ ap Passed (sym (listing-recoded (recodes-take c (r .tokens)) area addresses (take (r .lines) lines)));
+  listed = λ area. listed-recoded (recodes-take c (r .tokens)) (l .listed area);
+  totals = l .totals;
+}
