@@ -19,7 +19,7 @@ use Rattle.plan.specs.declared.plans.Join.{Join}
 use Rattle.build.specs.declared.used.Size.{Size}
 use Rattle.build.specs.declared.line.Appended.{Appended}
 use Rattle.build.proofs.Listing.{listed-added, listing-added}
-use Rattle.join.specs.Building.{Placed, Put, plan-of, Plannable, Spare, nothing-used, acted-upto, Upto, Rebuilt}
+use Rattle.join.specs.Building.{Placed, Put, plan-of, Plannable, nothing-used, acted-upto, Upto, Rebuilt}
 use Rattle.join.proofs.Rows.{within-begin, text-few, words-few, within-passed, within-placed}
 
 -- two lists with the same rest
@@ -32,10 +32,6 @@ module _ (k : ℕ) (xs ys : List ℕ) (e : drop k xs ≡ drop k ys) where
   pub rest-next : drop (k + 1) xs ≡ drop (k + 1) ys
   rest-next = sym (drop-drop 1 k xs) ∙ ap (drop 1) e ∙ drop-drop 1 k ys
 
--- an empty set has room
-pub spare-whole : {area : List ℕ} {tokens : List ℕ} → 49152 ≤ length area → 1024 ≤ length tokens → Spare area tokens nothing-used
-spare-whole ha ht = record { text-fits = omega arith; text-short = omega arith; words-fit = omega arith; words-short = omega arith }
-
 module _ {rules : Rules} {tape old : Text} {words lines : List ℕ} {j : Join} (h : Plannable rules tape old words lines j) where
   abbrev plan : Plan
   plan = plan-of tape old words lines j
@@ -47,7 +43,7 @@ module _ {rules : Rules} {tape old : Text} {words lines : List ℕ} {j : Join} (
     behind = omega arith;
     listed = listed-none tape _ _;
     means = λ addresses. sym (built-begin (acted-line (volatile rules) (j .line) plan) (j .line) (listing-of tape old words addresses lines));
-    within = within-begin h nothing-used 0;
+    within = within-begin h;
   }
 
   module _ {k : ℕ} {area : Text} {tokens lines′ : List ℕ} {size : Size} (u : Upto rules tape old words lines j k area tokens lines′ size) where
@@ -62,7 +58,7 @@ module _ {rules : Rules} {tape old : Text} {words lines : List ℕ} {j : Join} (
           behind = omega (arith, u .behind);
           listed = u .listed;
           means = λ addresses. u .means addresses ∙ sym (skip addresses);
-          within = within-passed h (u .within) (omega (arith, h .inside));
+          within = within-passed h (u .within) e;
         }
 
     -- any other line
@@ -94,6 +90,6 @@ module _ {rules : Rules} {tape old : Text} {words lines : List ℕ} {j : Join} (
         current = record { text-fits = ha; words-fit = ht; lines-fit = omega (arith, u .behind, u .as-many); listed = u .listed };
         means = λ addresses. u .means addresses ∙ act-built rules (listing-of tape old words addresses lines) (j .line) plan k (rw length-map (omega arith));
       };
-      text-few = omega (arith, text-few h (u .within));
-      words-few = omega (arith, words-few h (u .within));
+      text-few = text-few h (u .within);
+      words-few = words-few h (u .within);
     }

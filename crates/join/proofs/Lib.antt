@@ -1,11 +1,12 @@
--- Laws that the proofs of an attempt cite: one line of the new listing (Placing) and the room that it has (Rows); the loop that writes all lines
--- anew (Building) and the copy back (Bringing); a word removed (Removing), the loop that writes the changed lines (Patching), and their way into
--- the first set (Settling); what an attempt answers (Trying).
+-- Laws that the proofs of an attempt cite: one line of the new listing (Placing) and the room that it has (Rows, Needing, Sparing); the loop that writes
+-- all lines anew (Building), the loop that writes the changed ones (Patching) and the removal of a word (Removing); the way back into the first
+-- set (Bringing); what an attempt answers (Trying).
 pub mod Placing
 pub mod Rows
+pub mod Needing
+pub mod Sparing
 pub mod Building
 pub mod Bringing
 pub mod Removing
 pub mod Patching
-pub mod Sparing
 pub mod Trying

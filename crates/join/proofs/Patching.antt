@@ -1,6 +1,6 @@
 -- The loop that writes the changed lines behind the used marks: where it begins, a line that stays, a line written, and the end. What is read is
 -- the old set with what was written behind its marks. Assumes nothing.
-use Prim.Native.Nat.{ℕ, zero, suc, _+_, _-_, _≤_, _<_}
+use Prim.Native.Nat.{ℕ, zero, suc, _+_, _-_, _*_, _≤_, _<_}
 use native.Mathlib.Omega.{arith}
 use native.Mathlib.Nat.{le-refl, zero-add}
 use native.Mathlib.Numerals.{add-one}
@@ -8,14 +8,15 @@ use mathlib.Core.Path.{_≡_, refl, sym, ap, _∙_}
 use mathlib.Core.Bool.{Bool, false}
 use mathlib.Core.List.{List, [], _∷_, _++_, map, append-nil, append-assoc}
 use lib.ListN.{length, getD, set, take, drop, length-append, length-take, length-map, length-set, take-append-drop}
-use lib.Seq.{slice, slice-empty, take-suc, take-all, drop-cons, drop-drop, drop-append-le, drop-append-add, drop-set-lt, append-snoc, set-at, length-take-le, length-slice}
+use lib.Seq.{slice, slice-empty, slice-cons, take-suc, take-all, drop-cons, drop-drop, drop-append-le, drop-append-add, drop-set-lt, append-snoc, set-at, length-take-le, length-slice}
 use Rattle.reference.specs.Lists.{remove}
 use Rattle.reference.specs.Text.{Text}
-use Rattle.reference.specs.Listing.{Line, Listing, blank}
+use Rattle.reference.specs.Listing.{Token, Line, Listing, blank}
 use Rattle.reference.specs.Rules.{Rules, volatile}
-use Rattle.reference.specs.Join.{rewrite-use}
+use Rattle.reference.specs.Claim.{sum}
 use Rattle.laws.proofs.Parts.{drop-take}
-use Rattle.joining.specs.Plan.{Plan, map-from, right-side-of, changes, acted-line, act}
+use Rattle.joining.specs.Limits.{room}
+use Rattle.joining.specs.Plan.{Plan, map-from, changes, acted-line, act}
 use Rattle.joining.proofs.Acting.{early, line-kept}
 use Rattle.joining.proofs.Indexed.{length-map-from, map-from-append, map-from-id}
 use Rattle.lines.specs.Lines.{line-in, bare-in, listing-of, Lined, Listed}
@@ -25,12 +26,13 @@ use Rattle.build.specs.declared.used.Size.{Size}
 use Rattle.build.specs.declared.line.Appended.{Appended}
 use Rattle.build.proofs.Growing.{grown}
 use Rattle.build.proofs.Listing.{lined-elsewhere, line-elsewhere}
-use Rattle.join.specs.Building.{Placed, plan-of, Plannable, Within, Spare}
-use Rattle.join.specs.Patching.{mixed, changed-upto, Patching, Patched}
+use Rattle.join.specs.Building.{new-tokens, Placeable, Placed, plan-of, Plannable}
+use Rattle.join.specs.Patching.{line-need, needs, need-from, Spare, mixed, changed-upto, Patching, Patched}
 use Rattle.join.proofs.Placing.{past-last}
-use Rattle.join.proofs.Rows.{within-begin, text-few, words-few, within-passed, within-placed}
+use Rattle.join.proofs.Rows.{last-inside, placeable-in}
+use Rattle.join.proofs.Needing.{line-room, room-count}
 use Rattle.join.proofs.Building.{rest-at, rest-next}
-use Rattle.join.proofs.Removing.{map-remove}
+use Rattle.join.proofs.Removing.{map-remove, remove-used}
 
 -- ---- lines changed one after the other
 
@@ -72,31 +74,35 @@ map-set {B = B} f (x ∷ xs) (suc k) y = ap {B = List B} (λ r. f x ∷ r) (map-
 pub mixed-none : (xs ys : List ℕ) (n : ℕ) → mixed xs n n ys ≡ xs
 mixed-none xs ys n = rw (slice-empty n ys) (append-nil xs)
 
-module _ (xs ys : List ℕ) (m n t : ℕ) (e : length xs ≡ m) (mn : m ≤ n) (nt : n ≤ t) (h : t ≤ length ys) where
-  pub mixed-length : length (mixed xs m t ys) ≡ t
-  mixed-length = length-append xs (slice m t ys) ∙ rw (e, length-slice m t ys h) (omega arith)
+-- what stands behind xs, which ends at m: before up to n, now up to t
+record Mixes (xs before ys : List ℕ) (m n t : ℕ) : Type 0 where
+  long : t ≤ length (mixed xs m t ys)
+  whole : take t (mixed xs m t ys) ≡ mixed xs m t ys
+  part : slice n t (mixed xs m t ys) ≡ slice n t ys
+  more : mixed xs m t ys ≡ mixed xs m n before ++ slice n t ys
 
-  pub mixed-whole : take t (mixed xs m t ys) ≡ mixed xs m t ys
-  mixed-whole = take-all t (mixed xs m t ys) (rw mixed-length (le-refl t))
-
-  pub mixed-part : slice n t (mixed xs m t ys) ≡ slice n t ys
-  mixed-part =
-      let q : n ≡ length xs + (n - m) = omega arith in
-      let r : m + (n - m) ≡ n = omega arith in
-      ap (drop n) mixed-whole
-      ∙ ap (λ (i : ℕ). drop i (mixed xs m t ys)) q
-      ∙ drop-append-add xs (slice m t ys) (n - m)
-      ∙ drop-drop (n - m) m (take t ys)
-      ∙ ap (λ (i : ℕ). drop i (take t ys)) r
-
-  pub mixed-grows : (before : List ℕ) → take n ys ≡ take n before → mixed xs m t ys ≡ mixed xs m n before ++ slice n t ys
-  mixed-grows before same =
-      let size : length (take n before) ≡ n = ap length (sym same) ∙ length-take-le n ys (omega arith) in
-      let more : slice m t ys ≡ drop m (take n before) ++ slice n t ys =
-      ap (drop m) (grown before ys n t nt same)
-      ∙ drop-append-le m (take n before) (take (t - n) (drop n ys)) (rw size mn)
-      ∙ ap (λ (r : List ℕ). drop m (take n before) ++ r) (sym (drop-take n t ys)) in
-      ap (λ (r : List ℕ). xs ++ r) more ∙ sym (append-assoc xs (drop m (take n before)) (slice n t ys))
+mixes : (xs before ys : List ℕ) (m n t : ℕ) → length xs ≡ m → m ≤ n → n ≤ t → t ≤ length ys → take n ys ≡ take n before → Mixes xs before ys m n t
+mixes xs before ys m n t e mn nt h same =
+    let size : length (mixed xs m t ys) ≡ t = length-append xs (slice m t ys) ∙ rw (e, length-slice m t ys h) (omega arith) in
+    let all : take t (mixed xs m t ys) ≡ mixed xs m t ys = take-all t (mixed xs m t ys) (rw size (le-refl t)) in
+    let q : n ≡ length xs + (n - m) = omega arith in
+    let r : m + (n - m) ≡ n = omega arith in
+    let b : length (take n before) ≡ n = ap length (sym same) ∙ length-take-le n ys (omega arith) in
+    let next : slice m t ys ≡ drop m (take n before) ++ slice n t ys =
+    ap (drop m) (grown before ys n t nt same)
+    ∙ drop-append-le m (take n before) (take (t - n) (drop n ys)) (rw b mn)
+    ∙ ap (λ (r : List ℕ). drop m (take n before) ++ r) (sym (drop-take n t ys)) in
+    record {
+      long = rw size (le-refl t);
+      whole = all;
+      part =
+          ap (drop n) all
+          ∙ ap (λ (i : ℕ). drop i (mixed xs m t ys)) q
+          ∙ drop-append-add xs (slice m t ys) (n - m)
+          ∙ drop-drop (n - m) m (take t ys)
+          ∙ ap (λ (i : ℕ). drop i (take t ys)) r;
+      more = ap (λ (r : List ℕ). xs ++ r) next ∙ sym (append-assoc xs (drop m (take n before)) (slice n t ys));
+    }
 
 -- ---- the loop
 
@@ -117,16 +123,24 @@ module _ {rules : Rules} {tape old : Text} {words lines : List ℕ} {j : Join} (
     listed = rw (mixed-none old area (from .text), mixed-none words tokens (from .tokens)) (h .listed);
     means = λ addresses. rw (mixed-none old area (from .text), mixed-none words tokens (from .tokens))
         (sym (changed-none by-plan (listing-of tape old words addresses lines) (j .line + 1) (λ m l b. early (volatile rules) (j .line) plan _ m l (omega arith))));
-    within = within-begin h from (j .line + 1);
+    text-left = le-refl _;
+    words-left = le-refl _;
   }
 
   module _ {k : ℕ} {area : Text} {tokens lines′ : List ℕ} {size : Size} (u : Patching rules tape old words lines j from k area tokens lines′ size) where
     pub same-word : getD lines′ k 0 ≡ getD lines k 0
     same-word = rest-at k lines′ lines (u .rest-is)
 
-    module _ (b : k < length lines) where
+    module _ (hl : k ≤ j .last) where
+      pub next-inside : k < length lines
+      next-inside = omega (arith, last-inside h)
+
+      need-step : need-from words lines j k ≡ line-need words (getD lines (j .line) 0) (getD lines k 0) + need-from words lines j (k + 1)
+      unfolding needs
+      need-step = rw (slice-cons k (j .last + 1) lines 0 (omega arith) (omega (arith, last-inside h)), add-one k)
+
       old-line : (addresses : List ℕ) → getD (listing-of tape old words addresses lines) k blank ≡ line-in tape old words addresses (getD lines′ k 0)
-      old-line addresses = listing-at tape old words addresses lines k b ∙ rw same-word
+      old-line addresses = listing-at tape old words addresses lines k next-inside ∙ rw same-word
 
       -- a line that stays
       pub patch-kept : {r : Bool} → r ≡ changes (volatile rules) (j .line) plan k (bare-in tape old words (getD lines′ k 0)) → r ≡ false
@@ -139,108 +153,102 @@ module _ {rules : Rules} {tape old : Text} {words lines : List ℕ} {j : Join} (
         words-from = u .words-from;
         listed = u .listed;
         means = λ addresses. u .means addresses
-            ∙ sym (changed-same by-plan (listing-of tape old words addresses lines) k (rw length-map b)
+            ∙ sym (changed-same by-plan (listing-of tape old words addresses lines) k (rw length-map next-inside)
             (rw (old-line addresses) (line-kept (volatile rules) (j .line) plan _ k (line-in tape old words addresses (getD lines′ k 0)) (sym is ∙ left))));
-        within = within-passed h (u .within) b;
+        text-left = omega (arith, u .text-left, need-step);
+        words-left = omega (arith, u .words-left, need-step);
       }
 
       -- a line written
-      module _ (n : k ≡ j .line → ⊥) {source : ℕ} (es : source ≡ getD lines (j .line) 0) {area′ : Text} {tokens′ : List ℕ} {r : Appended}
-          (a : Placed rules tape old words source j k (getD lines′ k 0) area tokens size area′ tokens′ r) (s : Spare area′ tokens′ from) where
-        within-now : Within rules tape old words lines j from (k + 1) (r .size)
-        within-now = within-placed h (u .within) b n es same-word a refl refl
+      module _ (n : k ≡ j .line → ⊥) {source : ℕ} (es : source ≡ getD lines (j .line) 0) where
+        abbrev row : List Token
+        row = new-tokens rules tape old words (getD lines (j .line) 0) j k (getD lines k 0)
 
-        text-fits : r .size .text ≤ length area′
-        text-fits = omega (arith, text-few h within-now, s .text-fits)
+        row-room : sum room row ≤ line-need words (getD lines (j .line) 0) (getD lines k 0)
+        row-room = line-room h k next-inside
 
-        words-fit : r .size .tokens ≤ length tokens′
-        words-fit = omega (arith, words-few h within-now, s .words-fit)
+        pub placeable-now : Spare area tokens from (need-from words lines j (j .line + 1)) → Placeable rules tape old words source j k (getD lines′ k 0) area tokens size
+        placeable-now s =
+            placeable-in h k next-inside n
+            (record {
+              text-fits = omega (arith, row-room, u .text-left, need-step, s .text-fits);
+              short = omega (arith, row-room, u .text-left, need-step, s .text-short);
+              words-fit = omega (arith, row-room, room-count row, u .words-left, need-step, s .words-fit);
+            })
+            (omega (arith, u .words-left, s .words-short)) es same-word
 
-        words-grow : size .tokens ≤ r .size .tokens
-        words-grow = omega (arith, a .end-is)
+        module _ {area′ : Text} {tokens′ : List ℕ} {r : Appended} (a : Placed rules tape old words source j k (getD lines′ k 0) area tokens size area′ tokens′ r)
+            (s : Spare area′ tokens′ from (need-from words lines j (j .line + 1))) where
+          row-text : r .size .text ≤ size .text + sum room row
+          row-text = (rw (es, same-word) at a) .text-most
 
-        new-text : Text
-        new-text = mixed old (from .text) (r .size .text) area′
+          row-words : r .size .tokens ≤ size .tokens + length row
+          row-words = (rw (es, same-word) at a) .words-most
 
-        new-words : List ℕ
-        new-words = mixed words (from .tokens) (r .size .tokens) tokens′
+          text-now : r .size .text + need-from words lines j (k + 1) ≤ from .text + need-from words lines j (j .line + 1)
+          text-now = omega (arith, row-text, row-room, u .text-left, need-step)
 
-        line-text : slice (size .text) (r .size .text) new-text ≡ slice (size .text) (r .size .text) area′
-        unfolding new-text
-        line-text = mixed-part old area′ (from .text) (size .text) (r .size .text) eo (u .text-from) (a .text-grows) text-fits
+          words-now : 24 * r .size .tokens + need-from words lines j (k + 1) ≤ 24 * from .tokens + need-from words lines j (j .line + 1)
+          words-now = omega (arith, row-words, row-room, room-count row, u .words-left, need-step)
 
-        line-words : slice (size .tokens) (r .size .tokens) new-words ≡ slice (size .tokens) (r .size .tokens) tokens′
-        unfolding new-words
-        line-words = mixed-part words tokens′ (from .tokens) (size .tokens) (r .size .tokens) ew (u .words-from) words-grow words-fit
+          of-text : Mixes old area area′ (from .text) (size .text) (r .size .text)
+          of-text = mixes old area area′ (from .text) (size .text) (r .size .text) eo (u .text-from) (a .text-grows) (omega (arith, text-now, s .text-fits)) (a .text-below)
 
-        text-long : r .size .text ≤ length new-text
-        unfolding new-text
-        text-long = rw (mixed-length old area′ (from .text) (size .text) (r .size .text) eo (u .text-from) (a .text-grows) text-fits) (le-refl _)
+          of-words : Mixes words tokens tokens′ (from .tokens) (size .tokens) (r .size .tokens)
+          of-words = mixes words tokens tokens′ (from .tokens) (size .tokens) (r .size .tokens) ew (u .words-from) (omega (arith, a .end-is)) (omega (arith, words-now, s .words-fit)) (a .words-below)
 
-        words-long : r .size .tokens ≤ length new-words
-        unfolding new-words
-        words-long = rw (mixed-length words tokens′ (from .tokens) (size .tokens) (r .size .tokens) ew (u .words-from) words-grow words-fit) (le-refl _)
+          abbrev new-text : Text
+          new-text = mixed old (from .text) (r .size .text) area′
 
-        text-whole : take (r .size .text) new-text ≡ new-text
-        unfolding new-text
-        text-whole = mixed-whole old area′ (from .text) (size .text) (r .size .text) eo (u .text-from) (a .text-grows) text-fits
+          abbrev new-words : List ℕ
+          new-words = mixed words (from .tokens) (r .size .tokens) tokens′
 
-        words-whole : take (r .size .tokens) new-words ≡ new-words
-        unfolding new-words
-        words-whole = mixed-whole words tokens′ (from .tokens) (size .tokens) (r .size .tokens) ew (u .words-from) words-grow words-fit
+          lined-now : Lined tape new-text new-words (r .line)
+          lined-now = rw (of-text .whole, of-words .whole) at (lined-elsewhere a new-text new-words (of-text .part) (of-words .part) (of-text .long) (of-words .long))
 
-        text-more : new-text ≡ mixed old (from .text) (size .text) area ++ slice (size .text) (r .size .text) area′
-        unfolding new-text
-        text-more = mixed-grows old area′ (from .text) (size .text) (r .size .text) eo (u .text-from) (a .text-grows) text-fits area (a .text-below)
+          line-now : (addresses : List ℕ) → line-in tape new-text new-words addresses (r .line) ≡ by-plan k (getD (listing-of tape old words addresses lines) k blank)
+          line-now addresses =
+              (rw (of-text .whole, of-words .whole) at (line-elsewhere a new-text new-words (of-text .part) (of-words .part) (of-text .long) (of-words .long) addresses))
+              ∙ rw (old-line addresses, es)
 
-        words-more : new-words ≡ mixed words (from .tokens) (size .tokens) tokens ++ slice (size .tokens) (r .size .tokens) tokens′
-        unfolding new-words
-        words-more = mixed-grows words tokens′ (from .tokens) (size .tokens) (r .size .tokens) ew (u .words-from) words-grow words-fit tokens (a .words-below)
+          listed-now : Listed tape new-text new-words lines′
+          listed-now = rw (of-text .more, of-words .more) (listed-grows _ _ (u .listed))
 
-        lined-now : Lined tape new-text new-words (r .line)
-        lined-now = rw (text-whole, words-whole) at (lined-elsewhere a new-text new-words line-text line-words text-long words-long)
+          listing-now : (addresses : List ℕ) → listing-of tape new-text new-words addresses lines′ ≡ changed-upto by-plan (listing-of tape old words addresses lines) k
+          listing-now addresses = rw (of-text .more, of-words .more) (listing-grows _ _ (u .listed) addresses) ∙ u .means addresses
 
-        line-now : (addresses : List ℕ) → line-in tape new-text new-words addresses (r .line) ≡ by-plan k (getD (listing-of tape old words addresses lines) k blank)
-        line-now addresses =
-            (rw (text-whole, words-whole) at (line-elsewhere a new-text new-words line-text line-words text-long words-long addresses))
-            ∙ rw (old-line addresses, es)
-
-        listed-now : Listed tape new-text new-words lines′
-        listed-now = rw (text-more, words-more) (listed-grows _ _ (u .listed))
-
-        listing-now : (addresses : List ℕ) → listing-of tape new-text new-words addresses lines′ ≡ changed-upto by-plan (listing-of tape old words addresses lines) k
-        listing-now addresses = rw (text-more, words-more) (listing-grows _ _ (u .listed) addresses) ∙ u .means addresses
-
-        pub patch-placed : Patching rules tape old words lines j from (k + 1) area′ tokens′ (set lines′ k (r .line)) (r .size)
-        unfolding new-text new-words
-        patch-placed = record {
-          as-many = length-set lines′ k (r .line) ∙ u .as-many;
-          rest-is = drop-set-lt (k + 1) lines′ k (r .line) (omega arith) ∙ rest-next k lines′ lines (u .rest-is);
-          text-from = omega (arith, u .text-from, a .text-grows);
-          words-from = omega (arith, u .words-from, words-grow);
-          listed = listed-set listed-now k lined-now;
-          means = λ addresses.
-              map-set (line-in tape new-text new-words addresses) lines′ k (r .line)
-              ∙ rw (listing-now addresses, line-now addresses)
-              (sym (changed-set by-plan (listing-of tape old words addresses lines) k (rw length-map b)));
-          within = within-now;
-        }
+          pub patch-placed : Patching rules tape old words lines j from (k + 1) area′ tokens′ (set lines′ k (r .line)) (r .size)
+          patch-placed = record {
+            as-many = length-set lines′ k (r .line) ∙ u .as-many;
+            rest-is = drop-set-lt (k + 1) lines′ k (r .line) (omega arith) ∙ rest-next k lines′ lines (u .rest-is);
+            text-from = omega (arith, u .text-from, a .text-grows);
+            words-from = omega (arith, u .words-from, a .end-is);
+            listed = listed-set listed-now k lined-now;
+            means = λ addresses.
+                map-set (line-in tape new-text new-words addresses) lines′ k (r .line)
+                ∙ rw (listing-now addresses, line-now addresses)
+                (sym (changed-set by-plan (listing-of tape old words addresses lines) k (rw length-map next-inside)));
+            text-left = text-now;
+            words-left = words-now;
+          }
 
     -- all lines, and the line that was joined is gone
-    pub patched : j .line < k → j .last < k → k ≤ length lines → {lines″ : List ℕ} → length lines″ ≡ length lines′ → take (length lines′ - 1) lines″ ≡ remove (j .line) lines′
+    pub patched : j .line < k → j .last < k → k ≤ length lines → {lines″ : List ℕ} → length lines″ ≡ length lines′ → lines″ ≡ remove (j .line) lines′ ++ drop (length lines′ - 1) lines′
         → Patched rules tape old words lines j from area tokens lines″ (record { lines = length lines″ - 1; tokens = size .tokens; text = size .text })
     unfolding act
-    patched hi hl b el e = rw el (record {
-      lines-fit = omega arith;
-      text-from = u .text-from;
-      words-from = u .words-from;
-      text-few = text-few h (u .within);
-      words-few = words-few h (u .within);
-      listed = rw e (listed-remove (u .listed) (j .line));
-      means = λ addresses. rw e (
-          map-remove (line-in tape _ _ addresses) (j .line) lines′
-          ∙ ap (remove (j .line)) (u .means addresses
-          ∙ changed-all by-plan (listing-of tape old words addresses lines) k (rw length-map b)
-          (λ m l lo. line-kept (volatile rules) (j .line) plan _ m l (sym (past-last (volatile rules) (j .line) plan m l (omega arith) (omega arith)))))
-          );
-    })
+    patched hi hl b {lines″} el er =
+        let e : take (length lines′ - 1) lines″ ≡ remove (j .line) lines′ = remove-used lines′ (j .line) (omega (arith, h .inside, u .as-many)) er in
+        rw el (record {
+          lines-fit = omega arith;
+          text-from = u .text-from;
+          words-from = u .words-from;
+          text-few = omega (arith, u .text-left);
+          words-few = omega (arith, u .words-left);
+          listed = rw e (listed-remove (u .listed) (j .line));
+          means = λ addresses. rw e (
+              map-remove (line-in tape _ _ addresses) (j .line) lines′
+              ∙ ap (remove (j .line)) (u .means addresses
+              ∙ changed-all by-plan (listing-of tape old words addresses lines) k (rw length-map b)
+              (λ m l lo. line-kept (volatile rules) (j .line) plan _ m l (sym (past-last (volatile rules) (j .line) plan m l (omega arith) (omega arith)))))
+              );
+        })

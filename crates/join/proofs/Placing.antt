@@ -1,16 +1,16 @@
 -- One line of the new listing: whether it is changed, and what is appended for it, kept or rewritten. Assumes nothing.
 use Prim.Native.Nat.{ℕ, _≤_, _<_}
 use native.Mathlib.Omega.{arith}
-use mathlib.Core.Path.{_≡_, refl, sym, ap, _∙_}
+use native.Mathlib.Nat.{le-refl}
+use mathlib.Core.Path.{_≡_, sym, ap, _∙_}
 use mathlib.Core.Bool.{Bool, true, false}
 use mathlib.Core.List.{List}
 use lib.ListN.{length, length-map}
 use borrow.Author.Tests.{le-ltb, le-leb, lt-leb}
 use Rattle.reference.specs.Text.{Text}
-use Rattle.reference.specs.Listing.{Token, Line, with-tokens}
+use Rattle.reference.specs.Listing.{Token, Line}
 use Rattle.reference.specs.Rules.{Rules, volatile}
 use Rattle.reference.specs.Life.{touch, is-use}
-use Rattle.reference.specs.Join.{substitute, rewrite-use}
 use Rattle.laws.proofs.Scans.{and-true, and-false}
 use Rattle.joining.specs.Plan.{Plan, changes, right-side-of}
 use Rattle.joining.proofs.Acting.{changes-later, line-changed, line-kept}
@@ -21,7 +21,7 @@ use Rattle.plan.specs.Plans.{join-in}
 use Rattle.build.specs.declared.used.Size.{Size}
 use Rattle.build.specs.declared.line.Appended.{Appended}
 use Rattle.build.specs.Substitution.{right-of}
-use Rattle.build.specs.Added.{Keepable, Kept, unmerged, Rewritable, Rewritten}
+use Rattle.build.specs.Added.{Added, Keepable, Kept, unmerged, Rewritable, Rewritten}
 use Rattle.build.proofs.Rooms.{text-room}
 use Rattle.build.proofs.Adding.{part-length}
 use Rattle.join.specs.Building.{substitution-of, new-tokens, Placeable, Placed}
@@ -40,6 +40,24 @@ module _ (vol : List Text) (i : ℕ) (p : Plan) (k : ℕ) (l : Line) where
   by-use h g e = e ∙ sym (changes-later vol i p k l h ∙ and-true _ (le-leb k (p .last) g))
 
 -- ---- what is appended
+
+-- the same line, said in other words, and within wider bounds
+module _ {tape area : Text} {tokens : List ℕ} {at : Size} {line : List ℕ → Line} {n k : ℕ} {area′ : Text} {tokens′ : List ℕ} {r : Appended} where
+  added-as : Added tape area tokens at line n k area′ tokens′ r → (line′ : List ℕ → Line) (n′ k′ : ℕ) → ((addresses : List ℕ) → line addresses ≡ line′ addresses) → n ≤ n′ → k ≤ k′
+      → Added tape area tokens at line′ n′ k′ area′ tokens′ r
+  added-as a line′ n′ k′ same hn hk = record {
+    lined = a .lined;
+    line-is = λ addresses. a .line-is addresses ∙ same addresses;
+    first-is = a .first-is;
+    end-is = a .end-is;
+    fresh = a .fresh;
+    lines-are = a .lines-are;
+    words-below = a .words-below;
+    text-below = a .text-below;
+    text-grows = a .text-grows;
+    text-most = omega (arith, a .text-most);
+    words-most = omega (arith, a .words-most);
+  }
 
 module _ {rules : Rules} {tape old : Text} {words : List ℕ} {source : ℕ} {j : Join} {k l : ℕ} {area : Text} {tokens : List ℕ} {at : Size}
     (h : Placeable rules tape old words source j k l area tokens at) where
@@ -77,19 +95,10 @@ module _ {rules : Rules} {tape old : Text} {words : List ℕ} {source : ℕ} {j 
     pub placed-kept : {area′ : Text} {tokens′ : List ℕ} {r : Appended} → Kept tape old words l area tokens at area′ tokens′ r
         → Placed rules tape old words source j k l area tokens at area′ tokens′ r
     unfolding changes
-    placed-kept a = record {
-      lined = a .lined;
-      line-is = λ addresses. a .line-is addresses ∙ sym (line-kept (volatile rules) (j .line) plan _ k (line-in tape old words addresses l) same);
-      first-is = a .first-is;
-      end-is = a .end-is;
-      fresh = a .fresh;
-      lines-are = a .lines-are;
-      words-below = a .words-below;
-      text-below = a .text-below;
-      text-grows = a .text-grows;
-      text-most = rw kept-tokens (omega (arith, a .text-most, text-room old-tokens (rw kept-tokens at (h .numbers-short))));
-      words-most = rw kept-tokens (omega (arith, a .words-most, kept-short, part-length (h .lined)));
-    }
+    placed-kept a =
+        added-as a _ _ _ (λ addresses. sym (line-kept (volatile rules) (j .line) plan _ k (line-in tape old words addresses l) same))
+        (rw kept-tokens (text-room old-tokens (rw kept-tokens at (h .numbers-short))))
+        (rw kept-tokens (omega (arith, kept-short, part-length (h .lined))))
 
   -- a line with the right side for each token of the family
   module _ {b : Bool} (is : b ≡ changes (volatile rules) (j .line) plan k (bare-in tape old words l)) (taken : b ≡ true) where
@@ -114,16 +123,6 @@ module _ {rules : Rules} {tape old : Text} {words : List ℕ} {source : ℕ} {j 
     pub placed-rewritten : {area′ : Text} {tokens′ : List ℕ} {r : Appended} → Rewritten tape old words source (substitution-of j) l area tokens at area′ tokens′ r
         → Placed rules tape old words source j k l area tokens at area′ tokens′ r
     unfolding changes right-of right-side-of
-    placed-rewritten a = record {
-      lined = a .lined;
-      line-is = λ addresses. a .line-is addresses ∙ sym (line-changed (volatile rules) (j .line) plan _ k (line-in tape old words addresses l) other);
-      first-is = a .first-is;
-      end-is = a .end-is;
-      fresh = a .fresh;
-      lines-are = a .lines-are;
-      words-below = a .words-below;
-      text-below = a .text-below;
-      text-grows = a .text-grows;
-      text-most = rw rewritten-tokens (a .text-most);
-      words-most = rw rewritten-tokens (a .words-most);
-    }
+    placed-rewritten a =
+        added-as a _ _ _ (λ addresses. sym (line-changed (volatile rules) (j .line) plan _ k (line-in tape old words addresses l) other))
+        (rw rewritten-tokens (le-refl _)) (rw rewritten-tokens (le-refl _))

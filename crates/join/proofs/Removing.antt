@@ -50,8 +50,12 @@ module _ (xs : List ℕ) (i : ℕ) (h : i < length xs) where
       (set-at left (getD xs k 0) (drop (suc k) xs) (getD xs (suc k) 0) k size
       ∙ rw (add-one k, take-suc (remove i xs) k 0 c, remove-at i k xs lo) (sym (append-snoc left (getD xs (suc k) 0) (drop (suc k) xs))))
 
-  pub remove-end : {k : ℕ} {ws : List ℕ} → k < length xs → length xs ≤ k + 1 → ws ≡ removing k → take (length xs - 1) ws ≡ remove i xs
+  pub remove-end : {k : ℕ} {ws : List ℕ} → k < length xs → length xs ≤ k + 1 → ws ≡ removing k → ws ≡ remove i xs ++ drop (length xs - 1) xs
   remove-end {k} lo hi e =
-      let size : length (remove i xs) ≡ length xs - 1 = omega (arith, length-remove i xs h) in
-      let all : take k (remove i xs) ≡ remove i xs = take-all k (remove i xs) (omega arith) in
-      rw (e, all) (take-at (remove i xs) (drop k xs) (length xs - 1) size)
+      let last : k ≡ length xs - 1 = omega arith in
+      let all : take k (remove i xs) ≡ remove i xs = take-all k (remove i xs) (omega (arith, length-remove i xs h)) in
+      e ∙ rw (all, last)
+
+  -- what is in use then
+  pub remove-used : {ws : List ℕ} → ws ≡ remove i xs ++ drop (length xs - 1) xs → take (length xs - 1) ws ≡ remove i xs
+  remove-used e = ap (take (length xs - 1)) e ∙ take-at (remove i xs) (drop (length xs - 1) xs) (length xs - 1) (omega (arith, length-remove i xs h))

@@ -2,13 +2,11 @@
 -- room behind those that were written before it. Assumes nothing.
 use Prim.Native.Nat.{ℕ, _+_, _≤_, _<_}
 use native.Mathlib.Omega.{arith}
-use native.Mathlib.Decide.{ℕ-discrete}
-use mathlib.Core.Logic.{by-cases}
-use mathlib.Core.Path.{_≡_, sym, ap, _∙_}
+use mathlib.Core.Path.{_≡_, _∙_}
 use mathlib.Core.List.{List, []}
 use lib.ListN.{length, getD, length-map}
 use Rattle.reference.specs.Text.{Text}
-use Rattle.reference.specs.Listing.{Line, Listing, blank}
+use Rattle.reference.specs.Listing.{Token, Line, Listing, blank}
 use Rattle.reference.specs.Rules.{Rules, volatile}
 use Rattle.reference.specs.Claim.{sum}
 use Rattle.reference.proofs.Fits.{Fits}
@@ -22,7 +20,8 @@ use Rattle.lines.proofs.words.Lines.{bare-at}
 use Rattle.plan.specs.declared.plans.Join.{Join}
 use Rattle.build.specs.declared.used.Size.{Size}
 use Rattle.build.specs.declared.line.Appended.{Appended}
-use Rattle.join.specs.Building.{new-tokens, Placeable, Placed, plan-of, Plannable, unmerged-upto, Within, Spare}
+use Rattle.build.specs.State.{Room}
+use Rattle.join.specs.Building.{new-tokens, Placeable, Placed, plan-of, Plannable, unmerged-upto, Within, nothing-used}
 
 module _ {rules : Rules} {tape old : Text} {words lines : List ℕ} {j : Join} (h : Plannable rules tape old words lines j) where
   abbrev plan : Plan
@@ -41,12 +40,12 @@ module _ {rules : Rules} {tape old : Text} {words lines : List ℕ} {j : Join} (
   pub last-inside : j .last < length lines
   last-inside = rw length-map at (h .planned .reached .0)
 
-  pub within-begin : (from : Size) (k : ℕ) → Within rules tape old words lines j from k from
-  within-begin from k = record { text-most = omega arith; words-most = omega arith }
+  pub within-begin : Within rules tape old words lines j 0 nothing-used
+  within-begin = record { text-most = omega arith; words-most = omega arith }
 
   -- the line k, if it is not left out
   module _ (k : ℕ) (b : k < length lines) (n : k ≡ j .line → ⊥) where
-    abbrev row : List Rattle.reference.specs.Listing.Token
+    abbrev row : List Token
     row = new-tokens rules tape old words (getD lines (j .line) 0) j k (getD lines k 0)
 
     row-more : (F : Line → ℕ) → sum F (rows (k + 1)) ≡ sum F (rows k) + F (unmerged-line (volatile rules) (j .line) plan k (getD bare-old k blank))
@@ -64,42 +63,46 @@ module _ {rules : Rules} {tape old : Text} {words lines : List ℕ} {j : Join} (
     more-words : sum (λ l. length (l .tokens)) (rows (k + 1)) ≡ sum (λ l. length (l .tokens)) (rows k) + length row
     more-words = row-more (λ l. length (l .tokens)) ∙ rw row-tokens
 
-  module _ {from : Size} {k : ℕ} {size : Size} (w : Within rules tape old words lines j from k size) where
-    pub text-few : size .text ≤ from .text + 49152
+    pub placeable-in : {area : Text} {tokens : List ℕ} {size : Size} → Room area tokens size (sum room row) (length row) → size .tokens < 65536
+        → {source l : ℕ} → source ≡ getD lines (j .line) 0 → l ≡ getD lines k 0 → Placeable rules tape old words source j k l area tokens size
+    placeable-in r hf es el =
+        let fit = rows-fit (k + 1) in
+        rw (es, el) (record {
+          source-lined = h .listed .at (j .line) (h .inside);
+          joins = h .joins;
+          lined = h .listed .at k b;
+          numbers-short = omega (arith, over-fits fit, more-over);
+          has-room = r;
+          first-fits = hf;
+          few = omega (arith, more-words, fit .few);
+        })
+
+  module _ {k : ℕ} {size : Size} (w : Within rules tape old words lines j k size) where
+    pub text-few : size .text ≤ 49152
     text-few = omega (arith, w .text-most, room-fits (rows-fit k))
 
-    pub words-few : size .tokens ≤ from .tokens + 1024
+    pub words-few : size .tokens ≤ 1024
     words-few = omega (arith, w .words-most, rows-fit k .few)
 
-    -- no line is written
-    pub within-passed : k < length lines → Within rules tape old words lines j from (k + 1) size
-    within-passed b = by-cases (ℕ-discrete k (j .line))
-        (λ e.
-        (let same : rows (k + 1) ≡ rows k =
+    -- the line that is left out
+    pub within-passed : k ≡ j .line → Within rules tape old words lines j (k + 1) size
+    within-passed e =
+        let same : rows (k + 1) ≡ rows k =
         rw e (built-skip (unmerged-line (volatile rules) (j .line) plan) (j .line) bare-old (rw length-map (h .inside)) blank) in
-        record { text-most = rw same (w .text-most); words-most = rw same (w .words-most) }))
-        (λ n. record { text-most = omega (arith, w .text-most, more-room k b n); words-most = omega (arith, w .words-most, more-words k b n) })
+        record { text-most = rw same (w .text-most); words-most = rw same (w .words-most) }
 
     module _ (b : k < length lines) (n : k ≡ j .line → ⊥) {source l : ℕ} (es : source ≡ getD lines (j .line) 0) (el : l ≡ getD lines k 0)
         {area : Text} {tokens : List ℕ} where
-      pub placeable : Spare area tokens from → Placeable rules tape old words source j k l area tokens size
-      placeable s =
+      pub placeable : 49152 ≤ length area → 1024 ≤ length tokens → Placeable rules tape old words source j k l area tokens size
+      placeable ha ht =
           let fit = rows-fit (k + 1) in
-          let most : size .text + sum room (row k b n) ≤ from .text + 49152 = omega (arith, w .text-most, more-room k b n, room-fits fit) in
-          let many : size .tokens + length (row k b n) ≤ from .tokens + 1024 = omega (arith, w .words-most, more-words k b n, fit .few) in
-          rw (es, el) (record {
-            source-lined = h .listed .at (j .line) (h .inside);
-            joins = h .joins;
-            lined = h .listed .at k b;
-            numbers-short = omega (arith, over-fits fit, more-over k b n);
-            has-room = record { text-fits = omega (arith, s .text-fits); short = omega (arith, s .text-short); words-fit = omega (arith, s .words-fit) };
-            first-fits = omega (arith, s .words-short);
-            few = omega (arith, more-words k b n, fit .few);
-          })
+          let most : size .text + sum room (row k b n) ≤ 49152 = omega (arith, w .text-most, more-room k b n, room-fits fit) in
+          let many : size .tokens + length (row k b n) ≤ 1024 = omega (arith, w .words-most, more-words k b n, fit .few) in
+          placeable-in k b n (record { text-fits = omega arith; short = omega arith; words-fit = omega arith }) (omega arith) es el
 
       -- it is written
       pub within-placed : {area′ : Text} {tokens′ : List ℕ} {r : Appended} → Placed rules tape old words source j k l area tokens size area′ tokens′ r
-          → {size′ : Size} → size′ .text ≡ r .size .text → size′ .tokens ≡ r .size .tokens → Within rules tape old words lines j from (k + 1) size′
+          → {size′ : Size} → size′ .text ≡ r .size .text → size′ .tokens ≡ r .size .tokens → Within rules tape old words lines j (k + 1) size′
       within-placed a et ew =
           let p = rw (es, el) at a in
           record { text-most = omega (arith, p .text-most, w .text-most, more-room k b n); words-most = omega (arith, p .words-most, w .words-most, more-words k b n) }

@@ -79,17 +79,10 @@ acted-upto rules j p = built (acted-line (volatile rules) (j .line) p) (j .line)
 abbrev pub unmerged-upto : Rules → Join → Plan → Listing → ℕ → Listing
 unmerged-upto rules j p = built (unmerged-line (volatile rules) (j .line) p) (j .line)
 
--- behind the marks `from`, no more is written than the first k lines take before they are merged and folded
-pub record Within (rules : Rules) (tape old : Text) (words lines : List ℕ) (j : Join) (from : Size) (k : ℕ) (at : Size) : Type 0 where
-  pub text-most : at .text ≤ from .text + each-token room (unmerged-upto rules j (plan-of tape old words lines j) (bare-listing tape old words lines) k)
-  pub words-most : at .tokens ≤ from .tokens + token-count (unmerged-upto rules j (plan-of tape old words lines j) (bare-listing tape old words lines) k)
-
--- behind the used marks there is room for the lines of any plan
-pub record Spare (area : Text) (tokens : List ℕ) (at : Size) : Type 0 where
-  pub text-fits : at .text + 49152 ≤ length area
-  pub text-short : at .text + 49152 < 65536
-  pub words-fit : at .tokens + 1024 ≤ length tokens
-  pub words-short : at .tokens + 1024 < 65536
+-- no more is written than the first k lines take before they are merged and folded
+pub record Within (rules : Rules) (tape old : Text) (words lines : List ℕ) (j : Join) (k : ℕ) (at : Size) : Type 0 where
+  pub text-most : at .text ≤ each-token room (unmerged-upto rules j (plan-of tape old words lines j) (bare-listing tape old words lines) k)
+  pub words-most : at .tokens ≤ token-count (unmerged-upto rules j (plan-of tape old words lines j) (bare-listing tape old words lines) k)
 
 abbrev pub nothing-used : Size
 nothing-used = record { lines = 0; tokens = 0; text = 0 }
@@ -102,7 +95,7 @@ pub record Upto (rules : Rules) (tape old : Text) (words lines : List ℕ) (j : 
   pub listed : Listed tape (used area at) (used-words tokens at) (take (at .lines) lines′)
   pub means : (addresses : List ℕ) → listing-now tape area tokens lines′ at addresses
       ≡ acted-upto rules j (plan-of tape old words lines j) (listing-of tape old words addresses lines) k
-  pub within : Within rules tape old words lines j nothing-used k at
+  pub within : Within rules tape old words lines j k at
 
 -- the new listing, whatever the addresses are
 pub record Acted (rules : Rules) (tape old : Text) (words lines : List ℕ) (j : Join) (area : Text) (tokens lines′ : List ℕ) (at : Size) : Type 0 where

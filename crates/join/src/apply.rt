@@ -1,7 +1,9 @@
 // A plan carried out: in place where there is room behind the used marks, else by writing the whole listing anew.
-use crate::patch::is_spare;
 use crate::patch::patch;
 use crate::rebuild::rebuild;
+use crate::spare::free;
+use crate::spare::is_short;
+use crate::spare::lesser;
 use build::used::Size;
 use lines::rules::Rules;
 use plan::plans::Join;
@@ -26,10 +28,12 @@ pub fn apply(
     requires { ⌜ Plannable (rules-of rules) (now tape) (used (now area) size) (used-words (now tokens) size) (used-lines (now lines) size) j × Current (now tape) (now area) (now tokens) (now lines) size × Lent (now area) (now tokens) (now area2) (now tokens2) ⌝ }
     ensures { λ r. ⌜ Acted (rules-of rules) (now (tape .entry)) (used (now (area .entry)) size) (used-words (now (tokens .entry)) size) (used-lines (now (lines .entry)) size) j (now (area .exit)) (now (tokens .exit)) (now (lines .exit)) r ⌝ }
 {
-    if !is_spare(area, tokens, size) {
-        return rebuild(tape, area, tokens, lines, area2, tokens2, j, rules, size);
-    }
-    if !is_spare(area2, tokens2, size) {
+    let n = size.lines;
+    let words = size.tokens;
+    let gone = j.line;
+    let last = j.last;
+    let room = lesser(free(area, tokens, size), free(area2, tokens2, size));
+    if !is_short(&tokens[..words], &lines[..n], gone, last, room) {
         return rebuild(tape, area, tokens, lines, area2, tokens2, j, rules, size);
     }
     patch(tape, area, tokens, lines, area2, tokens2, j, rules, size)

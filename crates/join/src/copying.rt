@@ -1,7 +1,8 @@
 // Words copied from one slice to another, and removed from one.
 ghost use mathlib.Core.Path.{_≡_};
+ghost use mathlib.Core.List.{_++_};
 ghost use Prim.Native.Nat.{_+_, _-_, _≤_, _<_};
-ghost use lib.ListN.{length, take};
+ghost use lib.ListN.{length, drop};
 ghost use lib.Seq.{paste};
 ghost use Rattle.reference.specs.Lists.{remove};
 
@@ -20,7 +21,7 @@ pub fn copy_words(from: &[u64], to: &mut [u64], at: usize)
 // Removes the word i: the later ones move up by one, and the last place keeps what it had.
 pub fn remove_word(words: &mut [u64], i: usize)
     requires { ⌜ i < length (now words) ⌝ }
-    ensures { λ _. ⌜ take (length (now (words .entry)) - 1) (now (words .exit)) ≡ remove i (now (words .entry)) ⌝ }
+    ensures { λ _. ⌜ now (words .exit) ≡ remove i (now (words .entry)) ++ drop (length (now (words .entry)) - 1) (now (words .entry)) ⌝ }
 {
     let mut k = i;
     while k + 1 < words.len() {

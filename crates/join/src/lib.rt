@@ -5,6 +5,7 @@ mod changing; // a line that a plan changes
 mod copying; // words copied and removed
 mod patch; // in place: only the lines that change are written
 mod rebuild; // the whole listing written anew
+mod spare; // the room that a plan takes, and the room that there is
 
 pub use attempt::Tried;
 pub use attempt::try_at;

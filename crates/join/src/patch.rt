@@ -8,32 +8,14 @@ use lines::rules::Rules;
 use plan::plans::Join;
 use text::copy_bytes;
 ghost use mathlib.Core.Path.{_≡_};
+ghost use Prim.Native.Nat.{_+_};
 ghost use lib.ListN.{length};
 ghost use Rattle.lines.specs.Rules.{rules-of};
 ghost use Rattle.build.specs.State.{used};
 ghost use Rattle.build.specs.Added.{used-words};
 ghost use Rattle.join.specs.Current.{used-lines, Current};
-ghost use Rattle.join.specs.Building.{Plannable, Spare, Acted};
-ghost use Rattle.join.specs.Patching.{spare, Patched};
-
-// Whether so much is free behind the used marks that the lines of any plan can be written there.
-pub fn is_spare<'a>(area: &'a [u8], tokens: &'a [u64], size: Size) -> bool
-    ensures { λ r. ⌜ r ≡ spare (length (now (area .entry))) (length (now (tokens .entry))) size ⌝ }
-{
-    if 16383 < size.text {
-        return false;
-    }
-    if area.len() < size.text + 49152 {
-        return false;
-    }
-    if 64511 < size.tokens {
-        return false;
-    }
-    if tokens.len() < size.tokens + 1024 {
-        return false;
-    }
-    true
-}
+ghost use Rattle.join.specs.Building.{Plannable, Acted};
+ghost use Rattle.join.specs.Patching.{need-from, Spare, Patched};
 
 // Writes the lines that change behind the used marks, but in the second set; their words take the places of the old ones, and the word of the line
 // that is joined goes.
@@ -48,7 +30,7 @@ fn patch_lines<'a>(
     tokens2: &mut [u64],
     size: Size,
 ) -> Size
-    requires { ⌜ Plannable (rules-of rules) (now tape) (now area) (now tokens) (now lines) j × (length (now area) ≡ size .text) × (length (now tokens) ≡ size .tokens) × Spare (now area2) (now tokens2) size ⌝ }
+    requires { ⌜ Plannable (rules-of rules) (now tape) (now area) (now tokens) (now lines) j × (length (now area) ≡ size .text) × (length (now tokens) ≡ size .tokens) × Spare (now area2) (now tokens2) size (need-from (now tokens) (now lines) j (j .line + 1)) ⌝ }
     ensures { λ r. ⌜ Patched (rules-of rules) (now (tape .entry)) (now (area .entry)) (now (tokens .entry)) (now (lines .entry)) j size (now (area2 .exit)) (now (tokens2 .exit)) (now (lines .exit)) r ⌝ }
 {
     let gone = j.line;
@@ -86,7 +68,7 @@ pub fn patch(
     rules: Rules,
     size: Size,
 ) -> Size
-    requires { ⌜ Plannable (rules-of rules) (now tape) (used (now area) size) (used-words (now tokens) size) (used-lines (now lines) size) j × Current (now tape) (now area) (now tokens) (now lines) size × Spare (now area) (now tokens) size × Spare (now area2) (now tokens2) size ⌝ }
+    requires { ⌜ Plannable (rules-of rules) (now tape) (used (now area) size) (used-words (now tokens) size) (used-lines (now lines) size) j × Current (now tape) (now area) (now tokens) (now lines) size × Spare (now area) (now tokens) size (need-from (used-words (now tokens) size) (used-lines (now lines) size) j (j .line + 1)) × Spare (now area2) (now tokens2) size (need-from (used-words (now tokens) size) (used-lines (now lines) size) j (j .line + 1)) ⌝ }
     ensures { λ r. ⌜ Acted (rules-of rules) (now (tape .entry)) (used (now (area .entry)) size) (used-words (now (tokens .entry)) size) (used-lines (now (lines .entry)) size) j (now (area .exit)) (now (tokens .exit)) (now (lines .exit)) r ⌝ }
 {
     let n = size.lines;

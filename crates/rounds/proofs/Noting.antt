@@ -5,6 +5,7 @@ use native.Mathlib.Omega.{arith}
 use native.Mathlib.Nat.{le-refl}
 use native.Mathlib.Numerals.{add-one}
 use mathlib.Core.Path.{_≡_, refl, sym, ap, _∙_}
+use mathlib.Core.Logic.{⊎-elim, inl, inr}
 use mathlib.Core.Bool.{Bool, true, false}
 use mathlib.Core.List.{List, [], _∷_, _++_, map-append, append-assoc, append-nil}
 use lib.ListN.{length, take, drop, getD, set, length-map, length-drop, length-append, length-set, drop-of-length-le, List·getD-map}
@@ -18,7 +19,7 @@ use Rattle.reference.specs.Run.{addressed-here, addressed-in}
 use Rattle.reference.proofs.Cases.{by-if}
 use Rattle.laws.proofs.Scans.{if-true, if-false, and-true, and-false}
 use Rattle.laws.proofs.Parts.{part-below}
-use Rattle.lines.specs.Words.{place-of, start-of, len-of, word, source, text-of, token-of, tokens-of, Points, Holds}
+use Rattle.lines.specs.Words.{place-of, start-of, len-of, word, source, text-of, token-of, tokens-of, Coded, Points, Holds}
 use Rattle.lines.specs.Lines.{part-of, bare-in, bare-listing}
 use Rattle.lines.proofs.words.Each.{map-same}
 use Rattle.lines.proofs.words.Tokens.{text-length, holds-snoc}
@@ -38,14 +39,25 @@ module _ (buffer more : Text) {w : ℕ} (h : Points buffer buffer w) where
   below : start-of w + len-of w ≤ length buffer
   below = rw (one-source buffer (place-of w)) at (h .inside)
 
+  name-part : take (len-of w) (drop (start-of w) (buffer ++ more)) ≡ take (len-of w) (drop (start-of w) buffer)
+  name-part = sym (rw take-append-seam at (part-below (start-of w) (len-of w) (length buffer) (buffer ++ more) below))
+
+  name-coded : Coded (buffer ++ more) w
+  unfolding Coded
+  name-coded = ⊎-elim inl (λ s. inr (s .0, rw name-part (s .1))) (h .coded)
+
   name-points : Points (buffer ++ more) (buffer ++ more) w
-  name-points = record { inside = rw (one-source (buffer ++ more) (place-of w), length-append) (omega (arith, below)); short = h .short }
+  name-points =
+      record {
+        inside = rw (one-source (buffer ++ more) (place-of w), length-append) (omega (arith, below));
+        short = h .short;
+        coded = name-coded;
+      }
 
   name-stays : text-of (buffer ++ more) (buffer ++ more) w ≡ text-of buffer buffer w
   unfolding text-of
   name-stays =
-      rw (one-source (buffer ++ more) (place-of w), one-source buffer (place-of w))
-      (sym (rw take-append-seam at (part-below (start-of w) (len-of w) (length buffer) (buffer ++ more) below)))
+      rw (one-source (buffer ++ more) (place-of w), one-source buffer (place-of w)) name-part
 
 module _ (buffer more : Text) {ws : List ℕ} (h : Holds buffer buffer ws) where
   names-point : Holds (buffer ++ more) (buffer ++ more) ws

@@ -6,8 +6,11 @@
 // Wrong input gives `refused`, the number of the question, `at`, its place, and what that means. The filter's input is asked all questions before a
 // line is printed. A bare tape is printed up to the command that is wrong, and the totals of a listing are not asked: cleaning may lengthen a text.
 // The filter's own refusal is printed again, with its meaning.
+mod fronts; // address and indent of a line
 mod refusals; // the questions in words
 
+use fronts::print_blank_front;
+use fronts::print_front;
 use libc::STDIN_FILENO;
 use libc::STDOUT_FILENO;
 use refusals::print_meaning;
@@ -33,18 +36,6 @@ fn print(s: &[u8]) {
 
 // ---- one command
 
-fn print_gap() {
-    print(b"  ");
-}
-
-fn print_indent(depth: u64) {
-    let mut k = 0;
-    while k < depth {
-        print_gap();
-        k += 1;
-    }
-}
-
 // Ends the line before, if there is one.
 fn end_line(at: usize) {
     if 0 < at {
@@ -58,14 +49,11 @@ fn print_command(tape: &[u8], at: usize, command: Command)
     match command {
         Command::Addressed { address, indent } => {
             end_line(at);
-            io::print_hex(STDOUT_FILENO, address, 8);
-            print_gap();
-            print_indent(indent);
+            print_front(address, indent);
         }
         Command::Plain { indent } => {
             end_line(at);
-            print(b"          ");
-            print_indent(indent);
+            print_blank_front(indent);
         }
         Command::Token { kind: _, count } => {
             print(token_text(tape, at, count));

@@ -10,14 +10,8 @@ enum-known-command c = search needs
 end-line-requires : tie.Need-end-line-requires
 end-line-requires c κs = search needs
 
-print-hex-requires : tie.Need-print-hex-requires
-print-hex-requires c κs = search needs
-
-print-gap-requires : tie.Need-print-gap-requires
-print-gap-requires c κs = search needs
-
-print-indent-requires : tie.Need-print-indent-requires
-print-indent-requires c κs = search needs
+print-front-requires : tie.Need-print-front-requires
+print-front-requires c κs = search needs
 
 enum-known-command-2 : tie.Need-enum-known-command-2
 enum-known-command-2 c = search needs
@@ -25,14 +19,8 @@ enum-known-command-2 c = search needs
 end-line-requires-2 : tie.Need-end-line-requires-2
 end-line-requires-2 c κs = search needs
 
-slice-aggregate-print : tie.Need-slice-aggregate-print
-slice-aggregate-print c = search needs
-
-print-requires : tie.Need-print-requires
-print-requires c κs = search needs
-
-print-indent-requires-2 : tie.Need-print-indent-requires-2
-print-indent-requires-2 c κs = search needs
+print-blank-front-requires : tie.Need-print-blank-front-requires
+print-blank-front-requires c κs = search needs
 
 enum-known-command-3 : tie.Need-enum-known-command-3
 enum-known-command-3 c = search needs
@@ -40,8 +28,8 @@ enum-known-command-3 c = search needs
 token-text-requires : tie.Need-token-text-requires
 token-text-requires c κs = let p = rw (c .before .command3 .given .1) at (c .before .before .before .before .pre) in omega arith
 
-print-requires-2 : tie.Need-print-requires-2
-print-requires-2 c κs = search needs
+print-requires : tie.Need-print-requires
+print-requires c κs = search needs
 
 enum-told : tie.Need-enum-told
 enum-told c = search needs
@@ -67,17 +55,13 @@ print-command-spec =
     (tie.spec
     enum-known-command
     end-line-requires
-    print-hex-requires
-    print-gap-requires
-    print-indent-requires
+    print-front-requires
     enum-known-command-2
     end-line-requires-2
-    slice-aggregate-print
-    print-requires
-    print-indent-requires-2
+    print-blank-front-requires
     enum-known-command-3
     token-text-requires
-    print-requires-2
+    print-requires
     enum-told
     end-line-requires-3
     returns

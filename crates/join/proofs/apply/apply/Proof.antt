@@ -1,11 +1,42 @@
 -- `join::apply::apply` meets its contract. Assumes nothing.
-use Rattle.join.proofs.Sparing.{is-spare}
+use native.Mathlib.Omega.{arith}
+use Prim.Native.Nat.{_+_}
+use mathlib.Core.Path.{sym}
+use lib.Seq.{length-take-le}
+use Rattle.build.specs.Added.{used-words}
+use Rattle.join.specs.Current.{used-lines}
+use Rattle.join.specs.Patching.{need-from}
+use Rattle.join.proofs.Rows.{last-inside}
+use Rattle.join.proofs.Sparing.{enough, is-spare}
 use borrow.Author.Needs.{needs}
 use Rattle.join.proofs.apply.apply.Statement.{statement}
 use Rattle.join.proofs.apply.apply.Tie as tie
 
-is-spare-requires : tie.Need-is-spare-requires
-is-spare-requires c κs = search needs
+free-requires : tie.Need-free-requires
+free-requires c κs = search needs
+
+free-requires-2 : tie.Need-free-requires-2
+free-requires-2 c κs = search needs
+
+lesser-requires : tie.Need-lesser-requires
+lesser-requires c κs = search needs
+
+slice-reshare-prefix-is-short : tie.Need-slice-reshare-prefix-is-short
+slice-reshare-prefix-is-short c = search needs
+
+slice-aggregate-is-short : tie.Need-slice-aggregate-is-short
+slice-aggregate-is-short c = sym (length-take-le _ _ (c .before .before .before .before .before .before .before .before .before .before .before .before .before .before .pre .1 .words-fit))
+
+slice-reshare-prefix-is-short-2 : tie.Need-slice-reshare-prefix-is-short-2
+slice-reshare-prefix-is-short-2 c = search needs
+
+slice-aggregate-is-short-2 : tie.Need-slice-aggregate-is-short-2
+slice-aggregate-is-short-2 c = sym (length-take-le _ _ (c .before .before .before .before .before .before .before .before .before .before .before .before .before .before .before .pre .1 .lines-fit))
+
+is-short-requires : tie.Need-is-short-requires
+is-short-requires c κs =
+    let p = c .before .before .before .before .before .before .before .before .before .before .before .before .before .before .before .pre in
+    (p .0 .inside, last-inside (p .0), λ k b. p .0 .listed .at k b .inside)
 
 rebuild-requires : tie.Need-rebuild-requires
 rebuild-requires c κs = search needs
@@ -28,11 +59,17 @@ same-length-5 c = search needs
 returns : tie.Need-returns
 returns c = search needs
 
-is-spare-requires-2 : tie.Need-is-spare-requires-2
-is-spare-requires-2 c κs = search needs
-
-rebuild-requires-2 : tie.Need-rebuild-requires-2
-rebuild-requires-2 c κs = search needs
+patch-requires : tie.Need-patch-requires
+patch-requires c κs =
+    let a = c .before .before .before .before .before .before .before .before .before .before .before .before .before .before .before .before .before .before .before .before .before .before .args in
+    let p = c .before .before .before .before .before .before .before .before .before .before .before .before .before .before .before .before .before .before .before .before .before .before .pre in
+    let n = need-from (used-words (a .tokens .now) (a .size)) (used-lines (a .lines .now) (a .size)) (a .j) (a .j .line + 1) in
+    let h = enough n (c .before .before .before .before .before .before .before .before .before .lesser .result) (c .before .before .before .before .before .before .is-short .ensures) (c .before .before .before .before .before .if1 .left) in (
+      p .0,
+      p .1,
+      is-spare h (omega (arith, c .before .before .before .before .before .before .before .before .before .lesser .ensures, c .before .before .before .before .before .before .before .before .before .before .before .before .before .free .ensures)),
+      is-spare h (omega (arith, c .before .before .before .before .before .before .before .before .before .lesser .ensures, c .before .before .before .before .before .before .before .before .before .before .free2 .ensures)),
+    )
 
 same-length-6 : tie.Need-same-length-6
 same-length-6 c = search needs
@@ -52,34 +89,18 @@ same-length-10 c = search needs
 returns-2 : tie.Need-returns-2
 returns-2 c = search needs
 
-patch-requires : tie.Need-patch-requires
-patch-requires c κs =
-    let p = c .before .before .before .before .before .before .before .before .before .before .before .before .before .before .before .before .before .before .before .pre in
-    (p .0, p .1, is-spare (c .before .before .before .before .before .before .before .before .before .before .is-spare .ensures) (c .before .before .before .before .before .before .before .before .before .if1 .left), is-spare (c .before .before .before .before .before .before .is-spare2 .ensures) (c .before .before .before .before .before .if2 .left))
-
-same-length-11 : tie.Need-same-length-11
-same-length-11 c = search needs
-
-same-length-12 : tie.Need-same-length-12
-same-length-12 c = search needs
-
-same-length-13 : tie.Need-same-length-13
-same-length-13 c = search needs
-
-same-length-14 : tie.Need-same-length-14
-same-length-14 c = search needs
-
-same-length-15 : tie.Need-same-length-15
-same-length-15 c = search needs
-
-returns-3 : tie.Need-returns-3
-returns-3 c = search needs
-
 pub apply-spec : {M : Type 1} → statement M
 apply-spec =
     tie.close
     (tie.spec
-    is-spare-requires
+    free-requires
+    free-requires-2
+    lesser-requires
+    slice-reshare-prefix-is-short
+    slice-aggregate-is-short
+    slice-reshare-prefix-is-short-2
+    slice-aggregate-is-short-2
+    is-short-requires
     rebuild-requires
     same-length
     same-length-2
@@ -87,18 +108,10 @@ apply-spec =
     same-length-4
     same-length-5
     returns
-    is-spare-requires-2
-    rebuild-requires-2
+    patch-requires
     same-length-6
     same-length-7
     same-length-8
     same-length-9
     same-length-10
-    returns-2
-    patch-requires
-    same-length-11
-    same-length-12
-    same-length-13
-    same-length-14
-    same-length-15
-    returns-3)
+    returns-2)

@@ -2,7 +2,7 @@
 use mathlib.Core.Path.{_≡_, sym}
 use lib.Seq.{length-take-le}
 use Rattle.lines.specs.Rules.{rules-of}
-use Rattle.plan.specs.declared.plans.Plan.the-variants.{Do, Nothing}
+use Rattle.plan.specs.declared.plans.Plan.the-variants.{Nothing}
 use Rattle.join.proofs.Trying.{inside, nothing-done, plannable, joined-done}
 use borrow.Author.Needs.{needs}
 use Rattle.join.proofs.attempt.try_at.Statement.{statement}

@@ -2,15 +2,14 @@
 use Prim.Native.Nat.{_-_, _≤_, _<_}
 use native.Mathlib.Omega.{arith}
 use mathlib.Core.Path.{_≡_, refl, _∙_}
-use lib.ListN.{length, length-map}
+use lib.ListN.{length}
 use borrow.Author.Needs.{needs}
 use Rattle.lines.specs.Rules.{rules-of}
-use Rattle.lines.specs.Lines.{part-of}
 use Rattle.join.specs.Patching.{Patching}
 use Rattle.join.proofs.Placing.{rewritable, placed-rewritten}
-use Rattle.join.proofs.Rows.{last-inside, placeable}
+use Rattle.join.proofs.Rows.{last-inside}
 use Rattle.join.proofs.Sparing.{spare-as}
-use Rattle.join.proofs.Patching.{same-word, patch-begun, patch-kept, patch-placed, patched}
+use Rattle.join.proofs.Patching.{same-word, next-inside, placeable-now, patch-begun, patch-kept, patch-placed, patched}
 use Rattle.join.proofs.patch.patch_lines.Statement.{statement}
 use Rattle.join.proofs.patch.patch_lines.Tie as tie
 
@@ -51,7 +50,8 @@ is-changed-requires c κs =
     let p = c .before .before .before .before .before .before .before .before .before .before .pre in
     let l = c .before .before .loop in
     let i = l .inv in
-    let b : l .next < length (a .lines .now) = omega (arith, last-inside (p .0), c .before .loop-test .taken) in
+    let hl = c .before .loop-test .taken in
+    let b : l .next < length (a .lines .now) = next-inside (p .0) (a .size) (p .1) (p .2) (i .4) hl in
     (rw (same-word (p .0) (a .size) (p .1) (p .2) (i .4)) (p .0 .listed .at (l .next) b), p .0 .joins .known)
 
 rewrite-requires : tie.Need-rewrite-requires Inv-loop μ-loop
@@ -60,9 +60,9 @@ rewrite-requires c κs =
     let p = c .before .before .before .before .before .before .before .before .before .before .before .before .before .before .pre in
     let l = c .before .before .before .before .before .before .loop in
     let i = l .inv in
-    let b : l .next < length (a .lines .now) = omega (arith, last-inside (p .0), c .before .before .before .before .before .loop-test .taken) in
-    rewritable
-    (placeable (p .0) (i .4 .within) b (λ e. omega (arith, i .3)) refl (same-word (p .0) (a .size) (p .1) (p .2) (i .4)) (spare-as (p .3) (i .1) (i .2)))
+    let hl = c .before .before .before .before .before .loop-test .taken in
+    let b : l .next < length (a .lines .now) = next-inside (p .0) (a .size) (p .1) (p .2) (i .4) hl in
+    rewritable (placeable-now (p .0) (a .size) (p .1) (p .2) (i .4) hl (λ e. omega (arith, i .3)) refl (spare-as (p .3) (i .1) (i .2)))
     (c .before .before .before .is-changed .ensures _) (c .before .before .if1 .taken)
 
 mul-lines : tie.Need-mul-lines Inv-loop μ-loop
@@ -80,7 +80,8 @@ loop-again c =
     let p = c .before .before .before .before .before .before .before .before .before .before .before .before .before .before .before .before .before .before .before .before .pre in
     let l = c .before .before .before .before .before .before .before .before .before .before .before .before .loop in
     let i = l .inv in
-    let b : l .next < length (a .lines .now) = omega (arith, last-inside (p .0), c .before .before .before .before .before .before .before .before .before .before .before .loop-test .taken) in
+    let hl = c .before .before .before .before .before .before .before .before .before .before .before .loop-test .taken in
+    let b : l .next < length (a .lines .now) = next-inside (p .0) (a .size) (p .1) (p .2) (i .4) hl in
     let n : l .next ≡ a .j .line → ⊥ = λ e. omega (arith, i .3) in
     let r = c .before .before .before .before .before .rewrite in
     let la = r .kept .1 .1 .1 .1 .1 .1 .0 ∙ i .1 in
@@ -89,7 +90,7 @@ loop-again c =
       la,
       lt,
       omega (arith, i .3),
-      patch-placed (p .0) (a .size) (p .1) (p .2) (i .4) b n refl (placed-rewritten (placeable (p .0) (i .4 .within) b n refl (same-word (p .0) (a .size) (p .1) (p .2) (i .4)) (spare-as (p .3) (i .1) (i .2))) (c .before .before .before .before .before .before .before .before .before .is-changed .ensures _) (c .before .before .before .before .before .before .before .before .if1 .taken) (r .ensures)) (spare-as (p .3) la lt),
+      patch-placed (p .0) (a .size) (p .1) (p .2) (i .4) hl n refl (placed-rewritten (placeable-now (p .0) (a .size) (p .1) (p .2) (i .4) hl n refl (spare-as (p .3) (i .1) (i .2))) (c .before .before .before .before .before .before .before .before .before .is-changed .ensures _) (c .before .before .before .before .before .before .before .before .if1 .taken) (r .ensures)) (spare-as (p .3) la lt),
     )
 
 loop-less-2 : tie.Need-loop-less-2 Inv-loop μ-loop
@@ -101,8 +102,9 @@ loop-again-2 c =
     let p = c .before .before .before .before .before .before .before .before .before .before .before .before .pre in
     let l = c .before .before .before .before .loop in
     let i = l .inv in
-    let b : l .next < length (a .lines .now) = omega (arith, last-inside (p .0), c .before .before .before .loop-test .taken) in
-    (omega arith, i .1, i .2, omega (arith, i .3), patch-kept (p .0) (a .size) (p .1) (p .2) (i .4) b (c .before .is-changed .ensures _) (c .if1 .left))
+    let hl = c .before .before .before .loop-test .taken in
+    let b : l .next < length (a .lines .now) = next-inside (p .0) (a .size) (p .1) (p .2) (i .4) hl in
+    (omega arith, i .1, i .2, omega (arith, i .3), patch-kept (p .0) (a .size) (p .1) (p .2) (i .4) hl (c .before .is-changed .ensures _) (c .if1 .left))
 
 remove-word-requires : tie.Need-remove-word-requires Inv-loop μ-loop
 remove-word-requires c κs = omega (arith, c .before .before .before .before .before .before .before .before .before .before .pre .0 .inside, c .before .before .loop .inv .4 .as-many)

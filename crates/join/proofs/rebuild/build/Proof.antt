@@ -1,13 +1,13 @@
 -- `join::rebuild::build` meets its contract. Assumes nothing.
 use Prim.Native.Nat.{_-_, _≤_, _<_}
 use native.Mathlib.Omega.{arith}
-use mathlib.Core.Path.{_≡_, refl, sym, ap, _∙_}
+use mathlib.Core.Path.{_≡_, refl, _∙_}
 use lib.ListN.{length}
 use borrow.Author.Needs.{needs}
 use Rattle.lines.specs.Rules.{rules-of}
 use Rattle.join.specs.Building.{Upto}
 use Rattle.join.proofs.Rows.{text-few, words-few, placeable}
-use Rattle.join.proofs.Building.{rest-at, spare-whole, begun, passed, placed, finished}
+use Rattle.join.proofs.Building.{rest-at, begun, passed, placed, finished}
 use Rattle.join.proofs.rebuild.build.Statement.{statement}
 use Rattle.join.proofs.rebuild.build.Tie as tie
 
@@ -43,7 +43,7 @@ build-line-requires c κs =
     let p = c .before .before .before .before .before .before .before .before .before .before .before .before .before .pre in
     let i = c .before .before .before .before .before .loop .inv in
     let b : c .before .before .before .before .before .loop .next < length (c .before .before .before .before .before .before .before .before .before .before .before .before .before .args .lines .now) = omega (arith, i .3 .as-many, c .before .before .before .before .loop-test .taken) in
-    placeable (p .0) (i .3 .within) b (c .before .before .before .if1 .taken) refl (rest-at (c .before .before .before .before .before .loop .next) (c .before .before .before .before .before .loop .lines) (c .before .before .before .before .before .before .before .before .before .before .before .before .before .args .lines .now) (i .3 .rest-is)) (spare-whole (omega (arith, p .1, i .1)) (omega (arith, p .2, i .2)))
+    placeable (p .0) (i .3 .within) b (c .before .before .before .if1 .taken) refl (rest-at (c .before .before .before .before .before .loop .next) (c .before .before .before .before .before .loop .lines) (c .before .before .before .before .before .before .before .before .before .before .before .before .before .args .lines .now) (i .3 .rest-is)) (omega (arith, p .1, i .1)) (omega (arith, p .2, i .2))
 
 put-line-requires : tie.Need-put-line-requires Inv-loop μ-loop
 put-line-requires c κs = omega (arith, c .before .before .before .before .before .build-line .ensures .lines-are, c .before .before .before .before .before .before .before .before .before .before .before .loop .inv .3 .behind, c .before .before .before .before .before .before .before .before .before .before .loop-test .taken)

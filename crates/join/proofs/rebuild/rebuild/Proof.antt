@@ -1,7 +1,7 @@
 -- `join::rebuild::rebuild` meets its contract. Assumes nothing.
 use native.Mathlib.Omega.{arith}
 use mathlib.Core.Path.{sym}
-use lib.ListN.{length, drop, length-take}
+use lib.ListN.{drop, length-take}
 use lib.Seq.{length-take-le}
 use Rattle.join.proofs.Bringing.{brought}
 use borrow.Author.Needs.{needs}

@@ -1,0 +1,2 @@
+-- Laws that the proofs of show cite: an address put before blanks (Blanks).
+pub mod Blanks
