@@ -10,7 +10,7 @@ ghost use Rattle.reference.specs.Names.{family};
 ghost use Rattle.names.specs.Families.{Spells};
 ghost use Rattle.names.specs.declared.families.Spelled.the-variants.{Row, Front};
 ghost use Rattle.lines.specs.Codes.{bucket, coded-width, Codes};
-ghost use Rattle.lines.specs.Words.{code-of, text-of, Points, Recoded, Recodes};
+ghost use Rattle.lines.specs.Words.{code-of, text-of, Points, Recoded};
 ghost use Rattle.lines.specs.Fams.{Names};
 
 fn mixed(a: u8, b: u8) -> u64
@@ -159,15 +159,4 @@ pub fn coded(tape: &[u8], w: u64) -> u64
         return w;
     }
     words::with_code(w, code_of(&tape[from..to]))
-}
-
-// Codes every word.
-pub fn code_all(tape: &[u8], tokens: &mut [u64])
-    ensures { λ r. ⌜ Recodes (now (tape .entry)) (now (tokens .entry)) (now (tokens .exit)) ⌝ }
-{
-    let mut k = 0;
-    while k < tokens.len() {
-        tokens[k] = coded(tape, tokens[k]);
-        k += 1;
-    }
 }

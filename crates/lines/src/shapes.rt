@@ -120,7 +120,7 @@ pub fn symbol_from(line: &[u64], from: usize) -> Found
 
 // ---- braces and calls
 
-fn has_brace<'a>(tape: &'a [u8], area: &'a [u8], w: u64) -> bool
+pub fn has_brace<'a>(tape: &'a [u8], area: &'a [u8], w: u64) -> bool
     requires { ⌜ Points (now tape) (now area) w ⌝ }
     ensures { λ r. ⌜ r ≡ has-brace (token-of (now (tape .entry)) (now (area .entry)) w) ⌝ }
 {

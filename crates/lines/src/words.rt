@@ -4,12 +4,13 @@
 // the code of its text, or 0 (codes.rt). Its text is `len` bytes from `start` on, in the tape or,
 // once rewritten, in the area.
 // A line word: first token in 16 bits, count in 11 bits, indent in 6 bits, whether it has an
-// address in 1 bit, and its origin, the number of the input line that it was, in 8 bits.
+// address in 1 bit, and its origin, the number of the input line that it was, in 8 bits; above them
+// its marks (marks.rt).
 ghost use mathlib.Core.Path.{_≡_};
 ghost use Prim.Native.Nat.{_+_, _≤_, _<_};
 ghost use lib.ListN.{length};
 ghost use Rattle.lines.specs.Words.{kind-of, place-of, start-of, len-of, code-of, word, with-code, without-first, first-bytes, without-last, text-of, Points};
-ghost use Rattle.lines.specs.Lines.{first-of, count-of, indent-of, addressed-of, origin-of, line-word, with-part, part-of};
+ghost use Rattle.lines.specs.Lines.{first-of, count-of, indent-of, addressed-of, origin-of, marks-of, with-marks, line-word, with-part, part-of};
 
 // The kinds that the cleaner asks about. (Address is 5 and Prefix is 7.)
 pub const PLAIN: u64 = 0;
@@ -154,7 +155,21 @@ pub fn origin(l: u64) -> usize
     (l / 17179869184 % 256) as usize
 }
 
-// The line with its tokens elsewhere, or with others.
+pub fn marks(l: u64) -> u64
+    ensures { λ r. ⌜ r ≡ marks-of l ⌝ }
+{
+    l / 4398046511104
+}
+
+// The line with the marks m.
+pub fn with_marks(l: u64, m: u64) -> u64
+    requires { ⌜ m < 4194304 ⌝ }
+    ensures { λ r. ⌜ r ≡ with-marks l m ⌝ }
+{
+    l % 4398046511104 + m * 4398046511104
+}
+
+// The line with its tokens elsewhere, or with others, and no marks.
 pub fn with_tokens(l: u64, first: usize, count: usize) -> u64
     requires { ⌜ (first < 65536) × (count < 2048) ⌝ }
     ensures { λ r. ⌜ r ≡ with-part l first count ⌝ }

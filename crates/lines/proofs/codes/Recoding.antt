@@ -91,7 +91,7 @@ module _ {tape : Text} {ws us : List ℕ} (r : Recodes tape ws us) where
   part-recoded l = recodes-take (recodes-drop r (first-of l)) (count-of l)
 
   pub lined-recoded : {area : Text} {l : ℕ} → Lined tape area ws l → Lined tape area us l
-  lined-recoded {area} {l} h = record { inside = omega (arith, h .inside, r .long); holds = holds-recoded (part-recoded l) (h .holds) }
+  lined-recoded {area} {l} h = record { inside = omega (arith, h .inside, r .long); holds = holds-recoded (part-recoded l) (h .holds); marks = rw (sym (tokens-recoded (part-recoded l) area)) at (h .marks) }
 
   pub line-recoded : (area : Text) (addresses : List ℕ) (l : ℕ) → line-in tape area us addresses l ≡ line-in tape area ws addresses l
   line-recoded area addresses l = let e = tokens-recoded (part-recoded l) area in cc

@@ -1,7 +1,8 @@
 -- Laws of line words: bounds, what a word that was made means, lists of lines, and that nothing matters but the used parts of the area and
 -- of the token words. Assumes nothing.
-use Prim.Native.Nat.{ℕ, _+_, _≤_, _<_}
+use Prim.Native.Nat.{ℕ, _+_, _%_, _^_, _≤_, _<_}
 use native.Mathlib.Omega.{arith}
+use native.Mathlib.Nat.{zero-div, zero-mod}
 use mathlib.Core.Path.{_≡_, sym, ap, _∙_}
 use mathlib.Core.List.{List, [], _∷_, _++_, map, map-map}
 use mathlib.Core.Option.{none, some}
@@ -11,12 +12,13 @@ use lib.Seq.{take-append-seam}
 use Rattle.reference.specs.Control.{if_then_else_}
 use Rattle.reference.specs.Lists.{remove}
 use Rattle.reference.specs.Text.{Text}
-use Rattle.reference.specs.Listing.{_at_, with-tokens}
+use Rattle.reference.specs.Listing.{Token, _at_, with-tokens}
 use Rattle.laws.proofs.Parts.{part-below}
 use Rattle.lines.specs.Words.{tokens-of, Holds}
-use Rattle.lines.specs.Lines.{first-of, count-of, indent-of, addressed-of, origin-of, line-word, with-part, part-of, address-in, line-in, listing-of, bare, bare-in, bare-listing, Lined, Listed}
+use Rattle.lines.specs.Marks.{bit, Tells}
+use Rattle.lines.specs.Lines.{first-of, count-of, indent-of, addressed-of, origin-of, marks-of, with-marks, line-word, with-part, part-of, address-in, line-in, listing-of, bare, bare-in, bare-listing, Lined, Listed}
 use Rattle.lines.proofs.words.Each.{each-none, each-one, each-take, each-drop, each-append, each-set, each-remove, map-at, map-same}
-use Rattle.lines.proofs.words.Tokens.{holds-take, holds-drop, holds-prefix, tokens-prefix, holds-length}
+use Rattle.lines.proofs.words.Tokens.{holds-take, holds-drop, holds-prefix, tokens-prefix}
 
 pub first-below : (l : ℕ) → first-of l < 65536
 unfolding first-of
@@ -64,6 +66,10 @@ module _ (f c i a o : ℕ) (hf : f < 65536) (hc : c < 2048) where
         unfolding line-word origin-of
         word-origin = omega arith
 
+        pub word-marks : marks-of (line-word f c i a o) ≡ 0
+        unfolding line-word marks-of
+        word-marks = omega arith
+
         pub line-word-means : (tape area : Text) (tokens addresses : List ℕ)
             → line-in tape area tokens addresses (line-word f c i a o)
             ≡ record { address = if eqb a 1 then some (getD addresses o 0) else none; indent = i; tokens = tokens-of tape area (take c (drop f tokens)) }
@@ -80,6 +86,10 @@ module _ (l f c : ℕ) (hf : f < 65536) (hc : c < 2048) where
   unfolding with-part
   with-count = word-count f c (indent-of l) (addressed-of l) (origin-of l) hf hc
 
+  pub with-unmarked : marks-of (with-part l f c) ≡ 0
+  unfolding with-part
+  with-unmarked = word-marks f c (indent-of l) (addressed-of l) (origin-of l) hf hc (indent-below l) (addressed-below l) (origin-below l)
+
   pub with-part-of : (tokens : List ℕ) → part-of tokens (with-part l f c) ≡ take c (drop f tokens)
   with-part-of tokens = rw (with-first, with-count)
 
@@ -89,10 +99,44 @@ module _ (l f c : ℕ) (hf : f < 65536) (hc : c < 2048) where
   with-means tape area tokens addresses =
       line-word-means f c (indent-of l) (addressed-of l) (origin-of l) hf hc (indent-below l) (addressed-below l) (origin-below l) tape area tokens addresses
 
+-- marks change nothing else
+module _ (l m : ℕ) where
+  pub marked-first : first-of (with-marks l m) ≡ first-of l
+  unfolding with-marks first-of
+  marked-first = omega arith
+
+  pub marked-count : count-of (with-marks l m) ≡ count-of l
+  unfolding with-marks count-of
+  marked-count = omega arith
+
+  pub marked-indent : indent-of (with-marks l m) ≡ indent-of l
+  unfolding with-marks indent-of
+  marked-indent = omega arith
+
+  pub marked-addressed : addressed-of (with-marks l m) ≡ addressed-of l
+  unfolding with-marks addressed-of
+  marked-addressed = omega arith
+
+  pub marked-origin : origin-of (with-marks l m) ≡ origin-of l
+  unfolding with-marks origin-of
+  marked-origin = omega arith
+
+  pub marked-marks : marks-of (with-marks l m) ≡ m
+  unfolding with-marks marks-of
+  marked-marks = omega arith
+
+-- no marks say nothing
+not-set : (i : ℕ) {X : Type 0} → bit 0 i ≡ 1 → X
+unfolding bit
+not-set i e = absurd (omega (arith, ap (λ (x : ℕ). x % 2) (zero-div (2 ^ i))))
+
+pub no-marks : {m : ℕ} (ts : List Token) → m ≡ 0 → Tells 1 m ts
+no-marks ts z = rw z (record { lacks = λ i h e. not-set i e })
+
 -- ---- one line
 
-pub lined-of : {tape area : Text} {tokens : List ℕ} (l : ℕ) → Holds tape area tokens → first-of l + count-of l ≤ length tokens → Lined tape area tokens l
-lined-of l h i = record { inside = i; holds = holds-take (holds-drop h (first-of l)) (count-of l) }
+pub lined-of : {tape area : Text} {tokens : List ℕ} (l : ℕ) → Holds tape area tokens → first-of l + count-of l ≤ length tokens → marks-of l ≡ 0 → Lined tape area tokens l
+lined-of {tape} {area} {tokens} l h i z = record { inside = i; holds = holds-take (holds-drop h (first-of l)) (count-of l); marks = no-marks (tokens-of tape area (part-of tokens l)) z }
 
 module _ (tape area : Text) (tokens addresses lines : List ℕ) where
   pub listing-at : (k : ℕ) → k < length lines → listing-of tape area tokens addresses lines at k ≡ line-in tape area tokens addresses (getD lines k 0)
@@ -136,11 +180,14 @@ module _ {tape : Text} (m : ℕ) (area : Text) (n : ℕ) (tokens : List ℕ) {l 
   part-prefix : part-of (take n tokens) l ≡ part-of tokens l
   part-prefix = part-below (first-of l) (count-of l) n tokens (omega (arith, h .inside, length-take n tokens))
 
+  line-tokens : tokens-of tape (take m area) (part-of (take n tokens) l) ≡ tokens-of tape area (part-of tokens l)
+  line-tokens = tokens-prefix m area (h .holds) ∙ ap (tokens-of tape area) part-prefix
+
   pub lined-prefix : Lined tape area tokens l
-  lined-prefix = record { inside = omega (arith, h .inside, length-take n tokens); holds = rw part-prefix at (holds-prefix m area (h .holds)) }
+  lined-prefix = record { inside = omega (arith, h .inside, length-take n tokens); holds = rw part-prefix at (holds-prefix m area (h .holds)); marks = rw line-tokens at (h .marks) }
 
   pub line-prefix : (addresses : List ℕ) → line-in tape (take m area) (take n tokens) addresses l ≡ line-in tape area tokens addresses l
-  line-prefix addresses = let e = tokens-prefix m area (h .holds) ∙ ap (tokens-of tape area) part-prefix in cc
+  line-prefix addresses = let e = line-tokens in cc
 
 module _ {tape : Text} (m : ℕ) (area : Text) (n : ℕ) (tokens : List ℕ) {lines : List ℕ} where
   pub listed-prefix : Listed tape (take m area) (take n tokens) lines → Listed tape area tokens lines
@@ -178,7 +225,3 @@ module _ {tape used : Text} {tokens : List ℕ} (more : Text) (next : List ℕ) 
   pub listing-grows : (addresses : List ℕ) → listing-of tape (used ++ more) (tokens ++ next) addresses lines ≡ listing-of tape used tokens addresses lines
   listing-grows addresses =
       sym (listing-prefix (length used) (used ++ more) (length tokens) (tokens ++ next) addresses in-front) ∙ rw (take-append-seam, take-append-seam)
-
--- what stands in the area does not matter for where words point
-pub listed-length : {tape area : Text} (area′ : Text) {tokens lines : List ℕ} → length area ≡ length area′ → Listed tape area tokens lines → Listed tape area′ tokens lines
-listed-length area′ e h = record { at = λ k b. record { inside = h .at k b .inside; holds = holds-length area′ e (h .at k b .holds) } }

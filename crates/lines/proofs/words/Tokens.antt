@@ -209,16 +209,3 @@ module _ {tape used : Text} (more : Text) {ws : List ℕ} (h : Holds tape used w
 
   pub tokens-grow : tokens-of tape (used ++ more) ws ≡ tokens-of tape used ws
   tokens-grow = sym (tokens-prefix (length used) (used ++ more) words-front) ∙ rw take-append-seam
-
--- what stands in the area does not matter for where words point
-pub points-length : {tape area : Text} (area′ : Text) {w : ℕ} → length area ≡ length area′ → Points tape area w → Points tape area′ w
-points-length {tape} {area} area′ {w} e h = record {
-  inside = by-cases (ℕ-discrete (place-of w) 0)
-      (λ z. rw (in-tape tape area′ z) (rw (in-tape tape area z) at (h .inside)))
-      (λ z. rw (in-area tape area′ z) (omega (arith, h .inside, ap length (in-area tape area z))));
-  short = h .short;
-  coded = h .coded;
-}
-
-pub holds-length : {tape area : Text} (area′ : Text) {ws : List ℕ} → length area ≡ length area′ → Holds tape area ws → Holds tape area′ ws
-holds-length area′ e h = record { at = λ k l. points-length area′ e (h .at k l) }

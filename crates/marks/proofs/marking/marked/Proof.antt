@@ -1,0 +1,20 @@
+-- `marks::marking::marked` meets its contract. Assumes nothing.
+use Rattle.marks.proofs.Making.{turned-small, marked-with}
+use borrow.Author.Needs.{needs}
+use Rattle.marks.proofs.marking.marked.Statement.{statement}
+use Rattle.marks.proofs.marking.marked.Tie as tie
+
+line-of-requires : tie.Need-line-of-requires
+line-of-requires c κs = search needs
+
+bits-of-requires : tie.Need-bits-of-requires
+bits-of-requires c κs = let s = c .before .before .before .before in rw (c .line-of .ensures) (s .pre .holds)
+
+with-marks-requires : tie.Need-with-marks-requires
+with-marks-requires c κs = turned-small (c .bits-of .ensures)
+
+returns : tie.Need-returns
+returns c = search (needs, marked-with)
+
+pub marked-spec : {M : Type 1} → statement M
+marked-spec = tie.close (tie.spec line-of-requires bits-of-requires with-marks-requires returns)
