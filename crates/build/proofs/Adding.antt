@@ -2,22 +2,20 @@
 use Prim.Native.Nat.{ℕ, _+_, _-_, _<_}
 use native.Mathlib.Omega.{arith}
 use native.Mathlib.Nat.{le-refl}
-use native.Mathlib.Numerals.{add-one}
 use mathlib.Core.Path.{_≡_, refl, ap, _∙_}
 use mathlib.Core.List.{List, []}
-use lib.ListN.{length, set, take, drop, length-drop}
-use lib.Seq.{slice, slice-empty, take-all, take-suc-set, length-take-le, length-slice}
+use lib.ListN.{length, take, drop, length-drop}
+use lib.Seq.{slice, slice-empty, take-all, length-take-le, length-slice}
 use Rattle.reference.specs.Text.{Text}
 use Rattle.reference.specs.Listing.{Token, Line, with-tokens}
 use Rattle.reference.specs.Numbers.{merge, fold}
 use Rattle.reference.specs.Join.{substitute, rewrite-use}
 use Rattle.lines.specs.Words.{tokens-of}
-use Rattle.lines.specs.Lines.{first-of, count-of, part-of, with-part, line-in, Lined}
-use Rattle.lines.proofs.words.Lines.{count-below, with-first, with-count, with-means}
+use Rattle.lines.specs.Lines.{first-of, count-of, marks-of, part-of, with-part, line-in, Lined}
+use Rattle.lines.proofs.words.Lines.{count-below, with-first, with-count, with-unmarked, with-means, no-marks}
 use Rattle.build.specs.declared.used.Size.{Size}
-use Rattle.build.specs.declared.line.Appended.{Appended}
 use Rattle.build.specs.State.{used, words-from, Laid}
-use Rattle.build.specs.Added.{used-words, Added, Ended}
+use Rattle.build.specs.Added.{used-words, Added}
 
 module _ {tape area : Text} {tokens : List ℕ} {at : Size} {out : List Token} {n k : ℕ} {area′ : Text} {tokens′ : List ℕ} {at′ : Size}
     (l : Laid tape area tokens at out n k area′ tokens′ at′) (w : ℕ) (hf : at .tokens < 65536) (hk : k < 2048) where
@@ -48,6 +46,7 @@ module _ {tape area : Text} {tokens : List ℕ} {at : Size} {out : List Token} {
           lined = record {
             inside = rw (first-is, count-is, length-take-le (at′ .tokens) tokens′ (l .built .words-fit)) (omega (arith, l .built .after));
             holds = rw part-is (l .built .holds);
+            marks = no-marks _ (ap marks-of ev ∙ with-unmarked w (at .tokens) (at′ .tokens - at .tokens) hf count-fits);
           };
           line-is = λ addresses.
               ap (line-in tape (used area′ at′) (used-words tokens′ at′) addresses) ev
@@ -80,8 +79,3 @@ module _ {tape old : Text} {words : List ℕ} {w : ℕ} (i : Lined tape old word
       → Added tape area tokens at (λ addresses. rewrite-use name right (line-in tape old words addresses w)) n k area′ tokens′ (record { line = v; size = at′ })
   unfolding rewrite-use
   added-rewritten name right hk l = added l w hf hk ev (λ addresses. rewrite-use name right (line-in tape old words addresses w)) (λ addresses. refl)
-
--- the word behind the lines in use
-pub ended : (a : Appended) (lines : List ℕ) → a .size .lines < length lines
-    → Ended a lines (set lines (a .size .lines) (a .line)) (record { lines = a .size .lines + 1; tokens = a .size .tokens; text = a .size .text })
-ended a lines h = record { lines-are = rw add-one (take-suc-set lines (a .size .lines) (a .line) h); size-is = refl }

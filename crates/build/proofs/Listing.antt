@@ -97,16 +97,18 @@ module _ {tape area : Text} {tokens : List ℕ} {at : Size} {line : List ℕ →
     same-part : part-of (used-words tokens″ (r .size)) (r .line) ≡ part-of (used-words tokens′ (r .size)) (r .line)
     same-part = rw (a .first-is, ew)
 
+    same-tokens : tokens-of tape (used area″ (r .size)) (part-of (used-words tokens″ (r .size)) (r .line)) ≡ tokens-of tape (used area′ (r .size)) (part-of (used-words tokens′ (r .size)) (r .line))
+    same-tokens =
+        ap (tokens-of tape (used area″ (r .size))) same-part
+        ∙ map-same (token-of tape (used area″ (r .size))) (token-of tape (used area′ (r .size))) (part-of (used-words tokens′ (r .size)) (r .line))
+        (λ i h. ap (token (kind-of (getD (part-of (used-words tokens′ (r .size)) (r .line)) i 0))) (same-text (a .lined .holds .at i h) (a .fresh .from-m i h)))
+
     pub lined-elsewhere : Lined tape (used area″ (r .size)) (used-words tokens″ (r .size)) (r .line)
     lined-elsewhere = record {
       inside = rw (a .first-is, a .end-is, length-take-le (r .size .tokens) tokens″ lw) (le-refl _);
       holds = rw same-part (record { at = λ i h. same-points (a .lined .holds .at i h) (a .fresh .from-m i h) });
+      marks = rw same-tokens (a .lined .marks);
     }
 
     pub line-elsewhere : (addresses : List ℕ) → line-in tape (used area″ (r .size)) (used-words tokens″ (r .size)) addresses (r .line) ≡ line addresses
-    line-elsewhere addresses =
-        let ts : tokens-of tape (used area″ (r .size)) (part-of (used-words tokens″ (r .size)) (r .line)) ≡ tokens-of tape (used area′ (r .size)) (part-of (used-words tokens′ (r .size)) (r .line)) =
-        ap (tokens-of tape (used area″ (r .size))) same-part
-        ∙ map-same (token-of tape (used area″ (r .size))) (token-of tape (used area′ (r .size))) (part-of (used-words tokens′ (r .size)) (r .line))
-        (λ i h. ap (token (kind-of (getD (part-of (used-words tokens′ (r .size)) (r .line)) i 0))) (same-text (a .lined .holds .at i h) (a .fresh .from-m i h))) in
-        cc (a .line-is addresses)
+    line-elsewhere addresses = let ts = same-tokens in cc (a .line-is addresses)

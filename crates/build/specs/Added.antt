@@ -1,7 +1,7 @@
 -- A line at the end of a set: what it means, and what is as it was. Assumes nothing.
 use Prim.Native.Nat.{ℕ, _+_, _≤_, _<_}
 use mathlib.Core.Path.{_≡_}
-use mathlib.Core.List.{List, [], _∷_, _++_}
+use mathlib.Core.List.{List}
 use lib.ListN.{length, take}
 use Rattle.reference.specs.Text.{Text}
 use Rattle.reference.specs.Listing.{Token, Line}
@@ -71,10 +71,3 @@ Rewritten tape old words source j l area tokens at =
     Added tape area tokens at
     (λ addresses. rewrite-use (fam-text tape old (j .family)) (right-of tape old (part-of words source) j) (line-in tape old words addresses l))
     (sum room (unmerged tape old words source j l)) (length (unmerged tape old words source j l))
-
--- ---- the end of a line
-
--- its word stands behind the lines in use
-pub record Ended (a : Appended) (lines lines′ : List ℕ) (r : Size) : Type 0 where
-  pub lines-are : take (r .lines) lines′ ≡ take (a .size .lines) lines ++ (a .line ∷ [])
-  pub size-is : r ≡ record { lines = a .size .lines + 1; tokens = a .size .tokens; text = a .size .text }

@@ -5,12 +5,11 @@ use crate::merge::Substitution;
 use crate::merge::merge;
 use crate::used::Size;
 use lines::words;
-ghost use Prim.Native.Nat.{_<_};
 ghost use lib.ListN.{length};
 ghost use Rattle.reference.specs.Claim.{text-in};
 ghost use Rattle.lines.specs.Words.{tokens-of, Holds};
 ghost use Rattle.build.specs.State.{Room, Laid};
-ghost use Rattle.build.specs.Added.{Keepable, Kept, Rewritable, Rewritten, Ended};
+ghost use Rattle.build.specs.Added.{Keepable, Kept, Rewritable, Rewritten};
 
 // Appends the tokens of an old line as they are.
 fn keep_tokens<'a>(
@@ -92,20 +91,5 @@ pub fn rewrite_line<'a>(
     Appended {
         line: words::with_tokens(l, from, count),
         size: s,
-    }
-}
-
-// Ends the line that was appended: its word stands behind the lines in use.
-pub fn end_line(a: Appended, lines: &mut [u64]) -> Size
-    requires { ⌜ a .size .lines < length (now lines) ⌝ }
-    ensures { λ r. ⌜ Ended a (now (lines .entry)) (now (lines .exit)) r ⌝ }
-{
-    let s = a.size;
-    let n = s.lines;
-    lines[n] = a.line;
-    Size {
-        lines: n + 1,
-        tokens: s.tokens,
-        text: s.text,
     }
 }
