@@ -8,15 +8,18 @@ use lib.Dec.{leb}
 use lib.ListN.{length, getD, take, drop, drop-of-length-le}
 use lib.Seq.{drop-cons}
 use borrow.Author.Tests.{le-leb, lt-leb}
-use Rattle.reference.specs.Control.{_&&_, if_then_else_}
+use Rattle.reference.specs.Control.{_&&_, if_then_else_, let-some_else_then_}
 use Rattle.reference.specs.Text.{Text, bytes}
 use Rattle.reference.specs.Listing.{Line, Listing}
 use Rattle.reference.specs.Shapes.{has-kw, kw-in}
-use Rattle.reference.specs.Life.{Touch, None, Kill, Use, touch, touch-of, match-touch, Labels, killed-first, rerun-kills, while-passes, goto-passes, scan, dead-from, dead-after}
+use Rattle.reference.specs.Life.{Touch, None, Kill, Use, touch, touch-of, match-touch, Labels, killed-first, goto-target, rerun-kills, while-passes, goto-passes, scan, dead-from, dead-after}
 use Rattle.laws.proofs.Parts.{drop-take}
-use Rattle.lines.specs.Lines.{indent-of, part-of, bare-in, bare-listing}
+use Rattle.lines.specs.Codes.{family-number}
+use Rattle.lines.specs.Lines.{indent-of, part-of, bare-in, bare-listing, Lined}
 use Rattle.lines.specs.Words.{tokens-of}
 use Rattle.lines.proofs.words.Each.{map-take, map-drop}
+use Rattle.marks.specs.Quiet.{is-quiet}
+use Rattle.marks.proofs.Lacking.{quiet-kw, quiet-goto, quiet-touch}
 use Rattle.life.specs.declared.touches.Touched.{Touched}
 use Rattle.life.specs.declared.touches.Touched.the-variants.{Nothing, Kill as Kills, Use as Uses}
 use Rattle.life.specs.declared.fates.Fate.{Fate}
@@ -217,3 +220,12 @@ module _ (lines : List ℕ) (tape area : Text) (tokens : List ℕ) (fam : Text) 
     pub after-scan : {r : Fate} → y ≡ true → r ≡ scan-fate fam base vs (bare-in tape area tokens l) → r ≡ after
     unfolding fate-after if_then_else_
     after-scan u e = e ∙ rw (← has, t, ← ey, u)
+
+-- a quiet line decides nothing: x is the answer of `is_quiet`
+pub after-quiet : (lines : List ℕ) (tape area : Text) (tokens : List ℕ) (fam : Text) (base : ℕ) (labels : Labels) (start : ℕ) (vs : List Text) (w l : ℕ)
+    → Lined tape area tokens l → {n : ℕ} → n ≡ family-number fam → {x : Bool} → x ≡ is-quiet l n → x ≡ true
+    → Open ≡ fate-after (bare-listing tape area tokens lines) fam base labels start vs w (bare-in tape area tokens l)
+unfolding fate-after goto-passes goto-target scan-fate line-fate returns-at match-touch if_then_else_ let-some_else_then_ _&&_
+after-quiet lines tape area tokens fam base labels start vs w l h en ex t =
+    let kw = quiet-kw fam h en ex t in
+    rw (kw (bytes "while"), quiet-goto fam h en ex t, quiet-touch fam h en ex t vs, kw (bytes "return"))

@@ -7,6 +7,8 @@ use lines::fams::Fam;
 use lines::rules::Rules;
 use lines::shapes;
 use lines::words;
+use marks::is_quiet;
+use marks::number_of;
 ghost use mathlib.Core.Path.{_≡_};
 ghost use Prim.Native.Nat.{_<_};
 ghost use lib.ListN.{length, getD};
@@ -14,6 +16,7 @@ ghost use Rattle.reference.specs.Rules.{volatile};
 ghost use Rattle.reference.specs.Life.{dead-after};
 ghost use Rattle.joining.specs.Places.{labels-at, Labelled};
 ghost use Rattle.lines.specs.Rules.{rules-of};
+ghost use Rattle.lines.specs.Codes.{family-number};
 ghost use Rattle.lines.specs.Lines.{bare-in, bare-listing, Lined, Listed};
 ghost use Rattle.lines.specs.Fams.{fam-text, Known};
 ghost use Rattle.life.specs.Fates.{returns-at, scan-fate, fate-after};
@@ -89,6 +92,40 @@ fn fate_after<'a>(
     scan(tape, area, tokens, l, f, base_indent, rules)
 }
 
+// The same, where n is the number of the family: a quiet line does nothing.
+fn fate_by_marks<'a>(
+    tape: &'a [u8],
+    area: &'a [u8],
+    tokens: &'a [u64],
+    lines: &'a [u64],
+    labels: &'a [u64],
+    w: usize,
+    f: Fam,
+    n: u64,
+    base_indent: u64,
+    start: usize,
+    rules: Rules,
+) -> Fate
+    requires { ⌜ Listed (now tape) (now area) (now tokens) (now lines) × Labelled (bare-listing (now tape) (now area) (now tokens) (now lines)) (now labels) × Known (now tape) (now area) f × (w < length (now lines)) × (start < length (now lines)) × (n ≡ family-number (fam-text (now tape) (now area) f)) ⌝ }
+    ensures { λ r. ⌜ r ≡ fate-after (bare-listing (now (tape .entry)) (now (area .entry)) (now (tokens .entry)) (now (lines .entry))) (fam-text (now (tape .entry)) (now (area .entry)) f) «base_indent» (labels-at (bare-listing (now (tape .entry)) (now (area .entry)) (now (tokens .entry)) (now (lines .entry))) (now (labels .entry))) start (volatile (rules-of rules)) w (bare-in (now (tape .entry)) (now (area .entry)) (now (tokens .entry)) (getD (now (lines .entry)) w 0)) ⌝ }
+{
+    if is_quiet(lines[w], n) {
+        return Fate::Open;
+    }
+    fate_after(
+        tape,
+        area,
+        tokens,
+        lines,
+        labels,
+        w,
+        f,
+        base_indent,
+        start,
+        rules,
+    )
+}
+
 // Whether the family's value at the end of line `from`, defined on line `start`, is never read again.
 pub fn dead_after<'a>(
     tape: &'a [u8],
@@ -105,9 +142,10 @@ pub fn dead_after<'a>(
     requires { ⌜ Listed (now tape) (now area) (now tokens) (now lines) × Labelled (bare-listing (now tape) (now area) (now tokens) (now lines)) (now labels) × Known (now tape) (now area) f × (from < length (now lines)) × (start < length (now lines)) ⌝ }
     ensures { λ r. ⌜ r ≡ dead-after (bare-listing (now (tape .entry)) (now (area .entry)) (now (tokens .entry)) (now (lines .entry))) from (fam-text (now (tape .entry)) (now (area .entry)) f) «base_indent» (labels-at (bare-listing (now (tape .entry)) (now (area .entry)) (now (tokens .entry)) (now (lines .entry))) (now (labels .entry))) start (volatile (rules-of rules)) ⌝ }
 {
+    let n = number_of(tape, area, f);
     let mut w = from + 1;
     while w < lines.len() {
-        match fate_after(
+        match fate_by_marks(
             tape,
             area,
             tokens,
@@ -115,6 +153,7 @@ pub fn dead_after<'a>(
             labels,
             w,
             f,
+            n,
             base_indent,
             start,
             rules,

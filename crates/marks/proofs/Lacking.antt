@@ -9,7 +9,7 @@ use lib.Dec.{eqb}
 use borrow.Author.Tests.{eqb-true, eq-eqb}
 use Rattle.reference.specs.Control.{_&&_, _||_, if_then_else_, let-some_else_then_}
 use Rattle.reference.specs.Lists.{any, count, position, windows, pairs-from, is-some}
-use Rattle.reference.specs.Text.{Text, has, _==_}
+use Rattle.reference.specs.Text.{Text, bytes, _==_}
 use Rattle.reference.specs.Listing.{Token, is, Keyword, Symbol}
 use Rattle.reference.specs.Names.{family, fam-of, of-family}
 use Rattle.reference.specs.Shapes.{Assignment, label-tokens, is-kw, kw-in, has-brace, braces-in, calls-here, call-in, assignment-of}
@@ -69,6 +69,11 @@ unfolding of-family of-number let-some_else_then_
 of-number-too fam t e =
     let s = some-true {o = fam-of t} {p = λ f. f .name == fam} e in
     rw (s .1) (eq-eqb (family-number (s .0 .name)) (family-number fam) (ap family-number (same-true (s .0 .name) fam (s .2))))
+
+any-position : {A : Type 0} (p : A → Bool) (l : List A) → any p l ≡ false → position p l ≡ none
+unfolding if_then_else_ let-some_else_then_
+any-position p [] e = refl
+any-position p (a ∷ l) e = rw (neither e .0, any-position p l (neither e .1))
 
 -- ---- tokens that do not steer
 
@@ -145,6 +150,9 @@ module _ {tape area : Text} {tokens : List ℕ} {l n : ℕ} (fam : Text) (h : Li
 
   pub quiet-kw : (kw : Text) → kw-in ts kw ≡ false
   quiet-kw = steady-kw ts quiet-steady
+
+  pub quiet-goto : position (is-kw (bytes "goto")) ts ≡ none
+  quiet-goto = any-position (is-kw (bytes "goto")) ts (any-less (is-kw (bytes "goto")) steers (kw-steers (bytes "goto")) ts quiet-steady)
 
   pub quiet-brace : braces-in ts ≡ false
   quiet-brace = steady-brace ts quiet-steady

@@ -4,5 +4,6 @@ pub mod Defining
 pub mod Addressing
 pub mod Reaching
 pub mod Looking
+pub mod Passing
 pub mod Fitting
 pub mod Deciding

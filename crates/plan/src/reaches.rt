@@ -6,6 +6,8 @@ use lines::fams::Fam;
 use lines::rules::Rules;
 use lines::shapes;
 use lines::words;
+use marks::is_quiet;
+use marks::number_of;
 ghost use mathlib.Core.Path.{_≡_};
 ghost use Prim.Native.Nat.{suc, _<_};
 ghost use lib.ListN.{length};
@@ -14,6 +16,7 @@ ghost use Rattle.reference.specs.Rules.{volatile};
 ghost use Rattle.reference.specs.Join.{ends-run, updates-first, bad-use};
 ghost use Rattle.joining.specs.Places.{labels-at, Labelled};
 ghost use Rattle.joining.specs.Plan.{reach-at, reach-of, refuses, all-take, ends-at};
+ghost use Rattle.lines.specs.Codes.{family-number};
 ghost use Rattle.lines.specs.Words.{tokens-of, Holds};
 ghost use Rattle.lines.specs.Lines.{bare-in, bare-listing, Lined, Listed};
 ghost use Rattle.lines.specs.Rules.{rules-of};
@@ -88,6 +91,34 @@ fn reach_at<'a>(
     }
 }
 
+// The same, where n is the number of the family: a quiet line at the same indent changes nothing.
+fn reach_by_marks<'a>(
+    tape: &'a [u8],
+    area: &'a [u8],
+    tokens: &'a [u64],
+    l: u64,
+    j: usize,
+    base_indent: u64,
+    f: Fam,
+    n: u64,
+    r: Reach,
+    rules: Rules,
+) -> Reach
+    requires { ⌜ Lined (now tape) (now area) (now tokens) l × Known (now tape) (now area) f × (n ≡ family-number (fam-text (now tape) (now area) f)) ⌝ }
+    ensures { λ q. ⌜ reach q ≡ reach-at «base_indent» (fam-text (now (tape .entry)) (now (area .entry)) f) (volatile (rules-of rules)) j (bare-in (now (tape .entry)) (now (area .entry)) (now (tokens .entry)) l) (reach r) ⌝ }
+{
+    if is_quiet(l, n) {
+        if words::indent(l) == base_indent {
+            return Reach {
+                used: r.used,
+                last: r.last,
+                ended: false,
+            };
+        }
+    }
+    reach_at(tape, area, tokens, l, j, base_indent, f, r, rules)
+}
+
 // How far a constant of line i reaches.
 pub fn reach_of<'a>(
     tape: &'a [u8],
@@ -102,6 +133,7 @@ pub fn reach_of<'a>(
     ensures { λ r. ⌜ reach r ≡ reach-of (bare-listing (now (tape .entry)) (now (area .entry)) (now (tokens .entry)) (now (lines .entry))) i (fam-text (now (tape .entry)) (now (area .entry)) f) (volatile (rules-of rules)) ⌝ }
 {
     let base_indent = words::indent(lines[i]);
+    let n = number_of(tape, area, f);
     let mut r = Reach {
         used: false,
         last: i,
@@ -112,7 +144,7 @@ pub fn reach_of<'a>(
         if r.ended {
             return r;
         }
-        r = reach_at(tape, area, tokens, lines[j], j, base_indent, f, r, rules);
+        r = reach_by_marks(tape, area, tokens, lines[j], j, base_indent, f, n, r, rules);
         j += 1;
     }
     r

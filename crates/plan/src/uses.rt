@@ -9,6 +9,8 @@ use lines::shapes;
 use lines::shapes::Assigned;
 use lines::shapes::Found;
 use lines::words;
+use marks::is_quiet;
+use marks::number_of;
 ghost use mathlib.Core.Path.{_≡_};
 ghost use Prim.Native.Nat.{_<_};
 ghost use lib.Dec.{ltb, eqb};
@@ -17,6 +19,7 @@ ghost use Rattle.reference.specs.Control.{not, _&&_, _||_};
 ghost use Rattle.reference.specs.Rules.{volatile};
 ghost use Rattle.reference.specs.Join.{text-before, text-after, standalone, use-width, is-compound, replaceable};
 ghost use Rattle.joining.specs.Plan.{look, use-of};
+ghost use Rattle.lines.specs.Codes.{family-number};
 ghost use Rattle.lines.specs.Words.{tokens-of, Holds};
 ghost use Rattle.lines.specs.Lines.{indent-of, part-of, bare-in, bare-listing, Lined, Listed};
 ghost use Rattle.lines.specs.Rules.{rules-of};
@@ -122,6 +125,41 @@ fn look_at<'a>(
     }
 }
 
+// The same, where n is the number of the family: a quiet line of the same run is only asked what it leaves alone.
+fn look_by_marks<'a>(
+    tape: &'a [u8],
+    area: &'a [u8],
+    tokens: &'a [u64],
+    s: u64,
+    l: u64,
+    d: Definition,
+    n: u64,
+    rules: Rules,
+) -> Look
+    requires { ⌜ Lined (now tape) (now area) (now tokens) s × Lined (now tape) (now area) (now tokens) l × Sound (now tape) (now area) (part-of (now tokens) s) d × (n ≡ family-number (fam-text (now tape) (now area) (d .family))) ⌝ }
+    ensures { λ r. ⌜ looked r ≡ look (indent-of s) (definition-in (now (tape .entry)) (now (area .entry)) (part-of (now (tokens .entry)) s) d) (volatile (rules-of rules)) (bare-in (now (tape .entry)) (now (area .entry)) (now (tokens .entry)) l) ⌝ }
+{
+    if !is_quiet(l, n) {
+        return look_at(tape, area, tokens, s, l, d, rules);
+    }
+    if d.calls {
+        return Look::Stops;
+    }
+    if words::indent(l) != words::indent(s) {
+        return Look::Stops;
+    }
+    if leaves_inputs(
+        tape,
+        area,
+        words::line_of(tokens, s),
+        words::line_of(tokens, l),
+        d,
+    ) {
+        return Look::Passes;
+    }
+    Look::Stops
+}
+
 // The line with the single use of the definition d of line i: the next line that touches it, through lines that it may pass.
 pub fn use_of<'a>(
     tape: &'a [u8],
@@ -136,9 +174,11 @@ pub fn use_of<'a>(
     ensures { λ r. ⌜ found r ≡ use-of (bare-listing (now (tape .entry)) (now (area .entry)) (now (tokens .entry)) (now (lines .entry))) i (definition-in (now (tape .entry)) (now (area .entry)) (part-of (now (tokens .entry)) (getD (now (lines .entry)) i 0)) d) (volatile (rules-of rules)) ⌝ }
 {
     let s = lines[i];
+    let f = d.family;
+    let n = number_of(tape, area, f);
     let mut j = i + 1;
     while j < lines.len() {
-        match look_at(tape, area, tokens, s, lines[j], d, rules) {
+        match look_by_marks(tape, area, tokens, s, lines[j], d, n, rules) {
             Look::Use => {
                 return Found::At(j);
             }

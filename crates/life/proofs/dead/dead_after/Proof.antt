@@ -14,20 +14,23 @@ use Rattle.life.proofs.dead.dead_after.Statement.{statement}
 use Rattle.life.proofs.dead.dead_after.Tie as tie
 
 abbrev Inv-loop : tie.InvT-loop
-Inv-loop tape area tokens lines labels from f base-indent start rules w₀ w = dead-after (bare-listing tape area tokens lines) from (fam-text tape area f) base-indent (labels-at (bare-listing tape area tokens lines) labels) start (volatile (rules-of rules))
+Inv-loop tape area tokens lines labels from f base-indent start rules n w₀ w = dead-after (bare-listing tape area tokens lines) from (fam-text tape area f) base-indent (labels-at (bare-listing tape area tokens lines) labels) start (volatile (rules-of rules))
     ≡ dead-rest tape area tokens lines (fam-text tape area f) base-indent (labels-at (bare-listing tape area tokens lines) labels) start (volatile (rules-of rules)) w
 
 abbrev μ-loop : tie.MeasureT-loop
-μ-loop tape area tokens lines labels from f base-indent start rules w₀ w = length lines - w
+μ-loop tape area tokens lines labels from f base-indent start rules n w₀ w = length lines - w
+
+number-of-requires : tie.Need-number-of-requires Inv-loop μ-loop
+number-of-requires c κs = search needs
 
 add-w : tie.Need-add-w Inv-loop μ-loop
 add-w c = search needs
 
 loop-holds : tie.Need-loop-holds Inv-loop μ-loop
-loop-holds c = dead-begin _ _ _ (c .before .before .before .before .before .args .lines .now) _ _ _ _ _ (c .before .before .before .before .before .args .from)
+loop-holds c = let s = c .before .before .before .before .before .before in dead-begin _ _ _ (s .args .lines .now) _ _ _ _ _ (s .args .from)
 
-fate-after-requires : tie.Need-fate-after-requires Inv-loop μ-loop
-fate-after-requires c κs = (c .before .before .before .before .before .before .before .pre .0, c .before .before .before .before .before .before .before .pre .1, c .before .before .before .before .before .before .before .pre .2, search needs, c .before .before .before .before .before .before .before .pre .4)
+fate-by-marks-requires : tie.Need-fate-by-marks-requires Inv-loop μ-loop
+fate-by-marks-requires c κs = search needs
 
 enum-told : tie.Need-enum-told Inv-loop μ-loop
 enum-told c = search needs
@@ -62,9 +65,10 @@ dead-after-spec =
     (tie.spec
     Inv-loop
     μ-loop
+    number-of-requires
     add-w
     loop-holds
-    fate-after-requires
+    fate-by-marks-requires
     enum-told
     returns
     enum-told-2

@@ -11,10 +11,10 @@ use Rattle.plan.proofs.reaches.reach_of.Statement.{statement}
 use Rattle.plan.proofs.reaches.reach_of.Tie as tie
 
 abbrev Inv-loop : tie.InvT-loop
-Inv-loop tape area tokens lines i f rules base-indent r₀ j₀ r j = Reached tape area tokens lines i (fam-text tape area f) (volatile (rules-of rules)) j r
+Inv-loop tape area tokens lines i f rules base-indent n r₀ j₀ r j = Reached tape area tokens lines i (fam-text tape area f) (volatile (rules-of rules)) j r
 
 abbrev μ-loop : tie.MeasureT-loop
-μ-loop tape area tokens lines i f rules base-indent r₀ j₀ r j = length lines - j
+μ-loop tape area tokens lines i f rules base-indent n r₀ j₀ r j = length lines - j
 
 mul-indent : tie.Need-mul-indent Inv-loop μ-loop
 mul-indent c = search needs
@@ -25,6 +25,9 @@ shared-slice-read-indent c = search needs
 indent-requires : tie.Need-indent-requires Inv-loop μ-loop
 indent-requires c κs = search needs
 
+number-of-requires : tie.Need-number-of-requires Inv-loop μ-loop
+number-of-requires c κs = search needs
+
 add-j : tie.Need-add-j Inv-loop μ-loop
 add-j c = search needs
 
@@ -34,14 +37,14 @@ loop-holds c = search (needs, reached-begin)
 returns : tie.Need-returns Inv-loop μ-loop
 returns c = search (needs, reached-ended)
 
-mul-reach-at : tie.Need-mul-reach-at Inv-loop μ-loop
-mul-reach-at c = search needs
+mul-reach-by-marks : tie.Need-mul-reach-by-marks Inv-loop μ-loop
+mul-reach-by-marks c = search needs
 
-shared-slice-read-reach-at : tie.Need-shared-slice-read-reach-at Inv-loop μ-loop
-shared-slice-read-reach-at c = search needs
+shared-slice-read-reach-by-marks : tie.Need-shared-slice-read-reach-by-marks Inv-loop μ-loop
+shared-slice-read-reach-by-marks c = search needs
 
-reach-at-requires : tie.Need-reach-at-requires Inv-loop μ-loop
-reach-at-requires c κs = search (needs, reading)
+reach-by-marks-requires : tie.Need-reach-by-marks-requires Inv-loop μ-loop
+reach-by-marks-requires c κs = search (needs, reading)
 
 add-j-2 : tie.Need-add-j-2 Inv-loop μ-loop
 add-j-2 c = search needs
@@ -64,12 +67,13 @@ reach-of-spec =
     mul-indent
     shared-slice-read-indent
     indent-requires
+    number-of-requires
     add-j
     loop-holds
     returns
-    mul-reach-at
-    shared-slice-read-reach-at
-    reach-at-requires
+    mul-reach-by-marks
+    shared-slice-read-reach-by-marks
+    reach-by-marks-requires
     add-j-2
     loop-less
     loop-again

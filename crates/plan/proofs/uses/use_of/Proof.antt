@@ -14,10 +14,10 @@ use Rattle.plan.proofs.uses.use_of.Statement.{statement}
 use Rattle.plan.proofs.uses.use_of.Tie as tie
 
 abbrev Inv-loop : tie.InvT-loop
-Inv-loop tape area tokens lines i d rules s j₀ j = use-of (bare-listing tape area tokens lines) i (definition-in tape area (part-of tokens (getD lines i 0)) d) (volatile (rules-of rules)) ≡ used-from tape area tokens lines i (definition-in tape area (part-of tokens (getD lines i 0)) d) (volatile (rules-of rules)) j
+Inv-loop tape area tokens lines i d rules s n j₀ j = use-of (bare-listing tape area tokens lines) i (definition-in tape area (part-of tokens (getD lines i 0)) d) (volatile (rules-of rules)) ≡ used-from tape area tokens lines i (definition-in tape area (part-of tokens (getD lines i 0)) d) (volatile (rules-of rules)) j
 
 abbrev μ-loop : tie.MeasureT-loop
-μ-loop tape area tokens lines i d rules s j₀ j = length lines - j
+μ-loop tape area tokens lines i d rules s n j₀ j = length lines - j
 
 mul-s : tie.Need-mul-s Inv-loop μ-loop
 mul-s c = search needs
@@ -25,20 +25,23 @@ mul-s c = search needs
 shared-slice-read-s : tie.Need-shared-slice-read-s Inv-loop μ-loop
 shared-slice-read-s c = search needs
 
+number-of-requires : tie.Need-number-of-requires Inv-loop μ-loop
+number-of-requires c κs = search needs
+
 add-j : tie.Need-add-j Inv-loop μ-loop
 add-j c = search needs
 
 loop-holds : tie.Need-loop-holds Inv-loop μ-loop
 loop-holds c = search (needs, seeking)
 
-mul-look-at : tie.Need-mul-look-at Inv-loop μ-loop
-mul-look-at c = search needs
+mul-look-by-marks : tie.Need-mul-look-by-marks Inv-loop μ-loop
+mul-look-by-marks c = search needs
 
-shared-slice-read-look-at : tie.Need-shared-slice-read-look-at Inv-loop μ-loop
-shared-slice-read-look-at c = search needs
+shared-slice-read-look-by-marks : tie.Need-shared-slice-read-look-by-marks Inv-loop μ-loop
+shared-slice-read-look-by-marks c = search needs
 
-look-at-requires : tie.Need-look-at-requires Inv-loop μ-loop
-look-at-requires c κs = search (needs, reading)
+look-by-marks-requires : tie.Need-look-by-marks-requires Inv-loop μ-loop
+look-by-marks-requires c κs = search (needs, reading)
 
 enum-told : tie.Need-enum-told Inv-loop μ-loop
 enum-told c = search needs
@@ -75,11 +78,12 @@ use-of-spec =
     μ-loop
     mul-s
     shared-slice-read-s
+    number-of-requires
     add-j
     loop-holds
-    mul-look-at
-    shared-slice-read-look-at
-    look-at-requires
+    mul-look-by-marks
+    shared-slice-read-look-by-marks
+    look-by-marks-requires
     enum-told
     returns
     enum-told-2
