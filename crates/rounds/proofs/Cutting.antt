@@ -37,7 +37,7 @@ use Rattle.lines.specs.declared.shapes.Found.{Found}
 use Rattle.lines.specs.declared.shapes.Found.the-variants.{At, Nothing}
 use Rattle.lines.proofs.words.Each.{map-drop, map-set}
 use Rattle.lines.proofs.words.Tokens.{holds-drop}
-use Rattle.lines.proofs.words.Lines.{count-below, with-first, with-count, with-means, bare-at, bare-means, listed-set}
+use Rattle.lines.proofs.words.Lines.{count-below, with-first, with-count, with-unmarked, with-means, no-marks, bare-at, bare-means, listed-set}
 use Rattle.lines.proofs.shapes.Places.{found-is, found-not, find-at, get-at}
 use Rattle.life.specs.Labels.{Gathered}
 use Rattle.rounds.specs.Cuts.{keeps-result, Cuttable, labels-now, dead-at, Dropped, Cut}
@@ -141,7 +141,11 @@ module _ (tape area : Text) (tokens : List ℕ) (l : ℕ) (h : Lined tape area t
   cut-lined =
       let first = with-first l (first-of l + 2) (count-of l - 2) low (cut-fewer l) in
       let count = with-count l (first-of l + 2) (count-of l - 2) low (cut-fewer l) in
-      record { inside = rw (first, count) (omega (arith, h .inside)); holds = rw (first, count, part) (holds-drop (h .holds) 2) }
+      record {
+        inside = rw (first, count) (omega (arith, h .inside));
+        holds = rw (first, count, part) (holds-drop (h .holds) 2);
+        marks = no-marks _ (with-unmarked l (first-of l + 2) (count-of l - 2) low (cut-fewer l));
+      }
 
   cut-means : (addresses : List ℕ)
       → line-in tape area tokens addresses (cut-word l)

@@ -12,6 +12,11 @@ use Rattle.build.specs.declared.used.Size.{Size}
 use Rattle.join.specs.Current.{listing-now, bare-now, Current, Lent}
 use Rattle.rounds.specs.declared.run.Outcome.{Outcome}
 
+-- other line words of the same listing, whatever the addresses are
+pub record SameListing (tape area : Text) (tokens lines : List ℕ) (at : Size) (lines′ : List ℕ) : Type 0 where
+  pub current : Current tape area tokens lines′ at
+  pub means : (addresses : List ℕ) → listing-now tape area tokens lines′ at addresses ≡ listing-now tape area tokens lines at addresses
+
 -- a listing within the limits, and tables large enough for its rounds; the table of token words is no larger than a line word can name
 pub record Runnable (tape area : Text) (tokens lines : List ℕ) (area2 : Text) (tokens2 labels : List ℕ) (slots : Text) (slot-words : List ℕ) (at : Size) : Type 0 where
   pub current : Current tape area tokens lines at

@@ -1,12 +1,15 @@
-// The whole run: `optimize` of the Rust, at most three rounds, ending after one that changed nothing, then the cuts.
+// The whole run: `optimize` of the Rust, at most three rounds, ending after one that changed nothing, then the cuts. Before the rounds each line is given
+// its marks, which are no part of the listing.
 use crate::cuts::drop_dead_results;
 use crate::rounds::Round;
 use crate::rounds::propagate_once;
 use build::used::Size;
 use lines::rules::Rules;
+use marks::mark_lines;
 ghost use Rattle.lines.specs.Rules.{rules-of};
+ghost use Rattle.join.specs.Current.{Current};
 ghost use Rattle.rounds.specs.Rounds.{Made, round-after};
-ghost use Rattle.rounds.specs.Runs.{Runnable, Rounded, Ran};
+ghost use Rattle.rounds.specs.Runs.{SameListing, Runnable, Rounded, Ran};
 
 // What a run left: the attempts of each round, the lines removed, the results cut, and the listing's size.
 pub struct Outcome {
@@ -126,7 +129,18 @@ fn three_rounds(
     }
 }
 
-// The rounds, then the cuts.
+// Gives each line of the listing its marks.
+fn mark<'a>(tape: &'a [u8], area: &'a [u8], tokens: &'a [u64], lines: &mut [u64], size: Size)
+    requires { ⌜ Current (now tape) (now area) (now tokens) (now lines) size ⌝ }
+    ensures { λ r. ⌜ SameListing (now (tape .entry)) (now (area .entry)) (now (tokens .entry)) (now (lines .entry)) size (now (lines .exit)) ⌝ }
+{
+    let n = size.lines;
+    let used = size.tokens;
+    let text = size.text;
+    mark_lines(tape, &area[..text], &tokens[..used], &mut lines[..n]);
+}
+
+// The marks, the rounds, then the cuts.
 pub fn optimize(
     tape: &[u8],
     area: &mut [u8],
@@ -143,6 +157,7 @@ pub fn optimize(
     requires { ⌜ Runnable (now tape) (now area) (now tokens) (now lines) (now area2) (now tokens2) (now labels) (now slots) (now «slot_words») size ⌝ }
     ensures { λ r. ⌜ Ran (rules-of rules) (now (tape .entry)) (now (area .entry)) (now (tokens .entry)) (now (lines .entry)) size (now (area .exit)) (now (tokens .exit)) (now (lines .exit)) r ⌝ }
 {
+    mark(tape, area, tokens, lines, size);
     let r = three_rounds(
         tape,
         area,

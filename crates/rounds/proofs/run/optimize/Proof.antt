@@ -1,15 +1,19 @@
 -- `rounds::run::optimize` meets its contract. Assumes nothing.
 use native.Mathlib.Omega.{arith}
-use mathlib.Core.Path.{sym}
-use lib.Seq.{length-take-le}
+use mathlib.Core.Path.{sym, _∙_}
+use lib.Seq.{length-take-le, length-front}
 use borrow.Author.Needs.{needs}
 use Rattle.rounds.proofs.Turning.{now-few}
 use Rattle.rounds.proofs.Running.{run-made}
+use Rattle.rounds.proofs.Marking.{runnable-same, rounded-same}
 use Rattle.rounds.proofs.run.optimize.Statement.{statement}
 use Rattle.rounds.proofs.run.optimize.Tie as tie
 
+mark-requires : tie.Need-mark-requires
+mark-requires c κs = search needs
+
 three-rounds-requires : tie.Need-three-rounds-requires
-three-rounds-requires c κs = search needs
+three-rounds-requires c κs = runnable-same (c .before .before .before .before .before .before .before .before .before .before .mark .ensures) (c .before .before .before .before .before .before .before .before .before .before .before .before .before .before .before .before .before .before .before .before .before .before .before .pre)
 
 slice-reshare-prefix-drop-dead-results : tie.Need-slice-reshare-prefix-drop-dead-results
 slice-reshare-prefix-drop-dead-results c = search needs
@@ -31,7 +35,7 @@ slice-aggregate-drop-dead-results-3 c = sym (length-take-le _ _ (c .before .befo
 
 drop-dead-results-requires : tie.Need-drop-dead-results-requires
 drop-dead-results-requires c κs =
-    let p = c .before .before .before .before .before .before .before .before .before .before .before .before .before .before .before .before .before .before .before .before .before .before .before .before .before .before .before .before .before .before .before .before .before .before .before .before .before .before .before .pre in
+    let p = c .before .before .before .before .before .before .before .before .before .before .before .before .before .before .before .before .before .before .before .before .before .before .before .before .before .before .before .before .before .before .before .before .before .before .before .before .before .before .before .before .before .before .before .before .before .pre in
     let t = c .before .before .before .before .before .before .before .before .before .before .before .before .before .before .before .before .before .before .before .before .before .three-rounds in
     let now = t .ensures .current in
     let words = length-take-le (t .result .size .tokens) (t .last .1 .1 .0) (now .words-fit) in
@@ -48,7 +52,10 @@ same-length-2 : tie.Need-same-length-2
 same-length-2 c = search needs
 
 same-length-3 : tie.Need-same-length-3
-same-length-3 c = search needs
+same-length-3 c =
+    let t = c .before .before .before .before .before .before .before .before .before .before .before .before .before .before .before .before .before .before .before .before .before .before .before .before .before .before .three-rounds in
+    let d = c .before .before .before .before .drop-dead-results in
+    length-front (t .last .1 .1 .1 .0) (d .last .1 .1 .1 .0) (t .result .size .lines) (d .kept .1 .1 .1 .0) ∙ t .kept .1 .1 .1 .0 ∙ c .before .before .before .before .before .before .before .before .before .before .before .before .before .before .before .before .before .before .before .before .before .before .before .before .before .before .before .before .before .before .before .before .before .before .before .before .before .mark .kept .1 .1 .1 .0
 
 same-length-4 : tie.Need-same-length-4
 same-length-4 c = search needs
@@ -66,12 +73,13 @@ same-length-8 : tie.Need-same-length-8
 same-length-8 c = search needs
 
 returns : tie.Need-returns
-returns c = run-made _ (c .before .before .before .before .before .before .before .before .before .before .before .before .before .before .before .before .before .before .before .before .before .before .before .before .before .before .three-rounds .ensures) (c .before .before .before .before .drop-dead-results .ensures) (c .before .before .before .before .drop-dead-results .kept .1 .1 .1 .0)
+returns c = run-made _ (rounded-same (c .before .before .before .before .before .before .before .before .before .before .before .before .before .before .before .before .before .before .before .before .before .before .before .before .before .before .before .before .before .before .before .before .before .before .before .before .before .mark .ensures) (c .before .before .before .before .before .before .before .before .before .before .before .before .before .before .before .before .before .before .before .before .before .before .before .before .before .before .three-rounds .ensures)) (c .before .before .before .before .drop-dead-results .ensures) (c .before .before .before .before .drop-dead-results .kept .1 .1 .1 .0)
 
 pub optimize-spec : {M : Type 1} → statement M
 optimize-spec =
     tie.close
     (tie.spec
+    mark-requires
     three-rounds-requires
     slice-reshare-prefix-drop-dead-results
     slice-aggregate-drop-dead-results

@@ -1,0 +1,80 @@
+-- The lines with their marks: the listing is the same, and so is the run that is made of it. Assumes nothing.
+use Prim.Native.Nat.{ℕ, _<_}
+use native.Mathlib.Omega.{arith}
+use mathlib.Core.Path.{_≡_, sym, ap, _∙_}
+use mathlib.Core.List.{List, [], _++_, map}
+use lib.ListN.{length, take, drop, length-map}
+use lib.Seq.{ext-getD, take-at, length-take-le, length-front}
+use Rattle.reference.specs.Text.{Text}
+use Rattle.reference.specs.Rules.{Rules}
+use Rattle.joining.specs.Bare.{bare-lines}
+use Rattle.lines.specs.Lines.{line-in, listing-of}
+use Rattle.lines.proofs.words.Each.{map-at}
+use Rattle.marks.specs.Marking.{Remarked}
+use Rattle.marks.proofs.Making.{remarked-lined}
+use Rattle.build.specs.declared.used.Size.{Size}
+use Rattle.build.specs.State.{used}
+use Rattle.build.specs.Added.{used-words}
+use Rattle.join.specs.Current.{used-lines, bare-now, Current}
+use Rattle.rounds.specs.declared.run.Outcome.{Outcome}
+use Rattle.rounds.specs.Runs.{SameListing, Runnable, Rounded}
+use Rattle.rounds.proofs.Turning.{bare-is}
+
+-- ---- marked lines mean what they meant
+
+module _ {tape area : Text} {tokens lines after : List ℕ} (r : Remarked tape area tokens lines after) where
+  remarked-means : (addresses : List ℕ) → listing-of tape area tokens addresses after ≡ listing-of tape area tokens addresses lines
+  remarked-means addresses =
+      let f = line-in tape area tokens addresses in
+      ext-getD (f 0) (map f after) (map f lines) (length-map after f ∙ r .long ∙ sym (length-map lines f))
+      (λ k h.
+      let b : k < length after = rw length-map at h in
+      let b′ : k < length lines = omega (arith, r .long) in
+      map-at f after k (f 0) b ∙ r .at k b′ .means addresses ∙ sym (map-at f lines k (f 0) b′))
+
+-- the lines in use were marked, and stand before the others
+module _ {tape area : Text} {tokens lines : List ℕ} {at : Size} (c : Current tape area tokens lines at) {after : List ℕ}
+    (r : Remarked tape (used area at) (used-words tokens at) (used-lines lines at) after) where
+  front : take (at .lines) (after ++ drop (at .lines) lines) ≡ after
+  front = take-at after _ (at .lines) (r .long ∙ length-take-le (at .lines) lines (c .lines-fit))
+
+  pub same-marked : SameListing tape area tokens lines at (after ++ drop (at .lines) lines)
+  same-marked = record {
+    current = record {
+      text-fits = c .text-fits;
+      words-fit = c .words-fit;
+      lines-fit = rw (length-front lines after (at .lines) (r .long)) (c .lines-fit);
+      listed = rw front (record { at = remarked-lined r });
+    };
+    means = λ addresses. rw front (remarked-means r addresses);
+  }
+
+-- ---- a run of the same listing
+
+module _ {tape area : Text} {tokens lines : List ℕ} {at : Size} {lines′ : List ℕ} (s : SameListing tape area tokens lines at lines′) where
+  bare-same : bare-now tape area tokens lines′ at ≡ bare-now tape area tokens lines at
+  bare-same = bare-is tape area tokens lines′ at [] ∙ ap bare-lines (s .means []) ∙ sym (bare-is tape area tokens lines at [])
+
+  pub runnable-same : {area2 : Text} {tokens2 labels : List ℕ} {slots : Text} {slot-words : List ℕ}
+      → Runnable tape area tokens lines area2 tokens2 labels slots slot-words at → Runnable tape area tokens lines′ area2 tokens2 labels slots slot-words at
+  runnable-same b = record {
+    current = s .current;
+    limits = rw bare-same (b .limits);
+    lent = b .lent;
+    for-labels = b .for-labels;
+    for-slots = b .for-slots;
+    for-slot-words = b .for-slot-words;
+    words-short = b .words-short;
+  }
+
+  pub rounded-same : {rules : Rules} {area″ : Text} {tokens″ lines″ : List ℕ} {r : Outcome}
+      → Rounded rules tape area tokens lines′ at area″ tokens″ lines″ r → Rounded rules tape area tokens lines at area″ tokens″ lines″ r
+  rounded-same m = record {
+    current = m .current;
+    limits = m .limits;
+    left = λ addresses. rw (s .means addresses) at (m .left addresses);
+    first-is = λ addresses. rw (s .means addresses) at (m .first-is addresses);
+    second-is = λ addresses. rw (s .means addresses) at (m .second-is addresses);
+    third-is = λ addresses. rw (s .means addresses) at (m .third-is addresses);
+    removed-is = λ addresses. rw (s .means addresses) at (m .removed-is addresses);
+  }
