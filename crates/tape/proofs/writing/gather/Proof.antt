@@ -51,7 +51,7 @@ use denote.Triple.Clauses.{ensured, lasts}
 use Rattle.tape.specs.Records.{record-of, records-of}
 use Rattle.tape.specs.declared.records.LineRecord.{LineRecord}
 use Rattle.tape.proofs.records.Again.{LentAgain, lends-again-at, comes-back-at}
-use Rattle.tape.proofs.records.Shared.{after}
+use Rattle.tape.proofs.records.Shared.{after, StoreLine, to-store, goes-store}
 use Rattle.tape.proofs.writing.Gathering.{gathered, gathered-length, gathered-more}
 use Rattle.tape.proofs.records.LineRecord as T
 use Rattle.tape.proofs.records.LineRecord.Laws as T′
@@ -83,9 +83,6 @@ rest = pieces.t-4
 module _ {M : Type 1} (𝓤 : URA M) (H : Heap 𝓤) (A : Atoms 𝓤) (mem : Memory → SProp 𝓤) (run : Routine → Fun 𝓤) where
   abbrev RecordOf : Contract 𝓤
   RecordOf = tripleOf 𝓤 H A made.signature (made.spec 𝓤 H A mem run)
-
-  abbrev StoreLine : Contract 𝓤
-  StoreLine = tripleOf 𝓤 H A store-line.signature (store-line.spec 𝓤 H A mem run)
 
   made-said : (κ : Lft) (p d : RefT (List ℕ)) (i : ℕ) (r : LineRecord) → ent 𝓤 (ensured 𝓤 H A made.ended (made.clauses 𝓤 H A mem run) (κ, tt) (p, (d, (i, tt))) tt r) (fact 𝓤 (r ≡ record-of (now d) (getD (now p) i 0)))
   made-said κ p d i r = exE 𝓤 _ (λ ws. snd∗ 𝓤 (sem 𝓤 H A (lasts made.ended (κ, tt) (p, (d, (i, tt))) ws)) (fact 𝓤 (r ≡ record-of (now d) (getD (now p) i 0))))
@@ -147,15 +144,6 @@ module _ {M : Type 1} (𝓤 : URA M) (H : Heap 𝓤) (A : Atoms 𝓤) (W : Given
   goes-made k fits low =
       qed W (‵ (flft κ q) ∷ ‵ (Own p) ∷ ‵ (Own d) ∷ []) ∵ says ! (low, pre .1) $ nothing ! $ move ! (1 ∷ 0 ∷ []) $ join ! $ frame ! $
       nothing ! $ owned ! usize (Is usize) (uint-makes 𝓤 H A W w64) k _ (refl, fits) $ fjoin ! $ move ! (2 ∷ 0 ∷ []) $ fjoin ! $ move ! (1 ∷ 0 ∷ []) $ fjoin ! $ done !
-
-  abbrev to-store : ℕ → GName → List LineRecord → ℕ → LineRecord → Val → StoreLine 𝓤 H A mem run .Ghost
-  to-store ν δ l k r u = (((ν ∷ [], tt), (fullShare, tt), tt, (x δ l, (k, (r, tt))), (s ∷ [], (vint w64 k ∷ [], (u ∷ [], tt)))), tt)
-
-  goes-store : (ν : ℕ) (δ : GName) (l : List LineRecord) (k : ℕ) (r : LineRecord) (u : Val) → k < 2 ^ 64 → k < length l
-      → ent 𝓤 (sep 𝓤 (A .lft (ν ∷ []) fullShare) (sep 𝓤 (sem 𝓤 H A (MutSlice (named 0) (ν ∷ []) T.the-row .own (x δ l) (s ∷ []))) (sem 𝓤 H A (T.the-row .own r (u ∷ []))))) (StoreLine 𝓤 H A mem run .pre (to-store ν δ l k r u))
-  goes-store ν δ l k r u fits in-l =
-      qed W (‵ (flft (ν ∷ []) fullShare) ∷ ‵ (MutSlice (named 0) (ν ∷ []) T.the-row .own (x δ l) (s ∷ [])) ∷ ‵ (T.the-row .own r (u ∷ [])) ∷ []) ∵ says ! in-l $ nothing ! $ move ! (1 ∷ 0 ∷ []) $ join ! $ frame ! $
-      nothing ! $ move ! (2 ∷ 0 ∷ []) $ fjoin ! $ owned ! usize (Is usize) (uint-makes 𝓤 H A W w64) k _ (refl, fits) $ fjoin ! $ move ! (1 ∷ 0 ∷ []) $ fjoin ! $ done !
 
   -- ---- the loop
   abbrev Upto : Type 0
@@ -226,9 +214,9 @@ module _ {M : Type 1} (𝓤 : URA M) (H : Heap 𝓤) (A : Atoms 𝓤) (W : Given
         lft-new ! tt (λ ν. move ! (5 ∷ 6 ∷ []) $
         use2 W (later (some (λ (δ : GName). ‵ (MutSlice (named 0) (ν ∷ []) T.the-row .own (x δ (rows (i .0))) (s ∷ [])) ⊛ ‵ (LentAgain T.the-row κ₁ (ν ∷ []) q₁ γ b o δ (rows (i .0))))))
         (lends-again-at T.the-row κ₁ (ν ∷ []) q₁ γ b o 𝓤 H A W (named 1) (named 0) (rows (i .0)) (length ys) (long i)) $ await ! tt $ pick ! (λ δ. split ! $
-        move ! (2 ∷ 0 ∷ 3 ∷ []) $ use3 W (raw (StoreLine 𝓤 H A mem run .pre (to-store ν δ (rows (i .0)) (i .0) r u))) (goes-store ν δ (rows (i .0)) (i .0) r u (fits i) (inside less)) $
+        move ! (2 ∷ 0 ∷ 3 ∷ []) $ use3 W (raw (StoreLine 𝓤 H A mem run .pre (to-store 𝓤 H A mem run (ν ∷ []) fullShare (x δ (rows (i .0))) s (i .0) r u))) (goes-store 𝓤 H A mem run (ν ∷ []) fullShare (x δ (rows (i .0))) s (i .0) W (named 0) (fits i) (inside less) r u) $
         -- [what `store_line` asks; the lender's part; the words' token; the addresses; the words; _10; …]
-        calls-at ! (fmOf 𝓤 H (W .laws) 𝓣) (StoreLine 𝓤 H A mem run) known-store (to-store ν δ (rows (i .0)) (i .0) r u) (and-then ! (load ! (from ! (stop !)) (look ! 5 refl)) (and-then ! (load ! (from ! (stop !)) (look ! 15 refl)) (and-then ! (load ! (from ! (stop !)) (look ! 13 refl)) (no-more !)))) (λ w₀.
+        calls-at ! (fmOf 𝓤 H (W .laws) 𝓣) (StoreLine 𝓤 H A mem run) known-store (to-store 𝓤 H A mem run (ν ∷ []) fullShare (x δ (rows (i .0))) s (i .0) r u) (and-then ! (load ! (from ! (stop !)) (look ! 5 refl)) (and-then ! (load ! (from ! (stop !)) (look ! 15 refl)) (and-then ! (load ! (from ! (stop !)) (look ! 13 refl)) (no-more !)))) (λ w₀.
         use1 W (later (some (λ (r₀ : Unit {0}). ((‵ (flft (ν ∷ []) fullShare) ⊛ ‵ ftrue) ⊛ ‵ (unit .own r₀ (w₀ ∷ []))) ⊛ raw (ensured 𝓤 H A store-line.ended (store-line.clauses 𝓤 H A mem run) (ν ∷ [], tt) (x δ (rows (i .0)), (i .0, (r, tt))) tt r₀)))) (id⊢ 𝓤 _) $ await ! tt $ pick ! (λ r₀.
         split ! $ move ! (1 ∷ []) $ use1 W (some (λ (ls : List LineRecord × (Unit {0} × (Unit {0} × Unit {0}))). ‵ (lasts store-line.ended (ν ∷ [], tt) (x δ (rows (i .0)), (i .0, (r, tt))) ls) ⊛ raw (fact 𝓤 (ls .0 ≡ set (rows (i .0)) (i .0) r)))) (id⊢ 𝓤 _) $ pick ! (λ ls.
         split ! $ move ! (1 ∷ []) $ heard ! (ls .0 ≡ set (rows (i .0)) (i .0) r) (λ e₂. fsplit ! $ fsplit ! $ move ! (1 ∷ []) $ feqL ! (λ len.
