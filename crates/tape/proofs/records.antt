@@ -1,2 +1,3 @@
 pub mod Frame
 pub mod Again
+pub mod Shared

@@ -1,10 +1,16 @@
--- The records of lines: what a command makes of them, and what the tables of words have of them. Assumes nothing.
-use Prim.Native.Nat.{ℕ, _+_, _-_, _≤_, _<_}
+-- The records of lines: the line that one means, what a command makes of them, and what the tables of words have of them. Assumes nothing.
+use Prim.Native.Nat.{ℕ, _+_, _≤_, _<_}
 use mathlib.Core.Path.{_≡_}
-use mathlib.Core.Bool.{Bool, true, not}
-use mathlib.Core.List.{List}
-use lib.ListN.{length, getD}
-use Rattle.lines.specs.Lines.{line-word}
+use mathlib.Core.Bool.{true, not}
+use mathlib.Core.List.{List, map}
+use mathlib.Core.Option.{Option, none, some}
+use lib.Dec.{eqb}
+use lib.ListN.{length, take, drop, getD}
+use Rattle.reference.specs.Control.{if_then_else_}
+use Rattle.reference.specs.Text.{Text}
+use Rattle.reference.specs.Listing.{Line}
+use Rattle.lines.specs.Words.{tokens-of, Holds}
+use Rattle.lines.specs.Lines.{first-of, count-of, indent-of, addressed-of, origin-of, line-word}
 use Rattle.tape.specs.Commands.{size-of, ends, found-in, standing, Stood}
 use Rattle.tape.specs.Questions.{totals-of, counted, Counts}
 use Rattle.tape.specs.Tables.{tokens-after, Loaded}
@@ -18,6 +24,32 @@ use Rattle.tape.specs.declared.loading.Laid.{Laid}
 
 abbrev pub blank : LineRecord
 blank = record { address = 0; addressed = 0; indent = 0; first = 0; count = 0 }
+
+-- ---- a record and the line that it means
+
+unfoldable pub address-of : LineRecord → Option ℕ
+address-of r = if eqb (r .addressed) 1 then some (r .address) else none
+
+-- the token words of its line
+abbrev pub part-at : List ℕ → LineRecord → List ℕ
+part-at tokens r = take (r .count) (drop (r .first) tokens)
+
+abbrev pub line-of : Text → Text → List ℕ → LineRecord → Line
+line-of tape area tokens r = record { address = address-of r; indent = r .indent; tokens = tokens-of tape area (part-at tokens r) }
+
+-- the line is a part of the tokens, each of its words points into its text, and its indent is a byte
+pub record Sound (tape area : Text) (tokens : List ℕ) (r : LineRecord) : Type 0 where
+  pub inside : r .first + r .count ≤ length tokens
+  pub holds : Holds tape area (part-at tokens r)
+  pub low : r .indent < 256
+
+-- the record of a line word; `addresses` has the addresses by the number of the input line
+abbrev pub record-of : List ℕ → ℕ → LineRecord
+record-of addresses l =
+    record { address = getD addresses (origin-of l) 0; addressed = addressed-of l; indent = indent-of l; first = first-of l; count = count-of l }
+
+abbrev pub records-of : List ℕ → List ℕ → List LineRecord
+records-of addresses lines = map (record-of addresses) lines
 
 -- ---- a record and the tables of words
 

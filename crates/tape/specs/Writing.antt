@@ -1,11 +1,13 @@
--- Bytes put into a list from a place on. Assumes nothing.
-use Prim.Native.Nat.{ℕ, _+_}
+-- Bytes put into a list from a place on, and the bytes of lines. Assumes nothing.
+use Prim.Native.Nat.{ℕ, _+_, _≤_, _<_}
 use mathlib.Core.Path.{_≡_}
-use mathlib.Core.List.{List, _++_, flatMap}
-use lib.ListN.{length, take, drop}
-use Rattle.reference.specs.Listing.{Token}
-use Rattle.reference.specs.Tape.{new-line, new-token, write-command}
-use Rattle.lines.specs.Lines.{indent-of, address-in}
+use mathlib.Core.List.{List, _++_, map, flatMap}
+use lib.ListN.{length, take, drop, getD}
+use Rattle.reference.specs.Text.{Text}
+use Rattle.reference.specs.Listing.{Token, Listing}
+use Rattle.reference.specs.Tape.{new-line, new-token, write-command, write-line}
+use Rattle.tape.specs.Records.{blank, address-of, line-of, Sound}
+use Rattle.tape.specs.declared.records.LineRecord.{LineRecord}
 
 -- `bytes` in the place of what stood there
 unfoldable pub put : List ℕ → ℕ → List ℕ → List ℕ
@@ -19,12 +21,25 @@ pub record Puts (out : List ℕ) (at : ℕ) (bytes after : List ℕ) (next : ℕ
 abbrev pub token-bytes : Token → List ℕ
 token-bytes t = write-command (new-token t)
 
--- a line word's own command
-abbrev pub line-bytes : List ℕ → ℕ → List ℕ
-line-bytes addresses l = write-command (new-line (address-in addresses l) (indent-of l))
+-- a line's own command
+abbrev pub line-bytes : LineRecord → List ℕ
+line-bytes r = write-command (new-line (address-of r) (r .indent))
 
 abbrev pub tokens-bytes : List Token → List ℕ
 tokens-bytes ts = flatMap token-bytes ts
+
+abbrev pub lines-bytes : Listing → List ℕ
+lines-bytes ls = flatMap write-line ls
+
+-- the lines of the first n records
+abbrev pub recorded : Text → Text → List ℕ → List LineRecord → ℕ → Listing
+recorded tape area tokens records n = map (line-of tape area tokens) (take n records)
+
+-- they can be written from `at` on
+pub record Writes (tape area : Text) (tokens : List ℕ) (records : List LineRecord) (n : ℕ) (out : List ℕ) (at : ℕ) : Type 0 where
+  pub few : n ≤ length records
+  pub sound : (k : ℕ) → k < n → Sound tape area tokens (getD records k blank)
+  pub room : at + length (lines-bytes (recorded tape area tokens records n)) ≤ length out
 
 -- the front of `out` is the tape, the rest is as before, and the answer is the tape's length
 pub record Wrote (tape out after : List ℕ) (r : ℕ) : Type 0 where

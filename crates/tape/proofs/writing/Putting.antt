@@ -5,17 +5,19 @@ use native.Mathlib.Omega.{arith}
 use native.Mathlib.Numerals.{add-one}
 use mathlib.Core.Path.{_≡_, refl, sym, ap, _∙_}
 use mathlib.Core.Option.{none, some}
-use mathlib.Core.List.{List, [], _∷_, _++_, map, flatMap, append-assoc, append-nil}
+use mathlib.Core.List.{List, [], _∷_, _++_, map, flatMap, map-append, append-assoc, append-nil}
 use lib.ListN.{length, take, drop, set, getD, length-append, length-drop, length-set, take-append-drop, drop-of-length-le}
 use lib.Seq.{length-take-le, take-length, take-at, drop-at, drop-drop, drop-cons, set-split, append-snoc, paste}
 use borrow.Author.Tests.{eq-eqb, ne-eqb}
 use Rattle.reference.specs.Listing.{token, Listing}
 use Rattle.reference.specs.Tape.{to-le-bytes, new-line, write-command, write-line, write-lines, write}
 use Rattle.reference.proofs.LittleEndian.{to-length}
+use Rattle.reference.proofs.Writing.{flat-append}
 use Rattle.laws.proofs.Scans.{if-true, if-false}
 use Rattle.lines.specs.Words.{tokens-of}
-use Rattle.lines.specs.Lines.{indent-of, addressed-of, origin-of, part-of, address-in, line-in}
+use Rattle.tape.specs.Records.{address-of, part-at, line-of}
 use Rattle.tape.specs.Writing.{put, Puts, token-bytes, line-bytes, tokens-bytes, Wrote}
+use Rattle.tape.specs.declared.records.LineRecord.{LineRecord}
 
 module _ (out : List ℕ) where
   pub put-front : (bytes : List ℕ) → put out 0 bytes ≡ bytes ++ drop (length bytes) out
@@ -140,24 +142,23 @@ write-split listing = refl
 pub write-room : (listing : Listing) {n : ℕ} → length (write listing) ≤ n → length (flatMap write-line listing) + 1 ≤ n
 write-room listing h = omega (arith, ap length (write-split listing), length-append (flatMap write-line listing) (0xFF ∷ []))
 
-module _ (tape area tokens addresses : List ℕ) (l : ℕ) where
-  pub line-split : write-line (line-in tape area tokens addresses l) ≡ line-bytes addresses l ++ tokens-bytes (tokens-of tape area (part-of tokens l))
+module _ (tape area tokens : List ℕ) (r : LineRecord) where
+  pub line-split : write-line (line-of tape area tokens r) ≡ line-bytes r ++ tokens-bytes (tokens-of tape area (part-at tokens r))
   unfolding write-line
   line-split = refl
 
-  pub line-room : (at : ℕ) {n : ℕ} → at + length (write-line (line-in tape area tokens addresses l)) ≤ n
-      → at + length (line-bytes addresses l) + length (tokens-bytes (tokens-of tape area (part-of tokens l))) ≤ n
+  pub line-room : (at : ℕ) {n : ℕ} → at + length (write-line (line-of tape area tokens r)) ≤ n
+      → at + length (line-bytes r) + length (tokens-bytes (tokens-of tape area (part-at tokens r))) ≤ n
   line-room at h =
-      omega (arith, ap length line-split, length-append (line-bytes addresses l) (tokens-bytes (tokens-of tape area (part-of tokens l))))
+      omega (arith, ap length line-split, length-append (line-bytes r) (tokens-bytes (tokens-of tape area (part-at tokens r))))
 
-pub addressed-bytes : (addresses : List ℕ) (l : ℕ) → addressed-of l ≡ 1
-    → line-bytes addresses l ≡ write-command (new-line (some (getD addresses (origin-of l) 0)) (indent-of l))
-unfolding address-in
-addressed-bytes addresses l e = rw (if-true (some (getD addresses (origin-of l) 0)) none (eq-eqb (addressed-of l) 1 e))
+pub addressed-bytes : (r : LineRecord) → r .addressed ≡ 1 → line-bytes r ≡ write-command (new-line (some (r .address)) (r .indent))
+unfolding address-of
+addressed-bytes r e = rw (if-true (some (r .address)) none (eq-eqb (r .addressed) 1 e))
 
-pub plain-bytes : (addresses : List ℕ) (l : ℕ) → (addressed-of l ≡ 1 → ⊥) → line-bytes addresses l ≡ write-command (new-line none (indent-of l))
-unfolding address-in
-plain-bytes addresses l e = rw (if-false (some (getD addresses (origin-of l) 0)) none (ne-eqb (addressed-of l) 1 e))
+pub plain-bytes : (r : LineRecord) → (r .addressed ≡ 1 → ⊥) → line-bytes r ≡ write-command (new-line none (r .indent))
+unfolding address-of
+plain-bytes r e = rw (if-false (some (r .address)) none (ne-eqb (r .addressed) 1 e))
 
 pub addressed-size : (address indent : ℕ) → length (write-command (new-line (some address) indent)) ≡ 10
 unfolding write-command
@@ -171,11 +172,15 @@ pub token-size : (kind : ℕ) (text : List ℕ) → length (token-bytes (token k
 unfolding write-command
 token-size kind text = omega (arith, length-append (to-le-bytes 2 (length text)) text, to-length 2 (length text))
 
--- ---- a loop that writes g of what f says each word means: what is still to be written, put where the loop stands, makes the whole
+-- ---- a loop that writes g of what f says each element means: what is still to be written, put where the loop stands, makes the whole
 
-module _ {A : Type 0} (f : ℕ → A) (g : A → List ℕ) (ws : List ℕ) where
+module _ {B A : Type 0} (f : B → A) (g : A → List ℕ) (ws : List B) where
   abbrev pub rest : ℕ → List ℕ
   rest k = flatMap g (map f (drop k ws))
+
+  -- the next n
+  abbrev pub next : ℕ → ℕ → List ℕ
+  next k n = flatMap g (map f (take n (drop k ws)))
 
   pub record Written (out₀ : List ℕ) (at₀ : ℕ) (out : List ℕ) (at k : ℕ) : Type 0 where
     pub place : at + length (rest k) ≡ at₀ + length (rest 0)
@@ -185,32 +190,45 @@ module _ {A : Type 0} (f : ℕ → A) (g : A → List ℕ) (ws : List ℕ) where
   pub written-begin : (out₀ : List ℕ) (at₀ : ℕ) → Written out₀ at₀ out₀ at₀ 0
   written-begin out₀ at₀ = record { place = refl; whole = refl; long = refl }
 
-  rest-at : (k : ℕ) → k < length ws → rest k ≡ g (f (getD ws k 0)) ++ rest (k + 1)
-  unfolding flatMap
-  rest-at k h = rw (add-one, drop-cons ws k 0)
+  rest-next : (k n : ℕ) → rest k ≡ next k n ++ rest (k + n)
+  rest-next k n =
+      ap (λ (l : List B). flatMap g (map f l)) (sym (take-append-drop n (drop k ws)))
+      ∙ rw (map-append, flat-append, drop-drop)
 
   rest-end : (k : ℕ) → length ws ≤ k → rest k ≡ []
   unfolding flatMap
   rest-end k h = rw (drop-of-length-le ws h)
 
-module _ {A : Type 0} {f : ℕ → A} {g : A → List ℕ} {ws out₀ : List ℕ} {at₀ : ℕ} {out : List ℕ} {at k : ℕ} (w : Written f g ws out₀ at₀ out at k) where
-  module _ (room : at₀ + length (rest f g ws 0) ≤ length out₀) (h : k < length ws) where
-    size-at : length (rest f g ws k) ≡ length (g (f (getD ws k 0))) + length (rest f g ws (k + 1))
-    size-at = ap length (rest-at f g ws k h) ∙ length-append (g (f (getD ws k 0))) (rest f g ws (k + 1))
+  pub next-one : (d : B) (k : ℕ) → k < length ws → next k 1 ≡ g (f (getD ws k d))
+  unfolding flatMap
+  next-one d k h = rw (drop-cons ws k d, append-nil)
 
-    pub written-room : at + length (g (f (getD ws k 0))) ≤ length out
-    written-room = omega (arith, size-at, w .place, w .long)
+module _ {B A : Type 0} {f : B → A} {g : A → List ℕ} {ws : List B} {out₀ : List ℕ} {at₀ : ℕ} {out : List ℕ} {at k : ℕ} (w : Written f g ws out₀ at₀ out at k) where
+  module _ (room : at₀ + length (rest f g ws 0) ≤ length out₀) where
+    module _ (n : ℕ) where
+      size-next : length (rest f g ws k) ≡ length (next f g ws k n) + length (rest f g ws (k + n))
+      size-next = ap length (rest-next f g ws k n) ∙ length-append (next f g ws k n) (rest f g ws (k + n))
 
-    pub written-more : {out′ : List ℕ} {at′ : ℕ} → Puts out at (g (f (getD ws k 0))) out′ at′ → Written f g ws out₀ at₀ out′ at′ (k + 1)
-    written-more p =
-        let bytes : List ℕ = g (f (getD ws k 0)) in
-        let more : List ℕ = rest f g ws (k + 1) in
-        let fits : at + length bytes ≤ length out = written-room in
-        record {
-          place = omega (arith, p .ends, size-at, w .place);
-          whole = rw (p .holds, p .ends, put-append out at bytes more (omega arith)) (ap (put out at) (sym (rest-at f g ws k h)) ∙ w .whole);
-          long = puts-length out at bytes fits p ∙ w .long;
-        }
+      pub page-room : at + length (next f g ws k n) ≤ length out
+      page-room = omega (arith, size-next, w .place, w .long)
+
+      pub page-more : {out′ : List ℕ} {at′ : ℕ} → Puts out at (next f g ws k n) out′ at′ → Written f g ws out₀ at₀ out′ at′ (k + n)
+      page-more p =
+          let bytes : List ℕ = next f g ws k n in
+          let more : List ℕ = rest f g ws (k + n) in
+          let fits : at + length bytes ≤ length out = page-room in
+          record {
+            place = omega (arith, p .ends, size-next, w .place);
+            whole = rw (p .holds, p .ends, put-append out at bytes more (omega arith)) (ap (put out at) (sym (rest-next f g ws k n)) ∙ w .whole);
+            long = puts-length out at bytes fits p ∙ w .long;
+          }
+
+    module _ (d : B) (h : k < length ws) where
+      pub written-room : at + length (g (f (getD ws k d))) ≤ length out
+      written-room = rw (next-one f g ws d k h) at (page-room 1)
+
+      pub written-more : {out′ : List ℕ} {at′ : ℕ} → Puts out at (g (f (getD ws k d))) out′ at′ → Written f g ws out₀ at₀ out′ at′ (k + 1)
+      written-more {out′} {at′} p = page-more 1 (rw (next-one f g ws d k h) p)
 
   pub written-end : length ws ≤ k → Puts out₀ at₀ (rest f g ws 0) out at
   written-end h =

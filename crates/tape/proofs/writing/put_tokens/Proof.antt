@@ -37,7 +37,7 @@ put-token-requires : tie.Need-put-token-requires Inv-loop μ-loop
 put-token-requires c κs = let s = c .before .before .before .before .before .before .before .before .before .before in
     let l = c .before .before .before .before .before .loop in
     let w = getD (s .args .ws .now) (l .k) 0 in
-    let room = written-room (l .inv) (s .pre .1) (c .before .before .before .before .loop-test .taken) in
+    let room = written-room (l .inv) (s .pre .1) 0 (c .before .before .before .before .loop-test .taken) in
     let size = token-size (kind-of w) (text-of (s .args .tape .now) (s .args .area .now) w) in
     omega (arith, c .before .before .kind .ensures, kind-below w, ap length (c .before .text .ensures))
 
@@ -51,7 +51,7 @@ loop-again : tie.Need-loop-again Inv-loop μ-loop
 loop-again c = let s = c .before .before .before .before .before .before .before .before .before .before .before .before .before in
     let l = c .before .before .before .before .before .before .before .before .loop in
     let p = rw (c .before .before .before .before .before .kind .ensures, c .before .before .before .before .text .ensures) at (c .before .before .put-token .ensures) in
-    written-more (l .inv) (s .pre .1) (c .before .before .before .before .before .before .before .loop-test .taken) p
+    written-more (l .inv) (s .pre .1) 0 (c .before .before .before .before .before .before .before .loop-test .taken) p
 
 same-length : tie.Need-same-length Inv-loop μ-loop
 same-length c = c .before .loop .inv .long

@@ -1,12 +1,15 @@
 -- `tape::writing::write` meets its contract: what is still to be written, put where the loop stands, makes the lines; FF follows. Assumes nothing.
-use Prim.Native.Nat.{_+_, _-_, _≤_}
+use Prim.Native.Nat.{ℕ, zero, suc, _+_, _-_, _≤_, _<_}
+use native.Mathlib.Nat.{min-le-left}
 use native.Mathlib.Omega.{arith}
-use mathlib.Core.List.{flatMap}
-use lib.ListN.{length, length-set}
+use mathlib.Core.Path.{_≡_}
+use lib.ListN.{length, take, drop, length-set, length-take}
 use Rattle.reference.specs.Listing.{Listing}
 use Rattle.reference.specs.Tape.{write-line}
 use Rattle.lines.specs.Lines.{line-in, listing-of}
-use Rattle.tape.proofs.writing.Putting.{Written, written-begin, written-room, written-more, written-end, write-split, write-room, wrote}
+use Rattle.lines.proofs.words.Lines.{listed-take, listed-drop}
+use Rattle.tape.specs.Writing.{lines-bytes}
+use Rattle.tape.proofs.writing.Putting.{Written, written-begin, page-room, page-more, written-end, write-split, write-room, wrote}
 use borrow.Author.Needs.{needs}
 use Rattle.tape.proofs.writing.write.Statement.{statement}
 use Rattle.tape.proofs.writing.write.Tie as tie
@@ -20,36 +23,58 @@ abbrev μ-loop : tie.MeasureT-loop
 abbrev listing : tie.Start Inv-loop μ-loop → Listing
 listing c = let a = c .args in listing-of (a .tape .now) (a .area .now) (a .tokens .now) (a .addresses .now) (a .lines .now)
 
-room : (c : tie.Start Inv-loop μ-loop) → length (flatMap write-line (listing c)) + 1 ≤ length (c .args .out .now)
+room : (c : tie.Start Inv-loop μ-loop) → length (lines-bytes (listing c)) + 1 ≤ length (c .args .out .now)
 room c = write-room (listing c) (c .pre .1 .1)
+
+-- a page has a line where there is one
+some-lines : (r n : ℕ) → (r < 256 → r ≡ n) → 0 < n → 0 < r
+some-lines zero n e h = omega (arith, e (omega arith))
+some-lines (suc r) n e h = omega arith
 
 loop-holds : tie.Need-loop-holds Inv-loop μ-loop
 loop-holds c = let a = c .before .before .before .before .before .before .args in
     written-begin (line-in (a .tape .now) (a .area .now) (a .tokens .now) (a .addresses .now)) write-line (a .lines .now) (a .out .now) 0
 
-mul-put-whole-line : tie.Need-mul-put-whole-line Inv-loop μ-loop
-mul-put-whole-line c = search needs
+sub-page : tie.Need-sub-page Inv-loop μ-loop
+sub-page c = search needs
 
-shared-slice-read-put-whole-line : tie.Need-shared-slice-read-put-whole-line Inv-loop μ-loop
-shared-slice-read-put-whole-line c = search needs
+page-requires : tie.Need-page-requires Inv-loop μ-loop
+page-requires c κs = search needs
 
-put-whole-line-requires : tie.Need-put-whole-line-requires Inv-loop μ-loop
-put-whole-line-requires c κs = let s = c .before .before .before .before .before .before .before .before .before .before in
-    let l = c .before .before .before .loop in
-    let t = c .before .before .loop-test .taken in
-    (s .pre .0 .at (l .k) t, (s .pre .1 .0, written-room (l .inv) (omega (arith, room s)) t))
+add-end : tie.Need-add-end Inv-loop μ-loop
+add-end c = search needs
 
-add-k : tie.Need-add-k Inv-loop μ-loop
-add-k c = search needs
+mul-put-page : tie.Need-mul-put-page Inv-loop μ-loop
+mul-put-page c = search needs
+
+sub-put-page : tie.Need-sub-put-page Inv-loop μ-loop
+sub-put-page c = search needs
+
+part-put-page-start : tie.Need-part-put-page-start Inv-loop μ-loop
+part-put-page-start c = search needs
+
+part-put-page-end : tie.Need-part-put-page-end Inv-loop μ-loop
+part-put-page-end c = search needs
+
+put-page-requires : tie.Need-put-page-requires Inv-loop μ-loop
+put-page-requires c κs = let s = c .before .before .before .before .before .before .before .before .before .before .before in
+    let l = c .before .before .before .before .loop in
+    let n = c .before .before .page .result in
+    let m : l .k + n - l .k ≡ n = omega arith in
+    let few : length (take n (drop (l .k) (s .args .lines .now))) ≤ 256 = simp length-take (omega (arith, min-le-left n (length (drop (l .k) (s .args .lines .now))), c .before .before .page .ensures)) in
+    rw m (listed-take (listed-drop (s .pre .0) (l .k)) n, few, s .pre .1 .0, page-room (l .inv) (omega (arith, room s)) n)
 
 loop-less : tie.Need-loop-less Inv-loop μ-loop
-loop-less c = search needs
+loop-less c = let l = c .before .before .before .before .before .before .before .loop in
+    let p = c .before .before .before .before .before .page in
+    omega (arith, some-lines (p .result) _ (p .ensures .2) (omega (arith, c .before .before .before .before .before .before .loop-test .taken)), p .ensures .0)
 
 loop-again : tie.Need-loop-again Inv-loop μ-loop
-loop-again c = let s = c .before .before .before .before .before .before .before .before .before .before .before .before .before in
-    let l = c .before .before .before .before .before .before .loop in
-    let t = c .before .before .before .before .before .loop-test .taken in
-    written-more (l .inv) (omega (arith, room s)) t (c .before .before .put-whole-line .ensures)
+loop-again c = let s = c .before .before .before .before .before .before .before .before .before .before .before .before .before .before in
+    let l = c .before .before .before .before .before .before .before .loop in
+    let n = c .before .before .before .before .before .page .result in
+    let m : l .k + n - l .k ≡ n = omega arith in
+    page-more (l .inv) (omega (arith, room s)) n (rw m at (c .before .before .put-page .ensures))
 
 slice-write-out : tie.Need-slice-write-out Inv-loop μ-loop
 slice-write-out c = let s = c .before .before .before .before .before .before .before .before in
@@ -76,10 +101,14 @@ write-spec =
     Inv-loop
     μ-loop
     loop-holds
-    mul-put-whole-line
-    shared-slice-read-put-whole-line
-    put-whole-line-requires
-    add-k
+    sub-page
+    page-requires
+    add-end
+    mul-put-page
+    sub-put-page
+    part-put-page-start
+    part-put-page-end
+    put-page-requires
     loop-less
     loop-again
     slice-write-out
