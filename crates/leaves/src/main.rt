@@ -7,8 +7,11 @@ use answers::expected;
 use answers::put_answer;
 use fields::before;
 use fields::behind;
-ghost use Prim.Native.Nat.{_≤_};
+ghost use mathlib.Core.Path.{_≡_};
+ghost use Prim.Native.Nat.{_+_, _≤_};
 ghost use lib.ListN.{length};
+ghost use Rattle.reference.specs.Text.{_==_};
+ghost use Rattle.leaves.specs.Answers.{answer as Answers·answer, expected as Answers·expected};
 
 fn print(s: &[u8]) {
     io::write_all(libc::STDOUT_FILENO, s);
@@ -16,15 +19,16 @@ fn print(s: &[u8]) {
 
 // Whether the answer is the one on the line; prints both where it is not.
 fn agrees(line: &[u8], out: &mut [u8]) -> bool
-    requires { ⌜ 19 ≤ length (now out) ⌝ }
+    requires { ⌜ length (now line) + 24 ≤ length (now out) ⌝ }
+    ensures { λ r. ⌜ r ≡ (Answers·expected (now (line .entry)) == Answers·answer (now (line .entry))) ⌝ }
 {
     let n = put_answer(line, out);
-    if text::same(expected(line), &out[0..n]) {
+    if text::same(expected(line), &out[..n]) {
         return true;
     }
     print(line);
     print(b" but here ");
-    print(&out[0..n]);
+    print(&out[..n]);
     print(b"\n");
     false
 }
@@ -37,7 +41,7 @@ fn report(lines: u64, differing: u64) {
 }
 
 fn run(input: &[u8], out: &mut [u8])
-    requires { ⌜ 19 ≤ length (now out) ⌝ }
+    requires { ⌜ length (now input) + 24 ≤ length (now out) ⌝ }
 {
     let mut left = input;
     let mut lines = 0;
@@ -56,6 +60,6 @@ fn run(input: &[u8], out: &mut [u8])
 fn main() {
     let mut input = io::large_buffer();
     let n = io::read_full(libc::STDIN_FILENO, &mut input);
-    let mut out = io::buffer();
+    let mut out = [0u8; 65560];
     run(&input[..n], &mut out);
 }

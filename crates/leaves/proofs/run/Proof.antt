@@ -1,9 +1,11 @@
--- `leaves::run` is safe and ends: each line counted took a byte of the input, and of the lines that differ there are no more. Assumes nothing.
+-- `leaves::run` meets its contract. Assumes nothing.
 use Prim.Native.Nat.{_≤_, _+_}
-use mathlib.Core.Path.{_≡_}
+use native.Mathlib.Omega.{arith}
+use mathlib.Core.Path.{_≡_, ap}
 use mathlib.Core.Logic.{⊎-elim}
 use lib.ListN.{length}
 use borrow.Author.Needs.{needs}
+use Rattle.leaves.proofs.Separators.{before-length, behind-length}
 use Rattle.leaves.proofs.run.Statement.{statement}
 use Rattle.leaves.proofs.run.Tie as tie
 
@@ -20,7 +22,9 @@ before-requires : tie.Need-before-requires Inv-loop μ-loop
 before-requires c κs = search needs
 
 agrees-requires : tie.Need-agrees-requires Inv-loop μ-loop
-agrees-requires c κs = search needs
+agrees-requires c κs =
+    let l = c .before .before .before .loop .left in
+    omega (arith, ap length (c .before .before2 .ensures), before-length 10 (l .now))
 
 add-differing : tie.Need-add-differing Inv-loop μ-loop
 add-differing c = search needs
@@ -32,11 +36,14 @@ behind-requires : tie.Need-behind-requires Inv-loop μ-loop
 behind-requires c κs = search needs
 
 loop-less : tie.Need-loop-less Inv-loop μ-loop
-loop-less c = search needs
+loop-less c =
+    omega (arith, ap length (c .behind .ensures), behind-length 10 (c .before .before .before .before .before .before .before .before .loop .left .now))
 
 loop-again : tie.Need-loop-again Inv-loop μ-loop
 loop-again c =
     let kept = c .before .before .before .before .agrees .kept in
+    let h = behind-length 10 (c .before .before .before .before .before .before .before .before .loop .left .now) in
+    let e = ap length (c .behind .ensures) in
     ⊎-elim (λ w. search needs) (λ w. search needs) (c .before .if1 .came)
 
 report-requires : tie.Need-report-requires Inv-loop μ-loop
