@@ -9,7 +9,7 @@ use lib.Dec.{eqb}
 use lib.IntN.{ℤ, _+ℤ_, _-ℤ_}
 use lib.ListN.{length, take, length-append, length-take}
 use lib.Seq.{take-length, take-append-seam}
-use Rattle.reference.specs.Control.{_&&_, _||_, if_then_else_, let-some_else_then_}
+use Rattle.reference.specs.Control.{not, _&&_, _||_, if_then_else_, let-some_else_then_}
 use Rattle.reference.specs.Text.{Text, bytes, _==_, has}
 use Rattle.reference.specs.Listing.{token, is, Number}
 use Rattle.reference.specs.Names.{family, volatile-of}
@@ -27,9 +27,9 @@ use Rattle.numbers.specs.declared.parse.Number.the-variants.{Read, Unread}
 use Rattle.numbers.specs.Reading.{meaning}
 use Rattle.numbers.specs.Writing.{Written}
 use Rattle.numbers.proofs.Writing.{written-then}
-use Rattle.leaves.specs.Fields.{before, behind, behind-words}
-use Rattle.leaves.specs.Answers.{decimal, register, family-answer, value, combined, fold-answer, convention, overwrites, yes-no, answer-to, answer, expected}
-use Rattle.leaves.proofs.Separators.{before-length, behind-length}
+use Rattle.leaves.specs.Fields.{before, behind, behind-words, lines}
+use Rattle.leaves.specs.Answers.{decimal, register, family-answer, value, combined, fold-answer, convention, overwrites, yes-no, answer-to, answer, expected, differing}
+use Rattle.leaves.proofs.Separators.{before-length, behind-length, next-line}
 use Rattle.leaves.proofs.Decimals.{decimal-length}
 
 -- ---- names
@@ -229,3 +229,26 @@ module _ {out s out′ : Text} {n : ℕ} (w : Written out 0 s out′ n) where
   -- what was said of it holds of the text
   pub compares : {t u : Text} {b : Bool} → t ≡ u → b ≡ (t == take n out′) → b ≡ (u == s)
   compares e f = rw (e, front-is) at f
+
+-- ---- the lines of an input, one by one
+
+pub no-line : (s : Text) → length s ≡ 0 → (length (lines s) ≡ 0) × (differing s ≡ 0)
+unfolding lines differing
+no-line [] h = (refl, refl)
+no-line (x ∷ xs) h = absurd (omega arith)
+
+module _ (s : Text) (h : 0 < length s) {line rest : Text} (e : line ≡ before s 10) (f : rest ≡ behind s 10) where
+  split : lines s ≡ line ∷ lines rest
+  split = rw (e, f) (next-line s h)
+
+  pub one-line : length (lines s) ≡ 1 + length (lines rest)
+  one-line = ap length split ∙ omega arith
+
+  module _ {b : Bool} (g : b ≡ (expected line == answer line)) where
+    pub line-agrees : b ≡ true → differing s ≡ differing rest
+    unfolding differing not if_then_else_
+    line-agrees k = rw (split, sym g ∙ k)
+
+    pub line-differs : b ≡ false → differing s ≡ 1 + differing rest
+    unfolding differing not if_then_else_
+    line-differs k = rw (split, sym g ∙ k) (omega arith)

@@ -1,4 +1,4 @@
--- What stands before a separator and behind it: by index, as parts, and how long. Assumes nothing.
+-- What stands before a separator and behind it: by index, as parts, and how long; a text's first line. Assumes nothing.
 use Prim.Native.Nat.{ℕ, suc, _+_, _-_, _≤_, _<_}
 use native.Mathlib.Omega.{arith}
 use native.Mathlib.Decide.{ℕ-discrete}
@@ -11,7 +11,7 @@ use lib.Seq.{drop-cons, drop-length}
 use borrow.Author.Tests.{eq-eqb, ne-eqb}
 use Rattle.reference.specs.Control.{if_then_else_}
 use Rattle.reference.specs.Text.{Text}
-use Rattle.leaves.specs.Fields.{before, behind}
+use Rattle.leaves.specs.Fields.{before, behind, with-byte, lines}
 
 module _ (b x : ℕ) (xs : Text) where
   before-hit : x ≡ b → before (x ∷ xs) b ≡ []
@@ -73,3 +73,12 @@ module _ (b : ℕ) where
 
   pub behind-length : (s : Text) → length (behind s b) ≤ length s - 1
   behind-length s = omega (arith, ap length (drop-past s), length-drop (suc (length (before s b))) s)
+
+-- ---- lines
+
+pub next-line : (s : Text) → 0 < length s → lines s ≡ before s 10 ∷ lines (behind s 10)
+unfolding lines before behind if_then_else_
+next-line [] h = absurd (omega arith)
+next-line (x ∷ []) h = by-cases (ℕ-discrete x 10) (λ e. rw (eq-eqb x 10 e)) (λ n. rw (ne-eqb x 10 n))
+next-line (x ∷ y ∷ ys) h =
+    by-cases (ℕ-discrete x 10) (λ e. rw (eq-eqb x 10 e)) (λ n. rw (ne-eqb x 10 n) (ap (with-byte x) (next-line (y ∷ ys) (omega arith))))

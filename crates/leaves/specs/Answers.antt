@@ -5,12 +5,13 @@ use mathlib.Core.Bool.{Bool, false}
 use mathlib.Core.List.{[], _++_}
 use mathlib.Core.Option.{Option, none, some}
 use lib.IntN.{ℤ, _+ℤ_, _-ℤ_}
-use Rattle.reference.specs.Control.{_||_, if_then_else_, let-some_else_then_}
+use Rattle.reference.specs.Control.{not, _||_, if_then_else_, let-some_else_then_}
+use Rattle.reference.specs.Lists.{count}
 use Rattle.reference.specs.Text.{Text, bytes, _==_, has}
 use Rattle.reference.specs.Listing.{token, Number, Punct}
 use Rattle.reference.specs.Names.{family, volatile-of}
 use Rattle.reference.specs.Numbers.{parse-c-number, wrap, folded, digits, show}
-use Rattle.leaves.specs.Fields.{behind-words, word}
+use Rattle.leaves.specs.Fields.{behind-words, word, lines}
 
 -- ---- the answers
 
@@ -70,3 +71,7 @@ answer line = answer-to (word 0 line) (word 1 line) (word 2 line)
 unfoldable pub expected : Text → Text
 expected line =
     if (word 0 line == bytes "family") || (word 0 line == bytes "number") then behind-words 2 line else behind-words 3 line
+
+-- how many lines have another answer than the definitions'
+unfoldable pub differing : Text → ℕ
+differing input = count (λ line. not (expected line == answer line)) (lines input)

@@ -1,6 +1,6 @@
--- The parts of a text between separators. Assumes nothing.
+-- The parts of a text between separators: fields, words and lines. Assumes nothing.
 use Prim.Native.Nat.{ℕ, zero, suc}
-use mathlib.Core.List.{[], _∷_}
+use mathlib.Core.List.{List, [], _∷_}
 use lib.Dec.{eqb}
 use Rattle.reference.specs.Control.{if_then_else_}
 use Rattle.reference.specs.Text.{Text}
@@ -25,3 +25,13 @@ behind-words (suc n) line = behind-words n (behind line 32)
 -- the word that n words stand before
 abbrev pub word : ℕ → Text → Text
 word n line = before (behind-words n line) 32
+
+-- ---- lines, each ended by a line feed, which the last may lack
+
+abbrev pub with-byte : ℕ → List Text → List Text
+with-byte x [] = (x ∷ []) ∷ []
+with-byte x (line ∷ rest) = (x ∷ line) ∷ rest
+
+unfoldable pub lines : Text → List Text
+lines [] = []
+lines (x ∷ xs) = let r = lines xs in if eqb x 10 then [] ∷ r else with-byte x r

@@ -161,7 +161,7 @@ fn put_answer_to(question: &[u8], a: &[u8], b: &[u8], out: &mut [u8]) -> usize
     put(b"no such question", out, 0)
 }
 
-// Writes the answer to the line's question at the front of `out`. No answer is longer than the line by more than 24 bytes.
+// Writes the answer to the line's question at the front of `out`, and says how long it is: at most 24 bytes more than the line.
 pub fn put_answer(line: &[u8], out: &mut [u8]) -> usize
     requires { ⌜ length (now line) + 24 ≤ length (now out) ⌝ }
     ensures { λ r. ⌜ Written (now (out .entry)) 0 (answer (now (line .entry))) (now (out .exit)) r ⌝ }

@@ -1,4 +1,4 @@
--- `leaves::answers::overwrites` meets its contract. Assumes nothing.
+-- `leaves::answers::overwrites` meets its contract: a family that has no row is a part of the name. Assumes nothing.
 use mathlib.Core.Path.{sym, _∙_}
 use lib.Seq.{length-take-le}
 use Rattle.leaves.proofs.Answering.{front-in, overwrites-row, overwrites-front, overwrites-none}

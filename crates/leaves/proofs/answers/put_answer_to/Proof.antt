@@ -1,6 +1,5 @@
 -- `leaves::answers::put_answer_to` meets its contract. Assumes nothing.
-use mathlib.Core.Path.{sym, ap, _∙_}
-use Rattle.leaves.specs.Answers.{value, overwrites, yes-no}
+use mathlib.Core.Path.{sym, _∙_}
 use Rattle.leaves.proofs.Answering.{asks-family, asks-number, asks-sum, asks-difference, asks-volatile, asks-nothing}
 use borrow.Author.Needs.{needs}
 use Rattle.leaves.proofs.answers.put_answer_to.Statement.{statement}
@@ -20,7 +19,9 @@ same-length c = search needs
 
 returns : tie.Need-returns
 returns c =
-    rw (← asks-family _ _ _ (sym (c .before .before .before .before .before .same .ensures) ∙ c .before .before .before .before .if1 .taken)) (c .before .before .put-family .ensures)
+    let t₁ = c .before .before .before .before in
+    rw (← asks-family _ _ _ (sym (t₁ .before .same .ensures) ∙ t₁ .if1 .taken))
+    (c .before .before .put-family .ensures)
 
 slice-aggregate-same-2 : tie.Need-slice-aggregate-same-2
 slice-aggregate-same-2 c = search needs
@@ -39,8 +40,10 @@ same-length-2 c = search needs
 
 returns-2 : tie.Need-returns-2
 returns-2 c =
-    let e = c .before .before .before .before .parse-c-number .ensures in
-    rw (← asks-number _ _ _ (sym (c .before .before .before .before .before .before .before .before .before .same .ensures) ∙ c .before .before .before .before .before .before .before .before .if1 .left) (sym (c .before .before .before .before .before .before .same2 .ensures) ∙ c .before .before .before .before .before .if2 .taken), ← e) (c .before .before .put-value .ensures)
+    let t₂ = c .before .before .before .before .before in
+    let t₁ = t₂ .before .before .before in
+    rw (← asks-number _ _ _ (sym (t₁ .before .same .ensures) ∙ t₁ .if1 .left) (sym (t₂ .before .same2 .ensures) ∙ t₂ .if2 .taken), ← (c .before .before .before .before .parse-c-number .ensures))
+    (c .before .before .put-value .ensures)
 
 slice-aggregate-same-3 : tie.Need-slice-aggregate-same-3
 slice-aggregate-same-3 c = search needs
@@ -59,8 +62,11 @@ same-length-3 c = search needs
 
 returns-3 : tie.Need-returns-3
 returns-3 c =
-    let e = c .before .before .before .before .folded .ensures in
-    rw (← asks-sum _ _ _ (sym (c .before .before .before .before .before .before .before .before .before .before .before .before .same .ensures) ∙ c .before .before .before .before .before .before .before .before .before .before .before .if1 .left) (sym (c .before .before .before .before .before .before .before .before .before .same2 .ensures) ∙ c .before .before .before .before .before .before .before .before .if2 .left) (sym (c .before .before .before .before .before .before .same3 .ensures) ∙ c .before .before .before .before .before .if3 .taken), ← e) (c .before .before .put-value2 .ensures)
+    let t₃ = c .before .before .before .before .before in
+    let t₂ = t₃ .before .before .before in
+    let t₁ = t₂ .before .before .before in
+    rw (← asks-sum _ _ _ (sym (t₁ .before .same .ensures) ∙ t₁ .if1 .left) (sym (t₂ .before .same2 .ensures) ∙ t₂ .if2 .left) (sym (t₃ .before .same3 .ensures) ∙ t₃ .if3 .taken), ← (c .before .before .before .before .folded .ensures))
+    (c .before .before .put-value2 .ensures)
 
 slice-aggregate-same-4 : tie.Need-slice-aggregate-same-4
 slice-aggregate-same-4 c = search needs
@@ -79,8 +85,12 @@ same-length-4 c = search needs
 
 returns-4 : tie.Need-returns-4
 returns-4 c =
-    let e = c .before .before .before .before .folded2 .ensures in
-    rw (← asks-difference _ _ _ (sym (c .before .before .before .before .before .before .before .before .before .before .before .before .before .before .before .same .ensures) ∙ c .before .before .before .before .before .before .before .before .before .before .before .before .before .before .if1 .left) (sym (c .before .before .before .before .before .before .before .before .before .before .before .before .same2 .ensures) ∙ c .before .before .before .before .before .before .before .before .before .before .before .if2 .left) (sym (c .before .before .before .before .before .before .before .before .before .same3 .ensures) ∙ c .before .before .before .before .before .before .before .before .if3 .left) (sym (c .before .before .before .before .before .before .same4 .ensures) ∙ c .before .before .before .before .before .if4 .taken), ← e) (c .before .before .put-value3 .ensures)
+    let t₄ = c .before .before .before .before .before in
+    let t₃ = t₄ .before .before .before in
+    let t₂ = t₃ .before .before .before in
+    let t₁ = t₂ .before .before .before in
+    rw (← asks-difference _ _ _ (sym (t₁ .before .same .ensures) ∙ t₁ .if1 .left) (sym (t₂ .before .same2 .ensures) ∙ t₂ .if2 .left) (sym (t₃ .before .same3 .ensures) ∙ t₃ .if3 .left) (sym (t₄ .before .same4 .ensures) ∙ t₄ .if4 .taken), ← (c .before .before .before .before .folded2 .ensures))
+    (c .before .before .put-value3 .ensures)
 
 slice-aggregate-same-5 : tie.Need-slice-aggregate-same-5
 slice-aggregate-same-5 c = search needs
@@ -102,8 +112,13 @@ same-length-5 c = search needs
 
 returns-5 : tie.Need-returns-5
 returns-5 c =
-    let e = c .before .before .before .before .overwrites .ensures in
-    rw (← asks-volatile _ _ _ (sym (c .before .before .before .before .before .before .before .before .before .before .before .before .before .before .before .before .before .before .before .same .ensures) ∙ c .before .before .before .before .before .before .before .before .before .before .before .before .before .before .before .before .before .before .if1 .left) (sym (c .before .before .before .before .before .before .before .before .before .before .before .before .before .before .before .before .same2 .ensures) ∙ c .before .before .before .before .before .before .before .before .before .before .before .before .before .before .before .if2 .left) (sym (c .before .before .before .before .before .before .before .before .before .before .before .before .before .same3 .ensures) ∙ c .before .before .before .before .before .before .before .before .before .before .before .before .if3 .left) (sym (c .before .before .before .before .before .before .before .before .before .before .same4 .ensures) ∙ c .before .before .before .before .before .before .before .before .before .if4 .left) (sym (c .before .before .before .before .before .before .before .same5 .ensures) ∙ c .before .before .before .before .before .before .if5 .taken), ← (c .before .before .before .before .before .convention .ensures), ← e) (c .before .before .put-yes-no .ensures)
+    let t₅ = c .before .before .before .before .before .before in
+    let t₄ = t₅ .before .before .before in
+    let t₃ = t₄ .before .before .before in
+    let t₂ = t₃ .before .before .before in
+    let t₁ = t₂ .before .before .before in
+    rw (← asks-volatile _ _ _ (sym (t₁ .before .same .ensures) ∙ t₁ .if1 .left) (sym (t₂ .before .same2 .ensures) ∙ t₂ .if2 .left) (sym (t₃ .before .same3 .ensures) ∙ t₃ .if3 .left) (sym (t₄ .before .same4 .ensures) ∙ t₄ .if4 .left) (sym (t₅ .before .same5 .ensures) ∙ t₅ .if5 .taken), ← (c .before .before .before .before .before .convention .ensures), ← (c .before .before .before .before .overwrites .ensures))
+    (c .before .before .put-yes-no .ensures)
 
 slice-aggregate-put : tie.Need-slice-aggregate-put
 slice-aggregate-put c = search needs
@@ -116,7 +131,13 @@ same-length-6 c = search needs
 
 returns-6 : tie.Need-returns-6
 returns-6 c =
-    rw (← asks-nothing _ _ _ (sym (c .before .before .before .before .before .before .before .before .before .before .before .before .before .before .before .before .before .before .same .ensures) ∙ c .before .before .before .before .before .before .before .before .before .before .before .before .before .before .before .before .before .if1 .left) (sym (c .before .before .before .before .before .before .before .before .before .before .before .before .before .before .before .same2 .ensures) ∙ c .before .before .before .before .before .before .before .before .before .before .before .before .before .before .if2 .left) (sym (c .before .before .before .before .before .before .before .before .before .before .before .before .same3 .ensures) ∙ c .before .before .before .before .before .before .before .before .before .before .before .if3 .left) (sym (c .before .before .before .before .before .before .before .before .before .same4 .ensures) ∙ c .before .before .before .before .before .before .before .before .if4 .left) (sym (c .before .before .before .before .before .before .same5 .ensures) ∙ c .before .before .before .before .before .if5 .left)) (c .before .before .put .ensures)
+    let t₅ = c .before .before .before .before .before in
+    let t₄ = t₅ .before .before .before in
+    let t₃ = t₄ .before .before .before in
+    let t₂ = t₃ .before .before .before in
+    let t₁ = t₂ .before .before .before in
+    rw (← asks-nothing _ _ _ (sym (t₁ .before .same .ensures) ∙ t₁ .if1 .left) (sym (t₂ .before .same2 .ensures) ∙ t₂ .if2 .left) (sym (t₃ .before .same3 .ensures) ∙ t₃ .if3 .left) (sym (t₄ .before .same4 .ensures) ∙ t₄ .if4 .left) (sym (t₅ .before .same5 .ensures) ∙ t₅ .if5 .left))
+    (c .before .before .put .ensures)
 
 pub put-answer-to-spec : {M : Type 1} → statement M
 put-answer-to-spec =

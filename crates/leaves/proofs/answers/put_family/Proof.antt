@@ -1,4 +1,4 @@
--- `leaves::answers::put_family` meets its contract. Assumes nothing.
+-- `leaves::answers::put_family` meets its contract: a family that has no row is a part of the name. Assumes nothing.
 use mathlib.Core.Path.{sym}
 use native.Mathlib.Omega.{arith}
 use lib.Seq.{length-take-le}

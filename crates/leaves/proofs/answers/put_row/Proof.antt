@@ -1,8 +1,6 @@
--- `leaves::answers::put_row` meets its contract. Assumes nothing.
-use mathlib.Core.Path.{_≡_, sym}
+-- `leaves::answers::put_row` meets its contract: each family of the table has three bytes. Assumes nothing.
+use mathlib.Core.Path.{sym}
 use native.Mathlib.Omega.{arith}
-use lib.ListN.{length}
-use Rattle.names.specs.Families.{row-name}
 use Rattle.leaves.proofs.Answering.{row-length}
 use borrow.Author.Needs.{needs}
 use Rattle.leaves.proofs.answers.put_row.Statement.{statement}

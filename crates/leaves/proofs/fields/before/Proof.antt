@@ -1,5 +1,5 @@
 -- `leaves::fields::before` meets its contract. Assumes nothing.
-use mathlib.Core.Path.{sym, _∙_}
+use mathlib.Core.Path.{sym}
 use native.Mathlib.Omega.{arith}
 use lib.Seq.{length-take-le}
 use Rattle.leaves.proofs.Separators.{before-length, take-before}

@@ -1,4 +1,4 @@
--- `leaves::fields::find` meets its contract. Assumes nothing.
+-- `leaves::fields::find` meets its contract: what is passed, and what the rest has before b, make the whole. Assumes nothing.
 use Prim.Native.Nat.{_+_, _-_, _≤_}
 use native.Mathlib.Omega.{arith}
 use mathlib.Core.Path.{_≡_}
