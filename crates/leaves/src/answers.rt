@@ -12,24 +12,39 @@ use crate::fields::behind;
 use names::Spelled;
 use numbers::Number;
 use text::same;
-ghost use Prim.Native.Nat.{_≤_};
+ghost use mathlib.Core.Path.{_≡_};
+ghost use Prim.Native.Nat.{_+_, _≤_, _<_};
 ghost use lib.ListN.{length};
+ghost use Rattle.reference.specs.Text.{bytes};
+ghost use Rattle.names.specs.Families.{row-name};
+ghost use Rattle.numbers.specs.Reading.{meaning};
+ghost use Rattle.numbers.specs.Writing.{Written};
+ghost use Rattle.leaves.specs.Answers.{decimal, register, family-answer, value, combined, convention, overwrites, yes-no, answer-to, answer, expected};
 
-// Writes s at `at`, if there is room for it, and says where it ends.
+// The families of the table of `names`, by row.
+const ROWS: [[u8; 3]; 8] = [
+    *b"rax",
+    *b"rbx",
+    *b"rcx",
+    *b"rdx",
+    *b"rsi",
+    *b"rdi",
+    *b"rbp",
+    *b"rsp",
+];
+
+// Writes s at `at`, and says where it ends.
 fn put(s: &[u8], out: &mut [u8], at: usize) -> usize
-    requires { ⌜ at ≤ length (now out) ⌝ }
-    ensures { λ r. ⌜ r ≤ length (now (out .exit)) ⌝ }
+    requires { ⌜ at + length (now s) ≤ length (now out) ⌝ }
+    ensures { λ r. ⌜ Written (now (out .entry)) at (now (s .entry)) (now (out .exit)) r ⌝ }
 {
-    if out.len() - at < s.len() {
-        return at;
-    }
     text::copy_bytes(s, out, at);
     at + s.len()
 }
 
 fn put_decimal(n: u64, out: &mut [u8], at: usize) -> usize
-    requires { ⌜ at ≤ length (now out) ⌝ }
-    ensures { λ r. ⌜ r ≤ length (now (out .exit)) ⌝ }
+    requires { ⌜ at + 20 ≤ length (now out) ⌝ }
+    ensures { λ r. ⌜ Written (now (out .entry)) at (decimal n) (now (out .exit)) r ⌝ }
 {
     let mut digits = [0u8; 20];
     let k = io::decimal(n, &mut digits);
@@ -37,42 +52,37 @@ fn put_decimal(n: u64, out: &mut [u8], at: usize) -> usize
 }
 
 fn put_register(family: &[u8], width: u64, out: &mut [u8]) -> usize
-    ensures { λ r. ⌜ r ≤ length (now (out .exit)) ⌝ }
+    requires { ⌜ length (now family) + 21 ≤ length (now out) ⌝ }
+    ensures { λ r. ⌜ Written (now (out .entry)) 0 (register (now (family .entry)) width) (now (out .exit)) r ⌝ }
 {
     let family_end = put(family, out, 0);
     let space_end = put(b" ", out, family_end);
     put_decimal(width, out, space_end)
 }
 
-// The family of a row of the table of `names`.
 fn put_row(row: u64, width: u64, out: &mut [u8]) -> usize
-    ensures { λ r. ⌜ r ≤ length (now (out .exit)) ⌝ }
+    requires { ⌜ (row < 8) × (24 ≤ length (now out)) ⌝ }
+    ensures { λ r. ⌜ Written (now (out .entry)) 0 (register (row-name row) width) (now (out .exit)) r ⌝ }
 {
-    match row {
-        0 => put_register(b"rax", width, out),
-        1 => put_register(b"rbx", width, out),
-        2 => put_register(b"rcx", width, out),
-        3 => put_register(b"rdx", width, out),
-        4 => put_register(b"rsi", width, out),
-        5 => put_register(b"rdi", width, out),
-        6 => put_register(b"rbp", width, out),
-        _ => put_register(b"rsp", width, out),
-    }
+    let i = row as usize;
+    let family = ROWS[i];
+    put_register(&family, width, out)
 }
 
 fn put_family(name: &[u8], out: &mut [u8]) -> usize
-    ensures { λ r. ⌜ r ≤ length (now (out .exit)) ⌝ }
+    requires { ⌜ length (now name) + 24 ≤ length (now out) ⌝ }
+    ensures { λ r. ⌜ Written (now (out .entry)) 0 (family-answer (now (name .entry))) (now (out .exit)) r ⌝ }
 {
     match names::family(name) {
         Spelled::Row(row, width) => put_row(row, width, out),
-        Spelled::Front(n, width) => put_register(&name[0..n], width, out),
+        Spelled::Front(n, width) => put_register(&name[..n], width, out),
         Spelled::Nothing => put(b"none", out, 0),
     }
 }
 
 fn put_value(n: Number, out: &mut [u8]) -> usize
     requires { ⌜ 19 ≤ length (now out) ⌝ }
-    ensures { λ r. ⌜ r ≤ length (now (out .exit)) ⌝ }
+    ensures { λ r. ⌜ Written (now (out .entry)) 0 (value (meaning n)) (now (out .exit)) r ⌝ }
 {
     match n {
         Number::Read(v) => numbers::put_number(v, out, 0),
@@ -81,7 +91,9 @@ fn put_value(n: Number, out: &mut [u8]) -> usize
 }
 
 // a + b or a - b
-fn folded(a: &[u8], b: &[u8], minus: bool) -> Number {
+fn folded(a: &[u8], b: &[u8], minus: bool) -> Number
+    ensures { λ r. ⌜ meaning r ≡ combined minus (now (a .entry)) (now (b .entry)) ⌝ }
+{
     let Number::Read(x) = numbers::parse_c_number(a) else {
         return Number::Unread;
     };
@@ -94,7 +106,9 @@ fn folded(a: &[u8], b: &[u8], minus: bool) -> Number {
     Number::Read(numbers::wrapping_add(x, y))
 }
 
-fn convention(s: &[u8]) -> u8 {
+fn convention(s: &[u8]) -> u8
+    ensures { λ r. ⌜ r ≡ convention (now (s .entry)) ⌝ }
+{
     if same(s, b"0") {
         return 0;
     }
@@ -104,22 +118,31 @@ fn convention(s: &[u8]) -> u8 {
     2
 }
 
-fn volatile(convention: u8, name: &[u8]) -> bool {
+fn overwrites(convention: u8, name: &[u8]) -> bool
+    ensures { λ r. ⌜ r ≡ overwrites convention (now (name .entry)) ⌝ }
+{
     match names::family(name) {
         Spelled::Row(row, _) => names::overwritten(row, convention),
-        Spelled::Front(n, _) => names::overwritten(names::number_of(&name[0..n]), convention),
+        Spelled::Front(n, _) => names::overwritten(names::number_of(&name[..n]), convention),
         Spelled::Nothing => false,
     }
 }
 
-pub fn put_answer(line: &[u8], out: &mut [u8]) -> usize
-    requires { ⌜ 19 ≤ length (now out) ⌝ }
-    ensures { λ r. ⌜ r ≤ length (now (out .exit)) ⌝ }
+fn put_yes_no(b: bool, out: &mut [u8]) -> usize
+    requires { ⌜ 3 ≤ length (now out) ⌝ }
+    ensures { λ r. ⌜ Written (now (out .entry)) 0 (yes-no b) (now (out .exit)) r ⌝ }
 {
-    let question = before(line, b' ');
-    let words = behind(line, b' ');
-    let a = before(words, b' ');
-    let b = before(behind(words, b' '), b' ');
+    if b {
+        return put(b"yes", out, 0);
+    }
+    put(b"no", out, 0)
+}
+
+// The answer to a question with the operands a and b.
+fn put_answer_to(question: &[u8], a: &[u8], b: &[u8], out: &mut [u8]) -> usize
+    requires { ⌜ length (now a) + 24 ≤ length (now out) ⌝ }
+    ensures { λ r. ⌜ Written (now (out .entry)) 0 (answer-to (now (question .entry)) (now (a .entry)) (now (b .entry))) (now (out .exit)) r ⌝ }
+{
     if same(question, b"family") {
         return put_family(a, out);
     }
@@ -133,16 +156,29 @@ pub fn put_answer(line: &[u8], out: &mut [u8]) -> usize
         return put_value(folded(a, b, true), out);
     }
     if same(question, b"volatile") {
-        if volatile(convention(a), b) {
-            return put(b"yes", out, 0);
-        }
-        return put(b"no", out, 0);
+        return put_yes_no(overwrites(convention(a), b), out);
     }
     put(b"no such question", out, 0)
 }
 
+// Writes the answer to the line's question at the front of `out`, and says how long it is: at most 24 bytes more than the line.
+pub fn put_answer(line: &[u8], out: &mut [u8]) -> usize
+    requires { ⌜ length (now line) + 24 ≤ length (now out) ⌝ }
+    ensures { λ r. ⌜ Written (now (out .entry)) 0 (answer (now (line .entry))) (now (out .exit)) r ⌝ }
+{
+    let words = behind(line, b' ');
+    put_answer_to(
+        before(line, b' '),
+        before(words, b' '),
+        before(behind(words, b' '), b' '),
+        out,
+    )
+}
+
 // The answer on the line: all that stands behind the question.
-pub fn expected(line: &[u8]) -> &[u8] {
+pub fn expected(line: &[u8]) -> &[u8]
+    ensures { λ r. ⌜ now r ≡ expected (now (line .entry)) ⌝ }
+{
     let question = before(line, b' ');
     let answer = behind(behind(line, b' '), b' ');
     if same(question, b"family") {

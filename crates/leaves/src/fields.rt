@@ -1,10 +1,11 @@
 // Parts of a text between separators.
-ghost use Prim.Native.Nat.{_-_, _≤_};
+ghost use mathlib.Core.Path.{_≡_};
 ghost use lib.ListN.{length};
+ghost use Rattle.leaves.specs.Fields.{before, behind};
 
 // The place of the first b; the text's length where there is none.
 fn find(s: &[u8], b: u8) -> usize
-    ensures { λ r. ⌜ r ≤ length (now (s .entry)) ⌝ }
+    ensures { λ r. ⌜ r ≡ length (before (now (s .entry)) b) ⌝ }
 {
     let mut i = 0;
     while i < s.len() {
@@ -17,14 +18,16 @@ fn find(s: &[u8], b: u8) -> usize
 }
 
 // What stands before the first b; all where there is none.
-pub fn before(s: &[u8], b: u8) -> &[u8] {
+pub fn before(s: &[u8], b: u8) -> &[u8]
+    ensures { λ r. ⌜ now r ≡ before (now (s .entry)) b ⌝ }
+{
     let n = find(s, b);
-    &s[0..n]
+    &s[..n]
 }
 
 // What stands behind the first b; nothing where there is none.
 pub fn behind(s: &[u8], b: u8) -> &[u8]
-    ensures { λ r. ⌜ length (now r) ≤ length (now (s .entry)) - 1 ⌝ }
+    ensures { λ r. ⌜ now r ≡ behind (now (s .entry)) b ⌝ }
 {
     let n = find(s, b);
     if n == s.len() {

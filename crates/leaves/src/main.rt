@@ -7,8 +7,12 @@ use answers::expected;
 use answers::put_answer;
 use fields::before;
 use fields::behind;
-ghost use Prim.Native.Nat.{_≤_};
+ghost use mathlib.Core.Path.{_≡_};
+ghost use Prim.Native.Nat.{_+_, _≤_};
 ghost use lib.ListN.{length};
+ghost use Rattle.reference.specs.Text.{_==_};
+ghost use Rattle.leaves.specs.Fields.{lines};
+ghost use Rattle.leaves.specs.Answers.{answer, expected, differing};
 
 fn print(s: &[u8]) {
     io::write_all(libc::STDOUT_FILENO, s);
@@ -16,28 +20,29 @@ fn print(s: &[u8]) {
 
 // Whether the answer is the one on the line; prints both where it is not.
 fn agrees(line: &[u8], out: &mut [u8]) -> bool
-    requires { ⌜ 19 ≤ length (now out) ⌝ }
+    requires { ⌜ length (now line) + 24 ≤ length (now out) ⌝ }
+    ensures { λ r. ⌜ r ≡ (expected (now (line .entry)) == answer (now (line .entry))) ⌝ }
 {
     let n = put_answer(line, out);
-    if text::same(expected(line), &out[0..n]) {
+    if text::same(expected(line), &out[..n]) {
         return true;
     }
     print(line);
     print(b" but here ");
-    print(&out[0..n]);
+    print(&out[..n]);
     print(b"\n");
     false
 }
 
-fn report(lines: u64, differing: u64) {
-    io::print_decimal(libc::STDOUT_FILENO, lines);
-    print(b" vectors, ");
-    io::print_decimal(libc::STDOUT_FILENO, differing);
-    print(b" differ\n");
+// How many lines there are, and how many of them differ.
+struct Tally {
+    lines: u64,
+    differing: u64,
 }
 
-fn run(input: &[u8], out: &mut [u8])
-    requires { ⌜ 19 ≤ length (now out) ⌝ }
+fn compared(input: &[u8], out: &mut [u8]) -> Tally
+    requires { ⌜ length (now input) + 24 ≤ length (now out) ⌝ }
+    ensures { λ r. ⌜ (r .lines ≡ length (lines (now (input .entry)))) × (r .differing ≡ differing (now (input .entry))) ⌝ }
 {
     let mut left = input;
     let mut lines = 0;
@@ -50,12 +55,23 @@ fn run(input: &[u8], out: &mut [u8])
         let next = behind(left, b'\n');
         left = next;
     }
-    report(lines, differing);
+    Tally {
+        lines: lines,
+        differing: differing,
+    }
+}
+
+fn report(tally: Tally) {
+    io::print_decimal(libc::STDOUT_FILENO, tally.lines);
+    print(b" vectors, ");
+    io::print_decimal(libc::STDOUT_FILENO, tally.differing);
+    print(b" differ\n");
 }
 
 fn main() {
     let mut input = io::large_buffer();
     let n = io::read_full(libc::STDIN_FILENO, &mut input);
-    let mut out = io::buffer();
-    run(&input[..n], &mut out);
+    // room for the answer to any line of the input
+    let mut out = [0u8; 65560];
+    report(compared(&input[..n], &mut out));
 }

@@ -7,14 +7,12 @@
 // line is printed. A bare tape is printed up to the command that is wrong, and the totals of a listing are not asked: cleaning may lengthen a text.
 // The filter's own refusal is printed again, with its meaning.
 mod fronts; // address and indent of a line
-mod refusals; // the questions in words
 
-use fronts::print_blank_front;
-use fronts::print_front;
+use fronts::BLANK;
+use fronts::LONGEST;
+use fronts::put_front;
 use libc::STDIN_FILENO;
 use libc::STDOUT_FILENO;
-use refusals::print_meaning;
-use refusals::print_refusal;
 use tape::commands::Command;
 use tape::commands::Found;
 use tape::little_endian::wide;
@@ -34,7 +32,73 @@ fn print(s: &[u8]) {
     io::write_all(STDOUT_FILENO, s);
 }
 
+// ---- the questions in words
+
+// What the refusal by a question means; nothing for a number that no question has.
+fn print_meaning(number: u64) {
+    match number {
+        1 => {
+            print(b"the convention is not 0, 1 or 2\n");
+        }
+        2 => {
+            print(b"a work area has fewer than 65,536 bytes, or the output fewer than 54,785\n");
+        }
+        3 => {
+            print(
+                b"no command begins here: the tape has no more bytes, or the byte is none of 01, 02, 10 to 17, FF\n",
+            );
+        }
+        4 => {
+            print(b"the command that begins here runs past the end of the tape\n");
+        }
+        5 => {
+            print(b"a token stands here before any line has begun\n");
+        }
+        6 => {
+            print(
+                b"a limit is passed here: indent 63, 256 lines, 1,024 tokens, 24,576 bytes of text, 24 bytes of a number, or a text has no byte\n",
+            );
+        }
+        7 => {
+            print(b"the text here has a byte that is not printable (20 to 7E)\n");
+        }
+        8 => {
+            print(b"the tape goes on behind the end that stands here\n");
+        }
+        _ => {}
+    }
+}
+
+fn print_refusal(number: u64, place: usize) {
+    print(b"refused ");
+    io::print_decimal(STDOUT_FILENO, number);
+    print(b" at ");
+    io::print_decimal(STDOUT_FILENO, place as u64);
+    print(b": ");
+    print_meaning(number);
+}
+
 // ---- one command
+
+// Prints the front of a line that has an address. (No command that passes the questions has an indent above 63.)
+fn print_front(address: u64, indent: u64) {
+    if 63 < indent {
+        return;
+    }
+    let mut out = [BLANK; LONGEST];
+    let n = put_front(address, indent, &mut out);
+    io::write_all(STDOUT_FILENO, &out[..n]);
+}
+
+// Prints the front of a line that has none.
+fn print_blank_front(indent: u64) {
+    if 63 < indent {
+        return;
+    }
+    let out = [BLANK; LONGEST];
+    let n = 10 + 2 * indent as usize;
+    io::write_all(STDOUT_FILENO, &out[..n]);
+}
 
 // Ends the line before, if there is one.
 fn end_line(at: usize) {

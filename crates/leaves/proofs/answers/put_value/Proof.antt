@@ -1,18 +1,9 @@
--- `leaves::answers::put_value` meets its contract: no number takes more than 19 bytes. Assumes nothing.
-use Prim.Native.Nat.{ℕ, _+_, _≤_}
-use native.Mathlib.Omega.{arith}
-use lib.IntN.{ℤ}
+-- `leaves::answers::put_value` meets its contract. Assumes nothing.
+use Rattle.numbers.proofs.Signed.{read-back}
+use Rattle.leaves.proofs.Answering.{value-read, value-unread}
 use borrow.Author.Needs.{needs}
-use Rattle.reference.specs.Text.{Text}
-use Rattle.reference.specs.Numbers.{show}
-use Rattle.numbers.specs.Writing.{Written}
-use Rattle.reference.proofs.Shapes.{show-length}
 use Rattle.leaves.proofs.answers.put_value.Statement.{statement}
 use Rattle.leaves.proofs.answers.put_value.Tie as tie
-
--- where a number ends
-within-19 : (z : ℤ) {out : Text} {at : ℕ} {out′ : Text} {end : ℕ} → Written out at (show z) out′ end → end ≤ at + 19
-within-19 z w = omega (arith, show-length z)
 
 enum-known-n : tie.Need-enum-known-n
 enum-known-n c = search needs
@@ -34,14 +25,15 @@ same-length c = search needs
 
 returns : tie.Need-returns
 returns c =
-    let p = c .before .before in
-    omega (arith, within-19 _ (p .put-number .ensures), p .put-number .kept .1 .0, p .before .before .before .before .before .before .pre)
+    let n = c .before .before .before .before .before .n in
+    rw (← value-read (n .given .1) (read-back (n .given .0 .0) (c .before .before .before .before .known-told .given .0 .1))) (c .before .before .put-number .ensures)
 
 same-length-2 : tie.Need-same-length-2
 same-length-2 c = search needs
 
 returns-2 : tie.Need-returns-2
-returns-2 c = search needs
+returns-2 c =
+    rw (← value-unread (c .before .before .before .before .before .enum-told .given .1)) (c .before .before .put .ensures)
 
 pub put-value-spec : {M : Type 1} → statement M
 put-value-spec =

@@ -1,10 +1,10 @@
--- `show::fronts::print_blank_front` is safe: no front is longer than the blanks. Assumes nothing.
+-- `show::print_blank_front` is safe: no front is longer than the blanks. Assumes nothing.
 use native.Mathlib.Omega.{arith}
 use mathlib.Core.Path.{sym}
 use lib.Seq.{length-take-le}
 use borrow.Author.Needs.{needs}
-use Rattle.show.proofs.fronts.print_blank_front.Statement.{statement}
-use Rattle.show.proofs.fronts.print_blank_front.Tie as tie
+use Rattle.show.proofs.print_blank_front.Statement.{statement}
+use Rattle.show.proofs.print_blank_front.Tie as tie
 
 returns : tie.Need-returns
 returns c = search needs

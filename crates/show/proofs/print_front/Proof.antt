@@ -1,10 +1,10 @@
--- `show::fronts::print_front` is safe. Assumes nothing.
+-- `show::print_front` is safe. Assumes nothing.
 use native.Mathlib.Omega.{arith}
 use mathlib.Core.Path.{sym}
 use lib.Seq.{length-take-le}
 use borrow.Author.Needs.{needs}
-use Rattle.show.proofs.fronts.print_front.Statement.{statement}
-use Rattle.show.proofs.fronts.print_front.Tie as tie
+use Rattle.show.proofs.print_front.Statement.{statement}
+use Rattle.show.proofs.print_front.Tie as tie
 
 returns : tie.Need-returns
 returns c = search needs
