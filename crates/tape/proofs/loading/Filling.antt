@@ -125,6 +125,6 @@ module _ {tape tokens lines addresses : List ℕ} {at : ℕ} {t : Totals} {c : C
       length-take-le (t .tokens) tokens (omega (arith, turn-room u .few-tokens, turn-room u .for-tokens)) in
       record {
         listing = λ area. e ∙ ap Passed (sym (f .table .means area));
-        listed = λ area. record { at = λ i b. lined-of _ (f .table .holds area) (rw long (f .table .inside i b)) };
+        listed = λ area. record { at = λ i b. lined-of _ (f .table .holds area) (rw long (f .table .inside i b)) (f .table .unmarked i b) };
         totals = sym (ap Passed (totals-are (f .reads)) ∙ verdict-passed tape e);
       }
