@@ -159,7 +159,7 @@ fn put_records<'a>(
     to
 }
 
-// Writes the lines of a page. Their records are an array of the call's own, lent to both. Proved by hand.
+// Writes the lines of a page. Their records are an array of the call's own, lent to `gather` and then to `put_records`. Proved by hand.
 fn put_page<'a>(
     tape: &'a [u8],
     area: &'a [u8],
