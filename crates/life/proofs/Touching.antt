@@ -1,10 +1,11 @@
 -- `kills` and `touch-of`, by the code's tests. Assumes nothing.
 use Prim.Native.Nat.{ℕ, _≤_, _<_}
+use native.Mathlib.Omega.{arith}
 use mathlib.Core.Path.{_≡_, refl, sym, _∙_}
 use mathlib.Core.Bool.{Bool, true, false, not as flip}
-use mathlib.Core.List.{List}
+use mathlib.Core.List.{List, [], _∷_}
 use lib.Dec.{leb}
-use lib.ListN.{getD}
+use lib.ListN.{length, getD}
 use borrow.Author.Tests.{lt-ltb, le-ltb, le-leb, lt-leb}
 use Rattle.reference.specs.Control.{not, _&&_, if_then_else_, let-some_else_then_}
 use Rattle.reference.specs.Lists.{any, count, is-some}
@@ -14,7 +15,7 @@ use Rattle.reference.specs.Names.{family, of-family}
 use Rattle.reference.specs.Shapes.{call-in}
 use Rattle.reference.specs.Life.{Touch, None, Kill, Use, kills, touch-of, match-touch, is-use, is-kill}
 use Rattle.laws.proofs.Scans.{and-here, and-second, not-same}
-use Rattle.lines.specs.Words.{text-of, tokens-of}
+use Rattle.lines.specs.Words.{text-of, token-of, tokens-of}
 use Rattle.lines.specs.Shapes.{expr-words, Assigns}
 use Rattle.lines.specs.Fams.{fam-text, Names}
 use Rattle.lines.specs.declared.shapes.Expr.{Expr}
@@ -25,6 +26,7 @@ use Rattle.lines.specs.declared.fams.Named.{Named}
 use Rattle.lines.specs.declared.fams.Named.the-variants.{As, Nothing as Unnamed}
 use Rattle.lines.proofs.shapes.Sides.{assigned-to, assigned-not}
 use Rattle.lines.proofs.fams.Families.{named-as, named-not}
+use Rattle.marks.proofs.Lacking.{kills-empty, kills-other}
 use Rattle.life.specs.declared.touches.Touched.{Touched}
 use Rattle.life.specs.declared.touches.Touched.the-variants.{Nothing, Kill as Kills, Use as Uses}
 use Rattle.life.specs.Touches.{touched, kills-by}
@@ -39,6 +41,16 @@ module _ (tape area : Text) (ws : List ℕ) (fam : Text) {r : Assigned} (h : Ass
   pub kills-to : {x : Expr} {b : Bool} → r ≡ To x → b ≡ kills-by tape area ws x fam → b ≡ kills (tokens-of tape area ws) fam
   unfolding kills kills-by let-some_else_then_
   kills-to e eb = eb ∙ rw (assigned-to h e)
+
+-- by the first token, where there is one: x is whether it is of the family
+pub kills-no-token : (tape area : Text) (ws : List ℕ) (fam : Text) → length ws ≡ 0 → false ≡ kills (tokens-of tape area ws) fam
+kills-no-token tape area [] fam e = sym (kills-empty fam)
+kills-no-token tape area (w ∷ ws) fam e = absurd (omega arith)
+
+pub kills-first : (tape area : Text) (ws : List ℕ) (fam : Text) {x : Bool} → (length ws ≡ 0 → ⊥) → x ≡ of-family fam (token-of tape area (getD ws 0 0)) → x ≡ false
+    → false ≡ kills (tokens-of tape area ws) fam
+kills-first tape area [] fam n ex f = absurd (n refl)
+kills-first tape area (w ∷ ws) fam n ex f = sym (kills-other (token-of tape area w) (tokens-of tape area ws) fam (sym ex ∙ f))
 
 module _ (tape area : Text) (ws : List ℕ) (x : Expr) (fam : Text) {r : Named} (h : Names tape area (family (text-of tape area (getD ws 0 0))) r) where
   pub by-none : r ≡ Unnamed → false ≡ kills-by tape area ws x fam

@@ -40,7 +40,7 @@ fn overwrites_by<'a>(tape: &'a [u8], area: &'a [u8], line: &'a [u64], x: Expr, f
 }
 
 // Whether a line is an assignment to the family, at width 32 or more, whose right side lacks it.
-fn overwrites<'a>(tape: &'a [u8], area: &'a [u8], line: &'a [u64], f: Fam) -> bool
+fn is_overwriting<'a>(tape: &'a [u8], area: &'a [u8], line: &'a [u64], f: Fam) -> bool
     requires { ⌜ Holds (now tape) (now area) (now line) × Known (now tape) (now area) f ⌝ }
     ensures { λ r. ⌜ r ≡ kills (tokens-of (now (tape .entry)) (now (area .entry)) (now (line .entry))) (fam-text (now (tape .entry)) (now (area .entry)) f) ⌝ }
 {
@@ -48,6 +48,20 @@ fn overwrites<'a>(tape: &'a [u8], area: &'a [u8], line: &'a [u64], f: Fam) -> bo
         return false;
     };
     overwrites_by(tape, area, line, x, f)
+}
+
+// The same: the first token tells most lines apart.
+fn overwrites<'a>(tape: &'a [u8], area: &'a [u8], line: &'a [u64], f: Fam) -> bool
+    requires { ⌜ Holds (now tape) (now area) (now line) × Known (now tape) (now area) f ⌝ }
+    ensures { λ r. ⌜ r ≡ kills (tokens-of (now (tape .entry)) (now (area .entry)) (now (line .entry))) (fam-text (now (tape .entry)) (now (area .entry)) f) ⌝ }
+{
+    if line.len() == 0 {
+        return false;
+    }
+    if !fams::is_of(tape, area, line[0], f) {
+        return false;
+    }
+    is_overwriting(tape, area, line, f)
 }
 
 pub fn touch<'a>(tape: &'a [u8], area: &'a [u8], line: &'a [u64], f: Fam, rules: Rules) -> Touched

@@ -107,17 +107,26 @@ steady-label (a ∷ b ∷ c ∷ rest) h = refl
 
 -- ---- tokens without the family
 
-first-of-family : {ts : List Token} {a : Assignment} (fam : Text) → Assigning ts a → (let-some (family (a .lhs .text)) else false then λ f. f .name == fam) ≡ true
-    → any (of-family fam) ts ≡ true
-unfolding of-family fam-of if_then_else_ _||_
-first-of-family fam (assigning r p s c) e = rw (r, e)
+first-is : {ts : List Token} {a : Assignment} {t : Token} (fam : Text) → Assigning (t ∷ ts) a
+    → (let-some (family (a .lhs .text)) else false then λ f. f .name == fam) ≡ true → of-family fam t ≡ true
+unfolding of-family fam-of if_then_else_
+first-is fam (assigning r p s c) e = rw r e
 
-kills-has : (ts : List Token) (fam : Text) → kills ts fam ≡ true → any (of-family fam) ts ≡ true
+-- a line whose first token is of another family does not overwrite the family
+pub kills-other : (t : Token) (ts : List Token) (fam : Text) → of-family fam t ≡ false → kills (t ∷ ts) fam ≡ false
 unfolding kills let-some_else_then_
-kills-has ts fam e =
-    let a = some-true {o = assignment-of ts} e in
+kills-other t ts fam n = fails (λ e.
+    let a = some-true {o = assignment-of (t ∷ ts)} e in
     let f = some-true {o = family (a .0 .lhs .text)} (a .2) in
-    first-of-family fam (assigns ts (a .0) (a .1)) (rw (f .1) (both (f .2) .0))
+    true-false (first-is fam (assigns (t ∷ ts) (a .0) (a .1)) (rw (f .1) (both (f .2) .0))) n)
+
+pub kills-empty : (fam : Text) → kills [] fam ≡ false
+unfolding kills assignment-of let-some_else_then_
+kills-empty fam = refl
+
+lacks-kills : (ts : List Token) (fam : Text) → any (of-family fam) ts ≡ false → kills ts fam ≡ false
+lacks-kills [] fam e = kills-empty fam
+lacks-kills (t ∷ ts) fam e = kills-other t ts fam (neither e .0)
 
 count-none : (fam : Text) (ts : List Token) → any (of-family fam) ts ≡ false → count (of-family fam) ts ≡ 0
 unfolding if_then_else_
@@ -127,8 +136,7 @@ count-none fam (t ∷ ts) e = rw (neither e .0) (count-none fam ts (neither e .1
 lacks-touch : (ts : List Token) (fam : Text) (vs : List Text) → any (of-family fam) ts ≡ false → call-in ts ≡ none → touch-of ts fam vs ≡ None
 unfolding touch-of if_then_else_ _&&_
 lacks-touch ts fam vs f c =
-    let k : kills ts fam ≡ false = fails (λ e. true-false (kills-has ts fam e) f) in
-    rw (k, count-none fam ts f, c)
+    rw (lacks-kills ts fam f, count-none fam ts f, c)
 
 -- ---- a quiet line: x is the answer of `is_quiet`
 

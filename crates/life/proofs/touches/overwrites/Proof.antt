@@ -1,29 +1,35 @@
 -- `life::touches::overwrites` meets its contract. Assumes nothing.
 use borrow.Author.Needs.{needs}
-use Rattle.lines.proofs.shapes.Sides.{assigned-side}
-use Rattle.life.proofs.Touching.{kills-none, kills-to}
+use borrow.Author.Tests.{not-true}
+use Rattle.life.proofs.Touching.{kills-no-token, kills-first}
 use Rattle.life.proofs.touches.overwrites.Statement.{statement}
 use Rattle.life.proofs.touches.overwrites.Tie as tie
 
-assignment-requires : tie.Need-assignment-requires
-assignment-requires c κs = search needs
-
-enum-known-x : tie.Need-enum-known-x
-enum-known-x c = search needs
-
-enum-told : tie.Need-enum-told
-enum-told c = search needs
-
 returns : tie.Need-returns
-returns c = search (needs, kills-none, kills-to)
+returns c = search (needs, kills-no-token)
 
-overwrites-by-requires : tie.Need-overwrites-by-requires
-overwrites-by-requires c κs = search (needs, assigned-side)
+shared-slice-read-is-of : tie.Need-shared-slice-read-is-of
+shared-slice-read-is-of c = search needs
+
+is-of-requires : tie.Need-is-of-requires
+is-of-requires c κs = let s = c .before .before .before .before .before in (s .pre .0 .at 0 (search needs), s .pre .1)
 
 returns-2 : tie.Need-returns-2
-returns-2 c = search (needs, kills-none, kills-to)
+returns-2 c = search (needs, not-true, kills-first)
+
+is-overwriting-requires : tie.Need-is-overwriting-requires
+is-overwriting-requires c κs = search needs
+
+returns-3 : tie.Need-returns-3
+returns-3 c = search needs
 
 pub overwrites-spec : {M : Type 1} → statement M
 overwrites-spec =
     tie.close
-    (tie.spec assignment-requires enum-known-x enum-told returns overwrites-by-requires returns-2)
+    (tie.spec
+    returns
+    shared-slice-read-is-of
+    is-of-requires
+    returns-2
+    is-overwriting-requires
+    returns-3)
