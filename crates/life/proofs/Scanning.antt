@@ -18,8 +18,8 @@ use Rattle.lines.specs.Codes.{family-number}
 use Rattle.lines.specs.Lines.{indent-of, part-of, bare-in, bare-listing, Lined}
 use Rattle.lines.specs.Words.{tokens-of}
 use Rattle.lines.proofs.words.Each.{map-take, map-drop}
-use Rattle.marks.specs.Quiet.{is-quiet}
-use Rattle.marks.proofs.Lacking.{quiet-kw, quiet-goto, quiet-touch}
+use Rattle.linemarks.specs.Quiet.{is-quiet}
+use Rattle.linemarks.proofs.Lacking.{quiet-kw, quiet-goto, quiet-touch}
 use Rattle.life.specs.declared.touches.Touched.{Touched}
 use Rattle.life.specs.declared.touches.Touched.the-variants.{Nothing, Kill as Kills, Use as Uses}
 use Rattle.life.specs.declared.fates.Fate.{Fate}

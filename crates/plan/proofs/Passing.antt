@@ -16,8 +16,8 @@ use Rattle.lines.specs.Words.{tokens-of}
 use Rattle.lines.specs.Lines.{indent-of, part-of, bare-in, Lined}
 use Rattle.lines.specs.Shapes.{expr-words}
 use Rattle.lines.specs.Fams.{fam-text}
-use Rattle.marks.specs.Quiet.{is-quiet}
-use Rattle.marks.proofs.Lacking.{quiet-kw, quiet-brace, quiet-call, quiet-label, quiet-touch}
+use Rattle.linemarks.specs.Quiet.{is-quiet}
+use Rattle.linemarks.proofs.Lacking.{quiet-kw, quiet-brace, quiet-call, quiet-label, quiet-touch}
 use Rattle.life.specs.declared.touches.Touched.the-variants.{Nothing}
 use Rattle.plan.specs.declared.reaches.Reach.{Reach}
 use Rattle.plan.specs.declared.definitions.Definition.{Definition}

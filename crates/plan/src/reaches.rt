@@ -1,13 +1,13 @@
 // How far a constant reaches, and whether every use takes it: the scan and the tests of `propagate_constant` of the Rust.
 use life::Touched;
 use life::dead_after;
+use linemarks::is_quiet;
+use linemarks::number_of;
 use lines::fams;
 use lines::fams::Fam;
 use lines::rules::Rules;
 use lines::shapes;
 use lines::words;
-use marks::is_quiet;
-use marks::number_of;
 ghost use mathlib.Core.Path.{_≡_};
 ghost use Prim.Native.Nat.{suc, _<_};
 ghost use lib.ListN.{length};

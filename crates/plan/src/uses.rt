@@ -1,6 +1,8 @@
 // The single use of a definition, and whether the right side can take its place there: the second half of `try_at` of the Rust.
 use crate::definitions::Definition;
 use life::Touched;
+use linemarks::is_quiet;
+use linemarks::number_of;
 use lines::fams;
 use lines::fams::Fam;
 use lines::fams::Named;
@@ -9,8 +11,6 @@ use lines::shapes;
 use lines::shapes::Assigned;
 use lines::shapes::Found;
 use lines::words;
-use marks::is_quiet;
-use marks::number_of;
 ghost use mathlib.Core.Path.{_≡_};
 ghost use Prim.Native.Nat.{_<_};
 ghost use lib.Dec.{ltb, eqb};

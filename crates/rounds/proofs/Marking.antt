@@ -10,8 +10,8 @@ use Rattle.reference.specs.Rules.{Rules}
 use Rattle.joining.specs.Bare.{bare-lines}
 use Rattle.lines.specs.Lines.{line-in, listing-of}
 use Rattle.lines.proofs.words.Each.{map-at}
-use Rattle.marks.specs.Marking.{Remarked}
-use Rattle.marks.proofs.Making.{remarked-lined}
+use Rattle.linemarks.specs.Marking.{Remarked}
+use Rattle.linemarks.proofs.Making.{remarked-lined}
 use Rattle.build.specs.declared.used.Size.{Size}
 use Rattle.build.specs.State.{used}
 use Rattle.build.specs.Added.{used-words}

@@ -1,6 +1,6 @@
 -- `life::dead::fate_by_marks` meets its contract. Assumes nothing.
 use borrow.Author.Needs.{needs}
-use Rattle.marks.proofs.Lacking.{number-fits}
+use Rattle.linemarks.proofs.Lacking.{number-fits}
 use Rattle.life.proofs.Scanning.{after-quiet}
 use Rattle.life.proofs.dead.fate_by_marks.Statement.{statement}
 use Rattle.life.proofs.dead.fate_by_marks.Tie as tie

@@ -1,6 +1,6 @@
 -- `plan::reaches::reach_by_marks` meets its contract. Assumes nothing.
 use borrow.Author.Needs.{needs}
-use Rattle.marks.proofs.Lacking.{number-fits}
+use Rattle.linemarks.proofs.Lacking.{number-fits}
 use Rattle.plan.proofs.Passing.{reach-quiet}
 use Rattle.plan.proofs.reaches.reach_by_marks.Statement.{statement}
 use Rattle.plan.proofs.reaches.reach_by_marks.Tie as tie

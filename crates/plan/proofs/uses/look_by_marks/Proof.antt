@@ -1,7 +1,7 @@
 -- `plan::uses::look_by_marks` meets its contract. Assumes nothing.
 use borrow.Author.Needs.{needs}
 use borrow.Author.Tests.{not-false}
-use Rattle.marks.proofs.Lacking.{number-fits}
+use Rattle.linemarks.proofs.Lacking.{number-fits}
 use Rattle.plan.proofs.Deciding.{sound-at}
 use Rattle.plan.proofs.Reading.{reading}
 use Rattle.plan.proofs.Passing.{passing}

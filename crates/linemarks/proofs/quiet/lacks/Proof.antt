@@ -1,8 +1,8 @@
--- `marks::quiet::lacks` meets its contract. Assumes nothing.
+-- `linemarks::quiet::lacks` meets its contract. Assumes nothing.
 use Rattle.lines.specs.Marks.{bit}
 use borrow.Author.Needs.{needs}
-use Rattle.marks.proofs.quiet.lacks.Statement.{statement}
-use Rattle.marks.proofs.quiet.lacks.Tie as tie
+use Rattle.linemarks.proofs.quiet.lacks.Statement.{statement}
+use Rattle.linemarks.proofs.quiet.lacks.Tie as tie
 
 marks-requires : tie.Need-marks-requires
 marks-requires c κs = search needs

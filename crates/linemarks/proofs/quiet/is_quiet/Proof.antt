@@ -1,11 +1,11 @@
--- `marks::quiet::is_quiet` meets its contract. Assumes nothing.
+-- `linemarks::quiet::is_quiet` meets its contract. Assumes nothing.
 use native.Mathlib.Omega.{arith}
 use borrow.Author.Needs.{needs}
 use borrow.Author.Tests.{not-true, not-false}
 use Rattle.laws.proofs.Scans.{and-here, and-second}
-use Rattle.marks.specs.Quiet.{is-quiet}
-use Rattle.marks.proofs.quiet.is_quiet.Statement.{statement}
-use Rattle.marks.proofs.quiet.is_quiet.Tie as tie
+use Rattle.linemarks.specs.Quiet.{is-quiet}
+use Rattle.linemarks.proofs.quiet.is_quiet.Statement.{statement}
+use Rattle.linemarks.proofs.quiet.is_quiet.Tie as tie
 
 lacks-requires : tie.Need-lacks-requires
 lacks-requires c κs = omega (arith, c .pre)

@@ -22,8 +22,8 @@ use Rattle.lines.specs.Words.{tokens-of}
 use Rattle.lines.specs.Marks.{of-number, steers}
 use Rattle.lines.specs.Lines.{marks-of, part-of, Lined}
 use Rattle.lines.proofs.codes.Coding.{number-below}
-use Rattle.marks.specs.Quiet.{is-quiet}
-use Rattle.marks.proofs.Tokens.{steers-mark, number-mark}
+use Rattle.linemarks.specs.Quiet.{is-quiet}
+use Rattle.linemarks.proofs.Tokens.{steers-mark, number-mark}
 
 -- ---- tests of tokens that imply others
 

@@ -1,10 +1,10 @@
--- `marks::marking::family_bits` meets its contract. Assumes nothing.
+-- `linemarks::marking::family_bits` meets its contract. Assumes nothing.
 use native.Mathlib.Omega.{arith}
 use mathlib.Core.Path.{refl}
 use borrow.Author.Needs.{needs}
-use Rattle.marks.proofs.Tokens.{all-families, shift-fits, has-number, one-family}
-use Rattle.marks.proofs.marking.family_bits.Statement.{statement}
-use Rattle.marks.proofs.marking.family_bits.Tie as tie
+use Rattle.linemarks.proofs.Tokens.{all-families, shift-fits, has-number, one-family}
+use Rattle.linemarks.proofs.marking.family_bits.Statement.{statement}
+use Rattle.linemarks.proofs.marking.family_bits.Tie as tie
 
 code-requires : tie.Need-code-requires
 code-requires c κs = search needs

@@ -1,9 +1,9 @@
--- `marks::quiet::number_of` meets its contract. Assumes nothing.
+-- `linemarks::quiet::number_of` meets its contract. Assumes nothing.
 use Rattle.lines.proofs.fams.Families.{text-points}
-use Rattle.marks.proofs.Making.{row-is, text-is, text-other}
+use Rattle.linemarks.proofs.Making.{row-is, text-is, text-other}
 use borrow.Author.Needs.{needs}
-use Rattle.marks.proofs.quiet.number_of.Statement.{statement}
-use Rattle.marks.proofs.quiet.number_of.Tie as tie
+use Rattle.linemarks.proofs.quiet.number_of.Statement.{statement}
+use Rattle.linemarks.proofs.quiet.number_of.Tie as tie
 
 enum-known-f : tie.Need-enum-known-f
 enum-known-f c = search needs

@@ -19,8 +19,8 @@ use Rattle.lines.specs.Words.{kind-of, code-of, text-of, token-of, Points}
 use Rattle.lines.specs.Marks.{bit, of-number, steers, marked-by}
 use Rattle.lines.proofs.shapes.Tests.{is-it, is-not}
 use Rattle.lines.proofs.codes.Coding.{says, number-below}
-use Rattle.marks.specs.Marking.{Bits}
-use Rattle.marks.proofs.Bits.{power-bit, one-shifted}
+use Rattle.linemarks.specs.Marking.{Bits}
+use Rattle.linemarks.proofs.Bits.{power-bit, one-shifted}
 
 -- ---- `steers`, by the code's tests: x is the kind that was read
 

@@ -25,8 +25,8 @@ use Rattle.lines.specs.Fams.{fam-text, Known}
 use Rattle.lines.proofs.words.Scans.{any-next, any-false}
 use Rattle.lines.proofs.words.Lines.{marked-first, marked-count, marked-indent, marked-addressed, marked-origin, marked-marks}
 use Rattle.lines.proofs.codes.Coding.{says, name-whole, row-numbered, text-numbered, number-below}
-use Rattle.marks.specs.Marking.{Bits, Marked, Remarked}
-use Rattle.marks.proofs.Bits.{or-left, or-right, power-bit, turn-bit, one-shifted}
+use Rattle.linemarks.specs.Marking.{Bits, Marked, Remarked}
+use Rattle.linemarks.proofs.Bits.{or-left, or-right, power-bit, turn-bit, one-shifted}
 
 -- ---- the number of a family
 

@@ -12,7 +12,7 @@ ghost use Rattle.lines.specs.Words.{text-of, Points};
 ghost use Rattle.lines.specs.Lines.{marks-of};
 ghost use Rattle.lines.specs.Marks.{bit};
 ghost use Rattle.lines.specs.Fams.{fam-text, Known};
-ghost use Rattle.marks.specs.Quiet.{is-quiet};
+ghost use Rattle.linemarks.specs.Quiet.{is-quiet};
 
 // The mark of all that steers.
 const STEERS: u64 = 15;

@@ -1,10 +1,10 @@
--- `marks::quiet::name_number` meets its contract. Assumes nothing.
+-- `linemarks::quiet::name_number` meets its contract. Assumes nothing.
 use native.Mathlib.Omega.{arith}
 use Rattle.lines.proofs.codes.Coding.{bucket-small}
-use Rattle.marks.proofs.Making.{code-number, name-number}
+use Rattle.linemarks.proofs.Making.{code-number, name-number}
 use borrow.Author.Needs.{needs}
-use Rattle.marks.proofs.quiet.name_number.Statement.{statement}
-use Rattle.marks.proofs.quiet.name_number.Tie as tie
+use Rattle.linemarks.proofs.quiet.name_number.Statement.{statement}
+use Rattle.linemarks.proofs.quiet.name_number.Tie as tie
 
 code-requires : tie.Need-code-requires
 code-requires c κs = search needs

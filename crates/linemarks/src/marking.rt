@@ -7,7 +7,7 @@ ghost use Rattle.reference.specs.Lists.{any};
 ghost use Rattle.lines.specs.Words.{kind-of, token-of, tokens-of, Points, Holds};
 ghost use Rattle.lines.specs.Lines.{Lined, Listed};
 ghost use Rattle.lines.specs.Marks.{steers, marked-by};
-ghost use Rattle.marks.specs.Marking.{Bits, Marked, Remarked};
+ghost use Rattle.linemarks.specs.Marking.{Bits, Marked, Remarked};
 
 // All families, and all that steers.
 const FAMILIES: u64 = 32767;

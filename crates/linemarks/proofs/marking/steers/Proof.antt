@@ -1,8 +1,8 @@
--- `marks::marking::steers` meets its contract. Assumes nothing.
+-- `linemarks::marking::steers` meets its contract. Assumes nothing.
 use borrow.Author.Needs.{needs}
-use Rattle.marks.proofs.Tokens.{steers-keyword, steers-symbol, steers-brace}
-use Rattle.marks.proofs.marking.steers.Statement.{statement}
-use Rattle.marks.proofs.marking.steers.Tie as tie
+use Rattle.linemarks.proofs.Tokens.{steers-keyword, steers-symbol, steers-brace}
+use Rattle.linemarks.proofs.marking.steers.Statement.{statement}
+use Rattle.linemarks.proofs.marking.steers.Tie as tie
 
 kind-requires : tie.Need-kind-requires
 kind-requires c κs = search needs

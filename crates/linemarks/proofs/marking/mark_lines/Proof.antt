@@ -1,12 +1,12 @@
--- `marks::marking::mark_lines` meets its contract. Assumes nothing.
+-- `linemarks::marking::mark_lines` meets its contract. Assumes nothing.
 use Prim.Native.Nat.{_-_}
 use native.Mathlib.Omega.{arith}
 use lib.ListN.{length, length-set}
 use borrow.Author.Needs.{needs}
-use Rattle.marks.specs.Marking.{Remarked}
-use Rattle.marks.proofs.Making.{remarked-same, remarked-set, remarked-lined}
-use Rattle.marks.proofs.marking.mark_lines.Statement.{statement}
-use Rattle.marks.proofs.marking.mark_lines.Tie as tie
+use Rattle.linemarks.specs.Marking.{Remarked}
+use Rattle.linemarks.proofs.Making.{remarked-same, remarked-set, remarked-lined}
+use Rattle.linemarks.proofs.marking.mark_lines.Statement.{statement}
+use Rattle.linemarks.proofs.marking.mark_lines.Tie as tie
 
 abbrev Inv-loop : tie.InvT-loop
 Inv-loop tape area tokens lines₀ k₀ lines k = Remarked tape area tokens lines₀ lines

@@ -1,4 +1,4 @@
--- `marks::marking::bits_of` meets its contract. Assumes nothing.
+-- `linemarks::marking::bits_of` meets its contract. Assumes nothing.
 use Prim.Native.Nat.{ℕ, _-_, _<_}
 use native.Mathlib.Omega.{arith}
 use mathlib.Core.Path.{_≡_, refl}
@@ -8,9 +8,9 @@ use Rattle.reference.specs.Lists.{any}
 use Rattle.lines.specs.Words.{tokens-of}
 use Rattle.lines.specs.Marks.{bit, marked-by}
 use Rattle.lines.proofs.words.Tokens.{holds-at}
-use Rattle.marks.proofs.Making.{more-small, more-bits, all-bits}
-use Rattle.marks.proofs.marking.bits_of.Statement.{statement}
-use Rattle.marks.proofs.marking.bits_of.Tie as tie
+use Rattle.linemarks.proofs.Making.{more-small, more-bits, all-bits}
+use Rattle.linemarks.proofs.marking.bits_of.Statement.{statement}
+use Rattle.linemarks.proofs.marking.bits_of.Tie as tie
 
 abbrev Inv-loop : tie.InvT-loop
 Inv-loop tape area line has₀ k₀ has k = (has < 65536) × ((i : ℕ) → i < 16 → bit has i ≡ 0 → any (marked-by i) (tokens-of tape area line) ≡ any (marked-by i) (tokens-of tape area (drop k line)))

@@ -1,8 +1,8 @@
--- `marks::marking::marked` meets its contract. Assumes nothing.
-use Rattle.marks.proofs.Making.{turned-small, marked-with}
+-- `linemarks::marking::marked` meets its contract. Assumes nothing.
+use Rattle.linemarks.proofs.Making.{turned-small, marked-with}
 use borrow.Author.Needs.{needs}
-use Rattle.marks.proofs.marking.marked.Statement.{statement}
-use Rattle.marks.proofs.marking.marked.Tie as tie
+use Rattle.linemarks.proofs.marking.marked.Statement.{statement}
+use Rattle.linemarks.proofs.marking.marked.Tie as tie
 
 line-of-requires : tie.Need-line-of-requires
 line-of-requires c κs = search needs

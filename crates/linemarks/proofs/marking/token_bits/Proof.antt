@@ -1,8 +1,8 @@
--- `marks::marking::token_bits` meets its contract. Assumes nothing.
+-- `linemarks::marking::token_bits` meets its contract. Assumes nothing.
 use borrow.Author.Needs.{needs}
-use Rattle.marks.proofs.Tokens.{steers-bits, no-bits}
-use Rattle.marks.proofs.marking.token_bits.Statement.{statement}
-use Rattle.marks.proofs.marking.token_bits.Tie as tie
+use Rattle.linemarks.proofs.Tokens.{steers-bits, no-bits}
+use Rattle.linemarks.proofs.marking.token_bits.Statement.{statement}
+use Rattle.linemarks.proofs.marking.token_bits.Tie as tie
 
 kind-requires : tie.Need-kind-requires
 kind-requires c κs = search needs
