@@ -2,25 +2,21 @@
 use Prim.Native.Nat.{ℕ, suc, _+_, _≤_, _<_}
 use native.Mathlib.Omega.{arith}
 use native.Mathlib.Numerals.{add-one}
-use native.Mathlib.Decide.{ℕ-discrete}
-use mathlib.Core.Logic.{by-cases}
 use mathlib.Core.Path.{_≡_, sym, ap, _∙_}
 use mathlib.Core.Bool.{true, false}
 use mathlib.Core.List.{List, [], _∷_, map}
 use mathlib.Core.Option.{Option, none, some}
 use lib.ListN.{length, getD, take, drop, drop-of-length-le, length-map, List·getD-map}
-use lib.Seq.{drop-cons, getD-take, length-take-le}
+use lib.Seq.{drop-cons}
 use borrow.Author.Tests.{eq-eqb, ne-eqb, lt-ltb, le-ltb}
 use Rattle.reference.specs.Control.{if_then_else_, let-some_else_then_}
 use Rattle.reference.specs.Lists.{position}
 use Rattle.reference.specs.Text.{Text, _==_}
 use Rattle.reference.specs.Names.{Fam, legacy}
-use Rattle.reference.proofs.Cases.{fails}
-use Rattle.laws.proofs.Scans.{if-true, if-false, from, position-begin, position-hit, position-miss, position-end, same-lengths}
+use Rattle.laws.proofs.Scans.{if-true, if-false, from, position-begin, position-hit, position-miss, position-end}
 use Rattle.names.specs.declared.families.Listed.the-variants.{At, Nothing as Unlisted}
 use Rattle.names.specs.Tables.{unpadded, found, Column}
 use Rattle.names.specs.Families.{Lists}
-use Rattle.names.proofs.Texts.{same-true}
 
 -- ---- a name
 
@@ -32,20 +28,6 @@ module _ (name : Text) where
   pub three-bytes : (getD name 2 0 ≡ 0 → ⊥) → unpadded name ≡ name
   unfolding unpadded
   three-bytes n = if-false _ _ (ne-eqb (getD name 2 0) 0 n)
-
-  -- its second byte, which a text of less than two has not
-  module _ (two : 2 ≤ length name) where
-    second : getD (unpadded name) 1 0 ≡ getD name 1 0
-    second = by-cases (ℕ-discrete (getD name 2 0) 0) (λ e. rw (two-bytes e) (getD-take 2 name 1 0 (omega arith))) (λ n. rw (three-bytes n))
-
-    long : 2 ≤ length (unpadded name)
-    long = by-cases (ℕ-discrete (getD name 2 0) 0) (λ e. rw (two-bytes e) (rw (length-take-le 2 name two) (omega arith))) (λ n. rw (three-bytes n) two)
-
-    pub name-short : (s : Text) → length s < 2 → false ≡ (unpadded name == s)
-    name-short s h = sym (same-lengths (unpadded name) s (λ e. omega (arith, long)))
-
-    pub name-other : (s : Text) → (getD s 1 0 ≡ getD name 1 0 → ⊥) → false ≡ (unpadded name == s)
-    name-other s n = sym (fails (λ t. n (sym (ap (λ (x : Text). getD x 1 0) (same-true (unpadded name) s t)) ∙ second)))
 
 -- ---- a place in a row
 

@@ -4,27 +4,14 @@ ghost use mathlib.Core.Path.{_≡_};
 ghost use Rattle.reference.specs.Text.{_==_};
 ghost use Rattle.names.specs.Tables.{unpadded, Column};
 
-// Whether s is the name, byte for byte.
-fn is_same_name(s: &[u8], name: [u8; 3]) -> bool
+// Whether s is the name.
+fn is_name(s: &[u8], name: [u8; 3]) -> bool
     ensures { λ r. ⌜ r ≡ (unpadded name == now (s .entry)) ⌝ }
 {
     if name[2] == 0 {
         return same(&name[..2], s);
     }
     same(&name, s)
-}
-
-// Whether s is the name. The second byte tells most names apart.
-fn is_name(s: &[u8], name: [u8; 3]) -> bool
-    ensures { λ r. ⌜ r ≡ (unpadded name == now (s .entry)) ⌝ }
-{
-    if s.len() < 2 {
-        return false;
-    }
-    if s[1] != name[1] {
-        return false;
-    }
-    is_same_name(s, name)
 }
 
 // The place of s in the row; 4 if it is none of the names.
