@@ -3,7 +3,7 @@
 //! SAMPLE is a file with a convention byte and a tape (samples/press.tape). With a NAME only that listing is called, by the library alone, for five
 //! seconds: for a profiler. A benchmark, not a test: it passes no verdict.
 
-include!("stand_ins.rs");
+include!("copies.rs");
 mod door;
 mod library;
 

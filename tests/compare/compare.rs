@@ -4,7 +4,7 @@
 //!     compare answer              one input, a convention byte and a tape, from standard input: the Rust's whole answer
 //!     compare input SEED NUMBER   writes one input of a set, a convention byte and a tape, to standard output
 
-include!("stand_ins.rs");
+include!("copies.rs");
 mod door;
 #[cfg(more)]
 mod gen;

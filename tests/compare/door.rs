@@ -1,20 +1,9 @@
 //! Document 01 around the Rust: the tape, the questions in their order, and one call with its counts.
 
+pub use crate::model::KINDS;
 use crate::model::{Token, TokenKind};
 use crate::probe;
 use crate::pseudo::PseudoLine;
-
-/// In the order of the tape's commands.
-pub const KINDS: [TokenKind; 8] = [
-    TokenKind::Text,
-    TokenKind::Register,
-    TokenKind::Number,
-    TokenKind::Keyword,
-    TokenKind::Symbol,
-    TokenKind::Address,
-    TokenKind::Punct,
-    TokenKind::Prefix,
-];
 
 pub const MOST_TAPE: usize = 65_536;
 pub const WORK: usize = 65_536;

@@ -5,60 +5,7 @@ mod pseudo_opt;
 use model::{Token, TokenKind};
 use pseudo::PseudoLine;
 
-/// Stand-ins for what pseudo_opt.rs names of its own crate.
-pub mod model {
-    #[derive(Clone, Copy, PartialEq)]
-    pub enum TokenKind {
-        Text,
-        Register,
-        Number,
-        Keyword,
-        Symbol,
-        Punct,
-    }
-
-    #[derive(Clone)]
-    pub struct Token {
-        pub t: String,
-        pub k: TokenKind,
-    }
-}
-
-pub mod pseudo {
-    pub struct PseudoLine {
-        pub indent: u8,
-        pub tokens: Vec<crate::model::Token>,
-    }
-}
-
-/// No prototype is known, so `symbolize_args` changes nothing.
-pub mod protos {
-    pub struct Proto {
-        pub params: &'static [&'static str],
-    }
-
-    pub fn lookup(_name: &str) -> Option<&'static Proto> {
-        None
-    }
-
-    pub fn param_name(p: &str) -> &str {
-        p
-    }
-}
-
-pub mod operands {
-    pub fn param_enum(_function: &str, _param: &str) -> Option<&'static str> {
-        None
-    }
-}
-
-pub struct Binary;
-
-impl Binary {
-    pub fn enum_text(&self, _e: &str, _v: i64, _bits: u32) -> Option<String> {
-        None
-    }
-}
+include!("stand_ins.rs");
 
 fn token(k: TokenKind, t: &str) -> Token {
     Token { t: t.to_string(), k }
@@ -84,7 +31,7 @@ fn folded(a: &str, op: &str, b: &str) -> String {
 /// `name = x;` `use name` `f();` `use name`: `optimize` joins the first two lines where the call overwrites the register.
 fn volatile(convention: usize, name: &str) -> String {
     let (bits, sysv) = [(32, false), (64, true), (64, false)][convention];
-    let line = |tokens| PseudoLine { indent: 0, tokens };
+    let line = |tokens| PseudoLine { address: None, indent: 0, tokens };
     let reads = || line(vec![token(TokenKind::Text, "use "), token(TokenKind::Register, name)]);
     let mut lines = vec![
         line(vec![

@@ -40,7 +40,8 @@ def build(source, folder):
             raise RuntimeError(f"the place of a hook was found {text.count(old)} times, not once: {old!r}")
         text = text.replace(old, new)
     (folder / "instrumented.rs").write_text(text, encoding="utf-8")
-    (folder / "driver.rs").write_text((HERE / "driver.rs").read_text(encoding="utf-8"), encoding="utf-8")
+    for file in (HERE / "driver.rs", HERE.parent / "stand_ins.rs"):
+        (folder / file.name).write_text(file.read_text(encoding="utf-8"), encoding="utf-8")
     program = folder / "driver"
     subprocess.run(
         ["rustc", "--edition", "2021", "-C", "opt-level=3", "-C", "overflow-checks=off", "-C", "debug-assertions=off",

@@ -1,0 +1,53 @@
+// The two copies of pseudo_opt.rs, what they lean on, and the counters; included at the root of each program.
+
+mod counting;
+mod reference;
+
+include!("stand_ins.rs");
+
+/// What the counting copy calls.
+pub mod probe {
+    use crate::pseudo::PseudoLine;
+    use std::cell::Cell;
+
+    #[derive(Debug, Clone, Copy, Default, PartialEq, Eq)]
+    pub struct Counts {
+        pub rounds: usize,
+        pub attempts: [u64; 3],
+        pub removed: u64,
+        pub cuts: u64,
+    }
+
+    thread_local! {
+        static COUNTS: Cell<Counts> = const { Cell::new(Counts { rounds: 0, attempts: [0; 3], removed: 0, cuts: 0 }) };
+    }
+
+    fn change(f: impl FnOnce(&mut Counts)) {
+        COUNTS.with(|c| {
+            let mut n = c.get();
+            f(&mut n);
+            c.set(n);
+        });
+    }
+
+    pub fn round() {
+        change(|c| c.rounds += 1);
+    }
+
+    pub fn attempt(removed: bool, _lines: &[PseudoLine]) -> bool {
+        change(|c| {
+            c.attempts[c.rounds - 1] += 1;
+            c.removed += removed as u64;
+        });
+        removed
+    }
+
+    pub fn cut(_lines: &[PseudoLine]) {
+        change(|c| c.cuts += 1);
+    }
+
+    /// What was counted since the last call.
+    pub fn take() -> Counts {
+        COUNTS.take()
+    }
+}
