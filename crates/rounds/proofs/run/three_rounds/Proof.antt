@@ -16,9 +16,8 @@ next-round-requires c κs =
 
 next-round-requires-2 : tie.Need-next-round-requires-2
 next-round-requires-2 c κs =
-    let one = c .before .before .before .before .before .before .before .before .before .before .before .before .before .before .before .before .before .before .before .before .before .before .before .before .before .before .before .before .before .before .before .before .before .before .before .before .before .before .before .before .before .before .before .before .before .before .before .before .before .propagate-once in
     let two = c .before .before .before .before .before .before .before .before .before .before .before .before .before .before .before .before .before .before .before .before .before .before .before .before .next-round in
-    runnable-again (two .last .1 .1 .1 .1 .0) (two .last .1 .1 .1 .1 .1 .0) (two .last .1 .1 .1 .1 .1 .1 .0) (two .last .1 .1 .1 .1 .1 .1 .1 .0) (two .last .1 .1 .1 .1 .1 .1 .1 .1 .0) (runnable-again (one .last .1 .1 .1 .1 .0) (one .last .1 .1 .1 .1 .1 .0) (one .last .1 .1 .1 .1 .1 .1 .0) (one .last .1 .1 .1 .1 .1 .1 .1 .0) (one .last .1 .1 .1 .1 .1 .1 .1 .1 .0) (c .before .before .before .before .before .before .before .before .before .before .before .before .before .before .before .before .before .before .before .before .before .before .before .before .before .before .before .before .before .before .before .before .before .before .before .before .before .before .before .before .before .before .before .before .before .before .before .before .before .before .before .before .before .before .before .before .before .before .before .before .before .before .before .before .before .before .before .pre) (one .ensures) (one .kept .1 .0) (one .kept .1 .1 .0) (one .kept .1 .1 .1 .1 .0) (one .kept .1 .1 .1 .1 .1 .0) (one .kept .1 .1 .1 .1 .1 .1 .0) (one .kept .1 .1 .1 .1 .1 .1 .1 .0) (one .kept .1 .1 .1 .1 .1 .1 .1 .1 .0)) (two .ensures) (two .kept .1 .0) (two .kept .1 .1 .0) (two .kept .1 .1 .1 .1 .0) (two .kept .1 .1 .1 .1 .1 .0) (two .kept .1 .1 .1 .1 .1 .1 .0) (two .kept .1 .1 .1 .1 .1 .1 .1 .0) (two .kept .1 .1 .1 .1 .1 .1 .1 .1 .0)
+    runnable-again (two .last .1 .1 .1 .1 .0) (two .last .1 .1 .1 .1 .1 .0) (two .last .1 .1 .1 .1 .1 .1 .0) (two .last .1 .1 .1 .1 .1 .1 .1 .0) (two .last .1 .1 .1 .1 .1 .1 .1 .1 .0) (next-round-requires (c .before .before .before .before .before .before .before .before .before .before .before .before .before .before .before .before .before .before .before .before .before .before .before .before .before) κs) (two .ensures) (two .kept .1 .0) (two .kept .1 .1 .0) (two .kept .1 .1 .1 .1 .0) (two .kept .1 .1 .1 .1 .1 .0) (two .kept .1 .1 .1 .1 .1 .1 .0) (two .kept .1 .1 .1 .1 .1 .1 .1 .0) (two .kept .1 .1 .1 .1 .1 .1 .1 .1 .0)
 
 add-t64 : tie.Need-add-t64
 add-t64 c = omega (arith, c .before .before .before .before .before .before .before .before .before .before .before .before .before .before .before .before .before .before .before .before .before .before .before .before .before .before .before .before .before .before .before .before .before .before .before .before .before .before .before .before .before .before .before .before .before .before .before .before .before .before .before .before .before .before .before .before .before .before .before .before .before .before .before .before .before .before .before .before .before .propagate-once .ensures .few .1, c .before .before .before .before .before .before .before .before .before .before .before .before .before .before .before .before .before .before .before .before .before .before .before .before .before .before .before .before .before .before .before .before .before .before .before .before .before .before .before .before .before .before .before .before .next-round .ensures .few .1)
