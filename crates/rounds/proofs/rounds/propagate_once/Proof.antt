@@ -2,7 +2,6 @@
 use native.Mathlib.Omega.{arith}
 use mathlib.Core.Path.{sym, _∙_}
 use lib.Seq.{length-take-le, length-front}
-use borrow.Author.Needs.{needs}
 use Rattle.rounds.proofs.Turning.{now-few}
 use Rattle.rounds.proofs.Beginning.{begin-room, begin-inside, begin-roundable, begin-made}
 use Rattle.rounds.proofs.rounds.propagate_once.Statement.{statement}

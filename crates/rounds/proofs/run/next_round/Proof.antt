@@ -1,5 +1,4 @@
 -- `rounds::run::next_round` meets its contract. Assumes nothing.
-use borrow.Author.Needs.{needs}
 use Rattle.rounds.proofs.Running.{made-none, made-again}
 use Rattle.rounds.proofs.run.next_round.Statement.{statement}
 use Rattle.rounds.proofs.run.next_round.Tie as tie
@@ -8,7 +7,7 @@ returns : tie.Need-returns
 returns c = made-none _ _ (c .before .before .before .before .before .before .before .before .before .before .before .before .pre) (c .if1 .taken)
 
 propagate-once-requires : tie.Need-propagate-once-requires
-propagate-once-requires c κs = search needs
+propagate-once-requires c κs = c .before .before .before .before .before .before .before .before .before .before .before .before .before .before .before .before .before .before .before .before .pre
 
 same-length : tie.Need-same-length
 same-length c = c .before .before .before .before .before .before .before .before .before .before .before .before .before .before .before .before .propagate-once .kept .1 .0

@@ -2,7 +2,6 @@
 use native.Mathlib.Omega.{arith}
 use mathlib.Core.Path.{sym, _∙_}
 use lib.Seq.{length-take-le, length-front}
-use borrow.Author.Needs.{needs}
 use Rattle.rounds.proofs.Turning.{now-few}
 use Rattle.rounds.proofs.Running.{run-made}
 use Rattle.rounds.proofs.Marking.{runnable-same, rounded-same}
@@ -10,7 +9,7 @@ use Rattle.rounds.proofs.run.optimize.Statement.{statement}
 use Rattle.rounds.proofs.run.optimize.Tie as tie
 
 mark-requires : tie.Need-mark-requires
-mark-requires c κs = search needs
+mark-requires c κs = c .before .before .before .before .before .before .before .before .before .before .before .before .pre .current
 
 three-rounds-requires : tie.Need-three-rounds-requires
 three-rounds-requires c κs = runnable-same (c .before .before .before .before .before .before .before .before .before .before .mark .ensures) (c .before .before .before .before .before .before .before .before .before .before .before .before .before .before .before .before .before .before .before .before .before .before .before .pre)

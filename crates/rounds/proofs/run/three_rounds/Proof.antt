@@ -1,13 +1,12 @@
 -- `rounds::run::three_rounds` meets its contract. Assumes nothing.
 use native.Mathlib.Omega.{arith}
 use mathlib.Core.Path.{_∙_}
-use borrow.Author.Needs.{needs}
 use Rattle.rounds.proofs.Running.{runnable-again, rounds-made}
 use Rattle.rounds.proofs.run.three_rounds.Statement.{statement}
 use Rattle.rounds.proofs.run.three_rounds.Tie as tie
 
 propagate-once-requires : tie.Need-propagate-once-requires
-propagate-once-requires c κs = search needs
+propagate-once-requires c κs = c .before .before .before .before .before .before .before .before .before .before .before .before .before .before .before .before .before .pre
 
 next-round-requires : tie.Need-next-round-requires
 next-round-requires c κs =
