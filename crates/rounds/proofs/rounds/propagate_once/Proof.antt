@@ -2,26 +2,25 @@
 use native.Mathlib.Omega.{arith}
 use mathlib.Core.Path.{sym, _∙_}
 use lib.Seq.{length-take-le, length-front}
-use borrow.Author.Needs.{needs}
 use Rattle.rounds.proofs.Turning.{now-few}
 use Rattle.rounds.proofs.Beginning.{begin-room, begin-inside, begin-roundable, begin-made}
 use Rattle.rounds.proofs.rounds.propagate_once.Statement.{statement}
 use Rattle.rounds.proofs.rounds.propagate_once.Tie as tie
 
 slice-reshare-prefix-gather-labels : tie.Need-slice-reshare-prefix-gather-labels
-slice-reshare-prefix-gather-labels c = search needs
+slice-reshare-prefix-gather-labels c = c .before .before .before .before .before .before .before .before .before .pre .current .text-fits
 
 slice-aggregate-gather-labels : tie.Need-slice-aggregate-gather-labels
 slice-aggregate-gather-labels c = sym (length-take-le _ _ (c .before .before .before .before .before .before .before .before .before .before .pre .current .text-fits))
 
 slice-reshare-prefix-gather-labels-2 : tie.Need-slice-reshare-prefix-gather-labels-2
-slice-reshare-prefix-gather-labels-2 c = search needs
+slice-reshare-prefix-gather-labels-2 c = c .before .before .before .before .before .before .before .before .before .before .pre .current .words-fit
 
 slice-aggregate-gather-labels-2 : tie.Need-slice-aggregate-gather-labels-2
 slice-aggregate-gather-labels-2 c = sym (length-take-le _ _ (c .before .before .before .before .before .before .before .before .before .before .before .pre .current .words-fit))
 
 slice-reshare-prefix-gather-labels-3 : tie.Need-slice-reshare-prefix-gather-labels-3
-slice-reshare-prefix-gather-labels-3 c = search needs
+slice-reshare-prefix-gather-labels-3 c = c .before .before .before .before .before .before .before .before .before .before .before .pre .current .lines-fit
 
 slice-aggregate-gather-labels-3 : tie.Need-slice-aggregate-gather-labels-3
 slice-aggregate-gather-labels-3 c = sym (length-take-le _ _ (c .before .before .before .before .before .before .before .before .before .before .before .before .pre .current .lines-fit))
@@ -34,19 +33,19 @@ gather-labels-requires c κs =
     (p .current .listed, omega (arith, p .for-labels, now-few (p .current) (p .limits)))
 
 slice-reshare-prefix-gather-slots : tie.Need-slice-reshare-prefix-gather-slots
-slice-reshare-prefix-gather-slots c = search needs
+slice-reshare-prefix-gather-slots c = c .before .before .before .before .before .before .before .before .before .before .before .before .before .before .before .before .pre .current .text-fits
 
 slice-aggregate-gather-slots : tie.Need-slice-aggregate-gather-slots
 slice-aggregate-gather-slots c = sym (length-take-le _ _ (c .before .before .before .before .before .before .before .before .before .before .before .before .before .before .before .before .before .pre .current .text-fits))
 
 slice-reshare-prefix-gather-slots-2 : tie.Need-slice-reshare-prefix-gather-slots-2
-slice-reshare-prefix-gather-slots-2 c = search needs
+slice-reshare-prefix-gather-slots-2 c = c .before .before .before .before .before .before .before .before .before .before .before .before .before .before .before .before .before .pre .current .words-fit
 
 slice-aggregate-gather-slots-2 : tie.Need-slice-aggregate-gather-slots-2
 slice-aggregate-gather-slots-2 c = sym (length-take-le _ _ (c .before .before .before .before .before .before .before .before .before .before .before .before .before .before .before .before .before .before .pre .current .words-fit))
 
 slice-reshare-prefix-gather-slots-3 : tie.Need-slice-reshare-prefix-gather-slots-3
-slice-reshare-prefix-gather-slots-3 c = search needs
+slice-reshare-prefix-gather-slots-3 c = c .before .before .before .before .before .before .before .before .before .before .before .before .before .before .before .before .before .before .pre .current .lines-fit
 
 slice-aggregate-gather-slots-3 : tie.Need-slice-aggregate-gather-slots-3
 slice-aggregate-gather-slots-3 c = sym (length-take-le _ _ (c .before .before .before .before .before .before .before .before .before .before .before .before .before .before .before .before .before .before .before .pre .current .lines-fit))
@@ -61,13 +60,13 @@ slice-aggregate-turns : tie.Need-slice-aggregate-turns
 slice-aggregate-turns c = sym (length-take-le _ _ (begin-inside (c .before .before .before .before .before .before .before .before .before .before .before .before .before .before .before .before .before .before .before .before .before .before .before .before .before .before .before .before .before .before .before .before .pre) (c .before .before .before .before .before .before .before .before .before .before .before .before .before .before .before .before .before .before .gather-labels .ensures)))
 
 slice-reshare-prefix-turns : tie.Need-slice-reshare-prefix-turns
-slice-reshare-prefix-turns c = search needs
+slice-reshare-prefix-turns c = c .before .before .before .before .before .before .before .before .before .before .gather-slots .ensures .slotting .text-fits
 
 slice-aggregate-turns-2 : tie.Need-slice-aggregate-turns-2
 slice-aggregate-turns-2 c = sym (length-take-le _ _ (c .before .before .before .before .before .before .before .before .before .before .before .gather-slots .ensures .slotting .text-fits))
 
 slice-reshare-prefix-turns-2 : tie.Need-slice-reshare-prefix-turns-2
-slice-reshare-prefix-turns-2 c = search needs
+slice-reshare-prefix-turns-2 c = c .before .before .before .before .before .before .before .before .before .before .before .gather-slots .ensures .slotting .words-fit
 
 slice-aggregate-turns-3 : tie.Need-slice-aggregate-turns-3
 slice-aggregate-turns-3 c = sym (length-take-le _ _ (c .before .before .before .before .before .before .before .before .before .before .before .before .gather-slots .ensures .slotting .words-fit))
@@ -76,19 +75,19 @@ turns-requires : tie.Need-turns-requires
 turns-requires c κs = begin-roundable (c .before .before .before .before .before .before .before .before .before .before .before .before .before .before .before .before .before .before .before .before .before .before .before .before .before .before .before .before .before .before .before .before .before .before .pre) (c .before .before .before .before .before .before .before .before .before .before .before .before .before .before .before .before .before .before .before .before .gather-labels .ensures) (c .before .before .before .before .before .before .before .before .before .before .before .before .gather-slots .ensures)
 
 same-length : tie.Need-same-length
-same-length c = search needs
+same-length c = c .before .before .before .before .before .before .before .before .before .before .before .before .turns .kept .1 .0
 
 same-length-2 : tie.Need-same-length-2
-same-length-2 c = search needs
+same-length-2 c = c .before .before .before .before .before .before .before .before .before .before .before .before .turns .kept .1 .1 .0
 
 same-length-3 : tie.Need-same-length-3
-same-length-3 c = search needs
+same-length-3 c = c .before .before .before .before .before .before .before .before .before .before .before .before .turns .kept .1 .1 .1 .0
 
 same-length-4 : tie.Need-same-length-4
-same-length-4 c = search needs
+same-length-4 c = c .before .before .before .before .before .before .before .before .before .before .before .before .turns .kept .1 .1 .1 .1 .0
 
 same-length-5 : tie.Need-same-length-5
-same-length-5 c = search needs
+same-length-5 c = c .before .before .before .before .before .before .before .before .before .before .before .before .turns .kept .1 .1 .1 .1 .1 .0
 
 same-length-6 : tie.Need-same-length-6
 same-length-6 c =
@@ -97,10 +96,10 @@ same-length-6 c =
     length-front (g .last .1 .1 .1 .1 .0) (t .last .1 .1 .1 .1 .1 .1 .0) (g .result) (t .kept .1 .1 .1 .1 .1 .1 .0) ∙ g .kept .1 .1 .1 .1 .0
 
 same-length-7 : tie.Need-same-length-7
-same-length-7 c = search needs
+same-length-7 c = c .before .before .before .before .before .before .before .before .before .before .before .before .before .before .before .before .before .before .before .before .before .before .before .before .before .gather-slots .kept .1 .1 .1 .1 .0
 
 same-length-8 : tie.Need-same-length-8
-same-length-8 c = search needs
+same-length-8 c = c .before .before .before .before .before .before .before .before .before .before .before .before .before .before .before .before .before .before .before .before .before .before .before .before .before .gather-slots .kept .1 .1 .1 .1 .1 .0
 
 returns : tie.Need-returns
 returns c = begin-made (c .before .before .before .before .before .before .before .before .before .before .before .before .before .before .before .before .before .before .before .before .before .before .before .before .before .before .before .before .before .before .before .before .before .before .before .before .before .before .before .before .before .before .before .before .before .before .before .pre) (c .before .before .before .before .before .before .before .before .before .before .before .before .before .before .before .before .before .before .before .before .before .before .before .before .before .before .before .before .before .before .before .before .before .gather-labels .ensures) (c .before .before .before .before .before .before .before .before .before .before .before .before .before .before .before .before .before .before .before .before .before .before .before .before .before .gather-slots .ensures) _ (c .before .before .before .before .before .before .before .before .before .before .before .before .turns .ensures)

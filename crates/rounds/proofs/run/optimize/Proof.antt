@@ -2,7 +2,6 @@
 use native.Mathlib.Omega.{arith}
 use mathlib.Core.Path.{sym, _∙_}
 use lib.Seq.{length-take-le, length-front}
-use borrow.Author.Needs.{needs}
 use Rattle.rounds.proofs.Turning.{now-few}
 use Rattle.rounds.proofs.Running.{run-made}
 use Rattle.rounds.proofs.Marking.{runnable-same, rounded-same}
@@ -10,25 +9,25 @@ use Rattle.rounds.proofs.run.optimize.Statement.{statement}
 use Rattle.rounds.proofs.run.optimize.Tie as tie
 
 mark-requires : tie.Need-mark-requires
-mark-requires c κs = search needs
+mark-requires c κs = c .before .before .before .before .before .before .before .before .before .before .before .before .pre .current
 
 three-rounds-requires : tie.Need-three-rounds-requires
 three-rounds-requires c κs = runnable-same (c .before .before .before .before .before .before .before .before .before .before .mark .ensures) (c .before .before .before .before .before .before .before .before .before .before .before .before .before .before .before .before .before .before .before .before .before .before .before .pre)
 
 slice-reshare-prefix-drop-dead-results : tie.Need-slice-reshare-prefix-drop-dead-results
-slice-reshare-prefix-drop-dead-results c = search needs
+slice-reshare-prefix-drop-dead-results c = c .before .before .before .before .before .before .before .before .before .before .before .before .before .before .before .before .before .three-rounds .ensures .current .text-fits
 
 slice-aggregate-drop-dead-results : tie.Need-slice-aggregate-drop-dead-results
 slice-aggregate-drop-dead-results c = sym (length-take-le _ _ (c .before .before .before .before .before .before .before .before .before .before .before .before .before .before .before .before .before .before .three-rounds .ensures .current .text-fits))
 
 slice-reshare-prefix-drop-dead-results-2 : tie.Need-slice-reshare-prefix-drop-dead-results-2
-slice-reshare-prefix-drop-dead-results-2 c = search needs
+slice-reshare-prefix-drop-dead-results-2 c = c .before .before .before .before .before .before .before .before .before .before .before .before .before .before .before .before .before .before .three-rounds .ensures .current .words-fit
 
 slice-aggregate-drop-dead-results-2 : tie.Need-slice-aggregate-drop-dead-results-2
 slice-aggregate-drop-dead-results-2 c = sym (length-take-le _ _ (c .before .before .before .before .before .before .before .before .before .before .before .before .before .before .before .before .before .before .before .three-rounds .ensures .current .words-fit))
 
 slice-relend-prefix-drop-dead-results : tie.Need-slice-relend-prefix-drop-dead-results
-slice-relend-prefix-drop-dead-results c = search needs
+slice-relend-prefix-drop-dead-results c = c .before .before .before .before .before .before .before .before .before .before .before .before .before .before .before .before .before .before .before .three-rounds .ensures .current .lines-fit
 
 slice-aggregate-drop-dead-results-3 : tie.Need-slice-aggregate-drop-dead-results-3
 slice-aggregate-drop-dead-results-3 c = sym (length-take-le _ _ (c .before .before .before .before .before .before .before .before .before .before .before .before .before .before .before .before .before .before .before .before .three-rounds .ensures .current .lines-fit))
@@ -46,10 +45,10 @@ drop-dead-results-requires c κs =
     )
 
 same-length : tie.Need-same-length
-same-length c = search needs
+same-length c = c .before .before .before .before .before .before .before .before .before .before .before .before .before .before .before .before .before .before .before .before .before .before .before .before .before .before .three-rounds .kept .1 .0
 
 same-length-2 : tie.Need-same-length-2
-same-length-2 c = search needs
+same-length-2 c = c .before .before .before .before .before .before .before .before .before .before .before .before .before .before .before .before .before .before .before .before .before .before .before .before .before .before .three-rounds .kept .1 .1 .0
 
 same-length-3 : tie.Need-same-length-3
 same-length-3 c =
@@ -58,19 +57,19 @@ same-length-3 c =
     length-front (t .last .1 .1 .1 .0) (d .last .1 .1 .1 .0) (t .result .size .lines) (d .kept .1 .1 .1 .0) ∙ t .kept .1 .1 .1 .0 ∙ c .before .before .before .before .before .before .before .before .before .before .before .before .before .before .before .before .before .before .before .before .before .before .before .before .before .before .before .before .before .before .before .before .before .before .before .before .before .mark .kept .1 .1 .1 .0
 
 same-length-4 : tie.Need-same-length-4
-same-length-4 c = search needs
+same-length-4 c = c .before .before .before .before .before .before .before .before .before .before .before .before .before .before .before .before .before .before .before .before .before .before .before .before .before .before .three-rounds .kept .1 .1 .1 .1 .0
 
 same-length-5 : tie.Need-same-length-5
-same-length-5 c = search needs
+same-length-5 c = c .before .before .before .before .before .before .before .before .before .before .before .before .before .before .before .before .before .before .before .before .before .before .before .before .before .before .three-rounds .kept .1 .1 .1 .1 .1 .0
 
 same-length-6 : tie.Need-same-length-6
-same-length-6 c = search needs
+same-length-6 c = c .before .before .before .before .drop-dead-results .kept .1 .1 .1 .1 .0 ∙ c .before .before .before .before .before .before .before .before .before .before .before .before .before .before .before .before .before .before .before .before .before .before .before .before .before .before .three-rounds .kept .1 .1 .1 .1 .1 .1 .0
 
 same-length-7 : tie.Need-same-length-7
-same-length-7 c = search needs
+same-length-7 c = c .before .before .before .before .before .before .before .before .before .before .before .before .before .before .before .before .before .before .before .before .before .before .before .before .before .before .three-rounds .kept .1 .1 .1 .1 .1 .1 .1 .0
 
 same-length-8 : tie.Need-same-length-8
-same-length-8 c = search needs
+same-length-8 c = c .before .before .before .before .before .before .before .before .before .before .before .before .before .before .before .before .before .before .before .before .before .before .before .before .before .before .three-rounds .kept .1 .1 .1 .1 .1 .1 .1 .1 .0
 
 returns : tie.Need-returns
 returns c = run-made _ (rounded-same (c .before .before .before .before .before .before .before .before .before .before .before .before .before .before .before .before .before .before .before .before .before .before .before .before .before .before .before .before .before .before .before .before .before .before .before .before .before .mark .ensures) (c .before .before .before .before .before .before .before .before .before .before .before .before .before .before .before .before .before .before .before .before .before .before .before .before .before .before .three-rounds .ensures)) (c .before .before .before .before .drop-dead-results .ensures) (c .before .before .before .before .drop-dead-results .kept .1 .1 .1 .0)
