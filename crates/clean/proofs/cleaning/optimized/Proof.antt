@@ -1,13 +1,9 @@
 -- `clean::cleaning::optimized` meets its contract: its own tables are large enough. Assumes nothing.
-use Prim.Native.Nat.{_≤_}
 use native.Mathlib.Nat.{le-refl}
-use native.Mathlib.Omega.{arith}
 use mathlib.Core.Path.{refl}
+use Rattle.clean.proofs.Running.{enough-words}
 use Rattle.clean.proofs.cleaning.optimized.Statement.{statement}
 use Rattle.clean.proofs.cleaning.optimized.Tie as tie
-
-enough : 1024 ≤ 2048
-enough = omega arith
 
 slice-aggregate-optimize : tie.Need-slice-aggregate-optimize
 slice-aggregate-optimize c = refl
@@ -32,7 +28,7 @@ optimize-requires c κs =
             first-text = p .first-text;
             first-words = p .first-words;
             second-text = p .second-text;
-            second-words = enough;
+            second-words = enough-words;
           };
       for-labels = le-refl 256;
       for-slots = le-refl 49152;
