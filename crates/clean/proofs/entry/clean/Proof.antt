@@ -1,4 +1,6 @@
 -- `clean::entry::clean` meets its contract: no call is refused wrongly, and every lent byte is told. Assumes nothing.
+use mathlib.Core.Path.{sym, ap, _∙_}
+use Rattle.tape.specs.Questions.{checked}
 use Rattle.tape.proofs.questions.Reading.{refused-by, accepted-by}
 use Rattle.clean.proofs.Replying.{refused-at-door, refused-on-tape, cleanable, finished-call}
 use Rattle.clean.proofs.entry.clean.Statement.{statement}
@@ -23,12 +25,12 @@ enum-told c = c .match .keys2
 finish-requires : tie.Need-finish-requires
 finish-requires c κs = let a = c .before .before .before .before .before .before .before .before .before .before .before .before .args in
     cleanable (record { convention = a .convention }) (a .tape .now) (a .work-a .now) (a .work-b .now) (a .out .now) (c .before .before .before .before .before .before .before .asked .ensures) (c .before .before .before .before .before .before .if1 .left)
-    (accepted-by (a .tape .now) (rw (c .before .before .before .enum-told .given .1) at (c .before .before .before .before .before .check .ensures)))
+    (accepted-by (a .tape .now) (sym (ap checked (c .before .before .before .enum-told .given .1)) ∙ c .before .before .before .before .before .check .ensures))
 
 returns-2 : tie.Need-returns-2
 returns-2 c = let a = c .before .before .before .before .before .before .before .before .before .before .args in
     refused-on-tape (record { convention = a .convention }) (a .tape .now) (a .work-a .now) (a .work-b .now) (a .out .now) (c .before .before .before .before .before .asked .ensures) (c .before .before .before .before .if1 .left)
-    (refused-by (a .tape .now) (rw (c .before .number .given .1) at (c .before .before .before .check .ensures)))
+    (refused-by (a .tape .now) (sym (ap checked (c .before .number .given .1)) ∙ c .before .before .before .check .ensures))
 
 same-length : tie.Need-same-length
 same-length c = c .before .before .before .before .before .before .finish .kept .1 .1 .0
@@ -41,7 +43,7 @@ same-length-3 c = c .before .before .before .before .before .before .finish .kep
 
 returns-3 : tie.Need-returns-3
 returns-3 c = let a = c .before .before .before .before .before .before .before .before .before .before .before .before .before .before .before .before .before .before .before .args in
-    let accepted = accepted-by (a .tape .now) (rw (c .before .before .before .before .before .before .before .before .before .before .enum-told .given .1) at (c .before .before .before .before .before .before .before .before .before .before .before .before .check .ensures)) in
+    let accepted = accepted-by (a .tape .now) (sym (ap checked (c .before .before .before .before .before .before .before .before .before .before .enum-told .given .1)) ∙ c .before .before .before .before .before .before .before .before .before .before .before .before .check .ensures) in
     finished-call (record { convention = a .convention }) (a .tape .now) (a .work-a .now) (a .work-b .now) (a .out .now) (c .before .before .before .before .before .before .before .before .before .before .before .before .before .before .asked .ensures) (c .before .before .before .before .before .before .before .before .before .before .before .before .before .if1 .left)
     accepted (c .before .before .before .before .before .before .finish .ensures (accepted .listing) (accepted .reads))
 

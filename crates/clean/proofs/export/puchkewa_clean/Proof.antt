@@ -1,4 +1,5 @@
 -- `clean::export::puchkewa_clean` meets its contract: what `clean` says of its answer. Assumes nothing.
+use Rattle.clean.proofs.Replying.{same-reply}
 use Rattle.clean.proofs.export.puchkewa_clean.Statement.{statement}
 use Rattle.clean.proofs.export.puchkewa_clean.Tie as tie
 
@@ -21,7 +22,7 @@ same-length-3 : tie.Need-same-length-3
 same-length-3 c = c .before .before .before .before .before .before .before .before .before .clean .kept .1 .1 .1 .1 .0
 
 returns : tie.Need-returns
-returns c = rw (c .before .number .given .1) at (c .before .before .before .before .before .before .before .before .before .clean .ensures .0)
+returns c = same-reply (c .before .number .given .1) (c .before .before .before .before .before .before .before .before .before .clean .ensures .0)
 
 same-length-4 : tie.Need-same-length-4
 same-length-4 c = c .before .before .before .before .before .before .before .before .before .clean .kept .1 .1 .0
@@ -33,7 +34,7 @@ same-length-6 : tie.Need-same-length-6
 same-length-6 c = c .before .before .before .before .before .before .before .before .before .clean .kept .1 .1 .1 .1 .0
 
 returns-2 : tie.Need-returns-2
-returns-2 c = rw (c .before .f .given .1) at (c .before .before .before .before .before .before .before .before .before .clean .ensures .0)
+returns-2 c = same-reply (c .before .f .given .1) (c .before .before .before .before .before .before .before .before .before .clean .ensures .0)
 
 pub puchkewa-clean-spec : {M : Type 1} → statement M
 puchkewa-clean-spec =
