@@ -156,8 +156,8 @@ module _ (work : List ℕ) (h : WORK ≤ length work) where
     pub length-after : length (front ++ drop TEXT work) ≡ length work
     length-after = length-front work front TEXT k
 
-    pub work-fits : WORK ≤ length (front ++ drop TEXT work)
-    work-fits = rw length-after h
+    pub work-fits : {n : ℕ} → n ≤ WORK → n ≤ length (front ++ drop TEXT work)
+    work-fits few = rw length-after (le-trans few h)
 
     pub wiped : (c : Cleaned) {work′ : List ℕ} → work′ ≡ replicate WORK 0 ++ drop WORK (front ++ drop TEXT work) → work′ ≡ work-after (Passed c) work
     unfolding work-after

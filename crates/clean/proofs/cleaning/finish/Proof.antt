@@ -1,4 +1,5 @@
 -- `clean::cleaning::finish` meets its contract. Assumes nothing.
+use native.Mathlib.Omega.{arith}
 use mathlib.Core.Path.{sym, _∙_}
 use Rattle.clean.proofs.Running.{text-fits, front-length, front-fits, length-after, work-fits, wiped}
 use Rattle.clean.proofs.cleaning.finish.Statement.{statement}
@@ -27,11 +28,11 @@ written-requires c κs = let s = c .before .before .before .before .before .befo
 
 wipe-requires : tie.Need-wipe-requires
 wipe-requires c κs = let s = c .before .before .before .before .before .before .before .before .before .before .before .before .before .before .before in
-    let w = c .before .before .before .before .before .before .before .written in work-fits (s .args .work-a .now) (s .pre .room-a) (w .last .1 .1 .0) (w .kept .1 .1 .0)
+    let w = c .before .before .before .before .before .before .before .written in work-fits (s .args .work-a .now) (s .pre .room-a) (w .last .1 .1 .0) (w .kept .1 .1 .0) (omega arith)
 
 wipe-requires-2 : tie.Need-wipe-requires-2
 wipe-requires-2 c κs = let s = c .before .before .before .before .before .before .before .before .before .before .before .before .before .before .before .before .before .before .before in
-    let w = c .before .before .before .before .before .before .before .before .before .before .before .written in work-fits (s .args .work-b .now) (s .pre .room-b) (w .last .1 .1 .1 .0) (w .kept .1 .1 .1 .0)
+    let w = c .before .before .before .before .before .before .before .before .before .before .before .written in work-fits (s .args .work-b .now) (s .pre .room-b) (w .last .1 .1 .1 .0) (w .kept .1 .1 .1 .0) (omega arith)
 
 same-length : tie.Need-same-length
 same-length c = let s = c .before .before .before .before .before .before .before .before .before .before .before .before .before .before .before .before .before .before .before .before .before .before in
