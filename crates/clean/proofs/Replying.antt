@@ -41,6 +41,11 @@ summarized r =
 abbrev door : Rules → ℕ → ℕ → ℕ → List (ℕ × Bool)
 door rules work-a work-b output = (1, is-convention rules) ∷ (2, has-room work-a work-b output) ∷ []
 
+-- what a call does is said of any reply that is the same
+pub same-reply : {rules : Rules} {tape work-a work-b out work-a′ work-b′ out′ : List ℕ} {r s : C.Reply} → r ≡ s
+    → Cleans rules tape work-a work-b out work-a′ work-b′ out′ (report-of r) → Cleans rules tape work-a work-b out work-a′ work-b′ out′ (report-of s)
+same-reply e h = rw e at h
+
 module _ (rules : Rules) (tape work-a work-b out : List ℕ) where
   abbrev answer : Reply
   answer = reply rules tape (length work-a) (length work-b) (length out)

@@ -2,7 +2,7 @@
 -- the reply's; and a work area that was worked in and wiped. Assumes nothing.
 use Prim.Native.Nat.{ℕ, _≤_, _+_, _-_, zero-le}
 use native.Mathlib.Omega.{arith}
-use native.Mathlib.Nat.{le-trans}
+use native.Mathlib.Nat.{le-trans, le-of-eq}
 use mathlib.Core.Path.{_≡_, refl, sym, ap, _∙_}
 use mathlib.Core.List.{List, [], _∷_, _++_, map}
 use lib.ListN.{length, drop, take, length-map, replicate}
@@ -78,6 +78,10 @@ report-with n c =
       cut = c .results-cut;
     }
 
+-- the code's table of 2048 token words
+pub enough-words : 1024 ≤ 2048
+enough-words = omega arith
+
 -- nothing stands in the area yet
 abbrev start : Totals → Size
 start t = record { lines = t .lines; tokens = t .tokens; text = 0 }
@@ -86,9 +90,9 @@ module _ {tape tokens lines addresses : List ℕ} {t : Totals} (l : Loaded tape 
   loaded-is : read tape ≡ Passed (listing-now tape area tokens lines (start t) addresses)
   loaded-is = l .listing (take 0 area)
 
-  pub loadable : (area2 : Text) → TEXT ≤ length area → TEXT ≤ length area2 → 1024 ≤ length tokens → length tokens ≤ 65536 → 256 ≤ length lines
+  pub loadable : (area2 : Text) → TEXT ≤ length area → TEXT ≤ length area2 → length tokens ≡ 2048 → length lines ≡ 256
       → Loadable tape area tokens lines area2 (start t)
-  loadable area2 a b h s k =
+  loadable area2 a b h k =
       let few = loaded-limits l in
       record {
         current =
@@ -102,8 +106,8 @@ module _ {tape tokens lines addresses : List ℕ} {t : Totals} (l : Loaded tape 
             rw (bare-means tape (take 0 area) (take (t .tokens) tokens) addresses (take (t .lines) lines))
             (bare-limits (read-limits tape _ loaded-is));
         first-text = a;
-        first-words = h;
-        words-short = s;
+        first-words = omega arith;
+        words-short = omega arith;
         second-text = b;
       }
 
@@ -139,12 +143,21 @@ past m n work front h e =
     ∙ ap (λ (k : ℕ). drop k work) (let z : n + (m - n) ≡ m = omega arith in z)
 
 module _ (work : List ℕ) (h : WORK ≤ length work) where
+  pub text-fits : TEXT ≤ length work
+  text-fits = omega arith
+
   pub front-length : length (take TEXT work) ≡ TEXT
-  front-length = length-take-le TEXT work (omega arith)
+  front-length = length-take-le TEXT work text-fits
+
+  pub front-fits : TEXT ≤ length (take TEXT work)
+  front-fits = le-of-eq (sym front-length)
 
   module _ (front : List ℕ) (k : length front ≡ length (take TEXT work)) where
     pub length-after : length (front ++ drop TEXT work) ≡ length work
     length-after = length-front work front TEXT k
+
+    pub work-fits : {n : ℕ} → n ≤ WORK → n ≤ length (front ++ drop TEXT work)
+    work-fits few = rw length-after (le-trans few h)
 
     pub wiped : (c : Cleaned) {work′ : List ℕ} → work′ ≡ replicate WORK 0 ++ drop WORK (front ++ drop TEXT work) → work′ ≡ work-after (Passed c) work
     unfolding work-after

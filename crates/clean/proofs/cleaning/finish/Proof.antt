@@ -1,19 +1,18 @@
 -- `clean::cleaning::finish` meets its contract. Assumes nothing.
 use native.Mathlib.Omega.{arith}
 use mathlib.Core.Path.{sym, _∙_}
-use Rattle.clean.proofs.Running.{front-length, length-after, wiped}
-use borrow.Author.Needs.{needs}
+use Rattle.clean.proofs.Running.{text-fits, front-length, front-fits, length-after, work-fits, wiped}
 use Rattle.clean.proofs.cleaning.finish.Statement.{statement}
 use Rattle.clean.proofs.cleaning.finish.Tie as tie
 
 slice-relend-prefix-written : tie.Need-slice-relend-prefix-written
-slice-relend-prefix-written c = omega (arith, c .before .before .before .before .pre)
+slice-relend-prefix-written c = let s = c .before .before .before .before in text-fits (s .args .work-a .now) (s .pre .room-a)
 
 slice-aggregate-written : tie.Need-slice-aggregate-written
 slice-aggregate-written c = let s = c .before .before .before .before .before in sym (front-length (s .args .work-a .now) (s .pre .room-a))
 
 slice-relend-prefix-written-2 : tie.Need-slice-relend-prefix-written-2
-slice-relend-prefix-written-2 c = omega (arith, c .before .before .before .before .before .pre)
+slice-relend-prefix-written-2 c = let s = c .before .before .before .before .before in text-fits (s .args .work-b .now) (s .pre .room-b)
 
 slice-aggregate-written-2 : tie.Need-slice-aggregate-written-2
 slice-aggregate-written-2 c = let s = c .before .before .before .before .before .before in sym (front-length (s .args .work-b .now) (s .pre .room-b))
@@ -22,20 +21,18 @@ written-requires : tie.Need-written-requires
 written-requires c κs = let s = c .before .before .before .before .before .before .before in
     record {
       accepted = s .pre .accepted;
-      first-text = omega (arith, front-length (s .args .work-a .now) (s .pre .room-a));
-      second-text = omega (arith, front-length (s .args .work-b .now) (s .pre .room-b));
+      first-text = front-fits (s .args .work-a .now) (s .pre .room-a);
+      second-text = front-fits (s .args .work-b .now) (s .pre .room-b);
       room = s .pre .room;
     }
 
 wipe-requires : tie.Need-wipe-requires
 wipe-requires c κs = let s = c .before .before .before .before .before .before .before .before .before .before .before .before .before .before .before in
-    let w = c .before .before .before .before .before .before .before .written in
-    omega (arith, length-after (s .args .work-a .now) (s .pre .room-a) (w .last .1 .1 .0) (w .kept .1 .1 .0), s .pre)
+    let w = c .before .before .before .before .before .before .before .written in work-fits (s .args .work-a .now) (s .pre .room-a) (w .last .1 .1 .0) (w .kept .1 .1 .0) (omega arith)
 
 wipe-requires-2 : tie.Need-wipe-requires-2
 wipe-requires-2 c κs = let s = c .before .before .before .before .before .before .before .before .before .before .before .before .before .before .before .before .before .before .before in
-    let w = c .before .before .before .before .before .before .before .before .before .before .before .written in
-    omega (arith, length-after (s .args .work-b .now) (s .pre .room-b) (w .last .1 .1 .1 .0) (w .kept .1 .1 .1 .0), s .pre)
+    let w = c .before .before .before .before .before .before .before .before .before .before .before .written in work-fits (s .args .work-b .now) (s .pre .room-b) (w .last .1 .1 .1 .0) (w .kept .1 .1 .1 .0) (omega arith)
 
 same-length : tie.Need-same-length
 same-length c = let s = c .before .before .before .before .before .before .before .before .before .before .before .before .before .before .before .before .before .before .before .before .before .before in
@@ -48,7 +45,7 @@ same-length-2 c = let s = c .before .before .before .before .before .before .bef
     c .before .before .wipe2 .kept .0 ∙ length-after (s .args .work-b .now) (s .pre .room-b) (w .last .1 .1 .1 .0) (w .kept .1 .1 .1 .0)
 
 same-length-3 : tie.Need-same-length-3
-same-length-3 c = search needs
+same-length-3 c = c .before .before .before .before .before .before .before .before .before .before .before .before .before .before .written .kept .1 .1 .1 .1 .0
 
 returns : tie.Need-returns
 returns c = λ input e.

@@ -1,19 +1,21 @@
 -- `clean::cleaning::optimized` meets its contract: its own tables are large enough. Assumes nothing.
-use borrow.Author.Needs.{needs}
+use native.Mathlib.Nat.{le-refl}
+use mathlib.Core.Path.{refl}
+use Rattle.clean.proofs.Running.{enough-words}
 use Rattle.clean.proofs.cleaning.optimized.Statement.{statement}
 use Rattle.clean.proofs.cleaning.optimized.Tie as tie
 
 slice-aggregate-optimize : tie.Need-slice-aggregate-optimize
-slice-aggregate-optimize c = search needs
+slice-aggregate-optimize c = refl
 
 slice-aggregate-optimize-2 : tie.Need-slice-aggregate-optimize-2
-slice-aggregate-optimize-2 c = search needs
+slice-aggregate-optimize-2 c = refl
 
 slice-aggregate-optimize-3 : tie.Need-slice-aggregate-optimize-3
-slice-aggregate-optimize-3 c = search needs
+slice-aggregate-optimize-3 c = refl
 
 slice-aggregate-optimize-4 : tie.Need-slice-aggregate-optimize-4
-slice-aggregate-optimize-4 c = search needs
+slice-aggregate-optimize-4 c = refl
 
 optimize-requires : tie.Need-optimize-requires
 optimize-requires c κs =
@@ -26,28 +28,28 @@ optimize-requires c κs =
             first-text = p .first-text;
             first-words = p .first-words;
             second-text = p .second-text;
-            second-words = search needs;
+            second-words = enough-words;
           };
-      for-labels = search needs;
-      for-slots = search needs;
-      for-slot-words = search needs;
+      for-labels = le-refl 256;
+      for-slots = le-refl 49152;
+      for-slot-words = le-refl 1024;
       words-short = p .words-short;
     }
 
 same-length : tie.Need-same-length
-same-length c = search needs
+same-length c = c .before .before .before .before .before .before .before .before .before .before .before .before .optimize .kept .1 .0
 
 same-length-2 : tie.Need-same-length-2
-same-length-2 c = search needs
+same-length-2 c = c .before .before .before .before .before .before .before .before .before .before .before .before .optimize .kept .1 .1 .0
 
 same-length-3 : tie.Need-same-length-3
-same-length-3 c = search needs
+same-length-3 c = c .before .before .before .before .before .before .before .before .before .before .before .before .optimize .kept .1 .1 .1 .0
 
 same-length-4 : tie.Need-same-length-4
-same-length-4 c = search needs
+same-length-4 c = c .before .before .before .before .before .before .before .before .before .before .before .before .optimize .kept .1 .1 .1 .1 .0
 
 returns : tie.Need-returns
-returns c = search needs
+returns c = c .before .before .before .before .before .before .before .before .before .before .before .before .optimize .ensures
 
 pub optimized-spec : {M : Type 1} → statement M
 optimized-spec =

@@ -1,33 +1,34 @@
 -- `clean::cleaning::written` meets its contract. Assumes nothing.
-use mathlib.Core.Path.{sym}
+use native.Mathlib.Nat.{le-refl, le-of-eq}
+use mathlib.Core.Path.{refl, sym}
 use lib.Seq.{length-take-le}
 use Rattle.lines.specs.Rules.{rules-of}
-use Rattle.clean.proofs.Running.{loadable, fits-output, writes}
-use borrow.Author.Needs.{needs}
+use Rattle.clean.proofs.Running.{enough-words, loadable, fits-output, writes}
 use Rattle.clean.proofs.cleaning.written.Statement.{statement}
 use Rattle.clean.proofs.cleaning.written.Tie as tie
 
 slice-aggregate-load : tie.Need-slice-aggregate-load
-slice-aggregate-load c = search needs
+slice-aggregate-load c = refl
 
 slice-aggregate-load-2 : tie.Need-slice-aggregate-load-2
-slice-aggregate-load-2 c = search needs
+slice-aggregate-load-2 c = refl
 
 slice-aggregate-load-3 : tie.Need-slice-aggregate-load-3
-slice-aggregate-load-3 c = search needs
+slice-aggregate-load-3 c = refl
 
 load-requires : tie.Need-load-requires
-load-requires c κs = search needs
+load-requires c κs = (c .before .before .before .before .before .before .before .pre .accepted, (enough-words, le-refl 256, le-refl 256))
 
 slice-aggregate-optimized : tie.Need-slice-aggregate-optimized
-slice-aggregate-optimized c = search needs
+slice-aggregate-optimized c = sym (c .before .before .before .before .before .load .kept .1 .0)
 
 slice-aggregate-optimized-2 : tie.Need-slice-aggregate-optimized-2
-slice-aggregate-optimized-2 c = search needs
+slice-aggregate-optimized-2 c = sym (c .before .before .before .before .before .before .load .kept .1 .1 .0)
 
 optimized-requires : tie.Need-optimized-requires
 optimized-requires c κs = let s = c .before .before .before .before .before .before .before .before .before .before .before .before .before .before .before in
-    loadable (c .before .before .before .before .before .before .before .load .ensures) (s .args .area .now) (s .args .area2 .now) (s .pre .first-text) (s .pre .second-text) (search needs) (search needs) (search needs)
+    let l = c .before .before .before .before .before .before .before .load in
+    loadable (l .ensures) (s .args .area .now) (s .args .area2 .now) (s .pre .first-text) (s .pre .second-text) (l .kept .1 .0) (l .kept .1 .1 .0)
 
 slice-reshare-prefix-write : tie.Need-slice-reshare-prefix-write
 slice-reshare-prefix-write c = c .before .before .before .before .before .before .before .optimized .ensures .current .text-fits
@@ -48,23 +49,22 @@ slice-aggregate-write-3 : tie.Need-slice-aggregate-write-3
 slice-aggregate-write-3 c = sym (length-take-le _ _ (c .before .before .before .before .before .before .before .before .before .before .optimized .ensures .current .lines-fit))
 
 slice-aggregate-write-4 : tie.Need-slice-aggregate-write-4
-slice-aggregate-write-4 c = search needs
+slice-aggregate-write-4 c = sym (c .before .before .before .before .before .before .before .before .before .before .before .before .before .before .before .before .before .before .before .load .kept .1 .1 .1 .0)
 
 write-requires : tie.Need-write-requires
 write-requires c κs = let s = c .before .before .before .before .before .before .before .before .before .before .before .before .before .before .before .before .before .before .before .before .before .before .before .before .before .before .before .before in
-    let o = c .before .before .before .before .before .before .before .before .before .before .before .before .optimized .ensures in (
-      o .current .listed,
-      (search needs, fits-output (c .before .before .before .before .before .before .before .before .before .before .before .before .before .before .before .before .before .before .before .before .load .ensures) (s .args .area .now) (rules-of (s .args .rules)) o (s .pre .room)),
-    )
+    let l = c .before .before .before .before .before .before .before .before .before .before .before .before .before .before .before .before .before .before .before .before .load in
+    let o = c .before .before .before .before .before .before .before .before .before .before .before .before .optimized .ensures in
+    (o .current .listed, (le-of-eq (sym (l .kept .1 .1 .1 .0)), fits-output (l .ensures) (s .args .area .now) (rules-of (s .args .rules)) o (s .pre .room)))
 
 same-length : tie.Need-same-length
-same-length c = search needs
+same-length c = c .before .before .before .before .before .before .before .before .before .before .before .before .before .before .before .optimized .kept .1 .0
 
 same-length-2 : tie.Need-same-length-2
-same-length-2 c = search needs
+same-length-2 c = c .before .before .before .before .before .before .before .before .before .before .before .before .before .before .before .optimized .kept .1 .1 .1 .1 .0
 
 same-length-3 : tie.Need-same-length-3
-same-length-3 c = search needs
+same-length-3 c = c .before .before .write .kept .1 .1 .1 .1 .1 .0
 
 returns : tie.Need-returns
 returns c = let s = c .before .before .before .before .before .before .before .before .before .before .before .before .before .before .before .before .before .before .before .before .before .before .before .before .before .before .before .before .before .before .before in

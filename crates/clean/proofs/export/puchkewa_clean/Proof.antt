@@ -1,40 +1,40 @@
 -- `clean::export::puchkewa_clean` meets its contract: what `clean` says of its answer. Assumes nothing.
-use borrow.Author.Needs.{needs}
+use Rattle.clean.proofs.Replying.{same-reply}
 use Rattle.clean.proofs.export.puchkewa_clean.Statement.{statement}
 use Rattle.clean.proofs.export.puchkewa_clean.Tie as tie
 
 clean-requires : tie.Need-clean-requires
-clean-requires c κs = search needs
+clean-requires c κs = tt
 
 enum-known-number : tie.Need-enum-known-number
-enum-known-number c = search needs
+enum-known-number c = c .match .keys1
 
 enum-known-f : tie.Need-enum-known-f
-enum-known-f c = search needs
+enum-known-f c = c .match .keys2
 
 same-length : tie.Need-same-length
-same-length c = search needs
+same-length c = c .before .before .before .before .before .before .before .before .before .clean .kept .1 .1 .0
 
 same-length-2 : tie.Need-same-length-2
-same-length-2 c = search needs
+same-length-2 c = c .before .before .before .before .before .before .before .before .before .clean .kept .1 .1 .1 .0
 
 same-length-3 : tie.Need-same-length-3
-same-length-3 c = search needs
+same-length-3 c = c .before .before .before .before .before .before .before .before .before .clean .kept .1 .1 .1 .1 .0
 
 returns : tie.Need-returns
-returns c = rw (c .before .number .given .1) at (c .before .before .before .before .before .before .before .before .before .clean .ensures .0)
+returns c = same-reply (c .before .number .given .1) (c .before .before .before .before .before .before .before .before .before .clean .ensures .0)
 
 same-length-4 : tie.Need-same-length-4
-same-length-4 c = search needs
+same-length-4 c = c .before .before .before .before .before .before .before .before .before .clean .kept .1 .1 .0
 
 same-length-5 : tie.Need-same-length-5
-same-length-5 c = search needs
+same-length-5 c = c .before .before .before .before .before .before .before .before .before .clean .kept .1 .1 .1 .0
 
 same-length-6 : tie.Need-same-length-6
-same-length-6 c = search needs
+same-length-6 c = c .before .before .before .before .before .before .before .before .before .clean .kept .1 .1 .1 .1 .0
 
 returns-2 : tie.Need-returns-2
-returns-2 c = rw (c .before .f .given .1) at (c .before .before .before .before .before .before .before .before .before .clean .ensures .0)
+returns-2 c = same-reply (c .before .f .given .1) (c .before .before .before .before .before .before .before .before .before .clean .ensures .0)
 
 pub puchkewa-clean-spec : {M : Type 1} → statement M
 puchkewa-clean-spec =
