@@ -27,10 +27,11 @@ use Rattle.numbers.specs.declared.parse.Number.the-variants.{Read, Unread}
 use Rattle.numbers.specs.Reading.{meaning}
 use Rattle.numbers.specs.Writing.{Written}
 use Rattle.numbers.proofs.Writing.{written-then}
+use Rattle.printing.specs.Decimals.{decimal}
 use Rattle.leaves.specs.Fields.{before, behind, behind-words, lines}
-use Rattle.leaves.specs.Answers.{decimal, register, family-answer, value, combined, fold-answer, convention, overwrites, yes-no, answer-to, answer, expected, differing}
+use Rattle.leaves.specs.Answers.{register, family-answer, value, combined, fold-answer, convention, overwrites, yes-no, answer-to, answer, expected, differing}
 use Rattle.leaves.proofs.Separators.{before-length, behind-length, next-line}
-use Rattle.leaves.proofs.Decimals.{decimal-length}
+use Rattle.printing.proofs.Decimals.{decimal-length}
 
 -- ---- names
 

@@ -10,14 +10,11 @@ use Rattle.reference.specs.Lists.{count}
 use Rattle.reference.specs.Text.{Text, bytes, _==_, has}
 use Rattle.reference.specs.Listing.{token, Number, Punct}
 use Rattle.reference.specs.Names.{family, volatile-of}
-use Rattle.reference.specs.Numbers.{parse-c-number, wrap, folded, digits, show}
+use Rattle.reference.specs.Numbers.{parse-c-number, wrap, folded, show}
+use Rattle.printing.specs.Decimals.{decimal}
 use Rattle.leaves.specs.Fields.{behind-words, word, lines}
 
 -- ---- the answers
-
--- a number below 2^64 in decimal
-unfoldable pub decimal : ℕ → Text
-decimal n = digits 20 10 n []
 
 -- a family and a width
 unfoldable pub register : Text → ℕ → Text

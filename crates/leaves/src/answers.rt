@@ -11,6 +11,8 @@ use crate::fields::before;
 use crate::fields::behind;
 use names::Spelled;
 use numbers::Number;
+use printing::put;
+use printing::put_decimal;
 use text::same;
 ghost use mathlib.Core.Path.{_≡_};
 ghost use Prim.Native.Nat.{_+_, _≤_, _<_};
@@ -19,7 +21,7 @@ ghost use Rattle.reference.specs.Text.{bytes};
 ghost use Rattle.names.specs.Families.{row-name};
 ghost use Rattle.numbers.specs.Reading.{meaning};
 ghost use Rattle.numbers.specs.Writing.{Written};
-ghost use Rattle.leaves.specs.Answers.{decimal, register, family-answer, value, combined, convention, overwrites, yes-no, answer-to, answer, expected};
+ghost use Rattle.leaves.specs.Answers.{register, family-answer, value, combined, convention, overwrites, yes-no, answer-to, answer, expected};
 
 // The families of the table of `names`, by row.
 const ROWS: [[u8; 3]; 8] = [
@@ -32,24 +34,6 @@ const ROWS: [[u8; 3]; 8] = [
     *b"rbp",
     *b"rsp",
 ];
-
-// Writes s at `at`, and says where it ends.
-fn put(s: &[u8], out: &mut [u8], at: usize) -> usize
-    requires { ⌜ at + length (now s) ≤ length (now out) ⌝ }
-    ensures { λ r. ⌜ Written (now (out .entry)) at (now (s .entry)) (now (out .exit)) r ⌝ }
-{
-    text::copy_bytes(s, out, at);
-    at + s.len()
-}
-
-fn put_decimal(n: u64, out: &mut [u8], at: usize) -> usize
-    requires { ⌜ at + 20 ≤ length (now out) ⌝ }
-    ensures { λ r. ⌜ Written (now (out .entry)) at (decimal n) (now (out .exit)) r ⌝ }
-{
-    let mut digits = [0u8; 20];
-    let k = io::decimal(n, &mut digits);
-    put(&digits[..k], out, at)
-}
 
 fn put_register(family: &[u8], width: u64, out: &mut [u8]) -> usize
     requires { ⌜ length (now family) + 21 ≤ length (now out) ⌝ }

@@ -1,10 +1,10 @@
--- `leaves::answers::put_decimal` meets its contract. Assumes nothing.
+-- `printing::put_decimal` meets its contract. Assumes nothing.
 use mathlib.Core.Path.{_∙_}
 use native.Mathlib.Omega.{arith}
-use Rattle.leaves.proofs.Decimals.{few-digits, decimal-spelt}
+use Rattle.printing.proofs.Decimals.{few-digits, decimal-spelt}
 use borrow.Author.Needs.{needs}
-use Rattle.leaves.proofs.answers.put_decimal.Statement.{statement}
-use Rattle.leaves.proofs.answers.put_decimal.Tie as tie
+use Rattle.printing.proofs.put_decimal.Statement.{statement}
+use Rattle.printing.proofs.put_decimal.Tie as tie
 
 decimal-requires : tie.Need-decimal-requires
 decimal-requires c κs = search needs

@@ -16,7 +16,7 @@ use Rattle.reference.specs.Numbers.{digit-byte, digits}
 use Rattle.reference.proofs.Cases.{by-if}
 use Rattle.laws.proofs.Scans.{if-true, if-false}
 use Rattle.io.specs.Digits.{glyph, digits as spelt, Fewest}
-use Rattle.leaves.specs.Answers.{decimal}
+use Rattle.printing.specs.Decimals.{decimal}
 
 glyph-byte : (d : ℕ) → digit-byte d ≡ glyph d
 unfolding if_then_else_

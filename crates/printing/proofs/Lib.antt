@@ -1,0 +1,2 @@
+-- Laws on decimal digits.
+pub mod Decimals
