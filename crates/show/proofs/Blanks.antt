@@ -1,12 +1,12 @@
 -- An address put before blanks. Assumes nothing.
 use Prim.Native.Nat.{ℕ, zero, suc, _+_, _-_, _*_, _^_, _≤_, _<_}
 use native.Mathlib.Omega.{arith}
-use native.Mathlib.Nat.{zero-add, eq-zero-or-pos, pow-le-pow-right}
+use native.Mathlib.Nat.{zero-add, sub-zero, zero-sub, suc-sub-suc, eq-zero-or-pos, pow-le-pow-right}
 use mathlib.Core.Logic.{⊎-elim}
 use mathlib.Core.Path.{_≡_, refl, sym, ap, _∙_}
 use mathlib.Core.List.{List, _∷_, _++_}
 use lib.ListN.{length, take, drop}
-use lib.Seq.{paste, take-length, take-append-add}
+use lib.Seq.{paste, take-length, take-append-add, drop-append-add, drop-drop}
 use Rattle.io.specs.Digits.{digits, Fewest}
 use Rattle.show.specs.Fronts.{blanks, Front}
 
@@ -26,6 +26,18 @@ before-blanks s n m h =
     rw take-length
     (take-append-add s (drop (0 + length s) (blanks n)) m
     ∙ ap (λ (l : List ℕ). s ++ l) (rw (zero-add (length s)) (part-of-blanks n (length s) m h)))
+
+drop-blanks : (n k : ℕ) → drop k (blanks n) ≡ blanks (n - k)
+drop-blanks n zero = rw sub-zero
+drop-blanks zero (suc k) = rw zero-sub
+drop-blanks (suc n) (suc k) = rw suc-sub-suc (drop-blanks n k)
+
+-- s and m of n blanks, and the blanks that are left
+behind-blanks : (s : List ℕ) (n m : ℕ) → drop (length s + m) (paste (blanks n) 0 s (length s)) ≡ blanks (n - (length s + m))
+behind-blanks s n m =
+    rw take-length
+    (drop-append-add s (drop (0 + length s) (blanks n)) m
+    ∙ rw (zero-add (length s)) (drop-drop m (length s) (blanks n) ∙ drop-blanks n (length s + m)))
 
 -- 16 digits hold every number of 64 bits
 pub few-digits : (n k : ℕ) → n < 2 ^ 64 → Fewest 16 8 n k → k ≤ 16
@@ -47,3 +59,8 @@ fronts address indent {k} {s} f e n few small blank p =
           ∙ before-blanks s 160 (2 + 2 * indent) (omega arith)
           ∙ rw e;
     }
+
+-- and what is left behind it
+pub left : (indent : ℕ) (s : List ℕ) {k : ℕ} {out out′ : List ℕ} → length s ≡ k → out ≡ blanks 160 → out′ ≡ paste out 0 s (length s)
+    → drop (k + (2 + 2 * indent)) out′ ≡ blanks (160 - (k + (2 + 2 * indent)))
+left indent s n blank p = rw (p, blank, ← n) (behind-blanks s 160 (2 + 2 * indent))

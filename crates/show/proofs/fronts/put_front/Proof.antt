@@ -1,7 +1,8 @@
 -- `show::fronts::put_front` meets its contract. Assumes nothing.
 use native.Mathlib.Omega.{arith}
 use mathlib.Core.Path.{sym}
-use Rattle.show.proofs.Blanks.{few-digits, fronts}
+use lib.ListN.{take}
+use Rattle.show.proofs.Blanks.{few-digits, fronts, left}
 use borrow.Author.Needs.{needs}
 use Rattle.show.proofs.fronts.put_front.Statement.{statement}
 use Rattle.show.proofs.fronts.put_front.Tie as tie
@@ -42,6 +43,7 @@ returns c =
     let few = few-digits _ _ (s .fits .address .fits) (h .ensures .1 .0) in
     record {
       front = fronts _ _ (h .ensures .1 .0) (h .ensures .1 .1) (sym (h .ensures .0 .1)) few (s .pre .0) (s .pre .1) (c .before .before .copy-bytes .ensures);
+      rest = left (s .args .indent) (take (h .result) (h .last .1 .1 .0)) (sym (h .ensures .0 .1)) (s .pre .1) (c .before .before .copy-bytes .ensures);
       inside = omega (arith, s .pre, few, c .before .before .copy-bytes .kept .1 .0);
     }
 
