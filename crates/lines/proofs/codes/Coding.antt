@@ -26,11 +26,10 @@ use Rattle.names.proofs.Searches.{position-none, position-at, any-at, all-below
 use Rattle.names.proofs.Texts.{same-true}
 use Rattle.lines.specs.Codes.{bucket, family-number, WIDTHS, coded-width, coded-name, Says, Codes}
 use Rattle.lines.specs.Words.{place-of, start-of, len-of, code-of, first-bytes, text-of, Coded, Points}
-use Rattle.lines.specs.declared.fams.Fam.{Fam}
-use Rattle.lines.specs.declared.fams.Fam.the-variants.{Row, Text as Spelt}
 use Rattle.lines.specs.declared.fams.Named.the-variants.{As}
-use Rattle.lines.specs.Fams.{fam-text, Known, Names}
+use Rattle.lines.specs.Fams.{Names}
 use Rattle.lines.proofs.words.Tokens.{in-tape, text-length, first-bytes-means, first-bytes-points}
+use Rattle.lines.proofs.fams.Families.{row-names, word-names}
 
 -- ---- the numbers of families
 
@@ -108,9 +107,6 @@ module _ (c : ℕ) (s : Text) where
 
 -- ---- a word with a code
 
-same-as : {f g : Fam} {k l : ℕ} → As f k ≡ As g l → f ≡ g
-same-as e = cc
-
 module _ (tape area : Text) (w : ℕ) (p : Points tape area w) (n : code-of w ≡ 0 → ⊥) where
   pub says : Says (code-of w) (text-of tape area w)
   unfolding Coded text-of
@@ -133,24 +129,21 @@ module _ (tape area : Text) (w : ℕ) (p : Points tape area w) (n : code-of w �
     text-number : 36 ≤ c → is-row (coded-name c (text-of tape area w)) ≡ false
     text-number h = no-row (coded-name c (text-of tape area w)) (omega (arith, here .number-is))
 
-    pub decoded-row : c < 36 → Names tape area (family (text-of tape area w)) (As (Row (c / 4 - 1)) k)
-    decoded-row h = record {
-      is = rw (ek, ← name-row c (text-of tape area w) h) (sym (here .family-is));
-      known = λ f l i. rw (sym (same-as i)) (omega (arith, here .least));
-    }
+    pub decoded-row : c < 36 → Names tape area (family (text-of tape area w)) (As (c / 4 - 1) k)
+    decoded-row h = row-names tape area (omega (arith, here .least)) (rw (ek, ← name-row c (text-of tape area w) h) (sym (here .family-is)))
 
-    pub decoded-whole : 36 ≤ c → c % 4 ≡ 0 → Names tape area (family (text-of tape area w)) (As (Spelt w) k)
+    pub decoded-whole : 36 ≤ c → c % 4 ≡ 0 → Names tape area (family (text-of tape area w)) (As w k)
     decoded-whole h e =
         let t : coded-name c (text-of tape area w) ≡ text-of tape area w = name-whole c (text-of tape area w) h e in
-        record { is = rw ek (ap (λ (x : Text). some (record { name = x; width = coded-width c })) (sym t) ∙ sym (here .family-is)); known = λ f l i. rw (sym (same-as i)) (p, ap is-row (sym t) ∙ text-number h) }
+        word-names tape area _ p (ap is-row (sym t) ∙ text-number h) (rw ek (ap (λ (x : Text). some (record { name = x; width = coded-width c })) (sym t) ∙ sym (here .family-is)))
 
-    pub decoded-front : 36 ≤ c → (c % 4 ≡ 0 → ⊥) → {v : ℕ} → v ≡ first-bytes w (len-of w - 1) → Names tape area (family (text-of tape area w)) (As (Spelt v) k)
+    pub decoded-front : 36 ≤ c → (c % 4 ≡ 0 → ⊥) → {v : ℕ} → v ≡ first-bytes w (len-of w - 1) → Names tape area (family (text-of tape area w)) (As v k)
     decoded-front h m {v} ev =
         let b : len-of w - 1 ≤ len-of w = omega arith in
         let l : length (text-of tape area w) - 1 ≡ len-of w - 1 = ap (λ (x : ℕ). x - 1) (text-length p) in
         let t : text-of tape area (first-bytes w (len-of w - 1)) ≡ coded-name c (text-of tape area w) =
         ap (λ (x : Token). x .text) (first-bytes-means tape area w (len-of w - 1) p b) ∙ ap (λ (x : ℕ). take x (text-of tape area w)) (sym l) ∙ sym (name-front c (text-of tape area w) h m) in
-        rw ev (record { is = rw (ek, t) (sym (here .family-is)); known = λ f q i. rw (sym (same-as i)) (first-bytes-points tape area w (len-of w - 1) p b, rw t (text-number h)) })
+        rw ev (word-names tape area _ (first-bytes-points tape area w (len-of w - 1) p b) (rw t (text-number h)) (rw (ek, t) (sym (here .family-is))))
 
 -- ---- codes that differ
 
