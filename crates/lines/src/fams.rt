@@ -77,11 +77,20 @@ pub fn same_family<'a>(tape: &'a [u8], area: &'a [u8], f: Fam, g: Fam) -> bool
     codes::same_text(tape, area, f, g)
 }
 
-// Whether a token is a Register of the family.
+// Whether a token is a Register of the family. A code tells a row at once.
 pub fn is_of<'a>(tape: &'a [u8], area: &'a [u8], w: u64, f: Fam) -> bool
     requires { ⌜ Points (now tape) (now area) w × Known (now tape) (now area) f ⌝ }
     ensures { λ r. ⌜ r ≡ of-family (fam-text (now (tape .entry)) (now (area .entry)) f) (token-of (now (tape .entry)) (now (area .entry)) w) ⌝ }
 {
+    if words::kind(w) != words::REGISTER {
+        return false;
+    }
+    let c = words::code(w);
+    if f < 8 {
+        if c != 0 {
+            return c / 4 == f + 1;
+        }
+    }
     match fam_of(tape, area, w) {
         Named::As(g, _) => same_family(tape, area, g, f),
         Named::Nothing => false,

@@ -2,7 +2,7 @@
 -- Assumes nothing.
 use Prim.Native.Nat.{ℕ, _+_, _-_, _*_, _/_, _%_, _≤_, _<_}
 use native.Mathlib.Omega.{arith}
-use native.Mathlib.Decide.{decLt}
+use native.Mathlib.Decide.{ℕ-discrete}
 use mathlib.Core.Logic.{_⊎_, inl, inr, by-cases}
 use mathlib.Core.Path.{_≡_, refl, sym, ap, _∙_}
 use mathlib.Core.Bool.{Bool, true, false, false≢true}
@@ -15,8 +15,8 @@ use borrow.Author.Tests.{eqb-true, eq-eqb, ne-eqb, lt-ltb, le-ltb}
 use Rattle.reference.specs.Control.{_&&_, if_then_else_, let-some_else_then_}
 use Rattle.reference.specs.Lists.{position}
 use Rattle.reference.specs.Text.{Text, _==_}
-use Rattle.reference.specs.Listing.{Token, token}
-use Rattle.reference.specs.Names.{Fam as NFam, family}
+use Rattle.reference.specs.Listing.{Token, token, is, Register}
+use Rattle.reference.specs.Names.{Fam as NFam, family, fam-of, of-family}
 use Rattle.reference.proofs.Cases.{some-inj, none-some, fails}
 use Rattle.laws.proofs.Scans.{if-true, if-false}
 use Rattle.names.specs.Families.{ROWS, row-name, is-row, Spells}
@@ -24,12 +24,13 @@ use Rattle.names.specs.declared.families.Spelled.{Spelled}
 use Rattle.names.specs.declared.families.Spelled.the-variants.{Row as InRow, Front}
 use Rattle.names.proofs.Searches.{position-none, position-at, any-at, all-below, below-at}
 use Rattle.names.proofs.Texts.{same-true}
+use Rattle.names.proofs.Same.{same-row}
 use Rattle.lines.specs.Codes.{bucket, family-number, WIDTHS, coded-width, coded-name, Says, Codes}
-use Rattle.lines.specs.Words.{place-of, start-of, len-of, code-of, first-bytes, text-of, Coded, Points}
+use Rattle.lines.specs.Words.{kind-of, place-of, start-of, len-of, code-of, first-bytes, text-of, token-of, Coded, Points}
 use Rattle.lines.specs.declared.fams.Named.the-variants.{As}
-use Rattle.lines.specs.Fams.{Names}
+use Rattle.lines.specs.Fams.{fam-text, Names}
 use Rattle.lines.proofs.words.Tokens.{in-tape, text-length, first-bytes-means, first-bytes-points}
-use Rattle.lines.proofs.fams.Families.{row-names, word-names}
+use Rattle.lines.proofs.fams.Families.{fam-row, row-names, word-names}
 
 -- ---- the numbers of families
 
@@ -144,6 +145,26 @@ module _ (tape area : Text) (w : ℕ) (p : Points tape area w) (n : code-of w �
         let t : text-of tape area (first-bytes w (len-of w - 1)) ≡ coded-name c (text-of tape area w) =
         ap (λ (x : Token). x .text) (first-bytes-means tape area w (len-of w - 1) p b) ∙ ap (λ (x : ℕ). take x (text-of tape area w)) (sym l) ∙ sym (name-front c (text-of tape area w) h m) in
         rw ev (word-names tape area _ (first-bytes-points tape area w (len-of w - 1) p b) (rw t (text-number h)) (rw (ek, t) (sym (here .family-is))))
+
+-- ---- a row's code
+
+pub row-coded : (c : ℕ) (s : Text) (f : ℕ) → Says c s → f < 8 → eqb (c / 4) (f + 1) ≡ (coded-name c s == row-name f)
+row-coded c s f q h =
+    by-cases (ℕ-discrete (c / 4) (f + 1))
+    (λ e.
+    let i : c / 4 - 1 ≡ f = omega arith in
+    eq-eqb (c / 4) (f + 1) e ∙ sym (rw (name-row c s (omega arith), i) (same-row f f h h ∙ eq-eqb f f refl)))
+    (λ n.
+    let i = q .least in
+    ne-eqb (c / 4) (f + 1) n ∙ sym (fails (λ t. n (omega (arith, q .number-is, ap family-number (same-true (coded-name c s) (row-name f) t), row-numbered f h)))))
+
+module _ (tape area : Text) (w f : ℕ) {k : ℕ} (ek : k ≡ kind-of w) where
+  pub of-coded : {c : ℕ} → Points tape area w → k ≡ Register → c ≡ code-of w → (c ≡ 0 → ⊥) → f < 8 → eqb (c / 4) (f + 1) ≡ of-family (fam-text tape area f) (token-of tape area w)
+  unfolding of-family fam-of is let-some_else_then_
+  of-coded {c} p e ec n h =
+      let q : Says c (text-of tape area w) = rw ec (says tape area w p (λ z. n (ec ∙ z))) in
+      rw (eq-eqb (kind-of w) Register (sym ek ∙ e), fam-row tape area {f = f} h)
+      (rw (if-true {A = Option NFam} (family (text-of tape area w)) none refl, q .family-is) (row-coded c (text-of tape area w) f q h))
 
 -- ---- codes that differ
 

@@ -191,5 +191,8 @@ module _ (tape area : Text) (w : ℕ) {r : Named} (h : Names tape area (fam-of (
       unfolding is-narrow let-some_else_then_
       narrow-as l = rw (← h .is, e, lt-ltb k 32 l) (ex ∙ sym (and-true (fam-text tape area g == fam)))
 
+pub of-other : (tape area : Text) (w : ℕ) (fam : Text) {k : ℕ} → k ≡ kind-of w → (k ≡ Register → ⊥) → false ≡ of-family fam (token-of tape area w)
+of-other tape area w fam ek n = of-none tape area w (fam-other tape area w ek n) fam refl
+
 -- `search (needs, families)` proves what the functions on one token leave
-pub ruleset families = (same-as-row, name-not-row, same-as-name, name-points, number-row, number-name, named-row, named-none, front-inside, named-front, fam-other, fam-register, as-known, of-none, of-as, narrow-none, narrow-wide, narrow-as)
+pub ruleset families = (same-as-row, name-not-row, same-as-name, name-points, number-row, number-name, named-row, named-none, front-inside, named-front, fam-other, fam-register, as-known, of-none, of-other, of-as, narrow-none, narrow-wide, narrow-as)
