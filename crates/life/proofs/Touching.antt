@@ -17,11 +17,10 @@ use Rattle.reference.specs.Life.{Touch, None, Kill, Use, kills, touch-of, match
 use Rattle.laws.proofs.Scans.{and-here, and-second, not-same}
 use Rattle.lines.specs.Words.{text-of, token-of, tokens-of}
 use Rattle.lines.specs.Shapes.{expr-words, Assigns}
-use Rattle.lines.specs.Fams.{fam-text, Names}
+use Rattle.lines.specs.Fams.{Fam, fam-text, Names}
 use Rattle.lines.specs.declared.shapes.Expr.{Expr}
 use Rattle.lines.specs.declared.shapes.Assigned.{Assigned}
 use Rattle.lines.specs.declared.shapes.Assigned.the-variants.{To, Nothing as Unassigned}
-use Rattle.lines.specs.declared.fams.Fam.{Fam}
 use Rattle.lines.specs.declared.fams.Named.{Named}
 use Rattle.lines.specs.declared.fams.Named.the-variants.{As, Nothing as Unnamed}
 use Rattle.lines.proofs.shapes.Sides.{assigned-to, assigned-not}

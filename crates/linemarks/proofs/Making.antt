@@ -19,9 +19,8 @@ use Rattle.lines.specs.Codes.{bucket, family-number}
 use Rattle.lines.specs.Words.{code-of, text-of, token-of, tokens-of, Points}
 use Rattle.lines.specs.Marks.{bit, marked-by, Tells}
 use Rattle.lines.specs.Lines.{with-marks, part-of, address-in, Lined, Listed}
-use Rattle.lines.specs.declared.fams.Fam.{Fam}
-use Rattle.lines.specs.declared.fams.Fam.the-variants.{Row, Text as Spelt}
-use Rattle.lines.specs.Fams.{fam-text, Known}
+use Rattle.lines.specs.Fams.{Fam, fam-text}
+use Rattle.lines.proofs.fams.Families.{fam-row, fam-name}
 use Rattle.lines.proofs.words.Scans.{any-next, any-false}
 use Rattle.lines.proofs.words.Lines.{marked-first, marked-count, marked-indent, marked-addressed, marked-origin, marked-marks}
 use Rattle.lines.proofs.codes.Coding.{says, name-whole, row-numbered, text-numbered, number-below}
@@ -38,14 +37,11 @@ code-number {tape} {area} {w} {c} p ec h z =
 pub name-number : (tape area : Text) (w : ℕ) {b : ℕ} {s : Text} → is-row (text-of tape area w) ≡ false → s ≡ text-of tape area w → b ≡ bucket s → 8 + b ≡ family-number (text-of tape area w)
 name-number tape area w n es eb = sym (text-numbered (text-of tape area w) n ∙ ap (λ (x : ℕ). 8 + x) (sym (eb ∙ ap bucket es)))
 
-pub row-is : (tape area : Text) {f : Fam} {r : ℕ} → Known tape area f → f ≡ Row r → r ≡ family-number (fam-text tape area f)
-row-is tape area {f} {r} k e = rw e (sym (row-numbered r (rw e at k)))
+pub row-is : (tape area : Text) {f : Fam} → f < 8 → f ≡ family-number (fam-text tape area f)
+row-is tape area {f} h = sym (ap family-number (fam-row tape area h) ∙ row-numbered f h)
 
-pub text-is : (tape area : Text) {f : Fam} {w x : ℕ} → f ≡ Spelt w → x ≡ family-number (text-of tape area w) → x ≡ family-number (fam-text tape area f)
-text-is tape area e ex = rw e ex
-
-pub text-other : (tape area : Text) {f : Fam} (w : ℕ) → Known tape area f → f ≡ Spelt w → is-row (text-of tape area w) ≡ false
-text-other tape area w k e = (rw e at k) .1
+pub text-is : (tape area : Text) {f : Fam} {x : ℕ} → 8 ≤ f → x ≡ family-number (text-of tape area f) → x ≡ family-number (fam-text tape area f)
+text-is tape area h e = e ∙ sym (ap family-number (fam-name tape area h))
 
 -- ---- the bits of a line: one more token
 

@@ -53,8 +53,8 @@ pub fn number_of<'a>(tape: &'a [u8], area: &'a [u8], f: Fam) -> u64
     requires { ⌜ Known (now tape) (now area) f ⌝ }
     ensures { λ r. ⌜ r ≡ family-number (fam-text (now (tape .entry)) (now (area .entry)) f) ⌝ }
 {
-    match f {
-        Fam::Row(row) => row,
-        Fam::Text(w) => name_number(tape, area, w),
+    if f < 8 {
+        return f;
     }
+    name_number(tape, area, f)
 }

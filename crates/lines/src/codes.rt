@@ -1,5 +1,4 @@
 // Codes: the family and the width of a token's text, found once and kept in its word.
-use crate::fams::Fam;
 use crate::fams::Named;
 use crate::words;
 use names::Spelled;
@@ -51,12 +50,12 @@ pub fn decoded<'a>(tape: &'a [u8], area: &'a [u8], w: u64) -> Named
     let c = words::code(w);
     let width = width_of(c);
     if c < 36 {
-        return Named::As(Fam::Row(c / 4 - 1), width);
+        return Named::As(c / 4 - 1, width);
     }
     if c % 4 == 0 {
-        return Named::As(Fam::Text(w), width);
+        return Named::As(w, width);
     }
-    Named::As(Fam::Text(words::without_last(w)), width)
+    Named::As(words::without_last(w), width)
 }
 
 // Whether two tokens have one text: codes that differ tell at once.

@@ -21,11 +21,8 @@ ghost use Rattle.lines.specs.Words.{text-of, token-of, tokens-of, Points
 ghost use Rattle.lines.specs.Shapes.{found, expr-words, Expression};
 ghost use Rattle.lines.specs.Fams.{fam-text, fam-number, Known, Names};
 
-// A family: a row of the table of names, or the token word of its name.
-pub enum Fam {
-    Row(u64),
-    Text(u64),
-}
+// A family in one number: below 8 a row of the table of names, else the token word of its name.
+pub type Fam = u64;
 
 // A family and a width.
 pub enum Named {
@@ -39,8 +36,8 @@ fn spelled<'a>(tape: &'a [u8], area: &'a [u8], w: u64) -> Named
     ensures { λ r. ⌜ Names (now (tape .entry)) (now (area .entry)) (family (text-of (now (tape .entry)) (now (area .entry)) w)) r ⌝ }
 {
     match names::family(words::text(tape, area, w)) {
-        Spelled::Row(row, width) => Named::As(Fam::Row(row), width),
-        Spelled::Front(n, width) => Named::As(Fam::Text(words::first_bytes(w, n)), width),
+        Spelled::Row(row, width) => Named::As(row, width),
+        Spelled::Front(n, width) => Named::As(words::first_bytes(w, n), width),
         Spelled::Nothing => Named::Nothing,
     }
 }
@@ -71,23 +68,29 @@ pub fn same_family<'a>(tape: &'a [u8], area: &'a [u8], f: Fam, g: Fam) -> bool
     requires { ⌜ Known (now tape) (now area) f × Known (now tape) (now area) g ⌝ }
     ensures { λ r. ⌜ r ≡ (fam-text (now (tape .entry)) (now (area .entry)) f == fam-text (now (tape .entry)) (now (area .entry)) g) ⌝ }
 {
-    match f {
-        Fam::Row(a) => match g {
-            Fam::Row(b) => a == b,
-            Fam::Text(_) => false,
-        },
-        Fam::Text(v) => match g {
-            Fam::Row(_) => false,
-            Fam::Text(w) => codes::same_text(tape, area, v, w),
-        },
+    if f < 8 {
+        return f == g;
     }
+    if g < 8 {
+        return false;
+    }
+    codes::same_text(tape, area, f, g)
 }
 
-// Whether a token is a Register of the family.
+// Whether a token is a Register of the family. A code tells a row at once.
 pub fn is_of<'a>(tape: &'a [u8], area: &'a [u8], w: u64, f: Fam) -> bool
     requires { ⌜ Points (now tape) (now area) w × Known (now tape) (now area) f ⌝ }
     ensures { λ r. ⌜ r ≡ of-family (fam-text (now (tape .entry)) (now (area .entry)) f) (token-of (now (tape .entry)) (now (area .entry)) w) ⌝ }
 {
+    if words::kind(w) != words::REGISTER {
+        return false;
+    }
+    let c = words::code(w);
+    if f < 8 {
+        if c != 0 {
+            return c / 4 == f + 1;
+        }
+    }
     match fam_of(tape, area, w) {
         Named::As(g, _) => same_family(tape, area, g, f),
         Named::Nothing => false,
@@ -115,10 +118,10 @@ fn number_of<'a>(tape: &'a [u8], area: &'a [u8], f: Fam) -> u64
     requires { ⌜ Known (now tape) (now area) f ⌝ }
     ensures { λ r. ⌜ r ≡ fam-number (now (tape .entry)) (now (area .entry)) f ⌝ }
 {
-    match f {
-        Fam::Row(row) => row,
-        Fam::Text(w) => names::number_of(words::text(tape, area, w)),
+    if f < 8 {
+        return f;
     }
+    names::number_of(words::text(tape, area, f))
 }
 
 // Whether a call overwrites the family.

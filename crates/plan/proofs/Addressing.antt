@@ -13,10 +13,9 @@ use Rattle.joining.proofs.Addressed.{addressed-slots}
 use Rattle.names.specs.Families.{row-name}
 use Rattle.names.proofs.Searches.{all-below, below-at}
 use Rattle.lines.specs.Words.{text-of, Holds}
-use Rattle.lines.specs.Fams.{fam-text, Known}
-use Rattle.lines.specs.declared.fams.Fam.{Fam}
-use Rattle.lines.specs.declared.fams.Fam.the-variants.{Row, Text as Spelt}
+use Rattle.lines.specs.Fams.{Fam, fam-text}
 use Rattle.lines.proofs.words.Scans.{any-true, any-next, any-false}
+use Rattle.lines.proofs.fams.Families.{fam-row, fam-name}
 use Rattle.plan.specs.Slots.{slot-names, Slotted}
 
 -- the names that are addressed in a listing
@@ -31,12 +30,12 @@ row-other r h = not-true (below-at 8 (λ k. not (starts-with (row-name k) (bytes
     tested = refl
 
 module _ (tape area slots : Text) (words : List ℕ) {f : Fam} where
-  pub row-unaddressed : Slotted slots words → Known tape area f → {r : ℕ} → f ≡ Row r → false ≡ has (slot-names slots words) (fam-text tape area f)
-  row-unaddressed h k {r} e = rw e (sym (h .only (row-name r) (row-other r (rw e at k))))
+  pub row-unaddressed : Slotted slots words → f < 8 → false ≡ has (slot-names slots words) (fam-text tape area f)
+  row-unaddressed h i = rw (fam-row tape area {f = f} i) (sym (h .only (row-name f) (row-other f i)))
 
-  pub slot-addressed : {w : ℕ} {s : Text} {x : Bool} → f ≡ Spelt w → s ≡ text-of tape area w → x ≡ has (slot-names slots words) s
+  pub slot-addressed : {s : Text} {x : Bool} → 8 ≤ f → s ≡ text-of tape area f → x ≡ has (slot-names slots words) s
       → x ≡ has (slot-names slots words) (fam-text tape area f)
-  slot-addressed e es ex = rw (e, ← es) ex
+  slot-addressed i es ex = rw (fam-name tape area {f = f} i, ← es) ex
 
 -- one name after the other: s is the text of the word w
 module _ (slots : Text) (words : List ℕ) (t : Text) (k : ℕ)

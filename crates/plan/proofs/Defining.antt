@@ -19,8 +19,7 @@ use Rattle.joining.specs.Plan.{definition-of}
 use Rattle.joining.proofs.Looking.{before-of, reads-begin, reads-hit, reads-miss, reads-end}
 use Rattle.lines.specs.Words.{kind-of, text-of, token-of, tokens-of, Points, Holds}
 use Rattle.lines.specs.Shapes.{expr-words, Expression, Assigns}
-use Rattle.lines.specs.Fams.{fam-text, Names}
-use Rattle.lines.specs.declared.fams.Fam.{Fam}
+use Rattle.lines.specs.Fams.{Fam, fam-text, Names}
 use Rattle.lines.specs.declared.fams.Named.{Named}
 use Rattle.lines.specs.declared.fams.Named.the-variants.{As as NamedAs, Nothing as Unnamed}
 use Rattle.lines.specs.declared.shapes.Expr.{Expr}

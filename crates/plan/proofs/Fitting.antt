@@ -20,8 +20,7 @@ use Rattle.laws.proofs.Scans.{and-here, and-second, and-true, and-false, and-no
 use Rattle.joining.specs.Plan.{wants-brackets}
 use Rattle.joining.proofs.Fitting.{before-at, after-at, first-not-standalone, last-not-standalone}
 use Rattle.lines.specs.Words.{kind-of, text-of, token-of, tokens-of}
-use Rattle.lines.specs.Fams.{Names}
-use Rattle.lines.specs.declared.fams.Fam.{Fam}
+use Rattle.lines.specs.Fams.{Fam, Names}
 use Rattle.lines.specs.declared.fams.Named.{Named}
 use Rattle.lines.specs.declared.fams.Named.the-variants.{As as NamedAs, Nothing as Unnamed}
 use Rattle.lines.proofs.fams.Families.{named-as, named-not}

@@ -23,8 +23,7 @@ use Rattle.joining.proofs.Looking.{mentions, use-here, use-later, use-stops, us
 use Rattle.lines.specs.Words.{text-of, tokens-of}
 use Rattle.lines.specs.Lines.{indent-of, part-of, bare-in, bare-listing}
 use Rattle.lines.specs.Shapes.{expr-words, Assigns}
-use Rattle.lines.specs.Fams.{fam-text, Names}
-use Rattle.lines.specs.declared.fams.Fam.{Fam}
+use Rattle.lines.specs.Fams.{Fam, fam-text, Names}
 use Rattle.lines.specs.declared.fams.Named.{Named}
 use Rattle.lines.specs.declared.fams.Named.the-variants.{As as NamedAs, Nothing as Unnamed}
 use Rattle.lines.specs.declared.shapes.Expr.{Expr}

@@ -32,8 +32,8 @@ pub fn is_addressed<'a>(
     requires { ⌜ Slotted (now slots) (now «slot_words») × Known (now tape) (now area) f ⌝ }
     ensures { λ r. ⌜ r ≡ has (slot-names (now (slots .entry)) (now («slot_words» .entry))) (fam-text (now (tape .entry)) (now (area .entry)) f) ⌝ }
 {
-    match f {
-        Fam::Row(_) => false,
-        Fam::Text(w) => slot_among(slots, slot_words, words::text(tape, area, w)),
+    if f < 8 {
+        return false;
     }
+    slot_among(slots, slot_words, words::text(tape, area, f))
 }

@@ -29,15 +29,16 @@ use Rattle.joining.proofs.Bare.{labels-bare, dead-result-bare, cut-bare}
 use Rattle.joining.proofs.Labels.{labels-begin, labelled-begin}
 use Rattle.joining.proofs.Moving.{cut-labels, cut-labelled}
 use Rattle.joining.proofs.Rounds.{cuts-begin, cuts-end, cuts-kept, cuts-cut}
-use Rattle.names.specs.Families.{row-name}
 use Rattle.lines.specs.Words.{text-of, token-of, tokens-of}
 use Rattle.lines.specs.Lines.{first-of, count-of, indent-of, with-part, part-of, line-in, listing-of, bare-listing, Lined, Listed}
 use Rattle.lines.specs.Shapes.{found}
+use Rattle.lines.specs.Fams.{fam-text}
 use Rattle.lines.specs.declared.shapes.Found.{Found}
 use Rattle.lines.specs.declared.shapes.Found.the-variants.{At, Nothing}
 use Rattle.lines.proofs.words.Each.{map-drop, map-set}
 use Rattle.lines.proofs.words.Tokens.{holds-drop}
 use Rattle.lines.proofs.words.Lines.{count-below, with-first, with-count, with-unmarked, with-means, no-marks, bare-at, bare-means, listed-set}
+use Rattle.lines.proofs.fams.Families.{fam-row}
 use Rattle.lines.proofs.shapes.Places.{found-is, found-not, find-at, get-at}
 use Rattle.life.specs.Labels.{Gathered}
 use Rattle.rounds.specs.Cuts.{keeps-result, Cuttable, labels-now, dead-at, Dropped, Cut}
@@ -107,9 +108,9 @@ module _ (rules : Rules) (tape area : Text) (tokens lines labels : List ℕ) (i 
     dead-not f = and-here _ (rw ew at ex) f ∙ sym dead-is
 
     pub dead-then : x ≡ true → {n : ℕ} → n ≡ indent-of (getD lines i 0) → {y : Bool}
-        → y ≡ dead-after (bare-listing tape area tokens lines) i (row-name 0) n (labels-now tape area tokens lines labels) i (volatile rules)
+        → y ≡ dead-after (bare-listing tape area tokens lines) i (fam-text tape area 0) n (labels-now tape area tokens lines labels) i (volatile rules)
         → y ≡ dead-at rules tape area tokens lines labels i
-    dead-then f en ey = and-second (rw ew at ex) f (rw en at ey) ∙ sym dead-is
+    dead-then f en ey = and-second (rw ew at ex) f (rw (fam-row tape area {f = 0} (omega arith), en) at ey) ∙ sym dead-is
 
   -- ---- one cut
 

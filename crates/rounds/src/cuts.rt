@@ -1,7 +1,6 @@
 // Dead results: `drop_dead_results` of the Rust.
 use life::dead_after;
 use life::gather_labels;
-use lines::fams::Fam;
 use lines::rules::Rules;
 use lines::shapes;
 use lines::shapes::Found;
@@ -62,7 +61,7 @@ fn is_dead_result<'a>(
         lines,
         labels,
         i,
-        Fam::Row(RAX),
+        RAX,
         words::indent(l),
         i,
         rules,

@@ -2,7 +2,7 @@
 -- Assumes nothing.
 use Prim.Native.Nat.{ℕ, _+_, _-_, _*_, _/_, _%_, _≤_, _<_}
 use native.Mathlib.Omega.{arith}
-use native.Mathlib.Decide.{decLt}
+use native.Mathlib.Decide.{ℕ-discrete}
 use mathlib.Core.Logic.{_⊎_, inl, inr, by-cases}
 use mathlib.Core.Path.{_≡_, refl, sym, ap, _∙_}
 use mathlib.Core.Bool.{Bool, true, false, false≢true}
@@ -15,8 +15,8 @@ use borrow.Author.Tests.{eqb-true, eq-eqb, ne-eqb, lt-ltb, le-ltb}
 use Rattle.reference.specs.Control.{_&&_, if_then_else_, let-some_else_then_}
 use Rattle.reference.specs.Lists.{position}
 use Rattle.reference.specs.Text.{Text, _==_}
-use Rattle.reference.specs.Listing.{Token, token}
-use Rattle.reference.specs.Names.{Fam as NFam, family}
+use Rattle.reference.specs.Listing.{Token, token, is, Register}
+use Rattle.reference.specs.Names.{Fam as NFam, family, fam-of, of-family}
 use Rattle.reference.proofs.Cases.{some-inj, none-some, fails}
 use Rattle.laws.proofs.Scans.{if-true, if-false}
 use Rattle.names.specs.Families.{ROWS, row-name, is-row, Spells}
@@ -24,13 +24,13 @@ use Rattle.names.specs.declared.families.Spelled.{Spelled}
 use Rattle.names.specs.declared.families.Spelled.the-variants.{Row as InRow, Front}
 use Rattle.names.proofs.Searches.{position-none, position-at, any-at, all-below, below-at}
 use Rattle.names.proofs.Texts.{same-true}
+use Rattle.names.proofs.Same.{same-row}
 use Rattle.lines.specs.Codes.{bucket, family-number, WIDTHS, coded-width, coded-name, Says, Codes}
-use Rattle.lines.specs.Words.{place-of, start-of, len-of, code-of, first-bytes, text-of, Coded, Points}
-use Rattle.lines.specs.declared.fams.Fam.{Fam}
-use Rattle.lines.specs.declared.fams.Fam.the-variants.{Row, Text as Spelt}
+use Rattle.lines.specs.Words.{kind-of, place-of, start-of, len-of, code-of, first-bytes, text-of, token-of, Coded, Points}
 use Rattle.lines.specs.declared.fams.Named.the-variants.{As}
-use Rattle.lines.specs.Fams.{fam-text, Known, Names}
+use Rattle.lines.specs.Fams.{fam-text, Names}
 use Rattle.lines.proofs.words.Tokens.{in-tape, text-length, first-bytes-means, first-bytes-points}
+use Rattle.lines.proofs.fams.Families.{fam-row, row-names, word-names}
 
 -- ---- the numbers of families
 
@@ -108,9 +108,6 @@ module _ (c : ℕ) (s : Text) where
 
 -- ---- a word with a code
 
-same-as : {f g : Fam} {k l : ℕ} → As f k ≡ As g l → f ≡ g
-same-as e = cc
-
 module _ (tape area : Text) (w : ℕ) (p : Points tape area w) (n : code-of w ≡ 0 → ⊥) where
   pub says : Says (code-of w) (text-of tape area w)
   unfolding Coded text-of
@@ -133,24 +130,41 @@ module _ (tape area : Text) (w : ℕ) (p : Points tape area w) (n : code-of w �
     text-number : 36 ≤ c → is-row (coded-name c (text-of tape area w)) ≡ false
     text-number h = no-row (coded-name c (text-of tape area w)) (omega (arith, here .number-is))
 
-    pub decoded-row : c < 36 → Names tape area (family (text-of tape area w)) (As (Row (c / 4 - 1)) k)
-    decoded-row h = record {
-      is = rw (ek, ← name-row c (text-of tape area w) h) (sym (here .family-is));
-      known = λ f l i. rw (sym (same-as i)) (omega (arith, here .least));
-    }
+    pub decoded-row : c < 36 → Names tape area (family (text-of tape area w)) (As (c / 4 - 1) k)
+    decoded-row h = row-names tape area (omega (arith, here .least)) (rw (ek, ← name-row c (text-of tape area w) h) (sym (here .family-is)))
 
-    pub decoded-whole : 36 ≤ c → c % 4 ≡ 0 → Names tape area (family (text-of tape area w)) (As (Spelt w) k)
+    pub decoded-whole : 36 ≤ c → c % 4 ≡ 0 → Names tape area (family (text-of tape area w)) (As w k)
     decoded-whole h e =
         let t : coded-name c (text-of tape area w) ≡ text-of tape area w = name-whole c (text-of tape area w) h e in
-        record { is = rw ek (ap (λ (x : Text). some (record { name = x; width = coded-width c })) (sym t) ∙ sym (here .family-is)); known = λ f l i. rw (sym (same-as i)) (p, ap is-row (sym t) ∙ text-number h) }
+        word-names tape area _ p (ap is-row (sym t) ∙ text-number h) (rw ek (ap (λ (x : Text). some (record { name = x; width = coded-width c })) (sym t) ∙ sym (here .family-is)))
 
-    pub decoded-front : 36 ≤ c → (c % 4 ≡ 0 → ⊥) → {v : ℕ} → v ≡ first-bytes w (len-of w - 1) → Names tape area (family (text-of tape area w)) (As (Spelt v) k)
+    pub decoded-front : 36 ≤ c → (c % 4 ≡ 0 → ⊥) → {v : ℕ} → v ≡ first-bytes w (len-of w - 1) → Names tape area (family (text-of tape area w)) (As v k)
     decoded-front h m {v} ev =
         let b : len-of w - 1 ≤ len-of w = omega arith in
         let l : length (text-of tape area w) - 1 ≡ len-of w - 1 = ap (λ (x : ℕ). x - 1) (text-length p) in
         let t : text-of tape area (first-bytes w (len-of w - 1)) ≡ coded-name c (text-of tape area w) =
         ap (λ (x : Token). x .text) (first-bytes-means tape area w (len-of w - 1) p b) ∙ ap (λ (x : ℕ). take x (text-of tape area w)) (sym l) ∙ sym (name-front c (text-of tape area w) h m) in
-        rw ev (record { is = rw (ek, t) (sym (here .family-is)); known = λ f q i. rw (sym (same-as i)) (first-bytes-points tape area w (len-of w - 1) p b, rw t (text-number h)) })
+        rw ev (word-names tape area _ (first-bytes-points tape area w (len-of w - 1) p b) (rw t (text-number h)) (rw (ek, t) (sym (here .family-is))))
+
+-- ---- a row's code
+
+pub row-coded : (c : ℕ) (s : Text) (f : ℕ) → Says c s → f < 8 → eqb (c / 4) (f + 1) ≡ (coded-name c s == row-name f)
+row-coded c s f q h =
+    by-cases (ℕ-discrete (c / 4) (f + 1))
+    (λ e.
+    let i : c / 4 - 1 ≡ f = omega arith in
+    eq-eqb (c / 4) (f + 1) e ∙ sym (rw (name-row c s (omega arith), i) (same-row f f h h ∙ eq-eqb f f refl)))
+    (λ n.
+    let i = q .least in
+    ne-eqb (c / 4) (f + 1) n ∙ sym (fails (λ t. n (omega (arith, q .number-is, ap family-number (same-true (coded-name c s) (row-name f) t), row-numbered f h)))))
+
+module _ (tape area : Text) (w f : ℕ) {k : ℕ} (ek : k ≡ kind-of w) where
+  pub of-coded : {c : ℕ} → Points tape area w → k ≡ Register → c ≡ code-of w → (c ≡ 0 → ⊥) → f < 8 → eqb (c / 4) (f + 1) ≡ of-family (fam-text tape area f) (token-of tape area w)
+  unfolding of-family fam-of is let-some_else_then_
+  of-coded {c} p e ec n h =
+      let q : Says c (text-of tape area w) = rw ec (says tape area w p (λ z. n (ec ∙ z))) in
+      rw (eq-eqb (kind-of w) Register (sym ek ∙ e), fam-row tape area {f = f} h)
+      (rw (if-true {A = Option NFam} (family (text-of tape area w)) none refl, q .family-is) (row-coded c (text-of tape area w) f q h))
 
 -- ---- codes that differ
 

@@ -14,10 +14,10 @@ use Rattle.plan.proofs.uses.use_of.Statement.{statement}
 use Rattle.plan.proofs.uses.use_of.Tie as tie
 
 abbrev Inv-loop : tie.InvT-loop
-Inv-loop tape area tokens lines i d rules s n j₀ j = use-of (bare-listing tape area tokens lines) i (definition-in tape area (part-of tokens (getD lines i 0)) d) (volatile (rules-of rules)) ≡ used-from tape area tokens lines i (definition-in tape area (part-of tokens (getD lines i 0)) d) (volatile (rules-of rules)) j
+Inv-loop tape area tokens lines i d rules s f n j₀ j = use-of (bare-listing tape area tokens lines) i (definition-in tape area (part-of tokens (getD lines i 0)) d) (volatile (rules-of rules)) ≡ used-from tape area tokens lines i (definition-in tape area (part-of tokens (getD lines i 0)) d) (volatile (rules-of rules)) j
 
 abbrev μ-loop : tie.MeasureT-loop
-μ-loop tape area tokens lines i d rules s n j₀ j = length lines - j
+μ-loop tape area tokens lines i d rules s f n j₀ j = length lines - j
 
 mul-s : tie.Need-mul-s Inv-loop μ-loop
 mul-s c = search needs

@@ -1,6 +1,7 @@
 -- `rounds::cuts::is_dead_result` meets its contract. Assumes nothing.
 use borrow.Author.Needs.{needs}
 use borrow.Author.Tests.{not-true, not-false}
+use Rattle.lines.proofs.fams.Families.{row-known}
 use Rattle.rounds.proofs.Cutting.{dead-not, dead-then}
 use Rattle.rounds.proofs.cuts.is_dead_result.Statement.{statement}
 use Rattle.rounds.proofs.cuts.is_dead_result.Tie as tie
@@ -27,7 +28,7 @@ indent-requires : tie.Need-indent-requires
 indent-requires c κs = search needs
 
 dead-after-requires : tie.Need-dead-after-requires
-dead-after-requires c κs = search needs
+dead-after-requires c κs = search (needs, row-known)
 
 returns-2 : tie.Need-returns-2
 returns-2 c =
