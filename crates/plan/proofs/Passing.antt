@@ -5,8 +5,7 @@ use mathlib.Core.Bool.{Bool, true, false}
 use mathlib.Core.List.{List}
 use lib.Dec.{eqb}
 use borrow.Author.Tests.{eq-eqb, ne-eqb}
-use Rattle.reference.specs.Control.{not, _&&_, _||_}
-use Rattle.reference.specs.Lists.{is-some}
+use Rattle.reference.specs.Control.{not, _||_}
 use Rattle.reference.specs.Text.{Text, bytes, has}
 use Rattle.reference.specs.Life.{None, touch-of}
 use Rattle.reference.specs.Join.{ends-run}
