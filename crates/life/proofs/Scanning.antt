@@ -9,7 +9,7 @@ use lib.ListN.{length, getD, take, drop, drop-of-length-le}
 use lib.Seq.{drop-cons}
 use borrow.Author.Tests.{le-leb, lt-leb}
 use Rattle.reference.specs.Control.{_&&_, if_then_else_, let-some_else_then_}
-use Rattle.reference.specs.Text.{Text, bytes}
+use Rattle.reference.specs.Text.{Text, bytes, has}
 use Rattle.reference.specs.Listing.{Line, Listing}
 use Rattle.reference.specs.Shapes.{has-kw, kw-in}
 use Rattle.reference.specs.Life.{Touch, None, Kill, Use, touch, touch-of, match-touch, Labels, killed-first, goto-target, rerun-kills, while-passes, goto-passes, scan, dead-from, dead-after}
@@ -18,8 +18,8 @@ use Rattle.lines.specs.Codes.{family-number}
 use Rattle.lines.specs.Lines.{indent-of, part-of, bare-in, bare-listing, Lined}
 use Rattle.lines.specs.Words.{tokens-of}
 use Rattle.lines.proofs.words.Each.{map-take, map-drop}
-use Rattle.linemarks.specs.Quiet.{is-quiet}
-use Rattle.linemarks.proofs.Lacking.{quiet-kw, quiet-goto, quiet-touch}
+use Rattle.linemarks.specs.Quiet.{is-steady, is-quiet, is-calling}
+use Rattle.linemarks.proofs.Lacking.{steady-kw, steady-goto, quiet-steady, quiet-touch, calling-steady, calling-kills, calling-keeps}
 use Rattle.life.specs.declared.touches.Touched.{Touched}
 use Rattle.life.specs.declared.touches.Touched.the-variants.{Nothing, Kill as Kills, Use as Uses}
 use Rattle.life.specs.declared.fates.Fate.{Fate}
@@ -197,8 +197,8 @@ module _ (tape area : Text) (tokens lines : List ℕ) (fam : Text) (base : ℕ) 
 -- the line w of the scan, whose word is l
 module _ (lines : List ℕ) (tape area : Text) (tokens : List ℕ) (fam : Text) (base : ℕ) (labels : Labels) (start : ℕ) (vs : List Text)
     (w l : ℕ) {ws : List ℕ} (ew : ws ≡ part-of tokens l) {x : Bool} (ex : x ≡ kw-in (tokens-of tape area ws) (bytes "while")) where
-  has : x ≡ kw-in (tokens-of tape area (part-of tokens l)) (bytes "while")
-  has = rw ew at ex
+  loops : x ≡ kw-in (tokens-of tape area (part-of tokens l)) (bytes "while")
+  loops = rw ew at ex
 
   abbrev after : Fate
   after = fate-after (bare-listing tape area tokens lines) fam base labels start vs w (bare-in tape area tokens l)
@@ -206,26 +206,54 @@ module _ (lines : List ℕ) (tape area : Text) (tokens : List ℕ) (fam : Text) 
   module _ (t : x ≡ true) {y : Bool} (ey : y ≡ while-passes (bare-listing tape area tokens lines) fam start vs w (bare-in tape area tokens l)) where
     pub after-while : y ≡ true → Open ≡ after
     unfolding fate-after if_then_else_
-    after-while u = rw (← has, t, ← ey, u)
+    after-while u = rw (← loops, t, ← ey, u)
 
     pub after-loop : y ≡ false → Live ≡ after
     unfolding fate-after if_then_else_
-    after-loop u = rw (← has, t, ← ey, u)
+    after-loop u = rw (← loops, t, ← ey, u)
 
   module _ (t : x ≡ false) {y : Bool} (ey : y ≡ goto-passes (bare-listing tape area tokens lines) fam start vs labels (bare-in tape area tokens l)) where
     pub after-goto : y ≡ false → Live ≡ after
     unfolding fate-after if_then_else_
-    after-goto u = rw (← has, t, ← ey, u)
+    after-goto u = rw (← loops, t, ← ey, u)
 
     pub after-scan : {r : Fate} → y ≡ true → r ≡ scan-fate fam base vs (bare-in tape area tokens l) → r ≡ after
     unfolding fate-after if_then_else_
-    after-scan u e = e ∙ rw (← has, t, ← ey, u)
+    after-scan u e = e ∙ rw (← loops, t, ← ey, u)
 
--- a quiet line decides nothing: x is the answer of `is_quiet`
-pub after-quiet : (lines : List ℕ) (tape area : Text) (tokens : List ℕ) (fam : Text) (base : ℕ) (labels : Labels) (start : ℕ) (vs : List Text) (w l : ℕ)
-    → Lined tape area tokens l → {n : ℕ} → n ≡ family-number fam → {x : Bool} → x ≡ is-quiet l n → x ≡ true
-    → Open ≡ fate-after (bare-listing tape area tokens lines) fam base labels start vs w (bare-in tape area tokens l)
-unfolding fate-after goto-passes goto-target scan-fate line-fate returns-at match-touch if_then_else_ let-some_else_then_ _&&_
-after-quiet lines tape area tokens fam base labels start vs w l h en ex t =
-    let kw = quiet-kw fam h en ex t in
-    rw (kw (bytes "while"), quiet-goto fam h en ex t, quiet-touch fam h en ex t vs, kw (bytes "return"))
+-- a line that lacks the family and all that turns decides only by how it touches the family
+module _ (lines : List ℕ) (tape area : Text) (tokens : List ℕ) (fam : Text) (base : ℕ) (labels : Labels) (start : ℕ) (vs : List Text) (w l : ℕ)
+    (h : Lined tape area tokens l) {n : ℕ} (en : n ≡ family-number fam) where
+  abbrev by-marks : Fate
+  by-marks = fate-after (bare-listing tape area tokens lines) fam base labels start vs w (bare-in tape area tokens l)
+
+  after-steady : is-steady l n ≡ true → {r : Fate} → r ≡ line-fate fam base vs (bare-in tape area tokens l) → r ≡ by-marks
+  unfolding fate-after goto-passes goto-target scan-fate returns-at if_then_else_ let-some_else_then_ _&&_
+  after-steady st {r} e =
+      let kw = steady-kw fam h en st in
+      rw (kw (bytes "while"), steady-goto fam h en st, kw (bytes "return"), ← e) (last r)
+    where
+      last : (r : Fate) → r ≡ or-returns r false
+      last Dead = refl
+      last Live = refl
+      last Open = refl
+
+  -- a quiet line decides nothing: x is the answer of `is_quiet`
+  pub after-quiet : {x : Bool} → x ≡ is-quiet l n → x ≡ true → Open ≡ by-marks
+  after-quiet ex t =
+      after-steady (quiet-steady fam h en ex t) (fate-none tape area tokens l fam base vs refl Nothing (sym (quiet-touch fam h en ex t vs)) refl)
+
+  -- a calling line: x is the answer of `is_calling`, v whether calls overwrite the family, k the indent
+  module _ {x : Bool} (ex : x ≡ is-calling l n) (t : x ≡ true) {v : Bool} (ev : v ≡ has vs fam) where
+    pub after-keeping : v ≡ false → Open ≡ by-marks
+    after-keeping e =
+        after-steady (calling-steady fam h en ex t) (fate-none tape area tokens l fam base vs refl Nothing (sym (calling-keeps fam h en ex t vs ev e)) refl)
+
+    module _ (e : v ≡ true) {k : ℕ} (ek : k ≡ indent-of l) where
+      pub after-calling : k ≤ base → Dead ≡ by-marks
+      after-calling b =
+          after-steady (calling-steady fam h en ex t) (fate-kill tape area tokens l fam base vs refl Kills (sym (calling-kills fam h en ex t vs ev e)) refl ek b)
+
+      pub after-deep : base < k → Open ≡ by-marks
+      after-deep b =
+          after-steady (calling-steady fam h en ex t) (fate-deep tape area tokens l fam base vs refl Kills (sym (calling-kills fam h en ex t vs ev e)) refl ek b)

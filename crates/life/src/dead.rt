@@ -3,8 +3,10 @@ use crate::fates::Fate;
 use crate::fates::fate_at;
 use crate::jumps::goto_passes;
 use crate::jumps::while_passes;
+use linemarks::is_calling;
 use linemarks::is_quiet;
 use linemarks::number_of;
+use lines::fams;
 use lines::fams::Fam;
 use lines::rules::Rules;
 use lines::shapes;
@@ -12,6 +14,7 @@ use lines::words;
 ghost use mathlib.Core.Path.{_≡_};
 ghost use Prim.Native.Nat.{_<_};
 ghost use lib.ListN.{length, getD};
+ghost use Rattle.reference.specs.Text.{has};
 ghost use Rattle.reference.specs.Rules.{volatile};
 ghost use Rattle.reference.specs.Life.{dead-after};
 ghost use Rattle.joining.specs.Places.{labels-at, Labelled};
@@ -92,7 +95,7 @@ fn fate_after<'a>(
     scan(tape, area, tokens, l, f, base_indent, rules)
 }
 
-// The same, where n is the number of the family: a quiet line does nothing.
+// The same, where n is the number of the family, and calls overwrite it or not: a quiet line does nothing, and a calling one what calls do.
 fn fate_by_marks<'a>(
     tape: &'a [u8],
     area: &'a [u8],
@@ -102,14 +105,25 @@ fn fate_by_marks<'a>(
     w: usize,
     f: Fam,
     n: u64,
+    overwritten: bool,
     base_indent: u64,
     start: usize,
     rules: Rules,
 ) -> Fate
-    requires { ⌜ Listed (now tape) (now area) (now tokens) (now lines) × Labelled (bare-listing (now tape) (now area) (now tokens) (now lines)) (now labels) × Known (now tape) (now area) f × (w < length (now lines)) × (start < length (now lines)) × (n ≡ family-number (fam-text (now tape) (now area) f)) ⌝ }
+    requires { ⌜ Listed (now tape) (now area) (now tokens) (now lines) × Labelled (bare-listing (now tape) (now area) (now tokens) (now lines)) (now labels) × Known (now tape) (now area) f × (w < length (now lines)) × (start < length (now lines)) × (n ≡ family-number (fam-text (now tape) (now area) f)) × (overwritten ≡ has (volatile (rules-of rules)) (fam-text (now tape) (now area) f)) ⌝ }
     ensures { λ r. ⌜ r ≡ fate-after (bare-listing (now (tape .entry)) (now (area .entry)) (now (tokens .entry)) (now (lines .entry))) (fam-text (now (tape .entry)) (now (area .entry)) f) «base_indent» (labels-at (bare-listing (now (tape .entry)) (now (area .entry)) (now (tokens .entry)) (now (lines .entry))) (now (labels .entry))) start (volatile (rules-of rules)) w (bare-in (now (tape .entry)) (now (area .entry)) (now (tokens .entry)) (getD (now (lines .entry)) w 0)) ⌝ }
 {
-    if is_quiet(lines[w], n) {
+    let l = lines[w];
+    if is_quiet(l, n) {
+        return Fate::Open;
+    }
+    if is_calling(l, n) {
+        if !overwritten {
+            return Fate::Open;
+        }
+        if words::indent(l) <= base_indent {
+            return Fate::Dead; // by the call
+        }
         return Fate::Open;
     }
     fate_after(
@@ -143,6 +157,7 @@ pub fn dead_after<'a>(
     ensures { λ r. ⌜ r ≡ dead-after (bare-listing (now (tape .entry)) (now (area .entry)) (now (tokens .entry)) (now (lines .entry))) from (fam-text (now (tape .entry)) (now (area .entry)) f) «base_indent» (labels-at (bare-listing (now (tape .entry)) (now (area .entry)) (now (tokens .entry)) (now (lines .entry))) (now (labels .entry))) start (volatile (rules-of rules)) ⌝ }
 {
     let n = number_of(tape, area, f);
+    let overwritten = fams::is_volatile(tape, area, f, rules);
     let mut w = from + 1;
     while w < lines.len() {
         match fate_by_marks(
@@ -154,6 +169,7 @@ pub fn dead_after<'a>(
             w,
             f,
             n,
+            overwritten,
             base_indent,
             start,
             rules,

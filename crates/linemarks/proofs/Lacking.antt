@@ -1,33 +1,33 @@
--- What a quiet line lacks: the family, keywords, braces, calls, and being a label; so it does not touch the family. Assumes nothing.
-use Prim.Native.Nat.{ℕ, _≤_, _<_}
+-- What the marks of a line say: a quiet or calling line lacks the family, keywords, braces, and being a label; a quiet one does not touch the family, and a
+-- calling one only as a call does. Assumes nothing.
+use Prim.Native.Nat.{ℕ, _<_}
 use native.Mathlib.Omega.{arith}
 use mathlib.Core.Path.{_≡_, refl, sym, ap, _∙_}
 use mathlib.Core.Bool.{Bool, true, false}
 use mathlib.Core.List.{List, [], _∷_}
-use mathlib.Core.Option.{none, some}
-use lib.Dec.{eqb}
+use mathlib.Core.Option.{none}
 use borrow.Author.Tests.{eqb-true, eq-eqb}
 use Rattle.reference.specs.Control.{_&&_, _||_, if_then_else_, let-some_else_then_}
-use Rattle.reference.specs.Lists.{any, count, position, windows, pairs-from, is-some}
-use Rattle.reference.specs.Text.{Text, bytes, _==_}
+use Rattle.reference.specs.Lists.{any, count, position, pairs-from, is-some}
+use Rattle.reference.specs.Text.{Text, bytes, has, _==_}
 use Rattle.reference.specs.Listing.{Token, is, Keyword, Symbol}
 use Rattle.reference.specs.Names.{family, fam-of, of-family}
 use Rattle.reference.specs.Shapes.{Assignment, label-tokens, is-kw, kw-in, has-brace, braces-in, calls-here, call-in, assignment-of}
-use Rattle.reference.specs.Life.{None, kills, touch-of}
+use Rattle.reference.specs.Life.{None, Kill, kills, touch-of}
 use Rattle.reference.proofs.Cases.{both, neither, either, fails, true-false, some-true}
 use Rattle.reference.proofs.Shapes.{Assigning, assigning, assigns}
 use Rattle.names.proofs.Texts.{same-true}
 use Rattle.lines.specs.Codes.{family-number}
 use Rattle.lines.specs.Words.{tokens-of}
-use Rattle.lines.specs.Marks.{of-number, steers}
+use Rattle.lines.specs.Marks.{bit, of-number, turns}
 use Rattle.lines.specs.Lines.{marks-of, part-of, Lined}
 use Rattle.lines.proofs.codes.Coding.{number-below}
-use Rattle.linemarks.specs.Quiet.{is-quiet}
-use Rattle.linemarks.proofs.Tokens.{steers-mark, number-mark}
+use Rattle.linemarks.specs.Quiet.{is-marked, is-steady, is-quiet, is-calling}
+use Rattle.linemarks.proofs.Tokens.{turns-mark, number-mark}
 
 -- ---- tests of tokens that imply others
 
-any-less : {A : Type 0} (p q : A → Bool) → ((a : A) → p a ≡ true → q a ≡ true) → (l : List A) → any q l ≡ false → any p l ≡ false
+pub any-less : {A : Type 0} (p q : A → Bool) → ((a : A) → p a ≡ true → q a ≡ true) → (l : List A) → any q l ≡ false → any p l ≡ false
 unfolding _||_
 any-less p q f [] e = refl
 any-less p q f (a ∷ l) e =
@@ -35,34 +35,30 @@ any-less p q f (a ∷ l) e =
     let z : p a ≡ false = fails (λ t. true-false (f a t) (n .0)) in
     rw z (any-less p q f l (n .1))
 
-keyword-steers : (t : Token) → is Keyword t ≡ true → steers t ≡ true
-unfolding steers _||_
-keyword-steers t e = rw e
+keyword-turns : (t : Token) → is Keyword t ≡ true → turns t ≡ true
+unfolding turns _||_
+keyword-turns t e = rw e
 
-symbol-steers : (t : Token) → is Symbol t ≡ true → steers t ≡ true
-unfolding steers _||_
-symbol-steers t e = step (is Keyword t)
+brace-turns : (t : Token) → has-brace t ≡ true → turns t ≡ true
+unfolding turns _||_
+brace-turns t e = step (is Keyword t)
   where
-    step : (b : Bool) → (b || is Symbol t || has-brace t) ≡ true
+    step : (b : Bool) → (b || has-brace t || (t .text == bytes ":")) ≡ true
     step true = refl
     step false = rw e
 
-brace-steers : (t : Token) → has-brace t ≡ true → steers t ≡ true
-unfolding steers _||_
-brace-steers t e = step (is Keyword t) (is Symbol t)
+colon-turns : (t : Token) → (t .text == bytes ":") ≡ true → turns t ≡ true
+unfolding turns _||_
+colon-turns t e = step (is Keyword t) (has-brace t)
   where
-    step : (b c : Bool) → (b || c || has-brace t) ≡ true
+    step : (b c : Bool) → (b || c || (t .text == bytes ":")) ≡ true
     step true c = refl
     step false true = refl
     step false false = e
 
-kw-steers : (kw : Text) (t : Token) → is-kw kw t ≡ true → steers t ≡ true
+kw-turns : (kw : Text) (t : Token) → is-kw kw t ≡ true → turns t ≡ true
 unfolding is-kw
-kw-steers kw t e = keyword-steers t (both e .0)
-
-call-steers : (t u : Token) → calls-here (t, u) ≡ true → steers t ≡ true
-unfolding calls-here
-call-steers t u e = either (steers t ≡ true) e (λ s. symbol-steers t (both s .0)) (λ k. keyword-steers t (both k .0))
+kw-turns kw t e = keyword-turns t (both e .0)
 
 of-number-too : (fam : Text) (t : Token) → of-family fam t ≡ true → of-number (family-number fam) t ≡ true
 unfolding of-family of-number let-some_else_then_
@@ -75,35 +71,35 @@ unfolding if_then_else_ let-some_else_then_
 any-position p [] e = refl
 any-position p (a ∷ l) e = rw (neither e .0, any-position p l (neither e .1))
 
--- ---- tokens that do not steer
+-- ---- tokens that do not turn
 
-module _ (ts : List Token) (h : any steers ts ≡ false) where
-  steady-kw : (kw : Text) → kw-in ts kw ≡ false
-  unfolding kw-in
-  steady-kw kw = any-less (is-kw kw) steers (kw-steers kw) ts h
+module _ (ts : List Token) (h : any turns ts ≡ false) where
+  plain-kw : (kw : Text) → any (is-kw kw) ts ≡ false
+  plain-kw kw = any-less (is-kw kw) turns (kw-turns kw) ts h
 
-  steady-brace : braces-in ts ≡ false
+  plain-brace : braces-in ts ≡ false
   unfolding braces-in
-  steady-brace = any-less has-brace steers brace-steers ts h
+  plain-brace = any-less has-brace turns brace-turns ts h
 
-steady-pairs : (t : Token) (ts : List Token) → any steers (t ∷ ts) ≡ false → position calls-here (pairs-from t ts) ≡ none
-unfolding if_then_else_ let-some_else_then_
-steady-pairs t [] h = refl
-steady-pairs t (u ∷ ts) h =
-    let z : calls-here (t, u) ≡ false = fails (λ e. true-false (call-steers t u e) (neither h .0)) in
-    rw (z, steady-pairs u ts (neither h .1))
-
-steady-call : (ts : List Token) → any steers ts ≡ false → call-in ts ≡ none
-unfolding call-in
-steady-call [] h = refl
-steady-call (t ∷ ts) h = steady-pairs t ts h
-
-steady-label : (ts : List Token) → any steers ts ≡ false → label-tokens ts ≡ false
+plain-label : (ts : List Token) → any turns ts ≡ false → label-tokens ts ≡ false
 unfolding label-tokens
-steady-label [] h = refl
-steady-label (a ∷ []) h = refl
-steady-label (a ∷ b ∷ []) h = fails (λ e. true-false (symbol-steers a (both e .1)) (neither h .0))
-steady-label (a ∷ b ∷ c ∷ rest) h = refl
+plain-label [] h = refl
+plain-label (a ∷ []) h = refl
+plain-label (a ∷ b ∷ []) h = fails (λ e. true-false (colon-turns b (both e .0)) (neither (neither h .1) .0))
+plain-label (a ∷ b ∷ c ∷ rest) h = refl
+
+-- with no Symbol either there is no call
+pairs-call : (t : Token) (ts : List Token) → any turns (t ∷ ts) ≡ false → any (is Symbol) (t ∷ ts) ≡ false → position calls-here (pairs-from t ts) ≡ none
+unfolding calls-here if_then_else_ let-some_else_then_
+pairs-call t [] h s = refl
+pairs-call t (u ∷ ts) h s =
+    let z : calls-here (t, u) ≡ false = fails (λ e. either ⊥ e (λ a. true-false (both a .0) (neither s .0)) (λ a. true-false (keyword-turns t (both a .0)) (neither h .0))) in
+    rw (z, pairs-call u ts (neither h .1) (neither s .1))
+
+pub plain-call : (ts : List Token) → any turns ts ≡ false → any (is Symbol) ts ≡ false → is-some (call-in ts) ≡ false
+unfolding call-in
+plain-call [] h s = refl
+plain-call (t ∷ ts) h s = rw (pairs-call t ts h s)
 
 -- ---- tokens without the family
 
@@ -133,46 +129,82 @@ unfolding if_then_else_
 count-none fam [] e = refl
 count-none fam (t ∷ ts) e = rw (neither e .0) (count-none fam ts (neither e .1))
 
-lacks-touch : (ts : List Token) (fam : Text) (vs : List Text) → any (of-family fam) ts ≡ false → call-in ts ≡ none → touch-of ts fam vs ≡ None
-unfolding touch-of if_then_else_ _&&_
-lacks-touch ts fam vs f c =
-    rw (lacks-kills ts fam f, count-none fam ts f, c)
+lacks-touch : (ts : List Token) (fam : Text) (vs : List Text) → any (of-family fam) ts ≡ false → touch-of ts fam vs ≡ (if is-some (call-in ts) && has vs fam then Kill else None)
+unfolding touch-of if_then_else_
+lacks-touch ts fam vs f = rw (lacks-kills ts fam f, count-none fam ts f)
 
--- ---- a quiet line: x is the answer of `is_quiet`
+-- ---- what the marks of a line say
 
-module _ {tape area : Text} {tokens : List ℕ} {l n : ℕ} (fam : Text) (h : Lined tape area tokens l) (en : n ≡ family-number fam) {x : Bool} (ex : x ≡ is-quiet l n) (t : x ≡ true) where
+marked-bit : (l i : ℕ) → is-marked l i ≡ true → bit (marks-of l) i ≡ 1
+unfolding is-marked
+marked-bit l i e = eqb-true (bit (marks-of l) i) 1 e
+
+module _ {tape area : Text} {tokens : List ℕ} {l n : ℕ} (fam : Text) (h : Lined tape area tokens l) (en : n ≡ family-number fam) where
   abbrev ts : List Token
   ts = tokens-of tape area (part-of tokens l)
 
-  quiet-steady : any steers ts ≡ false
-  unfolding is-quiet
-  quiet-steady =
-      let b = eqb-true _ 1 (both (sym ex ∙ t) .1) in
-      any-less steers _ (λ u e. steers-mark u 15 refl ∙ e) ts (h .marks .lacks 15 (omega arith) b)
+  -- a line that lacks the family and all that turns
+  module _ (st : is-steady l n ≡ true) where
+    steady-turns : any turns ts ≡ false
+    unfolding is-steady
+    steady-turns = any-less turns _ (λ u e. turns-mark u 15 refl ∙ e) ts (h .marks .lacks 15 (omega arith) (marked-bit l 15 (both st .1)))
 
-  quiet-family : any (of-family fam) ts ≡ false
-  unfolding is-quiet
-  quiet-family =
-      let b = eqb-true _ 1 (both (sym ex ∙ t) .0) in
-      any-less (of-family fam) _ (λ u e. number-mark u n (λ q. omega (arith, number-below fam)) ∙ rw en (of-number-too fam u e)) ts (h .marks .lacks n (omega (arith, number-below fam)) b)
+    steady-family : any (of-family fam) ts ≡ false
+    unfolding is-steady
+    steady-family =
+        any-less (of-family fam) _ (λ u e. number-mark u n (λ q. omega (arith, number-below fam)) ∙ rw en (of-number-too fam u e)) ts
+        (h .marks .lacks n (omega (arith, number-below fam)) (marked-bit l n (both st .0)))
 
-  pub quiet-kw : (kw : Text) → kw-in ts kw ≡ false
-  quiet-kw = steady-kw ts quiet-steady
+    pub steady-kw : (kw : Text) → kw-in ts kw ≡ false
+    unfolding kw-in
+    steady-kw = plain-kw ts steady-turns
 
-  pub quiet-goto : position (is-kw (bytes "goto")) ts ≡ none
-  quiet-goto = any-position (is-kw (bytes "goto")) ts (any-less (is-kw (bytes "goto")) steers (kw-steers (bytes "goto")) ts quiet-steady)
+    pub steady-goto : position (is-kw (bytes "goto")) ts ≡ none
+    steady-goto = any-position (is-kw (bytes "goto")) ts (plain-kw ts steady-turns (bytes "goto"))
 
-  pub quiet-brace : braces-in ts ≡ false
-  quiet-brace = steady-brace ts quiet-steady
+    pub steady-brace : braces-in ts ≡ false
+    steady-brace = plain-brace ts steady-turns
 
-  pub quiet-call : call-in ts ≡ none
-  quiet-call = steady-call ts quiet-steady
+    pub steady-label : label-tokens ts ≡ false
+    steady-label = plain-label ts steady-turns
 
-  pub quiet-label : label-tokens ts ≡ false
-  quiet-label = steady-label ts quiet-steady
+  -- a quiet line: x is the answer of `is_quiet`
+  module _ {x : Bool} (ex : x ≡ is-quiet l n) (t : x ≡ true) where
+    pub quiet-steady : is-steady l n ≡ true
+    unfolding is-quiet
+    quiet-steady = both (sym ex ∙ t) .0
 
-  pub quiet-touch : (vs : List Text) → touch-of ts fam vs ≡ None
-  quiet-touch vs = lacks-touch ts fam vs quiet-family quiet-call
+    pub quiet-call : is-some (call-in ts) ≡ false
+    unfolding is-quiet
+    quiet-call = h .marks .callless (marked-bit l 16 (both {a = is-steady l n} (sym ex ∙ t) .1))
+
+    pub quiet-touch : (vs : List Text) → touch-of ts fam vs ≡ None
+    unfolding if_then_else_ _&&_
+    quiet-touch vs = lacks-touch ts fam vs (steady-family quiet-steady) ∙ rw quiet-call
+
+  -- a calling line: x is the answer of `is_calling`
+  module _ {x : Bool} (ex : x ≡ is-calling l n) (t : x ≡ true) where
+    pub calling-steady : is-steady l n ≡ true
+    unfolding is-calling
+    calling-steady = both (sym ex ∙ t) .0
+
+    pub calling-call : is-some (call-in ts) ≡ true
+    unfolding is-calling
+    calling-call = h .marks .calling (marked-bit l 17 (both {a = is-steady l n} (sym ex ∙ t) .1))
+
+    calling-touch : (vs : List Text) → touch-of ts fam vs ≡ (if has vs fam then Kill else None)
+    unfolding _&&_
+    calling-touch vs = lacks-touch ts fam vs (steady-family calling-steady) ∙ rw calling-call
+
+    -- v is whether calls overwrite the family
+    module _ (vs : List Text) {v : Bool} (ev : v ≡ has vs fam) where
+      pub calling-kills : v ≡ true → touch-of ts fam vs ≡ Kill
+      unfolding if_then_else_
+      calling-kills e = calling-touch vs ∙ rw (← ev, e)
+
+      pub calling-keeps : v ≡ false → touch-of ts fam vs ≡ None
+      unfolding if_then_else_
+      calling-keeps e = calling-touch vs ∙ rw (← ev, e)
 
 -- the number of a family is that of a mark
 pub number-fits : {n : ℕ} (fam : Text) → n ≡ family-number fam → n < 15

@@ -1,5 +1,5 @@
 -- The numbers of families, the bits of tokens and of lines, and the marks that are made of them. Assumes nothing.
-use Prim.Native.Nat.{ℕ, _+_, _-_, _*_, _/_, _%_, _^_, _≤_, _<_}
+use Prim.Native.Nat.{ℕ, _+_, _-_, _/_, _%_, _^_, _≤_, _<_}
 use native.Mathlib.Omega.{arith}
 use native.Mathlib.Decide.{ℕ-discrete}
 use mathlib.Core.Logic.{by-cases}
@@ -9,23 +9,25 @@ use mathlib.Core.List.{List}
 use lib.Bits.{bitOr, bitXor, or-lt, xor-lt}
 use lib.ListN.{length, drop, getD, set, length-set}
 use lib.Seq.{getD-set-same, getD-set-other}
-use lib.Pow.{pow-lt}
-use borrow.Author.Tests.{ne-eqb}
 use Rattle.reference.specs.Control.{if_then_else_}
-use Rattle.reference.specs.Lists.{any}
+use Rattle.reference.specs.Lists.{any, is-some}
 use Rattle.reference.specs.Text.{Text}
+use Rattle.reference.specs.Listing.{Token, is, Symbol}
+use Rattle.reference.specs.Shapes.{call-in}
 use Rattle.names.specs.Families.{is-row}
 use Rattle.lines.specs.Codes.{bucket, family-number}
 use Rattle.lines.specs.Words.{code-of, text-of, token-of, tokens-of, Points}
-use Rattle.lines.specs.Marks.{bit, marked-by, Tells}
+use Rattle.lines.specs.Marks.{bit, turns, marked-by, Tells}
 use Rattle.lines.specs.Lines.{with-marks, part-of, address-in, Lined, Listed}
 use Rattle.lines.specs.Fams.{Fam, fam-text}
 use Rattle.lines.proofs.fams.Families.{fam-row, fam-name}
 use Rattle.lines.proofs.words.Scans.{any-next, any-false}
 use Rattle.lines.proofs.words.Lines.{marked-first, marked-count, marked-indent, marked-addressed, marked-origin, marked-marks}
-use Rattle.lines.proofs.codes.Coding.{says, name-whole, row-numbered, text-numbered, number-below}
-use Rattle.linemarks.specs.Marking.{Bits, Marked, Remarked}
-use Rattle.linemarks.proofs.Bits.{or-left, or-right, power-bit, turn-bit, one-shifted}
+use Rattle.lines.proofs.codes.Coding.{says, name-whole, row-numbered, text-numbered}
+use Rattle.linemarks.specs.Marking.{seen-by, Bits, CallBits, Marked, Remarked}
+use Rattle.linemarks.proofs.Bits.{or-left, or-right, low-bit, turn-bit}
+use Rattle.linemarks.proofs.Tokens.{turns-mark, symbol-seen, mark-seen}
+use Rattle.linemarks.proofs.Lacking.{any-less, plain-call}
 
 -- ---- the number of a family
 
@@ -45,24 +47,62 @@ text-is tape area h e = e ∙ sym (ap family-number (fam-name tape area h))
 
 -- ---- the bits of a line: one more token
 
-module _ (tape area : Text) (ws : List ℕ) {has k : ℕ} (small : has < 65536)
-    (inv : (i : ℕ) → i < 16 → bit has i ≡ 0 → any (marked-by i) (tokens-of tape area ws) ≡ any (marked-by i) (tokens-of tape area (drop k ws))) where
-  module _ {b : ℕ} (h : k < length ws) (g : Bits b (λ i. marked-by i (token-of tape area (getD ws k 0)))) where
-    pub more-small : bitOr has b < 65536
-    more-small = or-lt 16 has b small (g .small)
+module _ (tape area : Text) (ws : List ℕ) {has k : ℕ} (small : has < 131072)
+    (inv : (i : ℕ) → i < 17 → bit has i ≡ 0 → any (seen-by i) (tokens-of tape area ws) ≡ any (seen-by i) (tokens-of tape area (drop k ws))) where
+  module _ {b : ℕ} (h : k < length ws) (g : Bits b (λ i. seen-by i (token-of tape area (getD ws k 0)))) where
+    pub more-small : bitOr has b < 131072
+    more-small = or-lt 17 has b small (g .small)
 
-    pub more-bits : (i : ℕ) → i < 16 → bit (bitOr has b) i ≡ 0 → any (marked-by i) (tokens-of tape area ws) ≡ any (marked-by i) (tokens-of tape area (drop (k + 1) ws))
+    pub more-bits : (i : ℕ) → i < 17 → bit (bitOr has b) i ≡ 0 → any (seen-by i) (tokens-of tape area ws) ≡ any (seen-by i) (tokens-of tape area (drop (k + 1) ws))
     more-bits i l z =
-        any-next (marked-by i) (token-of tape area) ws k (inv i l (or-left has b i z)) {w = getD ws k 0} h refl refl
+        any-next (seen-by i) (token-of tape area) ws k (inv i l (or-left has b i z)) {w = getD ws k 0} h refl refl
         (g .fails i l (or-right has b i z))
 
-  pub all-bits : length ws ≤ k → Bits has (λ i. any (marked-by i) (tokens-of tape area ws))
-  all-bits h = record { small = small; fails = λ i l z. sym (any-false (marked-by i) (token-of tape area) ws k (inv i l z) h) }
+  pub all-bits : length ws ≤ k → Bits has (λ i. any (seen-by i) (tokens-of tape area ws))
+  all-bits h = record { small = small; fails = λ i l z. sym (any-false (seen-by i) (token-of tape area) ws k (inv i l z) h) }
 
--- ---- the marks that are made: the bits turned
+-- ---- the bits of whether a line calls: x is whether it does
 
-pub turned-small : {m : ℕ} {test : ℕ → Bool} → Bits m test → bitXor m 65535 < 4194304
-turned-small {m} s = let b : bitXor m 65535 < 2 ^ 16 = xor-lt 16 m 65535 (s .small) (omega arith) in omega arith
+pub unasked-bits : (x : Bool) → CallBits 196608 x
+unfolding bit
+unasked-bits x = record { small = omega arith; callless = λ z. absurd (omega arith); calling = λ z. absurd (omega arith) }
+
+pub calls-bits : {x y : Bool} → y ≡ x → y ≡ true → CallBits 65536 x
+unfolding bit
+calls-bits e t = record { small = omega arith; callless = λ z. absurd (omega arith); calling = λ z. sym e ∙ t }
+
+pub callless-bits : {x y : Bool} → y ≡ x → y ≡ false → CallBits 131072 x
+unfolding bit
+callless-bits e f = record { small = omega arith; callless = λ z. sym e ∙ f; calling = λ z. absurd (omega arith) }
+
+module _ (ts : List Token) {has : ℕ} (b : Bits has (λ i. any (seen-by i) ts)) where
+  -- neither what turns nor a Symbol
+  pub plain-bits : has % 65536 < 32768 → has < 65536 → CallBits 131072 (is-some (call-in ts))
+  unfolding bit
+  plain-bits h s = callless-bits refl (plain-call ts
+      (any-less turns _ (λ t e. mark-seen t 15 (λ q. omega arith) ∙ turns-mark t 15 refl ∙ e) ts (b .fails 15 (omega arith) (omega arith)))
+      (any-less (is Symbol) _ (λ t e. symbol-seen t 16 refl ∙ e) ts (b .fails 16 (omega arith) (omega arith))))
+
+  -- ---- the marks that are made: the bits turned
+
+  module _ {k : ℕ} (g : CallBits k (is-some (call-in ts))) where
+    abbrev m : ℕ
+    m = bitOr (has % 65536) k
+
+    pub turned-small : bitXor m 262143 < 4194304
+    turned-small =
+        let c : m < 2 ^ 18 = or-lt 18 (has % 65536) k (omega arith) (g .small) in
+        let d : bitXor m 262143 < 2 ^ 18 = xor-lt 18 m 262143 c (omega arith) in
+        omega arith
+
+    pub turned-tells : Tells 1 (bitXor m 262143) ts
+    turned-tells = record {
+      lacks = λ i h e.
+          any-less (marked-by i) _ (λ t q. mark-seen t i (λ z. omega arith) ∙ q) ts
+          (b .fails i (omega arith) (sym (low-bit has i h) ∙ or-left (has % 65536) k i (turn-bit m i (omega arith) e)));
+      callless = λ e. g .callless (or-right (has % 65536) k 16 (turn-bit m 16 (omega arith) e));
+      calling = λ e. g .calling (or-right (has % 65536) k 17 (turn-bit m 17 (omega arith) e));
+    }
 
 -- the part of the tokens is the same with any marks
 marked-part : (tokens : List ℕ) (l m : ℕ) → part-of tokens (with-marks l m) ≡ part-of tokens l
@@ -77,13 +117,13 @@ module _ {tape area : Text} {tokens : List ℕ} {l m : ℕ} (h : Lined tape area
   }
 
 pub marked-with : {tape area : Text} {tokens ws : List ℕ} {l m r : ℕ} → Lined tape area tokens l → ws ≡ part-of tokens l
-    → Bits m (λ i. any (marked-by i) (tokens-of tape area ws)) → r ≡ with-marks l (bitXor m 65535) → Marked tape area tokens l r
+    → Tells 1 m (tokens-of tape area ws) → r ≡ with-marks l m → Marked tape area tokens l r
 unfolding address-in
 marked-with {tape} {area} {tokens} {ws} {l} {m} h ew s er = rw er (record {
-  first-is = marked-first l (bitXor m 65535);
-  count-is = marked-count l (bitXor m 65535);
-  means = λ addresses. rw (marked-part tokens l (bitXor m 65535), marked-indent l (bitXor m 65535), marked-addressed l (bitXor m 65535), marked-origin l (bitXor m 65535));
-  lined = lined-with h (record { lacks = λ i b e. rw ew at (s .fails i b (turn-bit m i b e)) });
+  first-is = marked-first l m;
+  count-is = marked-count l m;
+  means = λ addresses. rw (marked-part tokens l m, marked-indent l m, marked-addressed l m, marked-origin l m);
+  lined = lined-with h (rw ew at s);
 })
 
 -- ---- lists of lines

@@ -5,83 +5,114 @@ use native.Mathlib.Decide.{ℕ-discrete}
 use mathlib.Core.Logic.{by-cases}
 use mathlib.Core.Path.{_≡_, refl, sym, ap, _∙_}
 use mathlib.Core.Bool.{Bool, true, false}
+use mathlib.Core.Option.{none}
 use lib.Dec.{eqb}
 use lib.Pow.{pow-lt}
-use borrow.Author.Tests.{eqb-true, eq-eqb, ne-eqb}
+use borrow.Author.Tests.{eq-eqb, ne-eqb}
 use Rattle.reference.specs.Control.{_&&_, _||_, if_then_else_, let-some_else_then_}
-use Rattle.reference.specs.Text.{Text}
-use Rattle.reference.specs.Listing.{Token, is}
-use Rattle.reference.specs.Names.{fam-of}
+use Rattle.reference.specs.Text.{Text, bytes, strip-prefix, _==_}
+use Rattle.reference.specs.Listing.{Token, is, Symbol}
+use Rattle.reference.specs.Names.{legacy, stack-slot, numbered, high-byte, family, fam-of}
 use Rattle.reference.specs.Shapes.{has-brace}
-use Rattle.names.proofs.Searches.{all-below, below-at}
+use Rattle.reference.proofs.Cases.{fails, none-some}
+use Rattle.names.proofs.Searches.{all-below}
+use Rattle.names.proofs.Texts.{same-true}
 use Rattle.lines.specs.Codes.{Says}
 use Rattle.lines.specs.Words.{kind-of, code-of, text-of, token-of, Points}
-use Rattle.lines.specs.Marks.{bit, of-number, steers, marked-by}
+use Rattle.lines.specs.Marks.{bit, of-number, turns, marked-by}
 use Rattle.lines.proofs.shapes.Tests.{is-it, is-not}
 use Rattle.lines.proofs.codes.Coding.{says, number-below}
-use Rattle.linemarks.specs.Marking.{Bits}
-use Rattle.linemarks.proofs.Bits.{power-bit, one-shifted}
+use Rattle.linemarks.specs.Marking.{seen-by, Bits}
+use Rattle.linemarks.proofs.Bits.{power-bit, set-below, one-shifted}
 
--- ---- `steers`, by the code's tests: x is the kind that was read
+-- ---- what a bit is about
 
-module _ (t : Token) {x : ℕ} (e : x ≡ t .kind) where
-  pub steers-keyword : x ≡ 3 → true ≡ steers t
-  unfolding steers _||_
-  steers-keyword h = rw (← is-it t 3 e h)
-
-  pub steers-symbol : (x ≡ 3 → ⊥) → x ≡ 4 → true ≡ steers t
-  unfolding steers _||_
-  steers-symbol n h = rw (← is-not t 3 e n, ← is-it t 4 e h)
-
-  pub steers-brace : {y : Bool} → (x ≡ 3 → ⊥) → (x ≡ 4 → ⊥) → y ≡ has-brace t → y ≡ steers t
-  unfolding steers _||_
-  steers-brace n m h = h ∙ rw (← is-not t 3 e n, ← is-not t 4 e m)
-
-  register-steady : x ≡ 1 → steers t ≡ false
-  unfolding has-brace _&&_
-  register-steady h = sym (steers-brace (λ z. omega arith) (λ z. omega arith) (rw (← is-not t 6 e (λ z. omega arith))))
-
-  other-number : (x ≡ 1 → ⊥) → (i : ℕ) → of-number i t ≡ false
-  unfolding of-number fam-of if_then_else_ let-some_else_then_
-  other-number n i = rw (← is-not t 1 e n)
-
--- ---- what a mark is about
-
-pub steers-mark : (t : Token) (i : ℕ) → i ≡ 15 → marked-by i t ≡ steers t
+pub turns-mark : (t : Token) (i : ℕ) → i ≡ 15 → marked-by i t ≡ turns t
 unfolding marked-by if_then_else_
-steers-mark t i e = rw (eq-eqb i 15 e)
+turns-mark t i e = rw (eq-eqb i 15 e)
 
 pub number-mark : (t : Token) (i : ℕ) → (i ≡ 15 → ⊥) → marked-by i t ≡ of-number i t
 unfolding marked-by if_then_else_
 number-mark t i n = rw (ne-eqb i 15 n)
 
-by-mark : (t : Token) (i : ℕ) → (i ≡ 15 → steers t ≡ false) → ((i ≡ 15 → ⊥) → of-number i t ≡ false) → marked-by i t ≡ false
-by-mark t i f g = by-cases (ℕ-discrete i 15) (λ e. steers-mark t i e ∙ f e) (λ n. number-mark t i n ∙ g n)
+pub symbol-seen : (t : Token) (i : ℕ) → i ≡ 16 → seen-by i t ≡ is Symbol t
+unfolding seen-by if_then_else_
+symbol-seen t i e = rw (eq-eqb i 16 e)
 
--- ---- a token that is no Register
+pub mark-seen : (t : Token) (i : ℕ) → (i ≡ 16 → ⊥) → seen-by i t ≡ marked-by i t
+unfolding seen-by if_then_else_
+mark-seen t i n = rw (ne-eqb i 16 n)
 
-module _ (t : Token) {x : ℕ} (e : x ≡ t .kind) (n : x ≡ 1 → ⊥) {y : Bool} (ey : y ≡ steers t) where
-  pub steers-bits : y ≡ true → Bits 32768 (λ i. marked-by i t)
+by-bit : (t : Token) (i : ℕ) → (i ≡ 16 → is Symbol t ≡ false) → (i ≡ 15 → turns t ≡ false) → of-number i t ≡ false → seen-by i t ≡ false
+by-bit t i f g h = by-cases (ℕ-discrete i 16)
+    (λ e. symbol-seen t i e ∙ f e)
+    (λ n. mark-seen t i n ∙ by-cases (ℕ-discrete i 15) (λ e. turns-mark t i e ∙ g e) (λ m. number-mark t i m ∙ h))
+
+-- ---- `turns`, by the code's tests: x is the kind that was read, y whether the token has a brace
+
+module _ (t : Token) {x : ℕ} (e : x ≡ t .kind) where
+  pub turns-keyword : x ≡ 3 → true ≡ turns t
+  unfolding turns _||_
+  turns-keyword h = rw (← is-it t 3 e h)
+
+  module _ (n : x ≡ 3 → ⊥) {y : Bool} (ey : y ≡ has-brace t) where
+    pub turns-brace : y ≡ true → true ≡ turns t
+    unfolding turns _||_
+    turns-brace h = rw (← is-not t 3 e n, ← ey, h)
+
+    pub turns-colon : {s : Text} {z : Bool} → y ≡ false → s ≡ t .text → z ≡ (s == bytes ":") → z ≡ turns t
+    unfolding turns _||_
+    turns-colon f es ez = ez ∙ rw (← is-not t 3 e n, ← ey, f, es)
+
+-- ---- a token that is no Register: x is the kind that was read, y whether it turns
+
+module _ (t : Token) {x : ℕ} (e : x ≡ t .kind) (n : x ≡ 1 → ⊥) {y : Bool} (ey : y ≡ turns t) where
+  other-number : (i : ℕ) → of-number i t ≡ false
+  unfolding of-number fam-of if_then_else_ let-some_else_then_
+  other-number i = rw (← is-not t 1 e n)
+
+  pub turns-bits : y ≡ true → Bits 98304 (λ i. seen-by i t)
   unfolding bit
-  steers-bits h = record { small = omega arith; fails = λ i b z. by-mark t i (λ q. absurd (let w : bit 32768 15 ≡ 0 = rw q at z in omega arith)) (λ m. other-number t e n i) }
+  turns-bits h = record {
+    small = omega arith;
+    fails = λ i b z. by-bit t i
+        (λ q. absurd (let w : bit 98304 16 ≡ 0 = rw q at z in omega arith))
+        (λ q. absurd (let w : bit 98304 15 ≡ 0 = rw q at z in omega arith))
+        (other-number i);
+  }
 
-  pub no-bits : y ≡ false → Bits 0 (λ i. marked-by i t)
-  no-bits h = record { small = omega arith; fails = λ i b z. by-mark t i (λ q. sym ey ∙ h) (λ m. other-number t e n i) }
+  pub symbol-bits : y ≡ false → Bits 65536 (λ i. seen-by i t)
+  unfolding bit
+  symbol-bits h = record {
+    small = omega arith;
+    fails = λ i b z. by-bit t i (λ q. absurd (let w : bit 65536 16 ≡ 0 = rw q at z in omega arith)) (λ q. sym ey ∙ h) (other-number i);
+  }
+
+  pub no-bits : y ≡ false → (x ≡ 4 → ⊥) → Bits 0 (λ i. seen-by i t)
+  no-bits h m = record { small = omega arith; fails = λ i b z. by-bit t i (λ q. sym (is-not t 4 e m)) (λ q. sym ey ∙ h) (other-number i) }
 
 -- ---- a Register
 
-families-set : all-below 15 (λ i. eqb (bit 32767 i) 1) ≡ true
+all-set : all-below 16 (λ i. eqb (bit 65535 i) 1) ≡ true
 unfolding all-below bit _&&_
-families-set = refl
+all-set = refl
 
-family-set : (i : ℕ) → i < 15 → bit 32767 i ≡ 1
-family-set i h = eqb-true (bit 32767 i) 1 (below-at 15 (λ i. eqb (bit 32767 i) 1) i families-set h)
+-- a `:` has no family
+colon-none : family (bytes ":") ≡ none
+unfolding family legacy high-byte numbered stack-slot strip-prefix if_then_else_ let-some_else_then_ _&&_ _||_
+colon-none = refl
 
 module _ {tape area : Text} {w : ℕ} (p : Points tape area w) (k : kind-of w ≡ 1) where
-  pub all-families : Bits 32767 (λ i. marked-by i (token-of tape area w))
-  all-families = record {
+  abbrev t : Token
+  t = token-of tape area w
+
+  no-symbol : is Symbol t ≡ false
+  no-symbol = sym (is-not t 4 refl (λ z. omega arith))
+
+  pub all-bits : Bits 65535 (λ i. seen-by i t)
+  all-bits = record {
     small = omega arith;
-    fails = λ i b z. by-mark (token-of tape area w) i (λ q. register-steady (token-of tape area w) refl k) (λ m. absurd (omega (arith, family-set i (omega arith))));
+    fails = λ i b z. by-cases (ℕ-discrete i 16) (λ e. symbol-seen t i e ∙ no-symbol) (λ n. absurd (omega (arith, set-below 65535 16 i all-set (omega arith))));
   }
 
   module _ {c : ℕ} (ec : c ≡ code-of w) (n : c ≡ 0 → ⊥) where
@@ -97,10 +128,17 @@ module _ {tape area : Text} {w : ℕ} (p : Points tape area w) (k : kind-of w �
     pub has-number : 4 ≤ c
     has-number = rw ec (s .least)
 
-    pub one-family : {x : ℕ} → x ≡ (1 * 2 ^ (c / 4 - 1)) % 2 ^ 64 → Bits x (λ i. marked-by i (token-of tape area w))
+    no-colon : (text-of tape area w == bytes ":") ≡ false
+    no-colon = fails (λ e. none-some (sym colon-none ∙ ap family (sym (same-true (text-of tape area w) (bytes ":") e)) ∙ s .family-is))
+
+    named-steady : turns t ≡ false
+    unfolding turns has-brace _||_ _&&_
+    named-steady = rw (← is-not t 3 refl (λ z. omega arith), ← is-not t 6 refl (λ z. omega arith), no-colon)
+
+    pub one-family : {x : ℕ} → x ≡ (1 * 2 ^ (c / 4 - 1)) % 2 ^ 64 → Bits x (λ i. seen-by i t)
     unfolding of-number fam-of if_then_else_ let-some_else_then_
     one-family ex = rw (ex ∙ one-shifted (c / 4 - 1) number-small) (record {
       small = let h : 2 ^ (c / 4 - 1) < 2 ^ 15 = pow-lt number-small in omega arith;
-      fails = λ i b z. by-mark (token-of tape area w) i (λ q. register-steady (token-of tape area w) refl k)
-          (λ m. rw (← is-it (token-of tape area w) 1 refl k, s .family-is, ← s .number-is, ← ec) (ne-eqb (c / 4 - 1) i (λ q. omega (arith, power-bit i, rw q at z))));
+      fails = λ i b z. by-bit t i (λ q. no-symbol) (λ q. named-steady)
+          (rw (← is-it t 1 refl k, s .family-is, ← s .number-is, ← ec) (ne-eqb (c / 4 - 1) i (λ q. omega (arith, power-bit i, rw q at z))));
     })

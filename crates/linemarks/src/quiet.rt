@@ -1,38 +1,61 @@
-// Quiet lines: their marks say that they lack a family and all that steers.
+// Quiet and calling lines: their marks say that they lack a family and all that turns, and whether they call.
 use lines::codes;
 use lines::fams::Fam;
 use lines::words;
 ghost use mathlib.Core.Path.{_≡_};
 ghost use mathlib.Core.Bool.{false};
 ghost use Prim.Native.Nat.{_<_};
-ghost use lib.Dec.{eqb};
 ghost use Rattle.names.specs.Families.{is-row};
 ghost use Rattle.lines.specs.Codes.{family-number};
 ghost use Rattle.lines.specs.Words.{text-of, Points};
-ghost use Rattle.lines.specs.Lines.{marks-of};
-ghost use Rattle.lines.specs.Marks.{bit};
 ghost use Rattle.lines.specs.Fams.{fam-text, Known};
-ghost use Rattle.linemarks.specs.Quiet.{is-quiet};
+ghost use Rattle.linemarks.specs.Quiet.{is-marked, is-steady, is-quiet, is-calling};
 
-// The mark of all that steers.
-const STEERS: u64 = 15;
+// The marks of all that turns, of no call, of a call.
+const TURNS: u64 = 15;
 
-fn lacks(l: u64, i: u64) -> bool
+const CALLLESS: u64 = 16;
+
+const CALLING: u64 = 17;
+
+fn is_marked(l: u64, i: u64) -> bool
     requires { ⌜ i < 64 ⌝ }
-    ensures { λ r. ⌜ r ≡ eqb (bit (marks-of l) i) 1 ⌝ }
+    ensures { λ r. ⌜ r ≡ is-marked l i ⌝ }
 {
     (words::marks(l) >> i) % 2 == 1
 }
 
-// Whether the marks of the line l say that it lacks the families of number n and all that steers.
+// Whether the marks of the line l say that it lacks the families of number n and all that turns.
+fn is_steady(l: u64, n: u64) -> bool
+    requires { ⌜ n < 15 ⌝ }
+    ensures { λ r. ⌜ r ≡ is-steady l n ⌝ }
+{
+    if !is_marked(l, n) {
+        return false;
+    }
+    is_marked(l, TURNS)
+}
+
+// And that it has no call.
 pub fn is_quiet(l: u64, n: u64) -> bool
     requires { ⌜ n < 15 ⌝ }
     ensures { λ r. ⌜ r ≡ is-quiet l n ⌝ }
 {
-    if !lacks(l, n) {
+    if !is_steady(l, n) {
         return false;
     }
-    lacks(l, STEERS)
+    is_marked(l, CALLLESS)
+}
+
+// And that it has one.
+pub fn is_calling(l: u64, n: u64) -> bool
+    requires { ⌜ n < 15 ⌝ }
+    ensures { λ r. ⌜ r ≡ is-calling l n ⌝ }
+{
+    if !is_steady(l, n) {
+        return false;
+    }
+    is_marked(l, CALLING)
 }
 
 fn name_number<'a>(tape: &'a [u8], area: &'a [u8], w: u64) -> u64

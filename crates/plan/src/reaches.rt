@@ -1,6 +1,7 @@
 // How far a constant reaches, and whether every use takes it: the scan and the tests of `propagate_constant` of the Rust.
 use life::Touched;
 use life::dead_after;
+use linemarks::is_calling;
 use linemarks::is_quiet;
 use linemarks::number_of;
 use lines::fams;
@@ -91,7 +92,7 @@ fn reach_at<'a>(
     }
 }
 
-// The same, where n is the number of the family: a quiet line at the same indent changes nothing.
+// The same, where n is the number of the family: at the same indent a quiet line changes nothing, and a calling one only what calls overwrite.
 fn reach_by_marks<'a>(
     tape: &'a [u8],
     area: &'a [u8],
@@ -107,8 +108,22 @@ fn reach_by_marks<'a>(
     requires { ⌜ Lined (now tape) (now area) (now tokens) l × Known (now tape) (now area) f × (n ≡ family-number (fam-text (now tape) (now area) f)) ⌝ }
     ensures { λ q. ⌜ reach q ≡ reach-at «base_indent» (fam-text (now (tape .entry)) (now (area .entry)) f) (volatile (rules-of rules)) j (bare-in (now (tape .entry)) (now (area .entry)) (now (tokens .entry)) l) (reach r) ⌝ }
 {
-    if is_quiet(l, n) {
-        if words::indent(l) == base_indent {
+    if words::indent(l) == base_indent {
+        if is_quiet(l, n) {
+            return Reach {
+                used: r.used,
+                last: r.last,
+                ended: false,
+            };
+        }
+        if is_calling(l, n) {
+            if fams::is_volatile(tape, area, f, rules) {
+                return Reach {
+                    used: r.used,
+                    last: j,
+                    ended: true,
+                };
+            }
             return Reach {
                 used: r.used,
                 last: r.last,

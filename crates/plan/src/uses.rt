@@ -1,6 +1,7 @@
 // The single use of a definition, and whether the right side can take its place there: the second half of `try_at` of the Rust.
 use crate::definitions::Definition;
 use life::Touched;
+use linemarks::is_calling;
 use linemarks::is_quiet;
 use linemarks::number_of;
 use lines::fams;
@@ -125,7 +126,7 @@ fn look_at<'a>(
     }
 }
 
-// The same, where n is the number of the family: a quiet line of the same run is only asked what it leaves alone.
+// The same, where n is the number of the family: a calling line ends the run, and a quiet line of the same run is only asked what it leaves alone.
 fn look_by_marks<'a>(
     tape: &'a [u8],
     area: &'a [u8],
@@ -139,6 +140,9 @@ fn look_by_marks<'a>(
     requires { ⌜ Lined (now tape) (now area) (now tokens) s × Lined (now tape) (now area) (now tokens) l × Sound (now tape) (now area) (part-of (now tokens) s) d × (n ≡ family-number (fam-text (now tape) (now area) (d .family))) ⌝ }
     ensures { λ r. ⌜ looked r ≡ look (indent-of s) (definition-in (now (tape .entry)) (now (area .entry)) (part-of (now (tokens .entry)) s) d) (volatile (rules-of rules)) (bare-in (now (tape .entry)) (now (area .entry)) (now (tokens .entry)) l) ⌝ }
 {
+    if is_calling(l, n) {
+        return Look::Stops;
+    }
     if !is_quiet(l, n) {
         return look_at(tape, area, tokens, s, l, d, rules);
     }

@@ -131,7 +131,7 @@ unfolding bit
 not-set i e = absurd (omega (arith, ap (λ (x : ℕ). x % 2) (zero-div (2 ^ i))))
 
 pub no-marks : {m : ℕ} (ts : List Token) → m ≡ 0 → Tells 1 m ts
-no-marks ts z = rw z (record { lacks = λ i h e. not-set i e })
+no-marks ts z = rw z (record { lacks = λ i h e. not-set i e; callless = λ e. not-set 16 e; calling = λ e. not-set 17 e })
 
 -- ---- one line
 

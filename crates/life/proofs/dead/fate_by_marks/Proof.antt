@@ -1,15 +1,16 @@
 -- `life::dead::fate_by_marks` meets its contract. Assumes nothing.
 use borrow.Author.Needs.{needs}
+use borrow.Author.Tests.{not-true, not-false}
 use Rattle.linemarks.proofs.Lacking.{number-fits}
-use Rattle.life.proofs.Scanning.{after-quiet}
+use Rattle.life.proofs.Scanning.{after-quiet, after-keeping, after-calling, after-deep}
 use Rattle.life.proofs.dead.fate_by_marks.Statement.{statement}
 use Rattle.life.proofs.dead.fate_by_marks.Tie as tie
 
-mul-is-quiet : tie.Need-mul-is-quiet
-mul-is-quiet c = search needs
+mul-l : tie.Need-mul-l
+mul-l c = search needs
 
-shared-slice-read-is-quiet : tie.Need-shared-slice-read-is-quiet
-shared-slice-read-is-quiet c = search needs
+shared-slice-read-l : tie.Need-shared-slice-read-l
+shared-slice-read-l c = search needs
 
 is-quiet-requires : tie.Need-is-quiet-requires
 is-quiet-requires c κs = search (needs, number-fits)
@@ -19,19 +20,45 @@ returns c =
     let s = c .before .before .before .before .before .before .before .before in
     after-quiet (s .args .lines .now) _ _ _ _ _ _ _ _ (s .args .w) _ (s .pre .0 .at (s .args .w) (search needs)) (s .pre .5) (c .before .is-quiet .ensures) (c .if1 .taken)
 
+is-calling-requires : tie.Need-is-calling-requires
+is-calling-requires c κs = search (needs, number-fits)
+
+returns-2 : tie.Need-returns-2
+returns-2 c =
+    let s = c .before .before .before .before .before .before .before .before .before .before .before in
+    after-keeping (s .args .lines .now) _ _ _ _ _ _ _ _ (s .args .w) _ (s .pre .0 .at (s .args .w) (search needs)) (s .pre .5) (c .before .before .is-calling .ensures) (c .before .if2 .taken) (s .pre .6) (search (needs, not-true))
+
+indent-requires : tie.Need-indent-requires
+indent-requires c κs = search needs
+
+returns-3 : tie.Need-returns-3
+returns-3 c =
+    let s = c .before .before .before .before .before .before .before .before .before .before .before .before .before in
+    after-calling (s .args .lines .now) _ _ _ _ _ _ _ _ (s .args .w) _ (s .pre .0 .at (s .args .w) (search needs)) (s .pre .5) (c .before .before .before .before .is-calling .ensures) (c .before .before .before .if2 .taken) (s .pre .6) (search (needs, not-false)) (c .before .indent .ensures) (c .if4 .taken)
+
+returns-4 : tie.Need-returns-4
+returns-4 c =
+    let s = c .before .before .before .before .before .before .before .before .before .before .before .before .before in
+    after-deep (s .args .lines .now) _ _ _ _ _ _ _ _ (s .args .w) _ (s .pre .0 .at (s .args .w) (search needs)) (s .pre .5) (c .before .before .before .before .is-calling .ensures) (c .before .before .before .if2 .taken) (s .pre .6) (search (needs, not-false)) (c .before .indent .ensures) (c .if4 .left)
+
 fate-after-requires : tie.Need-fate-after-requires
 fate-after-requires c κs = search needs
 
-returns-2 : tie.Need-returns-2
-returns-2 c = search needs
+returns-5 : tie.Need-returns-5
+returns-5 c = search needs
 
 pub fate-by-marks-spec : {M : Type 1} → statement M
 fate-by-marks-spec =
     tie.close
     (tie.spec
-    mul-is-quiet
-    shared-slice-read-is-quiet
+    mul-l
+    shared-slice-read-l
     is-quiet-requires
     returns
+    is-calling-requires
+    returns-2
+    indent-requires
+    returns-3
+    returns-4
     fate-after-requires
-    returns-2)
+    returns-5)

@@ -6,14 +6,15 @@ use lib.ListN.{length, drop}
 use borrow.Author.Needs.{needs}
 use Rattle.reference.specs.Lists.{any}
 use Rattle.lines.specs.Words.{tokens-of}
-use Rattle.lines.specs.Marks.{bit, marked-by}
+use Rattle.lines.specs.Marks.{bit}
 use Rattle.lines.proofs.words.Tokens.{holds-at}
+use Rattle.linemarks.specs.Marking.{seen-by}
 use Rattle.linemarks.proofs.Making.{more-small, more-bits, all-bits}
 use Rattle.linemarks.proofs.marking.bits_of.Statement.{statement}
 use Rattle.linemarks.proofs.marking.bits_of.Tie as tie
 
 abbrev Inv-loop : tie.InvT-loop
-Inv-loop tape area line has₀ k₀ has k = (has < 65536) × ((i : ℕ) → i < 16 → bit has i ≡ 0 → any (marked-by i) (tokens-of tape area line) ≡ any (marked-by i) (tokens-of tape area (drop k line)))
+Inv-loop tape area line has₀ k₀ has k = (has < 131072) × ((i : ℕ) → i < 17 → bit has i ≡ 0 → any (seen-by i) (tokens-of tape area line) ≡ any (seen-by i) (tokens-of tape area (drop k line)))
 
 abbrev μ-loop : tie.MeasureT-loop
 μ-loop tape area line has₀ k₀ has k = length line - k

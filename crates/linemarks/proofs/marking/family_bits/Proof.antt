@@ -2,7 +2,7 @@
 use native.Mathlib.Omega.{arith}
 use mathlib.Core.Path.{refl}
 use borrow.Author.Needs.{needs}
-use Rattle.linemarks.proofs.Tokens.{all-families, shift-fits, has-number, one-family}
+use Rattle.linemarks.proofs.Tokens.{all-bits, shift-fits, has-number, one-family}
 use Rattle.linemarks.proofs.marking.family_bits.Statement.{statement}
 use Rattle.linemarks.proofs.marking.family_bits.Tie as tie
 
@@ -10,7 +10,7 @@ code-requires : tie.Need-code-requires
 code-requires c κs = search needs
 
 returns : tie.Need-returns
-returns c = let s = c .before .before .before .before in all-families (s .pre .0) (s .pre .1)
+returns c = let s = c .before .before .before .before in all-bits (s .pre .0) (s .pre .1)
 
 sub-result : tie.Need-sub-result
 sub-result c = let s = c .before .before .before .before in omega (arith, has-number (s .pre .0) (s .pre .1) (c .before .code .ensures) (c .if1 .left))

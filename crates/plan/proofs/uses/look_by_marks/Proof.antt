@@ -8,17 +8,23 @@ use Rattle.plan.proofs.Passing.{passing}
 use Rattle.plan.proofs.uses.look_by_marks.Statement.{statement}
 use Rattle.plan.proofs.uses.look_by_marks.Tie as tie
 
+is-calling-requires : tie.Need-is-calling-requires
+is-calling-requires c κs = search (needs, number-fits)
+
+returns : tie.Need-returns
+returns c = search (needs, passing)
+
 is-quiet-requires : tie.Need-is-quiet-requires
 is-quiet-requires c κs = search (needs, number-fits)
 
 look-at-requires : tie.Need-look-at-requires
 look-at-requires c κs = search needs
 
-returns : tie.Need-returns
-returns c = search needs
-
 returns-2 : tie.Need-returns-2
-returns-2 c = search (needs, not-false, passing)
+returns-2 c = search needs
+
+returns-3 : tie.Need-returns-3
+returns-3 c = search (needs, not-false, passing)
 
 indent-requires : tie.Need-indent-requires
 indent-requires c κs = search needs
@@ -26,8 +32,8 @@ indent-requires c κs = search needs
 indent-requires-2 : tie.Need-indent-requires-2
 indent-requires-2 c κs = search needs
 
-returns-3 : tie.Need-returns-3
-returns-3 c = search (needs, not-false, passing)
+returns-4 : tie.Need-returns-4
+returns-4 c = search (needs, not-false, passing)
 
 line-of-requires : tie.Need-line-of-requires
 line-of-requires c κs = search (needs, reading)
@@ -38,25 +44,27 @@ line-of-requires-2 c κs = search (needs, reading)
 leaves-inputs-requires : tie.Need-leaves-inputs-requires
 leaves-inputs-requires c κs = search (needs, reading, sound-at)
 
-returns-4 : tie.Need-returns-4
-returns-4 c = search (needs, not-false, passing)
-
 returns-5 : tie.Need-returns-5
 returns-5 c = search (needs, not-false, passing)
+
+returns-6 : tie.Need-returns-6
+returns-6 c = search (needs, not-false, passing)
 
 pub look-by-marks-spec : {M : Type 1} → statement M
 look-by-marks-spec =
     tie.close
     (tie.spec
+    is-calling-requires
+    returns
     is-quiet-requires
     look-at-requires
-    returns
     returns-2
+    returns-3
     indent-requires
     indent-requires-2
-    returns-3
+    returns-4
     line-of-requires
     line-of-requires-2
     leaves-inputs-requires
-    returns-4
-    returns-5)
+    returns-5
+    returns-6)
