@@ -29,10 +29,10 @@ use Rattle.build.specs.declared.used.Size.{Size}
 use Rattle.join.specs.Current.{listing-now}
 use Rattle.rounds.specs.Runs.{counts-of, Ran}
 use Rattle.rounds.specs.declared.run.Outcome.{Outcome}
-use Rattle.tape.specs.Tables.{Loaded}
-use Rattle.tape.specs.Writing.{Wrote}
 use Rattle.tape.specs.declared.questions.Totals.{Totals}
-use Rattle.tape.proofs.loading.Loaded.{loaded-limits}
+use Rattle.tables.specs.Tables.{Loaded}
+use Rattle.tables.specs.Writing.{Wrote}
+use Rattle.tables.proofs.loading.Loaded.{loaded-limits}
 use Rattle.clean.specs.Replies.{finished-report, cleaned}
 use Rattle.clean.specs.Cleaning.{TEXT, Loadable, Written}
 

@@ -67,7 +67,7 @@ fn written(rules: Rules, tape: &[u8], area: &mut [u8], area2: &mut [u8], out: &m
     let mut tokens = [0u64; 2048];
     let mut lines = [0u64; 256];
     let mut addresses = [0u64; 256];
-    let loaded = tape::load(tape, &mut tokens, &mut lines, &mut addresses);
+    let loaded = tables::load(tape, &mut tokens, &mut lines, &mut addresses);
     let size = Size {
         lines: loaded.lines,
         tokens: loaded.tokens,
@@ -78,7 +78,7 @@ fn written(rules: Rules, tape: &[u8], area: &mut [u8], area2: &mut [u8], out: &m
     let n = left.lines;
     let used = left.tokens;
     let text = left.text;
-    let length = tape::write(
+    let length = tables::write(
         tape,
         &area[..text],
         &tokens[..used],

@@ -12,8 +12,8 @@ use Rattle.reference.specs.Rules.{Rules}
 use Rattle.reference.specs.Questions.{WORK, OUTPUT, Answer, Refused, Passed}
 use Rattle.reference.specs.Reply.{Reply, reply, output-after}
 use Rattle.reference.proofs.Reading.{refused-passed, passed-inj}
-use Rattle.tape.specs.Writing.{Puts, put}
-use Rattle.tape.proofs.writing.Putting.{put-front, puts-append}
+use Rattle.tape.specs.Bytes.{Puts, put}
+use Rattle.tape.proofs.little_endian.Bytes.{put-front, puts-append}
 use Rattle.clean.specs.Replies.{report-of, Summary, answer-of, summary, Cleans}
 use Rattle.clean.specs.declared.cleaning.Finished.{Finished}
 use Rattle.clean.specs.declared.entry.Reply as C

@@ -6,7 +6,7 @@ use lib.ListN.{length, take}
 use Rattle.reference.specs.Text.{bytes}
 use Rattle.reference.specs.Questions.{WORK, OUTPUT, Refused, Passed}
 use Rattle.reference.specs.Reply.{Reply, reply}
-use Rattle.tape.specs.Writing.{Puts}
+use Rattle.tape.specs.Bytes.{Puts}
 use Rattle.io.specs.Counts.{Counts}
 use Rattle.io.specs.Digits.{digits, Fewest}
 

@@ -7,7 +7,7 @@ ghost use Prim.Native.Nat.{_+_, _≤_};
 ghost use lib.ListN.{length};
 ghost use Rattle.reference.specs.Questions.{WORK, OUTPUT};
 ghost use Rattle.reference.specs.Reply.{reply};
-ghost use Rattle.tape.specs.Writing.{Puts};
+ghost use Rattle.tape.specs.Bytes.{Puts};
 ghost use Rattle.filter.specs.Response.{PutsDecimal, Prints, Refusal, Shows, Responds};
 
 // Puts bytes at a place of the output, and says where they end.

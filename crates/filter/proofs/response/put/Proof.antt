@@ -1,6 +1,6 @@
 -- `filter::response::put` meets its contract. Assumes nothing.
 use mathlib.Core.Path.{refl, _∙_}
-use Rattle.tape.proofs.writing.Putting.{put-pasted}
+use Rattle.tape.proofs.little_endian.Bytes.{put-pasted}
 use borrow.Author.Needs.{needs}
 use Rattle.filter.proofs.response.put.Statement.{statement}
 use Rattle.filter.proofs.response.put.Tie as tie
