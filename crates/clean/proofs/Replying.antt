@@ -12,8 +12,7 @@ use Rattle.reference.specs.Reply.{Reply, Report, reply, output-after, work-afte
 use Rattle.reference.proofs.Cases.{both}
 use Rattle.reference.proofs.Reading.{Yes, ask-yes, let-refused, let-is}
 use Rattle.reference.proofs.Guarantee.{demand3-tape}
-use Rattle.tape.specs.Questions.{first-no}
-use Rattle.tape.specs.Tables.{Accepted}
+use Rattle.tape.specs.Questions.{first-no, Accepted}
 use Rattle.tape.proofs.questions.Asking.{none-no, ask-number}
 use Rattle.clean.specs.Replies.{finished-report, report-of, Summary, answer-of, summary, Leaves, Cleans, cleaned}
 use Rattle.clean.specs.Cleaning.{Cleanable}

@@ -29,10 +29,10 @@ use Rattle.build.specs.declared.used.Size.{Size}
 use Rattle.join.specs.Current.{listing-now}
 use Rattle.rounds.specs.Runs.{counts-of, Ran}
 use Rattle.rounds.specs.declared.run.Outcome.{Outcome}
-use Rattle.tape.specs.Tables.{Loaded}
-use Rattle.tape.specs.Writing.{Wrote}
 use Rattle.tape.specs.declared.questions.Totals.{Totals}
-use Rattle.tape.proofs.loading.Loaded.{loaded-limits}
+use Rattle.tables.specs.Tables.{Loaded}
+use Rattle.tables.specs.Writing.{Wrote}
+use Rattle.tables.proofs.loading.Loaded.{loaded-limits}
 use Rattle.clean.specs.Replies.{finished-report, cleaned}
 use Rattle.clean.specs.Cleaning.{TEXT, Loadable, Written}
 
@@ -142,23 +142,18 @@ past m n work front h e =
     ∙ drop-drop (m - n) n work
     ∙ ap (λ (k : ℕ). drop k work) (let z : n + (m - n) ≡ m = omega arith in z)
 
-module _ (work : List ℕ) (h : WORK ≤ length work) where
-  pub text-fits : TEXT ≤ length work
-  text-fits = omega arith
+-- the front has n bytes, and m are wiped
+module _ (work : List ℕ) (h : WORK ≤ length work) {n : ℕ} (u : n ≡ TEXT) where
+  pub front-length : length (take n work) ≡ n
+  front-length = length-take-le n work (omega arith)
 
-  pub front-length : length (take TEXT work) ≡ TEXT
-  front-length = length-take-le TEXT work text-fits
+  pub front-fits : TEXT ≤ length (take n work)
+  front-fits = omega (arith, front-length)
 
-  pub front-fits : TEXT ≤ length (take TEXT work)
-  front-fits = le-of-eq (sym front-length)
-
-  module _ (front : List ℕ) (k : length front ≡ length (take TEXT work)) where
-    pub length-after : length (front ++ drop TEXT work) ≡ length work
-    length-after = length-front work front TEXT k
-
-    pub work-fits : {n : ℕ} → n ≤ WORK → n ≤ length (front ++ drop TEXT work)
-    work-fits few = rw length-after (le-trans few h)
-
-    pub wiped : (c : Cleaned) {work′ : List ℕ} → work′ ≡ replicate WORK 0 ++ drop WORK (front ++ drop TEXT work) → work′ ≡ work-after (Passed c) work
-    unfolding work-after
-    wiped c e = e ∙ ap (λ (s : List ℕ). replicate WORK 0 ++ s) (past WORK TEXT work front (omega arith) (k ∙ front-length))
+  pub wiped : {m : ℕ} → m ≡ WORK → (front : List ℕ) → length front ≡ length (take n work)
+      → (c : Cleaned) {work′ : List ℕ} → work′ ≡ replicate m 0 ++ drop m (front ++ drop n work) → work′ ≡ work-after (Passed c) work
+  unfolding work-after
+  wiped {m} z front k c e =
+      e
+      ∙ ap (λ (s : List ℕ). replicate m 0 ++ s) (past m n work front (omega arith) (k ∙ front-length))
+      ∙ ap (λ (i : ℕ). replicate i 0 ++ drop i work) z

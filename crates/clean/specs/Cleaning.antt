@@ -9,7 +9,7 @@ use Rattle.reference.specs.Reply as R
 use Rattle.joining.specs.Limits.{Limits}
 use Rattle.build.specs.declared.used.Size.{Size}
 use Rattle.join.specs.Current.{bare-now, Current}
-use Rattle.tape.specs.Tables.{Accepted}
+use Rattle.tape.specs.Questions.{Accepted}
 
 -- how many bytes of a work area are used
 abbrev pub TEXT : ℕ

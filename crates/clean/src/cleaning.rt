@@ -6,16 +6,11 @@ use rounds::optimize;
 use text::wipe;
 ghost use mathlib.Core.Path.{_≡_};
 ghost use Rattle.reference.specs.Listing.{Listing};
-ghost use Rattle.reference.specs.Questions.{Passed, read};
+ghost use Rattle.reference.specs.Questions.{WORK, Passed, read};
 ghost use Rattle.lines.specs.Rules.{rules-of};
 ghost use Rattle.rounds.specs.Runs.{Ran};
 ghost use Rattle.clean.specs.Replies.{finished-report, cleaned, Leaves};
-ghost use Rattle.clean.specs.Cleaning.{Loadable, Writable, Written, Cleanable};
-
-// How many bytes of each work area are used, and how many are zero afterwards.
-const TEXT: usize = 49152;
-
-const WORK: usize = 65536;
+ghost use Rattle.clean.specs.Cleaning.{TEXT, Loadable, Writable, Written, Cleanable};
 
 // What a cleaning did: the output's length, the attempts of each round, the lines removed and the results cut.
 pub struct Finished {
@@ -67,7 +62,7 @@ fn written(rules: Rules, tape: &[u8], area: &mut [u8], area2: &mut [u8], out: &m
     let mut tokens = [0u64; 2048];
     let mut lines = [0u64; 256];
     let mut addresses = [0u64; 256];
-    let loaded = tape::load(tape, &mut tokens, &mut lines, &mut addresses);
+    let loaded = tables::load(tape, &mut tokens, &mut lines, &mut addresses);
     let size = Size {
         lines: loaded.lines,
         tokens: loaded.tokens,
@@ -78,7 +73,7 @@ fn written(rules: Rules, tape: &[u8], area: &mut [u8], area2: &mut [u8], out: &m
     let n = left.lines;
     let used = left.tokens;
     let text = left.text;
-    let length = tape::write(
+    let length = tables::write(
         tape,
         &area[..text],
         &tokens[..used],
@@ -96,6 +91,21 @@ fn written(rules: Rules, tape: &[u8], area: &mut [u8], area2: &mut [u8], out: &m
     }
 }
 
+// How many bytes of each work area are used, and how many are zero afterwards. They are functions and no constants: a proof then has each number as
+// an equation, and no check counts up to it.
+
+fn used_bytes() -> usize
+    ensures { λ r. ⌜ r ≡ TEXT ⌝ }
+{
+    49152
+}
+
+fn wiped_bytes() -> usize
+    ensures { λ r. ⌜ r ≡ WORK ⌝ }
+{
+    65536
+}
+
 // Cleans a tape that passed all questions, and wipes both work areas.
 pub fn finish(
     rules: Rules,
@@ -107,8 +117,10 @@ pub fn finish(
     requires { ⌜ Cleanable (now tape) (now «work_a») (now «work_b») (now out) ⌝ }
     ensures { λ r. ⌜ ((input : Listing) → read (now (tape .entry)) ≡ Passed input → Leaves (cleaned (rules-of rules) input) (now («work_a» .entry)) (now («work_b» .entry)) (now (out .entry)) (now («work_a» .exit)) (now («work_b» .exit)) (now (out .exit)) (finished-report r)) ⌝ }
 {
-    let r = written(rules, tape, &mut work_a[..TEXT], &mut work_b[..TEXT], out);
-    wipe(work_a, WORK);
-    wipe(work_b, WORK);
+    let used = used_bytes();
+    let wiped = wiped_bytes();
+    let r = written(rules, tape, &mut work_a[..used], &mut work_b[..used], out);
+    wipe(work_a, wiped);
+    wipe(work_b, wiped);
     r
 }

@@ -1,1 +1,2 @@
+-- What the proofs over a reader share.
 pub mod Made

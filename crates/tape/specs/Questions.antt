@@ -1,5 +1,6 @@
--- What the code's answers to the questions mean. Assumes nothing.
+-- What the code's answers to the questions mean, and what an accepted tape is. Assumes nothing.
 use Prim.Native.Nat.{ℕ, _+_, _≤_, _<_}
+use mathlib.Core.Path.{_≡_}
 use mathlib.Core.Bool.{Bool}
 use mathlib.Core.List.{List, [], _∷_}
 use lib.ListN.{length}
@@ -8,7 +9,7 @@ use Rattle.reference.specs.Listing.{Listing}
 use Rattle.reference.specs.Tape as Tape
 use Rattle.reference.specs.Claim.{token-count, text}
 use Rattle.reference.specs.Questions as Q
-use Rattle.reference.specs.Questions.{has-line, is-within, is-printable, is-over, Answer, Advance}
+use Rattle.reference.specs.Questions.{has-line, is-within, is-printable, is-over, Answer, Advance, read}
 use Rattle.tape.specs.Commands.{command-in}
 use Rattle.tape.specs.declared.commands.Command.{Command}
 use Rattle.tape.specs.declared.commands.Command.the-variants.{Addressed, Plain, Token, End}
@@ -47,6 +48,11 @@ Counts (Addressed address indent) t = t .lines < 256
 Counts (Plain indent) t = t .lines < 256
 Counts (Token kind count) t = (t .tokens < 1024) × (t .text + count ≤ 24576)
 Counts End t = Unit {0}
+
+-- a tape that no question refuses
+pub record Accepted (tape : List ℕ) : Type 0 where
+  pub listing : Listing
+  pub reads : read tape ≡ Q.Passed listing
 
 -- the answer at an offset of a tape
 abbrev pub stepped : List ℕ → ℕ → Stepped → Answer Advance

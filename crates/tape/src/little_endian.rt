@@ -3,7 +3,7 @@ ghost use mathlib.Core.Path.{_≡_};
 ghost use Prim.Native.Nat.{_+_, _≤_};
 ghost use lib.ListN.{length, take, drop};
 ghost use Rattle.reference.specs.Tape.{to-le-bytes, from-le-bytes};
-ghost use Rattle.tape.specs.Writing.{put};
+ghost use Rattle.tape.specs.Bytes.{put};
 
 // A byte as a number.
 pub fn wide(b: u8) -> u64

@@ -1,5 +1,6 @@
 // A tape reader holds the tape and its offset. The functions over it are few and thin, and proved by hand: each hands its parts to a function on a
-// plain slice and numbers. The questions and the loading read a tape through `command_from`, `known_command` and `token_text`, which make a reader.
+// plain slice and numbers. The questions, and the loading in crate tables, read a tape through `command_from`, `known_command` and `token_text`,
+// which make a reader.
 use crate::commands::Command;
 use crate::commands::Found;
 use crate::commands::found_at;

@@ -10,8 +10,7 @@ use Rattle.reference.specs.Listing.{Listing}
 use Rattle.reference.specs.Questions.{Totals, Answer, Refused, Passed, let-passed_then_, Advance, read-command, is-end, add, read}
 use Rattle.reference.proofs.Reading.{refused-passed, by-passed, let-refused, let-is, Passes, command-passed, advances, reading, reading-step, Reached, here, on, reading-of, accepted}
 use Rattle.reference.proofs.Tapes.{totals-so-far}
-use Rattle.tape.specs.Questions.{totals-in}
-use Rattle.tape.specs.Tables.{Accepted}
+use Rattle.tape.specs.Questions.{totals-in, Accepted}
 
 -- the reading comes to this offset with these totals
 pub record Reads (tape : List ℕ) (at : ℕ) (t : Totals) : Type 0 where

@@ -5,8 +5,8 @@ use native.Mathlib.Omega.{arith}
 use mathlib.Core.Path.{_≡_, refl, sym, _∙_}
 use lib.ListN.{length, length-set}
 use Rattle.reference.specs.Tape.{to-le-bytes}
-use Rattle.tape.specs.Writing.{put}
-use Rattle.tape.proofs.writing.Putting.{put-none, put-cons}
+use Rattle.tape.specs.Bytes.{put}
+use Rattle.tape.proofs.little_endian.Bytes.{put-none, put-cons}
 use borrow.Author.Needs.{needs}
 use Rattle.tape.proofs.little_endian.put_number.Statement.{statement}
 use Rattle.tape.proofs.little_endian.put_number.Tie as tie

@@ -1,0 +1,184 @@
+-- What the commands of a line come to as bytes, and a loop that writes what each word of a list means. Assumes nothing.
+use Prim.Native.Nat.{ℕ, _+_, _≤_, _<_}
+use native.Mathlib.Omega.{arith}
+use mathlib.Core.Path.{_≡_, refl, sym, ap, _∙_}
+use mathlib.Core.Option.{none, some}
+use mathlib.Core.List.{List, [], _∷_, _++_, map, flatMap, map-append, append-nil}
+use lib.ListN.{length, take, drop, set, getD, length-append, length-set, take-append-drop, drop-of-length-le}
+use lib.Seq.{drop-drop, drop-cons, paste}
+use borrow.Author.Tests.{eq-eqb, ne-eqb}
+use Rattle.reference.specs.Listing.{token, Listing}
+use Rattle.reference.specs.Tape.{to-le-bytes, new-line, write-command, write-line, write-lines, write}
+use Rattle.reference.proofs.LittleEndian.{to-length}
+use Rattle.reference.proofs.Writing.{flat-append}
+use Rattle.laws.proofs.Scans.{if-true, if-false}
+use Rattle.lines.specs.Words.{tokens-of}
+use Rattle.tape.specs.Bytes.{put, Puts}
+use Rattle.tape.proofs.little_endian.Bytes.{put-front, put-none, put-pasted, put-one, put-length, put-append, put-cons, puts-length}
+use Rattle.tables.specs.Records.{address-of, part-at, line-of}
+use Rattle.tables.specs.Writing.{token-bytes, line-bytes, tokens-bytes, Wrote}
+use Rattle.tables.specs.declared.records.LineRecord.{LineRecord}
+
+-- ---- functions that write
+
+module _ (out : List ℕ) (at : ℕ) where
+  -- the commands, from their parts: `mid` is what the writing of the number leaves
+
+  pub addressed-puts : (address indent : ℕ) {mid : List ℕ} → at + 10 ≤ length out → mid ≡ put (set out at 1) (at + 1) (to-le-bytes 8 address)
+      → Puts out at (write-command (new-line (some address) indent)) (set mid (at + 9) indent) (at + 10)
+  unfolding write-command
+  addressed-puts address indent {mid} h e =
+      let number : List ℕ = to-le-bytes 8 address in
+      let n : length number ≡ 8 = to-length 8 address in
+      let begun : List ℕ = set out at 1 in
+      let long : length begun ≡ length out = length-set out at 1 in
+      let wide : length mid ≡ length out = ap length e ∙ put-length begun (at + 1) number (omega arith) ∙ long in
+      let k : at + 9 ≡ at + 1 + length number = omega arith in
+      record {
+        holds =
+            put-one mid (at + 9) indent (omega arith)
+            ∙ rw (k, e) (put-append begun (at + 1) number (indent ∷ []) (omega arith))
+            ∙ sym (put-cons out at 1 (number ++ (indent ∷ [])) (omega arith));
+        ends = omega (arith, length-append number (indent ∷ []));
+      }
+
+  pub plain-puts : (indent : ℕ) → at + 2 ≤ length out → Puts out at (write-command (new-line none indent)) (set (set out at 2) (at + 1) indent) (at + 2)
+  unfolding write-command
+  plain-puts indent h =
+      record {
+        holds = put-one (set out at 2) (at + 1) indent (rw length-set (omega arith)) ∙ sym (put-cons out at 2 (indent ∷ []) (omega arith));
+        ends = refl;
+      }
+
+  pub token-puts : (kind : ℕ) (text : List ℕ) {mid after : List ℕ} → at + 3 + length text ≤ length out
+      → mid ≡ put (set out at (16 + kind)) (at + 1) (to-le-bytes 2 (length text)) → after ≡ paste mid (at + 3) text (length text)
+      → Puts out at (token-bytes (token kind text)) after (at + 3 + length text)
+  unfolding write-command
+  token-puts kind text {mid} h e f =
+      let number : List ℕ = to-le-bytes 2 (length text) in
+      let n : length number ≡ 2 = to-length 2 (length text) in
+      let begun : List ℕ = set out at (16 + kind) in
+      let long : length begun ≡ length out = length-set out at (16 + kind) in
+      let k : at + 3 ≡ at + 1 + length number = omega arith in
+      record {
+        holds =
+            f
+            ∙ put-pasted mid (at + 3) text
+            ∙ rw (k, e) (put-append begun (at + 1) number text (omega arith))
+            ∙ sym (put-cons out at (16 + kind) (number ++ text) (omega arith));
+        ends = omega (arith, length-append number text);
+      }
+
+-- the whole tape
+module _ (out : List ℕ) where
+  pub wrote : {bytes : List ℕ} {mid : List ℕ} {m : ℕ} → length bytes + 1 ≤ length out → Puts out 0 bytes mid m
+      → Wrote (bytes ++ (0xFF ∷ [])) out (set mid m 0xFF) (m + 1)
+  wrote {bytes} {mid} {m} h p =
+      let e : m ≡ length bytes = omega (arith, p .ends) in
+      let wide : length mid ≡ length out = ap length (p .holds) ∙ put-length out 0 bytes (omega arith) in
+      record {
+        holds = put-one mid m 0xFF (omega arith) ∙ rw (p .holds, p .ends) (put-append out 0 bytes (0xFF ∷ []) (omega arith)) ∙ put-front out (bytes ++ (0xFF ∷ []));
+        ends = omega (arith, length-append bytes (0xFF ∷ []));
+      }
+
+-- ---- what is written of a line, and of a listing
+
+pub write-split : (listing : Listing) → write listing ≡ flatMap write-line listing ++ (0xFF ∷ [])
+unfolding write write-lines write-command
+write-split listing = refl
+
+pub write-room : (listing : Listing) {n : ℕ} → length (write listing) ≤ n → length (flatMap write-line listing) + 1 ≤ n
+write-room listing h = omega (arith, ap length (write-split listing), length-append (flatMap write-line listing) (0xFF ∷ []))
+
+module _ (tape area tokens : List ℕ) (r : LineRecord) where
+  pub line-split : write-line (line-of tape area tokens r) ≡ line-bytes r ++ tokens-bytes (tokens-of tape area (part-at tokens r))
+  unfolding write-line
+  line-split = refl
+
+  pub line-room : (at : ℕ) {n : ℕ} → at + length (write-line (line-of tape area tokens r)) ≤ n
+      → at + length (line-bytes r) + length (tokens-bytes (tokens-of tape area (part-at tokens r))) ≤ n
+  line-room at h =
+      omega (arith, ap length line-split, length-append (line-bytes r) (tokens-bytes (tokens-of tape area (part-at tokens r))))
+
+pub addressed-bytes : (r : LineRecord) → r .addressed ≡ 1 → line-bytes r ≡ write-command (new-line (some (r .address)) (r .indent))
+unfolding address-of
+addressed-bytes r e = rw (if-true (some (r .address)) none (eq-eqb (r .addressed) 1 e))
+
+pub plain-bytes : (r : LineRecord) → (r .addressed ≡ 1 → ⊥) → line-bytes r ≡ write-command (new-line none (r .indent))
+unfolding address-of
+plain-bytes r e = rw (if-false (some (r .address)) none (ne-eqb (r .addressed) 1 e))
+
+pub addressed-size : (address indent : ℕ) → length (write-command (new-line (some address) indent)) ≡ 10
+unfolding write-command
+addressed-size address indent = omega (arith, length-append (to-le-bytes 8 address) (indent ∷ []), to-length 8 address)
+
+pub plain-size : (indent : ℕ) → length (write-command (new-line none indent)) ≡ 2
+unfolding write-command
+plain-size indent = refl
+
+pub token-size : (kind : ℕ) (text : List ℕ) → length (token-bytes (token kind text)) ≡ 3 + length text
+unfolding write-command
+token-size kind text = omega (arith, length-append (to-le-bytes 2 (length text)) text, to-length 2 (length text))
+
+-- ---- a loop that writes g of what f says each element means: what is still to be written, put where the loop stands, makes the whole
+
+module _ {B A : Type 0} (f : B → A) (g : A → List ℕ) (ws : List B) where
+  abbrev pub rest : ℕ → List ℕ
+  rest k = flatMap g (map f (drop k ws))
+
+  -- the next n
+  abbrev pub next : ℕ → ℕ → List ℕ
+  next k n = flatMap g (map f (take n (drop k ws)))
+
+  pub record Written (out₀ : List ℕ) (at₀ : ℕ) (out : List ℕ) (at k : ℕ) : Type 0 where
+    pub place : at + length (rest k) ≡ at₀ + length (rest 0)
+    pub whole : put out at (rest k) ≡ put out₀ at₀ (rest 0)
+    pub long : length out ≡ length out₀
+
+  pub written-begin : (out₀ : List ℕ) (at₀ : ℕ) → Written out₀ at₀ out₀ at₀ 0
+  written-begin out₀ at₀ = record { place = refl; whole = refl; long = refl }
+
+  rest-next : (k n : ℕ) → rest k ≡ next k n ++ rest (k + n)
+  rest-next k n =
+      ap (λ (l : List B). flatMap g (map f l)) (sym (take-append-drop n (drop k ws)))
+      ∙ rw (map-append, flat-append, drop-drop)
+
+  rest-end : (k : ℕ) → length ws ≤ k → rest k ≡ []
+  unfolding flatMap
+  rest-end k h = rw (drop-of-length-le ws h)
+
+  pub next-one : (d : B) (k : ℕ) → k < length ws → next k 1 ≡ g (f (getD ws k d))
+  unfolding flatMap
+  next-one d k h = rw (drop-cons ws k d, append-nil)
+
+module _ {B A : Type 0} {f : B → A} {g : A → List ℕ} {ws : List B} {out₀ : List ℕ} {at₀ : ℕ} {out : List ℕ} {at k : ℕ} (w : Written f g ws out₀ at₀ out at k) where
+  module _ (room : at₀ + length (rest f g ws 0) ≤ length out₀) where
+    module _ (n : ℕ) where
+      size-next : length (rest f g ws k) ≡ length (next f g ws k n) + length (rest f g ws (k + n))
+      size-next = ap length (rest-next f g ws k n) ∙ length-append (next f g ws k n) (rest f g ws (k + n))
+
+      pub page-room : at + length (next f g ws k n) ≤ length out
+      page-room = omega (arith, size-next, w .place, w .long)
+
+      pub page-more : {out′ : List ℕ} {at′ : ℕ} → Puts out at (next f g ws k n) out′ at′ → Written f g ws out₀ at₀ out′ at′ (k + n)
+      page-more p =
+          let bytes : List ℕ = next f g ws k n in
+          let more : List ℕ = rest f g ws (k + n) in
+          let fits : at + length bytes ≤ length out = page-room in
+          record {
+            place = omega (arith, p .ends, size-next, w .place);
+            whole = rw (p .holds, p .ends, put-append out at bytes more (omega arith)) (ap (put out at) (sym (rest-next f g ws k n)) ∙ w .whole);
+            long = puts-length out at bytes fits p ∙ w .long;
+          }
+
+    module _ (d : B) (h : k < length ws) where
+      pub written-room : at + length (g (f (getD ws k d))) ≤ length out
+      written-room = rw (next-one f g ws d k h) at (page-room 1)
+
+      pub written-more : {out′ : List ℕ} {at′ : ℕ} → Puts out at (g (f (getD ws k d))) out′ at′ → Written f g ws out₀ at₀ out′ at′ (k + 1)
+      written-more {out′} {at′} p = page-more 1 (rw (next-one f g ws d k h) p)
+
+  pub written-end : length ws ≤ k → Puts out₀ at₀ (rest f g ws 0) out at
+  written-end h =
+      let e : rest f g ws k ≡ [] = rest-end f g ws k h in
+      record { holds = sym (put-none out at) ∙ ap (put out at) (sym e) ∙ w .whole; ends = omega (arith, ap length e, w .place) }

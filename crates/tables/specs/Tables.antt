@@ -1,0 +1,77 @@
+-- The tables of a listing whose texts are all in the tape: how a command is added, and what they mean at the end. Assumes nothing.
+use Prim.Native.Nat.{ℕ, _+_, _-_, _≤_, _<_}
+use mathlib.Core.Path.{_≡_}
+use mathlib.Core.List.{List}
+use lib.ListN.{length, take, getD, set}
+use Rattle.reference.specs.Text.{Text}
+use Rattle.reference.specs.Questions.{Passed, let-passed_then_, read}
+use Rattle.lines.specs.Words.{word}
+use Rattle.lines.specs.Lines.{first-of, count-of, line-word, with-part, listing-of, Listed}
+use Rattle.tape.specs.Questions.{totals-of, totals-in}
+use Rattle.tape.specs.declared.commands.Command.{Command}
+use Rattle.tape.specs.declared.commands.Command.the-variants.{Addressed, Plain, Token, End}
+use Rattle.tape.specs.declared.questions.Totals.{Totals}
+
+-- ---- one command
+
+-- the word of a line that begins behind the tokens so far
+abbrev pub begun : ℕ → ℕ → Totals → ℕ
+begun indent addressed t = line-word (t .tokens) 0 indent addressed (t .lines)
+
+-- a line with one token more
+abbrev pub longer : ℕ → ℕ
+longer l = with-part l (first-of l) (count-of l + 1)
+
+-- the last line with one token more
+abbrev pub lengthened : List ℕ → Totals → List ℕ
+lengthened lines t = set lines (t .lines - 1) (longer (getD lines (t .lines - 1) 0))
+
+-- the tables with the command at an offset, after those that the totals count
+
+abbrev pub tokens-after : ℕ → Command → Totals → List ℕ → List ℕ
+tokens-after at (Addressed address indent) t tokens = tokens
+tokens-after at (Plain indent) t tokens = tokens
+tokens-after at (Token kind count) t tokens = set tokens (t .tokens) (word kind 0 (at + 3) count)
+tokens-after at End t tokens = tokens
+
+abbrev pub lines-after : Command → Totals → List ℕ → List ℕ
+lines-after (Addressed address indent) t lines = set lines (t .lines) (begun indent 1 t)
+lines-after (Plain indent) t lines = set lines (t .lines) (begun indent 0 t)
+lines-after (Token kind count) t lines = lengthened lines t
+lines-after End t lines = lines
+
+abbrev pub addresses-after : Command → Totals → List ℕ → List ℕ
+addresses-after (Addressed address indent) t addresses = set addresses (t .lines) address
+addresses-after (Plain indent) t addresses = addresses
+addresses-after (Token kind count) t addresses = addresses
+addresses-after End t addresses = addresses
+
+-- the numbers fit the words, and the last line can grow
+abbrev pub Adds : ℕ → Command → Totals → List ℕ → Type 0
+Adds at (Addressed address indent) t lines = (indent < 64) × (t .lines < 256)
+Adds at (Plain indent) t lines = (indent < 64) × (t .lines < 256)
+Adds at (Token kind count) t lines =
+    (kind < 8) × (at + 3 + count < 65536) × (t .tokens < 1024) × (0 < t .lines) × (count-of (getD lines (t .lines - 1) 0) < 2047)
+Adds at End t lines = Unit {0}
+
+-- the tables have room for every accepted tape, and the totals are within the limits
+pub record Room (tokens lines addresses : List ℕ) (t : Totals) : Type 0 where
+  pub for-tokens : 1024 ≤ length tokens
+  pub for-lines : 256 ≤ length lines
+  pub for-addresses : 256 ≤ length addresses
+  pub few-tokens : t .tokens ≤ 1024
+  pub few-lines : t .lines ≤ 256
+
+-- what is in the tables after a command
+pub record Added (at : ℕ) (c : Command) (t : Totals) (tokens lines addresses tokens′ lines′ addresses′ : List ℕ) : Type 0 where
+  pub tokens-are : tokens′ ≡ tokens-after at c t tokens
+  pub lines-are : lines′ ≡ lines-after c t lines
+  pub addresses-are : addresses′ ≡ addresses-after c t addresses
+
+-- ---- the whole tape
+
+-- The first words of the tables are the listing of the tape, whatever the work area holds, and the answer has the listing's totals.
+pub record Loaded (tape tokens lines addresses : List ℕ) (r : Totals) : Type 0 where
+  pub listing : (area : Text) → read tape ≡ Passed (listing-of tape area (take (r .tokens) tokens) addresses (take (r .lines) lines))
+  pub listed : (area : Text) → Listed tape area (take (r .tokens) tokens) (take (r .lines) lines)
+  pub totals : (let-passed (read tape) then λ l. Passed (totals-in l)) ≡ Passed (totals-of r)

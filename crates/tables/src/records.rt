@@ -1,0 +1,30 @@
+// The records of lines, lent as a slice of records: one is read, one is stored. Both are proved by hand.
+ghost use mathlib.Core.Path.{_≡_};
+ghost use Prim.Native.Nat.{_<_};
+ghost use lib.ListN.{length, getD, set};
+ghost use Rattle.tables.specs.Records.{blank};
+
+// A line: its address, 1 if it has one and else 0, its indent, and its tokens, `count` of them from `first` on.
+pub struct LineRecord {
+    pub address: u64,
+    pub addressed: u64,
+    pub indent: u64,
+    pub first: usize,
+    pub count: usize,
+}
+
+// The record at an index.
+pub fn line_at(lines: &[LineRecord], at: usize) -> LineRecord
+    requires { ⌜ at < length (now lines) ⌝ }
+    ensures { λ r. ⌜ r ≡ getD (now (lines .entry)) at blank ⌝ }
+{
+    lines[at]
+}
+
+// Stores a record at an index.
+pub fn store_line(lines: &mut [LineRecord], at: usize, line: LineRecord)
+    requires { ⌜ at < length (now lines) ⌝ }
+    ensures { λ _. ⌜ now (lines .exit) ≡ set (now (lines .entry)) at line ⌝ }
+{
+    lines[at] = line;
+}
