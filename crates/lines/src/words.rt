@@ -5,7 +5,7 @@
 // once rewritten, in the area.
 // A line word: first token in 16 bits, count in 11 bits, indent in 6 bits, whether it has an
 // address in 1 bit, and its origin, the number of the input line that it was, in 8 bits; above them
-// its marks (marks.rt).
+// its marks (crate linemarks).
 ghost use mathlib.Core.Path.{_≡_};
 ghost use Prim.Native.Nat.{_+_, _≤_, _<_};
 ghost use lib.ListN.{length};
