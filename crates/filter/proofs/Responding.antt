@@ -20,7 +20,7 @@ use Rattle.clean.specs.Replies.{report-of, Summary, answer-of, summary, Cleans}
 use Rattle.clean.specs.declared.cleaning.Finished.{Finished}
 use Rattle.clean.specs.declared.entry.Reply as C
 use Rattle.clean.specs.declared.entry.Reply.the-variants as Said
-use Rattle.filter.specs.Response.{refusal, shown, response, Shows}
+use Rattle.filter.specs.Response.{refusal, shown, settings, response, Shows}
 
 -- ---- a refusal, put piece by piece
 
@@ -87,7 +87,7 @@ responds-none [] e h = h
 responds-none (x ∷ xs) e h = absurd (omega arith)
 
 pub responds-some : (input : List ℕ) → (length input ≡ 0 → ⊥) → {tape out after : List ℕ} {r : ℕ} → tape ≡ drop 1 input
-    → Shows (shown (reply (record { convention = getD input 0 0 }) tape WORK WORK OUTPUT)) out after r → Shows (response input) out after r
+    → Shows (shown (reply (settings (getD input 0 0)) tape WORK WORK OUTPUT)) out after r → Shows (response input) out after r
 unfolding response
 responds-some [] n e h = absurd (n refl)
 responds-some (x ∷ xs) n e h = rw e at h

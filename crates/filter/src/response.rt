@@ -1,6 +1,7 @@
 // What the program answers to an input, put into an output of 54,785 bytes.
 use clean::Reply;
 use clean::clean;
+use lines::rules::Rules;
 use printing::put;
 use printing::put_decimal;
 ghost use mathlib.Core.Path.{_≡_};
@@ -8,7 +9,7 @@ ghost use Prim.Native.Nat.{_≤_};
 ghost use lib.ListN.{length};
 ghost use Rattle.reference.specs.Questions.{WORK, OUTPUT};
 ghost use Rattle.reference.specs.Reply.{reply};
-ghost use Rattle.filter.specs.Response.{refusal, shown, response, Shows};
+ghost use Rattle.filter.specs.Response.{refusal, shown, settings, response, Shows};
 
 // Puts the line of a refusal, and says how long it is.
 fn put_refusal(number: u64, place: u64, out: &mut [u8]) -> usize
@@ -25,11 +26,13 @@ fn put_refusal(number: u64, place: u64, out: &mut [u8]) -> usize
 // Cleans a tape, and says how long the answer is.
 fn answer(convention: u8, tape: &[u8], out: &mut [u8]) -> usize
     requires { ⌜ length (now out) ≡ OUTPUT ⌝ }
-    ensures { λ r. ⌜ Shows (shown (reply (record { convention = convention }) (now (tape .entry)) WORK WORK OUTPUT)) (now (out .entry)) (now (out .exit)) r ⌝ }
+    ensures { λ r. ⌜ Shows (shown (reply (settings convention) (now (tape .entry)) WORK WORK OUTPUT))
+        (now (out .entry)) (now (out .exit)) r ⌝ }
 {
     let mut work_a = [0u8; 65536];
     let mut work_b = [0u8; 65536];
-    match clean(convention, tape, &mut work_a, &mut work_b, out) {
+    let rules = Rules { convention };
+    match clean(rules, tape, &mut work_a, &mut work_b, out) {
         Reply::Refused { number, place } => put_refusal(number, place as u64, out),
         Reply::Finished(f) => f.length,
     }

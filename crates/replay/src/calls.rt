@@ -16,6 +16,7 @@ use crate::frames::output_of;
 use crate::frames::tape_of;
 use clean::Reply;
 use libc::STDOUT_FILENO;
+use lines::rules::Rules;
 use text::copy_bytes;
 use text::same;
 use text::wipe;
@@ -182,9 +183,11 @@ fn agrees_in(list: &[u8], work_a: &mut [u8], work_b: &mut [u8], out: &mut [u8]) 
     if out.len() < o {
         return false;
     }
-    let convention = (number(list, CONVENTION) % 256) as u8;
+    let rules = Rules {
+        convention: (number(list, CONVENTION) % 256) as u8,
+    };
     let r = clean::clean(
-        convention,
+        rules,
         tape_of(list),
         &mut work_a[..a],
         &mut work_b[..b],
