@@ -24,13 +24,13 @@ invented s = (register (bytes s) ≡ none) × (family (bytes s) ≡ some (record
 abbrev others : List Text
 others = words "rip eip ip rflags eflags cs ds es fs gs ss xmm0 ymm0 zmm0 k0 mm0 st0 cr0 dr0"
 
-abbrev reads : String → ℤ → Type 0
+abbrev pub reads : String → ℤ → Type 0
 reads s z = parse-c-number (bytes s) ≡ some z
 
-abbrev unread : String → Type 0
+abbrev pub unread : String → Type 0
 unread s = parse-c-number (bytes s) ≡ none
 
-abbrev no-constant : String → Type 0
+abbrev pub no-constant : String → Type 0
 no-constant s = (n : ℕ) → Constant (bytes s) n → ⊥
 
 -- what the fold makes of a sum
