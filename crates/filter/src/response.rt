@@ -45,7 +45,9 @@ fn longest() -> usize
 // Cleans a tape, or the front of a longer one.
 fn answer_front(convention: u8, tape: &[u8], out: &mut [u8]) -> usize
     requires { ⌜ length (now out) ≡ OUTPUT ⌝ }
-    ensures { λ r. ⌜ Shows (shown (reply (record { convention = convention }) (take LONGEST (now (tape .entry))) WORK WORK OUTPUT)) (now (out .entry)) (now (out .exit)) r ⌝ }
+    ensures { λ r. ⌜
+        Shows (shown (reply (record { convention = convention }) (take LONGEST (now (tape .entry))) WORK WORK OUTPUT))
+        (now (out .entry)) (now (out .exit)) r ⌝ }
 {
     let most = longest();
     if tape.len() <= most {
