@@ -1,5 +1,5 @@
--- Which texts are read as numbers, by their spelling, at any length: the constants of C (6.4.4.1) that have no suffix, and three sorts of text that are
--- no constants. Assumes nothing.
+-- Which texts are read as numbers, by their spelling, at any length: the constants of C (6.4.4.1) that have no suffix, and three sorts of
+-- text that are no constants. Assumes nothing.
 use Prim.Native.Nat.{ℕ, _-_, _^_}
 use mathlib.Core.Path.{_≡_}
 use mathlib.Core.Bool.{Bool, true}

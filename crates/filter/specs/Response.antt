@@ -26,8 +26,8 @@ settings convention = record { convention = convention }
 unfoldable pub LONGEST : ℕ
 LONGEST = 65536
 
--- "reads from standard input a convention byte and the tape"; "Empty input prints `refused 1 at 0`"; "of a longer tape the first 65,536 bytes are
--- the tape"
+-- "reads from standard input a convention byte and the tape"; "Empty input prints `refused 1 at 0`"; "of a longer tape the first 65,536
+-- bytes are the tape"
 unfoldable pub response : List ℕ → Text
 response [] = refusal 1 0
 response (convention ∷ tape) = shown (reply (settings convention) (take LONGEST tape) WORK WORK OUTPUT)
