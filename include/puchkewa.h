@@ -1,10 +1,10 @@
-/* Puchkewa: cleans a listing of pseudocode. One call: a tape in, the cleaned tape out.
+/* Puchkewa: cleans a listing of pseudocode. One call: a tape in, the cleaned tape out. What a tape is: docs/TAPE.md.
  *
- * The function is proved to meet what is said here, for every input (crates/clean/src/export.rt, its promise `Cleans` in
+ * The function is proved to meet what is said here, for every input (crates/puchkewa/src/export.rt, its promise `Cleans` in
  * crates/clean/specs/Replies.antt). It keeps no state, allocates nothing and calls nothing of C but memset. Not proved, but measured: it takes
  * about 100,000 bytes of stack. Calls in several threads are safe where they share no memory that one of them writes.
  *
- * Link with target/staticlib/libclean.a, which `rt staticlib clean` writes (x86-64 Linux). */
+ * Link with target/staticlib/libpuchkewa.a, which `rt staticlib puchkewa` writes (x86-64 Linux). */
 #ifndef PUCHKEWA_H
 #define PUCHKEWA_H
 
@@ -15,6 +15,9 @@
 extern "C" {
 #endif
 
+/* The version of the interface and of what it does: a change of either changes it. */
+#define PUCHKEWA_VERSION "0.2.0"
+
 /* The least that each work area and the output must have, in bytes. 54,785 bytes are enough for the output of every tape. */
 #define PUCHKEWA_WORK 65536
 #define PUCHKEWA_OUTPUT 54785
@@ -24,6 +27,12 @@ enum puchkewa_convention {
     PUCHKEWA_32_BIT = 0,    /* 32 bits: rax rcx rdx and their parts */
     PUCHKEWA_SYSV_64 = 1,   /* 64 bits, System V: rax rcx rdx rsi rdi r8 r9 r10 r11 */
     PUCHKEWA_WINDOWS_64 = 2 /* 64 bits, Windows: rax rcx rdx r8 r9 r10 r11 */
+};
+
+/* The settings of a call, passed by value. Set all of them by { .convention = .. }: those that are not named are then off, also those that a later
+ * version adds. */
+struct puchkewa_settings {
+    uint8_t convention; /* 0, 1 or 2: enum puchkewa_convention */
 };
 
 /* Why a call was refused: the first question that was answered "no". Questions 3 to 8 are asked of each command of the tape from the left. */
@@ -54,7 +63,7 @@ struct puchkewa_report {
 
 /* Cleans the listing of a tape.
  *
- * convention    0, 1 or 2: enum puchkewa_convention.
+ * settings      see above.
  * tape          the tape: tape_length bytes, only read.
  * work_a        a work area of work_a_length bytes, at least PUCHKEWA_WORK. What it holds before the call does not matter.
  * work_b        a second one.
@@ -64,7 +73,7 @@ struct puchkewa_report {
  * 65,536 bytes of each work area are zero and its other bytes as before. When refused, all counts are 0 and nothing that was lent is changed.
  *
  * The tape, both work areas and the output must not overlap, and no pointer may be null (for an empty tape pass any valid pointer and 0). */
-struct puchkewa_report puchkewa_clean(uint8_t convention,
+struct puchkewa_report puchkewa_clean(struct puchkewa_settings settings,
                                       const uint8_t *tape, size_t tape_length,
                                       uint8_t *work_a, size_t work_a_length,
                                       uint8_t *work_b, size_t work_b_length,

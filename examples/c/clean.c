@@ -1,7 +1,7 @@
 /* Cleans the tape of the scope paper's filter example, `rax = f();` `return;`, and prints the report and the new tape. From the repository's
- * root, after `rt staticlib clean`:
+ * root, after `rt staticlib puchkewa`:
  *
- *     cc -Iinclude examples/c/clean.c target/staticlib/libclean.a -o target/clean-c && target/clean-c
+ *     cc -Iinclude examples/c/clean.c target/staticlib/libpuchkewa.a -o target/clean-c && target/clean-c
  */
 #include <inttypes.h>
 #include <stdio.h>
@@ -24,7 +24,8 @@ static uint8_t work_a[PUCHKEWA_WORK], work_b[PUCHKEWA_WORK], out[PUCHKEWA_OUTPUT
 
 int main(void)
 {
-    struct puchkewa_report r = puchkewa_clean(PUCHKEWA_SYSV_64, tape, sizeof tape, work_a, sizeof work_a, work_b, sizeof work_b, out, sizeof out);
+    struct puchkewa_settings settings = { .convention = PUCHKEWA_SYSV_64 };
+    struct puchkewa_report r = puchkewa_clean(settings, tape, sizeof tape, work_a, sizeof work_a, work_b, sizeof work_b, out, sizeof out);
     if (r.refusal != PUCHKEWA_FINISHED) {
         printf("refused %" PRIu64 " at %" PRIu64 "\n", r.refusal, r.place);
         return 1;

@@ -1,7 +1,14 @@
 //! Cleans the tape of the scope paper's filter example, `rax = f();` `return;`, and prints the report and the new tape. From the repository's
-//! root, after `rt staticlib clean`:
+//! root, after `rt staticlib puchkewa`:
 //!
-//!     rustc -O -L target/staticlib -l static=clean examples/rust/clean.rs -o target/clean-rust && target/clean-rust
+//!     rustc -O -L target/staticlib -l static=puchkewa examples/rust/clean.rs -o target/clean-rust && target/clean-rust
+
+/// `struct puchkewa_settings` of include/puchkewa.h.
+#[repr(C)]
+#[derive(Clone, Copy)]
+struct Settings {
+    convention: u8,
+}
 
 /// `struct puchkewa_report` of include/puchkewa.h, where each number is explained.
 #[repr(C)]
@@ -18,7 +25,7 @@ struct Report {
 
 extern "C" {
     fn puchkewa_clean(
-        convention: u8,
+        settings: Settings,
         tape: *const u8,
         tape_length: usize,
         work_a: *mut u8,
@@ -31,10 +38,10 @@ extern "C" {
 }
 
 /// Cleans the listing of a tape. Slices cannot overlap or be null, which is all that the function asks.
-fn clean(convention: u8, tape: &[u8], work_a: &mut [u8], work_b: &mut [u8], out: &mut [u8]) -> Report {
+fn clean(settings: Settings, tape: &[u8], work_a: &mut [u8], work_b: &mut [u8], out: &mut [u8]) -> Report {
     unsafe {
         puchkewa_clean(
-            convention,
+            settings,
             tape.as_ptr(),
             tape.len(),
             work_a.as_mut_ptr(),
@@ -51,7 +58,7 @@ const TAPE: &[u8] = b"\x02\x00\x11\x03\x00rax\x16\x03\x00 = \x14\x01\x00f\x16\x0
 
 fn main() {
     let (mut work_a, mut work_b, mut out) = (vec![0; 65536], vec![0; 65536], vec![0; 54785]);
-    let r = clean(1, TAPE, &mut work_a, &mut work_b, &mut out);
+    let r = clean(Settings { convention: 1 }, TAPE, &mut work_a, &mut work_b, &mut out);
     if r.refusal != 0 {
         println!("refused {} at {}", r.refusal, r.place);
         std::process::exit(1);

@@ -6,16 +6,14 @@
 #include <string.h>
 #include <ucontext.h>
 
-struct puchkewa_report { uint64_t refusal, place, length, attempts_1, attempts_2, attempts_3, removed, cut; };
-struct puchkewa_report puchkewa_clean(uint8_t convention, const uint8_t *tape, size_t tape_length, uint8_t *work_a, size_t work_a_length,
-                                      uint8_t *work_b, size_t work_b_length, uint8_t *out, size_t out_length);
+#include "puchkewa.h"
 
-enum { WORK = 65536, OUTPUT = 54785, STACK = 4 << 20, PAINT = 0xA5 };
-static uint8_t input[WORK + 1], work_a[WORK], work_b[WORK], out[OUTPUT], stack[STACK];
+enum { WORK = PUCHKEWA_WORK, OUTPUT = PUCHKEWA_OUTPUT, STACK = 4 << 20, PAINT = 0xA5 };
+static uint8_t input[65537], work_a[WORK], work_b[WORK], out[OUTPUT], stack[STACK];
 static size_t length;
 static ucontext_t here, there;
 
-static void call(void) { puchkewa_clean(input[0], input + 1, length - 1, work_a, WORK, work_b, WORK, out, OUTPUT); }
+static void call(void) { puchkewa_clean((struct puchkewa_settings){ .convention = input[0] }, input + 1, length - 1, work_a, WORK, work_b, WORK, out, OUTPUT); }
 static void nothing(void) {}
 
 static size_t used(void (*f)(void)) {

@@ -2,9 +2,16 @@
 
 use crate::door::Report;
 
+/// `struct puchkewa_settings` of include/puchkewa.h.
+#[repr(C)]
+#[derive(Clone, Copy)]
+pub struct Settings {
+    pub convention: u8,
+}
+
 extern "C" {
     fn puchkewa_clean(
-        convention: u8,
+        settings: Settings,
         tape: *const u8,
         tape_length: usize,
         work_a: *mut u8,
@@ -16,11 +23,11 @@ extern "C" {
     ) -> Report;
 }
 
-pub fn clean(convention: u8, tape: &[u8], work_a: &mut [u8], work_b: &mut [u8], out: &mut [u8]) -> Report {
+pub fn clean(settings: Settings, tape: &[u8], work_a: &mut [u8], work_b: &mut [u8], out: &mut [u8]) -> Report {
     // SAFETY: each pointer and length is of a slice, and the slices that are written to do not overlap.
     unsafe {
         puchkewa_clean(
-            convention,
+            settings,
             tape.as_ptr(),
             tape.len(),
             work_a.as_mut_ptr(),

@@ -221,6 +221,17 @@ zero-eight-is-none (unsuffixed (hexadecimal {p} m r)) e =
 zero-eight-is-none (suffixed {s} {t} u m) e =
     false≢true (rw e at (any-right suffix-letter s t (at-each (any suffix-letter) (λ x. true) integer-suffix refl m)))
 
+-- so is any zero with an 8 or 9 behind it, and no letter that begins hexadecimal digits or a suffix
+pub zero-then-eight-is-none : {s t : Text} {n : ℕ} → Constant s n → s ≡ 48 ∷ t → any eight t ≡ true → any letter-x t ≡ false → any suffix-letter t ≡ false → ⊥
+unfolding opened
+zero-then-eight-is-none (unsuffixed (decimal r)) e h x u = true≢false (rw e at (decimal-begins r [] []))
+zero-then-eight-is-none (unsuffixed (octal r)) e h x u = true≢false (sym h ∙ (rw e at (octal-free eight refl refl r)))
+zero-then-eight-is-none (unsuffixed (hexadecimal {p} m r)) e h x u =
+    let q = spelled r in
+    false≢true (sym x ∙ (rw (sym (q .whole) ∙ e) at (any-left letter-x p (q .rest) (at-each (any letter-x) (λ x. true) hexadecimal-prefixes refl m))))
+zero-then-eight-is-none (suffixed {s} {t} k m) e h x u =
+    false≢true (sym u ∙ (rw e at (any-right suffix-letter s t (at-each (any suffix-letter) (λ x. true) integer-suffix refl m))))
+
 -- ---- never read
 
 pub capital-x-unread : {s : Text} {n : ℕ} → Hexadecimal (bytes "0X") s n → parse-c-number s ≡ none

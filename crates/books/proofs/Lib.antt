@@ -5,3 +5,4 @@ pub mod Grammar
 pub mod Agreement
 pub mod Differences
 pub mod Readings
+pub mod Spellings

@@ -24,13 +24,13 @@ invented s = (register (bytes s) ≡ none) × (family (bytes s) ≡ some (record
 abbrev others : List Text
 others = words "rip eip ip rflags eflags cs ds es fs gs ss xmm0 ymm0 zmm0 k0 mm0 st0 cr0 dr0"
 
-abbrev reads : String → ℤ → Type 0
+abbrev pub reads : String → ℤ → Type 0
 reads s z = parse-c-number (bytes s) ≡ some z
 
-abbrev unread : String → Type 0
+abbrev pub unread : String → Type 0
 unread s = parse-c-number (bytes s) ≡ none
 
-abbrev no-constant : String → Type 0
+abbrev pub no-constant : String → Type 0
 no-constant s = (n : ℕ) → Constant (bytes s) n → ⊥
 
 -- what the fold makes of a sum
@@ -48,6 +48,10 @@ pub record Differences : Type 0 where
   pub other-registers : map family others ≡ map (λ n. none) others
   -- a stack slot is no register, and its store is removed as an assignment is
   pub stack-slot : invented "var_8" × gives ("var_8 = 5;" ∷ "rbx = var_8;" ∷ []) ("rbx = 5;" ∷ [])
+  -- rcx may point to var_8, and then rbx was 6
+  pub slot-past-pointer : gives ("var_8 = 5;" ∷ "*(rcx) = 6;" ∷ "rbx = var_8;" ∷ []) ("*(rcx) = 6;" ∷ "rbx = 5;" ∷ [])
+  -- var_4 may be the upper half of var_8
+  pub slots-overlap : gives ("var_8 = 5;" ∷ "var_4 = 6;" ∷ "rbx = var_8;" ∷ []) ("var_4 = 6;" ∷ "rbx = 5;" ∷ [])
   -- ---- parts of registers: section 3.4.1.1
   -- where rax held 256, it holds 261 after `al = 5;`
   pub al-for-rax : (read (the "rax") (write (the "al") 256 5) ≡ 261) × gives ("al = 5;" ∷ "rbx = rax;" ∷ []) ("rbx = 5;" ∷ [])
@@ -57,11 +61,18 @@ pub record Differences : Type 0 where
   pub eax-minus-one : (write (the "eax") 0 (2 ^ 64 - 1) ≡ 2 ^ 32 - 1) × gives ("eax = -1;" ∷ "rbx = rax;" ∷ []) ("rbx = -1;" ∷ [])
   pub eax-of-rax : (read (the "eax") 0x100000005 ≡ 5) × gives ("rax = 0x100000005;" ∷ "rbx = eax;" ∷ []) ("rbx = 0x100000005;" ∷ [])
   pub sum-of-32-bits : (read (the "eax") (0xffffffff + 1) ≡ 0) × gives ("eax = 0xffffffff;" ∷ "f(eax + 1);" ∷ []) ("f(0x100000000);" ∷ [])
+  -- where rcx held 2^32 + 5, rbx was 5
+  pub copy-of-32-bits :
+      (read (the "rax") (write (the "eax") 0 0x100000005) ≡ 5) × gives ("eax = rcx;" ∷ "rbx = rax;" ∷ []) ("rbx = rcx;" ∷ [])
   -- ---- calling conventions
   -- rdi hands over the first argument (System V)
   pub argument-register : gives ("rdi = 5;" ∷ "rbx = rdi;" ∷ "f();" ∷ []) ("rbx = 5;" ∷ "f();" ∷ [])
   -- rax hands back the result
   pub return-value : gives ("rax = f();" ∷ "return;" ∷ []) ("f();" ∷ "return;" ∷ [])
+  -- the caller finds rsp as it was (System V, 3.2.1; Microsoft)
+  pub stack-pointer-at-return : gives ("rsp = rbp;" ∷ "rbx = rsp;" ∷ "return;" ∷ []) ("rbx = rbp;" ∷ "return;" ∷ [])
+  -- and rbx
+  pub preserved-at-return : gives ("rbx = var_8;" ∷ "rdi = rbx;" ∷ "return;" ∷ []) ("rdi = var_8;" ∷ "return;" ∷ [])
   -- ---- integer constants: C, 6.4.4.1
   pub octal : Constant (bytes "010") 8 × reads "010" (pos 10)
   pub octal-from-eight : {s : Text} {n : ℕ} → Octal s n → 8 ≤ n → parse-c-number s ≡ some (pos n) → ⊥
@@ -103,6 +114,18 @@ pub record Differences : Type 0 where
   pub increment-moved : gives ("rax = rcx++;" ∷ "rbx = rcx;" ∷ "rdx = rax;" ∷ []) ("rbx = rcx;" ∷ "rdx = rcx++;" ∷ [])
   -- a call through a register is no call
   pub register-called : gives ("rbx = rax();" ∷ "rcx = 5;" ∷ "rdx = rbx;" ∷ []) ("rcx = 5;" ∷ "rdx = rax();" ∷ [])
+  -- rcx+1 was to be doubled
+  pub unspaced-sum : gives ("rax = rcx+1;" ∷ "rbx = rax * 2;" ∷ []) ("rbx = rcx+1 * 2;" ∷ [])
+  -- f had one argument
+  pub comma-to-argument : gives ("rax = rcx, rdx;" ∷ "rbx = f(rax);" ∷ []) ("rbx = f(rcx, rdx);" ∷ [])
+  -- rcx is changed and read with no order between (6.5 paragraph 2)
+  pub two-changes : gives ("rax = rcx++;" ∷ "rbx = rcx + rax;" ∷ []) ("rbx = rcx + rcx++;" ∷ [])
+  -- var_8 was read before f was called
+  pub read-past-call : gives ("rax = var_8;" ∷ "rbx = f() + rax;" ∷ []) ("rbx = f() + var_8;" ∷ [])
+  -- f was called in any case
+  pub call-under-condition : gives ("rax = f();" ∷ "if (rcx) rbx = rax;" ∷ []) ("if (rcx) rbx = f();" ∷ [])
+  -- rbx was the old rcx
+  pub second-statement : gives ("rax = rcx;" ∷ "rcx = 1; rbx = rax;" ∷ []) ("rcx = 1; rbx = rcx;" ∷ [])
   -- ---- statements: C, 6.8
   pub jump-past-overwrite :
       gives
@@ -130,3 +153,23 @@ pub record Differences : Type 0 where
       gives
       ("for (;;) {" ∷ " rbx = rax;" ∷ " rax = 5;" ∷ " rcx = rax;" ∷ "}" ∷ [])
       ("for (;;) {" ∷ " rbx = rax;" ∷ " rcx = 5;" ∷ "}" ∷ [])
+  pub break-past-overwrite :
+      gives
+      ("do {" ∷ " rax = rcx;" ∷ " rbx = rax;" ∷ " if (rsi) break;" ∷ " rax = 1;" ∷ "} while (rdx);" ∷ "rdi = rax;" ∷ [])
+      ("do {" ∷ " rbx = rcx;" ∷ " if (rsi) break;" ∷ " rax = 1;" ∷ "} while (rdx);" ∷ "rdi = rax;" ∷ [])
+  pub continue-past-overwrite :
+      gives
+      ("do {" ∷ " rax = rcx;" ∷ " rbx = rax;" ∷ " if (rsi) continue;" ∷ " rax = 1;" ∷ "} while (rdx);" ∷ "rdi = rax;" ∷ [])
+      ("do {" ∷ " rbx = rcx;" ∷ " if (rsi) continue;" ∷ " rax = 1;" ∷ "} while (rdx);" ∷ "rdi = rax;" ∷ [])
+  pub switch-case :
+      gives
+      ("switch (rsi) {" ∷ " case 0:" ∷ " rax = rcx;" ∷ " rbx = rax;" ∷ " break;" ∷ " case 1:" ∷ " rax = 1;" ∷ "}" ∷ "rdx = rax;" ∷ [])
+      ("switch (rsi) {" ∷ " case 0:" ∷ " rbx = rcx;" ∷ " break;" ∷ " case 1:" ∷ " rax = 1;" ∷ "}" ∷ "rdx = rax;" ∷ [])
+  pub case-passed-over :
+      gives
+      ("rax = rcx;" ∷ "rbx = rax;" ∷ "switch (rsi) {" ∷ "case 1:" ∷ "rax = 1;" ∷ "}" ∷ "rdx = rax;" ∷ [])
+      ("rbx = rcx;" ∷ "switch (rsi) {" ∷ "case 1:" ∷ "rax = 1;" ∷ "}" ∷ "rdx = rax;" ∷ [])
+  -- the head is read again in each turn, and rax was not
+  pub for-head : gives ("rax = rcx;" ∷ "for (; rax; ) {" ∷ " rcx = 1;" ∷ "}" ∷ []) ("for (; rcx; ) {" ∷ " rcx = 1;" ∷ "}" ∷ [])
+  -- f was called once
+  pub for-head-call : gives ("rax = f();" ∷ "for (; rax; ) {" ∷ " g();" ∷ "}" ∷ []) ("for (; f(); ) {" ∷ " g();" ∷ "}" ∷ [])

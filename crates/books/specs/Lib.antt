@@ -6,3 +6,4 @@ pub mod Agreement
 pub mod Notation
 pub mod Differences
 pub mod Readings
+pub mod Spellings

@@ -38,7 +38,7 @@ kind-of w =
     if not (is-word w) then Punct
     else if is-digit (getD w 0 0) || eqb (getD w 0 0) 45 then Number
     else if is-some (family w) then Register
-    else if has (words "do while for if else goto return") w then Keyword
+    else if has (words "do while for if else goto return break continue switch case") w then Keyword
     else Symbol
 
 unfoldable pub tokens-of : Text → List Token

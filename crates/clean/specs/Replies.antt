@@ -14,7 +14,6 @@ use Rattle.reference.specs.Reply as R
 use Rattle.clean.specs.declared.cleaning.Finished.{Finished}
 use Rattle.clean.specs.declared.entry.Reply.{Reply}
 use Rattle.clean.specs.declared.entry.Reply.the-variants.{Refused, Finished as Done}
-use Rattle.clean.specs.declared.export.Report.{Report as Exported}
 
 -- ---- the reply in document 01's eight numbers
 
@@ -35,20 +34,6 @@ abbrev pub report-of : Reply → R.Report
 report-of (Refused number place) =
     record { refusal = number; place = place; length = 0; attempts₁ = 0; attempts₂ = 0; attempts₃ = 0; removed = 0; cut = 0 }
 report-of (Done f) = finished-report f
-
--- the struct that C gets
-abbrev pub exported : Exported → R.Report
-exported r =
-    record {
-      refusal = r .refusal;
-      place = r .place;
-      length = r .length;
-      attempts₁ = r .attempts_1;
-      attempts₂ = r .attempts_2;
-      attempts₃ = r .attempts_3;
-      removed = r .removed;
-      cut = r .cut;
-    }
 
 -- ---- the reply as the definition's answer: which of the two it is, and its numbers
 

@@ -6,6 +6,7 @@ use tape::questions::Checked;
 ghost use mathlib.Core.Path.{_≡_};
 ghost use lib.ListN.{length};
 ghost use Rattle.reference.specs.Reply.{reply};
+ghost use Rattle.lines.specs.Rules.{rules-of};
 ghost use Rattle.clean.specs.Replies.{report-of, answer-of, summary, Cleans};
 
 // The answer: a question's number and place, or what the cleaning did.
@@ -14,19 +15,21 @@ pub enum Reply {
     Finished(Finished),
 }
 
-// Cleans the listing of a tape under a convention. A refusal changes nothing that was lent; otherwise the output is the new tape, and the
+// Cleans the listing of a tape under the settings. A refusal changes nothing that was lent; otherwise the output is the new tape, and the
 // first 65,536 bytes of both work areas are zero afterwards.
 pub fn clean(
-    convention: u8,
+    rules: Rules,
     tape: &[u8],
     work_a: &mut [u8],
     work_b: &mut [u8],
     out: &mut [u8],
 ) -> Reply
-    ensures { λ r. ⌜ Cleans (record { convention = convention }) (now (tape .entry)) (now («work_a» .entry)) (now («work_b» .entry)) (now (out .entry)) (now («work_a» .exit)) (now («work_b» .exit)) (now (out .exit)) (report-of r) ⌝ }
-    ensures { λ r. ⌜ answer-of r ≡ summary (reply (record { convention = convention }) (now (tape .entry)) (length (now («work_a» .entry))) (length (now («work_b» .entry))) (length (now (out .entry)))) ⌝ }
+    ensures { λ r. ⌜ Cleans (rules-of rules)
+        (now (tape .entry)) (now («work_a» .entry)) (now («work_b» .entry)) (now (out .entry))
+        (now («work_a» .exit)) (now («work_b» .exit)) (now (out .exit)) (report-of r) ⌝ }
+    ensures { λ r. ⌜ answer-of r ≡ summary (reply (rules-of rules) (now (tape .entry))
+        (length (now («work_a» .entry))) (length (now («work_b» .entry))) (length (now (out .entry)))) ⌝ }
 {
-    let rules = Rules { convention };
     let number = tape::asked(rules, work_a.len(), work_b.len(), out.len());
     if number != 0 {
         return Reply::Refused { number, place: 0 };

@@ -1,7 +1,6 @@
 // The public entry: a tape in, the cleaned tape out (document 01).
 mod cleaning; // the whole cleaning of an accepted tape
 mod entry; // the questions, then the cleaning
-mod export; // the same for C and Rust
 
 pub use entry::Reply;
 pub use entry::clean;

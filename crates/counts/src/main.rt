@@ -3,6 +3,7 @@
 use clean::Reply;
 use libc::STDIN_FILENO;
 use libc::STDOUT_FILENO;
+use lines::rules::Rules;
 
 fn print(s: &[u8]) {
     io::write_all(STDOUT_FILENO, s);
@@ -51,7 +52,8 @@ fn count(convention: u8, tape: &[u8]) {
     let mut work_a = [0u8; 65536];
     let mut work_b = [0u8; 65536];
     let mut out = [0u8; 54785];
-    print_reply(clean::clean(convention, tape, &mut work_a, &mut work_b, &mut out));
+    let rules = Rules { convention };
+    print_reply(clean::clean(rules, tape, &mut work_a, &mut work_b, &mut out));
 }
 
 fn main() {

@@ -4,8 +4,8 @@ use native.Mathlib.Nat.{zero-add}
 use native.Mathlib.Omega.{arith}
 use mathlib.Core.Path.{_≡_, refl, sym, ap, _∙_}
 use mathlib.Core.List.{List, [], _∷_, _++_, append-assoc}
-use lib.ListN.{length, drop, getD, length-append}
-use lib.Seq.{take-length, length-take-le}
+use lib.ListN.{length, take, drop, getD, length-append}
+use lib.Seq.{take-all, take-take, take-length, length-take-le}
 use Rattle.reference.specs.Text.{Text, bytes}
 use Rattle.reference.specs.Rules.{Rules}
 use Rattle.reference.specs.Questions.{WORK, OUTPUT, Answer, Refused, Passed}
@@ -20,7 +20,7 @@ use Rattle.clean.specs.Replies.{report-of, Summary, answer-of, summary, Cleans}
 use Rattle.clean.specs.declared.cleaning.Finished.{Finished}
 use Rattle.clean.specs.declared.entry.Reply as C
 use Rattle.clean.specs.declared.entry.Reply.the-variants as Said
-use Rattle.filter.specs.Response.{refusal, shown, response, Shows}
+use Rattle.filter.specs.Response.{refusal, shown, settings, LONGEST, response, Shows}
 
 -- ---- a refusal, put piece by piece
 
@@ -79,6 +79,17 @@ module _ (rules : Rules) (tape work-a work-b out : List ℕ) (a : length work-a 
   pub shows-tape : {f : Finished} → r ≡ Said.Finished f → Shows (shown (reply rules tape WORK WORK OUTPUT)) out after (f .length)
   shows-tape e = finished-shows (reply rules tape WORK WORK OUTPUT) (same-answer (ap answer-of e)) out left
 
+-- ---- the front of a tape
+
+module _ (rules : Rules) (tape : List ℕ) {most : ℕ} (m : most ≡ LONGEST) {out after : List ℕ} {r : ℕ} where
+  pub front-whole : length tape ≤ most → Shows (shown (reply rules tape WORK WORK OUTPUT)) out after r
+      → Shows (shown (reply rules (take LONGEST tape) WORK WORK OUTPUT)) out after r
+  front-whole h s = rw (take-all LONGEST tape (omega arith)) s
+
+  pub front-cut : {front : List ℕ} → front ≡ take most tape → Shows (shown (reply rules front WORK WORK OUTPUT)) out after r
+      → Shows (shown (reply rules (take LONGEST tape) WORK WORK OUTPUT)) out after r
+  front-cut e s = rw (← m, ← e) s
+
 -- ---- the input: nothing, or a convention byte and a tape
 
 pub responds-none : (input : List ℕ) → length input ≡ 0 → {out after : List ℕ} {r : ℕ} → Shows (refusal 1 0) out after r → Shows (response input) out after r
@@ -87,7 +98,8 @@ responds-none [] e h = h
 responds-none (x ∷ xs) e h = absurd (omega arith)
 
 pub responds-some : (input : List ℕ) → (length input ≡ 0 → ⊥) → {tape out after : List ℕ} {r : ℕ} → tape ≡ drop 1 input
-    → Shows (shown (reply (record { convention = getD input 0 0 }) tape WORK WORK OUTPUT)) out after r → Shows (response input) out after r
+    → Shows (shown (reply (settings (getD input 0 0)) (take LONGEST tape) WORK WORK OUTPUT)) out after r
+    → Shows (response input) out after r
 unfolding response
 responds-some [] n e h = absurd (n refl)
 responds-some (x ∷ xs) n e h = rw e at h

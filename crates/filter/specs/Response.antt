@@ -2,8 +2,9 @@
 use Prim.Native.Nat.{ℕ}
 use mathlib.Core.Path.{_≡_}
 use mathlib.Core.List.{List, [], _∷_, _++_}
-use lib.ListN.{length, drop}
+use lib.ListN.{length, take, drop}
 use Rattle.reference.specs.Text.{Text, bytes}
+use Rattle.reference.specs.Rules.{Rules}
 use Rattle.reference.specs.Questions.{WORK, OUTPUT, Refused, Passed}
 use Rattle.reference.specs.Reply.{Reply, reply}
 use Rattle.printing.specs.Decimals.{decimal}
@@ -17,10 +18,19 @@ unfoldable pub shown : Reply → Text
 shown (Refused number place) = refusal number place
 shown (Passed c) = c .tape
 
--- "reads from standard input a convention byte and the tape"; "Empty input prints `refused 1 at 0`"
+-- the settings: the convention
+abbrev pub settings : ℕ → Rules
+settings convention = record { convention = convention }
+
+-- the longest tape that is taken
+unfoldable pub LONGEST : ℕ
+LONGEST = 65536
+
+-- "reads from standard input a convention byte and the tape"; "Empty input prints `refused 1 at 0`"; "of a longer tape the first 65,536
+-- bytes are the tape"
 unfoldable pub response : List ℕ → Text
 response [] = refusal 1 0
-response (convention ∷ tape) = shown (reply (record { convention = convention }) tape WORK WORK OUTPUT)
+response (convention ∷ tape) = shown (reply (settings convention) (take LONGEST tape) WORK WORK OUTPUT)
 
 -- the text stands at the front of the output, and r is its length; all else is as it was
 pub record Shows (text out after : List ℕ) (r : ℕ) : Type 0 where

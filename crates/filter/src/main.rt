@@ -1,5 +1,5 @@
-// The filter program of document 01: a convention byte and a tape in; the new tape, or the refusal, out. Of a longer tape the first 65,536 bytes
-// are the tape, since no more is read.
+// The filter program of document 01: a convention byte and a tape in; the new tape, or the refusal, out. `respond` cuts a longer tape. What
+// stands behind 65,537 bytes of input cannot change the answer (`unread`, proofs/Cut.antt), so no more is read.
 mod response; // what is answered to an input
 
 use libc::STDIN_FILENO;

@@ -1,14 +1,15 @@
 // What the program answers to an input, put into an output of 54,785 bytes.
 use clean::Reply;
 use clean::clean;
+use lines::rules::Rules;
 use printing::put;
 use printing::put_decimal;
 ghost use mathlib.Core.Path.{_≡_};
 ghost use Prim.Native.Nat.{_≤_};
-ghost use lib.ListN.{length};
+ghost use lib.ListN.{length, take};
 ghost use Rattle.reference.specs.Questions.{WORK, OUTPUT};
 ghost use Rattle.reference.specs.Reply.{reply};
-ghost use Rattle.filter.specs.Response.{refusal, shown, response, Shows};
+ghost use Rattle.filter.specs.Response.{refusal, shown, settings, LONGEST, response, Shows};
 
 // Puts the line of a refusal, and says how long it is.
 fn put_refusal(number: u64, place: u64, out: &mut [u8]) -> usize
@@ -25,17 +26,39 @@ fn put_refusal(number: u64, place: u64, out: &mut [u8]) -> usize
 // Cleans a tape, and says how long the answer is.
 fn answer(convention: u8, tape: &[u8], out: &mut [u8]) -> usize
     requires { ⌜ length (now out) ≡ OUTPUT ⌝ }
-    ensures { λ r. ⌜ Shows (shown (reply (record { convention = convention }) (now (tape .entry)) WORK WORK OUTPUT)) (now (out .entry)) (now (out .exit)) r ⌝ }
+    ensures { λ r. ⌜ Shows (shown (reply (settings convention) (now (tape .entry)) WORK WORK OUTPUT))
+        (now (out .entry)) (now (out .exit)) r ⌝ }
 {
     let mut work_a = [0u8; 65536];
     let mut work_b = [0u8; 65536];
-    match clean(convention, tape, &mut work_a, &mut work_b, out) {
+    let rules = Rules { convention };
+    match clean(rules, tape, &mut work_a, &mut work_b, out) {
         Reply::Refused { number, place } => put_refusal(number, place as u64, out),
         Reply::Finished(f) => f.length,
     }
 }
 
-// Answers an input: a convention byte and a tape.
+// The longest tape that is taken. A function and no constant: a proof then has the number as an equation, and no check counts up to it.
+fn longest() -> usize
+    ensures { λ r. ⌜ r ≡ LONGEST ⌝ }
+{
+    65536
+}
+
+// Cleans a tape, or the front of a longer one.
+fn answer_front(convention: u8, tape: &[u8], out: &mut [u8]) -> usize
+    requires { ⌜ length (now out) ≡ OUTPUT ⌝ }
+    ensures { λ r. ⌜ Shows (shown (reply (settings convention) (take LONGEST (now (tape .entry))) WORK WORK OUTPUT))
+        (now (out .entry)) (now (out .exit)) r ⌝ }
+{
+    let most = longest();
+    if tape.len() <= most {
+        return answer(convention, tape, out);
+    }
+    answer(convention, &tape[..most], out)
+}
+
+// Answers an input of any length: a convention byte and a tape.
 pub fn respond(input: &[u8], out: &mut [u8]) -> usize
     requires { ⌜ length (now out) ≡ OUTPUT ⌝ }
     ensures { λ r. ⌜ Shows (response (now (input .entry))) (now (out .entry)) (now (out .exit)) r ⌝ }
@@ -43,5 +66,5 @@ pub fn respond(input: &[u8], out: &mut [u8]) -> usize
     if input.len() == 0 {
         return put_refusal(1, 0, out);
     }
-    answer(input[0], &input[1..], out)
+    answer_front(input[0], &input[1..], out)
 }

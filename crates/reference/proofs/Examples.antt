@@ -11,6 +11,8 @@ use Rattle.reference.specs.Names.{Fam, family}
 use Rattle.reference.specs.Rules.{Rules}
 use Rattle.reference.specs.Numbers.{parse-c-number, fold}
 use Rattle.reference.specs.Run.{run, finished, Counts, counts}
+use Rattle.reference.specs.Questions.{WORK, OUTPUT, Passed}
+use Rattle.reference.specs.Reply.{Reply, reply, report}
 use Rattle.reference.proofs.Opened.{opened}
 
 abbrev fam : String → ℕ → Option Fam
@@ -43,6 +45,10 @@ convention-1 = record { convention = 1 }
 -- the finished listing under convention 1, and the counts
 abbrev cleans : Listing → Listing → Counts → Type 0
 cleans before after c = (finished convention-1 before ≡ after) × (counts (run convention-1 before) ≡ c)
+
+-- the reply to the tape of FF alone, with just enough room
+abbrev end-alone-reply : Reply
+end-alone-reply = reply convention-1 (0xFF ∷ []) WORK WORK OUTPUT
 
 pub record Starred : Type 0 where
   pub ah : family (bytes "ah") ≡ fam "rax" 8
@@ -78,6 +84,7 @@ pub record Starred : Type 0 where
       (line (R "rbx" ∷ P " = " ∷ R "rsi" ∷ P " - (" ∷ R "rcx" ∷ P " - " ∷ R "rdx" ∷ P ");" ∷ []) ∷ [])
       (made 2 1 0 1 0)
   pub nothing : cleans [] [] (made 0 0 0 0 0)
+  pub end-alone : (end-alone-reply ≡ Passed (record { tape = 0xFF ∷ []; counts = made 0 0 0 0 0 })) × (report end-alone-reply .length ≡ 1)
 
 pub starred : Starred
 unfolding opened
@@ -100,6 +107,7 @@ starred =
       call = (refl, refl);
       brackets = (refl, refl);
       nothing = (refl, refl);
+      end-alone = (refl, refl);
     }
 
 -- Small listings of which each shows one thing that a wrong port gets wrong, with what the Rust made of them.

@@ -1,4 +1,4 @@
--- Document 01's examples of tapes, and one of each refusal, as one statement. Assumes nothing.
+-- Document 01's example in hexadecimal, and one of each refusal, as one statement. FF alone is starred: Examples.antt. Assumes nothing.
 use Prim.Native.Nat.{ℕ}
 use Prim.Native.String.{String}
 use mathlib.Core.Path.{_≡_, refl}
@@ -43,7 +43,6 @@ pub record TapeExamples : Type 0 where
       (tape "02 00 11 03 00 72 61 78 16 03 00 20 3D 20 14 01 00 66 16 03 00 28 29 3B 02 00 13 06 00 72 65 74 75 72 6E 16 01 00 3B FF")
       (tape "02 00 14 01 00 66 16 03 00 28 29 3B 02 00 13 06 00 72 65 74 75 72 6E 16 01 00 3B FF")
       (record { attempts₁ = 2; attempts₂ = 0; attempts₃ = 0; lines-removed = 0; results-cut = 1 })
-  pub end-alone : gives (tape "FF") (tape "FF") (record { attempts₁ = 0; attempts₂ = 0; attempts₃ = 0; lines-removed = 0; results-cut = 0 })
   pub address :
       read (tape "01 01 02 00 00 00 00 00 80 3F FF") ≡ Passed (record { address = some 9223372036854776321; indent = 63; tokens = [] } ∷ [])
   pub convention : reply (record { convention = 3 }) [] 0 0 0 ≡ Refused 1 0
@@ -75,7 +74,6 @@ unfolding opened
 tape-examples =
     record {
       cut = refl;
-      end-alone = refl;
       address = refl;
       convention = refl;
       work = refl;

@@ -1,15 +1,16 @@
 -- One call, by the tests that the code makes before it. Assumes nothing.
-use Prim.Native.Nat.{ℕ, _%_, _≤_, _<_}
+use Prim.Native.Nat.{ℕ, _≤_, _<_}
 use mathlib.Core.Path.{_≡_, sym, _∙_}
 use mathlib.Core.Bool.{Bool, false}
 use mathlib.Core.List.{List, _++_}
 use lib.ListN.{length, take, drop}
 use borrow.Author.Tests.{le-leb, lt-leb}
 use Rattle.laws.proofs.Scans.{and-true, and-false}
+use Rattle.reference.specs.Rules.{Rules}
 use Rattle.reference.specs.Reply.{Report}
 use Rattle.clean.specs.Replies.{Cleans}
 use Rattle.replay.specs.Frames.{number-in, tape-in}
-use Rattle.replay.specs.Answers.{is-right, called, agrees}
+use Rattle.replay.specs.Answers.{is-right, rules-in, called, agrees}
 
 module _ (list a b o : List ℕ) where
   pub short-a : length a < number-in list 2 → false ≡ agrees list a b o
@@ -33,9 +34,9 @@ module _ (list a b o : List ℕ) where
       fits h e = e ∙ sym (and-true _ (le-leb _ _ fits-a) ∙ and-true _ (le-leb _ _ fits-b) ∙ and-true _ (le-leb _ _ h))
 
   -- what the call promises, and what was found of it
-  pub made : {na nb no n : ℕ} {tape a′ b′ o′ : List ℕ} {report : Report} {r : Bool} → na ≡ number-in list 2 → nb ≡ number-in list 3 → no ≡ number-in list 4
-      → n ≡ number-in list 1 → tape ≡ tape-in list → na ≤ length a → nb ≤ length b → no ≤ length o
-      → Cleans (record { convention = n % 256 }) tape (take na a) (take nb b) (take no o) a′ b′ o′ report
+  pub made : {na nb no : ℕ} {rules : Rules} {tape a′ b′ o′ : List ℕ} {report : Report} {r : Bool} → na ≡ number-in list 2 → nb ≡ number-in list 3 → no ≡ number-in list 4
+      → rules ≡ rules-in list → tape ≡ tape-in list → na ≤ length a → nb ≤ length b → no ≤ length o
+      → Cleans rules tape (take na a) (take nb b) (take no o) a′ b′ o′ report
       → r ≡ is-right list report (a′ ++ drop na a) (b′ ++ drop nb b) (o′ ++ drop no o) → r ≡ agrees list a b o
   made ea eb eo en et ha hb ho k e =
       fits (rw ea at ha) (rw eb at hb) (rw eo at ho)

@@ -45,8 +45,12 @@ is-right list report work-a work-b out =
 
 -- ---- the call
 
+-- settings as one number: the convention is its lowest byte
+abbrev pub rules-as : ℕ → Rules
+rules-as n = record { convention = n % 256 }
+
 abbrev pub rules-in : List ℕ → Rules
-rules-in list = record { convention = number-in list 1 % 256 }
+rules-in list = rules-as (number-in list 1)
 
 -- the reply to the frame's call, these being the lent parts
 abbrev pub reply-to : List ℕ → List ℕ → List ℕ → List ℕ → Reply

@@ -1,5 +1,4 @@
 // One call, and whether it did what its frame wants: the report, and every byte that was lent.
-use crate::frames::CONVENTION;
 use crate::frames::CUT;
 use crate::frames::FIRST;
 use crate::frames::LENGTH;
@@ -8,6 +7,7 @@ use crate::frames::PLACE;
 use crate::frames::REFUSAL;
 use crate::frames::REMOVED;
 use crate::frames::SECOND;
+use crate::frames::SETTINGS;
 use crate::frames::THIRD;
 use crate::frames::WORK_A;
 use crate::frames::WORK_B;
@@ -16,6 +16,7 @@ use crate::frames::output_of;
 use crate::frames::tape_of;
 use clean::Reply;
 use libc::STDOUT_FILENO;
+use lines::rules::Rules;
 use text::copy_bytes;
 use text::same;
 use text::wipe;
@@ -23,9 +24,10 @@ ghost use mathlib.Core.Path.{_≡_};
 ghost use Prim.Native.Nat.{_+_, _*_, _≤_};
 ghost use lib.ListN.{length, replicate};
 ghost use Rattle.reference.specs.Text.{_==_};
+ghost use Rattle.lines.specs.Rules.{rules-of};
 ghost use Rattle.clean.specs.Replies.{report-of};
 ghost use Rattle.replay.specs.Frames.{Whole};
-ghost use Rattle.replay.specs.Answers.{is-number, is-report, are-counts, is-wanted, work-wanted, out-wanted, all-right, is-right, agrees};
+ghost use Rattle.replay.specs.Answers.{is-number, is-report, are-counts, is-wanted, work-wanted, out-wanted, all-right, is-right, rules-in, agrees};
 
 // What is lent is longer than a call asks for, and every byte of it has this value before the call.
 const MARK: u8 = 170;
@@ -165,6 +167,17 @@ fn is_right<'a>(list: &'a [u8], r: Reply, work_a: &'a [u8], work_b: &'a [u8], ou
     all_right(list, r, work_a, work_b, out, &work, &written)
 }
 
+// The settings of the call.
+fn settings(list: &[u8]) -> Rules
+    requires { ⌜ Whole (now list) ⌝ }
+    ensures { λ r. ⌜ rules-of r ≡ rules-in (now (list .entry)) ⌝ }
+{
+    let n = number(list, SETTINGS);
+    Rules {
+        convention: (n % 256) as u8,
+    }
+}
+
 // Makes the call in lent bytes that all have the mark's value, and says whether all is as wanted.
 fn agrees_in(list: &[u8], work_a: &mut [u8], work_b: &mut [u8], out: &mut [u8]) -> bool
     requires { ⌜ Whole (now list) ⌝ }
@@ -182,9 +195,9 @@ fn agrees_in(list: &[u8], work_a: &mut [u8], work_b: &mut [u8], out: &mut [u8]) 
     if out.len() < o {
         return false;
     }
-    let convention = (number(list, CONVENTION) % 256) as u8;
+    let rules = settings(list);
     let r = clean::clean(
-        convention,
+        rules,
         tape_of(list),
         &mut work_a[..a],
         &mut work_b[..b],

@@ -1,6 +1,6 @@
 // The list that is replayed: frames one after the other. A frame is fourteen numbers of four bytes, the lowest first, then the tape of a call, then
-// the output that is wanted. The numbers: the class; the convention; the lengths of both work areas, of the output and of the tape; and the eight
-// numbers of the wanted report, of which the third is the length of the wanted output.
+// the output that is wanted. The numbers: the class; the settings; the lengths of both work areas, of the output and of the tape; and the eight
+// numbers of the wanted report, of which the third is the length of the wanted output. Of the settings the lowest byte is the convention.
 use tape::commands::text_of;
 use tape::little_endian::number_at;
 ghost use mathlib.Core.Path.{_≡_};
@@ -10,7 +10,7 @@ ghost use Rattle.replay.specs.Frames.{number-in, Whole, tape-in, output-
 
 pub const CLASS: usize = 0;
 
-pub const CONVENTION: usize = 1;
+pub const SETTINGS: usize = 1;
 
 pub const WORK_A: usize = 2;
 

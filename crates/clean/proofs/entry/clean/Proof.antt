@@ -1,5 +1,6 @@
 -- `clean::entry::clean` meets its contract: no call is refused wrongly, and every lent byte is told. Assumes nothing.
 use mathlib.Core.Path.{sym, ap, _∙_}
+use Rattle.lines.specs.Rules.{rules-of}
 use Rattle.tape.specs.Questions.{checked}
 use Rattle.tape.proofs.questions.Reading.{refused-by, accepted-by}
 use Rattle.clean.proofs.Replying.{refused-at-door, refused-on-tape, cleanable, finished-call}
@@ -11,7 +12,7 @@ asked-requires c κs = tt
 
 returns : tie.Need-returns
 returns c = let a = c .before .before .before .before .before .before .args in
-    refused-at-door (record { convention = a .convention }) (a .tape .now) (a .work-a .now) (a .work-b .now) (a .out .now) (c .before .asked .ensures) (c .if1 .taken)
+    refused-at-door (rules-of (a .rules)) (a .tape .now) (a .work-a .now) (a .work-b .now) (a .out .now) (c .before .asked .ensures) (c .if1 .taken)
 
 check-requires : tie.Need-check-requires
 check-requires c κs = tt
@@ -24,12 +25,12 @@ enum-told c = c .match .keys2
 
 finish-requires : tie.Need-finish-requires
 finish-requires c κs = let a = c .before .before .before .before .before .before .before .before .before .before .before .before .args in
-    cleanable (record { convention = a .convention }) (a .tape .now) (a .work-a .now) (a .work-b .now) (a .out .now) (c .before .before .before .before .before .before .before .asked .ensures) (c .before .before .before .before .before .before .if1 .left)
+    cleanable (rules-of (a .rules)) (a .tape .now) (a .work-a .now) (a .work-b .now) (a .out .now) (c .before .before .before .before .before .before .before .asked .ensures) (c .before .before .before .before .before .before .if1 .left)
     (accepted-by (a .tape .now) (sym (ap checked (c .before .before .before .enum-told .given .1)) ∙ c .before .before .before .before .before .check .ensures))
 
 returns-2 : tie.Need-returns-2
 returns-2 c = let a = c .before .before .before .before .before .before .before .before .before .before .args in
-    refused-on-tape (record { convention = a .convention }) (a .tape .now) (a .work-a .now) (a .work-b .now) (a .out .now) (c .before .before .before .before .before .asked .ensures) (c .before .before .before .before .if1 .left)
+    refused-on-tape (rules-of (a .rules)) (a .tape .now) (a .work-a .now) (a .work-b .now) (a .out .now) (c .before .before .before .before .before .asked .ensures) (c .before .before .before .before .if1 .left)
     (refused-by (a .tape .now) (sym (ap checked (c .before .number .given .1)) ∙ c .before .before .before .check .ensures))
 
 same-length : tie.Need-same-length
@@ -44,7 +45,7 @@ same-length-3 c = c .before .before .before .before .before .before .finish .kep
 returns-3 : tie.Need-returns-3
 returns-3 c = let a = c .before .before .before .before .before .before .before .before .before .before .before .before .before .before .before .before .before .before .before .args in
     let accepted = accepted-by (a .tape .now) (sym (ap checked (c .before .before .before .before .before .before .before .before .before .before .enum-told .given .1)) ∙ c .before .before .before .before .before .before .before .before .before .before .before .before .check .ensures) in
-    finished-call (record { convention = a .convention }) (a .tape .now) (a .work-a .now) (a .work-b .now) (a .out .now) (c .before .before .before .before .before .before .before .before .before .before .before .before .before .before .asked .ensures) (c .before .before .before .before .before .before .before .before .before .before .before .before .before .if1 .left)
+    finished-call (rules-of (a .rules)) (a .tape .now) (a .work-a .now) (a .work-b .now) (a .out .now) (c .before .before .before .before .before .before .before .before .before .before .before .before .before .before .asked .ensures) (c .before .before .before .before .before .before .before .before .before .before .before .before .before .if1 .left)
     accepted (c .before .before .before .before .before .before .finish .ensures (accepted .listing) (accepted .reads))
 
 pub clean-spec : {M : Type 1} → statement M

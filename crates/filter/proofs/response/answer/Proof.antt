@@ -1,5 +1,6 @@
 -- `filter::response::answer` meets its contract. Assumes nothing.
 use Rattle.filter.proofs.Responding.{shows-refusal, shows-tape}
+use Rattle.filter.specs.Response.{settings}
 use borrow.Author.Needs.{needs}
 use Rattle.filter.proofs.response.answer.Statement.{statement}
 use Rattle.filter.proofs.response.answer.Tie as tie
@@ -27,7 +28,7 @@ same-length c = search needs
 
 returns : tie.Need-returns
 returns c = let a = c .before .before .before .before .before .before .before .before .before .before .before .before .before .before .before .before .before .args in
-    shows-refusal (record { convention = a .convention }) (a .tape .now) _ _ (a .out .now) (search needs) (search needs) (c .before .before .before .before .before .before .before .before .before .before .before .before .before .before .before .before .before .pre) (c .before .before .before .before .before .before .before .before .before .before .before .clean .result) (c .before .before .before .before .before .before .before .before .before .before .before .clean .ensures)
+    shows-refusal (settings (a .convention)) (a .tape .now) _ _ (a .out .now) (search needs) (search needs) (c .before .before .before .before .before .before .before .before .before .before .before .before .before .before .before .before .before .pre) (c .before .before .before .before .before .before .before .before .before .before .before .clean .result) (c .before .before .before .before .before .before .before .before .before .before .before .clean .ensures)
     (c .before .before .before .before .before .number .given .1) (c .before .before .put-refusal .ensures)
 
 same-length-2 : tie.Need-same-length-2
@@ -35,7 +36,7 @@ same-length-2 c = search needs
 
 returns-2 : tie.Need-returns-2
 returns-2 c = let a = c .before .before .before .before .before .before .before .before .before .before .before .before .before .args in
-    shows-tape (record { convention = a .convention }) (a .tape .now) _ _ (a .out .now) (search needs) (search needs) (c .before .before .before .before .before .before .before .before .before .before .before .before .before .pre) (c .before .before .before .before .before .before .before .clean .result) (c .before .before .before .before .before .before .before .clean .ensures)
+    shows-tape (settings (a .convention)) (a .tape .now) _ _ (a .out .now) (search needs) (search needs) (c .before .before .before .before .before .before .before .before .before .before .before .before .before .pre) (c .before .before .before .before .before .before .before .clean .result) (c .before .before .before .before .before .before .before .clean .ensures)
     (c .before .f .given .1)
 
 pub answer-spec : {M : Type 1} → statement M

@@ -14,26 +14,26 @@ same-length c = search needs
 returns : tie.Need-returns
 returns c = responds-none (c .before .before .before .before .before .before .before .args .input .now) (c .before .before .before .before .if1 .taken) (c .before .before .put-refusal .ensures)
 
-shared-slice-read-answer : tie.Need-shared-slice-read-answer
-shared-slice-read-answer c = search needs
+shared-slice-read-answer-front : tie.Need-shared-slice-read-answer-front
+shared-slice-read-answer-front c = search needs
 
-sub-answer : tie.Need-sub-answer
-sub-answer c = search needs
+sub-answer-front : tie.Need-sub-answer-front
+sub-answer-front c = search needs
 
-part-answer-start : tie.Need-part-answer-start
-part-answer-start c = search needs
+part-answer-front-start : tie.Need-part-answer-front-start
+part-answer-front-start c = search needs
 
-part-answer-end : tie.Need-part-answer-end
-part-answer-end c = search needs
+part-answer-front-end : tie.Need-part-answer-front-end
+part-answer-front-end c = search needs
 
-answer-requires : tie.Need-answer-requires
-answer-requires c κs = search needs
+answer-front-requires : tie.Need-answer-front-requires
+answer-front-requires c κs = search needs
 
 same-length-2 : tie.Need-same-length-2
 same-length-2 c = search needs
 
 returns-2 : tie.Need-returns-2
-returns-2 c = responds-some (c .before .before .before .before .before .before .before .before .before .args .input .now) (c .before .before .before .before .before .before .if1 .left) (to-end 1 (c .before .before .before .before .before .before .before .before .before .args .input .now)) (c .before .before .answer .ensures)
+returns-2 c = responds-some (c .before .before .before .before .before .before .before .before .before .args .input .now) (c .before .before .before .before .before .before .if1 .left) (to-end 1 (c .before .before .before .before .before .before .before .before .before .args .input .now)) (c .before .before .answer-front .ensures)
 
 pub respond-spec : {M : Type 1} → statement M
 respond-spec =
@@ -42,10 +42,10 @@ respond-spec =
     put-refusal-requires
     same-length
     returns
-    shared-slice-read-answer
-    sub-answer
-    part-answer-start
-    part-answer-end
-    answer-requires
+    shared-slice-read-answer-front
+    sub-answer-front
+    part-answer-front-start
+    part-answer-front-end
+    answer-front-requires
     same-length-2
     returns-2)

@@ -25,11 +25,8 @@ returns-2 c = short-b _ _ _ _ (omega (arith, c .before .before .before .before .
 returns-3 : tie.Need-returns-3
 returns-3 c = short-o _ _ _ _ (omega (arith, c .before .before .before .before .before .number .ensures)) (omega (arith, c .before .before .before .before .number2 .ensures)) (omega (arith, c .before .before .before .number3 .ensures))
 
-number-requires-4 : tie.Need-number-requires-4
-number-requires-4 c κs = search needs
-
-cast-convention : tie.Need-cast-convention
-cast-convention c = search needs
+settings-requires : tie.Need-settings-requires
+settings-requires c κs = search needs
 
 tape-of-requires : tie.Need-tape-of-requires
 tape-of-requires c κs = search needs
@@ -72,7 +69,7 @@ returns-4 c =
     let k = c .before .before .before .before .before .before .before .before .before .before in
     let t = k .before .before .before .before .before in
     made _ _ _ _ (t .before .before .before .before .before .before .number .ensures) (t .before .before .before .before .before .number2 .ensures)
-    (t .before .before .before .before .number3 .ensures) (t .number4 .ensures) (k .before .before .before .before .tape-of .ensures) (omega arith) (omega arith) (omega arith)
+    (t .before .before .before .before .number3 .ensures) (t .settings .ensures) (k .before .before .before .before .tape-of .ensures) (omega arith) (omega arith) (omega arith)
     (k .clean .ensures .0) (c .is-right .ensures)
 
 pub agrees-in-spec : {M : Type 1} → statement M
@@ -85,8 +82,7 @@ agrees-in-spec =
     returns
     returns-2
     returns-3
-    number-requires-4
-    cast-convention
+    settings-requires
     tape-of-requires
     slice-relend-prefix-clean
     slice-aggregate-clean

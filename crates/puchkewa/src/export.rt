@@ -1,7 +1,15 @@
-// The entry for C and Rust (include/puchkewa.h): the reply as eight numbers.
-use crate::entry::Reply;
-use crate::entry::clean;
-ghost use Rattle.clean.specs.Replies.{exported, Cleans};
+// The entries for C and Rust (include/puchkewa.h): settings and answers as structs of numbers, by value.
+use clean::Reply;
+use clean::clean;
+use lines::rules::Rules;
+ghost use Rattle.clean.specs.Replies.{Cleans};
+ghost use Rattle.puchkewa.specs.Exports.{settings-of, exported};
+
+// The settings of a call.
+#[repr(C)]
+pub struct Settings {
+    pub convention: u8,
+}
 
 // `refusal` is 0 when finished, else the number of the question that refused, at `place`; then all other numbers are 0.
 #[repr(C)]
@@ -16,18 +24,23 @@ pub struct Report {
     pub cut: u64,
 }
 
-// Cleans the listing of a tape under a convention, as `clean` does.
+// Cleans the listing of a tape, as `clean` does.
 #[no_mangle]
 pub extern "C" fn puchkewa_clean(
-    convention: u8,
+    settings: Settings,
     tape: &[u8],
     work_a: &mut [u8],
     work_b: &mut [u8],
     out: &mut [u8],
 ) -> Report
-    ensures { λ r. ⌜ Cleans (record { convention = convention }) (now (tape .entry)) (now («work_a» .entry)) (now («work_b» .entry)) (now (out .entry)) (now («work_a» .exit)) (now («work_b» .exit)) (now (out .exit)) (exported r) ⌝ }
+    ensures { λ r. ⌜ Cleans (settings-of settings)
+        (now (tape .entry)) (now («work_a» .entry)) (now («work_b» .entry)) (now (out .entry))
+        (now («work_a» .exit)) (now («work_b» .exit)) (now (out .exit)) (exported r) ⌝ }
 {
-    match clean(convention, tape, work_a, work_b, out) {
+    let rules = Rules {
+        convention: settings.convention,
+    };
+    match clean(rules, tape, work_a, work_b, out) {
         Reply::Refused { number, place } => Report {
             refusal: number,
             place: place as u64,

@@ -1,7 +1,7 @@
--- `clean::export::puchkewa_clean` meets its contract: what `clean` says of its answer. Assumes nothing.
+-- `puchkewa::export::puchkewa_clean` meets its contract: what `clean` says of its answer. Assumes nothing.
 use Rattle.clean.proofs.Replying.{same-reply}
-use Rattle.clean.proofs.export.puchkewa_clean.Statement.{statement}
-use Rattle.clean.proofs.export.puchkewa_clean.Tie as tie
+use Rattle.puchkewa.proofs.export.puchkewa_clean.Statement.{statement}
+use Rattle.puchkewa.proofs.export.puchkewa_clean.Tie as tie
 
 clean-requires : tie.Need-clean-requires
 clean-requires c κs = tt
