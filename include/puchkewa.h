@@ -16,10 +16,10 @@ extern "C" {
 #endif
 
 /* The version of the interface and of what it does: a change of either changes it. */
-#define PUCHKEWA_VERSION "0.2.0"
+#define PUCHKEWA_VERSION "0.3.0"
 
 /* The least that each work area and the output must have, in bytes. 54,785 bytes are enough for the output of every tape. */
-#define PUCHKEWA_WORK 65536
+#define PUCHKEWA_WORK 49152
 #define PUCHKEWA_OUTPUT 54785
 
 /* The calling convention of the listed code: which registers a call overwrites. */
@@ -39,7 +39,7 @@ struct puchkewa_settings {
 enum puchkewa_refusal {
     PUCHKEWA_FINISHED = 0,           /* nothing was refused */
     PUCHKEWA_BAD_CONVENTION = 1,     /* the convention is not 0, 1 or 2 */
-    PUCHKEWA_TOO_LITTLE_ROOM = 2,    /* a work area has fewer than 65,536 bytes, or the output fewer than 54,785 */
+    PUCHKEWA_TOO_LITTLE_ROOM = 2,    /* a work area has fewer than 49,152 bytes, or the output fewer than 54,785 */
     PUCHKEWA_NO_COMMAND = 3,         /* the tape ends where a command must begin, or the byte there is no command */
     PUCHKEWA_CUT_OFF = 4,            /* the command's operand or text runs past the end of the tape */
     PUCHKEWA_TOKEN_BEFORE_LINE = 5,  /* a token before any line */
@@ -70,7 +70,7 @@ struct puchkewa_report {
  * out           the output: out_length bytes, at least PUCHKEWA_OUTPUT.
  *
  * When finished, the first `length` bytes of the output are the tape of the cleaned listing and its other bytes are as before; the first
- * 65,536 bytes of each work area are zero and its other bytes as before. When refused, all counts are 0 and nothing that was lent is changed.
+ * 49,152 bytes of each work area are zero and its other bytes as before. When refused, all counts are 0 and nothing that was lent is changed.
  *
  * The tape, both work areas and the output must not overlap, and no pointer may be null (for an empty tape pass any valid pointer and 0). */
 struct puchkewa_report puchkewa_clean(struct puchkewa_settings settings,

@@ -6,7 +6,7 @@ use crate::probe;
 use crate::pseudo::PseudoLine;
 
 pub const MOST_TAPE: usize = 65_536;
-pub const WORK: usize = 65_536;
+pub const WORK: usize = 49_152;
 pub const OUTPUT: usize = 54_785;
 
 /// The reply in eight numbers, as the library gives it.

@@ -373,6 +373,8 @@ pub fn case(seed: u64, number: u64) -> Input {
     let lent = match r.below(100) {
         0 => [WORK - 1 + r.below(2), WORK - 1 + r.below(2), OUTPUT - 1 + r.below(2)],
         1..=9 => [WORK + r.below(100), WORK + r.below(100), OUTPUT + r.below(100)],
+        // around the figure of before request M-109
+        10 => [65_536 - 1 + r.below(3), 65_536 - 1 + r.below(3), OUTPUT + r.below(2)],
         _ => ENOUGH,
     };
     Input { convention, tape, lent }

@@ -7,7 +7,7 @@ use mathlib.Core.List.{List, [], _∷_}
 use Rattle.reference.specs.Listing.{Listing}
 use Rattle.reference.specs.Rules.{Rules}
 use Rattle.reference.specs.Questions.{Totals, Answer, Refused, Passed, ask, read-command, read-from, read}
-use Rattle.reference.specs.Reply.{Reply, reply}
+use Rattle.reference.specs.Reply.{Reply, reply-by, reply}
 use Rattle.reference.proofs.Cases.{by-if}
 use Rattle.reference.proofs.Limits.{All}
 use Rattle.reference.proofs.Reading.{refused-passed, by-passed}
@@ -40,7 +40,7 @@ read-number (suc fuel) tape at t lines {n} {p} =
     (λ a u. by-if (λ (x : Answer Listing). x ≡ Refused n p → OfEight n) (λ ends e. absurd (refused-passed (sym e))) (λ goes. read-number fuel tape _ _ _))
 
 pub refused-number : (rules : Rules) (tape : List ℕ) (work-a work-b output : ℕ) {n p : ℕ} → reply rules tape work-a work-b output ≡ Refused n p → OfEight n
-unfolding reply read
+unfolding reply-by read
 refused-number rules tape work-a work-b output {n} {p} =
     asked-number 0 _ _ (omega arith, (omega arith, tt))
     (by-passed (λ (x : Reply). x ≡ Refused n p → OfEight n)

@@ -7,8 +7,8 @@ use mathlib.Core.List.{List, [], _∷_}
 use lib.ListN.{length}
 use borrow.Author.Tests.{leb-true}
 use Rattle.reference.specs.Rules.{Rules}
-use Rattle.reference.specs.Questions.{is-convention, has-room, Answer, Refused, Passed, let-passed_then_, read}
-use Rattle.reference.specs.Reply.{Reply, Report, reply, output-after, work-after, report}
+use Rattle.reference.specs.Questions.{is-convention, has-room-by, has-room, Answer, Refused, Passed, let-passed_then_, read}
+use Rattle.reference.specs.Reply.{Reply, Report, reply-by, reply, output-after, work-after, report}
 use Rattle.reference.proofs.Cases.{both}
 use Rattle.reference.proofs.Reading.{Yes, ask-yes, let-refused, let-is}
 use Rattle.reference.proofs.Guarantee.{demand3-tape}
@@ -66,7 +66,7 @@ module _ (rules : Rules) (tape work-a work-b out : List ℕ) where
   module _ {n : ℕ} (e : n ≡ first-no (door rules (length work-a) (length work-b) (length out))) where
     -- question 1 or 2 refuses the call
     pub refused-at-door : (n ≡ 0 → ⊥) → Promise work-a work-b out (Said.Refused n 0)
-    unfolding reply
+    unfolding reply-by
     refused-at-door z = refused (ask-number 0 (door rules (length work-a) (length work-b) (length out)) _ z (sym e))
 
     module _ (z : n ≡ 0) where
@@ -74,7 +74,7 @@ module _ (rules : Rules) (tape work-a work-b out : List ℕ) where
       open-door = none-no _ (omega arith, (omega arith, tt)) (sym e ∙ z)
 
       answer-is : answer ≡ (let-passed (read tape) then λ lines. cleaned rules lines)
-      unfolding reply
+      unfolding reply-by
       answer-is = ask-yes 0 (door rules (length work-a) (length work-b) (length out)) _ open-door
 
       -- a later question refuses the tape
@@ -83,7 +83,7 @@ module _ (rules : Rules) (tape work-a work-b out : List ℕ) where
 
       -- none does
       pub cleanable : Accepted tape → Cleanable tape work-a work-b out
-      unfolding has-room
+      unfolding has-room-by
       cleanable a =
           let room = both (open-door .1 .0) in
           record {

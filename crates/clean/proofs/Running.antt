@@ -6,7 +6,7 @@ use native.Mathlib.Nat.{le-trans, le-of-eq}
 use mathlib.Core.Path.{_≡_, refl, sym, ap, _∙_}
 use mathlib.Core.List.{List, [], _∷_, _++_, map}
 use lib.ListN.{length, drop, take, length-map, replicate}
-use lib.Seq.{length-take-le, length-front, drop-append-add, drop-drop}
+use lib.Seq.{length-take-le, length-front, drop-at}
 use Rattle.reference.specs.Text.{Text}
 use Rattle.reference.specs.Listing.{Token, Listing}
 use Rattle.reference.specs.Rules.{Rules}
@@ -34,7 +34,7 @@ use Rattle.tables.specs.Tables.{Loaded}
 use Rattle.tables.specs.Writing.{Wrote}
 use Rattle.tables.proofs.loading.Loaded.{loaded-limits}
 use Rattle.clean.specs.Replies.{finished-report, cleaned}
-use Rattle.clean.specs.Cleaning.{TEXT, Loadable, Written}
+use Rattle.clean.specs.Cleaning.{Loadable, Written}
 
 -- ---- the limits of a tape's listing, without its addresses
 
@@ -90,7 +90,7 @@ module _ {tape tokens lines addresses : List ℕ} {t : Totals} (l : Loaded tape 
   loaded-is : read tape ≡ Passed (listing-now tape area tokens lines (start t) addresses)
   loaded-is = l .listing (take 0 area)
 
-  pub loadable : (area2 : Text) → TEXT ≤ length area → TEXT ≤ length area2 → length tokens ≡ 2048 → length lines ≡ 256
+  pub loadable : (area2 : Text) → WORK ≤ length area → WORK ≤ length area2 → length tokens ≡ 2048 → length lines ≡ 256
       → Loadable tape area tokens lines area2 (start t)
   loadable area2 a b h k =
       let few = loaded-limits l in
@@ -134,26 +134,18 @@ module _ {tape tokens lines addresses : List ℕ} {t : Totals} (l : Loaded tape 
 
 -- ---- a work area, worked in at its front and wiped
 
-past : {A : Type 0} (m n : ℕ) (work front : List A) → n ≤ m → length front ≡ n → drop m (front ++ drop n work) ≡ drop m work
-past m n work front h e =
-    let s : m ≡ length front + (m - n) = omega arith in
-    ap (λ (k : ℕ). drop k (front ++ drop n work)) s
-    ∙ drop-append-add front (drop n work) (m - n)
-    ∙ drop-drop (m - n) n work
-    ∙ ap (λ (k : ℕ). drop k work) (let z : n + (m - n) ≡ m = omega arith in z)
-
--- the front has n bytes, and m are wiped
-module _ (work : List ℕ) (h : WORK ≤ length work) {n : ℕ} (u : n ≡ TEXT) where
+-- n bytes at its front are worked in, and wiped
+module _ (work : List ℕ) (h : WORK ≤ length work) {n : ℕ} (u : n ≡ WORK) where
   pub front-length : length (take n work) ≡ n
   front-length = length-take-le n work (omega arith)
 
-  pub front-fits : TEXT ≤ length (take n work)
+  pub front-fits : WORK ≤ length (take n work)
   front-fits = omega (arith, front-length)
 
-  pub wiped : {m : ℕ} → m ≡ WORK → (front : List ℕ) → length front ≡ length (take n work)
-      → (c : Cleaned) {work′ : List ℕ} → work′ ≡ replicate m 0 ++ drop m (front ++ drop n work) → work′ ≡ work-after (Passed c) work
+  pub wiped : (front : List ℕ) → length front ≡ length (take n work)
+      → (c : Cleaned) {work′ : List ℕ} → work′ ≡ replicate n 0 ++ drop n (front ++ drop n work) → work′ ≡ work-after (Passed c) work
   unfolding work-after
-  wiped {m} z front k c e =
+  wiped front k c e =
       e
-      ∙ ap (λ (s : List ℕ). replicate m 0 ++ s) (past m n work front (omega arith) (k ∙ front-length))
-      ∙ ap (λ (i : ℕ). replicate i 0 ++ drop i work) z
+      ∙ ap (λ (s : List ℕ). replicate n 0 ++ s) (drop-at front (drop n work) n (k ∙ front-length))
+      ∙ ap (λ (i : ℕ). replicate i 0 ++ drop i work) u

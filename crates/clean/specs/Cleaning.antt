@@ -11,25 +11,21 @@ use Rattle.build.specs.declared.used.Size.{Size}
 use Rattle.join.specs.Current.{bare-now, Current}
 use Rattle.tape.specs.Questions.{Accepted}
 
--- how many bytes of a work area are used
-abbrev pub TEXT : ℕ
-TEXT = 49152
-
 -- A listing within the limits stands in the first set, and what is lent has room for its rounds; the table of token words is no larger than a
 -- line word can name.
 pub record Loadable (tape area : Text) (tokens lines : List ℕ) (area2 : Text) (at : Size) : Type 0 where
   pub current : Current tape area tokens lines at
   pub limits : Limits (bare-now tape area tokens lines at)
-  pub first-text : TEXT ≤ length area
+  pub first-text : WORK ≤ length area
   pub first-words : 1024 ≤ length tokens
   pub words-short : length tokens ≤ 65536
-  pub second-text : TEXT ≤ length area2
+  pub second-text : WORK ≤ length area2
 
 -- an accepted tape, and room to work and for the output
 pub record Writable (tape area area2 out : List ℕ) : Type 0 where
   pub accepted : Accepted tape
-  pub first-text : TEXT ≤ length area
-  pub second-text : TEXT ≤ length area2
+  pub first-text : WORK ≤ length area
+  pub second-text : WORK ≤ length area2
   pub room : OUTPUT ≤ length out
 
 -- the report and the output are those of a reply of the definition

@@ -10,7 +10,7 @@ ghost use Rattle.reference.specs.Questions.{WORK, Passed, read};
 ghost use Rattle.lines.specs.Rules.{rules-of};
 ghost use Rattle.rounds.specs.Runs.{Ran};
 ghost use Rattle.clean.specs.Replies.{finished-report, cleaned, Leaves};
-ghost use Rattle.clean.specs.Cleaning.{TEXT, Loadable, Writable, Written, Cleanable};
+ghost use Rattle.clean.specs.Cleaning.{Loadable, Writable, Written, Cleanable};
 
 // What a cleaning did: the output's length, the attempts of each round, the lines removed and the results cut.
 pub struct Finished {
@@ -91,19 +91,12 @@ fn written(rules: Rules, tape: &[u8], area: &mut [u8], area2: &mut [u8], out: &m
     }
 }
 
-// How many bytes of each work area are used, and how many are zero afterwards. They are functions and no constants: a proof then has each number as
-// an equation, and no check counts up to it.
-
-fn used_bytes() -> usize
-    ensures { λ r. ⌜ r ≡ TEXT ⌝ }
-{
-    49152
-}
-
-fn wiped_bytes() -> usize
+// How many bytes of each work area are used, and are zero afterwards. It is a function and no constant: a proof then has the number as an equation, and
+// no check counts up to it.
+fn work_bytes() -> usize
     ensures { λ r. ⌜ r ≡ WORK ⌝ }
 {
-    65536
+    49152
 }
 
 // Cleans a tape that passed all questions, and wipes both work areas.
@@ -117,10 +110,9 @@ pub fn finish(
     requires { ⌜ Cleanable (now tape) (now «work_a») (now «work_b») (now out) ⌝ }
     ensures { λ r. ⌜ ((input : Listing) → read (now (tape .entry)) ≡ Passed input → Leaves (cleaned (rules-of rules) input) (now («work_a» .entry)) (now («work_b» .entry)) (now (out .entry)) (now («work_a» .exit)) (now («work_b» .exit)) (now (out .exit)) (finished-report r)) ⌝ }
 {
-    let used = used_bytes();
-    let wiped = wiped_bytes();
-    let r = written(rules, tape, &mut work_a[..used], &mut work_b[..used], out);
-    wipe(work_a, wiped);
-    wipe(work_b, wiped);
+    let size = work_bytes();
+    let r = written(rules, tape, &mut work_a[..size], &mut work_b[..size], out);
+    wipe(work_a, size);
+    wipe(work_b, size);
     r
 }

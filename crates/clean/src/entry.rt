@@ -16,7 +16,7 @@ pub enum Reply {
 }
 
 // Cleans the listing of a tape under the settings. A refusal changes nothing that was lent; otherwise the output is the new tape, and the
-// first 65,536 bytes of both work areas are zero afterwards.
+// first 49,152 bytes of both work areas are zero afterwards.
 pub fn clean(
     rules: Rules,
     tape: &[u8],

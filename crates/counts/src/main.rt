@@ -49,8 +49,8 @@ fn print_reply(r: Reply) {
 }
 
 fn count(convention: u8, tape: &[u8]) {
-    let mut work_a = [0u8; 65536];
-    let mut work_b = [0u8; 65536];
+    let mut work_a = [0u8; 49152];
+    let mut work_b = [0u8; 49152];
     let mut out = [0u8; 54785];
     let rules = Rules { convention };
     print_reply(clean::clean(rules, tape, &mut work_a, &mut work_b, &mut out));

@@ -29,8 +29,8 @@ fn answer(convention: u8, tape: &[u8], out: &mut [u8]) -> usize
     ensures { λ r. ⌜ Shows (shown (reply (settings convention) (now (tape .entry)) WORK WORK OUTPUT))
         (now (out .entry)) (now (out .exit)) r ⌝ }
 {
-    let mut work_a = [0u8; 65536];
-    let mut work_b = [0u8; 65536];
+    let mut work_a = [0u8; 49152];
+    let mut work_b = [0u8; 49152];
     let rules = Rules { convention };
     match clean(rules, tape, &mut work_a, &mut work_b, out) {
         Reply::Refused { number, place } => put_refusal(number, place as u64, out),

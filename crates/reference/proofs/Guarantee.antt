@@ -21,8 +21,8 @@ use Rattle.reference.specs.Run.{run, last-of, listings, finished, counts
 use Rattle.reference.specs.Claim.{size, token-count, place}
 use Rattle.reference.specs.Demand.{Accepted, Within, Each, Steps, Demand3}
 use Rattle.reference.specs.Tape.{write}
-use Rattle.reference.specs.Questions.{WORK, OUTPUT, has-room, Refused, Passed, read}
-use Rattle.reference.specs.Reply.{Cleaned, Reply, reply, output-after, work-after}
+use Rattle.reference.specs.Questions.{WORK, OUTPUT, has-room-by, Refused, Passed, read}
+use Rattle.reference.specs.Reply.{Cleaned, Reply, reply-by, reply, output-after, work-after}
 use Rattle.reference.proofs.Cases.{both, fails}
 use Rattle.reference.proofs.Rounds.{demand3}
 use Rattle.reference.proofs.Reading.{ask-passed, by-passed, refused-passed, passed-inj}
@@ -93,7 +93,7 @@ pub record Answered (rules : Rules) (tape : List ℕ) (work-a work-b output : �
 
 pub answered : (rules : Rules) (tape : List ℕ) (work-a work-b output : ℕ) (c : Cleaned) → reply rules tape work-a work-b output ≡ Passed c
     → Answered rules tape work-a work-b output c
-unfolding reply has-room
+unfolding reply-by has-room-by
 answered rules tape work-a work-b output c e =
     let r = ask-passed 0 _ _ c e in
     let room = both (r .0 .1 .0) in

@@ -21,3 +21,4 @@ pub mod Limits
 pub mod Tapes
 pub mod Written
 pub mod Guarantee
+pub mod WorkSpace

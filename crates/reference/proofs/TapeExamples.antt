@@ -46,8 +46,8 @@ pub record TapeExamples : Type 0 where
   pub address :
       read (tape "01 01 02 00 00 00 00 00 80 3F FF") ≡ Passed (record { address = some 9223372036854776321; indent = 63; tokens = [] } ∷ [])
   pub convention : reply (record { convention = 3 }) [] 0 0 0 ≡ Refused 1 0
-  pub work : reply (record { convention = 2 }) [] 65536 65535 54785 ≡ Refused 2 0
-  pub output : reply (record { convention = 0 }) [] 65536 65536 54784 ≡ Refused 2 0
+  pub work : reply (record { convention = 2 }) [] 49152 49151 54785 ≡ Refused 2 0
+  pub output : reply (record { convention = 0 }) [] 49152 49152 54784 ≡ Refused 2 0
   pub empty : refuses [] 3 0
   pub no-end : refuses (tape "02 00") 3 2
   pub no-command : refuses (tape "02 00 18 01 00 66 FF") 3 2
@@ -64,7 +64,7 @@ pub record TapeExamples : Type 0 where
   pub too-many-lines : refuses (blank-lines 257) 6 512
   pub untouched : (output-after (Refused 3 0) (7 ∷ []) ≡ 7 ∷ []) × (work-after (Refused 3 0) (7 ∷ []) ≡ 7 ∷ [])
   pub written : output-after done (7 ∷ 8 ∷ 9 ∷ []) ≡ 1 ∷ 0xFF ∷ 9 ∷ []
-  pub zeroed : work-after done (replicate 65538 7) ≡ replicate 65536 0 ++ (7 ∷ 7 ∷ [])
+  pub zeroed : work-after done (replicate 49154 7) ≡ replicate 49152 0 ++ (7 ∷ 7 ∷ [])
   pub refusal :
       report (Refused 3 4) ≡ record { refusal = 3; place = 4; length = 0; attempts₁ = 0; attempts₂ = 0; attempts₃ = 0; removed = 0; cut = 0 }
   pub counts : report done ≡ record { refusal = 0; place = 0; length = 2; attempts₁ = 3; attempts₂ = 4; attempts₃ = 5; removed = 6; cut = 7 }

@@ -13,7 +13,7 @@ use Rattle.reference.specs.Tape.{Command, new-line, new-token, end, comm
 
 -- what every work area has at least, and every output
 abbrev pub WORK : ℕ
-WORK = 65536
+WORK = 49152
 
 abbrev pub OUTPUT : ℕ
 OUTPUT = 54785
@@ -22,9 +22,13 @@ OUTPUT = 54785
 unfoldable pub is-convention : Rules → Bool
 is-convention rules = leb (rules .convention) 2
 
--- 2. Are both work areas at least 65,536 bytes and the output at least 54,785?
-unfoldable pub has-room : ℕ → ℕ → ℕ → Bool
-has-room work-a work-b output = leb WORK work-a && leb WORK work-b && leb OUTPUT output
+-- 2. Are both work areas at least 49,152 bytes (M-109) and the output at least 54,785?
+-- The figure for the work areas is a parameter, so that it can be said what another one would change (proofs/WorkSpace.antt).
+unfoldable pub has-room-by : ℕ → ℕ → ℕ → ℕ → Bool
+has-room-by figure work-a work-b output = leb figure work-a && leb figure work-b && leb OUTPUT output
+
+abbrev pub has-room : ℕ → ℕ → ℕ → Bool
+has-room = has-room-by WORK
 
 -- Then for each command from the left: `rest` is the tape from its offset on, `c` the command there, `t` the totals of the commands before it.
 

@@ -5,7 +5,7 @@ use lib.ListN.{length, drop, replicate}
 use Rattle.reference.specs.Rules.{Rules}
 use Rattle.reference.specs.Run.{run, finished, Counts, counts}
 use Rattle.reference.specs.Tape.{write}
-use Rattle.reference.specs.Questions.{WORK, is-convention, has-room, Answer, Refused, Passed, ask, let-passed_then_, read}
+use Rattle.reference.specs.Questions.{WORK, is-convention, has-room-by, Answer, Refused, Passed, ask, let-passed_then_, read}
 
 -- the tape of the finished listing, and the counts of the run
 pub record Cleaned : Type 0 where
@@ -15,18 +15,21 @@ pub record Cleaned : Type 0 where
 abbrev pub Reply : Type 0
 Reply = Answer Cleaned
 
--- the settings, the tape, and how many bytes the two work areas and the output have
-unfoldable pub reply : Rules → List ℕ → ℕ → ℕ → ℕ → Reply
-reply rules tape work-a work-b output =
-    ask 0 ((1, is-convention rules) ∷ (2, has-room work-a work-b output) ∷ [])
+-- the settings, the tape, and how many bytes the two work areas and the output have; before them the figure that the work areas are asked for
+unfoldable pub reply-by : ℕ → Rules → List ℕ → ℕ → ℕ → ℕ → Reply
+reply-by figure rules tape work-a work-b output =
+    ask 0 ((1, is-convention rules) ∷ (2, has-room-by figure work-a work-b output) ∷ [])
     (let-passed (read tape) then λ lines. Passed (record { tape = write (finished rules lines); counts = counts (run rules lines) }))
+
+abbrev pub reply : Rules → List ℕ → ℕ → ℕ → ℕ → Reply
+reply = reply-by WORK
 
 -- A refusal changes nothing lent. Otherwise the output is the new tape, and past that as before.
 unfoldable pub output-after : Reply → List ℕ → List ℕ
 output-after (Refused number place) output = output
 output-after (Passed c) output = c .tape ++ drop (length (c .tape)) output
 
--- and the first 65,536 bytes of each work area are zero, the rest as before
+-- and the first 49,152 bytes (M-109) of each work area are zero, the rest as before
 unfoldable pub work-after : Reply → List ℕ → List ℕ
 work-after (Refused number place) work = work
 work-after (Passed c) work = replicate WORK 0 ++ drop WORK work

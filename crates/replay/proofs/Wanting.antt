@@ -12,7 +12,7 @@ use Rattle.replay.specs.Frames.{output-in}
 use Rattle.replay.specs.Answers.{is-number, work-wanted, out-wanted, all-right, is-right}
 
 module _ (list : List ℕ) {b : Bool} (e : b ≡ is-number list 6 0) where
-  pub wiped : (area : List ℕ) {area′ : List ℕ} → b ≡ true → area′ ≡ replicate 65536 0 ++ drop 65536 area → area′ ≡ work-wanted list area
+  pub wiped : (area : List ℕ) {area′ : List ℕ} → b ≡ true → area′ ≡ replicate 49152 0 ++ drop 49152 area → area′ ≡ work-wanted list area
   unfolding work-wanted
   wiped area t w = w ∙ sym (if-true _ _ (sym e ∙ t))
 

@@ -26,9 +26,9 @@ abbrev pub is-wanted : List ℕ → Report → Bool
 is-wanted list r =
     is-report list (r .refusal) (r .place) (r .length) (r .cut) && are-counts list (r .attempts₁) (r .attempts₂) (r .attempts₃) (r .removed)
 
--- a work area afterwards: zero up to 65,536, unless the frame wants a refusal
+-- a work area afterwards: zero up to 49,152, unless the frame wants a refusal
 unfoldable pub work-wanted : List ℕ → List ℕ → List ℕ
-work-wanted list area = if is-number list 6 0 then replicate 65536 0 ++ drop 65536 area else area
+work-wanted list area = if is-number list 6 0 then replicate 49152 0 ++ drop 49152 area else area
 
 -- the output afterwards: what the frame wants, if there is room for it, and then what it held
 unfoldable pub out-wanted : List ℕ → List ℕ → List ℕ

@@ -37,7 +37,7 @@ const LONG_WORK: usize = 65600;
 const LONG_OUT: usize = 54850;
 
 // How many bytes of a work area a finished call leaves zero.
-const WORK: usize = 65536;
+const WORK: usize = 49152;
 
 fn print(s: &[u8]) {
     io::write_all(STDOUT_FILENO, s);
@@ -92,7 +92,7 @@ fn is_wanted(list: &[u8], r: Reply) -> bool
 // Puts what a work area holds afterwards in the place of what it held.
 fn want_work(list: &[u8], area: &mut [u8])
     requires { ⌜ Whole (now list) ⌝ }
-    requires { ⌜ 65536 ≤ length (now area) ⌝ }
+    requires { ⌜ 49152 ≤ length (now area) ⌝ }
     ensures { λ _. ⌜ now (area .exit) ≡ work-wanted (now (list .entry)) (now (area .entry)) ⌝ }
 {
     if is_number(list, REFUSAL, 0) {

@@ -41,7 +41,7 @@ fn print_meaning(number: u64) {
             print(b"the convention is not 0, 1 or 2\n");
         }
         2 => {
-            print(b"a work area has fewer than 65,536 bytes, or the output fewer than 54,785\n");
+            print(b"a work area has fewer than 49,152 bytes, or the output fewer than 54,785\n");
         }
         3 => {
             print(

@@ -228,10 +228,10 @@ pub fn asked(rules: Rules, work_a: usize, work_b: usize, output: usize) -> u64
     if 2 < rules.convention {
         return 1;
     }
-    if work_a < 65536 {
+    if work_a < 49152 {
         return 2;
     }
-    if work_b < 65536 {
+    if work_b < 49152 {
         return 2;
     }
     if output < 54785 {

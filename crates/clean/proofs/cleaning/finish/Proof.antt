@@ -5,26 +5,24 @@ use Rattle.clean.proofs.Running.{front-length, front-fits, wiped}
 use Rattle.clean.proofs.cleaning.finish.Statement.{statement}
 use Rattle.clean.proofs.cleaning.finish.Tie as tie
 
-used-bytes-requires : tie.Need-used-bytes-requires
-used-bytes-requires c κs = search needs
-
-wiped-bytes-requires : tie.Need-wiped-bytes-requires
-wiped-bytes-requires c κs = search needs
+work-bytes-requires : tie.Need-work-bytes-requires
+work-bytes-requires c κs = search needs
 
 slice-relend-prefix-written : tie.Need-slice-relend-prefix-written
 slice-relend-prefix-written c = search needs
 
 slice-aggregate-written : tie.Need-slice-aggregate-written
-slice-aggregate-written c = let s = c .before .before .before .before .before .before .before in sym (front-length (s .args .work-a .now) (s .pre .room-a) (c .before .before .used-bytes .ensures))
+slice-aggregate-written c = let s = c .before .before .before .before .before .before in sym (front-length (s .args .work-a .now) (s .pre .room-a) (c .before .work-bytes .ensures))
 
 slice-relend-prefix-written-2 : tie.Need-slice-relend-prefix-written-2
 slice-relend-prefix-written-2 c = search needs
 
 slice-aggregate-written-2 : tie.Need-slice-aggregate-written-2
-slice-aggregate-written-2 c = let s = c .before .before .before .before .before .before .before .before in sym (front-length (s .args .work-b .now) (s .pre .room-b) (c .before .before .before .used-bytes .ensures))
+slice-aggregate-written-2 c = let s = c .before .before .before .before .before .before .before in sym (front-length (s .args .work-b .now) (s .pre .room-b) (c .before .before .work-bytes .ensures))
 
 written-requires : tie.Need-written-requires
-written-requires c κs = let s = c .before .before .before .before .before .before .before .before .before in let u = c .before .before .before .before .used-bytes .ensures in
+written-requires c κs = let s = c .before .before .before .before .before .before .before .before in
+    let u = c .before .before .before .work-bytes .ensures in
     record {
       accepted = s .pre .accepted;
       first-text = front-fits (s .args .work-a .now) (s .pre .room-a) u;
@@ -49,23 +47,21 @@ same-length-3 c = search needs
 
 returns : tie.Need-returns
 returns c = λ input e.
-    (let s = c .before .before .before .before .before .before .before .before .before .before .before .before .before .before .before .before .before .before .before .before .before .before .before .before in
-    let u = c .before .before .before .before .before .before .before .before .before .before .before .before .before .before .before .before .before .before .before .used-bytes .ensures in
-    let z = c .before .before .before .before .before .before .before .before .before .before .before .before .before .before .before .before .before .before .wiped-bytes .ensures in
-    let w = c .before .before .before .before .before .before .before .before .before .before .before .before .before .before .written in
+    (let w = c .before .before .before .before .before .before .before .before .before .before .before .before .before .before in
+    let s = w .before .before .before .before .before .before .before .before .before in
+    let u = w .before .before .before .before .work-bytes .ensures in
     record {
-      report-is = w .ensures input e .report-is;
-      output-is = w .ensures input e .output-is;
-      work-a-is = wiped (s .args .work-a .now) (s .pre .room-a) u z (w .last .1 .1 .0) (w .kept .1 .1 .0) _ (c .before .before .before .before .before .before .wipe .ensures);
-      work-b-is = wiped (s .args .work-b .now) (s .pre .room-b) u z (w .last .1 .1 .1 .0) (w .kept .1 .1 .1 .0) _ (c .before .before .wipe2 .ensures);
+      report-is = w .written .ensures input e .report-is;
+      output-is = w .written .ensures input e .output-is;
+      work-a-is = wiped (s .args .work-a .now) (s .pre .room-a) u (w .written .last .1 .1 .0) (w .written .kept .1 .1 .0) _ (c .before .before .before .before .before .before .wipe .ensures);
+      work-b-is = wiped (s .args .work-b .now) (s .pre .room-b) u (w .written .last .1 .1 .1 .0) (w .written .kept .1 .1 .1 .0) _ (c .before .before .wipe2 .ensures);
     })
 
 pub finish-spec : {M : Type 1} → statement M
 finish-spec =
     tie.close
     (tie.spec
-    used-bytes-requires
-    wiped-bytes-requires
+    work-bytes-requires
     slice-relend-prefix-written
     slice-aggregate-written
     slice-relend-prefix-written-2
