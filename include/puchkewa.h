@@ -8,6 +8,7 @@
 #ifndef PUCHKEWA_H
 #define PUCHKEWA_H
 
+#include <stdbool.h>
 #include <stddef.h>
 #include <stdint.h>
 
@@ -16,7 +17,7 @@ extern "C" {
 #endif
 
 /* The version of the interface and of what it does: a change of either changes it. */
-#define PUCHKEWA_VERSION "0.3.0"
+#define PUCHKEWA_VERSION "0.4.0"
 
 /* The least that each work area and the output must have, in bytes. 54,785 bytes are enough for the output of every tape. */
 #define PUCHKEWA_WORK 49152
@@ -33,6 +34,8 @@ enum puchkewa_convention {
  * version adds. */
 struct puchkewa_settings {
     uint8_t convention; /* 0, 1 or 2: enum puchkewa_convention */
+    bool settle;        /* false: at most three rounds. true: rounds until one changes nothing, at most one more than the listing has lines; one further
+                           round before the cuts would change no byte */
 };
 
 /* Why a call was refused: the first question that was answered "no". Questions 3 to 8 are asked of each command of the tape from the left. */
@@ -54,11 +57,13 @@ struct puchkewa_report {
     uint64_t refusal;    /* 0 when finished, else the number of the question that refused: enum puchkewa_refusal */
     uint64_t place;      /* of a refusal by 3 to 8: the offset in the tape of the command that was refused; otherwise 0 */
     uint64_t length;     /* the length of the new tape, at the front of the output */
-    uint64_t attempts_1; /* attempts to join a line into a later one, in the first round .. */
+    uint64_t attempts_1; /* attempts to join a line into a later one, in the first round; 0 where `settle` was set .. */
     uint64_t attempts_2; /* .. in the second, 0 if it was not run .. */
     uint64_t attempts_3; /* .. in the third, 0 if it was not run */
     uint64_t removed;    /* lines removed: the attempts that succeeded */
     uint64_t cut;        /* results of calls that were cut because nothing reads them */
+    uint64_t rounds;     /* where `settle` was set: the rounds that were made, the last included, at least 1; otherwise 0 */
+    uint64_t attempts;   /* where `settle` was set: the attempts of all rounds; otherwise 0 */
 };
 
 /* Cleans the listing of a tape.

@@ -110,13 +110,13 @@ struct Lent(Vec<u8>, Vec<u8>, Vec<u8>);
 
 impl Lent {
     fn call(&mut self, convention: u8, tape: &[u8]) -> door::Report {
-        library::clean(library::Settings { convention }, tape, &mut self.0, &mut self.1, &mut self.2)
+        library::clean(library::Settings { convention, settle: false }, tape, &mut self.0, &mut self.1, &mut self.2)
     }
 }
 
 fn one(name: &str, convention: u8, tape: &[u8]) {
     let mut lent = Lent(vec![0; WORK], vec![0; WORK], vec![0; OUTPUT]);
-    let (want, output) = door::answer(convention, tape, [WORK, WORK, OUTPUT]);
+    let (want, output) = door::answer(convention, false, tape, [WORK, WORK, OUTPUT]);
     assert_eq!(lent.call(convention, tape), want, "{name}: another reply");
     assert_eq!(lent.2[..output.len()], output, "{name}: another output");
     let lines = door::read_tape(tape).expect("an accepted tape");

@@ -1,6 +1,6 @@
 //! Compares the static library with the Rust: reply, counts, output and every lent byte.
 //!
-//!     compare run SEED COUNT      COUNT inputs of a set; prints the figures and the shortest inputs that differ
+//!     compare run SEED COUNT      COUNT inputs of a set, each with at most three rounds and until it settles; prints the figures and the shortest inputs that differ
 //!     compare answer              one input, a convention byte and a tape, from standard input: the Rust's whole answer
 //!     compare input SEED NUMBER   writes one input of a set, a convention byte and a tape, to standard output
 
@@ -38,9 +38,10 @@ fn all(s: &[u8], b: u8) -> bool {
 }
 
 /// What the library did otherwise than the Rust and document 01. The buffers hold the mark before and after.
-fn difference(input: &Input, want: &Report, tape: &[u8], lent: &mut Lent) -> Option<String> {
+fn difference(input: &Input, settle: bool, want: &Report, tape: &[u8], lent: &mut Lent) -> Option<String> {
     let [a, b, o] = input.lent;
-    let got = library::clean(library::Settings { convention: input.convention }, &input.tape, &mut lent.work_a[..a], &mut lent.work_b[..b], &mut lent.out[..o]);
+    let settings = library::Settings { convention: input.convention, settle };
+    let got = library::clean(settings, &input.tape, &mut lent.work_a[..a], &mut lent.work_b[..b], &mut lent.out[..o]);
     let wiped = if want.refusal == 0 { WORK } else { 0 };
     let n = tape.len();
     let said = if got != *want {
@@ -93,10 +94,12 @@ fn run(seed: u64, count: u64) -> bool {
     let mut refusals: BTreeMap<u64, u64> = BTreeMap::new();
     let (mut conventions, mut removed, mut cut, mut rounds) = ([0u64; 3], 0, 0, [0u64; 3]);
     let (mut with_removals, mut with_cuts, mut bytes, mut longest) = (0u64, 0u64, 0u64, 0u64);
+    let (mut fourth, mut changed_later, mut most_rounds) = (0u64, 0u64, 0u64);
     let mut wrong: Vec<(Input, String)> = Vec::new();
     for number in 0..count {
         let one = input(seed, number);
-        let (want, tape) = door::answer(one.convention, &one.tape, one.lent);
+        let (want, tape) = door::answer(one.convention, false, &one.tape, one.lent);
+        let (settled, settled_tape) = door::answer(one.convention, true, &one.tape, one.lent);
         *refusals.entry(want.refusal).or_default() += 1;
         if want.refusal == 0 {
             conventions[one.convention as usize] += 1;
@@ -109,8 +112,13 @@ fn run(seed: u64, count: u64) -> bool {
             with_cuts += (want.cut > 0) as u64;
             longest = longest.max(want.length);
         }
+        most_rounds = most_rounds.max(settled.rounds);
+        fourth += (settled.rounds > 3) as u64;
+        changed_later += (settled_tape != tape) as u64;
         bytes += one.tape.len() as u64;
-        if let Some(what) = difference(&one, &want, &tape, &mut lent) {
+        let said = difference(&one, false, &want, &tape, &mut lent)
+            .or_else(|| difference(&one, true, &settled, &settled_tape, &mut lent).map(|what| format!("settling: {what}")));
+        if let Some(what) = said {
             wrong.push((one, what));
         }
     }
@@ -120,6 +128,7 @@ fn run(seed: u64, count: u64) -> bool {
     println!("refused by question: {}", refusals.iter().map(|(k, n)| format!("{k}: {n}")).collect::<Vec<_>>().join(", "));
     println!("attempts in round 1, 2, 3: {} {} {}", rounds[0], rounds[1], rounds[2]);
     println!("lines removed: {removed}, in {with_removals} listings; results cut: {cut}, in {with_cuts}");
+    println!("settling: {fourth} made a fourth round, {changed_later} have another output than after three, at most {most_rounds} rounds");
     println!("longest output: {longest} bytes");
     println!("seconds: {:.0}", began.elapsed().as_secs_f64());
     wrong.sort_by_key(|w| w.0.tape.len());
@@ -134,7 +143,7 @@ fn answer() {
     let mut data = Vec::new();
     std::io::stdin().lock().read_to_end(&mut data).expect("standard input");
     let (convention, tape) = data.split_first().map_or((255, &[][..]), |(c, t)| (*c, t));
-    let (r, out) = door::answer(convention, &tape[..tape.len().min(MOST_TAPE)], inputs::ENOUGH);
+    let (r, out) = door::answer(convention, false, &tape[..tape.len().min(MOST_TAPE)], inputs::ENOUGH);
     if r.refusal != 0 {
         println!("refused {} {}", r.refusal, r.place);
     } else {

@@ -13,13 +13,16 @@ pub mod probe {
     #[derive(Debug, Clone, Copy, Default, PartialEq, Eq)]
     pub struct Counts {
         pub rounds: usize,
+        /// of each of the first three rounds, and of all
         pub attempts: [u64; 3],
+        pub all: u64,
         pub removed: u64,
         pub cuts: u64,
     }
 
     thread_local! {
-        static COUNTS: Cell<Counts> = const { Cell::new(Counts { rounds: 0, attempts: [0; 3], removed: 0, cuts: 0 }) };
+        static COUNTS: Cell<Counts> = const { Cell::new(Counts { rounds: 0, attempts: [0; 3], all: 0, removed: 0, cuts: 0 }) };
+        static LIMIT: Cell<usize> = const { Cell::new(3) };
     }
 
     fn change(f: impl FnOnce(&mut Counts)) {
@@ -36,7 +39,10 @@ pub mod probe {
 
     pub fn attempt(removed: bool, _lines: &[PseudoLine]) -> bool {
         change(|c| {
-            c.attempts[c.rounds - 1] += 1;
+            if let Some(n) = c.attempts.get_mut(c.rounds - 1) {
+                *n += 1;
+            }
+            c.all += 1;
             c.removed += removed as u64;
         });
         removed
@@ -44,6 +50,16 @@ pub mod probe {
 
     pub fn cut(_lines: &[PseudoLine]) {
         change(|c| c.cuts += 1);
+    }
+
+    /// How many rounds the counting copy makes at most.
+    pub fn limit() -> usize {
+        LIMIT.get()
+    }
+
+    /// From now on it makes as many as it takes, or three.
+    pub fn settle(yes: bool) {
+        LIMIT.set(if yes { usize::MAX } else { 3 });
     }
 
     /// What was counted since the last call.

@@ -9,7 +9,7 @@ pub const MOST_TAPE: usize = 65_536;
 pub const WORK: usize = 49_152;
 pub const OUTPUT: usize = 54_785;
 
-/// The reply in eight numbers, as the library gives it.
+/// The reply in ten numbers, as the library gives it.
 #[repr(C)]
 #[derive(Debug, Clone, Copy, Default, PartialEq, Eq)]
 pub struct Report {
@@ -19,6 +19,8 @@ pub struct Report {
     pub attempts: [u64; 3],
     pub removed: u64,
     pub cut: u64,
+    pub rounds: u64,
+    pub all: u64,
 }
 
 type Refusal = (u64, usize);
@@ -105,7 +107,7 @@ pub fn settings(convention: u8) -> (u32, bool) {
 }
 
 /// One call, with what is lent given by its lengths: the report and the output.
-pub fn answer(convention: u8, tape: &[u8], lent: [usize; 3]) -> (Report, Vec<u8>) {
+pub fn answer(convention: u8, settle: bool, tape: &[u8], lent: [usize; 3]) -> (Report, Vec<u8>) {
     let refused = |refusal, place| (Report { refusal, place, ..Report::default() }, Vec::new());
     if convention > 2 {
         return refused(1, 0);
@@ -118,10 +120,16 @@ pub fn answer(convention: u8, tape: &[u8], lent: [usize; 3]) -> (Report, Vec<u8>
         Ok(mut lines) => {
             let (bits, sysv) = settings(convention);
             probe::take();
+            probe::settle(settle);
             crate::counting::optimize(&crate::Binary, &mut lines, sysv, bits);
             let c = probe::take();
             let out = write_tape(&lines);
-            (Report { length: out.len() as u64, attempts: c.attempts, removed: c.removed, cut: c.cuts, ..Report::default() }, out)
+            let report = Report { length: out.len() as u64, removed: c.removed, cut: c.cuts, ..Report::default() };
+            if settle {
+                (Report { rounds: c.rounds as u64, all: c.all, ..report }, out)
+            } else {
+                (Report { attempts: c.attempts, ..report }, out)
+            }
         }
     }
 }

@@ -7,6 +7,7 @@ use crate::door::Report;
 #[derive(Clone, Copy)]
 pub struct Settings {
     pub convention: u8,
+    pub settle: bool,
 }
 
 extern "C" {

@@ -16,12 +16,13 @@ ROOTS = ["Run", "Rules", "Listing", "Text", "Opened"]
 HEAD = """use Prim.Native.Nat.{ℕ}
 use Prim.Native.String.{String}
 use mathlib.Core.Path.{_≡_, refl}
+use mathlib.Core.Bool.{false}
 use mathlib.Core.List.{List, [], _∷_}
 use mathlib.Core.Option.{Option, none, some}
 use Rattle.reference.specs.Text.{bytes}
 use Rattle.reference.specs.Listing.{Token, token, Line, Listing}
 use Rattle.reference.specs.Rules.{Rules}
-use Rattle.reference.specs.Run.{run, listings, finished, Counts, counts}
+use Rattle.reference.specs.Run.{run, listings, finished, three, Counts, counts}
 """
 
 NOTATION = HEAD + "\n" + "\n".join(f"abbrev pub {c} : String → Token\n{c} s = token {k} (bytes s)\n" for k, c in enumerate(LETTERS)) + """
@@ -29,14 +30,14 @@ abbrev pub line : Option ℕ → ℕ → List Token → Line
 line a i ts = record { address = a; indent = i; tokens = ts }
 
 abbrev pub made : ℕ → ℕ → ℕ → ℕ → ℕ → Counts
-made a b c r x = record { attempts₁ = a; attempts₂ = b; attempts₃ = c; lines-removed = r; results-cut = x }
+made a b c r x = record { tally = three a b c; lines-removed = r; results-cut = x }
 
 abbrev pub under : ℕ → Rules
-under c = record { convention = c }
+under c = record { convention = c; settle = false }
 
 -- every listing of the run, the finished one, and the counts
 abbrev pub Runs : ℕ → Listing → List Listing → Listing → Counts → Type 0
-Runs c input all last made = (listings (under c) input ≡ all) × (finished (under c) input ≡ last) × (counts (run (under c) input) ≡ made)
+Runs c input all last made = (listings (under c) input ≡ all) × (finished (under c) input ≡ last) × (counts (under c) (run (under c) input) ≡ made)
 """
 
 CASES = HEAD + f"""use Rattle.reference.specs.Opened.{{opened}}

@@ -3,7 +3,7 @@
 use Prim.Native.Nat.{ℕ, suc}
 use Prim.Native.String.{String}
 use mathlib.Core.Path.{_≡_}
-use mathlib.Core.Bool.{Bool}
+use mathlib.Core.Bool.{Bool, false}
 use mathlib.Core.List.{List, [], _∷_, map}
 use mathlib.Core.Option.{none}
 use lib.Dec.{eqb, leb}
@@ -54,7 +54,7 @@ unfoldable pub listing : List String → Listing
 listing ls = map (λ l. line-at 0 (bytes l)) ls
 
 abbrev pub convention-1 : Rules
-convention-1 = record { convention = 1 }
+convention-1 = record { convention = 1; settle = false }
 
 -- the finished listing, under convention 1
 abbrev pub gives : List String → List String → Type 0

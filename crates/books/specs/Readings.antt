@@ -8,7 +8,7 @@ use Rattle.reference.specs.Text.{bytes}
 use Rattle.reference.specs.Listing.{Token, token, Plain, Register, Number, Keyword, Symbol, Punct, Line, Listing}
 use Rattle.reference.specs.Names.{family}
 use Rattle.reference.specs.Numbers.{fold}
-use Rattle.reference.specs.Run.{run, finished, counts}
+use Rattle.reference.specs.Run.{run, finished, three, counts}
 use Rattle.books.specs.Notation.{convention-1, listing, gives}
 
 abbrev T : String → Token
@@ -79,8 +79,8 @@ pub record Readings : Type 0 where
   pub label-made : gives ("rbx = L;" ∷ "rbx:" ∷ []) ("L:" ∷ [])
   pub call-made : gives ("rax = f;" ∷ "rax();" ∷ []) ("f();" ∷ [])
   pub label-made-late :
-      counts (run convention-1 (listing ("rbx = L;" ∷ "rbx:" ∷ "rbx = 2;" ∷ "rax = 5;" ∷ "f(rax);" ∷ "goto L;" ∷ [])))
-      ≡ record { attempts₁ = 6; attempts₂ = 6; attempts₃ = 4; lines-removed = 2; results-cut = 0 }
+      counts convention-1 (run convention-1 (listing ("rbx = L;" ∷ "rbx:" ∷ "rbx = 2;" ∷ "rax = 5;" ∷ "f(rax);" ∷ "goto L;" ∷ [])))
+      ≡ record { tally = three 6 6 4; lines-removed = 2; results-cut = 0 }
   -- 9: of a line with `while` only a use and its `do` count
   pub while-without-do : stays ("rax = rcx;" ∷ "rbx = rax;" ∷ "while (rdx);" ∷ [])
   pub while-with-call : stays ("do {" ∷ " rax = rcx;" ∷ " rbx = rax;" ∷ "} while (f());" ∷ "rdx = rax;" ∷ [])

@@ -1,40 +1,44 @@
 -- What each answer of `clean` says of the whole call. Assumes nothing.
 use Prim.Native.Nat.{ℕ}
 use native.Mathlib.Omega.{arith}
-use mathlib.Core.Path.{_≡_, refl, sym, ap, _∙_}
+use mathlib.Core.Path.{_≡_, refl, sym, ap, subst, _∙_}
 use mathlib.Core.Bool.{Bool}
 use mathlib.Core.List.{List, [], _∷_}
 use lib.ListN.{length}
 use borrow.Author.Tests.{leb-true}
+use Rattle.reference.specs.Listing.{Listing}
 use Rattle.reference.specs.Rules.{Rules}
 use Rattle.reference.specs.Questions.{is-convention, has-room-by, has-room, Answer, Refused, Passed, let-passed_then_, read}
-use Rattle.reference.specs.Reply.{Reply, Report, reply-by, reply, output-after, work-after, report}
+use Rattle.reference.specs.Reply.{Reply, Told, told, Report, reply-by, reply, output-after, work-after, report}
 use Rattle.reference.proofs.Cases.{both}
-use Rattle.reference.proofs.Reading.{Yes, ask-yes, let-refused, let-is}
+use Rattle.reference.proofs.Reading.{Yes, passed-inj, ask-yes, let-refused, let-is}
 use Rattle.reference.proofs.Guarantee.{demand3-tape}
+use Rattle.rounds.specs.Runs.{tally-of}
 use Rattle.tape.specs.Questions.{first-no, Accepted}
 use Rattle.tape.proofs.questions.Asking.{none-no, ask-number}
-use Rattle.clean.specs.Replies.{finished-report, report-of, Summary, answer-of, summary, Leaves, Cleans, cleaned}
-use Rattle.clean.specs.Cleaning.{Cleanable}
+use Rattle.clean.specs.Replies.{told-of, finished-report, report-of, Summary, summary-of, answer-of, summary, Leaves, Cleans, cleaned}
+use Rattle.clean.specs.Cleaning.{Cleanable, Finishes}
 use Rattle.clean.specs.declared.cleaning.Finished.{Finished}
+use Rattle.clean.specs.declared.told.Told as Code
 use Rattle.clean.specs.declared.entry.Reply as C
 use Rattle.clean.specs.declared.entry.Reply.the-variants as Said
 
--- the summary that a report of a finished call gives
-abbrev summarized : Report → Answer Summary
-summarized r =
-    Passed
-    (record {
-      length = r .length;
-      counts =
-          record {
-            attempts₁ = r .attempts₁;
-            attempts₂ = r .attempts₂;
-            attempts₃ = r .attempts₃;
-            lines-removed = r .removed;
-            results-cut = r .cut;
-          };
-    })
+-- the report of a summary
+abbrev report-with : Summary → Report
+report-with s =
+    record {
+      refusal = 0;
+      place = 0;
+      length = s .length;
+      told = told (s .counts .tally);
+      removed = s .counts .lines-removed;
+      cut = s .counts .results-cut;
+    }
+
+report-is : (rules : Rules) (input : Listing) (f : Finished) → Passed (summary-of f) ≡ summary (cleaned rules input)
+    → finished-report f ≡ report (cleaned rules input)
+unfolding report
+report-is rules input f e = ap report-with (passed-inj e)
 
 -- the questions 1 and 2, of the settings and of the lengths of what is lent
 abbrev door : Rules → ℕ → ℕ → ℕ → List (ℕ × Bool)
@@ -44,6 +48,17 @@ door rules work-a work-b output = (1, is-convention rules) ∷ (2, has-room work
 pub same-reply : {rules : Rules} {tape work-a work-b out work-a′ work-b′ out′ : List ℕ} {r s : C.Reply} → r ≡ s
     → Cleans rules tape work-a work-b out work-a′ work-b′ out′ (report-of r) → Cleans rules tape work-a work-b out work-a′ work-b′ out′ (report-of s)
 same-reply e h = rw e at h
+
+-- a finished call's report, in which x is told of the rounds
+abbrev telling : Finished → Told → Report
+telling f x = record { refusal = 0; place = 0; length = f .length; told = x; removed = f .removed; cut = f .cut }
+
+-- the same in the struct that C gets
+pub same-told : {rules : Rules} {tape work-a work-b out work-a′ work-b′ out′ : List ℕ} (f : Finished) (t : Code.Told) → told-of t ≡ told (tally-of (f .tally))
+    → Cleans rules tape work-a work-b out work-a′ work-b′ out′ (finished-report f)
+    → Cleans rules tape work-a work-b out work-a′ work-b′ out′ (telling f (told-of t))
+same-told {rules} {tape} {work-a} {work-b} {out} {work-a′} {work-b′} {out′} f t e h =
+    subst (λ (x : Told). Cleans rules tape work-a work-b out work-a′ work-b′ out′ (telling f x)) (sym e) h
 
 module _ (rules : Rules) (tape work-a work-b out : List ℕ) where
   abbrev answer : Reply
@@ -94,9 +109,15 @@ module _ (rules : Rules) (tape work-a work-b out : List ℕ) where
           }
 
       pub finished-call : (a : Accepted tape) {work-a′ work-b′ out′ : List ℕ} {f : Finished}
-          → Leaves (cleaned rules (a .listing)) work-a work-b out work-a′ work-b′ out′ (finished-report f)
+          → Finishes (cleaned rules (a .listing)) work-a work-b out work-a′ work-b′ out′ f
           → Promise work-a′ work-b′ out′ (Said.Finished f)
-      unfolding report
-      finished-call a l =
+      finished-call a {f = f} l =
           let e = answer-is ∙ let-is _ (a .reads) in
-          (record { leaves = rw e l; demand3 = demand3-tape rules tape }, rw e (ap summarized (l .report-is)))
+          let leaves : Leaves (cleaned rules (a .listing)) work-a work-b out _ _ _ _ =
+          record {
+            report-is = report-is rules (a .listing) f (l .summary-is);
+            output-is = l .output-is;
+            work-a-is = l .work-a-is;
+            work-b-is = l .work-b-is;
+          } in
+          (record { leaves = rw e leaves; demand3 = demand3-tape rules tape }, rw e (l .summary-is))

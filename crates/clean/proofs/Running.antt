@@ -10,11 +10,11 @@ use lib.Seq.{length-take-le, length-front, drop-at}
 use Rattle.reference.specs.Text.{Text}
 use Rattle.reference.specs.Listing.{Token, Listing}
 use Rattle.reference.specs.Rules.{Rules}
-use Rattle.reference.specs.Run.{run, finished, Counts, counts}
+use Rattle.reference.specs.Run.{run, finished, counts}
 use Rattle.reference.specs.Claim.{sum}
 use Rattle.reference.specs.Tape as Tape
 use Rattle.reference.specs.Questions.{WORK, OUTPUT, Passed, read}
-use Rattle.reference.specs.Reply.{Cleaned, output-after, work-after, Report, report}
+use Rattle.reference.specs.Reply.{Cleaned, output-after, work-after}
 use Rattle.reference.proofs.Cases.{by-if}
 use Rattle.reference.proofs.Weights.{weigh, plain, excess, plain-text}
 use Rattle.reference.proofs.Limits as L
@@ -33,7 +33,7 @@ use Rattle.tape.specs.declared.questions.Totals.{Totals}
 use Rattle.tables.specs.Tables.{Loaded}
 use Rattle.tables.specs.Writing.{Wrote}
 use Rattle.tables.proofs.loading.Loaded.{loaded-limits}
-use Rattle.clean.specs.Replies.{finished-report, cleaned}
+use Rattle.clean.specs.Replies.{cleaned}
 use Rattle.clean.specs.Cleaning.{Loadable, Written}
 
 -- ---- the limits of a tape's listing, without its addresses
@@ -63,20 +63,6 @@ bare-limits {lines} l =
     }
 
 -- ---- what was loaded
-
--- the report of a length and counts
-abbrev report-with : ℕ → Counts → Report
-report-with n c =
-    record {
-      refusal = 0;
-      place = 0;
-      length = n;
-      attempts₁ = c .attempts₁;
-      attempts₂ = c .attempts₂;
-      attempts₃ = c .attempts₃;
-      removed = c .lines-removed;
-      cut = c .results-cut;
-    }
 
 -- the code's table of 2048 token words
 pub enough-words : 1024 ≤ 2048
@@ -119,16 +105,16 @@ module _ {tape tokens lines addresses : List ℕ} {t : Totals} (l : Loaded tape 
 
     pub writes : {out out′ : List ℕ} {n : ℕ} → Wrote (Tape.write (listing-now tape area′ tokens′ lines′ (r .size) addresses)) out out′ n
         → (input : Listing) → read tape ≡ Passed input
-        → Written (cleaned rules input) out out′
-        (finished-report (record { length = n; first = r .first; second = r .second; third = r .third; removed = r .removed; cut = r .cut }))
-    unfolding report output-after
+        → Written (cleaned rules input) out out′ (record { length = n; tally = r .tally; removed = r .removed; cut = r .cut })
+    unfolding output-after
     writes {out} w input e =
         let same : listing-now tape area tokens lines (start t) addresses ≡ input = passed-inj (sym loaded-is ∙ e) in
         let left : Tape.write (listing-now tape area′ tokens′ lines′ (r .size) addresses) ≡ Tape.write (finished rules input) =
         ap Tape.write (p .finished addresses ∙ ap (finished rules) same) in
-        let counted : counts-of r ≡ counts (run rules input) = p .counts addresses ∙ ap (λ l. counts (run rules l)) same in
+        let counted : counts-of r ≡ counts rules (run rules input) = p .counts addresses ∙ ap (λ l. counts rules (run rules l)) same in
+        let long = w .ends ∙ ap length left in
         record {
-          report-is = ap (λ n. report-with n (counts-of r)) (w .ends ∙ ap length left) ∙ ap (report-with _) counted;
+          summary-is = λ i. Passed (record { length = long i; counts = counted i });
           output-is = w .holds ∙ ap (λ s. s ++ drop (length s) out) left;
         }
 

@@ -4,12 +4,14 @@ use mathlib.Core.Path.{_≡_}
 use mathlib.Core.List.{List}
 use lib.ListN.{length}
 use Rattle.reference.specs.Text.{Text}
-use Rattle.reference.specs.Questions.{WORK, OUTPUT}
+use Rattle.reference.specs.Questions.{WORK, OUTPUT, Passed}
 use Rattle.reference.specs.Reply as R
 use Rattle.joining.specs.Limits.{Limits}
 use Rattle.build.specs.declared.used.Size.{Size}
 use Rattle.join.specs.Current.{bare-now, Current}
 use Rattle.tape.specs.Questions.{Accepted}
+use Rattle.clean.specs.declared.cleaning.Finished.{Finished}
+use Rattle.clean.specs.Replies.{summary-of, summary}
 
 -- A listing within the limits stands in the first set, and what is lent has room for its rounds; the table of token words is no larger than a
 -- line word can name.
@@ -28,9 +30,9 @@ pub record Writable (tape area area2 out : List ℕ) : Type 0 where
   pub second-text : WORK ≤ length area2
   pub room : OUTPUT ≤ length out
 
--- the report and the output are those of a reply of the definition
-pub record Written (reply : R.Reply) (out out′ : List ℕ) (report : R.Report) : Type 0 where
-  pub report-is : report ≡ R.report reply
+-- what is told, and the output, are those of a reply of the definition
+pub record Written (reply : R.Reply) (out out′ : List ℕ) (f : Finished) : Type 0 where
+  pub summary-is : Passed (summary-of f) ≡ summary reply
   pub output-is : out′ ≡ R.output-after reply out
 
 -- what the questions have shown
@@ -39,3 +41,10 @@ pub record Cleanable (tape work-a work-b out : List ℕ) : Type 0 where
   pub room-a : WORK ≤ length work-a
   pub room-b : WORK ≤ length work-b
   pub room : OUTPUT ≤ length out
+
+-- what is told, and every lent byte afterwards, are those of a reply of the definition
+pub record Finishes (reply : R.Reply) (work-a work-b out : List ℕ) (work-a′ work-b′ out′ : List ℕ) (f : Finished) : Type 0 where
+  pub summary-is : Passed (summary-of f) ≡ summary reply
+  pub output-is : out′ ≡ R.output-after reply out
+  pub work-a-is : work-a′ ≡ R.work-after reply work-a
+  pub work-b-is : work-b′ ≡ R.work-after reply work-b

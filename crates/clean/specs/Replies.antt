@@ -5,17 +5,22 @@ use mathlib.Core.List.{List}
 use lib.ListN.{length}
 use Rattle.reference.specs.Rules.{Rules}
 use Rattle.reference.specs.Listing.{Listing}
-use Rattle.reference.specs.Run.{run, finished, Counts, counts}
+use Rattle.reference.specs.Run.{run, finished, three, Counts, counts}
 use Rattle.reference.specs.Tape.{write}
 use Rattle.reference.specs.Questions as Q
 use Rattle.reference.specs.Questions.{Answer, Passed, read}
 use Rattle.reference.specs.Demand.{Demand3}
 use Rattle.reference.specs.Reply as R
+use Rattle.rounds.specs.Runs.{tally-of}
+use Rattle.clean.specs.declared.told.Told.{Told}
 use Rattle.clean.specs.declared.cleaning.Finished.{Finished}
 use Rattle.clean.specs.declared.entry.Reply.{Reply}
 use Rattle.clean.specs.declared.entry.Reply.the-variants.{Refused, Finished as Done}
 
--- ---- the reply in document 01's eight numbers
+-- ---- the reply in numbers
+
+abbrev pub told-of : Told → R.Told
+told-of t = record { first = t .first; second = t .second; third = t .third; rounds = t .rounds; attempts = t .attempts }
 
 abbrev pub finished-report : Finished → R.Report
 finished-report f =
@@ -23,16 +28,13 @@ finished-report f =
       refusal = 0;
       place = 0;
       length = f .length;
-      attempts₁ = f .first;
-      attempts₂ = f .second;
-      attempts₃ = f .third;
+      told = R.told (tally-of (f .tally));
       removed = f .removed;
       cut = f .cut;
     }
 
 abbrev pub report-of : Reply → R.Report
-report-of (Refused number place) =
-    record { refusal = number; place = place; length = 0; attempts₁ = 0; attempts₂ = 0; attempts₃ = 0; removed = 0; cut = 0 }
+report-of (Refused number place) = record { refusal = number; place = place; length = 0; told = R.told (three 0 0 0); removed = 0; cut = 0 }
 report-of (Done f) = finished-report f
 
 -- ---- the reply as the definition's answer: which of the two it is, and its numbers
@@ -41,21 +43,16 @@ pub record Summary : Type 0 where
   pub length : ℕ
   pub counts : Counts
 
+abbrev pub summary-of : Finished → Summary
+summary-of f =
+    record {
+      length = f .length;
+      counts = record { tally = tally-of (f .tally); lines-removed = f .removed; results-cut = f .cut };
+    }
+
 abbrev pub answer-of : Reply → Answer Summary
 answer-of (Refused number place) = Q.Refused number place
-answer-of (Done f) =
-    Q.Passed
-    (record {
-      length = f .length;
-      counts =
-          record {
-            attempts₁ = f .first;
-            attempts₂ = f .second;
-            attempts₃ = f .third;
-            lines-removed = f .removed;
-            results-cut = f .cut;
-          };
-    })
+answer-of (Done f) = Q.Passed (summary-of f)
 
 abbrev pub summary : R.Reply → Answer Summary
 summary (Q.Refused number place) = Q.Refused number place
@@ -78,4 +75,4 @@ pub record Cleans (rules : Rules) (tape work-a work-b out : List ℕ) (work-a′
 
 -- the definition's reply to the tape of a listing
 abbrev pub cleaned : Rules → Listing → R.Reply
-cleaned rules input = Passed (record { tape = write (finished rules input); counts = counts (run rules input) })
+cleaned rules input = Passed (record { tape = write (finished rules input); counts = counts rules (run rules input) })

@@ -2,6 +2,7 @@
 use build::used::Size;
 use lines::rules::Rules;
 use rounds::Outcome;
+use rounds::Tally;
 use rounds::optimize;
 use text::wipe;
 ghost use mathlib.Core.Path.{_≡_};
@@ -9,15 +10,13 @@ ghost use Rattle.reference.specs.Listing.{Listing};
 ghost use Rattle.reference.specs.Questions.{WORK, Passed, read};
 ghost use Rattle.lines.specs.Rules.{rules-of};
 ghost use Rattle.rounds.specs.Runs.{Ran};
-ghost use Rattle.clean.specs.Replies.{finished-report, cleaned, Leaves};
-ghost use Rattle.clean.specs.Cleaning.{Loadable, Writable, Written, Cleanable};
+ghost use Rattle.clean.specs.Replies.{cleaned};
+ghost use Rattle.clean.specs.Cleaning.{Loadable, Writable, Written, Cleanable, Finishes};
 
-// What a cleaning did: the output's length, the attempts of each round, the lines removed and the results cut.
+// What a cleaning did: the output's length, what is told of the rounds, the lines removed and the results cut.
 pub struct Finished {
     pub length: usize,
-    pub first: u64,
-    pub second: u64,
-    pub third: u64,
+    pub tally: Tally,
     pub removed: u64,
     pub cut: u64,
 }
@@ -33,7 +32,8 @@ fn optimized(
     rules: Rules,
 ) -> Outcome
     requires { ⌜ Loadable (now tape) (now area) (now tokens) (now lines) (now area2) size ⌝ }
-    ensures { λ r. ⌜ Ran (rules-of rules) (now (tape .entry)) (now (area .entry)) (now (tokens .entry)) (now (lines .entry)) size (now (area .exit)) (now (tokens .exit)) (now (lines .exit)) r ⌝ }
+    ensures { λ r. ⌜ Ran (rules-of rules) (now (tape .entry)) (now (area .entry)) (now (tokens .entry)) (now (lines .entry)) size
+        (now (area .exit)) (now (tokens .exit)) (now (lines .exit)) r ⌝ }
 {
     let mut tokens2 = [0u64; 2048];
     let mut labels = [0u64; 256];
@@ -57,7 +57,8 @@ fn optimized(
 // Cleans a tape that passed all questions into the output. The areas are only worked in.
 fn written(rules: Rules, tape: &[u8], area: &mut [u8], area2: &mut [u8], out: &mut [u8]) -> Finished
     requires { ⌜ Writable (now tape) (now area) (now area2) (now out) ⌝ }
-    ensures { λ r. ⌜ ((input : Listing) → read (now (tape .entry)) ≡ Passed input → Written (cleaned (rules-of rules) input) (now (out .entry)) (now (out .exit)) (finished-report r)) ⌝ }
+    ensures { λ r. ⌜ ((input : Listing) → read (now (tape .entry)) ≡ Passed input
+        → Written (cleaned (rules-of rules) input) (now (out .entry)) (now (out .exit)) r) ⌝ }
 {
     let mut tokens = [0u64; 2048];
     let mut lines = [0u64; 256];
@@ -81,11 +82,10 @@ fn written(rules: Rules, tape: &[u8], area: &mut [u8], area2: &mut [u8], out: &m
         &addresses,
         out,
     );
+    let tally = r.tally;
     Finished {
         length,
-        first: r.first,
-        second: r.second,
-        third: r.third,
+        tally,
         removed: r.removed,
         cut: r.cut,
     }
@@ -108,7 +108,9 @@ pub fn finish(
     out: &mut [u8],
 ) -> Finished
     requires { ⌜ Cleanable (now tape) (now «work_a») (now «work_b») (now out) ⌝ }
-    ensures { λ r. ⌜ ((input : Listing) → read (now (tape .entry)) ≡ Passed input → Leaves (cleaned (rules-of rules) input) (now («work_a» .entry)) (now («work_b» .entry)) (now (out .entry)) (now («work_a» .exit)) (now («work_b» .exit)) (now (out .exit)) (finished-report r)) ⌝ }
+    ensures { λ r. ⌜ ((input : Listing) → read (now (tape .entry)) ≡ Passed input
+        → Finishes (cleaned (rules-of rules) input) (now («work_a» .entry)) (now («work_b» .entry)) (now (out .entry))
+        (now («work_a» .exit)) (now («work_b» .exit)) (now (out .exit)) r) ⌝ }
 {
     let size = work_bytes();
     let r = written(rules, tape, &mut work_a[..size], &mut work_b[..size], out);

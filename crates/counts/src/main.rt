@@ -1,6 +1,8 @@
 // What a cleaning did, in numbers: a convention byte and a tape in, as the filter reads them; out comes one line with the length of the new tape, the
-// attempts of each of the three rounds, the lines removed and the results cut; or the refusal.
+// attempts of each of the three rounds, the lines removed and the results cut; or the refusal. A second line says the same of the call that is to
+// settle: the rounds that it made and the attempts in all in place of the three.
 use clean::Reply;
+use clean::Tally;
 use libc::STDIN_FILENO;
 use libc::STDOUT_FILENO;
 use lines::rules::Rules;
@@ -21,13 +23,31 @@ fn print_refusal(number: u64, place: u64) {
     print(b"\n");
 }
 
-fn print_rounds(first: u64, second: u64, third: u64) {
+fn print_three(first: u64, second: u64, third: u64) {
     print(b", attempts ");
     print_number(first);
     print(b" ");
     print_number(second);
     print(b" ");
     print_number(third);
+}
+
+fn print_settled(rounds: u64, attempts: u64) {
+    print(b", rounds ");
+    print_number(rounds);
+    print(b", attempts ");
+    print_number(attempts);
+}
+
+fn print_rounds(tally: Tally) {
+    match tally {
+        Tally::Three {
+            first,
+            second,
+            third,
+        } => print_three(first, second, third),
+        Tally::Settled { rounds, attempts } => print_settled(rounds, attempts),
+    }
 }
 
 fn print_reply(r: Reply) {
@@ -38,7 +58,8 @@ fn print_reply(r: Reply) {
         Reply::Finished(f) => {
             print(b"length ");
             print_number(f.length as u64);
-            print_rounds(f.first, f.second, f.third);
+            let tally = f.tally;
+            print_rounds(tally);
             print(b", lines removed ");
             print_number(f.removed);
             print(b", results cut ");
@@ -48,11 +69,11 @@ fn print_reply(r: Reply) {
     }
 }
 
-fn count(convention: u8, tape: &[u8]) {
+fn count(convention: u8, settle: bool, tape: &[u8]) {
     let mut work_a = [0u8; 49152];
     let mut work_b = [0u8; 49152];
     let mut out = [0u8; 54785];
-    let rules = Rules { convention };
+    let rules = Rules { convention, settle };
     print_reply(clean::clean(rules, tape, &mut work_a, &mut work_b, &mut out));
 }
 
@@ -63,5 +84,6 @@ fn main() {
         print_refusal(1, 0);
         return;
     }
-    count(input[0], &input[1..n]);
+    count(input[0], false, &input[1..n]);
+    count(input[0], true, &input[1..n]);
 }

@@ -1,6 +1,7 @@
 -- What the filter program writes. Assumes nothing.
 use Prim.Native.Nat.{ℕ}
 use mathlib.Core.Path.{_≡_}
+use mathlib.Core.Bool.{false}
 use mathlib.Core.List.{List, [], _∷_, _++_}
 use lib.ListN.{length, take, drop}
 use Rattle.reference.specs.Text.{Text, bytes}
@@ -18,9 +19,9 @@ unfoldable pub shown : Reply → Text
 shown (Refused number place) = refusal number place
 shown (Passed c) = c .tape
 
--- the settings: the convention
+-- the settings: the convention; "The filter program keeps its input form, with .. every later setting off"
 abbrev pub settings : ℕ → Rules
-settings convention = record { convention = convention }
+settings convention = record { convention = convention; settle = false }
 
 -- the longest tape that is taken
 unfoldable pub LONGEST : ℕ

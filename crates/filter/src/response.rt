@@ -5,6 +5,7 @@ use lines::rules::Rules;
 use printing::put;
 use printing::put_decimal;
 ghost use mathlib.Core.Path.{_≡_};
+ghost use mathlib.Core.Bool.{false};
 ghost use Prim.Native.Nat.{_≤_};
 ghost use lib.ListN.{length, take};
 ghost use Rattle.reference.specs.Questions.{WORK, OUTPUT};
@@ -23,7 +24,7 @@ fn put_refusal(number: u64, place: u64, out: &mut [u8]) -> usize
     put(b"\n", out, d)
 }
 
-// Cleans a tape, and says how long the answer is.
+// Cleans a tape, every setting off, and says how long the answer is.
 fn answer(convention: u8, tape: &[u8], out: &mut [u8]) -> usize
     requires { ⌜ length (now out) ≡ OUTPUT ⌝ }
     ensures { λ r. ⌜ Shows (shown (reply (settings convention) (now (tape .entry)) WORK WORK OUTPUT))
@@ -31,7 +32,10 @@ fn answer(convention: u8, tape: &[u8], out: &mut [u8]) -> usize
 {
     let mut work_a = [0u8; 49152];
     let mut work_b = [0u8; 49152];
-    let rules = Rules { convention };
+    let rules = Rules {
+        convention,
+        settle: false,
+    };
     match clean(rules, tape, &mut work_a, &mut work_b, out) {
         Reply::Refused { number, place } => put_refusal(number, place as u64, out),
         Reply::Finished(f) => f.length,

@@ -6,18 +6,17 @@ use Rattle.puchkewa.specs.declared.export.Report.{Report}
 
 -- the settings of a call
 abbrev pub settings-of : Settings → Rules
-settings-of s = record { convention = s .convention }
+settings-of s = record { convention = s .convention; settle = s .settle }
 
--- the reply in document 01's eight numbers
+-- the reply in numbers
 abbrev pub exported : Report → R.Report
 exported r =
     record {
       refusal = r .refusal;
       place = r .place;
       length = r .length;
-      attempts₁ = r .attempts_1;
-      attempts₂ = r .attempts_2;
-      attempts₃ = r .attempts_3;
+      told =
+          record { first = r .attempts_1; second = r .attempts_2; third = r .attempts_3; rounds = r .rounds; attempts = r .attempts };
       removed = r .removed;
       cut = r .cut;
     }

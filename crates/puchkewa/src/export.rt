@@ -1,6 +1,7 @@
 // The entries for C and Rust (include/puchkewa.h): settings and answers as structs of numbers, by value.
 use clean::Reply;
 use clean::clean;
+use clean::tell;
 use lines::rules::Rules;
 ghost use Rattle.clean.specs.Replies.{Cleans};
 ghost use Rattle.puchkewa.specs.Exports.{settings-of, exported};
@@ -9,6 +10,7 @@ ghost use Rattle.puchkewa.specs.Exports.{settings-of, exported};
 #[repr(C)]
 pub struct Settings {
     pub convention: u8,
+    pub settle: bool,
 }
 
 // `refusal` is 0 when finished, else the number of the question that refused, at `place`; then all other numbers are 0.
@@ -22,6 +24,8 @@ pub struct Report {
     pub attempts_3: u64,
     pub removed: u64,
     pub cut: u64,
+    pub rounds: u64,
+    pub attempts: u64,
 }
 
 // Cleans the listing of a tape, as `clean` does.
@@ -39,6 +43,7 @@ pub extern "C" fn puchkewa_clean(
 {
     let rules = Rules {
         convention: settings.convention,
+        settle: settings.settle,
     };
     match clean(rules, tape, work_a, work_b, out) {
         Reply::Refused { number, place } => Report {
@@ -50,16 +55,24 @@ pub extern "C" fn puchkewa_clean(
             attempts_3: 0,
             removed: 0,
             cut: 0,
+            rounds: 0,
+            attempts: 0,
         },
-        Reply::Finished(f) => Report {
-            refusal: 0,
-            place: 0,
-            length: f.length as u64,
-            attempts_1: f.first,
-            attempts_2: f.second,
-            attempts_3: f.third,
-            removed: f.removed,
-            cut: f.cut,
-        },
+        Reply::Finished(f) => {
+            let tally = f.tally;
+            let t = tell(tally);
+            Report {
+                refusal: 0,
+                place: 0,
+                length: f.length as u64,
+                attempts_1: t.first,
+                attempts_2: t.second,
+                attempts_3: t.third,
+                removed: f.removed,
+                cut: f.cut,
+                rounds: t.rounds,
+                attempts: t.attempts,
+            }
+        }
     }
 }

@@ -2,6 +2,7 @@
 use Prim.Native.Nat.{ℕ}
 use Prim.Native.String.{String}
 use mathlib.Core.Path.{_≡_, refl}
+use mathlib.Core.Bool.{true, false}
 use mathlib.Core.List.{List, [], _∷_}
 use mathlib.Core.Option.{Option, none, some}
 use lib.IntN.{pos, negsuc}
@@ -10,7 +11,7 @@ use Rattle.reference.specs.Listing.{Token, token, Register, Number, Keyw
 use Rattle.reference.specs.Names.{Fam, family}
 use Rattle.reference.specs.Rules.{Rules}
 use Rattle.reference.specs.Numbers.{parse-c-number, fold}
-use Rattle.reference.specs.Run.{run, finished, Counts, counts}
+use Rattle.reference.specs.Run.{run, finished, three, settled, Counts, counts}
 use Rattle.reference.specs.Questions.{WORK, OUTPUT, Passed}
 use Rattle.reference.specs.Reply.{Reply, reply, report}
 use Rattle.reference.proofs.Opened.{opened}
@@ -37,14 +38,14 @@ abbrev line : List Token → Line
 line ts = record { address = none; indent = 0; tokens = ts }
 
 abbrev made : ℕ → ℕ → ℕ → ℕ → ℕ → Counts
-made a b c r x = record { attempts₁ = a; attempts₂ = b; attempts₃ = c; lines-removed = r; results-cut = x }
+made a b c r x = record { tally = three a b c; lines-removed = r; results-cut = x }
 
 abbrev convention-1 : Rules
-convention-1 = record { convention = 1 }
+convention-1 = record { convention = 1; settle = false }
 
 -- the finished listing under convention 1, and the counts
 abbrev cleans : Listing → Listing → Counts → Type 0
-cleans before after c = (finished convention-1 before ≡ after) × (counts (run convention-1 before) ≡ c)
+cleans before after c = (finished convention-1 before ≡ after) × (counts convention-1 (run convention-1 before) ≡ c)
 
 -- the reply to the tape of FF alone, with just enough room
 abbrev end-alone-reply : Reply
@@ -152,3 +153,52 @@ pub record Telling : Type 0 where
 pub telling : Telling
 unfolding opened
 telling = record { labels-frozen = (refl, refl); steps-back = (refl, refl); word-reads = (refl, refl); double-word-kills = (refl, refl) }
+
+-- ---- a fourth round (M-112)
+
+abbrev settling-1 : Rules
+settling-1 = record { convention = 1; settle = true }
+
+abbrev settles : Listing → Listing → Counts → Type 0
+settles before after c = (finished settling-1 before ≡ after) × (counts settling-1 (run settling-1 before) ≡ c)
+
+-- `r13 = r13 + 1;`, which no attempt removes: an attempt that removes the line behind it steps back onto it, and no further
+abbrev stays : Line
+stays = line (R "r13" ∷ P " = " ∷ R "r13" ∷ P " + " ∷ N "1" ∷ P ";" ∷ [])
+
+-- The call is joined in the first round, and each of the three lines above it only in the round after the line below it went.
+abbrev chain : Listing
+chain =
+    line (R "r15" ∷ P " = " ∷ R "r14" ∷ P " + " ∷ N "3" ∷ P ";" ∷ [])
+    ∷ stays
+    ∷ line (R "r14" ∷ P " = " ∷ R "r12" ∷ P " + " ∷ N "2" ∷ P ";" ∷ [])
+    ∷ stays
+    ∷ line (R "r12" ∷ P " = " ∷ R "rcx" ∷ P " - " ∷ N "1" ∷ P ";" ∷ [])
+    ∷ stays
+    ∷ line (R "rbx" ∷ P " = " ∷ S "h" ∷ P "();" ∷ [])
+    ∷ line (S "g" ∷ P "(" ∷ R "r15" ∷ P ", " ∷ R "r14" ∷ P ", " ∷ R "r12" ∷ P ", " ∷ R "rbx" ∷ P ");" ∷ [])
+    ∷ []
+
+pub record FourthRound : Type 0 where
+  pub three-rounds :
+      cleans chain
+      (line (R "r15" ∷ P " = " ∷ R "r14" ∷ P " + " ∷ N "3" ∷ P ";" ∷ [])
+      ∷ stays
+      ∷ stays
+      ∷ stays
+      ∷ line (S "g" ∷ P "(" ∷ R "r15" ∷ P ", " ∷ R "r12" ∷ P " + " ∷ N "2" ∷ P ", " ∷ R "rcx" ∷ P " - " ∷ N "1" ∷ P ", " ∷ S "h" ∷ P "());" ∷ [])
+      ∷ [])
+      (made 9 8 7 3 0)
+  pub until-it-settles :
+      settles chain
+      (stays
+      ∷ stays
+      ∷ stays
+      ∷ line (S "g" ∷ P "(" ∷ R "r14" ∷ P " + " ∷ N "3" ∷ P ", " ∷ R "r12" ∷ P " + " ∷ N "2" ∷ P ", " ∷ R "rcx" ∷ P " - " ∷ N "1" ∷ P ", " ∷ S "h" ∷ P "());" ∷ [])
+      ∷ [])
+      (record { tally = settled 5 33; lines-removed = 4; results-cut = 0 })
+  pub nothing : settles [] [] (record { tally = settled 1 0; lines-removed = 0; results-cut = 0 })
+
+pub fourth-round : FourthRound
+unfolding opened
+fourth-round = record { three-rounds = (refl, refl); until-it-settles = (refl, refl); nothing = (refl, refl) }

@@ -86,7 +86,7 @@ output-length rules tape input e =
 pub record Answered (rules : Rules) (tape : List ℕ) (work-a work-b output : ℕ) (c : Cleaned) : Type 0 where
   pub input : Listing
   pub reads : read tape ≡ Passed input
-  pub cleaned : c ≡ record { tape = write (finished rules input); counts = counts (run rules input) }
+  pub cleaned : c ≡ record { tape = write (finished rules input); counts = counts rules (run rules input) }
   pub room-a : WORK ≤ work-a
   pub room-b : WORK ≤ work-b
   pub room : length (c .tape) ≤ output

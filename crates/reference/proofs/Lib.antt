@@ -13,6 +13,7 @@ pub mod Fits
 pub mod Attempts
 pub mod Cuts
 pub mod Rounds
+pub mod Settling
 pub mod LittleEndian
 pub mod Commands
 pub mod Reading

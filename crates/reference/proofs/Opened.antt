@@ -1,5 +1,5 @@
 -- Opens every definition of the crate: whoever says `unfolding opened` computes with them all. Assumes nothing.
-use mathlib.Core.List.{flatMap}
+use mathlib.Core.List.{flatMap, flatten}
 use Rattle.reference.specs.Control.{not, _&&_, _||_, if_then_else_, let-some_else_then_}
 use Rattle.reference.specs.Text.{strip-prefix}
 use Rattle.reference.specs.Listing.{is}
@@ -8,11 +8,11 @@ use Rattle.reference.specs.Numbers.{to-digit, digits-value, unsigned, re
 use Rattle.reference.specs.Shapes.{label-tokens, is-kw, kw-in, has-brace, braces-in, calls-here, call-in, cut-semicolon, begins-assignment, right-side, assignment-of, writes, is-written, is-operator, is-operator-expr}
 use Rattle.reference.specs.Life.{kills, touch-of, match-touch, lookup, killed-first, goto-target, is-do, rerun-kills, while-passes, goto-passes, scan, dead-from, dead-after}
 use Rattle.reference.specs.Join.{written-from, ends-run, gather, updates-first, is-narrow, bad-use, substitute, rewrite-use, rewrite-uses, propagate-constant, reads-here, reads-after, reads-memory, expr-fams, harmless, use-from, starts-with-operator, text-before, text-after, standalone, replacement, replace-at, rewrite-one, use-width, is-compound, replaceable, join-at, join-one, lone-number, try-at}
-use Rattle.reference.specs.Run.{labels-from, addressed-here, addressed-in, shift, attempts-from, propagate-once, after-attempts, removals, changed, next-round, dead-result, cuts-from, drop-dead-results, last-of, run, steps, listings, finished, counts}
+use Rattle.reference.specs.Run.{labels-from, addressed-here, addressed-in, shift, attempts-from, propagate-once, after-attempts, removals, changed, rounds-from, limit, after-rounds, dead-result, cuts-from, drop-dead-results, last-of, run, attempts-of, steps, listings, finished, attempts-in, counts}
 use Rattle.reference.specs.Tape.{to-le-bytes, from-le-bytes, write-command, write-line, write-lines, write, command-size, command-of}
 use Rattle.reference.specs.Questions.{is-convention, has-room-by, is-command, ends-inside, has-line, is-within, is-printable, is-over, ask, let-passed_then_, count-in, read-command, add, read-from, read}
-use Rattle.reference.specs.Reply.{reply-by, output-after, work-after, report}
+use Rattle.reference.specs.Reply.{reply-by, output-after, work-after, told, report}
 
 unfoldable pub opened : Unit {0}
-unfolding not _&&_ _||_ if_then_else_ let-some_else_then_ strip-prefix is legacy suffix stack-slot numbered high-byte family fam-of of-family volatile-of to-digit digits-value unsigned read-u64 read-i64 as-i64 wrap parse-c-number digits show-natural show delim-before delim-after folded fold-at fold joins merge-into merge label-tokens is-kw kw-in has-brace braces-in calls-here call-in cut-semicolon begins-assignment right-side assignment-of writes is-written is-operator is-operator-expr kills touch-of match-touch lookup killed-first goto-target is-do rerun-kills while-passes goto-passes scan dead-from dead-after written-from ends-run gather updates-first is-narrow bad-use substitute rewrite-use rewrite-uses propagate-constant reads-here reads-after reads-memory expr-fams harmless use-from starts-with-operator text-before text-after standalone replacement replace-at rewrite-one use-width is-compound replaceable join-at join-one lone-number try-at labels-from addressed-here addressed-in shift attempts-from propagate-once after-attempts removals changed next-round dead-result cuts-from drop-dead-results last-of run steps listings finished counts flatMap to-le-bytes from-le-bytes write-command write-line write-lines write command-size command-of is-convention has-room-by is-command ends-inside has-line is-within is-printable is-over ask let-passed_then_ count-in read-command add read-from read reply-by output-after work-after report
+unfolding not _&&_ _||_ if_then_else_ let-some_else_then_ strip-prefix is legacy suffix stack-slot numbered high-byte family fam-of of-family volatile-of to-digit digits-value unsigned read-u64 read-i64 as-i64 wrap parse-c-number digits show-natural show delim-before delim-after folded fold-at fold joins merge-into merge label-tokens is-kw kw-in has-brace braces-in calls-here call-in cut-semicolon begins-assignment right-side assignment-of writes is-written is-operator is-operator-expr kills touch-of match-touch lookup killed-first goto-target is-do rerun-kills while-passes goto-passes scan dead-from dead-after written-from ends-run gather updates-first is-narrow bad-use substitute rewrite-use rewrite-uses propagate-constant reads-here reads-after reads-memory expr-fams harmless use-from starts-with-operator text-before text-after standalone replacement replace-at rewrite-one use-width is-compound replaceable join-at join-one lone-number try-at labels-from addressed-here addressed-in shift attempts-from propagate-once after-attempts removals changed rounds-from limit after-rounds dead-result cuts-from drop-dead-results last-of run attempts-of steps listings finished attempts-in counts flatMap flatten to-le-bytes from-le-bytes write-command write-line write-lines write command-size command-of is-convention has-room-by is-command ends-inside has-line is-within is-printable is-over ask let-passed_then_ count-in read-command add read-from read reply-by output-after work-after told report
 opened = tt

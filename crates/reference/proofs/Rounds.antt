@@ -3,18 +3,18 @@
 use Prim.Native.Nat.{ℕ, zero, suc, _+_, _≤_, _<_, zero-le}
 use native.Mathlib.Omega.{arith}
 use mathlib.Core.Path.{_≡_, refl, ap, _∙_}
-use mathlib.Core.Bool.{Bool, true, false}
-use mathlib.Core.List.{List, [], _∷_, _++_, map, Sublistᴰ, Sublistᴰ·refl, Sublistᴰ·trans}
+use mathlib.Core.Bool.{Bool, true, false, false≢true}
+use mathlib.Core.List.{List, [], _∷_, _++_, map, map-append, flatten, Sublistᴰ, Sublistᴰ·refl, Sublistᴰ·trans}
 use lib.ListN.{length}
 use borrow.Author.Tests.{ltb-true, ltb-false}
-use Rattle.reference.specs.Control.{if_then_else_}
+use Rattle.reference.specs.Control.{_||_, if_then_else_}
 use Rattle.reference.specs.Text.{Text}
 use Rattle.reference.specs.Listing.{Listing}
 use Rattle.reference.specs.Rules.{Rules}
 use Rattle.reference.specs.Life.{Labels}
-use Rattle.reference.specs.Run.{labels-from, addressed-in, Attempt, attempts-from, propagate-once, after-attempts, removals, changed, next-round, cuts-from, drop-dead-results, last-of, run, steps, listings, finished}
+use Rattle.reference.specs.Run.{labels-from, addressed-in, Attempt, attempts-from, propagate-once, after-attempts, removals, changed, rounds-from, limit, after-rounds, cuts-from, drop-dead-results, last-of, run, attempts-of, steps, listings, finished}
 use Rattle.reference.specs.Claim.{places, label-lines}
-use Rattle.reference.specs.Demand.{Accepted, Attempts, over, failed, succeeded, Round, NextRound, Cuts, done, kept, dropped, Taken, Within, Each, Step, Steps, Bounded, Demand3}
+use Rattle.reference.specs.Demand.{Accepted, Attempts, over, failed, succeeded, Round, Rounds, enough, ended, again, Settled, Cuts, done, kept, dropped, Taken, Within, Each, Step, Steps, Bounded, EachRound, Demand3}
 use Rattle.reference.proofs.Cases.{by-if, by-some, true-false}
 use Rattle.reference.proofs.Lines.{length-modify, labels-sublist}
 use Rattle.reference.proofs.Changes.{Changes, unchanged, changes-step, Removed, removed-length, removed-places, removed-labels, removed-step}
@@ -45,13 +45,14 @@ pub round-taken : (rules : Rules) (lines : Listing) → Round rules lines (propa
 unfolding propagate-once
 round-taken rules lines = attempts rules (addressed-in lines) (length lines + length lines) 0 lines (labels-from 0 lines) (omega arith)
 
-pub next-taken : (rules : Rules) (before : List Attempt) (lines : Listing) → NextRound rules before lines (next-round rules before lines)
-unfolding next-round
-next-taken rules before lines =
-    record {
-      made = λ e. by-if (λ (r : List Attempt). Round rules lines r) (λ h. round-taken rules lines) (λ h. absurd (true-false e h));
-      ended = λ e. by-if (λ (r : List Attempt). r ≡ []) (λ h. absurd (true-false h e)) (λ h. refl);
-    }
+pub rounds-taken : (rules : Rules) (limit : ℕ) (lines : Listing) → Rounds rules limit lines (rounds-from rules limit lines)
+unfolding rounds-from
+rounds-taken rules zero lines = enough
+rounds-taken rules (suc limit) lines =
+    let round : List Attempt = propagate-once rules lines in
+    by-if (λ (more : List (List Attempt)). Rounds rules (suc limit) lines (round ∷ more))
+    (λ h. again (round-taken rules lines) h (rounds-taken rules limit (after-attempts lines round)))
+    (λ h. ended (round-taken rules lines) h)
 
 pub cuts-taken : (rules : Rules) (labels : Labels) (n i : ℕ) (lines : Listing) → length lines ≡ n + i → Cuts rules labels i lines (cuts-from rules labels n i lines)
 unfolding cuts-from
@@ -62,16 +63,6 @@ cuts-taken rules labels (suc n) i lines e =
     by-if (λ (r : List Listing). Cuts rules labels i lines r)
     (λ h. dropped lt h refl (cuts-taken rules labels n (suc i) _ (length-modify _ i lines ∙ rest)))
     (λ h. kept lt h (cuts-taken rules labels n (suc i) lines rest))
-
-pub run-taken : (rules : Rules) (input : Listing) → Taken rules input (run rules input)
-unfolding run drop-dead-results
-run-taken rules input =
-    record {
-      first = round-taken rules input;
-      second = next-taken rules _ _;
-      third = next-taken rules _ _;
-      cuts = cuts-taken rules _ _ 0 _ (omega arith);
-    }
 
 -- ---- one step
 
@@ -165,13 +156,65 @@ round-sound h =
     let b = attempts-bounded h zero-le in
     record { chain = attempts-chain h; bounded = record { removes = b .0; attempts = omega (arith, b .1) } }
 
-next-sound : {rules : Rules} {before : List Attempt} {lines : Listing} {round : List Attempt} → NextRound rules before lines round → Sound lines round
-unfolding after-attempts removals
-next-sound {before = before} {lines = lines} {round = round} h = go (changed before) refl
+-- all rounds together
+record AllSound (lines : Listing) (rounds : List (List Attempt)) : Type 0 where
+  chain : Chain lines (map (λ a. a .left) (flatten rounds)) (after-rounds lines rounds)
+  bounded : EachRound Bounded lines rounds
+
+sound-more : {lines : Listing} {round : List Attempt} {more : List (List Attempt)} → Sound lines round → AllSound (after-attempts lines round) more
+    → AllSound lines (round ∷ more)
+unfolding after-rounds flatten
+sound-more {round = round} {more = more} s r =
+    record {
+      chain = rw (map-append (λ (a : Attempt). a .left) round (flatten more)) (chain-append (s .chain) (r .chain));
+      bounded = (s .bounded, r .bounded);
+    }
+
+rounds-sound : {rules : Rules} {limit : ℕ} {lines : Listing} {rounds : List (List Attempt)} → Rounds rules limit lines rounds → AllSound lines rounds
+unfolding after-rounds flatten
+rounds-sound enough = record { chain = end; bounded = tt }
+rounds-sound (ended h e) = sound-more (round-sound h) (record { chain = end; bounded = tt })
+rounds-sound (again h e more) = sound-more (round-sound h) (rounds-sound more)
+
+-- ---- a run that is to settle
+
+-- a round that changed something took a line out
+changed-removes : (round : List Attempt) → changed round ≡ true → 1 ≤ removals round
+unfolding changed removals _||_ if_then_else_
+changed-removes [] e = absurd (false≢true e)
+changed-removes (a ∷ more) e = go (a .removed) (changed-removes more) e
   where
-    go : (b : Bool) → changed before ≡ b → Sound lines round
-    go true e = round-sound (h .made e)
-    go false e = rw (h .ended e) (record { chain = end; bounded = record { removes = omega arith; attempts = omega arith } })
+    go : (b : Bool) → (changed more ≡ true → 1 ≤ removals more) → (b || changed more) ≡ true → 1 ≤ (if b then suc (removals more) else removals more)
+    go true h e = omega arith
+    go false h e = h e
+
+settled-on : (round : List Attempt) (more : List (List Attempt)) → Settled more → Settled (round ∷ more)
+settled-on round [] h = absurd h
+settled-on round (after ∷ more) h = h
+
+-- WITH MORE ROUNDS THAN LINES ALLOWED, THE LAST ONE CHANGED NOTHING: each one before it took a line out
+pub rounds-settle : {rules : Rules} {limit : ℕ} {lines : Listing} {rounds : List (List Attempt)} → Rounds rules limit lines rounds → length lines < limit
+    → Settled rounds
+rounds-settle enough lt = absurd (omega arith)
+rounds-settle (ended h e) lt = e
+rounds-settle (again {round = round} {more = more} h e rest) lt =
+    let b = round-sound h .bounded in
+    settled-on round more (rounds-settle rest (omega (arith, b .removes, changed-removes round e)))
+
+run-settles : (rules : Rules) (input : Listing) → rules .settle ≡ true → Settled (run rules input .rounds)
+unfolding run limit
+run-settles rules input e =
+    rounds-settle (rounds-taken rules (limit rules input) input)
+    (by-if (λ (n : ℕ). length input < n) (λ h. omega arith) (λ h. absurd (true-false e h)))
+
+pub run-taken : (rules : Rules) (input : Listing) → Taken rules input (run rules input)
+unfolding run drop-dead-results
+run-taken rules input =
+    record {
+      rounds = rounds-taken rules (limit rules input) input;
+      settles = run-settles rules input;
+      cuts = cuts-taken rules _ _ 0 _ (omega arith);
+    }
 
 -- ---- the run
 
@@ -186,19 +229,15 @@ cuts-chain {rules = rules} {labels = labels} (dropped {i = i} {lines = lines} {l
 
 -- DEMAND 3
 pub demand3 : (rules : Rules) (input : Listing) → Accepted input → Demand3 rules input
-unfolding listings steps finished
+unfolding listings attempts-of steps finished
 demand3 rules input ok =
     let taken = run-taken rules input in
-    let first = round-sound (taken .first) in
-    let second = next-sound (taken .second) in
-    let third = next-sound (taken .third) in
-    let chain = chain-append (chain-append (chain-append (first .chain) (second .chain)) (third .chain)) (cuts-chain (taken .cuts) .1) in
+    let rounds = rounds-sound (taken .rounds) in
+    let chain = chain-append (rounds .chain) (cuts-chain (taken .cuts) .1) in
     record {
       taken = taken;
       each = chain-each (record { in-order = Sublistᴰ·refl _; labelled = Sublistᴰ·refl _; fits = accepted-fits ok }) chain;
       step = chain-steps chain;
       last = last-stands input _;
-      first-round = first .bounded;
-      second-round = second .bounded;
-      third-round = third .bounded;
+      bounded = rounds .bounded;
     }

@@ -2,15 +2,16 @@
 use Prim.Native.Nat.{ℕ}
 use Prim.Native.String.{String}
 use mathlib.Core.Path.{_≡_, refl}
+use mathlib.Core.Bool.{false}
 use mathlib.Core.List.{List, [], _∷_, _++_, flatMap}
 use mathlib.Core.Option.{none, some}
 use lib.ListN.{replicate}
 use Rattle.reference.specs.Control.{let-some_else_then_}
 use Rattle.reference.specs.Text.{Text, bytes}
 use Rattle.reference.specs.Numbers.{unsigned}
-use Rattle.reference.specs.Run.{Counts}
+use Rattle.reference.specs.Run.{three, settled, Counts}
 use Rattle.reference.specs.Questions.{WORK, OUTPUT, Refused, Passed, read}
-use Rattle.reference.specs.Reply.{Reply, reply, output-after, work-after, report}
+use Rattle.reference.specs.Reply.{Reply, reply, output-after, work-after, Told, told, report}
 use Rattle.reference.proofs.Opened.{opened}
 
 -- bytes as the document writes them: `hex (bytes "02 3F")` is 2 ∷ 63 ∷ []
@@ -25,29 +26,32 @@ tape s = hex (bytes s)
 
 -- convention 1, and just enough room
 abbrev gives : List ℕ → List ℕ → Counts → Type 0
-gives before after c = reply (record { convention = 1 }) before WORK WORK OUTPUT ≡ Passed (record { tape = after; counts = c })
+gives before after c = reply (record { convention = 1; settle = false }) before WORK WORK OUTPUT ≡ Passed (record { tape = after; counts = c })
 
 abbrev refuses : List ℕ → ℕ → ℕ → Type 0
-refuses t number place = reply (record { convention = 1 }) t WORK WORK OUTPUT ≡ Refused number place
+refuses t number place = reply (record { convention = 1; settle = false }) t WORK WORK OUTPUT ≡ Refused number place
 
 abbrev blank-lines : ℕ → List ℕ
 blank-lines n = flatMap (λ b. 0x02 ∷ b ∷ []) (replicate n 0) ++ (0xFF ∷ [])
 
 abbrev done : Reply
 done =
-    Passed (record { tape = 1 ∷ 0xFF ∷ []; counts = record { attempts₁ = 3; attempts₂ = 4; attempts₃ = 5; lines-removed = 6; results-cut = 7 } })
+    Passed (record { tape = 1 ∷ 0xFF ∷ []; counts = record { tally = three 3 4 5; lines-removed = 6; results-cut = 7 } })
+
+abbrev no-rounds : Told
+no-rounds = record { first = 0; second = 0; third = 0; rounds = 0; attempts = 0 }
 
 pub record TapeExamples : Type 0 where
   pub cut :
       gives
       (tape "02 00 11 03 00 72 61 78 16 03 00 20 3D 20 14 01 00 66 16 03 00 28 29 3B 02 00 13 06 00 72 65 74 75 72 6E 16 01 00 3B FF")
       (tape "02 00 14 01 00 66 16 03 00 28 29 3B 02 00 13 06 00 72 65 74 75 72 6E 16 01 00 3B FF")
-      (record { attempts₁ = 2; attempts₂ = 0; attempts₃ = 0; lines-removed = 0; results-cut = 1 })
+      (record { tally = three 2 0 0; lines-removed = 0; results-cut = 1 })
   pub address :
       read (tape "01 01 02 00 00 00 00 00 80 3F FF") ≡ Passed (record { address = some 9223372036854776321; indent = 63; tokens = [] } ∷ [])
-  pub convention : reply (record { convention = 3 }) [] 0 0 0 ≡ Refused 1 0
-  pub work : reply (record { convention = 2 }) [] 49152 49151 54785 ≡ Refused 2 0
-  pub output : reply (record { convention = 0 }) [] 49152 49152 54784 ≡ Refused 2 0
+  pub convention : reply (record { convention = 3; settle = false }) [] 0 0 0 ≡ Refused 1 0
+  pub work : reply (record { convention = 2; settle = false }) [] 49152 49151 54785 ≡ Refused 2 0
+  pub output : reply (record { convention = 0; settle = false }) [] 49152 49152 54784 ≡ Refused 2 0
   pub empty : refuses [] 3 0
   pub no-end : refuses (tape "02 00") 3 2
   pub no-command : refuses (tape "02 00 18 01 00 66 FF") 3 2
@@ -65,9 +69,17 @@ pub record TapeExamples : Type 0 where
   pub untouched : (output-after (Refused 3 0) (7 ∷ []) ≡ 7 ∷ []) × (work-after (Refused 3 0) (7 ∷ []) ≡ 7 ∷ [])
   pub written : output-after done (7 ∷ 8 ∷ 9 ∷ []) ≡ 1 ∷ 0xFF ∷ 9 ∷ []
   pub zeroed : work-after done (replicate 49154 7) ≡ replicate 49152 0 ++ (7 ∷ 7 ∷ [])
-  pub refusal :
-      report (Refused 3 4) ≡ record { refusal = 3; place = 4; length = 0; attempts₁ = 0; attempts₂ = 0; attempts₃ = 0; removed = 0; cut = 0 }
-  pub counts : report done ≡ record { refusal = 0; place = 0; length = 2; attempts₁ = 3; attempts₂ = 4; attempts₃ = 5; removed = 6; cut = 7 }
+  pub refusal : report (Refused 3 4) ≡ record { refusal = 3; place = 4; length = 0; told = no-rounds; removed = 0; cut = 0 }
+  pub counts : report done
+      ≡ record {
+        refusal = 0;
+        place = 0;
+        length = 2;
+        told = record { first = 3; second = 4; third = 5; rounds = 0; attempts = 0 };
+        removed = 6;
+        cut = 7;
+      }
+  pub settling : told (settled 5 33) ≡ record { first = 0; second = 0; third = 0; rounds = 5; attempts = 33 }
 
 pub tape-examples : TapeExamples
 unfolding opened
@@ -97,4 +109,5 @@ tape-examples =
       zeroed = refl;
       refusal = refl;
       counts = refl;
+      settling = refl;
     }

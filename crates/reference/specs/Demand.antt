@@ -26,7 +26,7 @@ use Rattle.reference.specs.Rules.{Rules}
 use Rattle.reference.specs.Shapes.{Assignment, assignment}
 use Rattle.reference.specs.Life.{Labels}
 use Rattle.reference.specs.Join.{try-at}
-use Rattle.reference.specs.Run.{labels-from, addressed-in, shift, Attempt, after-attempts, removals, changed, dead-result, Run, run, steps, listings, finished}
+use Rattle.reference.specs.Run.{labels-from, addressed-in, shift, Attempt, after-attempts, removals, changed, limit, after-rounds, dead-result, Run, run, steps, listings, finished}
 use Rattle.reference.specs.Claim.{size, Callee, calls, token-count, text, places, label-lines}
 
 -- "An accepted listing is one whose tape no question below refuses": those questions bound lines, indents and bytes too. The claim needs these three
@@ -56,10 +56,24 @@ pub data Attempts (rules : Rules) (addressed : List Text) : ℕ → Listing → 
 abbrev pub Round : Rules → Listing → List Attempt → Type 0
 Round rules lines round = Attempts rules (addressed-in lines) 0 lines (labels-from 0 lines) round
 
--- the round after the round `before`: "At most three rounds, ending after one that changed nothing"
-pub record NextRound (rules : Rules) (before : List Attempt) (lines : Listing) (round : List Attempt) : Type 0 where
-  pub made : changed before ≡ true → Round rules lines round
-  pub ended : changed before ≡ false → round ≡ []
+-- The rounds from a listing on, each with what the one before it left: "At most three rounds, ending after one that changed nothing"; three, or
+-- whatever the limit is.
+pub data Rounds (rules : Rules) : ℕ → Listing → List (List Attempt) → Type 0 where
+  enough : {lines : Listing} → Rounds rules 0 lines []
+  ended : {limit : ℕ} {lines : Listing} {round : List Attempt} → Round rules lines round → changed round ≡ false
+      → Rounds rules (suc limit) lines (round ∷ [])
+  again : {limit : ℕ} {lines : Listing} {round : List Attempt} {more : List (List Attempt)} → Round rules lines round → changed round ≡ true
+      → Rounds rules limit (after-attempts lines round) more
+      → Rounds rules (suc limit) lines (round ∷ more)
+
+-- rounds of which the last changed nothing
+abbrev pub LastIdle : List Attempt → List (List Attempt) → Type 0
+LastIdle round [] = changed round ≡ false
+LastIdle round (next ∷ more) = LastIdle next more
+
+abbrev pub Settled : List (List Attempt) → Type 0
+Settled [] = ⊥
+Settled (round ∷ more) = LastIdle round more
 
 -- the listings after each cut, from line i on. "A cut is demand 3's dropped result, one line changed at a time": `rax = ` or `eax = ` goes, two tokens
 pub data Cuts (rules : Rules) (labels : Labels) : ℕ → Listing → List Listing → Type 0 where
@@ -70,22 +84,12 @@ pub data Cuts (rules : Rules) (labels : Labels) : ℕ → Listing → List Listi
       → lines′ ≡ modify i (λ l. with-tokens (drop 2 (l .tokens)) l) lines
       → Cuts rules labels (suc i) lines′ more → Cuts rules labels i lines (lines′ ∷ more)
 
--- the listings that the rounds of a run leave
-abbrev pub after-first : Listing → Run → Listing
-after-first input r = after-attempts input (r .first)
-
-abbrev pub after-second : Listing → Run → Listing
-after-second input r = after-attempts (after-first input r) (r .second)
-
-abbrev pub after-third : Listing → Run → Listing
-after-third input r = after-attempts (after-second input r) (r .third)
-
 -- (1) "Every step takes the listing that the step before left".
 pub record Taken (rules : Rules) (input : Listing) (r : Run) : Type 0 where
-  pub first : Round rules input (r .first)
-  pub second : NextRound rules (r .first) (after-first input r) (r .second)
-  pub third : NextRound rules (r .second) (after-second input r) (r .third)
-  pub cuts : Cuts rules (labels-from 0 (after-third input r)) 0 (after-third input r) (r .cuts)
+  pub rounds : Rounds rules (limit rules input) input (r .rounds)
+  -- where it is to settle, the run goes "on until a round changes nothing": no limit ends it
+  pub settles : rules .settle ≡ true → Settled (r .rounds)
+  pub cuts : Cuts rules (labels-from 0 (after-rounds input (r .rounds))) 0 (after-rounds input (r .rounds)) (r .cuts)
 
 -- ---- a listing of the run, against the input
 
@@ -135,6 +139,11 @@ pub record Bounded (lines : Listing) (round : List Attempt) : Type 0 where
   pub removes : length (after-attempts lines round) + removals round ≡ length lines
   pub attempts : length round ≤ length lines + removals round
 
+-- of every round, with the listing that it begins with
+abbrev pub EachRound : (Listing → List Attempt → Type 0) → Listing → List (List Attempt) → Type 0
+EachRound P lines [] = Unit {0}
+EachRound P lines (round ∷ more) = P lines round × EachRound P (after-attempts lines round) more
+
 -- ---- DEMAND 3, of the run of the listing `input` under the settings `rules`
 
 pub record Demand3 (rules : Rules) (input : Listing) : Type 0 where
@@ -147,6 +156,4 @@ pub record Demand3 (rules : Rules) (input : Listing) : Type 0 where
   -- (8) "the input itself, where there was no step"
   pub last : (before : List Listing) × (listings rules input ≡ before ++ (finished rules input ∷ []))
   -- (9)
-  pub first-round : Bounded input (run rules input .first)
-  pub second-round : Bounded (after-first input (run rules input)) (run rules input .second)
-  pub third-round : Bounded (after-second input (run rules input)) (run rules input .third)
+  pub bounded : EachRound Bounded input (run rules input .rounds)

@@ -3,7 +3,7 @@ use Prim.Native.Nat.{ℕ}
 use mathlib.Core.List.{List, [], _∷_, _++_}
 use lib.ListN.{length, drop, replicate}
 use Rattle.reference.specs.Rules.{Rules}
-use Rattle.reference.specs.Run.{run, finished, Counts, counts}
+use Rattle.reference.specs.Run.{run, finished, Tally, three, settled, Counts, counts}
 use Rattle.reference.specs.Tape.{write}
 use Rattle.reference.specs.Questions.{WORK, is-convention, has-room-by, Answer, Refused, Passed, ask, let-passed_then_, read}
 
@@ -19,7 +19,7 @@ Reply = Answer Cleaned
 unfoldable pub reply-by : ℕ → Rules → List ℕ → ℕ → ℕ → ℕ → Reply
 reply-by figure rules tape work-a work-b output =
     ask 0 ((1, is-convention rules) ∷ (2, has-room-by figure work-a work-b output) ∷ [])
-    (let-passed (read tape) then λ lines. Passed (record { tape = write (finished rules lines); counts = counts (run rules lines) }))
+    (let-passed (read tape) then λ lines. Passed (record { tape = write (finished rules lines); counts = counts rules (run rules lines) }))
 
 abbrev pub reply : Rules → List ℕ → ℕ → ℕ → ℕ → Reply
 reply = reply-by WORK
@@ -34,28 +34,37 @@ unfoldable pub work-after : Reply → List ℕ → List ℕ
 work-after (Refused number place) work = work
 work-after (Passed c) work = replicate WORK 0 ++ drop WORK work
 
--- the reply in eight numbers: number and place of a refusal and all counts zero; or 0, 0, the output's length and the counts
+-- What is told of the rounds, in numbers: the attempts of each of three rounds; or, where the run was to settle, the number of rounds and the attempts
+-- in all. The numbers of the other setting are 0.
+pub record Told : Type 0 where
+  pub first : ℕ
+  pub second : ℕ
+  pub third : ℕ
+  pub rounds : ℕ
+  pub attempts : ℕ
+
+unfoldable pub told : Tally → Told
+told (three first second third) = record { first = first; second = second; third = third; rounds = 0; attempts = 0 }
+told (settled rounds attempts) = record { first = 0; second = 0; third = 0; rounds = rounds; attempts = attempts }
+
+-- the reply in numbers: number and place of a refusal and all counts zero; or 0, 0, the output's length and the counts
 pub record Report : Type 0 where
   pub refusal : ℕ
   pub place : ℕ
   pub length : ℕ
-  pub attempts₁ : ℕ
-  pub attempts₂ : ℕ
-  pub attempts₃ : ℕ
+  pub told : Told
   pub removed : ℕ
   pub cut : ℕ
 
 unfoldable pub report : Reply → Report
 report (Refused number place) =
-    record { refusal = number; place = place; length = 0; attempts₁ = 0; attempts₂ = 0; attempts₃ = 0; removed = 0; cut = 0 }
+    record { refusal = number; place = place; length = 0; told = told (three 0 0 0); removed = 0; cut = 0 }
 report (Passed c) =
     record {
       refusal = 0;
       place = 0;
       length = length (c .tape);
-      attempts₁ = c .counts .attempts₁;
-      attempts₂ = c .counts .attempts₂;
-      attempts₃ = c .counts .attempts₃;
+      told = told (c .counts .tally);
       removed = c .counts .lines-removed;
       cut = c .counts .results-cut;
     }

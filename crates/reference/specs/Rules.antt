@@ -1,12 +1,15 @@
 -- The settings of one call. From an attempt upwards the definitions take them in this record; the change requests of document 02 add fields
 -- to it. Assumes nothing.
 use Prim.Native.Nat.{ℕ}
+use mathlib.Core.Bool.{Bool}
 use mathlib.Core.List.{List}
 use Rattle.reference.specs.Text.{Text}
 use Rattle.reference.specs.Names.{volatile-of}
 
 pub record Rules : Type 0 where
   pub convention : ℕ
+  -- M-112: whether to go "on until a round changes nothing", in place of at most three rounds
+  pub settle : Bool
 
 -- the families that a call overwrites
 abbrev pub volatile : Rules → List Text

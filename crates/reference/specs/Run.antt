@@ -1,9 +1,9 @@
 -- Rounds, cuts, and the run: the list of all listings, with the counts. Assumes nothing.
 use Prim.Native.Nat.{ℕ, zero, suc, _+_, pred}
 use mathlib.Core.Bool.{Bool, true, false}
-use mathlib.Core.List.{List, [], _∷_, _++_, map}
+use mathlib.Core.List.{List, [], _∷_, _++_, map, flatten}
 use lib.Dec.{ltb, eqb}
-use lib.ListN.{length, drop}
+use lib.ListN.{length, getD, drop}
 use Rattle.reference.specs.Control.{_&&_, _||_, if_then_else_, let-some_else_then_}
 use Rattle.reference.specs.Lists.{any, count, windows, modify, get}
 use Rattle.reference.specs.Text.{Text, bytes, _==_, starts-with, ends-with}
@@ -66,9 +66,24 @@ removals = count (λ a. a .removed)
 unfoldable pub changed : List Attempt → Bool
 changed = any (λ a. a .removed)
 
--- a round that runs only if the one before it changed something
-unfoldable pub next-round : Rules → List Attempt → Listing → List Attempt
-next-round rules before lines = if changed before then propagate-once rules lines else []
+-- ---- rounds
+
+-- `for _ in 0..limit { if !propagate_once(lines, volatile) { break; } }`: the attempts of each round that is made
+unfoldable pub rounds-from : Rules → ℕ → Listing → List (List Attempt)
+rounds-from rules zero lines = []
+rounds-from rules (suc limit) lines =
+    let round : List Attempt = propagate-once rules lines in
+    let more : List (List Attempt) = rounds-from rules limit (after-attempts lines round) in
+    round ∷ (if changed round then more else [])
+
+-- The Rust's 3. A run that settles needs "at most n + 1 rounds" of n lines: proofs/Settling.antt shows that this limit ends none.
+unfoldable pub limit : Rules → Listing → ℕ
+limit rules lines = if rules .settle then length lines + 1 else 3
+
+-- the listing that the rounds leave
+unfoldable pub after-rounds : Listing → List (List Attempt) → Listing
+after-rounds lines [] = lines
+after-rounds lines (round ∷ more) = after-rounds (after-attempts lines round) more
 
 -- ---- dead results
 
@@ -101,23 +116,21 @@ last-of lines (l ∷ ls) = last-of l ls
 -- ---- the run
 
 pub record Run : Type 0 where
-  pub first : List Attempt
-  pub second : List Attempt
-  pub third : List Attempt
+  -- the attempts of each round that was made
+  pub rounds : List (List Attempt)
   pub cuts : List Listing
 
 unfoldable pub run : Rules → Listing → Run
 run rules lines =
-    let r₁ : List Attempt = propagate-once rules lines in
-    let l₁ : Listing = after-attempts lines r₁ in
-    let r₂ : List Attempt = next-round rules r₁ l₁ in
-    let l₂ : Listing = after-attempts l₁ r₂ in
-    let r₃ : List Attempt = next-round rules r₂ l₂ in
-    let l₃ : Listing = after-attempts l₂ r₃ in
-    record { first = r₁; second = r₂; third = r₃; cuts = drop-dead-results rules l₃ }
+    let rounds : List (List Attempt) = rounds-from rules (limit rules lines) lines in
+    record { rounds = rounds; cuts = drop-dead-results rules (after-rounds lines rounds) }
+
+-- all attempts of a run, those of every round in turn
+unfoldable pub attempts-of : Run → List Attempt
+attempts-of r = flatten (r .rounds)
 
 unfoldable pub steps : Run → List Listing
-steps r = map (λ a. a .left) (r .first) ++ map (λ a. a .left) (r .second) ++ map (λ a. a .left) (r .third) ++ r .cuts
+steps r = map (λ a. a .left) (attempts-of r) ++ r .cuts
 
 -- every listing of the run, the input first
 unfoldable pub listings : Rules → Listing → List Listing
@@ -126,19 +139,29 @@ listings rules lines = lines ∷ steps (run rules lines)
 unfoldable pub finished : Rules → Listing → Listing
 finished rules lines = last-of lines (steps (run rules lines))
 
+-- what is told of the rounds
+pub data Tally : Type 0 where
+  -- "attempts of each of three rounds (0 for one not run)"
+  three : ℕ → ℕ → ℕ → Tally
+  -- "In place of the three attempt counts it gives rounds, the last included, and total attempts."
+  settled : ℕ → ℕ → Tally
+
 pub record Counts : Type 0 where
-  pub attempts₁ : ℕ
-  pub attempts₂ : ℕ
-  pub attempts₃ : ℕ
+  pub tally : Tally
   pub lines-removed : ℕ
   pub results-cut : ℕ
 
-unfoldable pub counts : Run → Counts
-counts r =
+-- the attempts of the round k, from 0; none where it was not made
+unfoldable pub attempts-in : ℕ → List (List Attempt) → ℕ
+attempts-in k rounds = length (getD rounds k [])
+
+unfoldable pub counts : Rules → Run → Counts
+counts rules r =
     record {
-      attempts₁ = length (r .first);
-      attempts₂ = length (r .second);
-      attempts₃ = length (r .third);
-      lines-removed = removals (r .first) + removals (r .second) + removals (r .third);
+      tally =
+          if rules .settle
+          then settled (length (r .rounds)) (length (attempts-of r))
+          else three (attempts-in 0 (r .rounds)) (attempts-in 1 (r .rounds)) (attempts-in 2 (r .rounds));
+      lines-removed = removals (attempts-of r);
       results-cut = length (r .cuts);
     }

@@ -1,5 +1,5 @@
 -- What a frame wants of its call: the report, and every lent byte afterwards; and whether a call does that. Assumes nothing.
-use Prim.Native.Nat.{ℕ, _%_}
+use Prim.Native.Nat.{ℕ, _/_, _%_}
 use mathlib.Core.Bool.{Bool}
 use mathlib.Core.List.{List, _++_}
 use lib.Dec.{eqb, leb}
@@ -8,7 +8,7 @@ use lib.Seq.{paste}
 use Rattle.reference.specs.Control.{_&&_, if_then_else_}
 use Rattle.reference.specs.Text.{_==_}
 use Rattle.reference.specs.Rules.{Rules}
-use Rattle.reference.specs.Reply.{Reply, Report, reply, report, output-after, work-after}
+use Rattle.reference.specs.Reply.{Reply, Told, Report, reply, report, output-after, work-after}
 use Rattle.replay.specs.Frames.{number-in, tape-in, output-in}
 
 -- a number of the frame is this one
@@ -21,10 +21,16 @@ is-report list refusal place length cut = is-number list 6 refusal && is-number 
 abbrev pub are-counts : List ℕ → ℕ → ℕ → ℕ → ℕ → Bool
 are-counts list first second third removed = is-number list 9 first && is-number list 10 second && is-number list 11 third && is-number list 12 removed
 
+abbrev pub are-rounds : List ℕ → ℕ → ℕ → Bool
+are-rounds list rounds attempts = is-number list 14 rounds && is-number list 15 attempts
+
+abbrev pub are-told : List ℕ → Told → ℕ → Bool
+are-told list t removed = are-counts list (t .first) (t .second) (t .third) removed && are-rounds list (t .rounds) (t .attempts)
+
 -- the report is the one that the frame wants
 abbrev pub is-wanted : List ℕ → Report → Bool
 is-wanted list r =
-    is-report list (r .refusal) (r .place) (r .length) (r .cut) && are-counts list (r .attempts₁) (r .attempts₂) (r .attempts₃) (r .removed)
+    is-report list (r .refusal) (r .place) (r .length) (r .cut) && are-told list (r .told) (r .removed)
 
 -- a work area afterwards: zero up to 49,152, unless the frame wants a refusal
 unfoldable pub work-wanted : List ℕ → List ℕ → List ℕ
@@ -45,9 +51,9 @@ is-right list report work-a work-b out =
 
 -- ---- the call
 
--- settings as one number: the convention is its lowest byte
+-- settings as one number: the convention is its lowest byte; the bit above it, whether to settle
 abbrev pub rules-as : ℕ → Rules
-rules-as n = record { convention = n % 256 }
+rules-as n = record { convention = n % 256; settle = eqb (n / 256 % 2) 1 }
 
 abbrev pub rules-in : List ℕ → Rules
 rules-in list = rules-as (number-in list 1)

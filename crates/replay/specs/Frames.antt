@@ -12,7 +12,7 @@ number-in list k = from-le-bytes (take 4 (drop (4 * k) list))
 
 -- how many bytes that frame says it has
 abbrev pub said-size : List ℕ → ℕ
-said-size list = 56 + number-in list 5 + number-in list 8
+said-size list = 64 + number-in list 5 + number-in list 8
 
 -- the list has all of them
 abbrev pub Whole : List ℕ → Type 0
@@ -22,7 +22,7 @@ unfoldable pub frame-size : List ℕ → ℕ
 frame-size list = if leb (said-size list) (length list) then said-size list else 0
 
 abbrev pub tape-in : List ℕ → List ℕ
-tape-in list = take (number-in list 5) (drop 56 list)
+tape-in list = take (number-in list 5) (drop 64 list)
 
 abbrev pub output-in : List ℕ → List ℕ
-output-in list = take (number-in list 8) (drop (56 + number-in list 5) list)
+output-in list = take (number-in list 8) (drop (64 + number-in list 5) list)

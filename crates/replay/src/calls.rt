@@ -1,4 +1,5 @@
 // One call, and whether it did what its frame wants: the report, and every byte that was lent.
+use crate::frames::ATTEMPTS;
 use crate::frames::CUT;
 use crate::frames::FIRST;
 use crate::frames::LENGTH;
@@ -6,6 +7,7 @@ use crate::frames::OUT;
 use crate::frames::PLACE;
 use crate::frames::REFUSAL;
 use crate::frames::REMOVED;
+use crate::frames::ROUNDS;
 use crate::frames::SECOND;
 use crate::frames::SETTINGS;
 use crate::frames::THIRD;
@@ -15,6 +17,9 @@ use crate::frames::number;
 use crate::frames::output_of;
 use crate::frames::tape_of;
 use clean::Reply;
+use clean::Tally;
+use clean::Told;
+use clean::tell;
 use libc::STDOUT_FILENO;
 use lines::rules::Rules;
 use text::copy_bytes;
@@ -25,9 +30,9 @@ ghost use Prim.Native.Nat.{_+_, _*_, _≤_};
 ghost use lib.ListN.{length, replicate};
 ghost use Rattle.reference.specs.Text.{_==_};
 ghost use Rattle.lines.specs.Rules.{rules-of};
-ghost use Rattle.clean.specs.Replies.{report-of};
+ghost use Rattle.clean.specs.Replies.{told-of, report-of};
 ghost use Rattle.replay.specs.Frames.{Whole};
-ghost use Rattle.replay.specs.Answers.{is-number, is-report, are-counts, is-wanted, work-wanted, out-wanted, all-right, is-right, rules-in, agrees};
+ghost use Rattle.replay.specs.Answers.{is-number, is-report, are-counts, are-rounds, are-told, is-wanted, work-wanted, out-wanted, all-right, is-right, rules-in, agrees};
 
 // What is lent is longer than a call asks for, and every byte of it has this value before the call.
 const MARK: u8 = 170;
@@ -71,6 +76,21 @@ fn are_counts(list: &[u8], first: u64, second: u64, third: u64, removed: u64) ->
             && (is_number(list, THIRD, third) && is_number(list, REMOVED, removed)))
 }
 
+fn are_rounds(list: &[u8], rounds: u64, attempts: u64) -> bool
+    requires { ⌜ Whole (now list) ⌝ }
+    ensures { λ r. ⌜ r ≡ are-rounds (now (list .entry)) rounds attempts ⌝ }
+{
+    is_number(list, ROUNDS, rounds) && is_number(list, ATTEMPTS, attempts)
+}
+
+// Whether the counts of a finished call are those that the frame wants.
+fn are_told(list: &[u8], t: Told, removed: u64) -> bool
+    requires { ⌜ Whole (now list) ⌝ }
+    ensures { λ r. ⌜ r ≡ are-told (now (list .entry)) (told-of t) removed ⌝ }
+{
+    are_counts(list, t.first, t.second, t.third, removed) && are_rounds(list, t.rounds, t.attempts)
+}
+
 // Whether a reply is the one that the frame wants.
 fn is_wanted(list: &[u8], r: Reply) -> bool
     requires { ⌜ Whole (now list) ⌝ }
@@ -78,11 +98,16 @@ fn is_wanted(list: &[u8], r: Reply) -> bool
 {
     match r {
         Reply::Refused { number, place } => {
-            is_report(list, number, place as u64, 0, 0) && are_counts(list, 0, 0, 0, 0)
+            let none = Tally::Three {
+                first: 0,
+                second: 0,
+                third: 0,
+            };
+            is_report(list, number, place as u64, 0, 0) && are_told(list, tell(none), 0)
         }
         Reply::Finished(f) => {
-            is_report(list, 0, 0, f.length as u64, f.cut)
-                && are_counts(list, f.first, f.second, f.third, f.removed)
+            let tally = f.tally;
+            is_report(list, 0, 0, f.length as u64, f.cut) && are_told(list, tell(tally), f.removed)
         }
     }
 }
@@ -175,6 +200,7 @@ fn settings(list: &[u8]) -> Rules
     let n = number(list, SETTINGS);
     Rules {
         convention: (n % 256) as u8,
+        settle: n / 256 % 2 == 1,
     }
 }
 

@@ -1,6 +1,7 @@
-// The list that is replayed: frames one after the other. A frame is fourteen numbers of four bytes, the lowest first, then the tape of a call, then
-// the output that is wanted. The numbers: the class; the settings; the lengths of both work areas, of the output and of the tape; and the eight
-// numbers of the wanted report, of which the third is the length of the wanted output. Of the settings the lowest byte is the convention.
+// The list that is replayed: frames one after the other. A frame is sixteen numbers of four bytes, the lowest first, then the tape of a call, then
+// the output that is wanted. The numbers: the class; the settings; the lengths of both work areas, of the output and of the tape; and the ten
+// numbers of the wanted report, of which the third is the length of the wanted output. Of the settings the
+// lowest byte is the convention, and the lowest bit of the next says whether to settle.
 use tape::commands::text_of;
 use tape::little_endian::number_at;
 ghost use mathlib.Core.Path.{_≡_};
@@ -36,7 +37,11 @@ pub const REMOVED: usize = 12;
 
 pub const CUT: usize = 13;
 
-const HEADER: usize = 56;
+pub const ROUNDS: usize = 14;
+
+pub const ATTEMPTS: usize = 15;
+
+const HEADER: usize = 64;
 
 // A number of the frame at the list's front.
 pub fn number(list: &[u8], k: usize) -> u64

@@ -17,7 +17,7 @@ ghost use Rattle.replay.specs.Frames.{Whole};
 ghost use Rattle.replay.specs.Tallies.{counted, replayed};
 
 // The longest list that is read.
-const LONGEST: usize = 400000;
+const LONGEST: usize = 650000;
 
 struct Counts {
     tapes: u64,
@@ -59,8 +59,11 @@ fn print_class(class: u64) {
         5 => {
             print(b"damaged: ");
         }
-        _ => {
+        6 => {
             print(b"refused before the tape: ");
+        }
+        _ => {
+            print(b"settling: ");
         }
     }
 }
@@ -68,7 +71,7 @@ fn print_class(class: u64) {
 // The counts with the frame at the list's front, if it is of the class.
 fn counted(list: &[u8], class: u64, counts: Counts) -> Counts
     requires { ⌜ Whole (now list) ⌝ }
-    requires { ⌜ (counts .tapes ≤ 400000) × (counts .differ ≤ counts .tapes) ⌝ }
+    requires { ⌜ (counts .tapes ≤ 650000) × (counts .differ ≤ counts .tapes) ⌝ }
     ensures { λ r. ⌜ r ≡ counted (now (list .entry)) class counts ⌝ }
     ensures { λ r. ⌜ (r .differ ≤ r .tapes) × (r .tapes ≤ counts .tapes + 1) ⌝ }
 {
@@ -89,7 +92,7 @@ fn counted(list: &[u8], class: u64, counts: Counts) -> Counts
 
 // Replays the frames of a class.
 fn replayed(list: &[u8], class: u64) -> Counts
-    requires { ⌜ length (now list) ≤ 400000 ⌝ }
+    requires { ⌜ length (now list) ≤ 650000 ⌝ }
     ensures { λ r. ⌜ r ≡ replayed (now (list .entry)) class ⌝ }
     ensures { λ r. ⌜ (r .differ ≤ r .tapes) × (r .tapes ≤ length (now (list .entry))) ⌝ }
 {
@@ -119,7 +122,7 @@ fn run(list: &[u8]) {
         tapes: 0,
         differ: 0,
     };
-    while class < 7 {
+    while class < 8 {
         let counts = replayed(list, class);
         print_class(class);
         print_counts(counts);

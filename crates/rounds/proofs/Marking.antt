@@ -16,7 +16,7 @@ use Rattle.build.specs.declared.used.Size.{Size}
 use Rattle.build.specs.State.{used}
 use Rattle.build.specs.Added.{used-words}
 use Rattle.join.specs.Current.{used-lines, bare-now, Current}
-use Rattle.rounds.specs.declared.run.Outcome.{Outcome}
+use Rattle.rounds.specs.declared.run.Progress.{Progress}
 use Rattle.rounds.specs.Runs.{SameListing, Runnable, Rounded}
 use Rattle.rounds.proofs.Turning.{bare-is}
 
@@ -67,14 +67,11 @@ module _ {tape area : Text} {tokens lines : List ℕ} {at : Size} {lines′ : Li
     words-short = b .words-short;
   }
 
-  pub rounded-same : {rules : Rules} {area″ : Text} {tokens″ lines″ : List ℕ} {r : Outcome}
+  pub rounded-same : {rules : Rules} {area″ : Text} {tokens″ lines″ : List ℕ} {r : Progress}
       → Rounded rules tape area tokens lines′ at area″ tokens″ lines″ r → Rounded rules tape area tokens lines at area″ tokens″ lines″ r
   rounded-same m = record {
     current = m .current;
     limits = m .limits;
     left = λ addresses. rw (s .means addresses) at (m .left addresses);
-    first-is = λ addresses. rw (s .means addresses) at (m .first-is addresses);
-    second-is = λ addresses. rw (s .means addresses) at (m .second-is addresses);
-    third-is = λ addresses. rw (s .means addresses) at (m .third-is addresses);
-    removed-is = λ addresses. rw (s .means addresses) at (m .removed-is addresses);
+    counted = λ addresses. rw (s .means addresses) at (m .counted addresses);
   }

@@ -1,33 +1,38 @@
 -- The run: rounds one after the other, each with what the one before it left, then the cuts. Assumes nothing.
-use Prim.Native.Nat.{ℕ, suc, _+_}
+use Prim.Native.Nat.{ℕ, zero, suc, _+_, _-_, _≤_, _<_}
 use native.Mathlib.Omega.{arith}
 use mathlib.Core.Path.{_≡_, refl, sym, ap, _∙_}
 use mathlib.Core.Logic.{_⊎_, ⊎-elim, inl, inr}
 use mathlib.Core.Bool.{Bool, true, false}
-use mathlib.Core.List.{List, [], _∷_, _++_, map}
-use lib.ListN.{length, take, drop}
-use lib.Seq.{take-at, length-take-le, length-front}
+use mathlib.Core.List.{List, [], _∷_, _++_, map, map-append, flatten, append-nil, append-assoc}
+use lib.Dec.{eqb, eqb·zero-suc, eqb·suc-zero, eqb·suc-suc}
+use lib.ListN.{length, take, drop, getD, length-append}
+use lib.Seq.{take-at, length-take-le, length-front, append-snoc}
 use borrow.Author.Tests.{eq-eqb, ne-eqb}
 use Rattle.reference.specs.Control.{_||_, if_then_else_}
 use Rattle.reference.specs.Text.{Text}
 use Rattle.reference.specs.Listing.{Listing}
 use Rattle.reference.specs.Rules.{Rules}
-use Rattle.reference.specs.Run.{Attempt, propagate-once, after-attempts, removals, changed, next-round, drop-dead-results, last-of, run, steps, finished, counts}
+use Rattle.reference.specs.Run.{Attempt, propagate-once, after-attempts, removals, changed, rounds-from, limit, after-rounds, drop-dead-results}
+use Rattle.reference.specs.Run.{last-of, run, attempts-of, steps, finished, attempts-in, counts, Tally, settled, three}
+use Rattle.joining.specs.Limits.{Limits}
 use Rattle.laws.proofs.Scans.{if-true, if-false}
 use Rattle.lines.specs.Lines.{listing-of}
 use Rattle.build.specs.declared.used.Size.{Size}
 use Rattle.build.specs.State.{used}
 use Rattle.build.specs.Added.{used-words}
-use Rattle.join.specs.Current.{used-lines, listing-now}
+use Rattle.join.specs.Current.{used-lines, listing-now, bare-now, Current}
 use Rattle.rounds.specs.declared.rounds.Round.{Round}
 use Rattle.rounds.specs.declared.run.Outcome.{Outcome}
+use Rattle.rounds.specs.declared.run.Progress.{Progress}
+use Rattle.rounds.specs.declared.run.Tally as Code
 use Rattle.rounds.specs.Cuts.{Cut}
-use Rattle.rounds.specs.Rounds.{Made, round-after}
-use Rattle.rounds.specs.Runs.{Runnable, after-rounds, Rounded, counts-of, Ran}
+use Rattle.rounds.specs.Rounds.{Countable, Made}
+use Rattle.rounds.specs.Runs.{Runnable, most-rounds, rounds-left, count-after, after-round, Few, Counted, Rounded, tally-of, told-of, counts-of, Ran}
 use Rattle.rounds.proofs.Cutting.{last-append}
-use Rattle.rounds.proofs.Turning.{lent-same}
+use Rattle.rounds.proofs.Turning.{removals-append, now-length, now-few, lent-same}
 
--- ---- a round more, if the one before it changed something
+-- ---- the rounds from a listing on: one, and those after it
 
 -- a round changed something where it removed a line
 removed-some : (round : List Attempt) → ((changed round ≡ true) × (removals round ≡ 0 → ⊥)) ⊎ ((changed round ≡ false) × (removals round ≡ 0))
@@ -41,56 +46,191 @@ removed-some (a ∷ rest) = go (a .removed) (removed-some rest)
     go true ih = inl (refl, λ e. omega arith)
     go false ih = ih
 
-next-is : (rules : Rules) (before : List Attempt) (lines : Listing) → round-after rules (removals before) lines ≡ next-round rules before lines
-unfolding round-after next-round
-next-is rules before lines =
-    ⊎-elim
-    (λ t. if-false _ _ (ne-eqb (removals before) 0 (t .1)) ∙ sym (if-true _ _ (t .0)))
-    (λ t. if-true _ _ (eq-eqb (removals before) 0 (t .1)) ∙ sym (if-false _ _ (t .0)))
-    (removed-some before)
+rounds-more : (rules : Rules) (left : ℕ) (lines : Listing) → 1 ≤ left
+    → let round = propagate-once rules lines in
+    rounds-from rules left lines ≡ round ∷ rounds-from rules (rounds-left left (removals round)) (after-attempts lines round)
+unfolding rounds-from rounds-left
+rounds-more rules zero lines h = absurd (omega arith)
+rounds-more rules (suc left) lines h =
+    let round : List Attempt = propagate-once rules lines in
+    let rest : ℕ → List (List Attempt) = (λ n. rounds-from rules n (after-attempts lines round)) in
+    let less : suc left - 1 ≡ left = omega arith in
+    ap (λ (more : List (List Attempt)). round ∷ more)
+    (⊎-elim
+    (λ t. if-true _ _ (t .0) ∙ sym (ap rest (if-false _ _ (ne-eqb (removals round) 0 (t .1)) ∙ less)))
+    (λ t. if-false _ _ (t .0) ∙ sym (ap rest (if-true _ _ (eq-eqb (removals round) 0 (t .1)))))
+    (removed-some round))
 
-module _ (rules : Rules) (removed : ℕ) (lines : Listing) where
-  round-none : removed ≡ 0 → round-after rules removed lines ≡ []
-  unfolding round-after
-  round-none e = if-true _ _ (eq-eqb removed 0 e)
+limit-is : (rules : Rules) (lines : Listing) → limit rules lines ≡ most-rounds (rules .settle) (length lines)
+unfolding limit most-rounds
+limit-is rules lines = refl
 
-  round-made : (removed ≡ 0 → ⊥) → round-after rules removed lines ≡ propagate-once rules lines
-  unfolding round-after
-  round-made n = if-false _ _ (ne-eqb removed 0 n)
+-- ---- what is read off rounds, one after the other
 
-module _ (rules : Rules) {tape area : Text} {tokens lines : List ℕ} {at : Size} (removed : ℕ) where
-  pub made-none : {area2 : Text} {tokens2 labels : List ℕ} {slots : Text} {slot-words : List ℕ} → Runnable tape area tokens lines area2 tokens2 labels slots slot-words at → removed ≡ 0
-      → Made (round-after rules removed) tape area tokens lines at area tokens lines (record { next = 0; attempts = 0; removed = 0; size = at })
-  unfolding after-attempts removals
-  made-none b e =
-      let none : (ls : Listing) → round-after rules removed ls ≡ [] = (λ ls. round-none rules removed ls e) in
+after-snoc : (lines : Listing) (done : List (List Attempt)) (round : List Attempt)
+    → after-rounds lines (done ++ (round ∷ [])) ≡ after-attempts (after-rounds lines done) round
+unfolding after-rounds
+after-snoc lines [] round = refl
+after-snoc lines (first ∷ done) round = after-snoc (after-attempts lines first) done round
+
+flatten-snoc : (done : List (List Attempt)) (round : List Attempt) → flatten (done ++ (round ∷ [])) ≡ flatten done ++ round
+unfolding flatten
+flatten-snoc [] round = append-nil round
+flatten-snoc (first ∷ done) round = rw (flatten-snoc done round) (sym (append-assoc first (flatten done) round))
+
+-- the attempts of round k, one round more having been made
+count-snoc : (k : ℕ) (done : List (List Attempt)) (round : List Attempt)
+    → attempts-in k (done ++ (round ∷ [])) ≡ count-after k (length done) (attempts-in k done) (length round)
+unfolding attempts-in count-after if_then_else_
+count-snoc zero [] round = refl
+count-snoc (suc k) [] round = rw (eqb·zero-suc k) refl
+count-snoc zero (first ∷ done) round = rw (eqb·suc-zero (length done)) refl
+count-snoc (suc k) (first ∷ done) round = rw (eqb·suc-suc (length done) k) (count-snoc k done round)
+
+module _ {done : List (List Attempt)} {s : Progress} (c : Counted done s) (round : List Attempt) (r : Round) (ea : r .attempts ≡ length round)
+    (er : r .removed ≡ removals round) where
+  count-is : (k : ℕ) {before : ℕ} → before ≡ attempts-in k done → count-after k (s .made) before (r .attempts) ≡ attempts-in k (done ++ (round ∷ []))
+  count-is k e = rw (e, ea, c .made-are) (sym (count-snoc k done round))
+
+  counted-next : Counted (done ++ (round ∷ [])) (after-round s r)
+  counted-next =
+      record {
+        made-are = ap (λ (n : ℕ). n + 1) (c .made-are) ∙ sym (length-append done _);
+        first-is = count-is 0 (c .first-is);
+        second-is = count-is 1 (c .second-is);
+        third-is = count-is 2 (c .third-is);
+        attempts-are = rw (c .attempts-are, ea, flatten-snoc done round) (sym (length-append (flatten done) round));
+        removed-is = rw (c .removed-is, er, flatten-snoc done round) (sym (removals-append (flatten done) round));
+      }
+
+-- ---- the rounds so far
+
+-- Of the rounds of `start`, at most `most`, those in `done` were made, and left `lines`: the others are those of `lines`, at most so many as s says.
+pub record Sofar (rules : Rules) (most : ℕ) (start : Listing) (s : Progress) (lines : Listing) : Type 0 where
+  pub done : List (List Attempt)
+  pub made : rounds-from rules most start ≡ done ++ rounds-from rules (s .left) lines
+  pub counted : Counted done s
+  pub left : after-rounds start done ≡ lines
+
+-- no round was made yet
+abbrev pub begin : ℕ → Size → Progress
+begin most at = record { left = most; made = 0; first = 0; second = 0; third = 0; attempts = 0; removed = 0; size = at }
+
+module _ (rules : Rules) (most : ℕ) (start : Listing) where
+  sofar-begin : (at : Size) → Sofar rules most start (begin most at) start
+  unfolding after-rounds attempts-in flatten removals
+  sofar-begin at =
+      record {
+        done = [];
+        made = refl;
+        counted = record { made-are = refl; first-is = refl; second-is = refl; third-is = refl; attempts-are = refl; removed-is = refl };
+        left = refl;
+      }
+
+  module _ {s : Progress} {lines : Listing} (u : Sofar rules most start s lines) where
+    sofar-next : 1 ≤ s .left → (r : Round) {lines′ : Listing} → lines′ ≡ after-attempts lines (propagate-once rules lines)
+        → r .attempts ≡ length (propagate-once rules lines) → r .removed ≡ removals (propagate-once rules lines)
+        → Sofar rules most start (after-round s r) lines′
+    sofar-next h r el ea er =
+        let round : List Attempt = propagate-once rules lines in
+        record {
+          done = u .done ++ (round ∷ []);
+          made =
+              rw (er, el)
+              (u .made ∙ ap (λ (more : List (List Attempt)). u .done ++ more) (rounds-more rules (s .left) lines h) ∙ sym (append-snoc (u .done) round _));
+          counted = counted-next (u .counted) round r ea er;
+          left = after-snoc start (u .done) round ∙ ap (λ (ls : Listing). after-attempts ls round) (u .left) ∙ sym el;
+        }
+
+    sofar-end : s .left ≡ 0 → (lines ≡ after-rounds start (rounds-from rules most start)) × Counted (rounds-from rules most start) s
+    unfolding rounds-from
+    sofar-end h =
+        let all : rounds-from rules most start ≡ u .done =
+        u .made ∙ ap (λ (n : ℕ). u .done ++ rounds-from rules n lines) h ∙ append-nil (u .done) in
+        rw all (sym (u .left), u .counted)
+
+-- the rounds stand at s: what began as the first listing is now the second
+pub record Going (rules : Rules) (tape area₀ : Text) (tokens₀ lines₀ : List ℕ) (at₀ : Size) (most : ℕ)
+    (area : Text) (tokens lines : List ℕ) (s : Progress) : Type 0 where
+  pub current : Current tape area tokens lines (s .size)
+  pub limits : Limits (bare-now tape area tokens lines (s .size))
+  pub few : Few s
+  pub sofar : (addresses : List ℕ)
+      → Sofar rules most (listing-now tape area₀ tokens₀ lines₀ at₀ addresses) s (listing-now tape area tokens lines (s .size) addresses)
+
+most-few : (settle : Bool) {n : ℕ} → n ≤ 256 → most-rounds settle n ≤ 257
+unfolding most-rounds if_then_else_
+most-few true h = omega arith
+most-few false h = omega arith
+
+module _ {rules : Rules} {tape area₀ : Text} {tokens₀ lines₀ : List ℕ} {at₀ : Size} where
+  pub going-begin : {area2 : Text} {tokens2 labels : List ℕ} {slots : Text} {slot-words : List ℕ}
+      → Runnable tape area₀ tokens₀ lines₀ area2 tokens2 labels slots slot-words at₀ → {most : ℕ} → most ≡ most-rounds (rules .settle) (at₀ .lines)
+      → Going rules tape area₀ tokens₀ lines₀ at₀ most area₀ tokens₀ lines₀ (begin most at₀)
+  going-begin b e =
       record {
         current = b .current;
         limits = b .limits;
-        few = (omega arith, omega arith);
-        left = λ addresses. rw (none (listing-now tape area tokens lines at addresses));
-        attempts-are = λ addresses. rw (none (listing-now tape area tokens lines at addresses));
-        removed-is = λ addresses. rw (none (listing-now tape area tokens lines at addresses));
+        few =
+            record {
+              rounds = omega (arith, e, most-few (rules .settle) (now-few (b .current) (b .limits)));
+              attempts = omega arith;
+              removed = omega arith;
+            };
+        sofar = λ addresses. sofar-begin rules _ _ at₀;
       }
 
-  pub made-again : {area′ : Text} {tokens′ lines′ : List ℕ} {r : Round} → (removed ≡ 0 → ⊥)
-      → Made (propagate-once rules) tape area tokens lines at area′ tokens′ lines′ r → Made (round-after rules removed) tape area tokens lines at area′ tokens′ lines′ r
-  made-again n m = record {
-    current = m .current;
-    limits = m .limits;
-    few = m .few;
-    left = λ addresses. rw (round-made rules removed (listing-now tape area tokens lines at addresses) n) (m .left addresses);
-    attempts-are = λ addresses. rw (round-made rules removed (listing-now tape area tokens lines at addresses) n) (m .attempts-are addresses);
-    removed-is = λ addresses. rw (round-made rules removed (listing-now tape area tokens lines at addresses) n) (m .removed-is addresses);
-  }
+  module _ {most : ℕ} {area : Text} {tokens lines : List ℕ} {s : Progress} (g : Going rules tape area₀ tokens₀ lines₀ at₀ most area tokens lines s) where
+    module _ (h : 1 ≤ s .left) {area′ : Text} {tokens′ lines′ : List ℕ} {r : Round}
+        (m : Made (propagate-once rules) tape area tokens lines (s .size) area′ tokens′ lines′ r) where
+      left-less : after-round s r .left < s .left
+      unfolding rounds-left if_then_else_
+      left-less = go (eqb (r .removed) 0)
+        where
+          go : (b : Bool) → (if b then 0 else s .left - 1) < s .left
+          go true = omega (arith, h)
+          go false = omega (arith, h)
+
+      pub going-next : Going rules tape area₀ tokens₀ lines₀ at₀ most area′ tokens′ lines′ (after-round s r)
+      going-next =
+          record {
+            current = m .current;
+            limits = m .limits;
+            few =
+                record {
+                  rounds = omega (arith, g .few .rounds, left-less);
+                  attempts = omega (arith, g .few .attempts, m .few);
+                  removed = omega (arith, g .few .removed, m .few);
+                };
+            sofar = λ addresses.
+                sofar-next rules most _ (g .sofar addresses) h r (m .left addresses) (m .attempts-are addresses) (m .removed-is addresses);
+          }
+
+      pub going-less : after-round s r .left < s .left
+      going-less = left-less
+
+    pub going-end : {area2 : Text} {tokens2 labels : List ℕ} {slots : Text} {slot-words : List ℕ}
+        → Runnable tape area₀ tokens₀ lines₀ area2 tokens2 labels slots slot-words at₀ → most ≡ most-rounds (rules .settle) (at₀ .lines)
+        → s .left ≡ 0 → Rounded rules tape area₀ tokens₀ lines₀ at₀ area tokens lines s
+    unfolding run
+    going-end b e h =
+        let most-is : (addresses : List ℕ) → limit rules (listing-now tape area₀ tokens₀ lines₀ at₀ addresses) ≡ most =
+        (λ addresses. limit-is rules _ ∙ ap (most-rounds (rules .settle)) (now-length (b .current) addresses) ∙ sym e) in
+        record {
+          current = g .current;
+          limits = g .limits;
+          left = λ addresses. rw (most-is addresses) (sofar-end rules most _ (g .sofar addresses) h .0);
+          counted = λ addresses. rw (most-is addresses) (sofar-end rules most _ (g .sofar addresses) h .1);
+        }
 
 -- the tables are large enough for the next round
-pub runnable-again : {round : Listing → List Attempt} {tape area : Text} {tokens lines : List ℕ} {area2 : Text} {tokens2 labels : List ℕ} {slots : Text} {slot-words : List ℕ} {at : Size}
-    (area2′ : Text) (tokens2′ labels′ : List ℕ) (slots′ : Text) (slot-words′ : List ℕ) {area′ : Text} {tokens′ lines′ : List ℕ} {r : Round}
-    → Runnable tape area tokens lines area2 tokens2 labels slots slot-words at → Made round tape area tokens lines at area′ tokens′ lines′ r
+pub runnable-again : {rules : Rules} {tape area : Text} {tokens lines : List ℕ} {area2 : Text} {tokens2 labels : List ℕ} {slots : Text}
+    {slot-words : List ℕ} {at : Size} {most : ℕ}
+    (area2′ : Text) (tokens2′ labels′ : List ℕ) (slots′ : Text) (slot-words′ : List ℕ) {area′ : Text} {tokens′ lines′ : List ℕ} {s : Progress}
+    → Runnable tape area tokens lines area2 tokens2 labels slots slot-words at → Going rules tape area tokens lines at most area′ tokens′ lines′ s
     → length area′ ≡ length area → length tokens′ ≡ length tokens → length area2′ ≡ length area2 → length tokens2′ ≡ length tokens2
     → length labels′ ≡ length labels → length slots′ ≡ length slots → length slot-words′ ≡ length slot-words
-    → Runnable tape area′ tokens′ lines′ area2′ tokens2′ labels′ slots′ slot-words′ (r .size)
+    → Runnable tape area′ tokens′ lines′ area2′ tokens2′ labels′ slots′ slot-words′ (s .size)
 runnable-again area2′ tokens2′ labels′ slots′ slot-words′ {area′} {tokens′} b m ea et ea2 et2 el es ew = record {
   current = m .current;
   limits = m .limits;
@@ -101,59 +241,6 @@ runnable-again area2′ tokens2′ labels′ slots′ slot-words′ {area′} {t
   words-short = omega (arith, b .words-short);
 }
 
--- ---- three rounds
-
-module _ (rules : Rules) {tape area : Text} {tokens lines : List ℕ} {at : Size} {area₁ : Text} {tokens₁ lines₁ : List ℕ} {r₁ : Round} {area₂ : Text} {tokens₂ lines₂ : List ℕ} {r₂ : Round}
-    {area₃ : Text} {tokens₃ lines₃ : List ℕ} {r₃ : Round}
-    (a : Made (propagate-once rules) tape area tokens lines at area₁ tokens₁ lines₁ r₁)
-    (b : Made (round-after rules (r₁ .removed)) tape area₁ tokens₁ lines₁ (r₁ .size) area₂ tokens₂ lines₂ r₂)
-    (c : Made (round-after rules (r₂ .removed)) tape area₂ tokens₂ lines₂ (r₂ .size) area₃ tokens₃ lines₃ r₃) (addresses : List ℕ) where
-  abbrev before : Listing
-  before = listing-now tape area tokens lines at addresses
-
-  second-is : round-after rules (r₁ .removed) (listing-now tape area₁ tokens₁ lines₁ (r₁ .size) addresses) ≡ run rules before .second
-  unfolding run
-  second-is = rw (a .left addresses, a .removed-is addresses) (next-is rules (propagate-once rules before) _)
-
-  after-second : listing-now tape area₂ tokens₂ lines₂ (r₂ .size) addresses ≡ after-attempts (after-attempts before (run rules before .first)) (run rules before .second)
-  unfolding run
-  after-second = b .left addresses ∙ rw (second-is, a .left addresses)
-
-  third-is : round-after rules (r₂ .removed) (listing-now tape area₂ tokens₂ lines₂ (r₂ .size) addresses) ≡ run rules before .third
-  unfolding run
-  third-is =
-      let removed : r₂ .removed ≡ removals (run rules before .second) = b .removed-is addresses ∙ ap removals second-is in
-      rw (after-second, removed) (next-is rules (run rules before .second) _)
-
-  after-third : listing-now tape area₃ tokens₃ lines₃ (r₃ .size) addresses ≡ after-rounds rules before
-  after-third = c .left addresses ∙ rw (third-is, after-second)
-
-  firsts : r₁ .attempts ≡ length (run rules before .first)
-  unfolding run
-  firsts = a .attempts-are addresses
-
-  removed-all : r₁ .removed + r₂ .removed + r₃ .removed ≡ counts (run rules before) .lines-removed
-  unfolding run counts
-  removed-all =
-      omega (arith, a .removed-is addresses, b .removed-is addresses, ap removals second-is, c .removed-is addresses, ap removals third-is)
-
-pub rounds-made : (rules : Rules) {tape area : Text} {tokens lines : List ℕ} {at : Size} {area₁ : Text} {tokens₁ lines₁ : List ℕ} {r₁ : Round} {area₂ : Text} {tokens₂ lines₂ : List ℕ} {r₂ : Round}
-    {area₃ : Text} {tokens₃ lines₃ : List ℕ} {r₃ : Round}
-    → Made (propagate-once rules) tape area tokens lines at area₁ tokens₁ lines₁ r₁
-    → Made (round-after rules (r₁ .removed)) tape area₁ tokens₁ lines₁ (r₁ .size) area₂ tokens₂ lines₂ r₂
-    → Made (round-after rules (r₂ .removed)) tape area₂ tokens₂ lines₂ (r₂ .size) area₃ tokens₃ lines₃ r₃
-    → Rounded rules tape area tokens lines at area₃ tokens₃ lines₃
-    (record { first = r₁ .attempts; second = r₂ .attempts; third = r₃ .attempts; removed = r₁ .removed + r₂ .removed + r₃ .removed; cut = 0; size = r₃ .size })
-rounds-made rules a b c = record {
-  current = c .current;
-  limits = c .limits;
-  left = λ addresses. after-third rules a b c addresses;
-  first-is = λ addresses. firsts rules a b c addresses;
-  second-is = λ addresses. b .attempts-are addresses ∙ ap length (second-is rules a b c addresses);
-  third-is = λ addresses. c .attempts-are addresses ∙ ap length (third-is rules a b c addresses);
-  removed-is = λ addresses. removed-all rules a b c addresses;
-}
-
 -- ---- the cuts
 
 last-left : (lines : Listing) (round : List Attempt) → last-of lines (map (λ a. a .left) round) ≡ after-attempts lines round
@@ -161,60 +248,62 @@ unfolding last-of after-attempts
 last-left lines [] = refl
 last-left lines (a ∷ rest) = last-left (a .left) rest
 
+last-round : (lines : Listing) (rounds : List (List Attempt)) → last-of lines (map (λ a. a .left) (flatten rounds)) ≡ after-rounds lines rounds
+unfolding last-of after-rounds flatten
+last-round lines [] = refl
+last-round lines (round ∷ more) =
+    ap (last-of lines) (map-append (λ (a : Attempt). a .left) round (flatten more))
+    ∙ last-append lines (map (λ a. a .left) round) (map (λ a. a .left) (flatten more))
+    ∙ ap (λ (l : Listing). last-of l (map (λ a. a .left) (flatten more))) (last-left lines round)
+    ∙ last-round (after-attempts lines round) more
+
 -- the finished listing is the last of the cuts that follow the rounds
-finished-is : (rules : Rules) (lines : Listing) → finished rules lines ≡ last-of (after-rounds rules lines) (run rules lines .cuts)
-unfolding finished steps
+finished-is : (rules : Rules) (lines : Listing) → finished rules lines ≡ last-of (after-rounds lines (run rules lines .rounds)) (run rules lines .cuts)
+unfolding finished steps attempts-of
 finished-is rules lines =
     let t = run rules lines in
-    let lefts : List Attempt → List Listing = (λ round. map (λ a. a .left) round) in
-    last-append lines (lefts (t .first) ++ lefts (t .second) ++ lefts (t .third)) (t .cuts)
-    ∙ ap (λ (l : Listing). last-of l (t .cuts))
-    (last-append lines (lefts (t .first) ++ lefts (t .second)) (lefts (t .third))
-    ∙ ap (λ (l : Listing). last-of l (lefts (t .third)))
-    (last-append lines (lefts (t .first)) (lefts (t .second))
-    ∙ ap (λ (l : Listing). last-of l (lefts (t .second))) (last-left lines (t .first))
-    ∙ last-left (after-attempts lines (t .first)) (t .second))
-    ∙ last-left (after-attempts (after-attempts lines (t .first)) (t .second)) (t .third))
+    last-append lines (map (λ a. a .left) (flatten (t .rounds))) (t .cuts)
+    ∙ ap (λ (l : Listing). last-of l (t .cuts)) (last-round lines (t .rounds))
 
-cuts-are : (rules : Rules) (lines : Listing) → run rules lines .cuts ≡ drop-dead-results rules (after-rounds rules lines)
+cuts-are : (rules : Rules) (lines : Listing) → run rules lines .cuts ≡ drop-dead-results rules (after-rounds lines (run rules lines .rounds))
 unfolding run
 cuts-are rules lines = refl
 
-module _ (rules : Rules) {tape area : Text} {tokens lines : List ℕ} {at : Size} {area′ : Text} {tokens′ lines′ : List ℕ} {r : Outcome}
-    (m : Rounded rules tape area tokens lines at area′ tokens′ lines′ r) where
-  module _ {left : List ℕ} {k : ℕ} (c : Cut (drop-dead-results rules) tape (used area′ (r .size)) (used-words tokens′ (r .size)) (used-lines lines′ (r .size)) left k)
-      (e : length left ≡ length (used-lines lines′ (r .size))) where
-    front : take (r .size .lines) (left ++ drop (r .size .lines) lines′) ≡ left
-    front = take-at left _ (r .size .lines) (e ∙ length-take-le (r .size .lines) lines′ (m .current .lines-fit))
+module _ (rules : Rules) {tape area : Text} {tokens lines : List ℕ} {at : Size} {area′ : Text} {tokens′ lines′ : List ℕ} {s : Progress}
+    (m : Rounded rules tape area tokens lines at area′ tokens′ lines′ s) where
+  module _ {left : List ℕ} {k : ℕ}
+      (c : Cut (drop-dead-results rules) tape (used area′ (s .size)) (used-words tokens′ (s .size)) (used-lines lines′ (s .size)) left k)
+      (e : length left ≡ length (used-lines lines′ (s .size))) (t : Code.Tally) (et : tally-of t ≡ told-of (rules .settle) s) where
+    front : take (s .size .lines) (left ++ drop (s .size .lines) lines′) ≡ left
+    front = take-at left _ (s .size .lines) (e ∙ length-take-le (s .size .lines) lines′ (m .current .lines-fit))
 
-    cuts-made : (addresses : List ℕ) → drop-dead-results rules (listing-now tape area′ tokens′ lines′ (r .size) addresses) ≡ run rules (listing-now tape area tokens lines at addresses) .cuts
+    cuts-made : (addresses : List ℕ) → drop-dead-results rules (listing-now tape area′ tokens′ lines′ (s .size) addresses)
+        ≡ run rules (listing-now tape area tokens lines at addresses) .cuts
     cuts-made addresses = ap (drop-dead-results rules) (m .left addresses) ∙ sym (cuts-are rules (listing-now tape area tokens lines at addresses))
 
-    counted : (addresses : List ℕ)
-        → counts-of (record { first = r .first; second = r .second; third = r .third; removed = r .removed; cut = k; size = r .size })
-        ≡ counts (run rules (listing-now tape area tokens lines at addresses))
-    unfolding counts
-    counted addresses =
-        let cut : k ≡ length (run rules (listing-now tape area tokens lines at addresses) .cuts) = c .count addresses ∙ ap length (cuts-made addresses) in
-        λ t. record {
-          attempts₁ = m .first-is addresses t;
-          attempts₂ = m .second-is addresses t;
-          attempts₃ = m .third-is addresses t;
-          lines-removed = m .removed-is addresses t;
-          results-cut = cut t;
-        }
+    abbrev outcome : Outcome
+    outcome = record { tally = t; removed = s .removed; cut = k; size = s .size }
 
-    pub run-made : Ran rules tape area tokens lines at area′ tokens′ (left ++ drop (r .size .lines) lines′)
-        (record { first = r .first; second = r .second; third = r .third; removed = r .removed; cut = k; size = r .size })
+    counted : (addresses : List ℕ) → counts-of outcome ≡ counts rules (run rules (listing-now tape area tokens lines at addresses))
+    unfolding counts attempts-of
+    counted addresses =
+        let all = run rules (listing-now tape area tokens lines at addresses) in
+        let told = m .counted addresses in
+        let tally : tally-of t ≡ counts rules all .tally =
+        et ∙ rw (told .made-are, told .attempts-are, told .first-is, told .second-is, told .third-is) in
+        let cut : k ≡ length (all .cuts) = c .count addresses ∙ ap length (cuts-made addresses) in
+        λ i. record { tally = tally i; lines-removed = told .removed-is i; results-cut = cut i }
+
+    pub run-made : Ran rules tape area tokens lines at area′ tokens′ (left ++ drop (s .size .lines) lines′) outcome
     run-made = record {
       current = record {
         text-fits = m .current .text-fits;
         words-fit = m .current .words-fit;
-        lines-fit = rw (length-front lines′ left (r .size .lines) e) (m .current .lines-fit);
+        lines-fit = rw (length-front lines′ left (s .size .lines) e) (m .current .lines-fit);
         listed = rw front (c .listed);
       };
       finished = λ addresses.
-          ap (listing-of tape (used area′ (r .size)) (used-words tokens′ (r .size)) addresses) front
+          ap (listing-of tape (used area′ (s .size)) (used-words tokens′ (s .size)) addresses) front
           ∙ c .finished addresses
           ∙ rw (cuts-made addresses, m .left addresses) (sym (finished-is rules (listing-now tape area tokens lines at addresses)));
       counts = counted;

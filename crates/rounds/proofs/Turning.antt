@@ -43,7 +43,7 @@ unfolding after-attempts
 after-append lines [] ys = refl
 after-append lines (x ∷ xs) ys = after-append (x .left) xs ys
 
-removals-append : (xs ys : List Attempt) → removals (xs ++ ys) ≡ removals xs + removals ys
+pub removals-append : (xs ys : List Attempt) → removals (xs ++ ys) ≡ removals xs + removals ys
 unfolding removals if_then_else_
 removals-append [] ys = omega arith
 removals-append (x ∷ xs) ys = go (x .removed) (removals-append xs ys)

@@ -2,16 +2,14 @@
 use Prim.Native.Nat.{ℕ, pred, _+_, _≤_}
 use mathlib.Core.Path.{_≡_}
 use mathlib.Core.Logic.{_⊎_}
-use mathlib.Core.List.{List, []}
+use mathlib.Core.List.{List}
 use mathlib.Core.Option.{Option, none, some}
-use lib.Dec.{eqb}
 use lib.ListN.{length}
-use Rattle.reference.specs.Control.{if_then_else_}
 use Rattle.reference.specs.Text.{Text}
 use Rattle.reference.specs.Listing.{Listing}
 use Rattle.reference.specs.Rules.{Rules}
 use Rattle.reference.specs.Join.{try-at}
-use Rattle.reference.specs.Run.{Attempt, propagate-once, after-attempts, removals}
+use Rattle.reference.specs.Run.{Attempt, after-attempts, removals}
 use Rattle.joining.specs.Places.{labels-at, Labelled, shift-places}
 use Rattle.joining.specs.Limits.{Limits}
 use Rattle.joining.specs.Rounds.{attempts}
@@ -79,7 +77,3 @@ pub record Made (round : Listing → List Attempt) (tape area : Text) (tokens li
 abbrev pub attempts-with : Rules → Text → Text → List ℕ → List ℕ → Size → List ℕ → Text → List ℕ → Listing → List Attempt
 attempts-with rules tape area tokens lines at labels slots words listing =
     attempts rules (slot-names slots words) 0 listing (labels-at (bare-now tape area tokens lines at) labels)
-
--- a round, unless the one before it removed nothing
-unfoldable pub round-after : Rules → ℕ → Listing → List Attempt
-round-after rules removed lines = if eqb removed 0 then [] else propagate-once rules lines

@@ -1,69 +1,116 @@
-// The whole run: `optimize` of the Rust, at most three rounds, ending after one that changed nothing, then the cuts. Before the rounds each line is given
-// its marks, which are no part of the listing.
+// The whole run: `optimize` of the Rust. Rounds, ending after one that changed nothing: at most three, or as many as it takes where the run is to settle.
+// Then the cuts. Before the rounds each line is given its marks, which are no part of the listing.
 use crate::cuts::drop_dead_results;
 use crate::rounds::Round;
 use crate::rounds::propagate_once;
 use build::used::Size;
 use linemarks::mark_lines;
 use lines::rules::Rules;
+ghost use mathlib.Core.Path.{_≡_};
+ghost use Prim.Native.Nat.{_≤_};
 ghost use Rattle.lines.specs.Rules.{rules-of};
 ghost use Rattle.join.specs.Current.{Current};
-ghost use Rattle.rounds.specs.Rounds.{Made, round-after};
-ghost use Rattle.rounds.specs.Runs.{SameListing, Runnable, Rounded, Ran};
+ghost use Rattle.rounds.specs.Rounds.{Countable};
+ghost use Rattle.rounds.specs.Runs.{SameListing, Runnable, Ran};
+ghost use Rattle.rounds.specs.Runs.{most-rounds, rounds-left, count-after, after-round, Few, tally-of, told-of, Rounded};
 
-// What a run left: the attempts of each round, the lines removed, the results cut, and the listing's size.
+// What is told of the rounds: the attempts of each of three, 0 for one that was not made; or, of a run that settled, how many rounds it made, the last
+// included, and the attempts of them all.
+pub enum Tally {
+    Three { first: u64, second: u64, third: u64 },
+    Settled { rounds: u64, attempts: u64 },
+}
+
+// What a run left: what is told of the rounds, the lines removed, the results cut, and the listing's size.
 pub struct Outcome {
-    pub first: u64,
-    pub second: u64,
-    pub third: u64,
+    pub tally: Tally,
     pub removed: u64,
     pub cut: u64,
     pub size: Size,
 }
 
-// A round more, if the one before it changed something.
-fn next_round(
-    tape: &[u8],
-    area: &mut [u8],
-    tokens: &mut [u64],
-    lines: &mut [u64],
-    area2: &mut [u8],
-    tokens2: &mut [u64],
-    labels: &mut [u64],
-    slots: &mut [u8],
-    slot_words: &mut [u64],
-    before: Round,
-    rules: Rules,
-) -> Round
-    requires { ⌜ Runnable (now tape) (now area) (now tokens) (now lines) (now area2) (now tokens2) (now labels) (now slots) (now «slot_words») (before .size) ⌝ }
-    ensures { λ r. ⌜ Made (round-after (rules-of rules) (before .removed)) (now (tape .entry)) (now (area .entry)) (now (tokens .entry)) (now (lines .entry)) (before .size) (now (area .exit)) (now (tokens .exit)) (now (lines .exit)) r ⌝ }
-{
-    let size = before.size;
-    if before.removed == 0 {
-        return Round {
-            next: 0,
-            attempts: 0,
-            removed: 0,
-            size,
-        };
-    }
-    propagate_once(
-        tape,
-        area,
-        tokens,
-        lines,
-        area2,
-        tokens2,
-        labels,
-        slots,
-        slot_words,
-        size,
-        rules,
-    )
+// How far the rounds have come: how many more may be made, how many were, the attempts of each of the first three and of all, the lines removed, and
+// the listing's size.
+pub struct Progress {
+    pub left: usize,
+    pub made: u64,
+    pub first: u64,
+    pub second: u64,
+    pub third: u64,
+    pub attempts: u64,
+    pub removed: u64,
+    pub size: Size,
 }
 
-// The three rounds, each after the first if the one before it changed something.
-fn three_rounds(
+// How many rounds are made of n lines at most. A run that is to settle needs no more than one for each line, and the last.
+fn most_rounds(settle: bool, n: usize) -> usize
+    requires { ⌜ n ≤ 256 ⌝ }
+    ensures { λ r. ⌜ r ≡ most-rounds settle n ⌝ }
+{
+    if settle {
+        return n + 1;
+    }
+    3
+}
+
+// How many more may be made after a round that removed so many lines: none after one that changed nothing.
+fn rounds_left(left: usize, removed: u64) -> usize
+    requires { ⌜ 1 ≤ left ⌝ }
+    ensures { λ r. ⌜ r ≡ rounds-left left removed ⌝ }
+{
+    if removed == 0 {
+        return 0;
+    }
+    left - 1
+}
+
+// The attempts of round k, from 0, after a round with so many attempts, `made` having been made before it.
+fn count_after(k: u64, made: u64, before: u64, attempts: u64) -> u64
+    ensures { λ r. ⌜ r ≡ count-after k made before attempts ⌝ }
+{
+    if made == k {
+        return attempts;
+    }
+    before
+}
+
+// One round more.
+fn after_round(s: Progress, r: Round) -> Progress
+    requires { ⌜ Few s × Countable r × (1 ≤ s .left) ⌝ }
+    ensures { λ q. ⌜ q ≡ after-round s r ⌝ }
+{
+    let size = r.size;
+    Progress {
+        left: rounds_left(s.left, r.removed),
+        made: s.made + 1,
+        first: count_after(0, s.made, s.first, r.attempts),
+        second: count_after(1, s.made, s.second, r.attempts),
+        third: count_after(2, s.made, s.third, r.attempts),
+        attempts: s.attempts + r.attempts,
+        removed: s.removed + r.removed,
+        size,
+    }
+}
+
+// What is told of rounds that have come so far.
+fn tally_up(settle: bool, s: Progress) -> Tally
+    ensures { λ t. ⌜ tally-of t ≡ told-of settle s ⌝ }
+{
+    if settle {
+        return Tally::Settled {
+            rounds: s.made,
+            attempts: s.attempts,
+        };
+    }
+    Tally::Three {
+        first: s.first,
+        second: s.second,
+        third: s.third,
+    }
+}
+
+// The rounds, each with what the one before it left.
+fn make_rounds(
     tape: &[u8],
     area: &mut [u8],
     tokens: &mut [u64],
@@ -75,58 +122,40 @@ fn three_rounds(
     slot_words: &mut [u64],
     size: Size,
     rules: Rules,
-) -> Outcome
-    requires { ⌜ Runnable (now tape) (now area) (now tokens) (now lines) (now area2) (now tokens2) (now labels) (now slots) (now «slot_words») size ⌝ }
-    ensures { λ r. ⌜ Rounded (rules-of rules) (now (tape .entry)) (now (area .entry)) (now (tokens .entry)) (now (lines .entry)) size (now (area .exit)) (now (tokens .exit)) (now (lines .exit)) r ⌝ }
+) -> Progress
+    requires { ⌜ Runnable (now tape) (now area) (now tokens) (now lines) (now area2) (now tokens2)
+        (now labels) (now slots) (now «slot_words») size ⌝ }
+    ensures { λ s. ⌜ Rounded (rules-of rules) (now (tape .entry)) (now (area .entry)) (now (tokens .entry)) (now (lines .entry)) size
+        (now (area .exit)) (now (tokens .exit)) (now (lines .exit)) s ⌝ }
 {
-    let a = propagate_once(
-        tape,
-        area,
-        tokens,
-        lines,
-        area2,
-        tokens2,
-        labels,
-        slots,
-        slot_words,
+    let mut s = Progress {
+        left: most_rounds(rules.settle, size.lines),
+        made: 0,
+        first: 0,
+        second: 0,
+        third: 0,
+        attempts: 0,
+        removed: 0,
         size,
-        rules,
-    );
-    let b = next_round(
-        tape,
-        area,
-        tokens,
-        lines,
-        area2,
-        tokens2,
-        labels,
-        slots,
-        slot_words,
-        a,
-        rules,
-    );
-    let c = next_round(
-        tape,
-        area,
-        tokens,
-        lines,
-        area2,
-        tokens2,
-        labels,
-        slots,
-        slot_words,
-        b,
-        rules,
-    );
-    let last = c.size;
-    Outcome {
-        first: a.attempts,
-        second: b.attempts,
-        third: c.attempts,
-        removed: a.removed + b.removed + c.removed,
-        cut: 0,
-        size: last,
+    };
+    while s.left != 0 {
+        let before = s.size;
+        let r = propagate_once(
+            tape,
+            area,
+            tokens,
+            lines,
+            area2,
+            tokens2,
+            labels,
+            slots,
+            slot_words,
+            before,
+            rules,
+        );
+        s = after_round(s, r);
     }
+    s
 }
 
 // Gives each line of the listing its marks.
@@ -154,11 +183,13 @@ pub fn optimize(
     size: Size,
     rules: Rules,
 ) -> Outcome
-    requires { ⌜ Runnable (now tape) (now area) (now tokens) (now lines) (now area2) (now tokens2) (now labels) (now slots) (now «slot_words») size ⌝ }
-    ensures { λ r. ⌜ Ran (rules-of rules) (now (tape .entry)) (now (area .entry)) (now (tokens .entry)) (now (lines .entry)) size (now (area .exit)) (now (tokens .exit)) (now (lines .exit)) r ⌝ }
+    requires { ⌜ Runnable (now tape) (now area) (now tokens) (now lines) (now area2) (now tokens2)
+        (now labels) (now slots) (now «slot_words») size ⌝ }
+    ensures { λ r. ⌜ Ran (rules-of rules) (now (tape .entry)) (now (area .entry)) (now (tokens .entry)) (now (lines .entry)) size
+        (now (area .exit)) (now (tokens .exit)) (now (lines .exit)) r ⌝ }
 {
     mark(tape, area, tokens, lines, size);
-    let r = three_rounds(
+    let s = make_rounds(
         tape,
         area,
         tokens,
@@ -171,7 +202,7 @@ pub fn optimize(
         size,
         rules,
     );
-    let left = r.size;
+    let left = s.size;
     let n = left.lines;
     let used = left.tokens;
     let text = left.text;
@@ -184,10 +215,8 @@ pub fn optimize(
         rules,
     );
     Outcome {
-        first: r.first,
-        second: r.second,
-        third: r.third,
-        removed: r.removed,
+        tally: tally_up(rules.settle, s),
+        removed: s.removed,
         cut,
         size: left,
     }

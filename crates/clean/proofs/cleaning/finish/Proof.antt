@@ -51,7 +51,7 @@ returns c = λ input e.
     let s = w .before .before .before .before .before .before .before .before .before in
     let u = w .before .before .before .before .work-bytes .ensures in
     record {
-      report-is = w .written .ensures input e .report-is;
+      summary-is = w .written .ensures input e .summary-is;
       output-is = w .written .ensures input e .output-is;
       work-a-is = wiped (s .args .work-a .now) (s .pre .room-a) u (w .written .last .1 .1 .0) (w .written .kept .1 .1 .0) _ (c .before .before .before .before .before .before .wipe .ensures);
       work-b-is = wiped (s .args .work-b .now) (s .pre .room-b) u (w .written .last .1 .1 .1 .0) (w .written .kept .1 .1 .1 .0) _ (c .before .before .wipe2 .ensures);

@@ -1,5 +1,6 @@
 -- `puchkewa::export::puchkewa_clean` meets its contract: what `clean` says of its answer. Assumes nothing.
-use Rattle.clean.proofs.Replying.{same-reply}
+use Rattle.reference.specs.Reply.{told}
+use Rattle.clean.proofs.Replying.{same-reply, same-told}
 use Rattle.puchkewa.proofs.export.puchkewa_clean.Statement.{statement}
 use Rattle.puchkewa.proofs.export.puchkewa_clean.Tie as tie
 
@@ -22,19 +23,25 @@ same-length-3 : tie.Need-same-length-3
 same-length-3 c = c .before .before .before .before .before .before .before .before .before .clean .kept .1 .1 .1 .1 .0
 
 returns : tie.Need-returns
+unfolding told
 returns c = same-reply (c .before .number .given .1) (c .before .before .before .before .before .before .before .before .before .clean .ensures .0)
 
+tell-requires : tie.Need-tell-requires
+tell-requires c κs = tt
+
 same-length-4 : tie.Need-same-length-4
-same-length-4 c = c .before .before .before .before .before .before .before .before .before .clean .kept .1 .1 .0
+same-length-4 c = c .before .before .before .before .before .before .before .before .before .before .clean .kept .1 .1 .0
 
 same-length-5 : tie.Need-same-length-5
-same-length-5 c = c .before .before .before .before .before .before .before .before .before .clean .kept .1 .1 .1 .0
+same-length-5 c = c .before .before .before .before .before .before .before .before .before .before .clean .kept .1 .1 .1 .0
 
 same-length-6 : tie.Need-same-length-6
-same-length-6 c = c .before .before .before .before .before .before .before .before .before .clean .kept .1 .1 .1 .1 .0
+same-length-6 c = c .before .before .before .before .before .before .before .before .before .before .clean .kept .1 .1 .1 .1 .0
 
 returns-2 : tie.Need-returns-2
-returns-2 c = same-reply (c .before .f .given .1) (c .before .before .before .before .before .before .before .before .before .clean .ensures .0)
+returns-2 c =
+    let f = c .before .before .f .given in
+    same-told (f .0 .0) (c .tell .result) (c .tell .ensures) (same-reply (f .1) (c .before .before .before .before .before .before .before .before .before .before .clean .ensures .0))
 
 pub puchkewa-clean-spec : {M : Type 1} → statement M
 puchkewa-clean-spec =
@@ -43,6 +50,7 @@ puchkewa-clean-spec =
     clean-requires
     enum-known-number
     enum-known-f
+    tell-requires
     same-length
     same-length-2
     same-length-3

@@ -1,0 +1,112 @@
+-- `rounds::run::make_rounds` meets its contract. Assumes nothing.
+use native.Mathlib.Omega.{arith}
+use mathlib.Core.Path.{_≡_, refl, _∙_}
+use lib.ListN.{length}
+use Rattle.lines.specs.Rules.{rules-of}
+use Rattle.rounds.proofs.Turning.{now-few}
+use Rattle.rounds.proofs.Running.{Going, going-begin, going-next, going-less, going-end, runnable-again}
+use Rattle.rounds.proofs.run.make_rounds.Statement.{statement}
+use Rattle.rounds.proofs.run.make_rounds.Tie as tie
+
+abbrev Inv-loop : tie.InvT-loop
+Inv-loop tape area₀ tokens₀ lines₀ area2₀ tokens2₀ labels₀ slots₀ slot-words₀ rules s₀ area tokens lines area2 tokens2 labels slots slot-words s =
+    (length area ≡ length area₀) × (length tokens ≡ length tokens₀) × (length lines ≡ length lines₀) × (length area2 ≡ length area2₀)
+    × (length tokens2 ≡ length tokens2₀) × (length labels ≡ length labels₀) × (length slots ≡ length slots₀)
+    × (length slot-words ≡ length slot-words₀)
+    × Going (rules-of rules) tape area₀ tokens₀ lines₀ (s₀ .size) (s₀ .left) area tokens lines s
+
+abbrev μ-loop : tie.MeasureT-loop
+μ-loop tape area₀ tokens₀ lines₀ area2₀ tokens2₀ labels₀ slots₀ slot-words₀ rules s₀ area tokens lines area2 tokens2 labels slots slot-words s = s .left
+
+most-rounds-requires : tie.Need-most-rounds-requires Inv-loop μ-loop
+most-rounds-requires c κs = let p = c .before .before .before .before .before .before .before .before .before .pre in now-few (p .current) (p .limits)
+
+loop-holds : tie.Need-loop-holds Inv-loop μ-loop
+loop-holds c =
+    (refl, refl, refl, refl, refl, refl, refl, refl, going-begin (c .before .before .before .before .before .before .before .before .before .before .pre) (c .most-rounds .ensures))
+
+propagate-once-requires : tie.Need-propagate-once-requires Inv-loop μ-loop
+propagate-once-requires c κs =
+    let at = c .before .before .before .before .before .before .before .before .before .before .before in
+    let l = at .loop in
+    let i = l .inv in
+    let p = at .before .before .before .before .before .before .before .before .before .before .before .pre in
+    runnable-again (l .area2) (l .tokens2) (l .labels) (l .slots) (l .slot-words) p (i .8) (i .0) (i .1) (i .3) (i .4) (i .5) (i .6) (i .7)
+
+after-round-requires : tie.Need-after-round-requires Inv-loop μ-loop
+after-round-requires c κs =
+    let m = c .before .before .before .before .before .before .before .before .before .before .before .before .before .before .before .before .propagate-once .ensures in
+    let at = c .before .before .before .before .before .before .before .before .before .before .before .before .before .before .before .before .before .before .before .before .before .before .before .before .before .before in
+    (at .before .before .loop .inv .8 .few, m .few, omega (arith, at .if1 .taken))
+
+loop-less : tie.Need-loop-less Inv-loop μ-loop
+loop-less c =
+    let at = c .before .before .before .before .before .before .before .before .before .before .before .before .before .before .before .before .before .before .before .before .before .before .before .before .before .before .before in
+    rw (c .after-round .ensures) (going-less (at .before .before .loop .inv .8) (omega (arith, at .if1 .taken)) (c .before .before .before .before .before .before .before .before .before .before .before .before .before .before .before .before .before .propagate-once .ensures))
+
+loop-again : tie.Need-loop-again Inv-loop μ-loop
+loop-again c =
+    let r = c .before .before .before .before .before .before .before .before .before .before .before .before .before .before .before .before .before .propagate-once in
+    let at = c .before .before .before .before .before .before .before .before .before .before .before .before .before .before .before .before .before .before .before .before .before .before .before .before .before .before .before in
+    let i = at .before .before .loop .inv in (
+      r .kept .1 .0 ∙ i .0,
+      r .kept .1 .1 .0 ∙ i .1,
+      r .kept .1 .1 .1 .0 ∙ i .2,
+      r .kept .1 .1 .1 .1 .0 ∙ i .3,
+      r .kept .1 .1 .1 .1 .1 .0 ∙ i .4,
+      r .kept .1 .1 .1 .1 .1 .1 .0 ∙ i .5,
+      r .kept .1 .1 .1 .1 .1 .1 .1 .0 ∙ i .6,
+      r .kept .1 .1 .1 .1 .1 .1 .1 .1 .0 ∙ i .7,
+      rw (c .after-round .ensures) (going-next (i .8) (omega (arith, at .if1 .taken)) (r .ensures)),
+    )
+
+same-length : tie.Need-same-length Inv-loop μ-loop
+same-length c = c .before .before .loop .inv .0
+
+same-length-2 : tie.Need-same-length-2 Inv-loop μ-loop
+same-length-2 c = c .before .before .loop .inv .1
+
+same-length-3 : tie.Need-same-length-3 Inv-loop μ-loop
+same-length-3 c = c .before .before .loop .inv .2
+
+same-length-4 : tie.Need-same-length-4 Inv-loop μ-loop
+same-length-4 c = c .before .before .loop .inv .3
+
+same-length-5 : tie.Need-same-length-5 Inv-loop μ-loop
+same-length-5 c = c .before .before .loop .inv .4
+
+same-length-6 : tie.Need-same-length-6 Inv-loop μ-loop
+same-length-6 c = c .before .before .loop .inv .5
+
+same-length-7 : tie.Need-same-length-7 Inv-loop μ-loop
+same-length-7 c = c .before .before .loop .inv .6
+
+same-length-8 : tie.Need-same-length-8 Inv-loop μ-loop
+same-length-8 c = c .before .before .loop .inv .7
+
+returns : tie.Need-returns Inv-loop μ-loop
+returns c =
+    let at = c .before .before in
+    going-end (at .loop .inv .8) (at .before .before .before .before .before .before .before .before .before .before .before .pre) (at .before .most-rounds .ensures) (c .if1 .left)
+
+pub make-rounds-spec : {M : Type 1} → statement M
+make-rounds-spec =
+    tie.close
+    (tie.spec
+    Inv-loop
+    μ-loop
+    most-rounds-requires
+    loop-holds
+    propagate-once-requires
+    after-round-requires
+    loop-less
+    loop-again
+    same-length
+    same-length-2
+    same-length-3
+    same-length-4
+    same-length-5
+    same-length-6
+    same-length-7
+    same-length-8
+    returns)
