@@ -17,11 +17,11 @@ extern "C" {
 #endif
 
 /* The version of the interface and of what it does: a change of either changes it. */
-#define PUCHKEWA_VERSION "0.4.0"
+#define PUCHKEWA_VERSION "0.5.0"
 
-/* The least that each work area and the output must have, in bytes. 54,785 bytes are enough for the output of every tape. */
+/* The least that each work area and the output must have, in bytes. 59,137 bytes are enough for the output of every tape. */
 #define PUCHKEWA_WORK 49152
-#define PUCHKEWA_OUTPUT 54785
+#define PUCHKEWA_OUTPUT 59137
 
 /* The calling convention of the listed code: which registers a call overwrites. */
 enum puchkewa_convention {
@@ -42,10 +42,11 @@ struct puchkewa_settings {
 enum puchkewa_refusal {
     PUCHKEWA_FINISHED = 0,           /* nothing was refused */
     PUCHKEWA_BAD_CONVENTION = 1,     /* the convention is not 0, 1 or 2 */
-    PUCHKEWA_TOO_LITTLE_ROOM = 2,    /* a work area has fewer than 49,152 bytes, or the output fewer than 54,785 */
+    PUCHKEWA_TOO_LITTLE_ROOM = 2,    /* a work area has fewer than 49,152 bytes, or the output fewer than 59,137 */
     PUCHKEWA_NO_COMMAND = 3,         /* the tape ends where a command must begin, or the byte there is no command */
     PUCHKEWA_CUT_OFF = 4,            /* the command's operand or text runs past the end of the tape */
-    PUCHKEWA_TOKEN_BEFORE_LINE = 5,  /* a token before any line */
+    PUCHKEWA_TOKEN_BEFORE_LINE = 5,  /* a token before any line; an 03 that does not stand directly after a line's command, or
+                                        has its lowest address above its highest */
     PUCHKEWA_BEYOND_LIMITS = 6,      /* indent above 63; more than 256 lines, 1,024 tokens or 24,576 bytes of text; a text that is empty; a
                                         Number of more than 24 bytes */
     PUCHKEWA_NOT_PRINTABLE = 7,      /* a text byte outside 20 to 7E (hexadecimal) */

@@ -60,7 +60,7 @@ fn clean(settings: Settings, tape: &[u8], work_a: &mut [u8], work_b: &mut [u8], 
 const TAPE: &[u8] = b"\x02\x00\x11\x03\x00rax\x16\x03\x00 = \x14\x01\x00f\x16\x03\x00();\x02\x00\x13\x06\x00return\x16\x01\x00;\xFF";
 
 fn main() {
-    let (mut work_a, mut work_b, mut out) = (vec![0; 49152], vec![0; 49152], vec![0; 54785]);
+    let (mut work_a, mut work_b, mut out) = (vec![0; 49152], vec![0; 49152], vec![0; 59137]);
     let r = clean(Settings { convention: 1, settle: false }, TAPE, &mut work_a, &mut work_b, &mut out);
     if r.refusal != 0 {
         println!("refused {} at {}", r.refusal, r.place);

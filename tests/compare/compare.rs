@@ -11,7 +11,7 @@ mod gen;
 mod inputs;
 mod library;
 
-use door::{Report, MOST_TAPE, WORK};
+use door::{unmarked, Report, MOST_TAPE, WORK};
 use inputs::Input;
 use std::collections::BTreeMap;
 use std::io::{Read, Write};
@@ -37,16 +37,18 @@ fn all(s: &[u8], b: u8) -> bool {
     s.iter().fold(0, |differ, x| differ | (x ^ b)) == 0
 }
 
-/// What the library did otherwise than the Rust and document 01. The buffers hold the mark before and after.
+/// What the library did otherwise than the Rust and document 01, marks left out. The buffers hold the mark before and after.
 fn difference(input: &Input, settle: bool, want: &Report, tape: &[u8], lent: &mut Lent) -> Option<String> {
     let [a, b, o] = input.lent;
     let settings = library::Settings { convention: input.convention, settle };
     let got = library::clean(settings, &input.tape, &mut lent.work_a[..a], &mut lent.work_b[..b], &mut lent.out[..o]);
     let wiped = if want.refusal == 0 { WORK } else { 0 };
-    let n = tape.len();
+    let n = (got.length as usize).min(o);
+    let (plain, marks) = unmarked(&lent.out[..n]);
+    let want = &Report { length: want.length + 17 * marks, ..*want };
     let said = if got != *want {
         Some(format!("the reply {got:?} for {want:?}"))
-    } else if lent.out[..n] != *tape {
+    } else if plain != *tape {
         Some("the output".into())
     } else if !all(&lent.out[n..], MARK) {
         Some("the output past its length".into())

@@ -7,7 +7,7 @@ use crate::pseudo::PseudoLine;
 
 pub const MOST_TAPE: usize = 65_536;
 pub const WORK: usize = 49_152;
-pub const OUTPUT: usize = 54_785;
+pub const OUTPUT: usize = 59_137;
 
 /// The reply in ten numbers, as the library gives it.
 #[repr(C)]
@@ -25,15 +25,18 @@ pub struct Report {
 
 type Refusal = (u64, usize);
 
-/// The listing of an accepted tape: the questions 3 to 8.
+/// The listing of an accepted tape: the questions 3 to 8. An 03 (request M-105) is asked its questions and left out.
 pub fn read_tape(tape: &[u8]) -> Result<Vec<PseudoLine>, Refusal> {
     let mut lines: Vec<PseudoLine> = Vec::new();
     let (mut tokens, mut text, mut at) = (0, 0, 0);
+    // whether the command just before is a line's
+    let mut fresh = false;
     loop {
         let Some(&command) = tape.get(at) else { return Err((3, at)) };
         let operand = match command {
             0x01 => 9,
             0x02 => 1,
+            0x03 => 16,
             0x10..=0x17 => 2,
             0xFF => 0,
             _ => return Err((3, at)),
@@ -50,6 +53,15 @@ pub fn read_tape(tape: &[u8]) -> Result<Vec<PseudoLine>, Refusal> {
                 }
                 let address = (command == 0x01).then(|| u64::from_le_bytes(rest[..8].try_into().unwrap()));
                 lines.push(PseudoLine { address, indent, tokens: Vec::new() });
+                at += 1 + operand;
+                fresh = true;
+                continue;
+            }
+            0x03 => {
+                let [low, high] = [0, 8].map(|k| u64::from_le_bytes(rest[k..k + 8].try_into().unwrap()));
+                if !fresh || low > high {
+                    return Err((5, at));
+                }
                 at += 1 + operand;
             }
             0xFF if rest.is_empty() => return Ok(lines),
@@ -74,6 +86,7 @@ pub fn read_tape(tape: &[u8]) -> Result<Vec<PseudoLine>, Refusal> {
                 at += 3 + n;
             }
         }
+        fresh = false;
     }
 }
 
@@ -95,6 +108,29 @@ pub fn write_tape(lines: &[PseudoLine]) -> Vec<u8> {
     }
     out.push(0xFF);
     out
+}
+
+/// The tape without its 03s (request M-105), which the Rust does not know, and how many there are.
+pub fn unmarked(tape: &[u8]) -> (Vec<u8>, u64) {
+    let (mut out, mut marks, mut at) = (Vec::new(), 0, 0);
+    while at < tape.len() {
+        let size = match tape[at] {
+            0x01 => 10,
+            0x02 => 2,
+            0x03 => 17,
+            0xFF => 1,
+            _ if at + 2 < tape.len() => 3 + u16::from_le_bytes([tape[at + 1], tape[at + 2]]) as usize,
+            _ => 1,
+        };
+        let end = (at + size).min(tape.len());
+        if tape[at] == 0x03 {
+            marks += 1;
+        } else {
+            out.extend(&tape[at..end]);
+        }
+        at = end;
+    }
+    (out, marks)
 }
 
 /// `bits` and `sysv` of a convention.

@@ -11,8 +11,8 @@ use Rattle.reference.specs.Listing.{Token, Line, with-tokens}
 use Rattle.reference.specs.Numbers.{merge, fold}
 use Rattle.reference.specs.Join.{substitute, rewrite-use}
 use Rattle.lines.specs.Words.{tokens-of}
-use Rattle.lines.specs.Lines.{first-of, count-of, marks-of, part-of, with-part, line-in, Lined}
-use Rattle.lines.proofs.words.Lines.{count-below, with-first, with-count, with-unmarked, with-means, no-marks}
+use Rattle.lines.specs.Lines.{Reading, first-of, count-of, marks-of, part-of, with-part, line-read, Lined}
+use Rattle.lines.proofs.words.Lines.{count-below, with-first, with-count, with-unmarked, with-read, no-marks}
 use Rattle.build.specs.declared.used.Size.{Size}
 use Rattle.build.specs.State.{used, words-from, Laid}
 use Rattle.build.specs.Added.{used-words, Added}
@@ -38,7 +38,7 @@ module _ {tape area : Text} {tokens : List ℕ} {at : Size} {out : List Token} {
     part-is : part-of (used-words tokens′ at′) v ≡ words-from (at .tokens) tokens′ at′
     part-is = rw (first-is, count-is) words-are
 
-    added : (line : List ℕ → Line) → ((addresses : List ℕ) → with-tokens out (line-in tape (used area′ at′) (used-words tokens′ at′) addresses w) ≡ line addresses)
+    added : (line : Reading → Line) → ((addresses : Reading) → with-tokens out (line-read tape (used area′ at′) (used-words tokens′ at′) addresses w) ≡ line addresses)
         → Added tape area tokens at line n k area′ tokens′ (record { line = v; size = at′ })
     added line e =
         let none : words-from (at .tokens) tokens at ≡ [] = slice-empty (at .tokens) tokens in
@@ -49,8 +49,8 @@ module _ {tape area : Text} {tokens : List ℕ} {at : Size} {out : List Token} {
             marks = no-marks _ (ap marks-of ev ∙ with-unmarked w (at .tokens) (at′ .tokens - at .tokens) hf count-fits);
           };
           line-is = λ addresses.
-              ap (line-in tape (used area′ at′) (used-words tokens′ at′) addresses) ev
-              ∙ with-means w (at .tokens) (at′ .tokens - at .tokens) hf count-fits tape (used area′ at′) (used-words tokens′ at′) addresses
+              ap (line-read tape (used area′ at′) (used-words tokens′ at′) addresses) ev
+              ∙ with-read w (at .tokens) (at′ .tokens - at .tokens) hf count-fits tape (used area′ at′) (used-words tokens′ at′) addresses
               ∙ rw (words-are, l .line-is) (e addresses);
           first-is = first-is;
           end-is = rw count-is (omega (arith, l .built .after));
@@ -70,12 +70,12 @@ part-length {words = words} {w} i = length-take-le (count-of w) (drop (first-of 
 module _ {tape old : Text} {words : List ℕ} {w : ℕ} (i : Lined tape old words w) {area : Text} {tokens : List ℕ} {at : Size} {area′ : Text} {tokens′ : List ℕ} {at′ : Size}
     (hf : at .tokens < 65536) {v : ℕ} (ev : v ≡ with-part w (at .tokens) (at′ .tokens - at .tokens)) where
   pub added-kept : {n : ℕ} → Laid tape area tokens at (tokens-of tape old (part-of words w)) n (length (part-of words w)) area′ tokens′ at′
-      → Added tape area tokens at (λ addresses. line-in tape old words addresses w) n (count-of w) area′ tokens′ (record { line = v; size = at′ })
+      → Added tape area tokens at (λ addresses. line-read tape old words addresses w) n (count-of w) area′ tokens′ (record { line = v; size = at′ })
   added-kept l =
-      rw (part-length i) at (added l w hf (omega (arith, part-length i, count-below w)) ev (λ addresses. line-in tape old words addresses w) (λ addresses. refl))
+      rw (part-length i) at (added l w hf (omega (arith, part-length i, count-below w)) ev (λ addresses. line-read tape old words addresses w) (λ addresses. refl))
 
   pub added-rewritten : (name : Text) (right : List Token) {n k : ℕ} → k < 2048
       → Laid tape area tokens at (fold (merge (substitute name right (tokens-of tape old (part-of words w))))) n k area′ tokens′ at′
-      → Added tape area tokens at (λ addresses. rewrite-use name right (line-in tape old words addresses w)) n k area′ tokens′ (record { line = v; size = at′ })
+      → Added tape area tokens at (λ addresses. rewrite-use name right (line-read tape old words addresses w)) n k area′ tokens′ (record { line = v; size = at′ })
   unfolding rewrite-use
-  added-rewritten name right hk l = added l w hf hk ev (λ addresses. rewrite-use name right (line-in tape old words addresses w)) (λ addresses. refl)
+  added-rewritten name right hk l = added l w hf hk ev (λ addresses. rewrite-use name right (line-read tape old words addresses w)) (λ addresses. refl)

@@ -12,7 +12,7 @@ use lib.Seq.{slice, drop-drop, length-take-le}
 use Rattle.reference.specs.Text.{Text}
 use Rattle.reference.specs.Listing.{Line, token}
 use Rattle.lines.specs.Words.{kind-of, place-of, start-of, len-of, text-of, token-of, tokens-of, Points}
-use Rattle.lines.specs.Lines.{part-of, line-in, listing-of, Lined, Listed}
+use Rattle.lines.specs.Lines.{Reading, part-of, line-read, listing-read, Lined, Listed}
 use Rattle.lines.proofs.words.Each.{map-same}
 use Rattle.lines.proofs.words.Tokens.{place-below, in-tape, in-area}
 use Rattle.lines.proofs.words.Lines.{listed-snoc, listed-grows, listing-grows}
@@ -24,7 +24,7 @@ use Rattle.build.proofs.Growing.{grown}
 
 -- ---- the listing
 
-module _ {tape area : Text} {tokens : List ℕ} {at : Size} {line : List ℕ → Line} {n k : ℕ} {area′ : Text} {tokens′ : List ℕ} {r : Appended}
+module _ {tape area : Text} {tokens : List ℕ} {at : Size} {line : Reading → Line} {n k : ℕ} {area′ : Text} {tokens′ : List ℕ} {r : Appended}
     (a : Added tape area tokens at line n k area′ tokens′ r) where
   more-text : Text
   more-text = take (r .size .text - at .text) (drop (at .text) area′)
@@ -45,19 +45,19 @@ module _ {tape area : Text} {tokens : List ℕ} {at : Size} {line : List ℕ →
     pub listed-before : Listed tape (used area′ (r .size)) (used-words tokens′ (r .size)) lines
     listed-before = rw (text-grew, words-grew) (listed-grows more-text more-words h)
 
-    pub listing-before : (addresses : List ℕ)
-        → listing-of tape (used area′ (r .size)) (used-words tokens′ (r .size)) addresses lines ≡ listing-of tape (used area at) (used-words tokens at) addresses lines
+    pub listing-before : (addresses : Reading)
+        → listing-read tape (used area′ (r .size)) (used-words tokens′ (r .size)) addresses lines ≡ listing-read tape (used area at) (used-words tokens at) addresses lines
     listing-before addresses = rw (text-grew, words-grew) (listing-grows more-text more-words h addresses)
 
     -- and the new line stands behind them
     pub listed-added : Listed tape (used area′ (r .size)) (used-words tokens′ (r .size)) (lines ++ (r .line ∷ []))
     listed-added = listed-snoc listed-before (a .lined)
 
-    pub listing-added : (addresses : List ℕ)
-        → listing-of tape (used area′ (r .size)) (used-words tokens′ (r .size)) addresses (lines ++ (r .line ∷ []))
-        ≡ listing-of tape (used area at) (used-words tokens at) addresses lines ++ (line addresses ∷ [])
+    pub listing-added : (addresses : Reading)
+        → listing-read tape (used area′ (r .size)) (used-words tokens′ (r .size)) addresses (lines ++ (r .line ∷ []))
+        ≡ listing-read tape (used area at) (used-words tokens at) addresses lines ++ (line addresses ∷ [])
     listing-added addresses =
-        map-append (line-in tape (used area′ (r .size)) (used-words tokens′ (r .size)) addresses) lines (r .line ∷ [])
+        map-append (line-read tape (used area′ (r .size)) (used-words tokens′ (r .size)) addresses) lines (r .line ∷ [])
         ∙ rw (listing-before addresses, a .line-is addresses)
 
   -- ---- the line in another set, which has the appended text and words at the same places
@@ -110,5 +110,5 @@ module _ {tape area : Text} {tokens : List ℕ} {at : Size} {line : List ℕ →
       marks = rw same-tokens (a .lined .marks);
     }
 
-    pub line-elsewhere : (addresses : List ℕ) → line-in tape (used area″ (r .size)) (used-words tokens″ (r .size)) addresses (r .line) ≡ line addresses
+    pub line-elsewhere : (addresses : Reading) → line-read tape (used area″ (r .size)) (used-words tokens″ (r .size)) addresses (r .line) ≡ line addresses
     line-elsewhere addresses = let ts = same-tokens in cc (a .line-is addresses)

@@ -10,7 +10,7 @@ use Rattle.reference.specs.Claim.{sum, text-in}
 use Rattle.joining.specs.Limits.{room, over}
 use Rattle.lines.specs.Words.{tokens-of}
 use Rattle.lines.specs.Fams.{fam-text}
-use Rattle.lines.specs.Lines.{first-of, count-of, part-of, line-in, Lined}
+use Rattle.lines.specs.Lines.{Reading, first-of, count-of, part-of, line-read, Lined}
 use Rattle.build.specs.declared.used.Size.{Size}
 use Rattle.build.specs.declared.line.Appended.{Appended}
 use Rattle.build.specs.declared.merge.Substitution.{Substitution}
@@ -23,9 +23,9 @@ used-words tokens at = take (at .tokens) tokens
 
 -- The line that was appended means `line`, whatever the addresses are; it takes at most n bytes and k words behind those that were in use, and
 -- points into no other text of the area than its own. What was in use is as it was.
-pub record Added (tape area : Text) (tokens : List ℕ) (at : Size) (line : List ℕ → Line) (n k : ℕ) (area′ : Text) (tokens′ : List ℕ) (r : Appended) : Type 0 where
+pub record Added (tape area : Text) (tokens : List ℕ) (at : Size) (line : Reading → Line) (n k : ℕ) (area′ : Text) (tokens′ : List ℕ) (r : Appended) : Type 0 where
   pub lined : Lined tape (used area′ (r .size)) (used-words tokens′ (r .size)) (r .line)
-  pub line-is : (addresses : List ℕ) → line-in tape (used area′ (r .size)) (used-words tokens′ (r .size)) addresses (r .line) ≡ line addresses
+  pub line-is : (addresses : Reading) → line-read tape (used area′ (r .size)) (used-words tokens′ (r .size)) addresses (r .line) ≡ line addresses
   pub first-is : first-of (r .line) ≡ at .tokens
   pub end-is : at .tokens + count-of (r .line) ≡ r .size .tokens
   pub fresh : Fresh (at .text) (part-of (used-words tokens′ (r .size)) (r .line))
@@ -47,7 +47,7 @@ pub record Keepable (tape old : Text) (words : List ℕ) (l : ℕ) (area : Text)
 -- it means what it meant
 abbrev pub Kept : Text → Text → List ℕ → ℕ → Text → List ℕ → Size → Text → List ℕ → Appended → Type 0
 Kept tape old words l area tokens at =
-    Added tape area tokens at (λ addresses. line-in tape old words addresses l) (text-in (tokens-of tape old (part-of words l))) (count-of l)
+    Added tape area tokens at (λ addresses. line-read tape old words addresses l) (text-in (tokens-of tape old (part-of words l))) (count-of l)
 
 -- ---- a line rewritten
 
@@ -69,5 +69,5 @@ pub record Rewritable (tape old : Text) (words : List ℕ) (source : ℕ) (j : S
 abbrev pub Rewritten : Text → Text → List ℕ → ℕ → Substitution → ℕ → Text → List ℕ → Size → Text → List ℕ → Appended → Type 0
 Rewritten tape old words source j l area tokens at =
     Added tape area tokens at
-    (λ addresses. rewrite-use (fam-text tape old (j .family)) (right-of tape old (part-of words source) j) (line-in tape old words addresses l))
+    (λ addresses. rewrite-use (fam-text tape old (j .family)) (right-of tape old (part-of words source) j) (line-read tape old words addresses l))
     (sum room (unmerged tape old words source j l)) (length (unmerged tape old words source j l))

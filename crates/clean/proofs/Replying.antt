@@ -35,10 +35,10 @@ report-with s =
       cut = s .counts .results-cut;
     }
 
-report-is : (rules : Rules) (input : Listing) (f : Finished) → Passed (summary-of f) ≡ summary (cleaned rules input)
-    → finished-report f ≡ report (cleaned rules input)
+report-is : (rules : Rules) (tape : List ℕ) (input : Listing) (f : Finished) → Passed (summary-of f) ≡ summary (cleaned rules tape input)
+    → finished-report f ≡ report (cleaned rules tape input)
 unfolding report
-report-is rules input f e = ap report-with (passed-inj e)
+report-is rules tape input f e = ap report-with (passed-inj e)
 
 -- the questions 1 and 2, of the settings and of the lengths of what is lent
 abbrev door : Rules → ℕ → ℕ → ℕ → List (ℕ × Bool)
@@ -88,7 +88,7 @@ module _ (rules : Rules) (tape work-a work-b out : List ℕ) where
       open-door : Yes (door rules (length work-a) (length work-b) (length out))
       open-door = none-no _ (omega arith, (omega arith, tt)) (sym e ∙ z)
 
-      answer-is : answer ≡ (let-passed (read tape) then λ lines. cleaned rules lines)
+      answer-is : answer ≡ (let-passed (read tape) then λ lines. cleaned rules tape lines)
       unfolding reply-by
       answer-is = ask-yes 0 (door rules (length work-a) (length work-b) (length out)) _ open-door
 
@@ -109,13 +109,13 @@ module _ (rules : Rules) (tape work-a work-b out : List ℕ) where
           }
 
       pub finished-call : (a : Accepted tape) {work-a′ work-b′ out′ : List ℕ} {f : Finished}
-          → Finishes (cleaned rules (a .listing)) work-a work-b out work-a′ work-b′ out′ f
+          → Finishes (cleaned rules tape (a .listing)) work-a work-b out work-a′ work-b′ out′ f
           → Promise work-a′ work-b′ out′ (Said.Finished f)
       finished-call a {f = f} l =
           let e = answer-is ∙ let-is _ (a .reads) in
-          let leaves : Leaves (cleaned rules (a .listing)) work-a work-b out _ _ _ _ =
+          let leaves : Leaves (cleaned rules tape (a .listing)) work-a work-b out _ _ _ _ =
           record {
-            report-is = report-is rules (a .listing) f (l .summary-is);
+            report-is = report-is rules tape (a .listing) f (l .summary-is);
             output-is = l .output-is;
             work-a-is = l .work-a-is;
             work-b-is = l .work-b-is;

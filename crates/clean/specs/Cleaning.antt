@@ -14,14 +14,16 @@ use Rattle.clean.specs.declared.cleaning.Finished.{Finished}
 use Rattle.clean.specs.Replies.{summary-of, summary}
 
 -- A listing within the limits stands in the first set, and what is lent has room for its rounds; the table of token words is no larger than a
--- line word can name.
-pub record Loadable (tape area : Text) (tokens lines : List ℕ) (area2 : Text) (at : Size) : Type 0 where
+-- line word can name, and there is room for the marks of 256 lines.
+pub record Loadable (tape area : Text) (tokens lines : List ℕ) (area2 : Text) (lows highs : List ℕ) (at : Size) : Type 0 where
   pub current : Current tape area tokens lines at
   pub limits : Limits (bare-now tape area tokens lines at)
   pub first-text : WORK ≤ length area
   pub first-words : 1024 ≤ length tokens
   pub words-short : length tokens ≤ 65536
   pub second-text : WORK ≤ length area2
+  pub for-lows : 256 ≤ length lows
+  pub for-highs : 256 ≤ length highs
 
 -- an accepted tape, and room to work and for the output
 pub record Writable (tape area area2 out : List ℕ) : Type 0 where

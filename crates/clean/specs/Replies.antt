@@ -6,9 +6,10 @@ use lib.ListN.{length}
 use Rattle.reference.specs.Rules.{Rules}
 use Rattle.reference.specs.Listing.{Listing}
 use Rattle.reference.specs.Run.{run, finished, three, Counts, counts}
+use Rattle.reference.specs.Marks.{finished-marks}
 use Rattle.reference.specs.Tape.{write}
 use Rattle.reference.specs.Questions as Q
-use Rattle.reference.specs.Questions.{Answer, Passed, read}
+use Rattle.reference.specs.Questions.{Answer, Passed, read, marks-in}
 use Rattle.reference.specs.Demand.{Demand3}
 use Rattle.reference.specs.Reply as R
 use Rattle.rounds.specs.Runs.{tally-of}
@@ -74,5 +75,6 @@ pub record Cleans (rules : Rules) (tape work-a work-b out : List ℕ) (work-a′
   pub demand3 : (input : Listing) → read tape ≡ Passed input → Demand3 rules input
 
 -- the definition's reply to the tape of a listing
-abbrev pub cleaned : Rules → Listing → R.Reply
-cleaned rules input = Passed (record { tape = write (finished rules input); counts = counts rules (run rules input) })
+abbrev pub cleaned : Rules → List ℕ → Listing → R.Reply
+cleaned rules tape input =
+    Passed (record { tape = write (finished rules input) (finished-marks rules input (marks-in tape)); counts = counts rules (run rules input) })

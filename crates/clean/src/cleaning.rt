@@ -21,19 +21,22 @@ pub struct Finished {
     pub cut: u64,
 }
 
-// Cleans a listing that was loaded into the tables, in which the texts are all in the tape.
+// Cleans a listing that was loaded into the tables, in which the texts are all in the tape; `lows` and `highs` have the marks of its lines.
 fn optimized(
     tape: &[u8],
     area: &mut [u8],
     tokens: &mut [u64],
     lines: &mut [u64],
     area2: &mut [u8],
+    lows: &mut [u64],
+    highs: &mut [u64],
     size: Size,
     rules: Rules,
 ) -> Outcome
-    requires { ⌜ Loadable (now tape) (now area) (now tokens) (now lines) (now area2) size ⌝ }
-    ensures { λ r. ⌜ Ran (rules-of rules) (now (tape .entry)) (now (area .entry)) (now (tokens .entry)) (now (lines .entry)) size
-        (now (area .exit)) (now (tokens .exit)) (now (lines .exit)) r ⌝ }
+    requires { ⌜ Loadable (now tape) (now area) (now tokens) (now lines) (now area2) (now lows) (now highs) size ⌝ }
+    ensures { λ r. ⌜ Ran (rules-of rules) (now (tape .entry)) (now (area .entry)) (now (tokens .entry)) (now (lines .entry))
+        (now (lows .entry)) (now (highs .entry)) size
+        (now (area .exit)) (now (tokens .exit)) (now (lines .exit)) (now (lows .exit)) (now (highs .exit)) r ⌝ }
 {
     let mut tokens2 = [0u64; 2048];
     let mut labels = [0u64; 256];
@@ -46,6 +49,8 @@ fn optimized(
         lines,
         area2,
         &mut tokens2,
+        lows,
+        highs,
         &mut labels,
         &mut slots,
         &mut slot_words,
@@ -58,18 +63,37 @@ fn optimized(
 fn written(rules: Rules, tape: &[u8], area: &mut [u8], area2: &mut [u8], out: &mut [u8]) -> Finished
     requires { ⌜ Writable (now tape) (now area) (now area2) (now out) ⌝ }
     ensures { λ r. ⌜ ((input : Listing) → read (now (tape .entry)) ≡ Passed input
-        → Written (cleaned (rules-of rules) input) (now (out .entry)) (now (out .exit)) r) ⌝ }
+        → Written (cleaned (rules-of rules) (now (tape .entry)) input) (now (out .entry)) (now (out .exit)) r) ⌝ }
 {
     let mut tokens = [0u64; 2048];
     let mut lines = [0u64; 256];
     let mut addresses = [0u64; 256];
-    let loaded = tables::load(tape, &mut tokens, &mut lines, &mut addresses);
+    let mut lows = [0u64; 256];
+    let mut highs = [0u64; 256];
+    let loaded = tables::load(
+        tape,
+        &mut tokens,
+        &mut lines,
+        &mut addresses,
+        &mut lows,
+        &mut highs,
+    );
     let size = Size {
         lines: loaded.lines,
         tokens: loaded.tokens,
         text: 0,
     };
-    let r = optimized(tape, area, &mut tokens, &mut lines, area2, size, rules);
+    let r = optimized(
+        tape,
+        area,
+        &mut tokens,
+        &mut lines,
+        area2,
+        &mut lows,
+        &mut highs,
+        size,
+        rules,
+    );
     let left = r.size;
     let n = left.lines;
     let used = left.tokens;
@@ -80,6 +104,8 @@ fn written(rules: Rules, tape: &[u8], area: &mut [u8], area2: &mut [u8], out: &m
         &tokens[..used],
         &lines[..n],
         &addresses,
+        &lows,
+        &highs,
         out,
     );
     let tally = r.tally;
@@ -109,7 +135,7 @@ pub fn finish(
 ) -> Finished
     requires { ⌜ Cleanable (now tape) (now «work_a») (now «work_b») (now out) ⌝ }
     ensures { λ r. ⌜ ((input : Listing) → read (now (tape .entry)) ≡ Passed input
-        → Finishes (cleaned (rules-of rules) input) (now («work_a» .entry)) (now («work_b» .entry)) (now (out .entry))
+        → Finishes (cleaned (rules-of rules) (now (tape .entry)) input) (now («work_a» .entry)) (now («work_b» .entry)) (now (out .entry))
         (now («work_a» .exit)) (now («work_b» .exit)) (now (out .exit)) r) ⌝ }
 {
     let size = work_bytes();

@@ -72,7 +72,7 @@ fn print_reply(r: Reply) {
 fn count(convention: u8, settle: bool, tape: &[u8]) {
     let mut work_a = [0u8; 49152];
     let mut work_b = [0u8; 49152];
-    let mut out = [0u8; 54785];
+    let mut out = [0u8; 59137];
     let rules = Rules { convention, settle };
     print_reply(clean::clean(rules, tape, &mut work_a, &mut work_b, &mut out));
 }

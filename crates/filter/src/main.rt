@@ -9,7 +9,7 @@ use response::respond;
 fn main() {
     let mut input = [0u8; 65537];
     let n = io::read_full(STDIN_FILENO, &mut input);
-    let mut out = [0u8; 54785];
+    let mut out = [0u8; 59137];
     let m = respond(&input[..n], &mut out);
     io::write_all(STDOUT_FILENO, &out[..m]);
 }

@@ -10,7 +10,7 @@ use Rattle.reference.specs.Text.{Text}
 use Rattle.reference.specs.Rules.{Rules}
 use Rattle.laws.proofs.Parts.{drop-take}
 use Rattle.joining.specs.Plan.{act}
-use Rattle.lines.specs.Lines.{listing-of, Listed}
+use Rattle.lines.specs.Lines.{Reading, listing-read, Listed}
 use Rattle.plan.specs.declared.plans.Join.{Join}
 use Rattle.build.specs.declared.used.Size.{Size}
 use Rattle.join.specs.Building.{plan-of, Acted, Rebuilt}
@@ -35,7 +35,7 @@ behind to from m n mn h b =
 -- a listing of the second set, whose texts and words are those of the first now
 module _ {rules : Rules} {tape old : Text} {words lines : List ℕ} {j : Join} (text : Text) (tokens part rest : List ℕ) {size : Size} {area′ : Text} {tokens′ : List ℕ} where
   acted-in : Listed tape text tokens (take (size .lines) part)
-      → ((addresses : List ℕ) → listing-of tape text tokens addresses (take (size .lines) part) ≡ act rules (listing-of tape old words addresses lines) (j .line) (plan-of tape old words lines j))
+      → ((addresses : Reading) → listing-read tape text tokens addresses (take (size .lines) part) ≡ act rules (listing-read tape old words addresses lines) (j .line) (plan-of tape old words lines j))
       → size .lines ≤ length part → size .text ≤ length area′ → size .tokens ≤ length tokens′ → take (size .text) area′ ≡ text → take (size .tokens) tokens′ ≡ tokens
       → Acted rules tape old words lines j area′ tokens′ (part ++ rest) size
   acted-in listed means hl ha ht et ew =

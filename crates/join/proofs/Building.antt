@@ -13,7 +13,7 @@ use Rattle.reference.specs.Listing.{blank}
 use Rattle.reference.specs.Rules.{Rules, volatile}
 use Rattle.joining.specs.Plan.{Plan, acted-line}
 use Rattle.joining.proofs.Building.{built-begin, built-turn, built-skip, act-built}
-use Rattle.lines.specs.Lines.{listing-of}
+use Rattle.lines.specs.Lines.{Reading, listing-read}
 use Rattle.lines.proofs.words.Lines.{listing-at, listed-none}
 use Rattle.plan.specs.declared.plans.Join.{Join}
 use Rattle.build.specs.declared.used.Size.{Size}
@@ -42,7 +42,7 @@ module _ {rules : Rules} {tape old : Text} {words lines : List ℕ} {j : Join} (
     rest-is = refl;
     behind = omega arith;
     listed = listed-none tape _ _;
-    means = λ addresses. sym (built-begin (acted-line (volatile rules) (j .line) plan) (j .line) (listing-of tape old words addresses lines));
+    means = λ addresses. sym (built-begin (acted-line (volatile rules) (j .line) plan) (j .line) (listing-read tape old words addresses lines));
     within = within-begin h;
   }
 
@@ -50,8 +50,8 @@ module _ {rules : Rules} {tape old : Text} {words lines : List ℕ} {j : Join} (
     -- the line that is left out
     pub passed : k ≡ j .line → Upto rules tape old words lines j (k + 1) area tokens lines′ size
     passed e =
-        let skip : (addresses : List ℕ) → acted-upto rules j plan (listing-of tape old words addresses lines) (k + 1) ≡ acted-upto rules j plan (listing-of tape old words addresses lines) k =
-        λ addresses. rw e (built-skip (acted-line (volatile rules) (j .line) plan) (j .line) (listing-of tape old words addresses lines) (rw length-map (h .inside)) blank) in
+        let skip : (addresses : Reading) → acted-upto rules j plan (listing-read tape old words addresses lines) (k + 1) ≡ acted-upto rules j plan (listing-read tape old words addresses lines) k =
+        λ addresses. rw e (built-skip (acted-line (volatile rules) (j .line) plan) (j .line) (listing-read tape old words addresses lines) (rw length-map (h .inside)) blank) in
         record {
           as-many = u .as-many;
           rest-is = rest-next k lines′ lines (u .rest-is);
@@ -76,10 +76,10 @@ module _ {rules : Rules} {tape old : Text} {words lines : List ℕ} {j : Join} (
             behind = omega (arith, a .lines-are, u .behind);
             listed = rw front (listed-added a (u .listed));
             means = λ addresses.
-                ap (listing-of tape _ _ addresses) front
+                ap (listing-read tape _ _ addresses) front
                 ∙ listing-added a (u .listed) addresses
                 ∙ rw (u .means addresses)
-                (sym (built-turn (acted-line (volatile rules) (j .line) plan) (j .line) (listing-of tape old words addresses lines) k blank (rw length-map b) n
+                (sym (built-turn (acted-line (volatile rules) (j .line) plan) (j .line) (listing-read tape old words addresses lines) k blank (rw length-map b) n
                 ∙ rw (listing-at tape old words addresses lines k b, el, es)));
             within = within-placed h (u .within) b n es el a refl refl;
           })
@@ -88,7 +88,7 @@ module _ {rules : Rules} {tape old : Text} {words lines : List ℕ} {j : Join} (
     finished e ha ht = record {
       acted = record {
         current = record { text-fits = ha; words-fit = ht; lines-fit = omega (arith, u .behind, u .as-many); listed = u .listed };
-        means = λ addresses. u .means addresses ∙ act-built rules (listing-of tape old words addresses lines) (j .line) plan k (rw length-map (omega arith));
+        means = λ addresses. u .means addresses ∙ act-built rules (listing-read tape old words addresses lines) (j .line) plan k (rw length-map (omega arith));
       };
       text-few = text-few h (u .within);
       words-few = words-few h (u .within);

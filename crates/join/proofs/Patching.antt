@@ -19,7 +19,7 @@ use Rattle.joining.specs.Limits.{room}
 use Rattle.joining.specs.Plan.{Plan, map-from, changes, acted-line, act}
 use Rattle.joining.proofs.Acting.{early, line-kept}
 use Rattle.joining.proofs.Indexed.{length-map-from, map-from-append, map-from-id}
-use Rattle.lines.specs.Lines.{line-in, bare-in, listing-of, Lined, Listed}
+use Rattle.lines.specs.Lines.{Reading, line-read, bare-in, listing-read, Lined, Listed}
 use Rattle.lines.proofs.words.Lines.{listing-at, listed-set, listed-grows, listing-grows, listed-remove}
 use Rattle.plan.specs.declared.plans.Join.{Join}
 use Rattle.build.specs.declared.used.Size.{Size}
@@ -122,7 +122,7 @@ module _ {rules : Rules} {tape old : Text} {words lines : List ℕ} {j : Join} (
     words-from = le-refl _;
     listed = rw (mixed-none old area (from .text), mixed-none words tokens (from .tokens)) (h .listed);
     means = λ addresses. rw (mixed-none old area (from .text), mixed-none words tokens (from .tokens))
-        (sym (changed-none by-plan (listing-of tape old words addresses lines) (j .line + 1) (λ m l b. early (volatile rules) (j .line) plan _ m l (omega arith))));
+        (sym (changed-none by-plan (listing-read tape old words addresses lines) (j .line + 1) (λ m l b. early (volatile rules) (j .line) plan _ m l (omega arith))));
     text-left = le-refl _;
     words-left = le-refl _;
   }
@@ -139,7 +139,7 @@ module _ {rules : Rules} {tape old : Text} {words lines : List ℕ} {j : Join} (
       unfolding needs
       need-step = rw (slice-cons k (j .last + 1) lines 0 (omega arith) (omega (arith, last-inside h)), add-one k)
 
-      old-line : (addresses : List ℕ) → getD (listing-of tape old words addresses lines) k blank ≡ line-in tape old words addresses (getD lines′ k 0)
+      old-line : (addresses : Reading) → getD (listing-read tape old words addresses lines) k blank ≡ line-read tape old words addresses (getD lines′ k 0)
       old-line addresses = listing-at tape old words addresses lines k next-inside ∙ rw same-word
 
       -- a line that stays
@@ -153,8 +153,8 @@ module _ {rules : Rules} {tape old : Text} {words lines : List ℕ} {j : Join} (
         words-from = u .words-from;
         listed = u .listed;
         means = λ addresses. u .means addresses
-            ∙ sym (changed-same by-plan (listing-of tape old words addresses lines) k (rw length-map next-inside)
-            (rw (old-line addresses) (line-kept (volatile rules) (j .line) plan _ k (line-in tape old words addresses (getD lines′ k 0)) (sym is ∙ left))));
+            ∙ sym (changed-same by-plan (listing-read tape old words addresses lines) k (rw length-map next-inside)
+            (rw (old-line addresses) (line-kept (volatile rules) (j .line) plan _ k (line-read tape old words addresses (getD lines′ k 0)) (sym is ∙ left))));
         text-left = omega (arith, u .text-left, need-step);
         words-left = omega (arith, u .words-left, need-step);
       }
@@ -206,7 +206,7 @@ module _ {rules : Rules} {tape old : Text} {words lines : List ℕ} {j : Join} (
           lined-now : Lined tape new-text new-words (r .line)
           lined-now = rw (of-text .whole, of-words .whole) at (lined-elsewhere a new-text new-words (of-text .part) (of-words .part) (of-text .long) (of-words .long))
 
-          line-now : (addresses : List ℕ) → line-in tape new-text new-words addresses (r .line) ≡ by-plan k (getD (listing-of tape old words addresses lines) k blank)
+          line-now : (addresses : Reading) → line-read tape new-text new-words addresses (r .line) ≡ by-plan k (getD (listing-read tape old words addresses lines) k blank)
           line-now addresses =
               (rw (of-text .whole, of-words .whole) at (line-elsewhere a new-text new-words (of-text .part) (of-words .part) (of-text .long) (of-words .long) addresses))
               ∙ rw (old-line addresses, es)
@@ -214,7 +214,7 @@ module _ {rules : Rules} {tape old : Text} {words lines : List ℕ} {j : Join} (
           listed-now : Listed tape new-text new-words lines′
           listed-now = rw (of-text .more, of-words .more) (listed-grows _ _ (u .listed))
 
-          listing-now : (addresses : List ℕ) → listing-of tape new-text new-words addresses lines′ ≡ changed-upto by-plan (listing-of tape old words addresses lines) k
+          listing-now : (addresses : Reading) → listing-read tape new-text new-words addresses lines′ ≡ changed-upto by-plan (listing-read tape old words addresses lines) k
           listing-now addresses = rw (of-text .more, of-words .more) (listing-grows _ _ (u .listed) addresses) ∙ u .means addresses
 
           pub patch-placed : Patching rules tape old words lines j from (k + 1) area′ tokens′ (set lines′ k (r .line)) (r .size)
@@ -225,9 +225,9 @@ module _ {rules : Rules} {tape old : Text} {words lines : List ℕ} {j : Join} (
             words-from = omega (arith, u .words-from, a .end-is);
             listed = listed-set listed-now k lined-now;
             means = λ addresses.
-                map-set (line-in tape new-text new-words addresses) lines′ k (r .line)
+                map-set (line-read tape new-text new-words addresses) lines′ k (r .line)
                 ∙ rw (listing-now addresses, line-now addresses)
-                (sym (changed-set by-plan (listing-of tape old words addresses lines) k (rw length-map next-inside)));
+                (sym (changed-set by-plan (listing-read tape old words addresses lines) k (rw length-map next-inside)));
             text-left = text-now;
             words-left = words-now;
           }
@@ -246,9 +246,9 @@ module _ {rules : Rules} {tape old : Text} {words lines : List ℕ} {j : Join} (
           words-few = omega (arith, u .words-left);
           listed = rw e (listed-remove (u .listed) (j .line));
           means = λ addresses. rw e (
-              map-remove (line-in tape _ _ addresses) (j .line) lines′
+              map-remove (line-read tape _ _ addresses) (j .line) lines′
               ∙ ap (remove (j .line)) (u .means addresses
-              ∙ changed-all by-plan (listing-of tape old words addresses lines) k (rw length-map b)
+              ∙ changed-all by-plan (listing-read tape old words addresses lines) k (rw length-map b)
               (λ m l lo. line-kept (volatile rules) (j .line) plan _ m l (sym (past-last (volatile rules) (j .line) plan m l (omega arith) (omega arith)))))
               );
         })

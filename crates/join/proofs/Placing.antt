@@ -15,7 +15,7 @@ use Rattle.laws.proofs.Scans.{and-true, and-false}
 use Rattle.joining.specs.Plan.{Plan, changes, right-side-of}
 use Rattle.joining.proofs.Acting.{changes-later, line-changed, line-kept}
 use Rattle.lines.specs.Words.{tokens-of}
-use Rattle.lines.specs.Lines.{part-of, line-in, bare-in}
+use Rattle.lines.specs.Lines.{Reading, part-of, line-read, bare-in}
 use Rattle.plan.specs.declared.plans.Join.{Join}
 use Rattle.plan.specs.Plans.{join-in}
 use Rattle.build.specs.declared.used.Size.{Size}
@@ -42,8 +42,8 @@ module _ (vol : List Text) (i : ℕ) (p : Plan) (k : ℕ) (l : Line) where
 -- ---- what is appended
 
 -- the same line, said in other words, and within wider bounds
-module _ {tape area : Text} {tokens : List ℕ} {at : Size} {line : List ℕ → Line} {n k : ℕ} {area′ : Text} {tokens′ : List ℕ} {r : Appended} where
-  added-as : Added tape area tokens at line n k area′ tokens′ r → (line′ : List ℕ → Line) (n′ k′ : ℕ) → ((addresses : List ℕ) → line addresses ≡ line′ addresses) → n ≤ n′ → k ≤ k′
+module _ {tape area : Text} {tokens : List ℕ} {at : Size} {line : Reading → Line} {n k : ℕ} {area′ : Text} {tokens′ : List ℕ} {r : Appended} where
+  added-as : Added tape area tokens at line n k area′ tokens′ r → (line′ : Reading → Line) (n′ k′ : ℕ) → ((addresses : Reading) → line addresses ≡ line′ addresses) → n ≤ n′ → k ≤ k′
       → Added tape area tokens at line′ n′ k′ area′ tokens′ r
   added-as a line′ n′ k′ same hn hk = record {
     lined = a .lined;
@@ -96,7 +96,7 @@ module _ {rules : Rules} {tape old : Text} {words : List ℕ} {source : ℕ} {j 
         → Placed rules tape old words source j k l area tokens at area′ tokens′ r
     unfolding changes
     placed-kept a =
-        added-as a _ _ _ (λ addresses. sym (line-kept (volatile rules) (j .line) plan _ k (line-in tape old words addresses l) same))
+        added-as a _ _ _ (λ addresses. sym (line-kept (volatile rules) (j .line) plan _ k (line-read tape old words addresses l) same))
         (rw kept-tokens (text-room old-tokens (rw kept-tokens at (h .numbers-short))))
         (rw kept-tokens (omega (arith, kept-short, part-length (h .lined))))
 
@@ -124,5 +124,5 @@ module _ {rules : Rules} {tape old : Text} {words : List ℕ} {source : ℕ} {j 
         → Placed rules tape old words source j k l area tokens at area′ tokens′ r
     unfolding changes right-of right-side-of
     placed-rewritten a =
-        added-as a _ _ _ (λ addresses. sym (line-changed (volatile rules) (j .line) plan _ k (line-in tape old words addresses l) other))
+        added-as a _ _ _ (λ addresses. sym (line-changed (volatile rules) (j .line) plan _ k (line-read tape old words addresses l) other))
         (rw rewritten-tokens (le-refl _)) (rw rewritten-tokens (le-refl _))

@@ -12,7 +12,7 @@ use Rattle.reference.proofs.Fits.{Fits}
 use Rattle.joining.specs.Limits.{room, over, each-token}
 use Rattle.joining.specs.Plan.{Plan, unmerged-line, acted-line, built, act}
 use Rattle.joining.proofs.Planned.{Planned}
-use Rattle.lines.specs.Lines.{part-of, line-in, bare-in, listing-of, bare-listing, Lined, Listed}
+use Rattle.lines.specs.Lines.{Reading, part-of, line-read, bare-in, listing-read, bare-listing, Lined, Listed}
 use Rattle.plan.specs.declared.plans.Join.{Join}
 use Rattle.plan.specs.Plans.{join-in, Joins}
 use Rattle.build.specs.State.{used, Room}
@@ -29,9 +29,9 @@ abbrev pub substitution-of : Join → Substitution
 substitution-of j = record { family = j .family; expr = j .expr; brackets = j .brackets }
 
 -- what line k, whose word is l, becomes; `source` is the word of the line that is joined
-abbrev pub new-line : Rules → Text → Text → List ℕ → ℕ → Join → ℕ → ℕ → List ℕ → Line
+abbrev pub new-line : Rules → Text → Text → List ℕ → ℕ → Join → ℕ → ℕ → Reading → Line
 new-line rules tape old words source j k l addresses =
-    acted-line (volatile rules) (j .line) (join-in tape old (part-of words source) j) k (line-in tape old words addresses l)
+    acted-line (volatile rules) (j .line) (join-in tape old (part-of words source) j) k (line-read tape old words addresses l)
 
 -- its tokens, not merged and folded yet
 abbrev pub new-tokens : Rules → Text → Text → List ℕ → ℕ → Join → ℕ → ℕ → List Token
@@ -93,15 +93,15 @@ pub record Upto (rules : Rules) (tape old : Text) (words lines : List ℕ) (j : 
   pub rest-is : drop k lines′ ≡ drop k lines
   pub behind : at .lines ≤ k
   pub listed : Listed tape (used area at) (used-words tokens at) (take (at .lines) lines′)
-  pub means : (addresses : List ℕ) → listing-now tape area tokens lines′ at addresses
-      ≡ acted-upto rules j (plan-of tape old words lines j) (listing-of tape old words addresses lines) k
+  pub means : (addresses : Reading) → listing-now tape area tokens lines′ at addresses
+      ≡ acted-upto rules j (plan-of tape old words lines j) (listing-read tape old words addresses lines) k
   pub within : Within rules tape old words lines j k at
 
 -- the new listing, whatever the addresses are
 pub record Acted (rules : Rules) (tape old : Text) (words lines : List ℕ) (j : Join) (area : Text) (tokens lines′ : List ℕ) (at : Size) : Type 0 where
   pub current : Current tape area tokens lines′ at
-  pub means : (addresses : List ℕ) → listing-now tape area tokens lines′ at addresses
-      ≡ act rules (listing-of tape old words addresses lines) (j .line) (plan-of tape old words lines j)
+  pub means : (addresses : Reading) → listing-now tape area tokens lines′ at addresses
+      ≡ act rules (listing-read tape old words addresses lines) (j .line) (plan-of tape old words lines j)
 
 -- it was built from nothing, within the limits
 pub record Rebuilt (rules : Rules) (tape old : Text) (words lines : List ℕ) (j : Join) (area : Text) (tokens lines′ : List ℕ) (at : Size) : Type 0 where

@@ -4,7 +4,7 @@ use mathlib.Core.List.{List}
 use lib.ListN.{length, take}
 use Rattle.reference.specs.Text.{Text}
 use Rattle.reference.specs.Listing.{Listing}
-use Rattle.lines.specs.Lines.{listing-of, bare-listing, Listed}
+use Rattle.lines.specs.Lines.{Reading, listing-read, bare-listing, Listed}
 use Rattle.build.specs.State.{used}
 use Rattle.build.specs.Added.{used-words}
 use Rattle.build.specs.declared.used.Size.{Size}
@@ -13,10 +13,10 @@ use Rattle.build.specs.declared.used.Size.{Size}
 abbrev pub used-lines : List ℕ → Size → List ℕ
 used-lines lines at = take (at .lines) lines
 
--- what the set means, with these addresses
-abbrev pub listing-now : Text → Text → List ℕ → List ℕ → Size → List ℕ → Listing
+-- what the set means, with what is read as an address
+abbrev pub listing-now : Text → Text → List ℕ → List ℕ → Size → Reading → Listing
 listing-now tape area tokens lines at addresses =
-    listing-of tape (used area at) (used-words tokens at) addresses (used-lines lines at)
+    listing-read tape (used area at) (used-words tokens at) addresses (used-lines lines at)
 
 abbrev pub bare-now : Text → Text → List ℕ → List ℕ → Size → Listing
 bare-now tape area tokens lines at = bare-listing tape (used area at) (used-words tokens at) (used-lines lines at)

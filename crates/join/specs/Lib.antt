@@ -1,4 +1,5 @@
 pub mod Current
-pub mod Attempts
 pub mod Building
+pub mod Carrying
+pub mod Attempts
 pub mod Patching

@@ -11,7 +11,7 @@ use Rattle.reference.specs.Rules.{Rules, volatile}
 use Rattle.reference.specs.Claim.{sum}
 use Rattle.joining.specs.Plan.{map-from, acted-line, act}
 use Rattle.lines.specs.Words.{len-of}
-use Rattle.lines.specs.Lines.{part-of, listing-of, Listed}
+use Rattle.lines.specs.Lines.{Reading, part-of, listing-read, Listed}
 use Rattle.plan.specs.declared.plans.Join.{Join}
 use Rattle.build.specs.declared.used.Size.{Size}
 use Rattle.join.specs.Building.{plan-of}
@@ -54,9 +54,9 @@ pub record Spare (area : Text) (tokens : List ℕ) (at : Size) (n : ℕ) : Type 
 abbrev pub mixed : List ℕ → ℕ → ℕ → List ℕ → List ℕ
 mixed used m n other = used ++ slice m n other
 
-abbrev pub mixed-listing : Text → Text → List ℕ → Size → Text → List ℕ → List ℕ → Size → List ℕ → Listing
+abbrev pub mixed-listing : Text → Text → List ℕ → Size → Text → List ℕ → List ℕ → Size → Reading → Listing
 mixed-listing tape old words from area tokens lines at addresses =
-    listing-of tape (mixed old (from .text) (at .text) area) (mixed words (from .tokens) (at .tokens) tokens) addresses lines
+    listing-read tape (mixed old (from .text) (at .text) area) (mixed words (from .tokens) (at .tokens) tokens) addresses lines
 
 -- the first k lines by f, the rest as they are
 abbrev pub changed-upto : (ℕ → Line → Line) → Listing → ℕ → Listing
@@ -69,8 +69,8 @@ pub record Patching (rules : Rules) (tape old : Text) (words lines : List ℕ) (
   pub text-from : from .text ≤ at .text
   pub words-from : from .tokens ≤ at .tokens
   pub listed : Listed tape (mixed old (from .text) (at .text) area) (mixed words (from .tokens) (at .tokens) tokens) lines′
-  pub means : (addresses : List ℕ) → mixed-listing tape old words from area tokens lines′ at addresses
-      ≡ changed-upto (acted-line (volatile rules) (j .line) (plan-of tape old words lines j)) (listing-of tape old words addresses lines) k
+  pub means : (addresses : Reading) → mixed-listing tape old words from area tokens lines′ at addresses
+      ≡ changed-upto (acted-line (volatile rules) (j .line) (plan-of tape old words lines j)) (listing-read tape old words addresses lines) k
   pub text-left : at .text + need-from words lines j k ≤ from .text + need-from words lines j (j .line + 1)
   pub words-left : 24 * at .tokens + need-from words lines j k ≤ 24 * from .tokens + need-from words lines j (j .line + 1)
 
@@ -82,5 +82,5 @@ pub record Patched (rules : Rules) (tape old : Text) (words lines : List ℕ) (j
   pub text-few : at .text ≤ from .text + need-from words lines j (j .line + 1)
   pub words-few : 24 * at .tokens ≤ 24 * from .tokens + need-from words lines j (j .line + 1)
   pub listed : Listed tape (mixed old (from .text) (at .text) area) (mixed words (from .tokens) (at .tokens) tokens) (take (at .lines) lines′)
-  pub means : (addresses : List ℕ) → mixed-listing tape old words from area tokens (take (at .lines) lines′) at addresses
-      ≡ act rules (listing-of tape old words addresses lines) (j .line) (plan-of tape old words lines j)
+  pub means : (addresses : Reading) → mixed-listing tape old words from area tokens (take (at .lines) lines′) at addresses
+      ≡ act rules (listing-read tape old words addresses lines) (j .line) (plan-of tape old words lines j)

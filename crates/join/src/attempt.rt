@@ -1,6 +1,7 @@
 // One attempt. The listing is always in the first set, area, tokens and lines, as far as its Size says; in the second a successful attempt
 // builds the new one.
 use crate::apply::apply;
+use crate::marks::carry_marks;
 use build::used::Size;
 use lines::rules::Rules;
 use plan::plans::Plan;
@@ -15,7 +16,7 @@ pub struct Tried {
 }
 
 // One attempt at line i: joins its definition into its uses, and removes it on success. `labels` are the places of the round's labels,
-// `slots` and `slot_words` the names that were addressed when it began.
+// `slots` and `slot_words` the names that were addressed when it began, `lows` and `highs` the marks by the number of the input line.
 pub fn try_at<'a>(
     tape: &'a [u8],
     area: &mut [u8],
@@ -23,6 +24,8 @@ pub fn try_at<'a>(
     lines: &mut [u64],
     area2: &mut [u8],
     tokens2: &mut [u64],
+    lows: &mut [u64],
+    highs: &mut [u64],
     labels: &'a [u64],
     slots: &'a [u8],
     slot_words: &'a [u64],
@@ -30,8 +33,11 @@ pub fn try_at<'a>(
     size: Size,
     rules: Rules,
 ) -> Tried
-    requires { ⌜ Attemptable (now tape) (now area) (now tokens) (now lines) (now area2) (now tokens2) (now labels) (now slots) (now «slot_words») i size ⌝ }
-    ensures { λ r. ⌜ Attempted (rules-of rules) (now (tape .entry)) (now (area .entry)) (now (tokens .entry)) (now (lines .entry)) (now (labels .entry)) (now (slots .entry)) (now («slot_words» .entry)) i size (now (area .exit)) (now (tokens .exit)) (now (lines .exit)) r ⌝ }
+    requires { ⌜ Attemptable (now tape) (now area) (now tokens) (now lines) (now area2) (now tokens2) (now lows) (now highs)
+        (now labels) (now slots) (now «slot_words») i size ⌝ }
+    ensures { λ r. ⌜ Attempted (rules-of rules) (now (tape .entry)) (now (area .entry)) (now (tokens .entry)) (now (lines .entry))
+        (now (lows .entry)) (now (highs .entry)) (now (labels .entry)) (now (slots .entry)) (now («slot_words» .entry)) i size
+        (now (area .exit)) (now (tokens .exit)) (now (lines .exit)) (now (lows .exit)) (now (highs .exit)) r ⌝ }
 {
     let n = size.lines;
     let used = size.tokens;
@@ -52,6 +58,16 @@ pub fn try_at<'a>(
             size,
         };
     };
+    carry_marks(
+        tape,
+        &area[..text],
+        &tokens[..used],
+        &lines[..n],
+        lows,
+        highs,
+        j,
+        rules,
+    );
     let after = apply(tape, area, tokens, lines, area2, tokens2, j, rules, size);
     Tried {
         joined: true,

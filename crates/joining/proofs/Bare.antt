@@ -13,7 +13,7 @@ use Rattle.reference.specs.Text.{Text}
 use Rattle.reference.specs.Listing.{Token, Line, Listing, _at_}
 use Rattle.reference.specs.Rules.{Rules, volatile}
 use Rattle.reference.specs.Life.{Labels}
-use Rattle.reference.specs.Join.{ends-run, gather, harmless, use-from, rewrite-use, text-or-empty, try-at}
+use Rattle.reference.specs.Join.{ends-run, gather, harmless, use-from, rewrite-use, text-or-empty, try-at, targets}
 use Rattle.reference.specs.Run.{labels-from, addressed-in, dead-result}
 use Rattle.reference.proofs.Cases.{by-if}
 use Rattle.laws.proofs.Scans.{any-map}
@@ -22,7 +22,8 @@ use Rattle.joining.specs.Places.{label-places, labels-at}
 use Rattle.joining.specs.Rounds.{cut-at}
 use Rattle.joining.specs.Plan.{Definition, Plan, Reach, reach-at, reach-from, reach-of, refuses, all-take, ends-at, plan-reach, plan-constant, use-of, plan-use, plan-single, plan-for, decide, map-from, right-side-of, changes, where-used, acted-line, act}
 use Rattle.joining.proofs.BareLife.{at-bare, drop-map, slice-map, dead-after-bare}
-use Rattle.joining.proofs.Deciding.{try-at-is}
+use Rattle.joining.proofs.Uses.{uses-upto}
+use Rattle.joining.proofs.Deciding.{try-at-is, tried, changed-places, targets-are}
 
 -- ---- the decision
 
@@ -188,3 +189,26 @@ pub cut-addresses : (i : ℕ) (lines : Listing) → map (λ l. l .address) (cut-
 cut-addresses i [] = refl
 cut-addresses zero (l ∷ ls) = refl
 cut-addresses (suc i) (l ∷ ls) = ap {B = List (Option ℕ)} (λ r. l .address ∷ r) (cut-addresses i ls)
+
+-- ---- what an attempt that succeeds is joined into, and whose address goes
+
+uses-bare : (fam : Text) (vol : List Text) (last j : ℕ) (ls : Listing) → uses-upto fam vol last j (bare-lines ls) ≡ uses-upto fam vol last j ls
+unfolding uses-upto
+uses-bare fam vol last j [] = refl
+uses-bare fam vol last j (l ∷ ls) = rw (uses-bare fam vol last (suc j) ls)
+
+module _ (rules : Rules) (lines : Listing) (i : ℕ) (labels : Labels) (addressed : List Text) {lines′ : Listing}
+    (e : try-at rules lines i labels addressed ≡ some lines′) where
+  pub targets-bare : targets rules (bare-lines lines) i labels ≡ targets rules lines i labels
+  targets-bare =
+      let t = tried rules lines i labels addressed e in
+      let p : Plan = t .0 in
+      targets-are rules (bare-lines lines) i labels addressed p (decide-bare rules lines i labels addressed ∙ t .1)
+      ∙ ap (uses-upto (p .fam) (volatile rules) (p .last) (suc i)) (drop-map bare (suc i) lines)
+      ∙ uses-bare (p .fam) (volatile rules) (p .last) (suc i) (drop (suc i) lines)
+      ∙ sym (targets-are rules lines i labels addressed p (t .1))
+
+  pub attempt-addresses : map (λ l. l .address) lines′ ≡ remove i (map (λ l. l .address) lines)
+  attempt-addresses =
+      let t = tried rules lines i labels addressed e in
+      ap (λ (ls : Listing). map (λ l. l .address) ls) (sym (t .2)) ∙ act-addresses rules lines i (t .0)

@@ -1,6 +1,6 @@
 -- To decide and then to act is to try: `try-at` is `decide` followed by `act`, for every listing. Assumes nothing.
 use Prim.Native.Nat.{ℕ, suc, _<_}
-use mathlib.Core.Path.{_≡_, refl, sym, ap, _∙_}
+use mathlib.Core.Path.{_≡_, refl, sym, ap, _∙_, subst}
 use mathlib.Core.Bool.{Bool, true, false}
 use mathlib.Core.List.{List, [], _∷_}
 use mathlib.Core.Option.{Option, none, some}
@@ -14,9 +14,10 @@ use Rattle.reference.specs.Numbers.{fold, merge}
 use Rattle.reference.specs.Rules.{Rules, volatile}
 use Rattle.reference.specs.Shapes.{Assignment, assignment-of, call-in}
 use Rattle.reference.specs.Life.{Labels}
-use Rattle.reference.specs.Join.{Uses, rewrite-use, rewrite-uses, rewrite-one, propagate-constant, use-from, join-at, join-one, lone-number, try-at}
-use Rattle.reference.proofs.Cases.{by-if, by-some, neither, some-inj, unless-some, bind-some}
+use Rattle.reference.specs.Join.{Uses, gather, rewrite-use, rewrite-uses, rewrite-one, propagate-constant, use-from, join-at, join-one, lone-number, try-at, targets}
+use Rattle.reference.proofs.Cases.{by-if, by-some, both, neither, true-false, pair, some-inj, none-some, if-some, unless-some, bind-some}
 use Rattle.reference.proofs.Shapes.{inside as assignment-inside}
+use Rattle.reference.proofs.Attempts.{all-uses, one-use, by-targets, is-some-some}
 use Rattle.laws.proofs.Scans.{if-true, if-false, or-only}
 use Rattle.joining.specs.Plan.{Definition, definition-of, Plan, all-take, ends-at, plan-reach, plan-constant, use-of, wants-brackets, plan-use, plan-single, plan-for, decide, right-side-of, map-from, acted-line, act}
 use Rattle.joining.proofs.Uses.{uses-upto, single-use}
@@ -205,3 +206,72 @@ module _ (rules : Rules) (lines : Listing) (i : ℕ) (labels : Labels) (addresse
   pub tried : {lines′ : Listing} → try-at rules lines i labels addressed ≡ some lines′
       → (p : Plan) × (decide rules lines i labels addressed ≡ some p) × (act rules lines i p ≡ lines′)
   tried e = let d = bind-some (sym try-at-is ∙ e) in (d .0, d .1, some-inj (d .2))
+
+-- ---- the lines that it is joined into (M-105)
+
+-- the places that a plan changes
+abbrev pub changed-places : Rules → Listing → ℕ → Plan → List ℕ
+changed-places rules lines i p = uses-upto (p .fam) (volatile rules) (p .last) (suc i) (drop (suc i) lines)
+
+module _ (rules : Rules) (lines : Listing) (i : ℕ) (labels : Labels) (d : Definition) (known : definition-of ((lines at i) .tokens) ≡ some d) where
+  done-some : (o : Option Plan) → is-some (done rules lines i o) ≡ is-some o
+  unfolding done let-some_else_then_
+  done-some none = refl
+  done-some (some p) = refl
+
+  constant-some : is-some (propagate-constant lines i (d .fam .name) (d .expr) labels (volatile rules)) ≡ is-some (plan-constant lines i d labels (volatile rules))
+  constant-some = ap is-some (constant-is rules lines i labels d known) ∙ done-some _
+
+  -- every use that was gathered
+  constant-targets : (p : Plan) → plan-constant lines i d labels (volatile rules) ≡ some p
+      → gather ((lines at i) .indent) (d .fam .name) (volatile rules) (suc i) (drop (suc i) lines) i .uses ≡ changed-places rules lines i p
+  unfolding plan-constant plan-reach gathered
+  constant-targets p e =
+      let fam : Text = d .fam .name in
+      let same = some-inj (if-some e .1) in
+      gathered-uses lines i fam (volatile rules)
+      ∙ ap (λ (n : ℕ). uses-upto fam (volatile rules) n (suc i) (drop (suc i) lines)) (sym (reach-last lines i fam (volatile rules)))
+      ∙ ap (λ (q : Plan). changed-places rules lines i q) same
+
+  one-target : (o : Option ℕ) (j : ℕ) → o ≡ some j → (let-some o else [] then λ j. j ∷ []) ≡ j ∷ []
+  unfolding let-some_else_then_
+  one-target o j e = rw e
+
+  -- the one use
+  single-targets : (p : Plan) → plan-single lines i d labels (volatile rules) ≡ some p → one-use lines i (d .fam) (d .expr) (volatile rules) ≡ changed-places rules lines i p
+  unfolding plan-single use-of plan-use
+  single-targets p e =
+      let b = bind-some e in
+      let j : ℕ = b .0 in
+      let q = bind-some (unless-some (b .2) .1) in
+      let calls : Bool = is-some (call-in ((lines at i) .tokens)) in
+      let found : use-from ((lines at i) .indent) (d .fam .name) (d .expr) calls (volatile rules) (suc i) (drop (suc i) lines) ≡ some j =
+      rw (sym (defined-by ((lines at i) .tokens) d known .calls-is)) (b .1) in
+      one-target _ j found
+      ∙ sym (single-use (d .fam .name) (volatile rules) ((lines at i) .indent) (d .expr) calls (suc i) (drop (suc i) lines) j found)
+      ∙ ap (λ (q : Plan). changed-places rules lines i q) (some-inj (if-some (q .2) .1))
+
+-- THE LINES THAT AN ATTEMPT IS JOINED INTO ARE THOSE THAT ITS PLAN CHANGES
+pub targets-are : (rules : Rules) (lines : Listing) (i : ℕ) (labels : Labels) (addressed : List Text) (p : Plan) → decide rules lines i labels addressed ≡ some p
+    → targets rules lines i labels ≡ changed-places rules lines i p
+unfolding decide definition-of plan-for
+targets-are rules lines i labels addressed p e =
+    let known = bind-some e in
+    let a = bind-some (known .1) in
+    let f = bind-some (a .2) in
+    let d : Definition = record { fam = f .0; expr = a .0 .expr; calls = is-some (call-in ((lines at i) .tokens)) } in
+    let same : d ≡ known .0 = some-inj (unless-some (f .2) .1) in
+    let defined : definition-of ((lines at i) .tokens) ≡ some d = known .1 ∙ ap {B = Option Definition} some (sym same) in
+    let planned : plan-for lines i d labels (volatile rules) ≡ some p =
+    subst (λ (x : Definition). plan-for lines i x labels (volatile rules) ≡ some p) (sym same) (unless-some (known .2) .1) in
+    let constant : is-some (propagate-constant lines i (d .fam .name) (d .expr) labels (volatile rules)) ≡ is-some (plan-constant lines i d labels (volatile rules)) =
+    constant-some rules lines i labels d defined in
+    by-targets rules lines i labels (λ js. js ≡ changed-places rules lines i p) (a .0) (f .0) (a .1) (f .1)
+    (λ many. by-some (λ (o : Option Plan). o ≡ some p → all-uses lines i (f .0) (volatile rules) ≡ changed-places rules lines i p)
+    (λ n u. (let b = both many in let q = is-some-some (plan-constant lines i d labels (volatile rules)) (sym constant ∙ b .1) in absurd (none-some (sym n ∙ if-true _ _ (b .0) ∙ q .1))))
+    (λ q h u. constant-targets rules lines i labels d defined q (if-some h .1) ∙ ap (λ (q : Plan). changed-places rules lines i q) (some-inj u))
+    planned)
+    (λ many. by-some (λ (o : Option Plan). o ≡ some p → one-use lines i (f .0) (d .expr) (volatile rules) ≡ changed-places rules lines i p)
+    (λ n u. single-targets rules lines i labels d defined p u)
+    (λ q h u. (let c = if-some h in absurd (true-false (pair (c .0) (constant ∙ ap is-some (c .1))) many)))
+    planned)

@@ -21,3 +21,4 @@ pub mod Addressed
 pub mod Bounds
 pub mod Room
 pub mod Rounds
+pub mod Carried

@@ -13,9 +13,9 @@ use Rattle.reference.specs.Text.{Text}
 use Rattle.reference.specs.Listing.{Listing}
 use Rattle.reference.specs.Rules.{Rules}
 use Rattle.reference.specs.Life.{Labels}
-use Rattle.reference.specs.Join.{try-at}
+use Rattle.reference.specs.Join.{try-at, targets}
 use Rattle.reference.specs.Demand.{Attempts, over, failed, succeeded}
-use Rattle.reference.specs.Run.{labels-from, addressed-in, shift, Attempt, attempts-from, propagate-once, after-attempts, removals, changed, dead-result, cuts-from, drop-dead-results}
+use Rattle.reference.specs.Run.{labels-from, addressed-in, shift, Attempt, failure, success, attempts-from, propagate-once, after-attempts, removals, changed, dead-result, cuts-from, drop-dead-results}
 use Rattle.reference.proofs.Cases.{some-inj, none-some}
 use Rattle.reference.proofs.Rounds.{attempts as made}
 use Rattle.reference.proofs.Lines.{length-modify}
@@ -38,14 +38,14 @@ module _ (rules : Rules) (addressed : List Text) where
   unique (over h) (failed k e m) = absurd (omega arith)
   unique (over h) (succeeded k e m) = absurd (omega arith)
   unique (failed h e m) (over k) = absurd (omega arith)
-  unique (failed {lines = lines} h e m) (failed k f n) = ap (λ (r : List Attempt). record { removed = false; left = lines } ∷ r) (unique m n)
+  unique (failed {i = i} {lines = lines} h e m) (failed k f n) = ap (λ (r : List Attempt). failure i lines ∷ r) (unique m n)
   unique (failed h e m) (succeeded k f n) = absurd (none-some (sym e ∙ f))
   unique (succeeded h e m) (over k) = absurd (omega arith)
   unique (succeeded h e m) (failed k f n) = absurd (none-some (sym f ∙ e))
-  unique (succeeded {i = i} {lines′ = x} {labels = labels} h e m) (succeeded {lines′ = y} {more = more} k f n) =
+  unique (succeeded {i = i} {lines = lines} {lines′ = x} {labels = labels} h e m) (succeeded {lines′ = y} {more = more} k f n) =
       let same : y ≡ x = some-inj (sym f ∙ e) in
       let tail = unique m (subst (λ (l : Listing). Attempts rules addressed (pred i) l (shift i labels) more) same n) in
-      λ t. record { removed = true; left = sym same t } ∷ tail t
+      λ t. success i (targets rules lines i labels) (sym same t) ∷ tail t
 
   -- fuel for twice the lines that are left is enough: with more the attempts are the same
   pub enough : (m n i : ℕ) (lines : Listing) (labels : Labels) → length lines + length lines ≤ m + i → length lines + length lines ≤ n + i
@@ -60,11 +60,11 @@ module _ (rules : Rules) (addressed : List Text) where
   attempts-end i lines labels h = unique (taken i lines labels) (over h)
 
   pub attempts-failed : (i : ℕ) (lines : Listing) (labels : Labels) → i < length lines → try-at rules lines i labels addressed ≡ none
-      → attempts rules addressed i lines labels ≡ record { removed = false; left = lines } ∷ attempts rules addressed (suc i) lines labels
+      → attempts rules addressed i lines labels ≡ failure i lines ∷ attempts rules addressed (suc i) lines labels
   attempts-failed i lines labels h e = unique (taken i lines labels) (failed h e (taken (suc i) lines labels))
 
   pub attempts-succeeded : (i : ℕ) (lines : Listing) (labels : Labels) {lines′ : Listing} → i < length lines → try-at rules lines i labels addressed ≡ some lines′
-      → attempts rules addressed i lines labels ≡ record { removed = true; left = lines′ } ∷ attempts rules addressed (pred i) lines′ (shift i labels)
+      → attempts rules addressed i lines labels ≡ success i (targets rules lines i labels) lines′ ∷ attempts rules addressed (pred i) lines′ (shift i labels)
   attempts-succeeded i lines labels {lines′} h e = unique (taken i lines labels) (succeeded h e (taken (pred i) lines′ (shift i labels)))
 
 pub round-begins : (rules : Rules) (lines : Listing) → propagate-once rules lines ≡ attempts rules (addressed-in lines) 0 lines (labels-from 0 lines)
@@ -72,28 +72,28 @@ unfolding propagate-once attempts
 round-begins rules lines = refl
 
 -- what is read off a round, by its attempts
-module _ (rest : List Attempt) (lines lines′ : Listing) where
-  pub failed-left : after-attempts lines (record { removed = false; left = lines } ∷ rest) ≡ after-attempts lines rest
+module _ (rest : List Attempt) (i : ℕ) (into : List ℕ) (lines lines′ : Listing) where
+  pub failed-left : after-attempts lines (failure i lines ∷ rest) ≡ after-attempts lines rest
   unfolding after-attempts
   failed-left = refl
 
-  pub succeeded-left : after-attempts lines (record { removed = true; left = lines′ } ∷ rest) ≡ after-attempts lines′ rest
+  pub succeeded-left : after-attempts lines (success i into lines′ ∷ rest) ≡ after-attempts lines′ rest
   unfolding after-attempts
   succeeded-left = refl
 
-  pub failed-removals : removals (record { removed = false; left = lines } ∷ rest) ≡ removals rest
+  pub failed-removals : removals (failure i lines ∷ rest) ≡ removals rest
   unfolding removals if_then_else_
   failed-removals = refl
 
-  pub succeeded-removals : removals (record { removed = true; left = lines′ } ∷ rest) ≡ suc (removals rest)
+  pub succeeded-removals : removals (success i into lines′ ∷ rest) ≡ suc (removals rest)
   unfolding removals if_then_else_
   succeeded-removals = refl
 
-  pub failed-changed : changed (record { removed = false; left = lines } ∷ rest) ≡ changed rest
+  pub failed-changed : changed (failure i lines ∷ rest) ≡ changed rest
   unfolding changed _||_
   failed-changed = refl
 
-  pub succeeded-changed : changed (record { removed = true; left = lines′ } ∷ rest) ≡ true
+  pub succeeded-changed : changed (success i into lines′ ∷ rest) ≡ true
   unfolding changed _||_
   succeeded-changed = refl
 

@@ -1,5 +1,5 @@
-// The limits of document 01's sheet: for each a tape is built and asked the questions 3 to 8. A line each: what the tape is, and `accepted`
-// or `refused`, number, `at`, place. The file `stdout` has the answers of the Rust behind the same questions.
+// The limits of document 01's sheet, and those of the marks (M-105): for each a tape is built and asked the questions 3 to 8. A line each: what the tape
+// is, and `accepted` or `refused`, number, `at`, place. The file `stdout` has the answers of the Rust behind the same questions.
 use libc::STDOUT_FILENO;
 use tape::commands::text_of;
 use tape::questions::Checked;
@@ -45,6 +45,63 @@ const EXAMPLE: [u8; 40] = [
     0x01,
     0x00,
     0x3B,
+    0xFF,
+];
+
+// 03 with the addresses 10 and 20.
+const MARKS: [u8; 17] = [
+    0x03,
+    0x10,
+    0x00,
+    0x00,
+    0x00,
+    0x00,
+    0x00,
+    0x00,
+    0x00,
+    0x20,
+    0x00,
+    0x00,
+    0x00,
+    0x00,
+    0x00,
+    0x00,
+    0x00,
+];
+
+// An addressed line with that 03 and a token.
+const MARKED: [u8; 32] = [
+    0x01,
+    0x18,
+    0x00,
+    0x00,
+    0x00,
+    0x00,
+    0x00,
+    0x00,
+    0x00,
+    0x00,
+    0x03,
+    0x10,
+    0x00,
+    0x00,
+    0x00,
+    0x00,
+    0x00,
+    0x00,
+    0x00,
+    0x20,
+    0x00,
+    0x00,
+    0x00,
+    0x00,
+    0x00,
+    0x00,
+    0x00,
+    0x10,
+    0x01,
+    0x00,
+    0x66,
     0xFF,
 ];
 
@@ -194,18 +251,70 @@ fn refusals() {
     answer(&[0xFF]);
 }
 
-fn truncation(tape: &[u8], n: usize) {
-    write(b"example, ");
+// ---- marks
+
+// A line with a 03 from `low` to `high`.
+fn span(buffer: &mut [u8], low: u8, high: u8) {
+    write(b"03 from ");
+    write_number(low as usize);
+    write(b" to ");
+    write_number(high as usize);
+    let n = append(buffer, 0, &[0x02, 0x00, 0x03, low]);
+    let n = append_times(buffer, n, &[0x00], 7);
+    let n = append(buffer, n, &[high]);
+    let n = append_times(buffer, n, &[0x00], 7);
+    let n = append(buffer, n, &[0xFF]);
+    answer_first(buffer, n);
+}
+
+// So many 03s after a line's command.
+fn marks(buffer: &mut [u8], count: usize) {
+    write_number(count);
+    write(b" times 03");
+    let n = append(buffer, 0, &[0x02, 0x00]);
+    let n = append_times(buffer, n, &MARKS, count);
+    let n = append(buffer, n, &[0xFF]);
+    answer_first(buffer, n);
+}
+
+// A tape with a 03 put in after its first n bytes.
+fn marks_after(buffer: &mut [u8], tape: &[u8], n: usize) {
+    if tape.len() < n {
+        return;
+    }
+    write(b"example, 03 after ");
+    write_number(n);
+    write(b" bytes");
+    let to = append(buffer, 0, text_of(tape, 0, n));
+    let to = append(buffer, to, &MARKS);
+    let to = append(buffer, to, text_of(tape, n, tape.len() - n));
+    answer_first(buffer, to);
+}
+
+// The same for every n.
+fn marks_everywhere(buffer: &mut [u8], tape: &[u8]) {
+    let mut n = 0;
+    while n <= tape.len() {
+        marks_after(buffer, tape, n);
+        n += 1;
+    }
+}
+
+// ---- truncations
+
+fn truncation(what: &[u8], tape: &[u8], n: usize) {
+    write(what);
+    write(b", ");
     write_number(n);
     write(b" bytes");
     answer_first(tape, n);
 }
 
 // Every truncation of a tape, and the whole.
-fn truncations(tape: &[u8]) {
+fn truncations(what: &[u8], tape: &[u8]) {
     let mut n = 0;
     while n <= tape.len() {
-        truncation(tape, n);
+        truncation(what, tape, n);
         n += 1;
     }
 }
@@ -229,5 +338,12 @@ fn main() {
     byte(0x7E);
     byte(0x7F);
     refusals();
-    truncations(&EXAMPLE);
+    truncations(b"example", &EXAMPLE);
+    span(&mut buffer, 0, 0);
+    span(&mut buffer, 16, 32);
+    span(&mut buffer, 32, 16);
+    marks(&mut buffer, 1);
+    marks(&mut buffer, 2);
+    marks_everywhere(&mut buffer, &EXAMPLE);
+    truncations(b"marked", &MARKED);
 }

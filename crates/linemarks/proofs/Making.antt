@@ -18,11 +18,11 @@ use Rattle.names.specs.Families.{is-row}
 use Rattle.lines.specs.Codes.{bucket, family-number}
 use Rattle.lines.specs.Words.{code-of, text-of, token-of, tokens-of, Points}
 use Rattle.lines.specs.Marks.{bit, turns, marked-by, Tells}
-use Rattle.lines.specs.Lines.{with-marks, part-of, address-in, Lined, Listed}
+use Rattle.lines.specs.Lines.{with-marks, part-of, Lined, Listed}
 use Rattle.lines.specs.Fams.{Fam, fam-text}
 use Rattle.lines.proofs.fams.Families.{fam-row, fam-name}
 use Rattle.lines.proofs.words.Scans.{any-next, any-false}
-use Rattle.lines.proofs.words.Lines.{marked-first, marked-count, marked-indent, marked-addressed, marked-origin, marked-marks}
+use Rattle.lines.proofs.words.Lines.{marked-first, marked-count, marked-indent, marked-read, marked-marks}
 use Rattle.lines.proofs.codes.Coding.{says, name-whole, row-numbered, text-numbered}
 use Rattle.linemarks.specs.Marking.{seen-by, Bits, CallBits, Marked, Remarked}
 use Rattle.linemarks.proofs.Bits.{or-left, or-right, low-bit, turn-bit}
@@ -118,11 +118,12 @@ module _ {tape area : Text} {tokens : List ℕ} {l m : ℕ} (h : Lined tape area
 
 pub marked-with : {tape area : Text} {tokens ws : List ℕ} {l m r : ℕ} → Lined tape area tokens l → ws ≡ part-of tokens l
     → Tells 1 m (tokens-of tape area ws) → r ≡ with-marks l m → Marked tape area tokens l r
-unfolding address-in
 marked-with {tape} {area} {tokens} {ws} {l} {m} h ew s er = rw er (record {
   first-is = marked-first l m;
   count-is = marked-count l m;
-  means = λ addresses. rw (marked-part tokens l m, marked-indent l m, marked-addressed l m, marked-origin l m);
+  means = λ addresses.
+      (let ts = ap (tokens-of tape area) (marked-part tokens l m) in
+      λ j. record { address = marked-read l m addresses j; indent = marked-indent l m j; tokens = ts j });
   lined = lined-with h (rw ew at s);
 })
 

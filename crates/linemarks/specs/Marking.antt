@@ -8,7 +8,7 @@ use lib.ListN.{length, getD}
 use Rattle.reference.specs.Control.{if_then_else_}
 use Rattle.reference.specs.Text.{Text}
 use Rattle.reference.specs.Listing.{Token, is, Symbol}
-use Rattle.lines.specs.Lines.{line-in, first-of, count-of, Lined}
+use Rattle.lines.specs.Lines.{Reading, line-read, first-of, count-of, Lined}
 use Rattle.lines.specs.Marks.{bit, marked-by}
 
 -- what bit i of a token is about: what the mark i is, and at 16 the Symbols
@@ -30,7 +30,7 @@ pub record CallBits (m : ℕ) (calls : Bool) : Type 0 where
 pub record Marked (tape area : Text) (tokens : List ℕ) (l r : ℕ) : Type 0 where
   pub first-is : first-of r ≡ first-of l
   pub count-is : count-of r ≡ count-of l
-  pub means : (addresses : List ℕ) → line-in tape area tokens addresses r ≡ line-in tape area tokens addresses l
+  pub means : (addresses : Reading) → line-read tape area tokens addresses r ≡ line-read tape area tokens addresses l
   pub lined : Lined tape area tokens r
 
 -- so are the lines of two lists, each of its own

@@ -54,12 +54,28 @@ part-of tokens l = take (count-of l) (drop (first-of l) tokens)
 unfoldable pub address-in : List ℕ → ℕ → Option ℕ
 address-in addresses l = if eqb (addressed-of l) 1 then some (getD addresses (origin-of l) 0) else none
 
+-- What is read as a line's address: its own, if it has one; or, of every line, the number of the input line that it was. What is said of every reading
+-- says therefore which lines stand where.
+pub data Reading : Type 0 where
+  own : List ℕ → Reading
+  numbered : Reading
+
+abbrev pub read-as : Reading → ℕ → Option ℕ
+read-as (own addresses) l = address-in addresses l
+read-as numbered l = some (origin-of l)
+
+abbrev pub line-read : Text → Text → List ℕ → Reading → ℕ → Line
+line-read tape area tokens reading l =
+    record { address = read-as reading l; indent = indent-of l; tokens = tokens-of tape area (part-of tokens l) }
+
+abbrev pub listing-read : Text → Text → List ℕ → Reading → List ℕ → Listing
+listing-read tape area tokens reading lines = map (line-read tape area tokens reading) lines
+
 abbrev pub line-in : Text → Text → List ℕ → List ℕ → ℕ → Line
-line-in tape area tokens addresses l =
-    record { address = address-in addresses l; indent = indent-of l; tokens = tokens-of tape area (part-of tokens l) }
+line-in tape area tokens addresses l = line-read tape area tokens (own addresses) l
 
 abbrev pub listing-of : Text → Text → List ℕ → List ℕ → List ℕ → Listing
-listing-of tape area tokens addresses lines = map (line-in tape area tokens addresses) lines
+listing-of tape area tokens addresses lines = listing-read tape area tokens (own addresses) lines
 
 -- a line without its address, of which what only reads a listing says nothing
 abbrev pub bare : Line → Line

@@ -1,26 +1,29 @@
--- An attempt that succeeds: where it found its uses, and that it leaves its listing as `Removed` says. Assumes nothing.
+-- An attempt that succeeds: where it found its uses, that it leaves its listing as `Removed` says, and the lines that it was joined into. Assumes nothing.
 use Prim.Native.Nat.{ℕ, suc, _≤_, _<_}
 use native.Mathlib.Omega.{arith}
 use native.Mathlib.Nat.{le-refl}
-use mathlib.Core.Path.{_≡_, refl, sym, _∙_, subst}
+use mathlib.Core.Path.{_≡_, refl, sym, ap, _∙_, subst}
 use mathlib.Core.Bool.{Bool, true, false}
 use mathlib.Core.List.{List, [], _∷_}
-use mathlib.Core.Option.{Option, some}
+use mathlib.Core.Option.{Option, none, some}
 use lib.ListN.{length, drop}
-use Rattle.reference.specs.Lists.{is-some, modify}
+use Rattle.reference.specs.Control.{_&&_, let-some_else_then_}
+use Rattle.reference.specs.Lists.{is-some, is-empty, modify}
 use Rattle.reference.specs.Text.{Text}
 use Rattle.reference.specs.Listing.{Token, Listing, _at_}
+use Rattle.reference.specs.Names.{Fam, family}
 use Rattle.reference.specs.Rules.{Rules, volatile}
-use Rattle.reference.specs.Shapes.{is-label, call-at}
+use Rattle.reference.specs.Shapes.{Assignment, assignment, is-label, call-at}
 use Rattle.reference.specs.Life.{Labels}
-use Rattle.reference.specs.Join.{Uses, ends-run, gather, substitute, rewrite-use, rewrite-uses, propagate-constant, use-from, replace-at, rewrite-one, join-at, join-one, lone-number, try-at}
+use Rattle.reference.specs.Join.{Uses, ends-run, gather, substitute, rewrite-use, rewrite-uses, propagate-constant, use-from, replace-at, rewrite-one, join-at, join-one, lone-number, try-at, targets}
 use Rattle.reference.specs.Claim.{calls-in}
-use Rattle.reference.proofs.Cases.{by-if, by-some, by-touch, neither, some-inj, none-some, if-some, unless-some, bind-some}
+use Rattle.reference.proofs.Cases.{by-if, by-some, by-touch, both, neither, true-false, pair, some-inj, none-some, if-some, unless-some, bind-some}
 use Rattle.reference.proofs.Shapes.{assigns}
 use Rattle.reference.proofs.Weights.{fold-merge-le, replaced-le, substitute-le}
 use Rattle.reference.proofs.Calls.{fold-merge-keeps, replaced-keeps, substitute-keeps, number-silent}
 use Rattle.reference.proofs.Lines.{at-modify, length-modify, drop-step}
 use Rattle.reference.proofs.Changes.{Changes, unchanged, changes-trans, changes-line, Assigns, Removed}
+use Rattle.reference.proofs.Limits.{All}
 
 -- ---- a lone number, to several uses
 
@@ -155,3 +158,74 @@ attempt-removed rules lines i labels addressed {lines′} e =
     (λ n u. join-removed s labels (volatile rules) u)
     (λ l h u. (let c = if-some (h ∙ u) in constant-removed s labels (volatile rules) (c .0) (c .1)))
     (unless-some (f .2) .1)
+
+-- ---- the lines that it is joined into
+
+-- one line at least, and all of them behind line i
+pub record Joined (i n : ℕ) (js : List ℕ) : Type 0 where
+  pub some-line : 1 ≤ length js
+  pub each : All (λ j. (i < j) × (j < n)) js
+
+found-all : (lines : Listing) (i k : ℕ) (js : List ℕ) → i < k → Found lines k js → All (λ j. (i < j) × (j < length lines)) js
+found-all lines i k [] h o = tt
+found-all lines i k (j ∷ js) h o = ((omega (arith, o .0), o .1), found-all lines i (suc j) js (omega (arith, o .0)) (o .3))
+
+not-empty : {A : Type 0} (xs : List A) → is-empty xs ≡ false → 1 ≤ length xs
+not-empty [] e = absurd (true-false refl e)
+not-empty (x ∷ xs) e = omega arith
+
+pub is-some-some : {A : Type 0} (o : Option A) → is-some o ≡ true → (a : A) × (o ≡ some a)
+is-some-some none e = absurd (true-false e refl)
+is-some-some (some a) e = (a, refl)
+
+-- the lines that `targets` names
+abbrev pub all-uses : Listing → ℕ → Fam → List Text → List ℕ
+all-uses lines i f volatile = gather ((lines at i) .indent) (f .name) volatile (suc i) (drop (suc i) lines) i .uses
+
+abbrev pub one-use : Listing → ℕ → Fam → List Token → List Text → List ℕ
+one-use lines i f expr volatile =
+    let-some (use-from ((lines at i) .indent) (f .name) expr (is-some (call-at (lines at i))) volatile (suc i) (drop (suc i) lines)) else [] then λ j. j ∷ []
+
+module _ (lines : Listing) (i : ℕ) (f : Fam) (expr : List Token) (labels : Labels) (volatile : List Text) {lines′ : Listing} where
+  constant-joined : propagate-constant lines i (f .name) expr labels volatile ≡ some lines′
+      → Joined i (length lines) (all-uses lines i f volatile)
+  unfolding propagate-constant
+  constant-joined e =
+      let indent : ℕ = (lines at i) .indent in
+      let found = gather indent (f .name) volatile (suc i) (drop (suc i) lines) i in
+      record {
+        some-line = not-empty (found .uses) (neither (unless-some e .0) .0);
+        each = found-all lines i (suc i) (found .uses) (le-refl _) (gathered lines indent (f .name) volatile (suc i) (drop (suc i) lines) i refl);
+      }
+
+  one-joined : join-one lines i f expr labels volatile ≡ some lines′ → Joined i (length lines) (one-use lines i f expr volatile)
+  unfolding join-one let-some_else_then_
+  one-joined e =
+      let u = bind-some e in
+      let place = used lines ((lines at i) .indent) (f .name) expr (is-some (call-at (lines at i))) volatile (suc i) (drop (suc i) lines) (u .0) refl (u .1) in
+      rw (u .1) (record { some-line = omega arith; each = ((place .0, place .1), tt) })
+
+module _ (rules : Rules) (lines : Listing) (i : ℕ) (labels : Labels) where
+  -- a goal over `targets`, by whether the constant goes to all its uses
+  pub by-targets : (P : List ℕ → Type 0) (a : Assignment) (f : Fam) → assignment (lines at i) ≡ some a → family (a .lhs .text) ≡ some f
+      → let many = lone-number (a .expr) && is-some (propagate-constant lines i (f .name) (a .expr) labels (volatile rules)) in
+      (many ≡ true → P (all-uses lines i f (volatile rules))) → (many ≡ false → P (one-use lines i f (a .expr) (volatile rules)))
+      → P (targets rules lines i labels)
+  unfolding targets let-some_else_then_
+  by-targets P a f ea ef all one = rw (ea, ef) (by-if P all one)
+
+  -- A LINE THAT IS REMOVED IS JOINED INTO ONE LINE AT LEAST
+  pub attempt-joined : (addressed : List Text) {lines′ : Listing} → try-at rules lines i labels addressed ≡ some lines′
+      → Joined i (length lines) (targets rules lines i labels)
+  unfolding try-at
+  attempt-joined addressed {lines′} e =
+      let a = bind-some e in
+      let f = bind-some (a .2) in
+      let expr : List Token = a .0 .expr in
+      let constant : Option Listing = propagate-constant lines i (f .0 .name) expr labels (volatile rules) in
+      by-targets (λ js. Joined i (length lines) js) (a .0) (f .0) (a .1) (f .1)
+      (λ t. constant-joined lines i (f .0) expr labels (volatile rules) (is-some-some constant (both t .1) .1))
+      (λ t. by-some (λ (o : Option Listing). o ≡ some lines′ → Joined i (length lines) (one-use lines i (f .0) expr (volatile rules)))
+      (λ n u. one-joined lines i (f .0) expr labels (volatile rules) u)
+      (λ l h u. (let c = if-some h in absurd (true-false (pair (c .0) (ap is-some (c .1))) t)))
+      (unless-some (f .2) .1))

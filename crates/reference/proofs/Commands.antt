@@ -12,7 +12,8 @@ use lib.Seq.{drop-drop, take-suc, take-add, take-append-seam, length-take-le}
 use borrow.Author.Tests.{ne-eqb, eqb-true, leb-true, le-leb}
 use Rattle.reference.specs.Control.{_&&_, _||_, if_then_else_}
 use Rattle.reference.specs.Listing.{token}
-use Rattle.reference.specs.Tape.{to-le-bytes, from-le-bytes, Command, new-line, new-token, end, write-command, text-length, command-size, command-of}
+use Rattle.reference.specs.Spans.{Span}
+use Rattle.reference.specs.Tape.{to-le-bytes, from-le-bytes, Command, new-line, marked, new-token, end, write-command, text-length, command-size, command-of}
 use Rattle.reference.specs.Questions.{is-command}
 use Rattle.reference.proofs.Cases.{either, both}
 use Rattle.reference.proofs.LittleEndian.{Bytes, bytes-drop, bytes-take, from-to, from-below, from-at, to-take}
@@ -32,6 +33,11 @@ module _ (rest : List ℕ) where
   unfolding command-size command-of if_then_else_
   plain-form e = (rw e, rw e)
 
+  pub marks-form : getD rest 0 0 ≡ 0x03
+      → Says 17 (marked (record { lowest = from-le-bytes (take 8 (drop 1 rest)); highest = from-le-bytes (take 8 (drop 9 rest)) }))
+  unfolding command-size command-of if_then_else_
+  marks-form e = (rw e, rw e)
+
   pub end-form : getD rest 0 0 ≡ 0xFF → Says 1 end
   unfolding command-size command-of if_then_else_
   end-form e = (rw e, rw e)
@@ -42,8 +48,9 @@ module _ (rest : List ℕ) where
   token-form low high =
       let e₁ : eqb (getD rest 0 0) 0x01 ≡ false = ne-eqb (getD rest 0 0) 0x01 (λ e. omega arith) in
       let e₂ : eqb (getD rest 0 0) 0x02 ≡ false = ne-eqb (getD rest 0 0) 0x02 (λ e. omega arith) in
-      let e₃ : eqb (getD rest 0 0) 0xFF ≡ false = ne-eqb (getD rest 0 0) 0xFF (λ e. omega arith) in
-      (rw (e₁, e₂, e₃), rw (e₁, e₂, e₃))
+      let e₃ : eqb (getD rest 0 0) 0x03 ≡ false = ne-eqb (getD rest 0 0) 0x03 (λ e. omega arith) in
+      let e₄ : eqb (getD rest 0 0) 0xFF ≡ false = ne-eqb (getD rest 0 0) 0xFF (λ e. omega arith) in
+      (rw (e₁, e₂, e₃, e₄), rw (e₁, e₂, e₃, e₄))
 
 -- a text's length, as code reads it
 pub text-length-at : (tape : List ℕ) (at : ℕ) → text-length (drop at tape) ≡ getD tape (at + 1) 0 + 256 * getD tape (at + 2) 0
@@ -52,10 +59,11 @@ text-length-at tape at =
     let e : suc (at + 1) ≡ at + 2 = omega arith in
     rw (drop-drop 1 at tape, from-at 1 (at + 1) tape, from-at 0 (suc (at + 1)) tape, e) (omega arith)
 
--- question 3's four cases
+-- question 3's five cases
 pub data Form (rest : List ℕ) : Type 0 where
   is-address : getD rest 0 0 ≡ 0x01 → Form rest
   is-plain : getD rest 0 0 ≡ 0x02 → Form rest
+  is-marks : getD rest 0 0 ≡ 0x03 → Form rest
   is-token : 0x10 ≤ getD rest 0 0 → getD rest 0 0 ≤ 0x17 → Form rest
   is-ending : getD rest 0 0 ≡ 0xFF → Form rest
 
@@ -65,30 +73,35 @@ form [] h = absurd (false≢true h)
 form (b ∷ rest) h =
     either (Form (b ∷ rest)) h (λ e. is-address (eqb-true _ _ e))
     (λ h. either (Form (b ∷ rest)) h (λ e. is-plain (eqb-true _ _ e))
+    (λ h. either (Form (b ∷ rest)) h (λ e. is-marks (eqb-true _ _ e))
     (λ h. either (Form (b ∷ rest)) h (λ e. is-token (leb-true _ _ (both e .0)) (leb-true _ _ (both e .1)))
-    (λ e. is-ending (eqb-true _ _ e))))
+    (λ e. is-ending (eqb-true _ _ e)))))
 
 pub is-form : (rest : List ℕ) → Form rest → is-command rest ≡ true
 unfolding is-command _||_ _&&_
 is-form [] (is-address e) = absurd (omega arith)
 is-form [] (is-plain e) = absurd (omega arith)
+is-form [] (is-marks e) = absurd (omega arith)
 is-form [] (is-token low high) = absurd (omega arith)
 is-form [] (is-ending e) = absurd (omega arith)
 is-form (b ∷ rest) (is-address e) = rw e
 is-form (b ∷ rest) (is-plain e) = rw e
+is-form (b ∷ rest) (is-marks e) = rw e
 is-form (b ∷ rest) (is-token low high) =
-    rw (ne-eqb b 0x01 (λ e. omega arith), ne-eqb b 0x02 (λ e. omega arith), le-leb 0x10 b low, le-leb b 0x17 high)
+    rw (ne-eqb b 0x01 (λ e. omega arith), ne-eqb b 0x02 (λ e. omega arith), ne-eqb b 0x03 (λ e. omega arith), le-leb 0x10 b low, le-leb b 0x17 high)
 is-form (b ∷ rest) (is-ending e) = rw e
 
 -- a command that ends inside the tape: its size, and a token's kind
 abbrev pub Sized : Command → ℕ → Type 0
 Sized (new-line address indent) n = n ≤ 10
+Sized (marked s) n = n ≡ 17
 Sized (new-token t) n = (n ≡ 3 + length (t .text)) × (t .kind < 8)
 Sized end n = n ≡ 1
 
 pub sized : (rest : List ℕ) → Form rest → command-size rest ≤ length rest → Sized (command-of rest) (command-size rest)
 sized rest (is-address e) inside = let f = address-form rest e in rw (f .1, f .0) (omega arith)
 sized rest (is-plain e) inside = let f = plain-form rest e in rw (f .1, f .0) (omega arith)
+sized rest (is-marks e) inside = let f = marks-form rest e in rw (f .1, f .0) refl
 sized rest (is-token low high) inside =
     let f = token-form rest low high in
     let fits : text-length rest ≤ length (drop 3 rest) = rw length-drop (omega (arith, f .0)) in
@@ -102,8 +115,12 @@ abbrev pub AddressFits : Option ℕ → Type 0
 AddressFits none = Unit {0}
 AddressFits (some address) = address < 2 ^ 64
 
+abbrev pub SpanFits : Span → Type 0
+SpanFits s = (s .lowest < 2 ^ 64) × (s .highest < 2 ^ 64)
+
 abbrev pub Writable : Command → Type 0
 Writable (new-line address indent) = AddressFits address
+Writable (marked s) = SpanFits s
 Writable (new-token t) = (t .kind < 8) × (length (t .text) < 2 ^ 16)
 Writable end = Unit {0}
 
@@ -113,6 +130,14 @@ writable rest h (is-address e) inside =
     let n : length (take 8 (drop 1 rest)) ≡ 8 = length-take-le 8 (drop 1 rest) (rw length-drop (omega (arith, f .0))) in
     rw (f .1) (rw n at (from-below (take 8 (drop 1 rest)) (bytes-take 8 (drop 1 rest) (bytes-drop 1 rest h))))
 writable rest h (is-plain e) inside = let f = plain-form rest e in rw (f .1) tt
+writable rest h (is-marks e) inside =
+    let f = marks-form rest e in
+    let m : length (take 8 (drop 1 rest)) ≡ 8 = length-take-le 8 (drop 1 rest) (rw length-drop (omega (arith, f .0))) in
+    let n : length (take 8 (drop 9 rest)) ≡ 8 = length-take-le 8 (drop 9 rest) (rw length-drop (omega (arith, f .0))) in
+    rw (f .1) (
+      rw m at (from-below (take 8 (drop 1 rest)) (bytes-take 8 (drop 1 rest) (bytes-drop 1 rest h))),
+      rw n at (from-below (take 8 (drop 9 rest)) (bytes-take 8 (drop 9 rest) (bytes-drop 9 rest h))),
+    )
 writable rest h (is-token low high) inside =
     let f = token-form rest low high in
     let n : length (take 2 (drop 1 rest)) ≡ 2 = length-take-le 2 (drop 1 rest) (rw length-drop (omega (arith, f .0))) in
@@ -136,6 +161,10 @@ write-of-read (b ∷ more) h (is-address e) inside =
 write-of-read (b ∷ more) h (is-plain e) inside =
     let f = plain-form (b ∷ more) e in
     rw (f .0, f .1, e, take-suc more 0 0 (omega (arith, f .0)))
+write-of-read (b ∷ more) h (is-marks e) inside =
+    let f = marks-form (b ∷ more) e in
+    let long : 8 ≤ length (drop 8 more) = rw length-drop (omega (arith, f .0)) in
+    rw (f .0, f .1, e, to-take 8 more (λ i. h (suc i)) (omega (arith, f .0)), to-take 8 (drop 8 more) (bytes-drop 8 more (λ i. h (suc i))) long, ← take-add 8 8 more)
 write-of-read (b ∷ more) h (is-token low high) inside =
     let f = token-form (b ∷ more) low high in
     let n : ℕ = from-le-bytes (take 2 more) in
@@ -165,6 +194,14 @@ read-of-write (new-line none indent) more h =
     let rest : List ℕ = write-command (new-line none indent) ++ more in
     let f = plain-form rest refl in
     record { known = is-form rest (is-plain refl); size = f .0; same = f .1 }
+read-of-write (marked s) more h =
+    let rest : List ℕ = write-command (marked s) ++ more in
+    let f = marks-form rest refl in
+    record {
+      known = is-form rest (is-marks refl);
+      size = f .0;
+      same = f .1 ∙ λ i. marked (record { lowest = from-to 8 (s .lowest) (h .0) i; highest = from-to 8 (s .highest) (h .1) i });
+    }
 read-of-write (new-token t) more h =
     let rest : List ℕ = write-command (new-token t) ++ more in
     let n : ℕ = length (t .text) in

@@ -20,8 +20,10 @@ use Rattle.reference.specs.Rules.{Rules}
 use Rattle.reference.specs.Run.{run, last-of, listings, finished, counts}
 use Rattle.reference.specs.Claim.{size, token-count, place}
 use Rattle.reference.specs.Demand.{Accepted, Within, Each, Steps, Demand3}
+use Rattle.reference.specs.Spans.{Marks}
+use Rattle.reference.specs.Marks.{finished-marks}
 use Rattle.reference.specs.Tape.{write}
-use Rattle.reference.specs.Questions.{WORK, OUTPUT, has-room-by, Refused, Passed, read}
+use Rattle.reference.specs.Questions.{WORK, OUTPUT, has-room-by, Refused, Passed, read, marks-in}
 use Rattle.reference.specs.Reply.{Cleaned, Reply, reply-by, reply, output-after, work-after}
 use Rattle.reference.proofs.Cases.{both, fails}
 use Rattle.reference.proofs.Rounds.{demand3}
@@ -69,24 +71,25 @@ sublist-length Sublistᴰ·slnil = omega arith
 sublist-length (Sublistᴰ·cons s) = omega (arith, sublist-length s)
 sublist-length (Sublistᴰ·cons-cons e s) = omega (arith, sublist-length s)
 
--- THE OUTPUT NEEDS AT MOST 54,785 BYTES
-pub output-length : (rules : Rules) (tape : List ℕ) (input : Listing) → read tape ≡ Passed input → length (write (finished rules input)) ≤ OUTPUT
+-- THE OUTPUT NEEDS AT MOST 59,137 BYTES, whatever the marks are
+pub output-length : (rules : Rules) (tape : List ℕ) (input : Listing) (marks : List Marks) → read tape ≡ Passed input
+    → length (write (finished rules input) marks) ≤ OUTPUT
 unfolding listings finished
-output-length rules tape input e =
+output-length rules tape input marks e =
     let d = demand3-tape rules tape input e in
     let limits = read-limits tape input e in
     let last : Listing = finished rules input in
     let within : Within input last = each-last (Within input) input _ (d .each) in
     let tokens : token-count last ≤ token-count input = tokens-last input _ (d .step) in
     omega
-    (arith, write-length last, within .text-bounded, tokens, limits .few-tokens, limits .few-lines, simp length-map at (sublist-length (within .places-in-order)))
+    (arith, write-length last marks, within .text-bounded, tokens, limits .few-tokens, limits .few-lines, simp length-map at (sublist-length (within .places-in-order)))
 
 -- ---- a call that is not refused
 
 pub record Answered (rules : Rules) (tape : List ℕ) (work-a work-b output : ℕ) (c : Cleaned) : Type 0 where
   pub input : Listing
   pub reads : read tape ≡ Passed input
-  pub cleaned : c ≡ record { tape = write (finished rules input); counts = counts rules (run rules input) }
+  pub cleaned : c ≡ record { tape = write (finished rules input) (finished-marks rules input (marks-in tape)); counts = counts rules (run rules input) }
   pub room-a : WORK ≤ work-a
   pub room-b : WORK ≤ work-b
   pub room : length (c .tape) ≤ output
@@ -107,7 +110,7 @@ answered rules tape work-a work-b output c e =
       cleaned = sym same;
       room-a = leb-true _ _ (room .0);
       room-b = leb-true _ _ (both (room .1) .0);
-      room = rw (← same) (le-trans (output-length rules tape input reads) (leb-true _ _ (both (room .1) .1)));
+      room = rw (← same) (le-trans (output-length rules tape input (finished-marks rules input (marks-in tape)) reads) (leb-true _ _ (both (room .1) .1)));
     }))
     (r .1)
 

@@ -23,3 +23,6 @@ pub mod Tapes
 pub mod Written
 pub mod Guarantee
 pub mod WorkSpace
+pub mod Unmarked
+pub mod Spans
+pub mod Marks

@@ -3,13 +3,15 @@ use Prim.Native.Nat.{ℕ, zero, suc, _<_, _≤_}
 use mathlib.Core.Path.{_≡_}
 use mathlib.Core.Bool.{true, false}
 use mathlib.Core.List.{List, [], _∷_, _++_}
+use mathlib.Core.Option.{none, some}
 use lib.Dec.{ltb}
 use lib.ListN.{length}
 use Rattle.reference.specs.Control.{_||_}
 use Rattle.reference.specs.Lists.{any, modify}
 use Rattle.reference.specs.Listing.{Token, is, Number, Line, Listing}
+use Rattle.reference.specs.Spans.{Marks}
 use Rattle.reference.specs.Claim.{token-count, text}
-use Rattle.reference.proofs.Commands.{AddressFits}
+use Rattle.reference.proofs.Commands.{AddressFits, SpanFits}
 
 module _ {A : Type 0} where
   abbrev pub All : (A → Type 0) → List A → Type 0
@@ -42,6 +44,11 @@ pub record Limits (lines : Listing) : Type 0 where
   pub few-tokens : token-count lines ≤ 1024
   pub short-text : text lines ≤ 24576
   pub each : All LineFits lines
+
+-- marks that an accepted tape of bytes can hold
+abbrev pub MarksFit : Marks → Type 0
+MarksFit none = Unit {0}
+MarksFit (some s) = SpanFits s × (s .lowest ≤ s .highest)
 
 -- what an accepted tape of bytes holds: addresses have 8 of them
 pub record Fits (lines : Listing) : Type 0 where

@@ -4,7 +4,7 @@ use native.Mathlib.Omega.{arith}
 use native.Mathlib.Nat.{not-suc-le-zero, le-of-suc-le-suc}
 use mathlib.Core.Path.{_≡_, refl, ap}
 use mathlib.Core.Bool.{Bool, true, false}
-use mathlib.Core.List.{[], _∷_, nil≢cons, Sublistᴰ, Sublistᴰ·slnil, Sublistᴰ·cons, Sublistᴰ·cons-cons, Sublistᴰ·refl}
+use mathlib.Core.List.{List, [], _∷_, nil≢cons, Sublistᴰ, Sublistᴰ·slnil, Sublistᴰ·cons, Sublistᴰ·cons-cons, Sublistᴰ·refl}
 use lib.ListN.{length, drop}
 use Rattle.reference.specs.Control.{if_then_else_}
 use Rattle.reference.specs.Lists.{remove, modify}
@@ -34,15 +34,16 @@ at-modify g zero (suc j) (l ∷ ls) h = refl
 at-modify g (suc i) zero (l ∷ ls) h = refl
 at-modify g (suc i) (suc j) (l ∷ ls) h = at-modify g i j ls (λ e. h (ap suc e))
 
-pub length-modify : (g : Line → Line) (j : ℕ) (lines : Listing) → length (modify j g lines) ≡ length lines
-length-modify g j [] = refl
-length-modify g zero (l ∷ ls) = refl
-length-modify g (suc j) (l ∷ ls) = ap suc (length-modify g j ls)
+module _ {A : Type 0} where
+  pub length-modify : (g : A → A) (j : ℕ) (xs : List A) → length (modify j g xs) ≡ length xs
+  length-modify g j [] = refl
+  length-modify g zero (x ∷ xs) = refl
+  length-modify g (suc j) (x ∷ xs) = ap suc (length-modify g j xs)
 
-pub length-remove : (i : ℕ) (lines : Listing) → i < length lines → suc (length (remove i lines)) ≡ length lines
-length-remove i [] h = absurd (not-suc-le-zero h)
-length-remove zero (l ∷ ls) h = refl
-length-remove (suc i) (l ∷ ls) h = ap suc (length-remove i ls (le-of-suc-le-suc h))
+  pub length-remove : (i : ℕ) (xs : List A) → i < length xs → suc (length (remove i xs)) ≡ length xs
+  length-remove i [] h = absurd (not-suc-le-zero h)
+  length-remove zero (x ∷ xs) h = refl
+  length-remove (suc i) (x ∷ xs) h = ap suc (length-remove i xs (le-of-suc-le-suc h))
 
 -- the line that the rest of a listing begins with
 pub drop-step : (j : ℕ) (lines : Listing) (l : Line) (rest : Listing) → drop j lines ≡ l ∷ rest

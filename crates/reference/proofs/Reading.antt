@@ -7,13 +7,15 @@ use mathlib.Core.Path.{_≡_, refl, sym, ap, _∙_}
 use mathlib.Core.Bool.{Bool, true, false}
 use mathlib.Core.List.{List, [], _∷_, _++_}
 use lib.ListN.{length, drop, length-drop, drop-of-length-le}
+use lib.Seq.{drop-drop}
 use borrow.Author.Tests.{leb-true, le-leb, lt-leb}
 use Rattle.reference.specs.Control.{if_then_else_}
 use Rattle.reference.specs.Listing.{Listing}
+use Rattle.reference.specs.Spans.{Marks}
 use Rattle.reference.specs.Tape.{command-size, command-of}
-use Rattle.reference.specs.Questions.{Totals, is-command, ends-inside, has-line, is-within, is-printable, is-over, Answer, Refused, Passed, ask, let-passed_then_, count-in, Advance, read-command, is-end, add, read-from, read}
+use Rattle.reference.specs.Questions.{Totals, is-command, ends-inside, has-line, is-within, is-printable, is-over, Answer, Refused, Passed, ask, let-passed_then_, count-in, Advance, read-command, is-end, add, no-commands, read-from, read, add-marks, marks-from, marks-in}
 use Rattle.reference.proofs.Cases.{by-if}
-use Rattle.reference.proofs.Commands.{Form, is-address, is-plain, is-token, is-ending, form, is-form, address-form, plain-form, token-form, end-form}
+use Rattle.reference.proofs.Commands.{Form, is-address, is-plain, is-marks, is-token, is-ending, form, is-form, address-form, plain-form, marks-form, token-form, end-form}
 
 -- ---- questions
 
@@ -142,6 +144,7 @@ module _ (tape : List ℕ) (at : ℕ) (t : Totals) where
 pub size-positive : (rest : List ℕ) → Form rest → 1 ≤ command-size rest
 size-positive rest (is-address e) = omega (arith, address-form rest e .0)
 size-positive rest (is-plain e) = omega (arith, plain-form rest e .0)
+size-positive rest (is-marks e) = omega (arith, marks-form rest e .0)
 size-positive rest (is-token low high) = omega (arith, token-form rest low high .0)
 size-positive rest (is-ending e) = omega (arith, end-form rest e .0)
 
@@ -192,7 +195,7 @@ module _ (tape : List ℕ) where
       ∙ same-passed (λ r. r)
       λ a e. (let before = later at t a e in rw (enough (length tape) (length tape - a .next) (a .next) (a .totals) (add (a .command) lines) (omega arith) (omega arith)))
 
-  pub read-whole : read tape ≡ reading 0 (record { lines = 0; tokens = 0; text = 0 }) []
+  pub read-whole : read tape ≡ reading 0 (no-commands) []
   unfolding read
   read-whole = rw sub-zero
 
@@ -222,9 +225,10 @@ pub record State : Type 0 where
   pub at : ℕ
   pub totals : Totals
   pub lines : Listing
+  pub marks : List Marks
 
 abbrev pub start : State
-start = record { at = 0; totals = record { lines = 0; tokens = 0; text = 0 }; lines = [] }
+start = record { at = 0; totals = no-commands; lines = []; marks = [] }
 
 module _ (tape : List ℕ) where
   abbrev pub left : State → List ℕ
@@ -236,6 +240,7 @@ module _ (tape : List ℕ) where
         at = s .at + command-size (left s);
         totals = count-in (command-of (left s)) (s .totals);
         lines = add (command-of (left s)) (s .lines);
+        marks = add-marks (command-of (left s)) (s .marks);
       }
 
   -- reached from the start by commands that pass and are not the end
@@ -284,3 +289,48 @@ module _ (tape : List ℕ) where
       ∙ reading-step tape (s .at) (s .totals) (s .lines)
       ∙ let-is _ (pass-command tape (s .at) (s .totals) (a .passes))
       ∙ rw (a .ends, a .listing)
+
+  -- ---- the 03s that were read in
+
+  marks-step : (f n : ℕ) (rest : List ℕ) (marks : List Marks) → f ≡ suc n → is-end (command-of rest) ≡ false
+      → marks-from f rest marks ≡ marks-from n (drop (command-size rest) rest) (add-marks (command-of rest) marks)
+  unfolding marks-from if_then_else_
+  marks-step f n rest marks e h = rw (e, h)
+
+  marks-stop : (f n : ℕ) (rest : List ℕ) (marks : List Marks) → f ≡ suc n → is-end (command-of rest) ≡ true → marks-from f rest marks ≡ marks
+  unfolding marks-from if_then_else_
+  marks-stop f n rest marks e h = rw (e, h)
+
+  -- what is left to read of them, with as much fuel as there are bytes or more
+  record MarksLeft (s : State) : Type 0 where
+    fuel : ℕ
+    plenty : length (left s) ≤ fuel
+    so-far : marks-in tape ≡ marks-from fuel (left s) (s .marks)
+
+  some-left : {s : State} → Passes (left s) (s .totals) → (m : MarksLeft s) → (n : ℕ) × (m .fuel ≡ suc n)
+  some-left {s} p m = go (m .fuel) (m .plenty)
+    where
+      go : (f : ℕ) → length (left s) ≤ f → (n : ℕ) × (f ≡ suc n)
+      go zero le = absurd (omega (arith, size-positive (left s) (p .known), p .inside))
+      go (suc n) le = (n, refl)
+
+  marks-left : {s : State} → Reached s → MarksLeft s
+  unfolding marks-in
+  marks-left here = record { fuel = length tape; plenty = omega arith; so-far = refl }
+  marks-left (on {s = s} r p n) =
+      let m = marks-left r in
+      let f = some-left p m in
+      let rest : List ℕ = left s in
+      let here = m .so-far ∙ marks-step (m .fuel) (f .0) rest (s .marks) (f .1) n in
+      record {
+        fuel = f .0;
+        plenty = omega (arith, m .plenty, f .1, size-positive rest (p .known), p .inside, length-drop (s .at) tape, length-drop (s .at + command-size rest) tape);
+        so-far = here ∙ ap (λ (r : List ℕ). marks-from (f .0) r (add-marks (command-of rest) (s .marks))) (drop-drop (command-size rest) (s .at) tape);
+      }
+
+  -- THE 03S OF AN ACCEPTED TAPE ARE THOSE THAT ITS READING COMES TO
+  pub marks-read : (out : Listing) (a : Accepts out) → marks-in tape ≡ a .state .marks
+  marks-read out a =
+      let m = marks-left (a .reached) in
+      let f = some-left (a .passes) m in
+      m .so-far ∙ marks-stop (m .fuel) (f .0) (left (a .state)) (a .state .marks) (f .1) (a .ends)

@@ -10,7 +10,7 @@ use Rattle.reference.specs.Control.{let-some_else_then_}
 use Rattle.reference.specs.Text.{Text, bytes}
 use Rattle.reference.specs.Numbers.{unsigned}
 use Rattle.reference.specs.Run.{three, settled, Counts}
-use Rattle.reference.specs.Questions.{WORK, OUTPUT, Refused, Passed, read}
+use Rattle.reference.specs.Questions.{WORK, OUTPUT, Refused, Passed, read, marks-in}
 use Rattle.reference.specs.Reply.{Reply, reply, output-after, work-after, Told, told, report}
 use Rattle.reference.proofs.Opened.{opened}
 
@@ -50,8 +50,8 @@ pub record TapeExamples : Type 0 where
   pub address :
       read (tape "01 01 02 00 00 00 00 00 80 3F FF") ≡ Passed (record { address = some 9223372036854776321; indent = 63; tokens = [] } ∷ [])
   pub convention : reply (record { convention = 3; settle = false }) [] 0 0 0 ≡ Refused 1 0
-  pub work : reply (record { convention = 2; settle = false }) [] 49152 49151 54785 ≡ Refused 2 0
-  pub output : reply (record { convention = 0; settle = false }) [] 49152 49152 54784 ≡ Refused 2 0
+  pub work : reply (record { convention = 2; settle = false }) [] 49152 49151 59137 ≡ Refused 2 0
+  pub output : reply (record { convention = 0; settle = false }) [] 49152 49152 59136 ≡ Refused 2 0
   pub empty : refuses [] 3 0
   pub no-end : refuses (tape "02 00") 3 2
   pub no-command : refuses (tape "02 00 18 01 00 66 FF") 3 2
@@ -110,4 +110,43 @@ tape-examples =
       refusal = refl;
       counts = refl;
       settling = refl;
+    }
+
+-- Marks (M-105): 03 in the input and in the output.
+pub record MarkExamples : Type 0 where
+  pub marks-in-tape :
+      marks-in (tape "01 30 00 00 00 00 00 00 00 00 03 08 00 00 00 00 00 00 00 31 00 00 00 00 00 00 00 11 03 00 72 61 78 16 03 00 20 3D 20 12 01 00 35 16 01 00 3B 01 20 00 00 00 00 00 00 00 00 11 03 00 72 63 78 16 03 00 20 3D 20 11 03 00 72 61 78 16 03 00 20 2B 20 11 03 00 72 64 78 16 01 00 3B 02 00 11 03 00 72 62 78 16 03 00 20 3D 20 11 03 00 72 63 78 16 01 00 3B FF")
+      ≡ some (record { lowest = 8; highest = 49 }) ∷ none ∷ none ∷ []
+  -- directly and through another line; the last line has no address of its own
+  pub through-others :
+      gives
+      (tape "01 30 00 00 00 00 00 00 00 00 03 08 00 00 00 00 00 00 00 31 00 00 00 00 00 00 00 11 03 00 72 61 78 16 03 00 20 3D 20 12 01 00 35 16 01 00 3B 01 20 00 00 00 00 00 00 00 00 11 03 00 72 63 78 16 03 00 20 3D 20 11 03 00 72 61 78 16 03 00 20 2B 20 11 03 00 72 64 78 16 01 00 3B 02 00 11 03 00 72 62 78 16 03 00 20 3D 20 11 03 00 72 63 78 16 01 00 3B FF")
+      (tape "02 00 03 08 00 00 00 00 00 00 00 31 00 00 00 00 00 00 00 11 03 00 72 62 78 16 03 00 20 3D 20 12 01 00 35 16 03 00 20 2B 20 11 03 00 72 64 78 16 01 00 3B FF")
+      (record { tally = three 3 1 0; lines-removed = 2; results-cut = 0 })
+  -- "A constant copied to four uses counts in all four."
+  pub four-uses :
+      gives
+      (tape "01 50 00 00 00 00 00 00 00 00 11 03 00 72 62 78 16 03 00 20 3D 20 12 01 00 35 16 01 00 3B 01 20 00 00 00 00 00 00 00 00 11 03 00 72 31 32 16 03 00 20 3D 20 11 03 00 72 62 78 16 03 00 20 2B 20 11 03 00 72 64 78 16 01 00 3B 01 60 00 00 00 00 00 00 00 00 11 03 00 72 31 33 16 03 00 20 3D 20 11 03 00 72 62 78 16 03 00 20 2B 20 11 03 00 72 64 78 16 01 00 3B 02 00 11 03 00 72 31 34 16 03 00 20 3D 20 11 03 00 72 62 78 16 03 00 20 2B 20 11 03 00 72 64 78 16 01 00 3B 01 50 00 00 00 00 00 00 00 00 11 03 00 72 31 35 16 03 00 20 3D 20 11 03 00 72 62 78 16 03 00 20 2B 20 11 03 00 72 64 78 16 01 00 3B FF")
+      (tape "01 20 00 00 00 00 00 00 00 00 03 20 00 00 00 00 00 00 00 50 00 00 00 00 00 00 00 11 03 00 72 31 32 16 03 00 20 3D 20 12 01 00 35 16 03 00 20 2B 20 11 03 00 72 64 78 16 01 00 3B 01 60 00 00 00 00 00 00 00 00 03 50 00 00 00 00 00 00 00 60 00 00 00 00 00 00 00 11 03 00 72 31 33 16 03 00 20 3D 20 12 01 00 35 16 03 00 20 2B 20 11 03 00 72 64 78 16 01 00 3B 02 00 03 50 00 00 00 00 00 00 00 50 00 00 00 00 00 00 00 11 03 00 72 31 34 16 03 00 20 3D 20 12 01 00 35 16 03 00 20 2B 20 11 03 00 72 64 78 16 01 00 3B 01 50 00 00 00 00 00 00 00 00 03 50 00 00 00 00 00 00 00 50 00 00 00 00 00 00 00 11 03 00 72 31 35 16 03 00 20 3D 20 12 01 00 35 16 03 00 20 2B 20 11 03 00 72 64 78 16 01 00 3B FF")
+      (record { tally = three 5 4 0; lines-removed = 1; results-cut = 0 })
+  pub one-address : gives (tape "01 07 00 00 00 00 00 00 00 00 FF") (tape "01 07 00 00 00 00 00 00 00 00 03 07 00 00 00 00 00 00 00 07 00 00 00 00 00 00 00 FF") (record { tally = three 1 0 0; lines-removed = 0; results-cut = 0 })
+  pub marks-first : refuses (tape "03 00 00 00 00 00 00 00 00 00 00 00 00 00 00 00 00 FF") 5 0
+  pub marks-twice : refuses (tape "02 00 03 00 00 00 00 00 00 00 00 00 00 00 00 00 00 00 00 03 00 00 00 00 00 00 00 00 00 00 00 00 00 00 00 00 FF") 5 19
+  pub marks-after-token : refuses (tape "02 00 10 01 00 66 03 00 00 00 00 00 00 00 00 00 00 00 00 00 00 00 00 FF") 5 6
+  pub marks-reversed : refuses (tape "02 00 03 01 00 00 00 00 00 00 00 00 00 00 00 00 00 00 00 FF") 5 2
+  pub marks-short : refuses (tape "02 00 03 00 00 00 00 00 00 00 00 00 00 00 00 00 00 00") 4 2
+
+pub mark-examples : MarkExamples
+unfolding opened
+mark-examples =
+    record {
+      marks-in-tape = refl;
+      through-others = refl;
+      four-uses = refl;
+      one-address = refl;
+      marks-first = refl;
+      marks-twice = refl;
+      marks-after-token = refl;
+      marks-reversed = refl;
+      marks-short = refl;
     }

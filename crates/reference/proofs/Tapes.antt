@@ -1,26 +1,27 @@
--- What an accepted tape holds: a listing within the limits, whose tape it is. So two accepted tapes with the same listing are the same tape, and
--- an accepted tape has at most 30,209 bytes. Assumes nothing.
+-- What an accepted tape holds: a listing within the limits and marks, whose tape it is. So two accepted tapes with the same listing and the same marks
+-- are the same tape, and an accepted tape has at most 34,561 bytes. Assumes nothing.
 use Prim.Native.Nat.{ℕ, pred, _+_, _*_, _<_, _≤_}
 use native.Mathlib.Omega.{arith}
 use mathlib.Core.Path.{_≡_, refl, sym, ap, _∙_}
-use mathlib.Core.Bool.{true, false, true≢false, false≢true}
+use mathlib.Core.Bool.{Bool, true, false, true≢false, false≢true}
 use mathlib.Core.List.{List, [], _∷_, _++_, flatMap, append-assoc}
+use mathlib.Core.Option.{none, some}
 use lib.ListN.{length, drop, take, length-append, length-drop, take-append-drop}
 use lib.Seq.{drop-drop, take-all}
 use borrow.Author.Tests.{leb-true}
 use Rattle.reference.specs.Lists.{is-empty}
 use Rattle.reference.specs.Listing.{Token, Line, Listing, _at_}
-use Rattle.reference.specs.Tape.{Command, new-line, new-token, end, write-command, write-lines, write, command-size, command-of}
-use Rattle.reference.specs.Questions.{Totals, has-line, is-within, is-printable, is-over, Passed, count-in, is-end, add, read}
+use Rattle.reference.specs.Tape.{Command, new-line, marked, new-token, end, write-command, write-lines, write, command-size, command-of}
+use Rattle.reference.specs.Questions.{Totals, has-line, is-within, is-printable, is-over, Passed, count-in, is-end, add, read, add-marks, marks-in}
 use Rattle.reference.specs.Claim.{sum, size, token-count, text-in, text}
 use Rattle.reference.proofs.Cases.{both, either, not-true, true-false}
 use Rattle.reference.proofs.Weights.{sum-append}
 use Rattle.reference.proofs.Lines.{sum-modify, length-modify}
 use Rattle.reference.proofs.LittleEndian.{Bytes, bytes-drop}
 use Rattle.reference.proofs.Commands.{AddressFits, Sized, sized, Writable, writable, write-of-read}
-use Rattle.reference.proofs.Reading.{Passes, State, left, Reached, here, on, accepts}
-use Rattle.reference.proofs.Writing.{with-token, write-new-line, write-new-token}
-use Rattle.reference.proofs.Limits.{All, all-append, all-modify, TokenFits, LineFits, Limits, Fits}
+use Rattle.reference.proofs.Reading.{Passes, State, left, Reached, here, on, accepts, marks-read}
+use Rattle.reference.proofs.Writing.{with-token, write-new-line, write-new-token, Fresh, write-new-marks}
+use Rattle.reference.proofs.Limits.{All, all-append, all-modify, TokenFits, LineFits, Limits, MarksFit, Fits}
 
 -- ---- what the reading keeps
 
@@ -42,6 +43,11 @@ token-fits t n kind within printable =
       printable = not-true printable;
     }
 
+-- the bytes of a 03 that may still come
+abbrev pub to-come : Bool → ℕ
+to-come true = 17
+to-come false = 0
+
 -- what holds at every place that the reading comes to
 pub record Kept (s : State) : Type 0 where
   pub lines : s .totals .lines ≡ length (s .lines)
@@ -51,15 +57,17 @@ pub record Kept (s : State) : Type 0 where
   pub few-tokens : s .totals .tokens ≤ 1024
   pub short-text : s .totals .text ≤ 24576
   pub each : All LineFits (s .lines)
-  pub place : s .at ≤ s .totals .text + 3 * s .totals .tokens + 10 * s .totals .lines
+  pub place : s .at + to-come (s .totals .fresh) ≤ s .totals .text + 3 * s .totals .tokens + 27 * s .totals .lines
+  pub marks : length (s .marks) ≡ length (s .lines)
+  pub fresh : s .totals .fresh ≡ true → Fresh (s .lines) (s .marks)
 
 kept-command : (s : State) (n : ℕ) (c : Command) → Kept s → Sized c n → has-line (s .totals) c ≡ true → is-within (s .totals) c ≡ true
-    → is-printable c ≡ true → is-end c ≡ false → Kept (record { at = s .at + n; totals = count-in c (s .totals); lines = add c (s .lines) })
+    → is-printable c ≡ true → is-end c ≡ false → Kept (record { at = s .at + n; totals = count-in c (s .totals); lines = add c (s .lines); marks = add-marks c (s .marks) })
 unfolding has-line is-within count-in
 kept-command s n (new-line address indent) k z begun within printable no-end =
     let w = both within in
     let l : Line = record { address = address; indent = indent; tokens = [] } in
-    unfold add in
+    unfold add add-marks in
     record {
       lines = omega (arith, k .lines, length-append (s .lines) (l ∷ []));
       tokens = omega (arith, k .tokens, sum-append (λ l. length (l .tokens)) (s .lines) (l ∷ []));
@@ -69,6 +77,34 @@ kept-command s n (new-line address indent) k z begun within printable no-end =
       short-text = k .short-text;
       each = all-append LineFits (s .lines) (l ∷ []) (k .each) (record { indent = leb-true _ _ (w .0); tokens = tt }, tt);
       place = omega (arith, k .place);
+      marks = omega (arith, k .marks, length-append (s .lines) (l ∷ []), length-append (s .marks) (none ∷ []));
+      fresh = λ e.
+          record {
+            above = s .lines;
+            last = l;
+            marks-above = s .marks;
+            lines-are = refl;
+            no-tokens = refl;
+            marks-are = refl;
+            same = k .marks;
+          };
+    }
+kept-command s n (marked span) k z begun within printable no-end =
+    let b = both begun in
+    let e : s .totals .fresh ≡ true = b .0 in
+    let place : s .at + 17 ≤ s .totals .text + 3 * s .totals .tokens + 27 * s .totals .lines = rw e at (k .place) in
+    unfold add in
+    record {
+      lines = k .lines;
+      tokens = k .tokens;
+      text = k .text;
+      few-lines = k .few-lines;
+      few-tokens = k .few-tokens;
+      short-text = k .short-text;
+      each = k .each;
+      place = omega (arith, place);
+      marks = unfold add-marks in length-modify (λ m. some span) _ (s .marks) ∙ k .marks;
+      fresh = λ e. absurd (false≢true e);
     }
 kept-command s n (new-token t) k z begun within printable no-end =
     let w = both within in
@@ -89,6 +125,8 @@ kept-command s n (new-token t) k z begun within printable no-end =
           (s .lines)
           (k .each);
       place = omega (arith, k .place);
+      marks = unfold add add-marks in k .marks ∙ sym (length-modify (with-token t) _ (s .lines));
+      fresh = λ e. absurd (false≢true e);
     }
 kept-command s n end k z begun within printable no-end = absurd (true≢false no-end)
 
@@ -104,18 +142,22 @@ module _ (tape : List ℕ) where
         short-text = omega arith;
         each = tt;
         place = omega arith;
+        marks = refl;
+        fresh = λ e. absurd (false≢true e);
       }
   kept (on {s = s} r p n) =
       kept-command s _ _ (kept r) (sized (left tape s) (p .known) (p .inside)) (p .begun) (p .within) (p .printable) n
 
   -- READ FROM THE START, THE TOTALS ARE THOSE OF THE LISTING SO FAR
-  pub totals-so-far : {s : State} → Reached tape s → s .totals ≡ record { lines = length (s .lines); tokens = token-count (s .lines); text = text (s .lines) }
-  totals-so-far r = let k = kept r in λ i. record { lines = k .lines i; tokens = k .tokens i; text = k .text i }
+  pub totals-so-far : {s : State} → Reached tape s
+      → s .totals ≡ record { lines = length (s .lines); tokens = token-count (s .lines); text = text (s .lines); fresh = s .totals .fresh }
+  totals-so-far {s} r = let k = kept r in λ i. record { lines = k .lines i; tokens = k .tokens i; text = k .text i; fresh = s .totals .fresh }
 
 -- ---- what an accepted tape is
 
 is-end-end : (c : Command) → is-end c ≡ true → c ≡ end
 is-end-end (new-line address indent) e = absurd (false≢true e)
+is-end-end (marked s) e = absurd (false≢true e)
 is-end-end (new-token t) e = absurd (false≢true e)
 is-end-end end e = refl
 
@@ -124,20 +166,22 @@ is-empty-nil [] e = refl
 is-empty-nil (x ∷ xs) e = absurd (false≢true e)
 
 write-more : (s : State) (c : Command) → Kept s → has-line (s .totals) c ≡ true → is-end c ≡ false
-    → write-lines (add c (s .lines)) ≡ write-lines (s .lines) ++ write-command c
+    → write-lines (add c (s .lines)) (add-marks c (s .marks)) ≡ write-lines (s .lines) (s .marks) ++ write-command c
 unfolding has-line
-write-more s (new-line address indent) k begun n = write-new-line address indent (s .lines)
-write-more s (new-token t) k begun n = write-new-token t (s .lines) (omega (arith, k .lines, leb-true 1 (s .totals .lines) begun))
+write-more s (new-line address indent) k begun n = write-new-line (s .lines) (s .marks) (k .marks) address indent
+write-more s (marked span) k begun n = write-new-marks span (s .lines) (s .marks) (k .fresh (both begun .0))
+write-more s (new-token t) k begun n =
+    write-new-token (s .lines) (s .marks) (k .marks) t (omega (arith, k .lines, leb-true 1 (s .totals .lines) begun))
 write-more s end k begun n = absurd (true≢false n)
 
 module _ (tape : List ℕ) where
-  -- the bytes so far are those of the lines so far
-  written : Bytes tape → {s : State} → Reached tape s → write-lines (s .lines) ++ left tape s ≡ tape
-  unfolding write-lines flatMap
+  -- the bytes so far are those of the lines so far, with their marks
+  written : Bytes tape → {s : State} → Reached tape s → write-lines (s .lines) (s .marks) ++ left tape s ≡ tape
+  unfolding write-lines
   written h here = refl
   written h (on {s = s} r p n) =
       let rest : List ℕ = left tape s in
-      rw (write-more s (command-of rest) (kept tape r) (p .begun) n, write-of-read rest (bytes-drop (s .at) tape h) (p .known) (p .inside), ← drop-drop (command-size rest) (s .at) tape, append-assoc (write-lines (s .lines)) (take (command-size rest) rest) (drop (command-size rest) rest), take-append-drop (command-size rest) rest)
+      rw (write-more s (command-of rest) (kept tape r) (p .begun) n, write-of-read rest (bytes-drop (s .at) tape h) (p .known) (p .inside), ← drop-drop (command-size rest) (s .at) tape, append-assoc (write-lines (s .lines) (s .marks)) (take (command-size rest) rest) (drop (command-size rest) rest), take-append-drop (command-size rest) rest)
       (written h r)
 
   -- what is left at the end
@@ -155,16 +199,17 @@ module _ (tape : List ℕ) where
       let one : length rest ≡ 1 = omega (arith, p .inside, ap length none-left, length-drop 1 rest) in
       record { one = one; same = λ h. sym (rw (ce, sz, take-all 1 rest (omega arith)) at (write-of-read rest h (p .known) (p .inside))) }
 
-  -- AN ACCEPTED TAPE IS THE TAPE OF ITS LISTING
-  pub write-read : (lines : Listing) → Bytes tape → read tape ≡ Passed lines → write lines ≡ tape
+  -- AN ACCEPTED TAPE IS THE TAPE OF ITS LISTING AND ITS MARKS
+  pub write-read : (lines : Listing) → Bytes tape → read tape ≡ Passed lines → write lines (marks-in tape) ≡ tape
   unfolding write
   write-read lines h e =
       let a = accepts tape lines e in
       let w = at-end (a .state) (a .passes) (a .ends) in
-      rw (← a .listing, ← w .same (bytes-drop (a .state .at) tape h)) (written h (a .reached))
+      let last : write-command end ≡ left tape (a .state) = sym (w .same (bytes-drop (a .state .at) tape h)) in
+      (λ i. write-lines (sym (a .listing) i) (marks-read tape lines a i) ++ last i) ∙ written h (a .reached)
 
-  -- AN ACCEPTED TAPE HAS AT MOST 30,209 BYTES
-  pub accepted-length : (lines : Listing) → read tape ≡ Passed lines → length tape ≤ 30209
+  -- AN ACCEPTED TAPE HAS AT MOST 34,561 BYTES
+  pub accepted-length : (lines : Listing) → read tape ≡ Passed lines → length tape ≤ 34561
   accepted-length lines e =
       let a = accepts tape lines e in
       let k = kept tape (a .reached) in
@@ -179,8 +224,22 @@ module _ (tape : List ℕ) where
       more : (s : State) (c : Command) → All (λ l. AddressFits (l .address)) (s .lines) → Writable c
           → All (λ l. AddressFits (l .address)) (add c (s .lines))
       more s (new-line address indent) k w = unfold add in all-append _ (s .lines) _ k (w, tt)
+      more s (marked span) k w = unfold add in k
       more s (new-token t) k w = unfold add in all-modify _ (with-token t) (λ l u. u) _ (s .lines) k
       more s end k w = unfold add in k
+
+  marks-fit-so-far : Bytes tape → {s : State} → Reached tape s → All MarksFit (s .marks)
+  marks-fit-so-far h here = tt
+  marks-fit-so-far h (on {s = s} r p n) =
+      more s (command-of (left tape s)) (marks-fit-so-far h r) (writable (left tape s) (bytes-drop (s .at) tape h) (p .known) (p .inside)) (p .begun)
+    where
+      more : (s : State) (c : Command) → All MarksFit (s .marks) → Writable c → has-line (s .totals) c ≡ true → All MarksFit (add-marks c (s .marks))
+      more s (new-line address indent) k w b = unfold add-marks in all-append MarksFit (s .marks) _ k (tt, tt)
+      more s (marked span) k w b =
+          unfold add-marks has-line in
+          all-modify MarksFit (λ m. some span) (λ m u. (w, leb-true _ _ (both b .1))) _ (s .marks) k
+      more s (new-token t) k w b = unfold add-marks in k
+      more s end k w b = unfold add-marks in k
 
   -- WHAT AN ACCEPTED TAPE HOLDS IS WITHIN THE LIMITS
   pub read-limits : (lines : Listing) → read tape ≡ Passed lines → Limits lines
@@ -199,6 +258,13 @@ module _ (tape : List ℕ) where
       let a = accepts tape lines e in
       record { limits = read-limits lines e; addresses = rw (a .listing) at (addressed h (a .reached)) }
 
--- TWO ACCEPTED TAPES WITH THE SAME LISTING ARE THE SAME TAPE
-pub same-tape : (s t : List ℕ) (lines : Listing) → Bytes s → Bytes t → read s ≡ Passed lines → read t ≡ Passed lines → s ≡ t
-same-tape s t lines hs ht es et = sym (write-read s lines hs es) ∙ write-read t lines ht et
+  -- THE 03S OF AN ACCEPTED TAPE: one for each line or none, the lowest first
+  pub read-marks-fit : (lines : Listing) → Bytes tape → read tape ≡ Passed lines → All MarksFit (marks-in tape) × (length (marks-in tape) ≡ length lines)
+  read-marks-fit lines h e =
+      let a = accepts tape lines e in
+      let same = marks-read tape lines a in
+      (rw same (marks-fit-so-far h (a .reached)), ap length same ∙ kept tape (a .reached) .marks ∙ ap length (a .listing))
+
+-- TWO ACCEPTED TAPES WITH THE SAME LISTING AND THE SAME MARKS ARE THE SAME TAPE
+pub same-tape : (s t : List ℕ) (lines : Listing) → Bytes s → Bytes t → read s ≡ Passed lines → read t ≡ Passed lines → marks-in s ≡ marks-in t → s ≡ t
+same-tape s t lines hs ht es et e = sym (write-read s lines hs es) ∙ ap (write lines) e ∙ write-read t lines ht et

@@ -1,14 +1,15 @@
--- Writing a listing: one line or one token more, and how long the tape is. Assumes nothing.
+-- Writing a listing: one line, mark or token more, and how long the tape is. Assumes nothing.
 use Prim.Native.Nat.{ℕ, pred, _+_, _*_, _≤_}
 use native.Mathlib.Omega.{arith}
 use mathlib.Core.Path.{_≡_, refl, sym, ap, _∙_}
 use mathlib.Core.List.{List, [], _∷_, _++_, flatMap, append-assoc, append-nil}
 use mathlib.Core.Option.{Option, none, some}
-use lib.ListN.{length, length-append}
+use lib.ListN.{length, getD, drop, length-append}
 use Rattle.reference.specs.Lists.{modify}
 use Rattle.reference.specs.Listing.{Token, Line, Listing, with-tokens}
-use Rattle.reference.specs.Tape.{to-le-bytes, new-line, new-token, write-command, write-line, write-lines, write}
-use Rattle.reference.specs.Questions.{add}
+use Rattle.reference.specs.Spans.{Span, Marks}
+use Rattle.reference.specs.Tape.{to-le-bytes, new-line, marked, new-token, write-command, write-marks, write-line, write-lines, write}
+use Rattle.reference.specs.Questions.{add, add-marks}
 use Rattle.reference.specs.Claim.{token-count, text-in, text}
 use Rattle.reference.proofs.LittleEndian.{to-length}
 
@@ -21,39 +22,82 @@ unfolding flatMap
 flat-append f [] ys = refl
 flat-append f (x ∷ xs) ys = rw (flat-append f xs ys) (sym (append-assoc (f x) (flatMap f xs) (flatMap f ys)))
 
-pub last-split : (lines : Listing) → 1 ≤ length lines → (init : Listing) × (l : Line) × (lines ≡ init ++ (l ∷ []))
-last-split [] h = absurd (omega arith)
-last-split (l ∷ []) h = ([], l, refl)
-last-split (l ∷ m ∷ rest) h = let r = last-split (m ∷ rest) (omega arith) in (l ∷ r .0, r .1, ap {B = Listing} (λ k. l ∷ k) (r .2))
+module _ {A : Type 0} where
+  pub last-split : (xs : List A) → 1 ≤ length xs → (init : List A) × (x : A) × (xs ≡ init ++ (x ∷ []))
+  last-split [] h = absurd (omega arith)
+  last-split (x ∷ []) h = ([], x, refl)
+  last-split (x ∷ y ∷ rest) h = let r = last-split (y ∷ rest) (omega arith) in (x ∷ r .0, r .1, ap {B = List A} (λ k. x ∷ k) (r .2))
 
-modify-last : (g : Line → Line) (init : Listing) (l : Line) → modify (length init) g (init ++ (l ∷ [])) ≡ init ++ (g l ∷ [])
-modify-last g [] l = refl
-modify-last g (x ∷ init) l = ap {B = Listing} (λ k. x ∷ k) (modify-last g init l)
+  pub modify-last : (g : A → A) (init : List A) (x : A) → modify (pred (length (init ++ (x ∷ [])))) g (init ++ (x ∷ [])) ≡ init ++ (g x ∷ [])
+  modify-last g init x =
+      let e : pred (length (init ++ (x ∷ []))) ≡ length init = rw length-append (omega arith) in
+      rw e (go init)
+    where
+      go : (init : List A) → modify (length init) g (init ++ (x ∷ [])) ≡ init ++ (g x ∷ [])
+      go [] = refl
+      go (y ∷ init) = ap {B = List A} (λ k. y ∷ k) (go init)
 
 pub add-last : (t : Token) (init : Listing) (l : Line) → add (new-token t) (init ++ (l ∷ [])) ≡ init ++ (with-token t l ∷ [])
 unfolding add
-add-last t init l =
-    let e : pred (length (init ++ (l ∷ []))) ≡ length init = rw length-append (omega arith) in
-    rw e (modify-last (with-token t) init l)
+add-last t init l = modify-last (with-token t) init l
 
-pub write-lines-snoc : (lines : Listing) (l : Line) → write-lines (lines ++ (l ∷ [])) ≡ write-lines lines ++ write-line l
-unfolding write-lines flatMap
-write-lines-snoc lines l = flat-append write-line lines (l ∷ []) ∙ rw (append-nil (write-line l))
+pub mark-last : (s : Span) (init : List Marks) (m : Marks) → add-marks (marked s) (init ++ (m ∷ [])) ≡ init ++ (some s ∷ [])
+unfolding add-marks
+mark-last s init m = modify-last (λ m. some s) init m
 
-pub write-line-snoc : (t : Token) (l : Line) → write-line (with-token t l) ≡ write-line l ++ write-command (new-token t)
+-- ---- one line more, with its marks
+
+pub write-lines-snoc : (lines : Listing) (marks : List Marks) (l : Line) (m : Marks) → length marks ≡ length lines
+    → write-lines (lines ++ (l ∷ [])) (marks ++ (m ∷ [])) ≡ write-lines lines marks ++ write-line l m
+unfolding write-lines
+write-lines-snoc [] [] l m e = append-nil (write-line l m)
+write-lines-snoc [] (n ∷ marks) l m e = absurd (omega arith)
+write-lines-snoc (x ∷ lines) [] l m e = absurd (omega arith)
+write-lines-snoc (x ∷ lines) (n ∷ marks) l m e = rw (write-lines-snoc lines marks l m (omega arith)) (sym (append-assoc (write-line x n) (write-lines lines marks) (write-line l m)))
+
+pub write-line-snoc : (t : Token) (l : Line) (m : Marks) → write-line (with-token t l) m ≡ write-line l m ++ write-command (new-token t)
 unfolding write-line flatMap
-write-line-snoc t l = rw (flat-append (λ t. write-command (new-token t)) (l .tokens) (t ∷ []), append-nil (write-command (new-token t))) (simp append-assoc)
+write-line-snoc t l m = rw (flat-append (λ t. write-command (new-token t)) (l .tokens) (t ∷ []), append-nil (write-command (new-token t))) (simp append-assoc)
 
-pub write-new-line : (address : Option ℕ) (indent : ℕ) (lines : Listing)
-    → write-lines (add (new-line address indent) lines) ≡ write-lines lines ++ write-command (new-line address indent)
-unfolding add write-line flatMap
-write-new-line address indent lines = write-lines-snoc lines _ ∙ rw (append-nil (write-command (new-line address indent)))
+-- a line without tokens is marked by a command behind it
+write-line-marked : (s : Span) (l : Line) → l .tokens ≡ [] → write-line l (some s) ≡ write-line l none ++ write-command (marked s)
+unfolding write-line write-marks flatMap
+write-line-marked s l e = rw e (simp append-nil)
 
-pub write-new-token : (t : Token) (lines : Listing) → 1 ≤ length lines
-    → write-lines (add (new-token t) lines) ≡ write-lines lines ++ write-command (new-token t)
-write-new-token t lines h =
-    let r = last-split lines h in
-    rw (r .2, add-last t (r .0) (r .1), write-lines-snoc (r .0) (r .1), write-lines-snoc (r .0) (with-token t (r .1)), write-line-snoc t (r .1)) (simp append-assoc)
+module _ (lines : Listing) (marks : List Marks) (same : length marks ≡ length lines) where
+  pub write-new-line : (address : Option ℕ) (indent : ℕ)
+      → write-lines (add (new-line address indent) lines) (add-marks (new-line address indent) marks) ≡ write-lines lines marks ++ write-command (new-line address indent)
+  unfolding add add-marks write-line write-marks flatMap
+  write-new-line address indent =
+      write-lines-snoc lines marks _ none same ∙ rw (append-nil (write-command (new-line address indent)), append-nil (write-command (new-line address indent)))
+
+  pub write-new-token : (t : Token) → 1 ≤ length lines
+      → write-lines (add (new-token t) lines) (add-marks (new-token t) marks) ≡ write-lines lines marks ++ write-command (new-token t)
+  unfolding add-marks
+  write-new-token t h =
+      let r = last-split lines h in
+      let m = last-split marks (omega arith) in
+      let inits : length (m .0) ≡ length (r .0) =
+      omega (arith, ap length (r .2), ap length (m .2), length-append (r .0) (r .1 ∷ []), length-append (m .0) (m .1 ∷ [])) in
+      rw (r .2, m .2, add-last t (r .0) (r .1), write-lines-snoc (r .0) (m .0) (with-token t (r .1)) (m .1) inits, write-lines-snoc (r .0) (m .0) (r .1) (m .1) inits, write-line-snoc t (r .1) (m .1))
+      (simp append-assoc)
+
+-- a line that has just begun: no token stands in it, and no mark behind it
+pub record Fresh (lines : Listing) (marks : List Marks) : Type 0 where
+  pub above : Listing
+  pub last : Line
+  pub marks-above : List Marks
+  pub lines-are : lines ≡ above ++ (last ∷ [])
+  pub no-tokens : last .tokens ≡ []
+  pub marks-are : marks ≡ marks-above ++ (none ∷ [])
+  pub same : length marks-above ≡ length above
+
+pub write-new-marks : (s : Span) (lines : Listing) (marks : List Marks) → Fresh lines marks
+    → write-lines (add (marked s) lines) (add-marks (marked s) marks) ≡ write-lines lines marks ++ write-command (marked s)
+unfolding add
+write-new-marks s lines marks f =
+    rw (f .lines-are, f .marks-are, mark-last s (f .marks-above) none, write-lines-snoc (f .above) (f .marks-above) (f .last) (some s) (f .same), write-lines-snoc (f .above) (f .marks-above) (f .last) none (f .same), write-line-marked s (f .last) (f .no-tokens))
+    (simp append-assoc)
 
 -- ---- how long a tape is
 
@@ -67,15 +111,20 @@ unfolding flatMap write-command
 tokens-length [] = refl
 tokens-length (t ∷ ts) = simp (length-append, to-length) (omega (arith, tokens-length ts))
 
-line-length : (l : Line) → length (write-line l) ≤ text-in (l .tokens) + 3 * length (l .tokens) + 10
+marks-length : (m : Marks) → length (write-marks m) ≤ 17
+unfolding write-marks write-command
+marks-length none = omega arith
+marks-length (some s) = rw (length-append (to-le-bytes 8 (s .lowest)) (to-le-bytes 8 (s .highest)), to-length 8 (s .lowest), to-length 8 (s .highest)) (omega arith)
+
+line-length : (l : Line) (m : Marks) → length (write-line l m) ≤ text-in (l .tokens) + 3 * length (l .tokens) + 27
 unfolding write-line
-line-length l = rw length-append (omega (arith, line-command-length (l .address) (l .indent), tokens-length (l .tokens)))
+line-length l m = simp length-append (omega (arith, line-command-length (l .address) (l .indent), marks-length m, tokens-length (l .tokens)))
 
-lines-length : (lines : Listing) → length (write-lines lines) ≤ text lines + 3 * token-count lines + 10 * length lines
-unfolding write-lines flatMap
-lines-length [] = omega arith
-lines-length (l ∷ ls) = rw length-append (omega (arith, line-length l, lines-length ls))
+lines-length : (lines : Listing) (marks : List Marks) → length (write-lines lines marks) ≤ text lines + 3 * token-count lines + 27 * length lines
+unfolding write-lines
+lines-length [] marks = omega arith
+lines-length (l ∷ ls) marks = rw length-append (omega (arith, line-length l (getD marks 0 none), lines-length ls (drop 1 marks)))
 
-pub write-length : (lines : Listing) → length (write lines) ≤ text lines + 3 * token-count lines + 10 * length lines + 1
+pub write-length : (lines : Listing) (marks : List Marks) → length (write lines marks) ≤ text lines + 3 * token-count lines + 27 * length lines + 1
 unfolding write write-command
-write-length lines = omega (arith, length-append (write-lines lines) (0xFF ∷ []), lines-length lines)
+write-length lines marks = omega (arith, length-append (write-lines lines marks) (0xFF ∷ []), lines-length lines marks)

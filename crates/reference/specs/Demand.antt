@@ -25,8 +25,8 @@ use Rattle.reference.specs.Names.{Fam, fam-of}
 use Rattle.reference.specs.Rules.{Rules}
 use Rattle.reference.specs.Shapes.{Assignment, assignment}
 use Rattle.reference.specs.Life.{Labels}
-use Rattle.reference.specs.Join.{try-at}
-use Rattle.reference.specs.Run.{labels-from, addressed-in, shift, Attempt, after-attempts, removals, changed, limit, after-rounds, dead-result, Run, run, steps, listings, finished}
+use Rattle.reference.specs.Join.{try-at, targets}
+use Rattle.reference.specs.Run.{labels-from, addressed-in, shift, Attempt, failure, success, after-attempts, removals, changed, limit, after-rounds, dead-result, Run, run, steps, listings, finished}
 use Rattle.reference.specs.Claim.{size, Callee, calls, token-count, text, places, label-lines}
 
 -- "An accepted listing is one whose tape no question below refuses": those questions bound lines, indents and bytes too. The claim needs these three
@@ -46,11 +46,11 @@ pub data Attempts (rules : Rules) (addressed : List Text) : ℕ → Listing → 
   failed : {i : ℕ} {lines : Listing} {labels : Labels} {more : List Attempt} → i < length lines
       → try-at rules lines i labels addressed ≡ none
       → Attempts rules addressed (suc i) lines labels more
-      → Attempts rules addressed i lines labels (record { removed = false; left = lines } ∷ more)
+      → Attempts rules addressed i lines labels (failure i lines ∷ more)
   succeeded : {i : ℕ} {lines lines′ : Listing} {labels : Labels} {more : List Attempt} → i < length lines
       → try-at rules lines i labels addressed ≡ some lines′
       → Attempts rules addressed (pred i) lines′ (shift i labels) more
-      → Attempts rules addressed i lines labels (record { removed = true; left = lines′ } ∷ more)
+      → Attempts rules addressed i lines labels (success i (targets rules lines i labels) lines′ ∷ more)
 
 -- a round that begins with `lines`: "Labels and addressed `var_` names are gathered when a round begins"
 abbrev pub Round : Rules → Listing → List Attempt → Type 0

@@ -205,3 +205,16 @@ try-at rules lines i labels addressed =
     let joined : Option Listing = join-one lines i f (a .expr) labels (volatile rules) in
     if has addressed (f .name) || any (of-family (f .name)) (a .expr) then none
     else let-some constant else joined then λ lines′. some lines′
+
+-- ---- the lines that it is joined into (M-105)
+
+-- of a lone number every use, of an expression the one: the lines that an attempt at line i changes, if it succeeds, by their places before it
+unfoldable pub targets : Rules → Listing → ℕ → Labels → List ℕ
+targets rules lines i labels =
+    let-some (assignment (lines at i)) else [] then λ a.
+    let-some (family (a .lhs .text)) else [] then λ f.
+    let uses : List ℕ = gather ((lines at i) .indent) (f .name) (volatile rules) (suc i) (drop (suc i) lines) i .uses in
+    let one : List ℕ =
+    let-some (use-from ((lines at i) .indent) (f .name) (a .expr) (is-some (call-at (lines at i))) (volatile rules) (suc i) (drop (suc i) lines))
+    else [] then λ j. j ∷ [] in
+    if lone-number (a .expr) && is-some (propagate-constant lines i (f .name) (a .expr) labels (volatile rules)) then uses else one

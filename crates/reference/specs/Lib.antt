@@ -2,6 +2,7 @@ pub mod Control
 pub mod Lists
 pub mod Text
 pub mod Listing
+pub mod Spans
 pub mod Names
 pub mod Rules
 pub mod Numbers
@@ -9,6 +10,7 @@ pub mod Shapes
 pub mod Life
 pub mod Join
 pub mod Run
+pub mod Marks
 pub mod Tape
 pub mod Questions
 pub mod Reply

@@ -3,26 +3,28 @@
 use Prim.Native.Nat.{ℕ, zero, suc, pred, _+_}
 use mathlib.Core.Bool.{Bool, true, false}
 use mathlib.Core.List.{List, [], _∷_, _++_}
+use mathlib.Core.Option.{none, some}
 use lib.Dec.{leb, ltb, eqb}
 use lib.ListN.{length, drop}
 use Rattle.reference.specs.Control.{not, _&&_, _||_, if_then_else_}
 use Rattle.reference.specs.Lists.{any, is-empty, modify}
 use Rattle.reference.specs.Listing.{is, Number, Listing, with-tokens}
 use Rattle.reference.specs.Rules.{Rules}
-use Rattle.reference.specs.Tape.{Command, new-line, new-token, end, command-size, command-of}
+use Rattle.reference.specs.Spans.{Marks}
+use Rattle.reference.specs.Tape.{Command, new-line, marked, new-token, end, command-size, command-of}
 
 -- what every work area has at least, and every output
 abbrev pub WORK : ℕ
 WORK = 49152
 
 abbrev pub OUTPUT : ℕ
-OUTPUT = 54785
+OUTPUT = 59137
 
 -- 1. Is the convention 0, 1 or 2?
 unfoldable pub is-convention : Rules → Bool
 is-convention rules = leb (rules .convention) 2
 
--- 2. Are both work areas at least 49,152 bytes (M-109) and the output at least 54,785?
+-- 2. Are both work areas at least 49,152 bytes (M-109) and the output at least 59,137?
 -- The figure for the work areas is a parameter, so that it can be said what another one would change (proofs/WorkSpace.antt).
 unfoldable pub has-room-by : ℕ → ℕ → ℕ → ℕ → Bool
 has-room-by figure work-a work-b output = leb figure work-a && leb figure work-b && leb OUTPUT output
@@ -36,24 +38,29 @@ pub record Totals : Type 0 where
   pub lines : ℕ
   pub tokens : ℕ
   pub text : ℕ
+  -- whether the command just before is a line's
+  pub fresh : Bool
 
 -- 3. Is there a byte, and is it a command?
 unfoldable pub is-command : List ℕ → Bool
 is-command [] = false
-is-command (b ∷ rest) = eqb b 0x01 || eqb b 0x02 || (leb 0x10 b && leb b 0x17) || eqb b 0xFF
+is-command (b ∷ rest) = eqb b 0x01 || eqb b 0x02 || eqb b 0x03 || (leb 0x10 b && leb b 0x17) || eqb b 0xFF
 
 -- 4. Do its operand and text end inside the tape?
 unfoldable pub ends-inside : List ℕ → Bool
 ends-inside rest = leb (command-size rest) (length rest)
 
--- 5. If a token, has a line begun?
+-- 5. If a token, has a line begun? "Input tapes may carry 03 directly after a line's command, once; elsewhere, or with its lowest above its highest, it
+-- earns 5."
 unfoldable pub has-line : Totals → Command → Bool
 has-line t (new-line address indent) = true
+has-line t (marked s) = t .fresh && leb (s .lowest) (s .highest)
 has-line t (new-token s) = leb 1 (t .lines)
 has-line t end = true
 
 -- 6. Is indent at most 63, are lines at most 256, tokens 1,024, all text 24,576 bytes, each text at least 1 byte, each N text at most 24?
 unfoldable pub is-within : Totals → Command → Bool
+is-within t (marked s) = true
 is-within t (new-line address indent) = leb indent 63 && leb (t .lines + 1) 256
 is-within t (new-token s) =
     leb (t .tokens + 1) 1024
@@ -64,12 +71,14 @@ is-within t end = true
 
 -- 7. Is each text byte 20 to 7E?
 unfoldable pub is-printable : Command → Bool
+is-printable (marked s) = true
 is-printable (new-line address indent) = true
 is-printable (new-token s) = not (any (λ b. ltb b 0x20 || ltb 0x7E b) (s .text))
 is-printable end = true
 
 -- 8. After FF, is the tape over?
 unfoldable pub is-over : List ℕ → Command → Bool
+is-over rest (marked s) = true
 is-over rest (new-line address indent) = true
 is-over rest (new-token s) = true
 is-over rest end = is-empty (drop 1 rest)
@@ -98,8 +107,9 @@ module _ {A : Type 0} where
 
 -- the totals with one command more
 unfoldable pub count-in : Command → Totals → Totals
-count-in (new-line address indent) t = record { lines = t .lines + 1; tokens = t .tokens; text = t .text }
-count-in (new-token s) t = record { lines = t .lines; tokens = t .tokens + 1; text = t .text + length (s .text) }
+count-in (new-line address indent) t = record { lines = t .lines + 1; tokens = t .tokens; text = t .text; fresh = true }
+count-in (marked s) t = record { lines = t .lines; tokens = t .tokens; text = t .text; fresh = false }
+count-in (new-token s) t = record { lines = t .lines; tokens = t .tokens + 1; text = t .text + length (s .text); fresh = false }
 count-in end t = t
 
 -- a command, the offset after it, and the totals with it
@@ -127,14 +137,20 @@ read-command tape at t =
 
 abbrev pub is-end : Command → Bool
 is-end (new-line address indent) = false
+is-end (marked s) = false
 is-end (new-token s) = false
 is-end end = true
 
--- the listing with one command more
+-- the listing with one command more: marks are no part of it
 unfoldable pub add : Command → Listing → Listing
 add (new-line address indent) lines = lines ++ (record { address = address; indent = indent; tokens = [] } ∷ [])
 add (new-token t) lines = modify (pred (length lines)) (λ l. with-tokens (l .tokens ++ (t ∷ [])) l) lines
+add (marked s) lines = lines
 add end lines = lines
+
+-- before the first command
+abbrev pub no-commands : Totals
+no-commands = record { lines = 0; tokens = 0; text = 0; fresh = false }
 
 -- the commands from an offset on, after those that made `lines`. `fuel` bounds them: a command has a byte or more, so where as much fuel as the
 -- tape has bytes left is used up, there is no byte.
@@ -147,4 +163,25 @@ read-from (suc fuel) tape at t lines =
 
 -- the listing of an accepted tape
 unfoldable pub read : List ℕ → Answer Listing
-read tape = read-from (length tape) tape 0 (record { lines = 0; tokens = 0; text = 0 }) []
+read tape = read-from (length tape) tape 0 (no-commands) []
+
+-- ---- the 03s
+
+-- the marks that were read in, line by line, with one command more
+unfoldable pub add-marks : Command → List Marks → List Marks
+add-marks (new-line address indent) marks = marks ++ (none ∷ [])
+add-marks (marked s) marks = modify (pred (length marks)) (λ m. some s) marks
+add-marks (new-token t) marks = marks
+add-marks end marks = marks
+
+-- by the commands of the bytes that are left; no question is asked
+unfoldable pub marks-from : ℕ → List ℕ → List Marks → List Marks
+marks-from zero rest marks = marks
+marks-from (suc fuel) rest marks =
+    let c : Command = command-of rest in
+    let more : List Marks = marks-from fuel (drop (command-size rest) rest) (add-marks c marks) in
+    if is-end c then marks else more
+
+-- the 03s of an accepted tape, one for each line of its listing, none where there is none
+unfoldable pub marks-in : List ℕ → List Marks
+marks-in tape = marks-from (length tape) tape []

@@ -4,10 +4,11 @@ use mathlib.Core.List.{List, [], _∷_, _++_}
 use lib.ListN.{length, drop, replicate}
 use Rattle.reference.specs.Rules.{Rules}
 use Rattle.reference.specs.Run.{run, finished, Tally, three, settled, Counts, counts}
+use Rattle.reference.specs.Marks.{finished-marks}
 use Rattle.reference.specs.Tape.{write}
-use Rattle.reference.specs.Questions.{WORK, is-convention, has-room-by, Answer, Refused, Passed, ask, let-passed_then_, read}
+use Rattle.reference.specs.Questions.{WORK, is-convention, has-room-by, Answer, Refused, Passed, ask, let-passed_then_, read, marks-in}
 
--- the tape of the finished listing, and the counts of the run
+-- the tape of the finished listing with its marks, and the counts of the run
 pub record Cleaned : Type 0 where
   pub tape : List ℕ
   pub counts : Counts
@@ -19,7 +20,8 @@ Reply = Answer Cleaned
 unfoldable pub reply-by : ℕ → Rules → List ℕ → ℕ → ℕ → ℕ → Reply
 reply-by figure rules tape work-a work-b output =
     ask 0 ((1, is-convention rules) ∷ (2, has-room-by figure work-a work-b output) ∷ [])
-    (let-passed (read tape) then λ lines. Passed (record { tape = write (finished rules lines); counts = counts rules (run rules lines) }))
+    (let-passed (read tape) then λ lines.
+    Passed (record { tape = write (finished rules lines) (finished-marks rules lines (marks-in tape)); counts = counts rules (run rules lines) }))
 
 abbrev pub reply : Rules → List ℕ → ℕ → ℕ → ℕ → Reply
 reply = reply-by WORK

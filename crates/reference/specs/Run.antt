@@ -11,7 +11,7 @@ use Rattle.reference.specs.Listing.{Token, Line, Listing, _at_, with-tok
 use Rattle.reference.specs.Rules.{Rules, volatile}
 use Rattle.reference.specs.Shapes.{is-label, call-at}
 use Rattle.reference.specs.Life.{Labels, dead-after}
-use Rattle.reference.specs.Join.{try-at, text-or-empty}
+use Rattle.reference.specs.Join.{try-at, targets, text-or-empty}
 
 -- the labels from the line i on
 unfoldable pub labels-from : ℕ → Listing → Labels
@@ -35,20 +35,29 @@ unfoldable pub shift : ℕ → Labels → Labels
 shift i [] = []
 shift i (l ∷ ls) = (if ltb i (l .place) then record { name = l .name; place = pred (l .place) } else l) ∷ shift i ls
 
--- one attempt: whether it removed its line, and the listing that it left
+-- One attempt: its line, whether it removed that line, and the listing that it left; and the lines that it was joined into, by their places before.
 pub record Attempt : Type 0 where
+  pub line : ℕ
   pub removed : Bool
+  pub into : List ℕ
   pub left : Listing
+
+-- at line i, the listing staying as it is
+abbrev pub failure : ℕ → Listing → Attempt
+failure i lines = record { line = i; removed = false; into = []; left = lines }
+
+abbrev pub success : ℕ → List ℕ → Listing → Attempt
+success i into lines′ = record { line = i; removed = true; into = into; left = lines′ }
 
 module _ (rules : Rules) (addressed : List Text) where
   -- the attempts from line i on. `fuel` bounds them: m + s ≤ 2 m of them are made.
   unfoldable pub attempts-from : ℕ → ℕ → Listing → Labels → List Attempt
   attempts-from zero i lines labels = []
   attempts-from (suc fuel) i lines labels =
-      let on : List Attempt = record { removed = false; left = lines } ∷ attempts-from fuel (suc i) lines labels in
+      let on : List Attempt = failure i lines ∷ attempts-from fuel (suc i) lines labels in
       let attempt : List Attempt =
       let-some (try-at rules lines i labels addressed) else on then λ lines′.
-      record { removed = true; left = lines′ } ∷ attempts-from fuel (pred i) lines′ (shift i labels) in
+      success i (targets rules lines i labels) lines′ ∷ attempts-from fuel (pred i) lines′ (shift i labels) in
       if ltb i (length lines) then attempt else []
 
 unfoldable pub propagate-once : Rules → Listing → List Attempt

@@ -33,7 +33,7 @@ module _ (list : List ℕ) {wanted : List ℕ} (e : wanted ≡ output-in list) w
 
 -- what is wanted is made from parts that hold 170 everywhere
 pub from-marks : (list : List ℕ) (r : Report) (work-a work-b out : List ℕ) {b : Bool} {work written : List ℕ} → work ≡ work-wanted list (replicate 65600 170)
-    → written ≡ out-wanted list (replicate 54850 170) → b ≡ all-right list r work-a work-b out work written → b ≡ is-right list r work-a work-b out
+    → written ≡ out-wanted list (replicate 59200 170) → b ≡ all-right list r work-a work-b out work written → b ≡ is-right list r work-a work-b out
 unfolding is-right
 from-marks list r work-a work-b out w o e = rw (w, o) at e
 

@@ -47,7 +47,7 @@ all-right list report work-a work-b out work written = is-wanted list report && 
 -- each byte of the parts having been 170
 unfoldable pub is-right : List ℕ → Report → List ℕ → List ℕ → List ℕ → Bool
 is-right list report work-a work-b out =
-    all-right list report work-a work-b out (work-wanted list (replicate 65600 170)) (out-wanted list (replicate 54850 170))
+    all-right list report work-a work-b out (work-wanted list (replicate 65600 170)) (out-wanted list (replicate 59200 170))
 
 -- ---- the call
 

@@ -11,7 +11,7 @@ use Rattle.replay.specs.declared.Counts.{Counts}
 
 -- the call of the frame at the list's front does what the frame wants, every lent byte having been 170
 abbrev pub agrees-marked : List ℕ → Bool
-agrees-marked list = agrees list (replicate 65600 170) (replicate 65600 170) (replicate 54850 170)
+agrees-marked list = agrees list (replicate 65600 170) (replicate 65600 170) (replicate 59200 170)
 
 -- the counts with that frame, if it is of the class
 unfoldable pub counted : List ℕ → ℕ → Counts → Counts

@@ -39,7 +39,7 @@ const MARK: u8 = 170;
 
 const LONG_WORK: usize = 65600;
 
-const LONG_OUT: usize = 54850;
+const LONG_OUT: usize = 59200;
 
 // How many bytes of a work area a finished call leaves zero.
 const WORK: usize = 49152;
@@ -235,7 +235,7 @@ fn agrees_in(list: &[u8], work_a: &mut [u8], work_b: &mut [u8], out: &mut [u8]) 
 // Makes the call of the frame at the list's front.
 pub fn agrees_marked(list: &[u8]) -> bool
     requires { ⌜ Whole (now list) ⌝ }
-    ensures { λ r. ⌜ r ≡ agrees (now (list .entry)) (replicate 65600 170) (replicate 65600 170) (replicate 54850 170) ⌝ }
+    ensures { λ r. ⌜ r ≡ agrees (now (list .entry)) (replicate 65600 170) (replicate 65600 170) (replicate 59200 170) ⌝ }
 {
     let mut work_a = [MARK; LONG_WORK];
     let mut work_b = [MARK; LONG_WORK];

@@ -62,8 +62,11 @@ fn print_class(class: u64) {
         6 => {
             print(b"refused before the tape: ");
         }
-        _ => {
+        7 => {
             print(b"settling: ");
+        }
+        _ => {
+            print(b"marks: ");
         }
     }
 }
@@ -122,7 +125,7 @@ fn run(list: &[u8]) {
         tapes: 0,
         differ: 0,
     };
-    while class < 8 {
+    while class < 9 {
         let counts = replayed(list, class);
         print_class(class);
         print_counts(counts);

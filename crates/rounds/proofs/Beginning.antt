@@ -12,6 +12,7 @@ use Rattle.reference.proofs.Fits.{fits-text}
 use Rattle.joining.specs.Places.{label-places, labels-at}
 use Rattle.joining.proofs.Bare.{addressed-bare}
 use Rattle.joining.proofs.Rounds.{round-begins}
+use Rattle.lines.specs.Lines.{Reading}
 use Rattle.build.specs.declared.used.Size.{Size}
 use Rattle.build.specs.State.{used}
 use Rattle.build.specs.Added.{used-words}
@@ -27,8 +28,8 @@ use Rattle.rounds.specs.Runs.{Runnable}
 use Rattle.rounds.proofs.Cutting.{gathered-inside, gathered-labelled, gathered-labels}
 use Rattle.rounds.proofs.Turning.{bare-is}
 
-module _ {tape area : Text} {tokens lines : List ℕ} {area2 : Text} {tokens2 labels : List ℕ} {slots : Text} {slot-words : List ℕ} {at : Size}
-    (b : Runnable tape area tokens lines area2 tokens2 labels slots slot-words at) where
+module _ {tape area : Text} {tokens lines : List ℕ} {area2 : Text} {tokens2 lows highs labels : List ℕ} {slots : Text} {slot-words : List ℕ} {at : Size}
+    (b : Runnable tape area tokens lines area2 tokens2 lows highs labels slots slot-words at) where
   pub begin-room : Roomy slots slot-words (record { count = 0; text = 0 }) (text (bare-now tape area tokens lines at)) (token-count (bare-now tape area tokens lines at))
   begin-room =
       let most = fits-text (b .limits .fits) in
@@ -43,17 +44,19 @@ module _ {tape area : Text} {tokens lines : List ℕ} {area2 : Text} {tokens2 la
     begin-inside = gathered-inside tape (used area at) (used-words tokens at) (used-lines lines at) l
 
     module _ {slots′ : Text} {words′ : List ℕ} {g : Slots} (s : Gathers (addressed-in (bare-now tape area tokens lines at)) slots′ words′ g) where
-      pub begin-roundable : Roundable tape area tokens lines area2 tokens2 (take n after) (take (g .text) slots′) (take (g .count) words′) at
+      pub begin-roundable : Roundable tape area tokens lines area2 tokens2 lows highs (take n after) (take (g .text) slots′) (take (g .count) words′) at
       begin-roundable = record {
         current = b .current;
         limits = b .limits;
         lent = b .lent;
         labelled = gathered-labelled tape (used area at) (used-words tokens at) (used-lines lines at) l;
         slotted = slotted-of _ _ (bare-now tape area tokens lines at) (s .slotting .holds) (s .names-are);
+        for-lows = b .for-lows;
+        for-highs = b .for-highs;
       }
 
       -- the attempts with what was gathered are the round's, whatever the addresses are
-      round-is : (rules : Rules) (addresses : List ℕ) → propagate-once rules (listing-now tape area tokens lines at addresses)
+      round-is : (rules : Rules) (addresses : Reading) → propagate-once rules (listing-now tape area tokens lines at addresses)
           ≡ attempts-with rules tape area tokens lines at (take n after) (take (g .text) slots′) (take (g .count) words′) (listing-now tape area tokens lines at addresses)
       round-is rules addresses =
           let names : addressed-in (listing-now tape area tokens lines at addresses) ≡ slot-names (take (g .text) slots′) (take (g .count) words′) =
@@ -62,9 +65,10 @@ module _ {tape area : Text} {tokens lines : List ℕ} {area2 : Text} {tokens2 la
           gathered-labels tape (used area at) (used-words tokens at) (used-lines lines at) l addresses in
           round-begins rules _ ∙ rw (names, first)
 
-      pub begin-made : (rules : Rules) {area′ : Text} {tokens′ lines′ : List ℕ} {r : Round}
-          → Made (attempts-with rules tape area tokens lines at (take n after) (take (g .text) slots′) (take (g .count) words′)) tape area tokens lines at area′ tokens′ lines′ r
-          → Made (propagate-once rules) tape area tokens lines at area′ tokens′ lines′ r
+      pub begin-made : (rules : Rules) {area′ : Text} {tokens′ lines′ lows′ highs′ : List ℕ} {r : Round}
+          → Made (attempts-with rules tape area tokens lines at (take n after) (take (g .text) slots′) (take (g .count) words′))
+          tape area tokens lines lows highs at area′ tokens′ lines′ lows′ highs′ r
+          → Made (propagate-once rules) tape area tokens lines lows highs at area′ tokens′ lines′ lows′ highs′ r
       begin-made rules m = record {
         current = m .current;
         limits = m .limits;
@@ -72,4 +76,5 @@ module _ {tape area : Text} {tokens lines : List ℕ} {area2 : Text} {tokens2 la
         left = λ addresses. rw (round-is rules addresses) (m .left addresses);
         attempts-are = λ addresses. rw (round-is rules addresses) (m .attempts-are addresses);
         removed-is = λ addresses. rw (round-is rules addresses) (m .removed-is addresses);
+        marks = λ addresses. rw (round-is rules addresses) (m .marks addresses);
       }

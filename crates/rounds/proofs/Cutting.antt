@@ -30,14 +30,14 @@ use Rattle.joining.proofs.Labels.{labels-begin, labelled-begin}
 use Rattle.joining.proofs.Moving.{cut-labels, cut-labelled}
 use Rattle.joining.proofs.Rounds.{cuts-begin, cuts-end, cuts-kept, cuts-cut}
 use Rattle.lines.specs.Words.{text-of, token-of, tokens-of}
-use Rattle.lines.specs.Lines.{first-of, count-of, indent-of, with-part, part-of, line-in, listing-of, bare-listing, Lined, Listed}
+use Rattle.lines.specs.Lines.{Reading, numbered, first-of, count-of, indent-of, with-part, part-of, line-read, listing-read, bare-listing, Lined, Listed}
 use Rattle.lines.specs.Shapes.{found}
 use Rattle.lines.specs.Fams.{fam-text}
 use Rattle.lines.specs.declared.shapes.Found.{Found}
 use Rattle.lines.specs.declared.shapes.Found.the-variants.{At, Nothing}
 use Rattle.lines.proofs.words.Each.{map-drop, map-set}
 use Rattle.lines.proofs.words.Tokens.{holds-drop}
-use Rattle.lines.proofs.words.Lines.{count-below, with-first, with-count, with-unmarked, with-means, no-marks, bare-at, bare-means, listed-set}
+use Rattle.lines.proofs.words.Lines.{count-below, with-first, with-count, with-unmarked, with-read, no-marks, bare-at, bare-means, listed-set}
 use Rattle.lines.proofs.fams.Families.{fam-row}
 use Rattle.lines.proofs.shapes.Places.{found-is, found-not, find-at, get-at}
 use Rattle.life.specs.Labels.{Gathered}
@@ -148,12 +148,12 @@ module _ (tape area : Text) (tokens : List ℕ) (l : ℕ) (h : Lined tape area t
         marks = no-marks _ (with-unmarked l (first-of l + 2) (count-of l - 2) low (cut-fewer l));
       }
 
-  cut-means : (addresses : List ℕ)
-      → line-in tape area tokens addresses (cut-word l)
-      ≡ with-tokens (drop 2 (line-in tape area tokens addresses l .tokens)) (line-in tape area tokens addresses l)
+  cut-means : (addresses : Reading)
+      → line-read tape area tokens addresses (cut-word l)
+      ≡ with-tokens (drop 2 (line-read tape area tokens addresses l .tokens)) (line-read tape area tokens addresses l)
   cut-means addresses =
-      with-means l (first-of l + 2) (count-of l - 2) low (cut-fewer l) tape area tokens addresses
-      ∙ ap (λ (ts : List Token). with-tokens ts (line-in tape area tokens addresses l))
+      with-read l (first-of l + 2) (count-of l - 2) low (cut-fewer l) tape area tokens addresses
+      ∙ ap (λ (ts : List Token). with-tokens ts (line-read tape area tokens addresses l))
       (ap (tokens-of tape area) part ∙ map-drop (token-of tape area) 2 (part-of tokens l))
 
 module _ {tape area : Text} {tokens lines labels : List ℕ} (c : Cuttable tape area tokens lines labels) (rules : Rules) (i : ℕ) (h : i < length lines)
@@ -181,8 +181,8 @@ module _ {tape area : Text} {tokens lines labels : List ℕ} (c : Cuttable tape 
             refl,
             listed-set (c .listed) i (rw ev (cut-lined tape area tokens (getD lines i 0) l cut-count cut-first)),
             λ addresses.
-                map-set (line-in tape area tokens addresses) _ i lines v
-                (λ _. ap (line-in tape area tokens addresses) ev ∙ cut-means tape area tokens (getD lines i 0) l cut-count cut-first addresses),
+                map-set (line-read tape area tokens addresses) _ i lines v
+                (λ _. ap (line-read tape area tokens addresses) ev ∙ cut-means tape area tokens (getD lines i 0) l cut-count cut-first addresses),
           );
         }
 
@@ -239,8 +239,8 @@ pub record Cutting (rules : Rules) (tape area : Text) (tokens start labels lines
   pub labelled : Labelled (bare-listing tape area tokens lines) labels
   pub labels-same : labels-now tape area tokens lines labels ≡ labels-now tape area tokens start labels
   pub few : n ≤ i
-  pub upto : (addresses : List ℕ)
-      → Upto rules (labels-now tape area tokens start labels) (listing-of tape area tokens addresses start) i n (listing-of tape area tokens addresses lines)
+  pub upto : (addresses : Reading)
+      → Upto rules (labels-now tape area tokens start labels) (listing-read tape area tokens addresses start) i n (listing-read tape area tokens addresses lines)
 
 module _ {rules : Rules} {tape area : Text} {tokens start labels : List ℕ} where
   pub cutting-begin : Cuttable tape area tokens start labels → Cutting rules tape area tokens start labels start 0 0
@@ -258,13 +258,13 @@ module _ {rules : Rules} {tape area : Text} {tokens start labels : List ℕ} whe
 
     module _ (h : i < length lines) {lines′ : List ℕ} {r : ℕ} (d : Dropped rules tape area tokens lines labels i lines′ r) where
       -- the same of the listing with its addresses
-      dead-same : {b : Bool} (addresses : List ℕ) → dead-at rules tape area tokens lines labels i ≡ b
-          → dead-result rules (labels-now tape area tokens start labels) (listing-of tape area tokens addresses lines) i ≡ b
+      dead-same : {b : Bool} (addresses : Reading) → dead-at rules tape area tokens lines labels i ≡ b
+          → dead-result rules (labels-now tape area tokens start labels) (listing-read tape area tokens addresses lines) i ≡ b
       dead-same addresses e =
-          sym (dead-result-bare rules _ (listing-of tape area tokens addresses lines) i)
+          sym (dead-result-bare rules _ (listing-read tape area tokens addresses lines) i)
           ∙ rw (← bare-means tape area tokens addresses lines, ← s .labels-same) e
 
-      inside : (addresses : List ℕ) → i < length (listing-of tape area tokens addresses lines)
+      inside : (addresses : Reading) → i < length (listing-read tape area tokens addresses lines)
       inside addresses = rw length-map h
 
       next : (b : Bool) → dead-at rules tape area tokens lines labels i ≡ b → Cutting rules tape area tokens start labels lines′ (n + r) (i + 1)
@@ -281,8 +281,8 @@ module _ {rules : Rules} {tape area : Text} {tokens start labels : List ℕ} whe
       next true e =
           let k = d .cut e in
           let cut : bare-listing tape area tokens lines′ ≡ cut-at i (bare-listing tape area tokens lines) =
-          bare-means tape area tokens [] lines′ ∙ ap bare-lines (k .2 []) ∙ sym (cut-bare i (listing-of tape area tokens [] lines))
-          ∙ ap (cut-at i) (sym (bare-means tape area tokens [] lines)) in
+          bare-means tape area tokens numbered lines′ ∙ ap bare-lines (k .2 numbered) ∙ sym (cut-bare i (listing-read tape area tokens numbered lines))
+          ∙ ap (cut-at i) (sym (bare-means tape area tokens numbered lines)) in
           rw (k .0)
           (record {
             listed = k .1;
@@ -306,7 +306,7 @@ module _ {rules : Rules} {tape area : Text} {tokens start labels : List ℕ} whe
 
     pub cutting-end : length lines ≤ i → Cut (cuts rules (labels-now tape area tokens start labels) 0) tape area tokens start lines n
     cutting-end h =
-        let past : (addresses : List ℕ) → length (listing-of tape area tokens addresses lines) ≤ i = (λ addresses. rw length-map h) in
+        let past : (addresses : Reading) → length (listing-read tape area tokens addresses lines) ≤ i = (λ addresses. rw length-map h) in
         record {
           listed = s .listed;
           finished = λ addresses. upto-end rules _ (s .upto addresses) (past addresses) .0;
@@ -329,17 +329,17 @@ module _ (tape area : Text) (tokens lines : List ℕ) {before after : List ℕ} 
   pub gathered-cuttable : Listed tape area tokens lines → length tokens ≤ 65536 → Cuttable tape area tokens lines (take n after)
   gathered-cuttable h k = record { listed = h; short = k; labelled = gathered-labelled }
 
-  pub gathered-labels : (addresses : List ℕ) → labels-from 0 (listing-of tape area tokens addresses lines) ≡ labels-now tape area tokens lines (take n after)
+  pub gathered-labels : (addresses : Reading) → labels-from 0 (listing-read tape area tokens addresses lines) ≡ labels-now tape area tokens lines (take n after)
   gathered-labels addresses =
-      sym (labels-bare 0 (listing-of tape area tokens addresses lines))
+      sym (labels-bare 0 (listing-read tape area tokens addresses lines))
       ∙ rw (← bare-means tape area tokens addresses lines, gathered-front) (labels-begin (bare-listing tape area tokens lines))
 
   pub cut-whole : (rules : Rules) {lines′ : List ℕ} {r : ℕ} → Cut (cuts rules (labels-now tape area tokens lines (take n after)) 0) tape area tokens lines lines′ r
       → Cut (drop-dead-results rules) tape area tokens lines lines′ r
   cut-whole rules c =
-      let all : (addresses : List ℕ) → drop-dead-results rules (listing-of tape area tokens addresses lines)
-      ≡ cuts rules (labels-now tape area tokens lines (take n after)) 0 (listing-of tape area tokens addresses lines) =
-      (λ addresses. cuts-begin rules _ ∙ ap (λ (ls : Labels). cuts rules ls 0 (listing-of tape area tokens addresses lines)) (gathered-labels addresses)) in
+      let all : (addresses : Reading) → drop-dead-results rules (listing-read tape area tokens addresses lines)
+      ≡ cuts rules (labels-now tape area tokens lines (take n after)) 0 (listing-read tape area tokens addresses lines) =
+      (λ addresses. cuts-begin rules _ ∙ ap (λ (ls : Labels). cuts rules ls 0 (listing-read tape area tokens addresses lines)) (gathered-labels addresses)) in
       record {
         listed = c .listed;
         finished = λ addresses. rw (all addresses) (c .finished addresses);

@@ -8,7 +8,7 @@ use lib.Seq.{ext-getD, take-at, length-take-le, length-front}
 use Rattle.reference.specs.Text.{Text}
 use Rattle.reference.specs.Rules.{Rules}
 use Rattle.joining.specs.Bare.{bare-lines}
-use Rattle.lines.specs.Lines.{line-in, listing-of}
+use Rattle.lines.specs.Lines.{Reading, numbered, origin-of, line-read, listing-read}
 use Rattle.lines.proofs.words.Each.{map-at}
 use Rattle.linemarks.specs.Marking.{Remarked}
 use Rattle.linemarks.proofs.Making.{remarked-lined}
@@ -18,14 +18,15 @@ use Rattle.build.specs.Added.{used-words}
 use Rattle.join.specs.Current.{used-lines, bare-now, Current}
 use Rattle.rounds.specs.declared.run.Progress.{Progress}
 use Rattle.rounds.specs.Runs.{SameListing, Runnable, Rounded}
+use Rattle.rounds.proofs.Carrying.{carries-then, carries-same, numbers-same}
 use Rattle.rounds.proofs.Turning.{bare-is}
 
 -- ---- marked lines mean what they meant
 
 module _ {tape area : Text} {tokens lines after : List ℕ} (r : Remarked tape area tokens lines after) where
-  remarked-means : (addresses : List ℕ) → listing-of tape area tokens addresses after ≡ listing-of tape area tokens addresses lines
+  remarked-means : (addresses : Reading) → listing-read tape area tokens addresses after ≡ listing-read tape area tokens addresses lines
   remarked-means addresses =
-      let f = line-in tape area tokens addresses in
+      let f = line-read tape area tokens addresses in
       ext-getD (f 0) (map f after) (map f lines) (length-map after f ∙ r .long ∙ sym (length-map lines f))
       (λ k h.
       let b : k < length after = rw length-map at h in
@@ -53,10 +54,11 @@ module _ {tape area : Text} {tokens lines : List ℕ} {at : Size} (c : Current t
 
 module _ {tape area : Text} {tokens lines : List ℕ} {at : Size} {lines′ : List ℕ} (s : SameListing tape area tokens lines at lines′) where
   bare-same : bare-now tape area tokens lines′ at ≡ bare-now tape area tokens lines at
-  bare-same = bare-is tape area tokens lines′ at [] ∙ ap bare-lines (s .means []) ∙ sym (bare-is tape area tokens lines at [])
+  bare-same = bare-is tape area tokens lines′ at numbered ∙ ap bare-lines (s .means numbered) ∙ sym (bare-is tape area tokens lines at numbered)
 
-  pub runnable-same : {area2 : Text} {tokens2 labels : List ℕ} {slots : Text} {slot-words : List ℕ}
-      → Runnable tape area tokens lines area2 tokens2 labels slots slot-words at → Runnable tape area tokens lines′ area2 tokens2 labels slots slot-words at
+  pub runnable-same : {area2 : Text} {tokens2 lows highs labels : List ℕ} {slots : Text} {slot-words : List ℕ}
+      → Runnable tape area tokens lines area2 tokens2 lows highs labels slots slot-words at
+      → Runnable tape area tokens lines′ area2 tokens2 lows highs labels slots slot-words at
   runnable-same b = record {
     current = s .current;
     limits = rw bare-same (b .limits);
@@ -65,13 +67,24 @@ module _ {tape area : Text} {tokens lines : List ℕ} {at : Size} {lines′ : Li
     for-slots = b .for-slots;
     for-slot-words = b .for-slot-words;
     words-short = b .words-short;
+    for-lows = b .for-lows;
+    for-highs = b .for-highs;
   }
 
-  pub rounded-same : {rules : Rules} {area″ : Text} {tokens″ lines″ : List ℕ} {r : Progress}
-      → Rounded rules tape area tokens lines′ at area″ tokens″ lines″ r → Rounded rules tape area tokens lines at area″ tokens″ lines″ r
-  rounded-same m = record {
+  numbers-stay : map origin-of (used-lines lines′ at) ≡ map origin-of (used-lines lines at)
+  numbers-stay =
+      numbers-same tape (used area at) (used-words tokens at) (used-lines lines at) (used area at) (used-words tokens at) (used-lines lines′ at)
+      (ap (map (λ l. l .address)) (s .means numbered))
+
+  pub rounded-same : {rules : Rules} {lows highs : List ℕ} {area″ : Text} {tokens″ lines″ lows″ highs″ : List ℕ} {r : Progress}
+      → Rounded rules tape area tokens lines′ lows highs at area″ tokens″ lines″ lows″ highs″ r
+      → Rounded rules tape area tokens lines lows highs at area″ tokens″ lines″ lows″ highs″ r
+  rounded-same {lows = lows} {highs = highs} {lines″ = lines″} {lows″ = lows″} {highs″ = highs″} {r = r} m = record {
     current = m .current;
     limits = m .limits;
     left = λ addresses. rw (s .means addresses) at (m .left addresses);
     counted = λ addresses. rw (s .means addresses) at (m .counted addresses);
+    marks = λ addresses.
+        carries-then [] _ (used-lines lines at) lows highs (used-lines lines′ at) lows highs (used-lines lines″ (r .size)) lows″ highs″
+        (carries-same (used-lines lines at) (used-lines lines′ at) lows highs numbers-stay) (rw (s .means addresses) at (m .marks addresses));
   }

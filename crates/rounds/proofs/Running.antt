@@ -17,7 +17,7 @@ use Rattle.reference.specs.Run.{Attempt, propagate-once, after-attempts, remova
 use Rattle.reference.specs.Run.{last-of, run, attempts-of, steps, finished, attempts-in, counts, Tally, settled, three}
 use Rattle.joining.specs.Limits.{Limits}
 use Rattle.laws.proofs.Scans.{if-true, if-false}
-use Rattle.lines.specs.Lines.{listing-of}
+use Rattle.lines.specs.Lines.{Reading, numbered, origin-of, listing-read}
 use Rattle.build.specs.declared.used.Size.{Size}
 use Rattle.build.specs.State.{used}
 use Rattle.build.specs.Added.{used-words}
@@ -26,9 +26,11 @@ use Rattle.rounds.specs.declared.rounds.Round.{Round}
 use Rattle.rounds.specs.declared.run.Outcome.{Outcome}
 use Rattle.rounds.specs.declared.run.Progress.{Progress}
 use Rattle.rounds.specs.declared.run.Tally as Code
+use Rattle.rounds.specs.Carries.{Carries}
 use Rattle.rounds.specs.Cuts.{Cut}
 use Rattle.rounds.specs.Rounds.{Countable, Made}
 use Rattle.rounds.specs.Runs.{Runnable, most-rounds, rounds-left, count-after, after-round, Few, Counted, Rounded, tally-of, told-of, counts-of, Ran}
+use Rattle.rounds.proofs.Carrying.{carries-none, carries-then, carries-same, numbers-same, cuts-addresses}
 use Rattle.rounds.proofs.Cutting.{last-append}
 use Rattle.rounds.proofs.Turning.{removals-append, now-length, now-few, lent-same}
 
@@ -105,33 +107,37 @@ module _ {done : List (List Attempt)} {s : Progress} (c : Counted done s) (round
 
 -- ---- the rounds so far
 
--- Of the rounds of `start`, at most `most`, those in `done` were made, and left `lines`: the others are those of `lines`, at most so many as s says.
-pub record Sofar (rules : Rules) (most : ℕ) (start : Listing) (s : Progress) (lines : Listing) : Type 0 where
+-- Of the rounds of `start`, at most `most`, those in `done` were made, and left `lines`: the others are those of `lines`, at most so many as s says. P is
+-- said of the attempts that were made.
+pub record Sofar (rules : Rules) (most : ℕ) (start : Listing) (s : Progress) (lines : Listing) (P : List Attempt → Type 0) : Type 0 where
   pub done : List (List Attempt)
   pub made : rounds-from rules most start ≡ done ++ rounds-from rules (s .left) lines
   pub counted : Counted done s
   pub left : after-rounds start done ≡ lines
+  pub said : P (flatten done)
 
 -- no round was made yet
 abbrev pub begin : ℕ → Size → Progress
 begin most at = record { left = most; made = 0; first = 0; second = 0; third = 0; attempts = 0; removed = 0; size = at }
 
 module _ (rules : Rules) (most : ℕ) (start : Listing) where
-  sofar-begin : (at : Size) → Sofar rules most start (begin most at) start
+  sofar-begin : (at : Size) {P : List Attempt → Type 0} → P [] → Sofar rules most start (begin most at) start P
   unfolding after-rounds attempts-in flatten removals
-  sofar-begin at =
+  sofar-begin at p =
       record {
         done = [];
         made = refl;
         counted = record { made-are = refl; first-is = refl; second-is = refl; third-is = refl; attempts-are = refl; removed-is = refl };
         left = refl;
+        said = p;
       }
 
-  module _ {s : Progress} {lines : Listing} (u : Sofar rules most start s lines) where
+  module _ {s : Progress} {lines : Listing} {P : List Attempt → Type 0} (u : Sofar rules most start s lines P) where
     sofar-next : 1 ≤ s .left → (r : Round) {lines′ : Listing} → lines′ ≡ after-attempts lines (propagate-once rules lines)
         → r .attempts ≡ length (propagate-once rules lines) → r .removed ≡ removals (propagate-once rules lines)
-        → Sofar rules most start (after-round s r) lines′
-    sofar-next h r el ea er =
+        → {Q : List Attempt → Type 0} → ((done : List Attempt) → P done → Q (done ++ propagate-once rules lines))
+        → Sofar rules most start (after-round s r) lines′ Q
+    sofar-next h r el ea er next =
         let round : List Attempt = propagate-once rules lines in
         record {
           done = u .done ++ (round ∷ []);
@@ -140,33 +146,37 @@ module _ (rules : Rules) (most : ℕ) (start : Listing) where
               (u .made ∙ ap (λ (more : List (List Attempt)). u .done ++ more) (rounds-more rules (s .left) lines h) ∙ sym (append-snoc (u .done) round _));
           counted = counted-next (u .counted) round r ea er;
           left = after-snoc start (u .done) round ∙ ap (λ (ls : Listing). after-attempts ls round) (u .left) ∙ sym el;
+          said = rw (flatten-snoc (u .done) round) (next (flatten (u .done)) (u .said));
         }
 
-    sofar-end : s .left ≡ 0 → (lines ≡ after-rounds start (rounds-from rules most start)) × Counted (rounds-from rules most start) s
+    sofar-end : s .left ≡ 0
+        → (lines ≡ after-rounds start (rounds-from rules most start)) × Counted (rounds-from rules most start) s × P (flatten (rounds-from rules most start))
     unfolding rounds-from
     sofar-end h =
         let all : rounds-from rules most start ≡ u .done =
         u .made ∙ ap (λ (n : ℕ). u .done ++ rounds-from rules n lines) h ∙ append-nil (u .done) in
-        rw all (sym (u .left), u .counted)
+        rw all (sym (u .left), u .counted, u .said)
 
 -- the rounds stand at s: what began as the first listing is now the second
-pub record Going (rules : Rules) (tape area₀ : Text) (tokens₀ lines₀ : List ℕ) (at₀ : Size) (most : ℕ)
-    (area : Text) (tokens lines : List ℕ) (s : Progress) : Type 0 where
+pub record Going (rules : Rules) (tape area₀ : Text) (tokens₀ lines₀ lows₀ highs₀ : List ℕ) (at₀ : Size) (most : ℕ)
+    (area : Text) (tokens lines lows highs : List ℕ) (s : Progress) : Type 0 where
   pub current : Current tape area tokens lines (s .size)
   pub limits : Limits (bare-now tape area tokens lines (s .size))
   pub few : Few s
-  pub sofar : (addresses : List ℕ)
+  pub sofar : (addresses : Reading)
       → Sofar rules most (listing-now tape area₀ tokens₀ lines₀ at₀ addresses) s (listing-now tape area tokens lines (s .size) addresses)
+      (λ done. Carries done (used-lines lines₀ at₀) lows₀ highs₀ (used-lines lines (s .size)) lows highs)
 
 most-few : (settle : Bool) {n : ℕ} → n ≤ 256 → most-rounds settle n ≤ 257
 unfolding most-rounds if_then_else_
 most-few true h = omega arith
 most-few false h = omega arith
 
-module _ {rules : Rules} {tape area₀ : Text} {tokens₀ lines₀ : List ℕ} {at₀ : Size} where
+module _ {rules : Rules} {tape area₀ : Text} {tokens₀ lines₀ lows₀ highs₀ : List ℕ} {at₀ : Size} where
   pub going-begin : {area2 : Text} {tokens2 labels : List ℕ} {slots : Text} {slot-words : List ℕ}
-      → Runnable tape area₀ tokens₀ lines₀ area2 tokens2 labels slots slot-words at₀ → {most : ℕ} → most ≡ most-rounds (rules .settle) (at₀ .lines)
-      → Going rules tape area₀ tokens₀ lines₀ at₀ most area₀ tokens₀ lines₀ (begin most at₀)
+      → Runnable tape area₀ tokens₀ lines₀ area2 tokens2 lows₀ highs₀ labels slots slot-words at₀ → {most : ℕ}
+      → most ≡ most-rounds (rules .settle) (at₀ .lines)
+      → Going rules tape area₀ tokens₀ lines₀ lows₀ highs₀ at₀ most area₀ tokens₀ lines₀ lows₀ highs₀ (begin most at₀)
   going-begin b e =
       record {
         current = b .current;
@@ -177,12 +187,13 @@ module _ {rules : Rules} {tape area₀ : Text} {tokens₀ lines₀ : List ℕ} {
               attempts = omega arith;
               removed = omega arith;
             };
-        sofar = λ addresses. sofar-begin rules _ _ at₀;
+        sofar = λ addresses. sofar-begin rules _ _ at₀ (carries-none (used-lines lines₀ at₀) lows₀ highs₀);
       }
 
-  module _ {most : ℕ} {area : Text} {tokens lines : List ℕ} {s : Progress} (g : Going rules tape area₀ tokens₀ lines₀ at₀ most area tokens lines s) where
-    module _ (h : 1 ≤ s .left) {area′ : Text} {tokens′ lines′ : List ℕ} {r : Round}
-        (m : Made (propagate-once rules) tape area tokens lines (s .size) area′ tokens′ lines′ r) where
+  module _ {most : ℕ} {area : Text} {tokens lines lows highs : List ℕ} {s : Progress}
+      (g : Going rules tape area₀ tokens₀ lines₀ lows₀ highs₀ at₀ most area tokens lines lows highs s) where
+    module _ (h : 1 ≤ s .left) {area′ : Text} {tokens′ lines′ lows′ highs′ : List ℕ} {r : Round}
+        (m : Made (propagate-once rules) tape area tokens lines lows highs (s .size) area′ tokens′ lines′ lows′ highs′ r) where
       left-less : after-round s r .left < s .left
       unfolding rounds-left if_then_else_
       left-less = go (eqb (r .removed) 0)
@@ -191,7 +202,7 @@ module _ {rules : Rules} {tape area₀ : Text} {tokens₀ lines₀ : List ℕ} {
           go true = omega (arith, h)
           go false = omega (arith, h)
 
-      pub going-next : Going rules tape area₀ tokens₀ lines₀ at₀ most area′ tokens′ lines′ (after-round s r)
+      pub going-next : Going rules tape area₀ tokens₀ lines₀ lows₀ highs₀ at₀ most area′ tokens′ lines′ lows′ highs′ (after-round s r)
       going-next =
           record {
             current = m .current;
@@ -203,35 +214,42 @@ module _ {rules : Rules} {tape area₀ : Text} {tokens₀ lines₀ : List ℕ} {
                   removed = omega (arith, g .few .removed, m .few);
                 };
             sofar = λ addresses.
-                sofar-next rules most _ (g .sofar addresses) h r (m .left addresses) (m .attempts-are addresses) (m .removed-is addresses);
+                sofar-next rules most _ (g .sofar addresses) h r (m .left addresses) (m .attempts-are addresses) (m .removed-is addresses)
+                (λ done had.
+                carries-then done _ (used-lines lines₀ at₀) lows₀ highs₀ (used-lines lines (s .size)) lows highs
+                (used-lines lines′ (r .size)) lows′ highs′ had (m .marks addresses));
           }
 
       pub going-less : after-round s r .left < s .left
       going-less = left-less
 
     pub going-end : {area2 : Text} {tokens2 labels : List ℕ} {slots : Text} {slot-words : List ℕ}
-        → Runnable tape area₀ tokens₀ lines₀ area2 tokens2 labels slots slot-words at₀ → most ≡ most-rounds (rules .settle) (at₀ .lines)
-        → s .left ≡ 0 → Rounded rules tape area₀ tokens₀ lines₀ at₀ area tokens lines s
-    unfolding run
+        → Runnable tape area₀ tokens₀ lines₀ area2 tokens2 lows₀ highs₀ labels slots slot-words at₀ → most ≡ most-rounds (rules .settle) (at₀ .lines)
+        → s .left ≡ 0 → Rounded rules tape area₀ tokens₀ lines₀ lows₀ highs₀ at₀ area tokens lines lows highs s
+    unfolding run attempts-of
     going-end b e h =
-        let most-is : (addresses : List ℕ) → limit rules (listing-now tape area₀ tokens₀ lines₀ at₀ addresses) ≡ most =
+        let most-is : (addresses : Reading) → limit rules (listing-now tape area₀ tokens₀ lines₀ at₀ addresses) ≡ most =
         (λ addresses. limit-is rules _ ∙ ap (most-rounds (rules .settle)) (now-length (b .current) addresses) ∙ sym e) in
         record {
           current = g .current;
           limits = g .limits;
           left = λ addresses. rw (most-is addresses) (sofar-end rules most _ (g .sofar addresses) h .0);
           counted = λ addresses. rw (most-is addresses) (sofar-end rules most _ (g .sofar addresses) h .1);
+          marks = λ addresses. rw (most-is addresses) (sofar-end rules most _ (g .sofar addresses) h .2);
         }
 
 -- the tables are large enough for the next round
-pub runnable-again : {rules : Rules} {tape area : Text} {tokens lines : List ℕ} {area2 : Text} {tokens2 labels : List ℕ} {slots : Text}
+pub runnable-again : {rules : Rules} {tape area : Text} {tokens lines : List ℕ} {area2 : Text} {tokens2 lows highs labels : List ℕ} {slots : Text}
     {slot-words : List ℕ} {at : Size} {most : ℕ}
-    (area2′ : Text) (tokens2′ labels′ : List ℕ) (slots′ : Text) (slot-words′ : List ℕ) {area′ : Text} {tokens′ lines′ : List ℕ} {s : Progress}
-    → Runnable tape area tokens lines area2 tokens2 labels slots slot-words at → Going rules tape area tokens lines at most area′ tokens′ lines′ s
+    (area2′ : Text) (tokens2′ labels′ : List ℕ) (slots′ : Text) (slot-words′ : List ℕ) {area′ : Text} {tokens′ lines′ : List ℕ}
+    (lows′ highs′ : List ℕ) {s : Progress}
+    → Runnable tape area tokens lines area2 tokens2 lows highs labels slots slot-words at
+    → Going rules tape area tokens lines lows highs at most area′ tokens′ lines′ lows′ highs′ s
     → length area′ ≡ length area → length tokens′ ≡ length tokens → length area2′ ≡ length area2 → length tokens2′ ≡ length tokens2
+    → length lows′ ≡ length lows → length highs′ ≡ length highs
     → length labels′ ≡ length labels → length slots′ ≡ length slots → length slot-words′ ≡ length slot-words
-    → Runnable tape area′ tokens′ lines′ area2′ tokens2′ labels′ slots′ slot-words′ (s .size)
-runnable-again area2′ tokens2′ labels′ slots′ slot-words′ {area′} {tokens′} b m ea et ea2 et2 el es ew = record {
+    → Runnable tape area′ tokens′ lines′ area2′ tokens2′ lows′ highs′ labels′ slots′ slot-words′ (s .size)
+runnable-again area2′ tokens2′ labels′ slots′ slot-words′ {area′} {tokens′} lows′ highs′ b m ea et ea2 et2 eo eh el es ew = record {
   current = m .current;
   limits = m .limits;
   lent = lent-same area′ tokens′ area2′ tokens2′ (b .lent) ea et ea2 et2;
@@ -239,6 +257,8 @@ runnable-again area2′ tokens2′ labels′ slots′ slot-words′ {area′} {t
   for-slots = omega (arith, b .for-slots);
   for-slot-words = omega (arith, b .for-slot-words);
   words-short = omega (arith, b .words-short);
+  for-lows = omega (arith, b .for-lows);
+  for-highs = omega (arith, b .for-highs);
 }
 
 -- ---- the cuts
@@ -269,22 +289,22 @@ cuts-are : (rules : Rules) (lines : Listing) → run rules lines .cuts ≡ drop-
 unfolding run
 cuts-are rules lines = refl
 
-module _ (rules : Rules) {tape area : Text} {tokens lines : List ℕ} {at : Size} {area′ : Text} {tokens′ lines′ : List ℕ} {s : Progress}
-    (m : Rounded rules tape area tokens lines at area′ tokens′ lines′ s) where
+module _ (rules : Rules) {tape area : Text} {tokens lines lows highs : List ℕ} {at : Size} {area′ : Text} {tokens′ lines′ lows′ highs′ : List ℕ} {s : Progress}
+    (m : Rounded rules tape area tokens lines lows highs at area′ tokens′ lines′ lows′ highs′ s) where
   module _ {left : List ℕ} {k : ℕ}
       (c : Cut (drop-dead-results rules) tape (used area′ (s .size)) (used-words tokens′ (s .size)) (used-lines lines′ (s .size)) left k)
       (e : length left ≡ length (used-lines lines′ (s .size))) (t : Code.Tally) (et : tally-of t ≡ told-of (rules .settle) s) where
     front : take (s .size .lines) (left ++ drop (s .size .lines) lines′) ≡ left
     front = take-at left _ (s .size .lines) (e ∙ length-take-le (s .size .lines) lines′ (m .current .lines-fit))
 
-    cuts-made : (addresses : List ℕ) → drop-dead-results rules (listing-now tape area′ tokens′ lines′ (s .size) addresses)
+    cuts-made : (addresses : Reading) → drop-dead-results rules (listing-now tape area′ tokens′ lines′ (s .size) addresses)
         ≡ run rules (listing-now tape area tokens lines at addresses) .cuts
     cuts-made addresses = ap (drop-dead-results rules) (m .left addresses) ∙ sym (cuts-are rules (listing-now tape area tokens lines at addresses))
 
     abbrev outcome : Outcome
     outcome = record { tally = t; removed = s .removed; cut = k; size = s .size }
 
-    counted : (addresses : List ℕ) → counts-of outcome ≡ counts rules (run rules (listing-now tape area tokens lines at addresses))
+    counted : (addresses : Reading) → counts-of outcome ≡ counts rules (run rules (listing-now tape area tokens lines at addresses))
     unfolding counts attempts-of
     counted addresses =
         let all = run rules (listing-now tape area tokens lines at addresses) in
@@ -294,7 +314,22 @@ module _ (rules : Rules) {tape area : Text} {tokens lines : List ℕ} {at : Size
         let cut : k ≡ length (all .cuts) = c .count addresses ∙ ap length (cuts-made addresses) in
         λ i. record { tally = tally i; lines-removed = told .removed-is i; results-cut = cut i }
 
-    pub run-made : Ran rules tape area tokens lines at area′ tokens′ (left ++ drop (s .size .lines) lines′) outcome
+    -- a cut line is the line that it was
+    numbers-kept : map origin-of left ≡ map origin-of (used-lines lines′ (s .size))
+    numbers-kept =
+        numbers-same tape (used area′ (s .size)) (used-words tokens′ (s .size)) (used-lines lines′ (s .size))
+        (used area′ (s .size)) (used-words tokens′ (s .size)) left
+        (ap (map (λ l. l .address)) (c .finished numbered) ∙ cuts-addresses rules (listing-now tape area′ tokens′ lines′ (s .size) numbered))
+
+    marks-left : (addresses : Reading) → Carries (attempts-of (run rules (listing-now tape area tokens lines at addresses)))
+        (used-lines lines at) lows highs left lows′ highs′
+    marks-left addresses =
+        rw append-nil
+        at (carries-then (attempts-of (run rules (listing-now tape area tokens lines at addresses))) [] (used-lines lines at) lows highs
+        (used-lines lines′ (s .size)) lows′ highs′ left lows′ highs′ (m .marks addresses)
+        (carries-same (used-lines lines′ (s .size)) left lows′ highs′ numbers-kept))
+
+    pub run-made : Ran rules tape area tokens lines lows highs at area′ tokens′ (left ++ drop (s .size .lines) lines′) lows′ highs′ outcome
     run-made = record {
       current = record {
         text-fits = m .current .text-fits;
@@ -303,8 +338,9 @@ module _ (rules : Rules) {tape area : Text} {tokens lines : List ℕ} {at : Size
         listed = rw front (c .listed);
       };
       finished = λ addresses.
-          ap (listing-of tape (used area′ (s .size)) (used-words tokens′ (s .size)) addresses) front
+          ap (listing-read tape (used area′ (s .size)) (used-words tokens′ (s .size)) addresses) front
           ∙ c .finished addresses
           ∙ rw (cuts-made addresses, m .left addresses) (sym (finished-is rules (listing-now tape area tokens lines at addresses)));
       counts = counted;
+      marks = λ addresses. rw front (marks-left addresses);
     }

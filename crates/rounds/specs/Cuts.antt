@@ -16,7 +16,7 @@ use Rattle.reference.specs.Join.{text-or-empty}
 use Rattle.reference.specs.Run.{dead-result, last-of}
 use Rattle.joining.specs.Places.{labels-at, Labelled}
 use Rattle.joining.specs.Rounds.{cut-at}
-use Rattle.lines.specs.Lines.{listing-of, bare-listing, Listed}
+use Rattle.lines.specs.Lines.{Reading, listing-read, bare-listing, Listed}
 
 -- a line that assigns the result of a call to rax or eax: what `dead-result` asks of the line itself
 unfoldable pub keeps-result : List Token → Bool
@@ -44,11 +44,11 @@ pub record Dropped (rules : Rules) (tape area : Text) (tokens lines labels : Lis
   pub kept : dead-at rules tape area tokens lines labels i ≡ false → (r ≡ 0) × (lines′ ≡ lines)
   pub cut : dead-at rules tape area tokens lines labels i ≡ true
       → (r ≡ 1) × Listed tape area tokens lines′
-      × ((addresses : List ℕ) → listing-of tape area tokens addresses lines′ ≡ cut-at i (listing-of tape area tokens addresses lines))
+      × ((addresses : Reading) → listing-read tape area tokens addresses lines′ ≡ cut-at i (listing-read tape area tokens addresses lines))
 
 -- the cuts `cuts` were made, one after the other, and r is how many; whatever the addresses are
 pub record Cut (cuts : Listing → List Listing) (tape area : Text) (tokens lines lines′ : List ℕ) (r : ℕ) : Type 0 where
   pub listed : Listed tape area tokens lines′
-  pub finished : (addresses : List ℕ) → listing-of tape area tokens addresses lines′
-      ≡ last-of (listing-of tape area tokens addresses lines) (cuts (listing-of tape area tokens addresses lines))
-  pub count : (addresses : List ℕ) → r ≡ length (cuts (listing-of tape area tokens addresses lines))
+  pub finished : (addresses : Reading) → listing-read tape area tokens addresses lines′
+      ≡ last-of (listing-read tape area tokens addresses lines) (cuts (listing-read tape area tokens addresses lines))
+  pub count : (addresses : Reading) → r ≡ length (cuts (listing-read tape area tokens addresses lines))

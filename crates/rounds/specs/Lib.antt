@@ -1,4 +1,5 @@
 pub mod Cuts
 pub mod Slots
+pub mod Carries
 pub mod Rounds
 pub mod Runs

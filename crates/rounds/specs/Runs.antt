@@ -10,8 +10,10 @@ use Rattle.reference.specs.Text.{Text}
 use Rattle.reference.specs.Rules.{Rules}
 use Rattle.reference.specs.Run as R
 use Rattle.joining.specs.Limits.{Limits}
+use Rattle.lines.specs.Lines.{Reading}
 use Rattle.build.specs.declared.used.Size.{Size}
-use Rattle.join.specs.Current.{listing-now, bare-now, Current, Lent}
+use Rattle.join.specs.Current.{used-lines, listing-now, bare-now, Current, Lent}
+use Rattle.rounds.specs.Carries.{Carries}
 use Rattle.rounds.specs.declared.rounds.Round.{Round}
 use Rattle.rounds.specs.declared.run.Tally.{Tally}
 use Rattle.rounds.specs.declared.run.Tally.the-variants.{Three, Settled}
@@ -21,10 +23,11 @@ use Rattle.rounds.specs.declared.run.Progress.{Progress}
 -- other line words of the same listing, whatever the addresses are
 pub record SameListing (tape area : Text) (tokens lines : List ℕ) (at : Size) (lines′ : List ℕ) : Type 0 where
   pub current : Current tape area tokens lines′ at
-  pub means : (addresses : List ℕ) → listing-now tape area tokens lines′ at addresses ≡ listing-now tape area tokens lines at addresses
+  pub means : (addresses : Reading) → listing-now tape area tokens lines′ at addresses ≡ listing-now tape area tokens lines at addresses
 
 -- a listing within the limits, and tables large enough for its rounds; the table of token words is no larger than a line word can name
-pub record Runnable (tape area : Text) (tokens lines : List ℕ) (area2 : Text) (tokens2 labels : List ℕ) (slots : Text) (slot-words : List ℕ) (at : Size) : Type 0 where
+pub record Runnable (tape area : Text) (tokens lines : List ℕ) (area2 : Text) (tokens2 lows highs labels : List ℕ) (slots : Text) (slot-words : List ℕ)
+    (at : Size) : Type 0 where
   pub current : Current tape area tokens lines at
   pub limits : Limits (bare-now tape area tokens lines at)
   pub lent : Lent area tokens area2 tokens2
@@ -32,6 +35,8 @@ pub record Runnable (tape area : Text) (tokens lines : List ℕ) (area2 : Text) 
   pub for-slots : 49152 ≤ length slots
   pub for-slot-words : 1024 ≤ length slot-words
   pub words-short : length tokens ≤ 65536
+  pub for-lows : 256 ≤ length lows
+  pub for-highs : 256 ≤ length highs
 
 -- ---- the rounds
 
@@ -76,14 +81,16 @@ pub record Counted (rounds : List (List R.Attempt)) (s : Progress) : Type 0 wher
   pub removed-is : s .removed ≡ R.removals (flatten rounds)
 
 -- the rounds of the run were made, and nothing was cut yet; whatever the addresses are
-pub record Rounded (rules : Rules) (tape area : Text) (tokens lines : List ℕ) (at : Size)
-    (area′ : Text) (tokens′ lines′ : List ℕ) (s : Progress) : Type 0 where
+pub record Rounded (rules : Rules) (tape area : Text) (tokens lines lows highs : List ℕ) (at : Size)
+    (area′ : Text) (tokens′ lines′ lows′ highs′ : List ℕ) (s : Progress) : Type 0 where
   pub current : Current tape area′ tokens′ lines′ (s .size)
   pub limits : Limits (bare-now tape area′ tokens′ lines′ (s .size))
-  pub left : (addresses : List ℕ)
+  pub left : (addresses : Reading)
       → let before = listing-now tape area tokens lines at addresses in
       listing-now tape area′ tokens′ lines′ (s .size) addresses ≡ R.after-rounds before (R.run rules before .rounds)
-  pub counted : (addresses : List ℕ) → Counted (R.run rules (listing-now tape area tokens lines at addresses) .rounds) s
+  pub counted : (addresses : Reading) → Counted (R.run rules (listing-now tape area tokens lines at addresses) .rounds) s
+  pub marks : (addresses : Reading) → Carries (R.attempts-of (R.run rules (listing-now tape area tokens lines at addresses)))
+      (used-lines lines at) lows highs (used-lines lines′ (s .size)) lows′ highs′
 
 -- ---- what a run tells
 
@@ -97,10 +104,12 @@ told-of settle s = if settle then R.settled (s .made) (s .attempts) else R.three
 abbrev pub counts-of : Outcome → R.Counts
 counts-of r = record { tally = tally-of (r .tally); lines-removed = r .removed; results-cut = r .cut }
 
--- the finished listing is left, and the counts are the run's; whatever the addresses are
-pub record Ran (rules : Rules) (tape area : Text) (tokens lines : List ℕ) (at : Size)
-    (area′ : Text) (tokens′ lines′ : List ℕ) (r : Outcome) : Type 0 where
+-- the finished listing is left, the counts are the run's, and the marks those that its attempts carry on; whatever the addresses are
+pub record Ran (rules : Rules) (tape area : Text) (tokens lines lows highs : List ℕ) (at : Size)
+    (area′ : Text) (tokens′ lines′ lows′ highs′ : List ℕ) (r : Outcome) : Type 0 where
   pub current : Current tape area′ tokens′ lines′ (r .size)
-  pub finished : (addresses : List ℕ) → listing-now tape area′ tokens′ lines′ (r .size) addresses
+  pub finished : (addresses : Reading) → listing-now tape area′ tokens′ lines′ (r .size) addresses
       ≡ R.finished rules (listing-now tape area tokens lines at addresses)
-  pub counts : (addresses : List ℕ) → counts-of r ≡ R.counts rules (R.run rules (listing-now tape area tokens lines at addresses))
+  pub counts : (addresses : Reading) → counts-of r ≡ R.counts rules (R.run rules (listing-now tape area tokens lines at addresses))
+  pub marks : (addresses : Reading) → Carries (R.attempts-of (R.run rules (listing-now tape area tokens lines at addresses)))
+      (used-lines lines at) lows highs (used-lines lines′ (r .size)) lows′ highs′

@@ -39,14 +39,19 @@ fn turn<'a>(
     lines: &mut [u64],
     area2: &mut [u8],
     tokens2: &mut [u64],
+    lows: &mut [u64],
+    highs: &mut [u64],
     labels: &mut [u64],
     slots: &'a [u8],
     slot_words: &'a [u64],
     r: Round,
     rules: Rules,
 ) -> Round
-    requires { ⌜ Attemptable (now tape) (now area) (now tokens) (now lines) (now area2) (now tokens2) (now labels) (now slots) (now «slot_words») (r .next) (r .size) × Countable r ⌝ }
-    ensures { λ q. ⌜ Turned (rules-of rules) (now (tape .entry)) (now (area .entry)) (now (tokens .entry)) (now (lines .entry)) (now (labels .entry)) (now (slots .entry)) (now («slot_words» .entry)) r (now (area .exit)) (now (tokens .exit)) (now (lines .exit)) (now (labels .exit)) q ⌝ }
+    requires { ⌜ Attemptable (now tape) (now area) (now tokens) (now lines) (now area2) (now tokens2) (now lows) (now highs)
+        (now labels) (now slots) (now «slot_words») (r .next) (r .size) × Countable r ⌝ }
+    ensures { λ q. ⌜ Turned (rules-of rules) (now (tape .entry)) (now (area .entry)) (now (tokens .entry)) (now (lines .entry))
+        (now (lows .entry)) (now (highs .entry)) (now (labels .entry)) (now (slots .entry)) (now («slot_words» .entry)) r
+        (now (area .exit)) (now (tokens .exit)) (now (lines .exit)) (now (lows .exit)) (now (highs .exit)) (now (labels .exit)) q ⌝ }
 {
     let i = r.next;
     let before = r.size;
@@ -57,6 +62,8 @@ fn turn<'a>(
         lines,
         area2,
         tokens2,
+        lows,
+        highs,
         labels,
         slots,
         slot_words,
@@ -90,14 +97,21 @@ fn turns<'a>(
     lines: &mut [u64],
     area2: &mut [u8],
     tokens2: &mut [u64],
+    lows: &mut [u64],
+    highs: &mut [u64],
     labels: &mut [u64],
     slots: &'a [u8],
     slot_words: &'a [u64],
     size: Size,
     rules: Rules,
 ) -> Round
-    requires { ⌜ Roundable (now tape) (now area) (now tokens) (now lines) (now area2) (now tokens2) (now labels) (now slots) (now «slot_words») size ⌝ }
-    ensures { λ r. ⌜ Made (attempts-with (rules-of rules) (now (tape .entry)) (now (area .entry)) (now (tokens .entry)) (now (lines .entry)) size (now (labels .entry)) (now (slots .entry)) (now («slot_words» .entry))) (now (tape .entry)) (now (area .entry)) (now (tokens .entry)) (now (lines .entry)) size (now (area .exit)) (now (tokens .exit)) (now (lines .exit)) r ⌝ }
+    requires { ⌜ Roundable (now tape) (now area) (now tokens) (now lines) (now area2) (now tokens2) (now lows) (now highs)
+        (now labels) (now slots) (now «slot_words») size ⌝ }
+    ensures { λ r. ⌜ Made
+        (attempts-with (rules-of rules) (now (tape .entry)) (now (area .entry)) (now (tokens .entry)) (now (lines .entry)) size
+        (now (labels .entry)) (now (slots .entry)) (now («slot_words» .entry)))
+        (now (tape .entry)) (now (area .entry)) (now (tokens .entry)) (now (lines .entry)) (now (lows .entry)) (now (highs .entry)) size
+        (now (area .exit)) (now (tokens .exit)) (now (lines .exit)) (now (lows .exit)) (now (highs .exit)) r ⌝ }
 {
     let mut r = Round {
         next: 0,
@@ -113,6 +127,8 @@ fn turns<'a>(
             lines,
             area2,
             tokens2,
+            lows,
+            highs,
             labels,
             slots,
             slot_words,
@@ -131,14 +147,19 @@ pub fn propagate_once(
     lines: &mut [u64],
     area2: &mut [u8],
     tokens2: &mut [u64],
+    lows: &mut [u64],
+    highs: &mut [u64],
     labels: &mut [u64],
     slots: &mut [u8],
     slot_words: &mut [u64],
     size: Size,
     rules: Rules,
 ) -> Round
-    requires { ⌜ Runnable (now tape) (now area) (now tokens) (now lines) (now area2) (now tokens2) (now labels) (now slots) (now «slot_words») size ⌝ }
-    ensures { λ r. ⌜ Made (propagate-once (rules-of rules)) (now (tape .entry)) (now (area .entry)) (now (tokens .entry)) (now (lines .entry)) size (now (area .exit)) (now (tokens .exit)) (now (lines .exit)) r ⌝ }
+    requires { ⌜ Runnable (now tape) (now area) (now tokens) (now lines) (now area2) (now tokens2) (now lows) (now highs)
+        (now labels) (now slots) (now «slot_words») size ⌝ }
+    ensures { λ r. ⌜ Made (propagate-once (rules-of rules)) (now (tape .entry)) (now (area .entry)) (now (tokens .entry)) (now (lines .entry))
+        (now (lows .entry)) (now (highs .entry)) size
+        (now (area .exit)) (now (tokens .exit)) (now (lines .exit)) (now (lows .exit)) (now (highs .exit)) r ⌝ }
 {
     let n = size.lines;
     let used = size.tokens;
@@ -161,6 +182,8 @@ pub fn propagate_once(
         lines,
         area2,
         tokens2,
+        lows,
+        highs,
         &mut labels[..known],
         &slots[..bytes],
         &slot_words[..names],

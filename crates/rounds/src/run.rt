@@ -1,5 +1,6 @@
 // The whole run: `optimize` of the Rust. Rounds, ending after one that changed nothing: at most three, or as many as it takes where the run is to settle.
-// Then the cuts. Before the rounds each line is given its marks, which are no part of the listing.
+// Then the cuts. Before the rounds each line is given its marks (what it lacks), which are no part of the listing. The other marks, the lowest and the
+// highest address of each line and of all that was joined into it, are in `lows` and `highs`, by the number of the input line.
 use crate::cuts::drop_dead_results;
 use crate::rounds::Round;
 use crate::rounds::propagate_once;
@@ -117,6 +118,8 @@ fn make_rounds(
     lines: &mut [u64],
     area2: &mut [u8],
     tokens2: &mut [u64],
+    lows: &mut [u64],
+    highs: &mut [u64],
     labels: &mut [u64],
     slots: &mut [u8],
     slot_words: &mut [u64],
@@ -124,9 +127,10 @@ fn make_rounds(
     rules: Rules,
 ) -> Progress
     requires { ⌜ Runnable (now tape) (now area) (now tokens) (now lines) (now area2) (now tokens2)
-        (now labels) (now slots) (now «slot_words») size ⌝ }
-    ensures { λ s. ⌜ Rounded (rules-of rules) (now (tape .entry)) (now (area .entry)) (now (tokens .entry)) (now (lines .entry)) size
-        (now (area .exit)) (now (tokens .exit)) (now (lines .exit)) s ⌝ }
+        (now lows) (now highs) (now labels) (now slots) (now «slot_words») size ⌝ }
+    ensures { λ s. ⌜ Rounded (rules-of rules) (now (tape .entry)) (now (area .entry)) (now (tokens .entry)) (now (lines .entry))
+        (now (lows .entry)) (now (highs .entry)) size
+        (now (area .exit)) (now (tokens .exit)) (now (lines .exit)) (now (lows .exit)) (now (highs .exit)) s ⌝ }
 {
     let mut s = Progress {
         left: most_rounds(rules.settle, size.lines),
@@ -147,6 +151,8 @@ fn make_rounds(
             lines,
             area2,
             tokens2,
+            lows,
+            highs,
             labels,
             slots,
             slot_words,
@@ -177,6 +183,8 @@ pub fn optimize(
     lines: &mut [u64],
     area2: &mut [u8],
     tokens2: &mut [u64],
+    lows: &mut [u64],
+    highs: &mut [u64],
     labels: &mut [u64],
     slots: &mut [u8],
     slot_words: &mut [u64],
@@ -184,9 +192,10 @@ pub fn optimize(
     rules: Rules,
 ) -> Outcome
     requires { ⌜ Runnable (now tape) (now area) (now tokens) (now lines) (now area2) (now tokens2)
-        (now labels) (now slots) (now «slot_words») size ⌝ }
-    ensures { λ r. ⌜ Ran (rules-of rules) (now (tape .entry)) (now (area .entry)) (now (tokens .entry)) (now (lines .entry)) size
-        (now (area .exit)) (now (tokens .exit)) (now (lines .exit)) r ⌝ }
+        (now lows) (now highs) (now labels) (now slots) (now «slot_words») size ⌝ }
+    ensures { λ r. ⌜ Ran (rules-of rules) (now (tape .entry)) (now (area .entry)) (now (tokens .entry)) (now (lines .entry))
+        (now (lows .entry)) (now (highs .entry)) size
+        (now (area .exit)) (now (tokens .exit)) (now (lines .exit)) (now (lows .exit)) (now (highs .exit)) r ⌝ }
 {
     mark(tape, area, tokens, lines, size);
     let s = make_rounds(
@@ -196,6 +205,8 @@ pub fn optimize(
         lines,
         area2,
         tokens2,
+        lows,
+        highs,
         labels,
         slots,
         slot_words,

@@ -1,4 +1,5 @@
 // Prints a tape as text, a line for each line of the listing: the address in hexadecimal or blanks, two spaces an indent, the texts of the tokens.
+// In front stand the line's marks, as `0040106f..00401086`, where they say more than its address.
 //
 //     show          standard input is a bare tape, as the filter writes it
 //     show input    standard input is a convention byte and a tape, as the filter reads them
@@ -41,18 +42,20 @@ fn print_meaning(number: u64) {
             print(b"the convention is not 0, 1 or 2\n");
         }
         2 => {
-            print(b"a work area has fewer than 49,152 bytes, or the output fewer than 54,785\n");
+            print(b"a work area has fewer than 49,152 bytes, or the output fewer than 59,137\n");
         }
         3 => {
             print(
-                b"no command begins here: the tape has no more bytes, or the byte is none of 01, 02, 10 to 17, FF\n",
+                b"no command begins here: the tape has no more bytes, or the byte is none of 01, 02, 03, 10 to 17, FF\n",
             );
         }
         4 => {
             print(b"the command that begins here runs past the end of the tape\n");
         }
         5 => {
-            print(b"a token stands here before any line has begun\n");
+            print(
+                b"a token stands here before any line has begun, or marks that do not follow a line's command or have their lowest above their highest\n",
+            );
         }
         6 => {
             print(
@@ -107,18 +110,59 @@ fn end_line(at: usize) {
     }
 }
 
+// Prints marks, if they are not from `low` to `high`.
+fn print_span(command: Command, low: u64, high: u64) {
+    match command {
+        Command::Addressed {
+            address: _,
+            indent: _,
+        } => {}
+        Command::Plain { indent: _ } => {}
+        Command::Marked {
+            low: lowest,
+            high: highest,
+        } => {
+            if lowest == low {
+                if highest == high {
+                    return;
+                }
+            }
+            io::print_hex(STDOUT_FILENO, lowest, 8);
+            print(b"..");
+            io::print_hex(STDOUT_FILENO, highest, 8);
+            print(b" ");
+        }
+        Command::Token { kind: _, count: _ } => {}
+        Command::End => {}
+    }
+}
+
+// Prints the marks that stand at an offset, if any, unless they are from `low` to `high`.
+fn print_marks(tape: &[u8], at: usize, low: u64, high: u64) {
+    match command_from(tape, at) {
+        Found::Whole(command) => {
+            print_span(command, low, high);
+        }
+        Found::Unknown => {}
+        Found::CutOff => {}
+    }
+}
+
 fn print_command(tape: &[u8], at: usize, command: Command)
     requires { ⌜ at + size-of command ≤ length (now tape) ⌝ }
 {
     match command {
         Command::Addressed { address, indent } => {
             end_line(at);
+            print_marks(tape, at + 10, address, address);
             print_front(address, indent);
         }
         Command::Plain { indent } => {
             end_line(at);
+            print_marks(tape, at + 2, 1, 0);
             print_blank_front(indent);
         }
+        Command::Marked { low: _, high: _ } => {}
         Command::Token { kind: _, count } => {
             print(token_text(tape, at, count));
         }
@@ -141,29 +185,32 @@ fn print_at(tape: &[u8], at: usize) {
 
 // ---- the listing
 
-// Whether a line has begun before an offset; the totals are not asked.
-fn begun(at: usize) -> Totals
-    ensures { λ r. ⌜ (r .lines ≡ min at 1) × (r .tokens ≡ 0) × (r .text ≡ 0) ⌝ }
+// Whether a line has begun before an offset, and whether its command stands just before; the totals are not asked.
+fn begun(at: usize, fresh: bool) -> Totals
+    ensures { λ r. ⌜ (r .lines ≡ min at 1) × (r .tokens ≡ 0) × (r .text ≡ 0) × (r .fresh ≡ fresh) ⌝ }
 {
     if at == 0 {
         return Totals {
             lines: 0,
             tokens: 0,
             text: 0,
+            fresh,
         };
     }
     Totals {
         lines: 1,
         tokens: 0,
         text: 0,
+        fresh,
     }
 }
 
 // Prints the commands up to the end or the first that is wrong.
 fn print_listing(tape: &[u8]) {
     let mut at = 0;
+    let mut fresh = false;
     loop {
-        match step(tape, at, begun(at)) {
+        match step(tape, at, begun(at, fresh)) {
             Stepped::Refused(number) => {
                 end_line(at);
                 print_refusal(number, at);
@@ -172,13 +219,14 @@ fn print_listing(tape: &[u8]) {
             Stepped::Passed {
                 command,
                 next,
-                totals: _,
+                totals,
             } => {
                 print_at(tape, at);
                 if is_end(command) {
                     return;
                 }
                 at = next;
+                fresh = totals.fresh;
             }
         }
     }

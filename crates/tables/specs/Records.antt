@@ -1,21 +1,27 @@
 -- The records of lines: the line that one means, what a command makes of them, and what the tables of words have of them. Assumes nothing.
 use Prim.Native.Nat.{ℕ, _+_, _≤_, _<_}
 use mathlib.Core.Path.{_≡_}
-use mathlib.Core.Bool.{true, not}
+use mathlib.Core.Bool.{true, false, not}
 use mathlib.Core.List.{List, map}
 use mathlib.Core.Option.{Option, none, some}
+use Prim.Native.Nat.{min, max}
 use lib.Dec.{eqb}
 use lib.ListN.{length, take, drop, getD}
 use Rattle.reference.specs.Control.{if_then_else_}
 use Rattle.reference.specs.Text.{Text}
-use Rattle.reference.specs.Listing.{Line}
+use Rattle.reference.specs.Listing as L
+use Rattle.reference.specs.Listing.{Line, Listing}
+use Rattle.reference.specs.Spans.{Marks, span-of}
+use Rattle.reference.specs.Marks.{adds}
+use Rattle.reference.specs.Questions.{Passed, read, marks-in}
+use Rattle.joining.specs.Carried.{TOP, Pair, marks-of, Kept, pair-at}
 use Rattle.lines.specs.Words.{tokens-of, Holds}
 use Rattle.lines.specs.Lines.{first-of, count-of, indent-of, addressed-of, origin-of, line-word}
 use Rattle.tape.specs.Commands.{size-of, ends, found-in, standing, Stood}
 use Rattle.tape.specs.Questions.{totals-of, counted, Counts}
 use Rattle.tables.specs.Tables.{tokens-after, Loaded}
 use Rattle.tape.specs.declared.commands.Command.{Command}
-use Rattle.tape.specs.declared.commands.Command.the-variants.{Addressed, Plain, Token, End}
+use Rattle.tape.specs.declared.commands.Command.the-variants.{Addressed, Plain, Marked, Token, End}
 use Rattle.tape.specs.declared.commands.Found.the-variants.{Whole}
 use Rattle.tape.specs.declared.questions.Totals.{Totals}
 use Rattle.tables.specs.declared.records.LineRecord.{LineRecord}
@@ -23,12 +29,16 @@ use Rattle.tables.specs.declared.loading.Laying.{Laying}
 use Rattle.tables.specs.declared.loading.Laid.{Laid}
 
 abbrev pub blank : LineRecord
-blank = record { address = 0; addressed = 0; indent = 0; first = 0; count = 0 }
+blank = record { address = 0; addressed = 0; indent = 0; first = 0; count = 0; low = 0; high = 0 }
 
 -- ---- a record and the line that it means
 
 unfoldable pub address-of : LineRecord → Option ℕ
 address-of r = if eqb (r .addressed) 1 then some (r .address) else none
+
+-- the two numbers that its marks are
+abbrev pub pair-of : LineRecord → Pair
+pair-of r = (r .low, r .high)
 
 -- the token words of its line
 abbrev pub part-at : List ℕ → LineRecord → List ℕ
@@ -43,13 +53,21 @@ pub record Sound (tape area : Text) (tokens : List ℕ) (r : LineRecord) : Type 
   pub holds : Holds tape area (part-at tokens r)
   pub low : r .indent < 256
 
--- the record of a line word; `addresses` has the addresses by the number of the input line
-abbrev pub record-of : List ℕ → ℕ → LineRecord
-record-of addresses l =
-    record { address = getD addresses (origin-of l) 0; addressed = addressed-of l; indent = indent-of l; first = first-of l; count = count-of l }
+-- the record of a line word; `addresses`, `lows` and `highs` have the addresses and the marks by the number of the input line
+abbrev pub record-of : List ℕ → List ℕ → List ℕ → ℕ → LineRecord
+record-of addresses lows highs l =
+    record {
+      address = getD addresses (origin-of l) 0;
+      addressed = addressed-of l;
+      indent = indent-of l;
+      first = first-of l;
+      count = count-of l;
+      low = getD lows (origin-of l) 0;
+      high = getD highs (origin-of l) 0;
+    }
 
-abbrev pub records-of : List ℕ → List ℕ → List LineRecord
-records-of addresses lines = map (record-of addresses) lines
+abbrev pub records-of : List ℕ → List ℕ → List ℕ → List ℕ → List LineRecord
+records-of addresses lows highs lines = map (record-of addresses lows highs) lines
 
 -- ---- a record and the tables of words
 
@@ -75,40 +93,72 @@ pub record Holding (records : List LineRecord) (n : ℕ) (lines addresses : List
   pub long-addresses : 256 ≤ length addresses
   pub at : (k : ℕ) → k < n → Held (getD records k blank) k lines addresses
 
+-- and the k-th places of the two tables have its marks
+pub record Marking (records : List LineRecord) (n : ℕ) (lows highs : List ℕ) : Type 0 where
+  pub long-lows : 256 ≤ length lows
+  pub long-highs : 256 ≤ length highs
+  pub at : (k : ℕ) → k < n → pair-at lows highs k ≡ pair-of (getD records k blank)
+
 -- the first n numbers fit
 abbrev pub Fitting : List LineRecord → ℕ → Type 0
 Fitting records n = (k : ℕ) → k < n → Fits (getD records k blank)
+
+-- the first n records have the marks of the listing's lines, with the 03s that were read in
+pub record MarksRecorded (listing : Listing) (marks : List Marks) (records : List LineRecord) (n : ℕ) : Type 0 where
+  pub at : (k : ℕ) → k < n → marks-of (pair-of (getD records k blank)) ≡ span-of (adds (getD listing k L.blank) (getD marks k none))
+  pub kept : (k : ℕ) → k < n → Kept (pair-of (getD records k blank))
 
 -- The records are the listing of the tape: tables that hold them are what loading it leaves.
 pub record Recorded (tape tokens : List ℕ) (records : List LineRecord) (r : Totals) : Type 0 where
   pub loaded : (lines addresses : List ℕ) → Holding records (r .lines) lines addresses → Loaded tape tokens lines addresses r
   pub fitting : Fitting records (r .lines)
   pub few : r .lines ≤ 256
+  pub marks : (listing : Listing) → read tape ≡ Passed listing → MarksRecorded listing (marks-in tape) records (r .lines)
 
 -- ---- one command
 
 -- the record that the command at hand is about, `line` being the record of the last line
 abbrev pub line-after : Command → Totals → LineRecord → LineRecord
-line-after (Addressed address indent) t line = record { address = address; addressed = 1; indent = indent; first = t .tokens; count = 0 }
-line-after (Plain indent) t line = record { address = 0; addressed = 0; indent = indent; first = t .tokens; count = 0 }
+line-after (Addressed address indent) t line = record { address = address; addressed = 1; indent = indent; first = t .tokens; count = 0; low = address; high = address }
+line-after (Plain indent) t line = record { address = 0; addressed = 0; indent = indent; first = t .tokens; count = 0; low = TOP; high = 0 }
+line-after (Marked low high) t line =
+    record {
+      address = line .address;
+      addressed = line .addressed;
+      indent = line .indent;
+      first = line .first;
+      count = line .count;
+      low = min (line .low) low;
+      high = max (line .high) high;
+    }
 line-after (Token kind count) t line =
-    record { address = line .address; addressed = line .addressed; indent = line .indent; first = line .first; count = line .count + 1 }
+    record {
+      address = line .address;
+      addressed = line .addressed;
+      indent = line .indent;
+      first = line .first;
+      count = line .count + 1;
+      low = line .low;
+      high = line .high;
+    }
 line-after End t line = line
 
 -- its place, `last` being that of the last line
 abbrev pub place-after : Command → Totals → ℕ → ℕ
 place-after (Addressed address indent) t last = t .lines
 place-after (Plain indent) t last = t .lines
+place-after (Marked low high) t last = last
 place-after (Token kind count) t last = last
 place-after End t last = last
 
 abbrev pub start-of : Laying
-start-of = record { at = 0; line = 0; totals = record { lines = 0; tokens = 0; text = 0 }; going = true }
+start-of = record { at = 0; line = 0; totals = record { lines = 0; tokens = 0; text = 0; fresh = false }; going = true }
 
 -- a token's numbers fit its word, and there is room for it
 abbrev pub TakesToken : ℕ → Command → Totals → List ℕ → Type 0
 TakesToken at (Addressed address indent) t tokens = Unit {0}
 TakesToken at (Plain indent) t tokens = Unit {0}
+TakesToken at (Marked low high) t tokens = Unit {0}
 TakesToken at (Token kind count) t tokens = (kind < 8) × (at + 3 + count < 65536) × (t .tokens < length tokens)
 TakesToken at End t tokens = Unit {0}
 
@@ -116,6 +166,7 @@ TakesToken at End t tokens = Unit {0}
 abbrev pub Grows : Command → LineRecord → Type 0
 Grows (Addressed address indent) line = Unit {0}
 Grows (Plain indent) line = Unit {0}
+Grows (Marked low high) line = Unit {0}
 Grows (Token kind count) line = line .count < 2047
 Grows End line = Unit {0}
 
@@ -141,3 +192,4 @@ pub record Lays (tape : List ℕ) (s : Laying) (line : LineRecord) (tokens token
   pub place-is : r .next .line ≡ place-after command (s .totals) (s .line)
   pub totals-are : totals-of (r .next .totals) ≡ counted command (totals-of (s .totals))
   pub going-is : r .next .going ≡ not (ends command)
+  pub bytes : (k : ℕ) → getD tape k 0 < 256

@@ -4,13 +4,23 @@ use mathlib.Core.Path.{_≡_}
 use mathlib.Core.List.{List}
 use lib.ListN.{length, take, getD, set}
 use Rattle.reference.specs.Text.{Text}
-use Rattle.reference.specs.Questions.{Passed, let-passed_then_, read}
+use Rattle.reference.specs.Listing.{Listing}
+use Rattle.reference.specs.Spans.{Marks}
+use Rattle.reference.specs.Marks.{own-marks}
+use Rattle.reference.specs.Questions.{Passed, let-passed_then_, read, marks-in}
+use Rattle.joining.specs.Carried.{pair-at, marks-by, Kept}
 use Rattle.lines.specs.Words.{word}
-use Rattle.lines.specs.Lines.{first-of, count-of, line-word, with-part, listing-of, Listed}
-use Rattle.tape.specs.Questions.{totals-of, totals-in}
+use Rattle.lines.specs.Lines.{first-of, count-of, origin-of, line-word, with-part, listing-of, Listed}
+use Rattle.tape.specs.Questions.{sizes-of, sizes-in}
 use Rattle.tape.specs.declared.commands.Command.{Command}
-use Rattle.tape.specs.declared.commands.Command.the-variants.{Addressed, Plain, Token, End}
+use Rattle.tape.specs.declared.commands.Command.the-variants.{Addressed, Plain, Marked, Token, End}
 use Rattle.tape.specs.declared.questions.Totals.{Totals}
+
+-- ---- marks by the number of the input line
+
+-- the marks of the lines that line words mean
+abbrev pub marks-for : List ℕ → List ℕ → List ℕ → List Marks
+marks-for = marks-by origin-of
 
 -- ---- one command
 
@@ -31,18 +41,21 @@ lengthened lines t = set lines (t .lines - 1) (longer (getD lines (t .lines - 1)
 abbrev pub tokens-after : ℕ → Command → Totals → List ℕ → List ℕ
 tokens-after at (Addressed address indent) t tokens = tokens
 tokens-after at (Plain indent) t tokens = tokens
+tokens-after at (Marked low high) t tokens = tokens
 tokens-after at (Token kind count) t tokens = set tokens (t .tokens) (word kind 0 (at + 3) count)
 tokens-after at End t tokens = tokens
 
 abbrev pub lines-after : Command → Totals → List ℕ → List ℕ
 lines-after (Addressed address indent) t lines = set lines (t .lines) (begun indent 1 t)
 lines-after (Plain indent) t lines = set lines (t .lines) (begun indent 0 t)
+lines-after (Marked low high) t lines = lines
 lines-after (Token kind count) t lines = lengthened lines t
 lines-after End t lines = lines
 
 abbrev pub addresses-after : Command → Totals → List ℕ → List ℕ
 addresses-after (Addressed address indent) t addresses = set addresses (t .lines) address
 addresses-after (Plain indent) t addresses = addresses
+addresses-after (Marked low high) t addresses = addresses
 addresses-after (Token kind count) t addresses = addresses
 addresses-after End t addresses = addresses
 
@@ -50,6 +63,7 @@ addresses-after End t addresses = addresses
 abbrev pub Adds : ℕ → Command → Totals → List ℕ → Type 0
 Adds at (Addressed address indent) t lines = (indent < 64) × (t .lines < 256)
 Adds at (Plain indent) t lines = (indent < 64) × (t .lines < 256)
+Adds at (Marked low high) t lines = (0 < t .lines) × (low ≤ high)
 Adds at (Token kind count) t lines =
     (kind < 8) × (at + 3 + count < 65536) × (t .tokens < 1024) × (0 < t .lines) × (count-of (getD lines (t .lines - 1) 0) < 2047)
 Adds at End t lines = Unit {0}
@@ -74,4 +88,12 @@ pub record Added (at : ℕ) (c : Command) (t : Totals) (tokens lines addresses t
 pub record Loaded (tape tokens lines addresses : List ℕ) (r : Totals) : Type 0 where
   pub listing : (area : Text) → read tape ≡ Passed (listing-of tape area (take (r .tokens) tokens) addresses (take (r .lines) lines))
   pub listed : (area : Text) → Listed tape area (take (r .tokens) tokens) (take (r .lines) lines)
-  pub totals : (let-passed (read tape) then λ l. Passed (totals-in l)) ≡ Passed (totals-of r)
+  pub totals : (let-passed (read tape) then λ l. Passed (sizes-in l)) ≡ Passed (sizes-of r)
+
+-- The two tables have the marks of the lines, each line's by its number: its address and its 03, if it has them; kept so that they join by
+-- minimum and maximum.
+pub record LoadedMarks (tape lines lows highs : List ℕ) (r : Totals) : Type 0 where
+  pub origins : (k : ℕ) → k < r .lines → origin-of (getD lines k 0) ≡ k
+  pub kept : (k : ℕ) → k < r .lines → Kept (pair-at lows highs k)
+  pub means : (listing : Listing) → read tape ≡ Passed listing
+      → marks-for lows highs (take (r .lines) lines) ≡ own-marks listing (marks-in tape)

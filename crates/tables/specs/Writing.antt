@@ -4,9 +4,12 @@ use mathlib.Core.Path.{_≡_}
 use mathlib.Core.List.{List, _++_, map, flatMap}
 use lib.ListN.{length, take, drop, getD}
 use Rattle.reference.specs.Text.{Text}
-use Rattle.reference.specs.Listing.{Token, Listing}
+use Rattle.reference.specs.Listing.{Token, Line}
+use Rattle.reference.specs.Spans.{Marks}
 use Rattle.reference.specs.Tape.{new-line, new-token, write-command, write-line}
-use Rattle.tables.specs.Records.{blank, address-of, line-of, Sound}
+use Rattle.joining.specs.Carried.{marks-of, pair-at}
+use Rattle.lines.specs.Lines.{origin-of, line-in}
+use Rattle.tables.specs.Records.{blank, address-of, pair-of, line-of, Sound}
 use Rattle.tables.specs.declared.records.LineRecord.{LineRecord}
 
 abbrev pub token-bytes : Token → List ℕ
@@ -19,12 +22,29 @@ line-bytes r = write-command (new-line (address-of r) (r .indent))
 abbrev pub tokens-bytes : List Token → List ℕ
 tokens-bytes ts = flatMap token-bytes ts
 
-abbrev pub lines-bytes : Listing → List ℕ
-lines-bytes ls = flatMap write-line ls
+-- a line and its marks
+abbrev pub MarkedLine : Type 0
+MarkedLine = Line × Marks
+
+abbrev pub whole-line : MarkedLine → List ℕ
+whole-line p = write-line (p .0) (p .1)
+
+abbrev pub lines-bytes : List MarkedLine → List ℕ
+lines-bytes ls = flatMap whole-line ls
+
+abbrev pub marked-of : Text → Text → List ℕ → LineRecord → MarkedLine
+marked-of tape area tokens r = (line-of tape area tokens r, marks-of (pair-of r))
 
 -- the lines of the first n records
-abbrev pub recorded : Text → Text → List ℕ → List LineRecord → ℕ → Listing
-recorded tape area tokens records n = map (line-of tape area tokens) (take n records)
+abbrev pub recorded : Text → Text → List ℕ → List LineRecord → ℕ → List MarkedLine
+recorded tape area tokens records n = map (marked-of tape area tokens) (take n records)
+
+abbrev pub marked-in : Text → Text → List ℕ → List ℕ → List ℕ → List ℕ → ℕ → MarkedLine
+marked-in tape area tokens addresses lows highs l = (line-in tape area tokens addresses l, marks-of (pair-at lows highs (origin-of l)))
+
+-- the lines of a page of line words
+abbrev pub paged : Text → Text → List ℕ → List ℕ → List ℕ → List ℕ → List ℕ → List MarkedLine
+paged tape area tokens addresses lows highs lines = map (marked-in tape area tokens addresses lows highs) lines
 
 -- they can be written from `at` on
 pub record Writes (tape area : Text) (tokens : List ℕ) (records : List LineRecord) (n : ℕ) (out : List ℕ) (at : ℕ) : Type 0 where

@@ -1,9 +1,12 @@
-// The listing of an accepted tape, in tables: a word for each token and each line, and the addresses by the number of the line. All texts are
-// parts of the tape. The lines are laid as records first; the line words are made of them.
+// The listing of an accepted tape, in tables: a word for each token and each line, and by the number of the line its address and its marks.
+// All texts are parts of the tape. The lines are laid as records first; the line words are made of them.
 use crate::records::LineRecord;
+use crate::records::TOP;
 use crate::records::line_at;
 use crate::records::store_line;
 use lines::codes::coded;
+use lines::spans::higher;
+use lines::spans::lower;
 use lines::words::IN_TAPE;
 use lines::words::line_word;
 use lines::words::token_word;
@@ -18,8 +21,8 @@ ghost use Prim.Native.Nat.{_≤_};
 ghost use lib.ListN.{length};
 ghost use Rattle.lines.specs.Words.{Recodes};
 ghost use Rattle.tape.specs.Questions.{Accepted};
-ghost use Rattle.tables.specs.Records.{Fitting, Holding, Recorded, line-after, place-after, start-of, TakesToken, Grows, Ready, Lays};
-ghost use Rattle.tables.specs.Tables.{tokens-after, Loaded};
+ghost use Rattle.tables.specs.Records.{Fitting, Holding, Marking, Recorded, line-after, place-after, start-of, TakesToken, Grows, Ready, Lays};
+ghost use Rattle.tables.specs.Tables.{tokens-after, Loaded, LoadedMarks};
 
 // Where the laying of the lines stands: the offset in the tape, the place of the last line's record, what was read so far, and whether FF is
 // still to come.
@@ -48,12 +51,13 @@ fn start() -> Laying
             lines: 0,
             tokens: 0,
             text: 0,
+            fresh: false,
         },
         going: true,
     }
 }
 
-// The record of the line that a command begins, or of the last line with one token more.
+// The record of the line that a command begins, or of the last line with one token more, or with the marks of its 03 joined to its own.
 fn record_after(command: Command, totals: Totals, line: LineRecord) -> LineRecord
     requires { ⌜ Grows command line ⌝ }
     ensures { λ r. ⌜ r ≡ line-after command totals line ⌝ }
@@ -65,6 +69,8 @@ fn record_after(command: Command, totals: Totals, line: LineRecord) -> LineRecor
             indent,
             first: totals.tokens,
             count: 0,
+            low: address,
+            high: address,
         },
         Command::Plain { indent } => LineRecord {
             address: 0,
@@ -72,6 +78,17 @@ fn record_after(command: Command, totals: Totals, line: LineRecord) -> LineRecor
             indent,
             first: totals.tokens,
             count: 0,
+            low: TOP,
+            high: 0,
+        },
+        Command::Marked { low, high } => LineRecord {
+            address: line.address,
+            addressed: line.addressed,
+            indent: line.indent,
+            first: line.first,
+            count: line.count,
+            low: lower(line.low, low),
+            high: higher(line.high, high),
         },
         Command::Token { kind: _, count: _ } => LineRecord {
             address: line.address,
@@ -79,6 +96,8 @@ fn record_after(command: Command, totals: Totals, line: LineRecord) -> LineRecor
             indent: line.indent,
             first: line.first,
             count: line.count + 1,
+            low: line.low,
+            high: line.high,
         },
         Command::End => line,
     }
@@ -94,6 +113,7 @@ fn place_after(command: Command, totals: Totals, last: usize) -> usize
             indent: _,
         } => totals.lines,
         Command::Plain { indent: _ } => totals.lines,
+        Command::Marked { low: _, high: _ } => last,
         Command::Token { kind: _, count: _ } => last,
         Command::End => last,
     }
@@ -110,6 +130,7 @@ fn add_token(at: usize, command: Command, tokens: &mut [u64], totals: Totals)
             indent: _,
         } => {}
         Command::Plain { indent: _ } => {}
+        Command::Marked { low: _, high: _ } => {}
         Command::Token { kind, count } => {
             let n = totals.tokens;
             tokens[n] = token_word(kind, IN_TAPE, at + 3, count);
@@ -158,26 +179,46 @@ pub fn fill(tape: &[u8], tokens: &mut [u64], lines: &mut [LineRecord]) -> Totals
     s.totals
 }
 
-// Writes the words and the addresses of the first n records into the tables.
-fn spread(records: [LineRecord; 256], n: usize, lines: &mut [u64], addresses: &mut [u64])
-    requires { ⌜ (n ≤ 256) × Fitting records n × (256 ≤ length (now lines)) × (256 ≤ length (now addresses)) ⌝ }
-    ensures { λ _. ⌜ Holding records n (now (lines .exit)) (now (addresses .exit)) ⌝ }
+// Writes the words, the addresses and the marks of the first n records into the tables.
+fn spread(
+    records: [LineRecord; 256],
+    n: usize,
+    lines: &mut [u64],
+    addresses: &mut [u64],
+    lows: &mut [u64],
+    highs: &mut [u64],
+)
+    requires { ⌜ (n ≤ 256) × Fitting records n × (256 ≤ length (now lines)) × (256 ≤ length (now addresses))
+        × (256 ≤ length (now lows)) × (256 ≤ length (now highs)) ⌝ }
+    ensures { λ _. ⌜ Holding records n (now (lines .exit)) (now (addresses .exit))
+        × Marking records n (now (lows .exit)) (now (highs .exit)) ⌝ }
 {
     let mut k = 0;
     while k < n {
         let r = records[k];
         lines[k] = line_word(r.first, r.count, r.indent, r.addressed, k);
         addresses[k] = r.address;
+        lows[k] = r.low;
+        highs[k] = r.high;
         k += 1;
     }
 }
 
 // Fills the tables with the listing of a tape that passed the questions, and says how many lines, tokens and bytes of text it has. The lines go
 // through an array of records of the call's own. Proved by hand.
-fn tabled(tape: &[u8], tokens: &mut [u64], lines: &mut [u64], addresses: &mut [u64]) -> Totals
+fn tabled(
+    tape: &[u8],
+    tokens: &mut [u64],
+    lines: &mut [u64],
+    addresses: &mut [u64],
+    lows: &mut [u64],
+    highs: &mut [u64],
+) -> Totals
     requires { ⌜ Accepted (now tape) ⌝ }
-    requires { ⌜ (1024 ≤ length (now tokens)) × (256 ≤ length (now lines)) × (256 ≤ length (now addresses)) ⌝ }
-    ensures { λ r. ⌜ Loaded (now (tape .entry)) (now (tokens .exit)) (now (lines .exit)) (now (addresses .exit)) r ⌝ }
+    requires { ⌜ (1024 ≤ length (now tokens)) × (256 ≤ length (now lines)) × (256 ≤ length (now addresses))
+        × (256 ≤ length (now lows)) × (256 ≤ length (now highs)) ⌝ }
+    ensures { λ r. ⌜ Loaded (now (tape .entry)) (now (tokens .exit)) (now (lines .exit)) (now (addresses .exit)) r
+        × LoadedMarks (now (tape .entry)) (now (lines .exit)) (now (lows .exit)) (now (highs .exit)) r ⌝ }
 {
     let blank = LineRecord {
         address: 0,
@@ -185,10 +226,12 @@ fn tabled(tape: &[u8], tokens: &mut [u64], lines: &mut [u64], addresses: &mut [u
         indent: 0,
         first: 0,
         count: 0,
+        low: 0,
+        high: 0,
     };
     let mut records = [blank; 256];
     let totals = fill(tape, tokens, &mut records);
-    spread(records, totals.lines, lines, addresses);
+    spread(records, totals.lines, lines, addresses, lows, highs);
     totals
 }
 
@@ -205,12 +248,21 @@ fn code_first(tape: &[u8], tokens: &mut [u64], n: usize)
 }
 
 // Fills the tables so, each Register with the code of its family.
-pub fn load(tape: &[u8], tokens: &mut [u64], lines: &mut [u64], addresses: &mut [u64]) -> Totals
+pub fn load(
+    tape: &[u8],
+    tokens: &mut [u64],
+    lines: &mut [u64],
+    addresses: &mut [u64],
+    lows: &mut [u64],
+    highs: &mut [u64],
+) -> Totals
     requires { ⌜ Accepted (now tape) ⌝ }
-    requires { ⌜ (1024 ≤ length (now tokens)) × (256 ≤ length (now lines)) × (256 ≤ length (now addresses)) ⌝ }
-    ensures { λ r. ⌜ Loaded (now (tape .entry)) (now (tokens .exit)) (now (lines .exit)) (now (addresses .exit)) r ⌝ }
+    requires { ⌜ (1024 ≤ length (now tokens)) × (256 ≤ length (now lines)) × (256 ≤ length (now addresses))
+        × (256 ≤ length (now lows)) × (256 ≤ length (now highs)) ⌝ }
+    ensures { λ r. ⌜ Loaded (now (tape .entry)) (now (tokens .exit)) (now (lines .exit)) (now (addresses .exit)) r
+        × LoadedMarks (now (tape .entry)) (now (lines .exit)) (now (lows .exit)) (now (highs .exit)) r ⌝ }
 {
-    let totals = tabled(tape, tokens, lines, addresses);
+    let totals = tabled(tape, tokens, lines, addresses, lows, highs);
     let n = totals.tokens;
     code_first(tape, tokens, n);
     totals

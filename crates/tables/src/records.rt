@@ -4,13 +4,20 @@ ghost use Prim.Native.Nat.{_<_};
 ghost use lib.ListN.{length, getD, set};
 ghost use Rattle.tables.specs.Records.{blank};
 
-// A line: its address, 1 if it has one and else 0, its indent, and its tokens, `count` of them from `first` on.
+// Where there are no marks, the highest number there is stands as the lowest address, and 0 as the highest: so marks join by minimum and
+// maximum.
+pub const TOP: u64 = 18446744073709551615;
+
+// A line: its address, 1 if it has one and else 0, its indent, its tokens, `count` of them from `first` on, and its marks, the lowest and
+// the highest address.
 pub struct LineRecord {
     pub address: u64,
     pub addressed: u64,
     pub indent: u64,
     pub first: usize,
     pub count: usize,
+    pub low: u64,
+    pub high: u64,
 }
 
 // The record at an index.

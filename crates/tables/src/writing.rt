@@ -1,5 +1,5 @@
-// The tape of a listing. Each function writes its bytes into `out` from `at` on and says where they end; what is before and behind them stays.
-// The lines go through records, a page of at most 256 at a time.
+// The tape of a listing and of its lines' marks. Each function writes its bytes into `out` from `at` on and says where they end; what is
+// before and behind them stays. The lines go through records, a page of at most 256 at a time.
 use crate::records::LineRecord;
 use crate::records::line_at;
 use crate::records::store_line;
@@ -20,10 +20,12 @@ ghost use lib.Seq.{paste};
 ghost use Rattle.reference.specs.Listing.{token};
 ghost use Rattle.reference.specs.Tape as Tape;
 ghost use Rattle.lines.specs.Words.{tokens-of, Holds};
+ghost use Rattle.joining.specs.Carried.{marks-of};
 ghost use Rattle.lines.specs.Lines.{listing-of, Listed};
 ghost use Rattle.tape.specs.Bytes.{Puts};
-ghost use Rattle.tables.specs.Records.{line-of, record-of, records-of, Sound};
-ghost use Rattle.tables.specs.Writing.{token-bytes, line-bytes, tokens-bytes, lines-bytes, recorded, Writes, Wrote};
+ghost use Rattle.tables.specs.Tables.{marks-for};
+ghost use Rattle.tables.specs.Records.{line-of, pair-of, record-of, records-of, Sound};
+ghost use Rattle.tables.specs.Writing.{token-bytes, line-bytes, tokens-bytes, lines-bytes, recorded, paged, Writes, Wrote};
 
 // ---- one line
 
@@ -57,6 +59,29 @@ fn put_line(line: LineRecord, out: &mut [u8], at: usize) -> usize
         return put_addressed(line.address, line.indent, out, at);
     }
     put_plain(line.indent, out, at)
+}
+
+// Writes the command of marks.
+fn put_marked(low: u64, high: u64, out: &mut [u8], at: usize) -> usize
+    requires { ⌜ at + 17 ≤ length (now out) ⌝ }
+    ensures { λ r. ⌜ Puts (now (out .entry)) at (Tape.write-command (Tape.marked (record { lowest = low; highest = high })))
+        (now (out .exit)) r ⌝ }
+{
+    out[at] = 3;
+    put_number(low, 8, out, at + 1);
+    put_number(high, 8, out, at + 9);
+    at + 17
+}
+
+// Writes a line's marks, if there are any.
+fn put_marks(low: u64, high: u64, out: &mut [u8], at: usize) -> usize
+    requires { ⌜ at + length (Tape.write-marks (marks-of (low, high))) ≤ length (now out) ⌝ }
+    ensures { λ r. ⌜ Puts (now (out .entry)) at (Tape.write-marks (marks-of (low, high))) (now (out .exit)) r ⌝ }
+{
+    if high < low {
+        return at;
+    }
+    put_marked(low, high, out, at)
 }
 
 // Writes a token's command.
@@ -95,10 +120,14 @@ fn put_whole_line<'a>(
     out: &mut [u8],
     at: usize,
 ) -> usize
-    requires { ⌜ Sound (now tape) (now area) (now tokens) line × (at + length (Tape.write-line (line-of (now tape) (now area) (now tokens) line)) ≤ length (now out)) ⌝ }
-    ensures { λ r. ⌜ Puts (now (out .entry)) at (Tape.write-line (line-of (now (tape .entry)) (now (area .entry)) (now (tokens .entry)) line)) (now (out .exit)) r ⌝ }
+    requires { ⌜ Sound (now tape) (now area) (now tokens) line
+        × (at + length (Tape.write-line (line-of (now tape) (now area) (now tokens) line) (marks-of (pair-of line))) ≤ length (now out)) ⌝ }
+    ensures { λ r. ⌜ Puts (now (out .entry)) at
+        (Tape.write-line (line-of (now (tape .entry)) (now (area .entry)) (now (tokens .entry)) line) (marks-of (pair-of line)))
+        (now (out .exit)) r ⌝ }
 {
-    let to = put_line(line, out, at);
+    let marks = put_line(line, out, at);
+    let to = put_marks(line.low, line.high, out, marks);
     let from = line.first;
     let end = from + line.count;
     put_tokens(tape, area, &tokens[from..end], out, to)
@@ -107,31 +136,50 @@ fn put_whole_line<'a>(
 // ---- a page: the records of its lines, and their bytes
 
 // The record of the line word at an index.
-fn record_of<'a>(lines: &'a [u64], addresses: &'a [u64], at: usize) -> LineRecord
-    requires { ⌜ (at < length (now lines)) × (256 ≤ length (now addresses)) ⌝ }
-    ensures { λ r. ⌜ r ≡ record-of (now (addresses .entry)) (getD (now (lines .entry)) at 0) ⌝ }
+fn record_of<'a>(
+    lines: &'a [u64],
+    addresses: &'a [u64],
+    lows: &'a [u64],
+    highs: &'a [u64],
+    at: usize,
+) -> LineRecord
+    requires { ⌜ (at < length (now lines)) × (256 ≤ length (now addresses)) × (256 ≤ length (now lows)) × (256 ≤ length (now highs)) ⌝ }
+    ensures { λ r. ⌜ r ≡ record-of (now (addresses .entry)) (now (lows .entry)) (now (highs .entry)) (getD (now (lines .entry)) at 0) ⌝ }
 {
     let l = lines[at];
     let k = origin(l);
     let address = addresses[k];
+    let low = lows[k];
+    let high = highs[k];
     LineRecord {
         address,
         addressed: addressed(l),
         indent: indent(l),
         first: first(l),
         count: count(l),
+        low,
+        high,
     }
 }
 
 // Stores the records of the line words, from the first place on. Proved by hand.
-fn gather<'a>(lines: &'a [u64], addresses: &'a [u64], records: &mut [LineRecord])
-    requires { ⌜ (length (now lines) ≤ length (now records)) × (256 ≤ length (now addresses)) ⌝ }
-    ensures { λ _. ⌜ now (records .exit) ≡ paste (now (records .entry)) 0 (records-of (now (addresses .entry)) (now (lines .entry))) (length (now (lines .entry))) ⌝ }
+fn gather<'a>(
+    lines: &'a [u64],
+    addresses: &'a [u64],
+    lows: &'a [u64],
+    highs: &'a [u64],
+    records: &mut [LineRecord],
+)
+    requires { ⌜ (length (now lines) ≤ length (now records)) × (256 ≤ length (now addresses)) × (256 ≤ length (now lows))
+        × (256 ≤ length (now highs)) ⌝ }
+    ensures { λ _. ⌜ now (records .exit) ≡ paste (now (records .entry)) 0
+        (records-of (now (addresses .entry)) (now (lows .entry)) (now (highs .entry)) (now (lines .entry)))
+        (length (now (lines .entry))) ⌝ }
 {
     let n = lines.len();
     let mut k = 0;
     while k < n {
-        let line = record_of(lines, addresses, k);
+        let line = record_of(lines, addresses, lows, highs, k);
         store_line(records, k, line);
         k += 1;
     }
@@ -148,7 +196,9 @@ fn put_records<'a>(
     at: usize,
 ) -> usize
     requires { ⌜ Writes (now tape) (now area) (now tokens) (now records) n (now out) at ⌝ }
-    ensures { λ r. ⌜ Puts (now (out .entry)) at (lines-bytes (recorded (now (tape .entry)) (now (area .entry)) (now (tokens .entry)) (now (records .entry)) n)) (now (out .exit)) r ⌝ }
+    ensures { λ r. ⌜ Puts (now (out .entry)) at
+        (lines-bytes (recorded (now (tape .entry)) (now (area .entry)) (now (tokens .entry)) (now (records .entry)) n))
+        (now (out .exit)) r ⌝ }
 {
     let mut to = at;
     let mut k = 0;
@@ -167,11 +217,19 @@ fn put_page<'a>(
     tokens: &'a [u64],
     lines: &'a [u64],
     addresses: &'a [u64],
+    lows: &'a [u64],
+    highs: &'a [u64],
     out: &mut [u8],
     at: usize,
 ) -> usize
-    requires { ⌜ Listed (now tape) (now area) (now tokens) (now lines) × (length (now lines) ≤ 256) × (256 ≤ length (now addresses)) × (at + length (lines-bytes (listing-of (now tape) (now area) (now tokens) (now addresses) (now lines))) ≤ length (now out)) ⌝ }
-    ensures { λ r. ⌜ Puts (now (out .entry)) at (lines-bytes (listing-of (now (tape .entry)) (now (area .entry)) (now (tokens .entry)) (now (addresses .entry)) (now (lines .entry)))) (now (out .exit)) r ⌝ }
+    requires { ⌜ Listed (now tape) (now area) (now tokens) (now lines) × (length (now lines) ≤ 256)
+        × (256 ≤ length (now addresses)) × (256 ≤ length (now lows)) × (256 ≤ length (now highs))
+        × (at + length (lines-bytes (paged (now tape) (now area) (now tokens) (now addresses) (now lows) (now highs) (now lines)))
+        ≤ length (now out)) ⌝ }
+    ensures { λ r. ⌜ Puts (now (out .entry)) at
+        (lines-bytes (paged (now (tape .entry)) (now (area .entry)) (now (tokens .entry)) (now (addresses .entry)) (now (lows .entry))
+        (now (highs .entry)) (now (lines .entry))))
+        (now (out .exit)) r ⌝ }
 {
     let blank = LineRecord {
         address: 0,
@@ -179,9 +237,11 @@ fn put_page<'a>(
         indent: 0,
         first: 0,
         count: 0,
+        low: 0,
+        high: 0,
     };
     let mut records = [blank; 256];
-    gather(lines, addresses, &mut records);
+    gather(lines, addresses, lows, highs, &mut records);
     put_records(tape, area, tokens, &records, lines.len(), out, at)
 }
 
@@ -204,18 +264,34 @@ pub fn write<'a>(
     tokens: &'a [u64],
     lines: &'a [u64],
     addresses: &'a [u64],
+    lows: &'a [u64],
+    highs: &'a [u64],
     out: &mut [u8],
 ) -> usize
     requires { ⌜ Listed (now tape) (now area) (now tokens) (now lines) ⌝ }
-    requires { ⌜ 256 ≤ length (now addresses) ⌝ }
-    requires { ⌜ length (Tape.write (listing-of (now tape) (now area) (now tokens) (now addresses) (now lines))) ≤ length (now out) ⌝ }
-    ensures { λ r. ⌜ Wrote (Tape.write (listing-of (now (tape .entry)) (now (area .entry)) (now (tokens .entry)) (now (addresses .entry)) (now (lines .entry)))) (now (out .entry)) (now (out .exit)) r ⌝ }
+    requires { ⌜ (256 ≤ length (now addresses)) × (256 ≤ length (now lows)) × (256 ≤ length (now highs)) ⌝ }
+    requires { ⌜ length (Tape.write (listing-of (now tape) (now area) (now tokens) (now addresses) (now lines))
+        (marks-for (now lows) (now highs) (now lines))) ≤ length (now out) ⌝ }
+    ensures { λ r. ⌜ Wrote (Tape.write
+        (listing-of (now (tape .entry)) (now (area .entry)) (now (tokens .entry)) (now (addresses .entry)) (now (lines .entry)))
+        (marks-for (now (lows .entry)) (now (highs .entry)) (now (lines .entry))))
+        (now (out .entry)) (now (out .exit)) r ⌝ }
 {
     let mut at = 0;
     let mut k = 0;
     while k < lines.len() {
         let end = k + page(lines.len() - k);
-        at = put_page(tape, area, tokens, &lines[k..end], addresses, out, at);
+        at = put_page(
+            tape,
+            area,
+            tokens,
+            &lines[k..end],
+            addresses,
+            lows,
+            highs,
+            out,
+            at,
+        );
         k = end;
     }
     out[at] = 255;

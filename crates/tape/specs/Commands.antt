@@ -9,7 +9,7 @@ use Rattle.reference.specs.Listing.{token}
 use Rattle.reference.specs.Tape as Tape
 use Rattle.reference.specs.Questions.{is-command, ends-inside, Answer, Refused, Passed, ask}
 use Rattle.tape.specs.declared.commands.Command.{Command}
-use Rattle.tape.specs.declared.commands.Command.the-variants.{Addressed, Plain, Token, End}
+use Rattle.tape.specs.declared.commands.Command.the-variants.{Addressed, Plain, Marked, Token, End}
 use Rattle.tape.specs.declared.commands.Found.{Found}
 use Rattle.tape.specs.declared.commands.Found.the-variants.{Whole, Unknown, CutOff}
 
@@ -17,18 +17,21 @@ use Rattle.tape.specs.declared.commands.Found.the-variants.{Whole, Unkno
 abbrev pub command-in : List ℕ → ℕ → Command → Tape.Command
 command-in tape at (Addressed address indent) = Tape.new-line (some address) indent
 command-in tape at (Plain indent) = Tape.new-line none indent
+command-in tape at (Marked low high) = Tape.marked (record { lowest = low; highest = high })
 command-in tape at (Token kind count) = Tape.new-token (token kind (take count (drop (at + 3) tape)))
 command-in tape at End = Tape.end
 
 abbrev pub size-of : Command → ℕ
 size-of (Addressed address indent) = 10
 size-of (Plain indent) = 2
+size-of (Marked low high) = 17
 size-of (Token kind count) = 3 + count
 size-of End = 1
 
 abbrev pub ends : Command → Bool
 ends (Addressed address indent) = false
 ends (Plain indent) = false
+ends (Marked low high) = false
 ends (Token kind count) = false
 ends End = true
 

@@ -6,10 +6,12 @@ ghost use Prim.Native.Nat.{_+_, _^_, _≤_, _<_};
 ghost use lib.ListN.{length, take, drop, getD};
 ghost use Rattle.tape.specs.Commands.{size-of, found-in, standing};
 
-// A command: a line, with an address or without; a token of a kind, whose text has `count` bytes and stands three bytes after the offset; the end.
+// A command: a line, with an address or without; the marks of the line begun just before; a token of a kind, whose text has `count` bytes
+// and stands three bytes after the offset; the end.
 pub enum Command {
     Addressed { address: u64, indent: u64 },
     Plain { indent: u64 },
+    Marked { low: u64, high: u64 },
     Token { kind: u64, count: usize },
     End,
 }
@@ -49,6 +51,7 @@ pub fn size_of(command: Command) -> usize
             indent: _,
         } => 10,
         Command::Plain { indent: _ } => 2,
+        Command::Marked { low: _, high: _ } => 17,
         Command::Token { kind: _, count } => 3 + count,
         Command::End => 1,
     }
@@ -77,6 +80,19 @@ fn plain_from(tape: &[u8], at: usize) -> Found
     }
     let indent = wide(tape[at + 1]);
     Found::Whole(Command::Plain { indent })
+}
+
+// The marks that begin at `at`.
+fn marked_from(tape: &[u8], at: usize) -> Found
+    requires { ⌜ (at < length (now tape)) × (getD (now tape) at 0 ≡ 0x03) ⌝ }
+    ensures { λ r. ⌜ found-in (now (tape .entry)) at r ≡ standing (now (tape .entry)) at ⌝ }
+{
+    if tape.len() - at < 17 {
+        return Found::CutOff; // 4, not 5
+    }
+    let low = number_at(tape, at + 1, 8);
+    let high = number_at(tape, at + 9, 8);
+    Found::Whole(Command::Marked { low, high })
 }
 
 // The token that begins at `at`.
@@ -109,6 +125,9 @@ pub fn found_at(tape: &[u8], at: usize) -> Found
     }
     if b == 2 {
         return plain_from(tape, at);
+    }
+    if b == 3 {
+        return marked_from(tape, at);
     }
     if b == 255 {
         return Found::Whole(Command::End);

@@ -11,18 +11,19 @@ ghost use mathlib.Core.List.{[], _∷_};
 ghost use Prim.Native.Nat.{_+_, _≤_};
 ghost use lib.ListN.{length, drop};
 ghost use Rattle.reference.specs.Listing.{token};
-ghost use Rattle.reference.specs.Tape.{new-line, new-token};
+ghost use Rattle.reference.specs.Tape.{new-line, marked, new-token};
 ghost use mathlib.Core.Option.{none};
-ghost use Rattle.reference.specs.Questions.{is-convention, has-room, is-within, is-printable, read-command, let-passed_then_, Passed, read};
+ghost use Rattle.reference.specs.Questions.{is-convention, has-room, has-line, is-within, is-printable, read-command, let-passed_then_, Passed, read};
 ghost use Rattle.lines.specs.Rules.{rules-of};
 ghost use Rattle.tape.specs.Commands.{size-of, command-in, ends};
-ghost use Rattle.tape.specs.Questions.{first-no, questions, totals-of, totals-in, Counts, counted, stepped, checked};
+ghost use Rattle.tape.specs.Questions.{first-no, questions, totals-of, sizes-in, Counts, counted, stepped, checked};
 
-// What was read so far.
+// What was read so far, and whether the command just before is a line's.
 pub struct Totals {
     pub lines: usize,
     pub tokens: usize,
     pub text: usize,
+    pub fresh: bool,
 }
 
 // A command that passed the questions 3 to 8, the offset after it and the totals with it; or the number of the question that refuses it.
@@ -53,6 +54,16 @@ fn line_fits(indent: u64, totals: Totals) -> bool
         return false;
     }
     true
+}
+
+// Whether marks may stand here: directly after a line's command, the lowest not above the highest.
+fn marks_follow(low: u64, high: u64, totals: Totals) -> bool
+    ensures { λ r. ⌜ r ≡ has-line (totals-of totals) (marked (record { lowest = low; highest = high })) ⌝ }
+{
+    if !totals.fresh {
+        return false;
+    }
+    low <= high
 }
 
 fn token_fits(kind: u64, text: &[u8], totals: Totals) -> bool
@@ -119,6 +130,13 @@ fn refusal(tape: &[u8], at: usize, command: Command, totals: Totals) -> u64
             if line_fits(indent, totals) { 0 } else { 6 }
         }
         Command::Plain { indent } => { if line_fits(indent, totals) { 0 } else { 6 } }
+        Command::Marked { low, high } => {
+            if marks_follow(low, high, totals) {
+                0
+            } else {
+                5
+            }
+        }
         Command::Token { kind, count } => token_refusal(kind, token_text(tape, at, count), totals),
         Command::End => { if tape.len() - at == 1 { 0 } else { 8 } }
     }
@@ -137,16 +155,25 @@ pub fn count_in(command: Command, totals: Totals) -> Totals
             lines: totals.lines + 1,
             tokens: totals.tokens,
             text: totals.text,
+            fresh: true,
         },
         Command::Plain { indent: _ } => Totals {
             lines: totals.lines + 1,
             tokens: totals.tokens,
             text: totals.text,
+            fresh: true,
+        },
+        Command::Marked { low: _, high: _ } => Totals {
+            lines: totals.lines,
+            tokens: totals.tokens,
+            text: totals.text,
+            fresh: false, // 03 once
         },
         Command::Token { kind: _, count } => Totals {
             lines: totals.lines,
             tokens: totals.tokens + 1,
             text: totals.text + count,
+            fresh: false, // and not behind a token
         },
         Command::End => totals,
     }
@@ -184,6 +211,7 @@ pub fn is_end(command: Command) -> bool
             indent: _,
         } => false,
         Command::Plain { indent: _ } => false,
+        Command::Marked { low: _, high: _ } => false,
         Command::Token { kind: _, count: _ } => false,
         Command::End => true,
     }
@@ -191,13 +219,14 @@ pub fn is_end(command: Command) -> bool
 
 // Asks the questions 3 to 8 of every command.
 pub fn check(tape: &[u8]) -> Checked
-    ensures { λ r. ⌜ checked r ≡ (let-passed (read (now (tape .entry))) then λ lines. Passed (totals-in lines)) ⌝ }
+    ensures { λ r. ⌜ checked r ≡ (let-passed (read (now (tape .entry))) then λ lines. Passed (sizes-in lines)) ⌝ }
 {
     let mut at = 0;
     let mut totals = Totals {
         lines: 0,
         tokens: 0,
         text: 0,
+        fresh: false,
     };
     loop {
         match step(tape, at, totals) {
@@ -234,7 +263,7 @@ pub fn asked(rules: Rules, work_a: usize, work_b: usize, output: usize) -> u64
     if work_b < 49152 {
         return 2;
     }
-    if output < 54785 {
+    if output < 59137 {
         return 2;
     }
     0

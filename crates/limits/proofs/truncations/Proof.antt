@@ -6,10 +6,10 @@ use Rattle.limits.proofs.truncations.Statement.{statement}
 use Rattle.limits.proofs.truncations.Tie as tie
 
 abbrev Inv-loop : tie.InvT-loop
-Inv-loop tape n₀ n = Unit {0}
+Inv-loop what tape n₀ n = Unit {0}
 
 abbrev μ-loop : tie.MeasureT-loop
-μ-loop tape n₀ n = length tape + 1 - n
+μ-loop what tape n₀ n = length tape + 1 - n
 
 loop-holds : tie.Need-loop-holds Inv-loop μ-loop
 loop-holds c = tt

@@ -16,7 +16,7 @@ use Rattle.reference.specs.Listing.{Token, _at_, with-tokens}
 use Rattle.laws.proofs.Parts.{part-below}
 use Rattle.lines.specs.Words.{tokens-of, Holds}
 use Rattle.lines.specs.Marks.{bit, Tells}
-use Rattle.lines.specs.Lines.{first-of, count-of, indent-of, addressed-of, origin-of, marks-of, with-marks, line-word, with-part, part-of, address-in, line-in, listing-of, bare, bare-in, bare-listing, Lined, Listed}
+use Rattle.lines.specs.Lines.{first-of, count-of, indent-of, addressed-of, origin-of, marks-of, with-marks, line-word, with-part, part-of, address-in, Reading, own, numbered, read-as, line-read, listing-read, line-in, listing-of, bare, bare-in, bare-listing, Lined, Listed}
 use Rattle.lines.proofs.words.Each.{each-none, each-one, each-take, each-drop, each-append, each-set, each-remove, map-at, map-same}
 use Rattle.lines.proofs.words.Tokens.{holds-take, holds-drop, holds-prefix, tokens-prefix}
 
@@ -99,6 +99,24 @@ module _ (l f c : ℕ) (hf : f < 65536) (hc : c < 2048) where
   with-means tape area tokens addresses =
       line-word-means f c (indent-of l) (addressed-of l) (origin-of l) hf hc (indent-below l) (addressed-below l) (origin-below l) tape area tokens addresses
 
+  with-indent : indent-of (with-part l f c) ≡ indent-of l
+  unfolding with-part
+  with-indent = word-indent f c (indent-of l) (addressed-of l) (origin-of l) hf hc (indent-below l)
+
+  with-address : (addresses : Reading) → read-as addresses (with-part l f c) ≡ read-as addresses l
+  unfolding with-part address-in
+  with-address (own addresses) = rw (word-addressed f c (indent-of l) (addressed-of l) (origin-of l) hf hc (indent-below l) (addressed-below l), word-origin f c (indent-of l) (addressed-of l) (origin-of l) hf hc (indent-below l) (addressed-below l) (origin-below l))
+  with-address numbered = rw (word-origin f c (indent-of l) (addressed-of l) (origin-of l) hf hc (indent-below l) (addressed-below l) (origin-below l))
+
+  pub with-read : (tape area : Text) (tokens : List ℕ) (addresses : Reading)
+      → line-read tape area tokens addresses (with-part l f c)
+      ≡ with-tokens (tokens-of tape area (take c (drop f tokens))) (line-read tape area tokens addresses l)
+  with-read tape area tokens addresses =
+      let a = with-address addresses in
+      let i : indent-of (with-part l f c) ≡ indent-of l = with-indent in
+      let t : tokens-of tape area (part-of tokens (with-part l f c)) ≡ tokens-of tape area (take c (drop f tokens)) = ap (tokens-of tape area) (with-part-of tokens) in
+      λ j. record { address = a j; indent = i j; tokens = t j }
+
 -- marks change nothing else
 module _ (l m : ℕ) where
   pub marked-first : first-of (with-marks l m) ≡ first-of l
@@ -121,6 +139,11 @@ module _ (l m : ℕ) where
   unfolding with-marks origin-of
   marked-origin = omega arith
 
+  pub marked-read : (addresses : Reading) → read-as addresses (with-marks l m) ≡ read-as addresses l
+  unfolding address-in
+  marked-read (own addresses) = rw (marked-addressed, marked-origin)
+  marked-read numbered = rw marked-origin
+
   pub marked-marks : marks-of (with-marks l m) ≡ m
   unfolding with-marks marks-of
   marked-marks = omega arith
@@ -138,14 +161,15 @@ no-marks ts z = rw z (record { lacks = λ i h e. not-set i e; callless = λ e. n
 pub lined-of : {tape area : Text} {tokens : List ℕ} (l : ℕ) → Holds tape area tokens → first-of l + count-of l ≤ length tokens → marks-of l ≡ 0 → Lined tape area tokens l
 lined-of {tape} {area} {tokens} l h i z = record { inside = i; holds = holds-take (holds-drop h (first-of l)) (count-of l); marks = no-marks (tokens-of tape area (part-of tokens l)) z }
 
-module _ (tape area : Text) (tokens addresses lines : List ℕ) where
-  pub listing-at : (k : ℕ) → k < length lines → listing-of tape area tokens addresses lines at k ≡ line-in tape area tokens addresses (getD lines k 0)
-  listing-at k h = map-at (line-in tape area tokens addresses) lines k _ h
+module _ (tape area : Text) (tokens : List ℕ) (addresses : Reading) (lines : List ℕ) where
+  pub listing-at : (k : ℕ) → k < length lines → listing-read tape area tokens addresses lines at k ≡ line-read tape area tokens addresses (getD lines k 0)
+  listing-at k h = map-at (line-read tape area tokens addresses) lines k _ h
 
   -- what only reads the listing says nothing of addresses
-  pub bare-means : bare-listing tape area tokens lines ≡ map bare (listing-of tape area tokens addresses lines)
-  bare-means = sym (map-map bare (line-in tape area tokens addresses) lines)
+  pub bare-means : bare-listing tape area tokens lines ≡ map bare (listing-read tape area tokens addresses lines)
+  bare-means = sym (map-map bare (line-read tape area tokens addresses) lines)
 
+module _ (tape area : Text) (tokens addresses lines : List ℕ) where
   pub bare-at : (k : ℕ) → k < length lines → bare-listing tape area tokens lines at k ≡ bare-in tape area tokens (getD lines k 0)
   bare-at k h = map-at (bare-in tape area tokens) lines k _ h
 
@@ -186,33 +210,37 @@ module _ {tape : Text} (m : ℕ) (area : Text) (n : ℕ) (tokens : List ℕ) {l 
   pub lined-prefix : Lined tape area tokens l
   lined-prefix = record { inside = omega (arith, h .inside, length-take n tokens); holds = rw part-prefix at (holds-prefix m area (h .holds)); marks = rw line-tokens at (h .marks) }
 
-  pub line-prefix : (addresses : List ℕ) → line-in tape (take m area) (take n tokens) addresses l ≡ line-in tape area tokens addresses l
+  pub line-prefix : (addresses : Reading) → line-read tape (take m area) (take n tokens) addresses l ≡ line-read tape area tokens addresses l
   line-prefix addresses = let e = line-tokens in cc
 
 module _ {tape : Text} (m : ℕ) (area : Text) (n : ℕ) (tokens : List ℕ) {lines : List ℕ} where
   pub listed-prefix : Listed tape (take m area) (take n tokens) lines → Listed tape area tokens lines
   listed-prefix h = record { at = λ k b. lined-prefix m area n tokens (h .at k b) }
 
+  pub read-prefix : (addresses : Reading) → Listed tape (take m area) (take n tokens) lines
+      → listing-read tape (take m area) (take n tokens) addresses lines ≡ listing-read tape area tokens addresses lines
+  read-prefix addresses h =
+      map-same (line-read tape (take m area) (take n tokens) addresses) (line-read tape area tokens addresses) lines
+      (λ k b. line-prefix m area n tokens (h .at k b) addresses)
+
   pub listing-prefix : (addresses : List ℕ) → Listed tape (take m area) (take n tokens) lines
       → listing-of tape (take m area) (take n tokens) addresses lines ≡ listing-of tape area tokens addresses lines
-  listing-prefix addresses h =
-      map-same (line-in tape (take m area) (take n tokens) addresses) (line-in tape area tokens addresses) lines
-      (λ k b. line-prefix m area n tokens (h .at k b) addresses)
+  listing-prefix addresses h = read-prefix (own addresses) h
 
   pub bare-prefix : Listed tape (take m area) (take n tokens) lines
       → bare-listing tape (take m area) (take n tokens) lines ≡ bare-listing tape area tokens lines
   bare-prefix h =
-      bare-means tape (take m area) (take n tokens) [] lines
-      ∙ ap (map bare) (listing-prefix [] h)
-      ∙ sym (bare-means tape area tokens [] lines)
+      bare-means tape (take m area) (take n tokens) numbered lines
+      ∙ ap (map bare) (read-prefix numbered h)
+      ∙ sym (bare-means tape area tokens numbered lines)
 
 -- nothing but the used parts matters
-pub listing-same : {tape : Text} (m : ℕ) (area area′ : Text) (n : ℕ) (tokens tokens′ addresses : List ℕ) {lines : List ℕ}
+pub listing-same : {tape : Text} (m : ℕ) (area area′ : Text) (n : ℕ) (tokens tokens′ : List ℕ) (addresses : Reading) {lines : List ℕ}
     → Listed tape (take m area) (take n tokens) lines → take m area ≡ take m area′ → take n tokens ≡ take n tokens′
-    → listing-of tape area tokens addresses lines ≡ listing-of tape area′ tokens′ addresses lines
+    → listing-read tape area tokens addresses lines ≡ listing-read tape area′ tokens′ addresses lines
 listing-same {tape} m area area′ n tokens tokens′ addresses {lines} h ea et =
-    sym (listing-prefix m area n tokens addresses h)
-    ∙ rw (ea, et) (listing-prefix m area′ n tokens′ addresses (rw (ea, et) at h))
+    sym (read-prefix m area n tokens addresses h)
+    ∙ rw (ea, et) (read-prefix m area′ n tokens′ addresses (rw (ea, et) at h))
 
 -- the area and the token words grow beyond their used parts
 module _ {tape used : Text} {tokens : List ℕ} (more : Text) (next : List ℕ) {lines : List ℕ} (h : Listed tape used tokens lines) where
@@ -222,6 +250,6 @@ module _ {tape used : Text} {tokens : List ℕ} (more : Text) (next : List ℕ) 
   pub listed-grows : Listed tape (used ++ more) (tokens ++ next) lines
   listed-grows = listed-prefix (length used) (used ++ more) (length tokens) (tokens ++ next) in-front
 
-  pub listing-grows : (addresses : List ℕ) → listing-of tape (used ++ more) (tokens ++ next) addresses lines ≡ listing-of tape used tokens addresses lines
+  pub listing-grows : (addresses : Reading) → listing-read tape (used ++ more) (tokens ++ next) addresses lines ≡ listing-read tape used tokens addresses lines
   listing-grows addresses =
-      sym (listing-prefix (length used) (used ++ more) (length tokens) (tokens ++ next) addresses in-front) ∙ rw (take-append-seam, take-append-seam)
+      sym (read-prefix (length used) (used ++ more) (length tokens) (tokens ++ next) addresses in-front) ∙ rw (take-append-seam, take-append-seam)

@@ -16,10 +16,10 @@ moves tape at t a e =
     omega (arith, advances tape at t (p .0), ap (λ (a : Advance). a .next) (p .1))
 
 abbrev Inv-loop : tie.InvT-loop
-Inv-loop tape at₀ at = Unit {0}
+Inv-loop tape at₀ fresh₀ at fresh = Unit {0}
 
 abbrev μ-loop : tie.MeasureT-loop
-μ-loop tape at₀ at = length tape - at
+μ-loop tape at₀ fresh₀ at fresh = length tape - at
 
 loop-holds : tie.Need-loop-holds Inv-loop μ-loop
 loop-holds c = tt

@@ -1,20 +1,22 @@
 -- What a caller has of the tables that `load` filled, over the whole tables. Assumes nothing.
-use Prim.Native.Nat.{ℕ, _≤_}
+use Prim.Native.Nat.{ℕ, suc, _+_, _≤_, _<_}
 use native.Mathlib.Omega.{arith}
 use mathlib.Core.Path.{_≡_, sym, ap, _∙_}
-use mathlib.Core.List.{List, []}
-use lib.ListN.{length, take}
+use mathlib.Core.List.{List, [], _∷_, map}
+use lib.ListN.{length, take, getD, length-map}
+use lib.Seq.{getD-take, length-take-le}
 use Rattle.reference.specs.Text.{Text}
-use Rattle.reference.specs.Questions as Q
 use Rattle.reference.specs.Questions.{Passed, read}
 use Rattle.reference.proofs.Reading.{passed-inj, let-is}
 use Rattle.reference.proofs.Tapes.{read-limits}
-use Rattle.lines.specs.Lines.{listing-of, Listed}
+use Rattle.joining.specs.Carried.{Rising}
+use Rattle.lines.specs.Lines.{origin-of, listing-of, Listed}
 use Rattle.lines.specs.Words.{Recodes}
+use Rattle.lines.proofs.words.Each.{map-at}
 use Rattle.lines.proofs.words.Lines.{listed-prefix, listing-prefix}
 use Rattle.lines.proofs.codes.Recoding.{recodes-take, listed-recoded, listing-recoded}
-use Rattle.tape.specs.Questions.{totals-of, totals-in}
-use Rattle.tables.specs.Tables.{Loaded}
+use Rattle.tape.specs.Questions.{Sizes, sizes-of, sizes-in}
+use Rattle.tables.specs.Tables.{Loaded, LoadedMarks}
 use Rattle.tape.specs.declared.questions.Totals.{Totals}
 
 module _ {tape tokens lines addresses : List ℕ} {r : Totals} (l : Loaded tape tokens lines addresses r) where
@@ -31,10 +33,10 @@ module _ {tape tokens lines addresses : List ℕ} {r : Totals} (l : Loaded tape 
   loaded-limits =
       let e = l .listing [] in
       let limits = read-limits tape _ e in
-      let t : totals-in (listing-of tape [] (take (r .tokens) tokens) addresses (take (r .lines) lines)) ≡ totals-of r =
-      passed-inj (sym (let-is (λ lines. Passed (totals-in lines)) e) ∙ l .totals) in
+      let t : sizes-in (listing-of tape [] (take (r .tokens) tokens) addresses (take (r .lines) lines)) ≡ sizes-of r =
+      passed-inj (sym (let-is (λ lines. Passed (sizes-in lines)) e) ∙ l .totals) in
       omega
-      (arith, limits .few-lines, limits .few-tokens, limits .short-text, ap (λ (t : Q.Totals). t .lines) t, ap (λ (t : Q.Totals). t .tokens) t, ap (λ (t : Q.Totals). t .text) t)
+      (arith, limits .few-lines, limits .few-tokens, limits .short-text, ap (λ (t : Sizes). t .lines) t, ap (λ (t : Sizes). t .tokens) t, ap (λ (t : Sizes). t .text) t)
 
 -- words that were coded are the same listing
 pub loaded-recoded : {tape tokens coded lines addresses : List ℕ} {r : Totals} → Loaded tape tokens lines addresses r → Recodes tape tokens coded → Loaded tape coded lines addresses r
@@ -43,3 +45,23 @@ loaded-recoded {lines = lines} {addresses = addresses} {r = r} l c = record {
   listed = λ area. listed-recoded (recodes-take c (r .tokens)) (l .listed area);
   totals = l .totals;
 }
+
+-- ---- the numbers of the input lines rise: no two lines have the same
+
+rising-from : (k : ℕ) (os : List ℕ) → ((i : ℕ) → i < length os → getD os i 0 ≡ k + i) → Rising k os
+rising-from k [] h = tt
+rising-from k (o ∷ os) h =
+    let first : o ≡ k + 0 = h 0 (omega arith) in
+    (omega arith, rising-from (suc o) os (λ i b. (let next : getD os i 0 ≡ k + suc i = h (suc i) (omega arith) in omega arith)))
+
+pub loaded-rising : {tape lines lows highs : List ℕ} {r : Totals} → r .lines ≤ length lines → LoadedMarks tape lines lows highs r
+    → Rising 0 (map origin-of (take (r .lines) lines))
+loaded-rising {lines = lines} {r = r} long m =
+    let front : List ℕ = take (r .lines) lines in
+    let n : length front ≡ r .lines = length-take-le (r .lines) lines long in
+    let few : length (map origin-of front) ≡ length front = length-map front origin-of in
+    rising-from 0 (map origin-of front)
+    (λ i b.
+    (let low : i < r .lines = omega arith in
+    let here : i ≡ 0 + i = omega arith in
+    map-at origin-of front i 0 (omega arith) ∙ ap origin-of (getD-take (r .lines) lines i 0 low) ∙ m .origins i low ∙ here))

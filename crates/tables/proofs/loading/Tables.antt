@@ -3,6 +3,7 @@ use Prim.Native.Nat.{ℕ, suc, _+_, _-_, _≤_, _<_}
 use native.Mathlib.Omega.{arith}
 use native.Mathlib.Numerals.{add-one}
 use mathlib.Core.Path.{_≡_, refl, sym, ap, _∙_}
+use mathlib.Core.Bool.{true, false}
 use mathlib.Core.List.{List, [], _∷_, _++_, map, map-append}
 use mathlib.Core.Option.{Option, none, some}
 use lib.Dec.{eqb}
@@ -24,7 +25,7 @@ use Rattle.tape.specs.Commands.{command-in, size-of}
 use Rattle.tape.specs.Questions.{totals-of, counted}
 use Rattle.tables.specs.Tables.{begun, longer, lengthened, tokens-after, lines-after, addresses-after, Adds, Room}
 use Rattle.tape.specs.declared.commands.Command.{Command}
-use Rattle.tape.specs.declared.commands.Command.the-variants.{Addressed, Plain, End}  -- its Token is the listing's here
+use Rattle.tape.specs.declared.commands.Command.the-variants.{Addressed, Plain, Marked, End}  -- its Token is the listing's here
 use Rattle.tape.specs.declared.commands.Command.the-variants as C
 use Rattle.tape.specs.declared.questions.Totals.{Totals}
 
@@ -37,7 +38,7 @@ pub record Table (tape tokens lines addresses : List ℕ) (t : Q.Totals) (listin
   pub last : 0 < t .lines → first-of (getD lines (t .lines - 1) 0) + count-of (getD lines (t .lines - 1) 0) ≡ t .tokens
   pub means : (area : Text) → listing-of tape area (take (t .tokens) tokens) addresses (take (t .lines) lines) ≡ listing
 
-pub table-none : (tape tokens lines addresses : List ℕ) → Table tape tokens lines addresses (record { lines = 0; tokens = 0; text = 0 }) []
+pub table-none : (tape tokens lines addresses : List ℕ) → Table tape tokens lines addresses (record { lines = 0; tokens = 0; text = 0; fresh = false }) []
 table-none tape tokens lines addresses =
     record {
       holds = holds-none tape;
@@ -82,7 +83,7 @@ module _ {tape tokens lines addresses : List ℕ} {listing : Listing} (t : Total
         (λ k b. same-line area _ (h .origins k b))
 
     pub table-line : {address : Option ℕ} → (if eqb flag 1 then some (getD addresses′ (t .lines) 0) else none) ≡ address
-        → Table tape tokens (set lines (t .lines) (begun indent flag t)) addresses′ (record { lines = t .lines + 1; tokens = t .tokens; text = t .text })
+        → Table tape tokens (set lines (t .lines) (begun indent flag t)) addresses′ (record { lines = t .lines + 1; tokens = t .tokens; text = t .text; fresh = true })
         (Q.add (new-line address indent) listing)
     table-line {address} e =
         let n : ℕ = t .tokens in
@@ -216,7 +217,7 @@ module _ {tape tokens lines addresses : List ℕ} {listing : Listing} (t : Total
         ∙ ap (λ (u : Token). tokens-of tape area (part-of T l) ++ (u ∷ [])) (new-token-means area))
 
     pub table-token : Table tape (set tokens (t .tokens) (word kind 0 (at + 3) count)) (lengthened lines t) addresses
-        (record { lines = t .lines; tokens = t .tokens + 1; text = t .text + count })
+        (record { lines = t .lines; tokens = t .tokens + 1; text = t .text + count; fresh = false })
         (Q.add (new-token (token kind (take count (drop (at + 3) tape)))) listing)
     table-token =
         let l : ℕ = getD lines (t .lines - 1) 0 in
@@ -264,6 +265,9 @@ module _ {tape tokens lines addresses : List ℕ} {listing : Listing} (at : ℕ)
       (ap some (getD-set-same addresses (t .lines) address 0 (omega (arith, room .for-addresses))))
   table-more (Plain indent) a i =
       table-line t h indent 0 addresses (a .1) (room .few-tokens) (omega (arith, room .for-lines)) (a .0) (omega arith) (λ k b. refl) refl
+  table-more (Marked low high) a i =
+      unfold Q.add in
+      record { holds = h .holds; inside = h .inside; origins = h .origins; unmarked = h .unmarked; last = h .last; means = h .means }
   table-more (C.Token kind count) a i =
       table-token t h at kind count (a .0) (a .1) (omega arith) (omega (arith, room .for-tokens)) (a .3) (omega (arith, room .few-lines, room .for-lines)) (a .4)
   table-more End a i = unfold Q.add in h

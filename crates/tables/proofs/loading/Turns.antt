@@ -11,18 +11,20 @@ use Rattle.reference.specs.Questions as Q
 use Rattle.lines.specs.Lines.{first-of, count-of, indent-of, addressed-of, origin-of, with-part, line-word}
 use Rattle.lines.proofs.words.Lines.{word-first, word-count, word-indent, word-addressed, word-origin}
 use Rattle.tape.specs.Commands.{size-of, ends, found-in, standing}
+use Rattle.reference.proofs.LittleEndian.{Bytes}
 use Rattle.tape.specs.Questions.{totals-of, counted, Accepted}
 use Rattle.tables.specs.Tables.{Adds, Added, longer, tokens-after, lines-after, addresses-after}
 use Rattle.tables.specs.Records.{blank, word-of, Fits, Holding, Fitting, Recorded, line-after, place-after, start-of, TakesToken, Grows, Takes, Ready, Lays}
 use Rattle.tape.specs.declared.commands.Command.{Command}
-use Rattle.tape.specs.declared.commands.Command.the-variants.{Addressed, Plain, Token, End}
+use Rattle.tape.specs.declared.commands.Command.the-variants.{Addressed, Plain, Marked, Token, End}
 use Rattle.tape.specs.declared.commands.Found.the-variants.{Whole}
 use Rattle.tape.specs.declared.questions.Totals.{Totals}
 use Rattle.tables.specs.declared.records.LineRecord.{LineRecord}
 use Rattle.tables.specs.declared.loading.Laying.{Laying}
 use Rattle.tables.specs.declared.loading.Laid.{Laid}
 use Rattle.tape.proofs.commands.Standing.{stands}
-use Rattle.tables.proofs.loading.Filling.{Filled, filled-none, filled-stood, Turn, turn-room, turn-counts, turn-moves, turn-adds, turn-more, turn-ends}
+use Rattle.tables.proofs.loading.Filling.{Filled, filled-none, filled-stood, Turn, turn-room, turn-counts, turn-moves, turn-begun, turn-passed, turn-adds, turn-more, turn-ends}
+use Rattle.tables.proofs.loading.Marks.{Noted, noted-none, noted-more, noted-ends}
 use Rattle.tables.proofs.loading.Records.{holding-none, fitting-set, holding-set, loaded-held}
 
 pub record Going (tape tokens : List ℕ) (records : List LineRecord) (s : Laying) : Type 0 where
@@ -32,6 +34,7 @@ pub record Going (tape tokens : List ℕ) (records : List LineRecord) (s : Layin
   pub holding : Holding records (s .totals .lines) lines addresses
   pub fitting : Fitting records (s .totals .lines)
   pub last : 0 < s .totals .lines → s .line ≡ s .totals .lines - 1
+  pub noted : Noted tape records (s .at) (s .totals)
 
 pub going-start : (tape tokens : List ℕ) (records : List LineRecord) → Going tape tokens records start-of
 going-start tape tokens records =
@@ -44,6 +47,7 @@ going-start tape tokens records =
       holding = holding-none records long long;
       fitting = λ k b. absurd (omega arith);
       last = λ b. absurd (omega arith);
+      noted = noted-none tape records;
     }
 
 -- ---- the last line's record and its word
@@ -74,7 +78,7 @@ not-false {b = true} e = refl
 not-false {b = false} e = sym e
 
 abbrev totals-from : Q.Totals → Totals
-totals-from t = record { lines = t .lines; tokens = t .tokens; text = t .text }
+totals-from t = record { lines = t .lines; tokens = t .tokens; text = t .text; fresh = t .fresh }
 
 -- turns that are left at most
 abbrev pub left-of : Bool → ℕ → ℕ
@@ -128,12 +132,14 @@ module _ {tape tokens : List ℕ} {records : List LineRecord} {s : Laying} (k : 
   takes-token : (c : Command) → Adds (s .at) c t (g .lines) → TakesToken (s .at) c t tokens
   takes-token (Addressed address indent) a = tt
   takes-token (Plain indent) a = tt
+  takes-token (Marked low high) a = tt
   takes-token (Token kind count) a = (a .0, a .1, omega (arith, a .2))
   takes-token End a = tt
 
   grows : (c : Command) → Adds (s .at) c t (g .lines) → Grows c line
   grows (Addressed address indent) a = tt
   grows (Plain indent) a = tt
+  grows (Marked low high) a = tt
   grows (Token kind count) a = omega (arith, last-count (a .3), a .4)
   grows End a = tt
 
@@ -171,6 +177,13 @@ module _ {tape tokens : List ℕ} {records : List LineRecord} {s : Laying} (k : 
         let n : ℕ = t .lines in
         holding-set records n (n + 1) (line-after (Plain indent) t line) (getD-set-same records n _ blank (omega (arith, a .1))) (λ j b e. omega arith) (g .addresses) (a .1) refl (λ j e. refl)
         (λ e. absurd (omega arith)) (g .holding)
+    holding-after (Marked low high) a =
+        let in-lines = last-inside (a .0) in
+        let r : LineRecord = line-after (Marked low high) t line in
+        let same : set (g .lines) (s .line) (word-of (s .line) r) ≡ g .lines =
+        ap (set (g .lines) (s .line)) (sym (last-word (a .0))) ∙ set-getD (g .lines) (s .line) 0 in
+        rw same at
+        (holding-set records (s .line) (t .lines) r (getD-set-same records (s .line) r blank (omega arith)) (λ j h e. h) (g .addresses) (omega arith) refl (λ j e. refl) (last-address (a .0)) (g .holding))
     holding-after (Token kind count) a =
         let b = a .3 in
         let in-lines = last-inside b in
@@ -188,6 +201,11 @@ module _ {tape tokens : List ℕ} {records : List LineRecord} {s : Laying} (k : 
     fitting-after (Plain indent) a =
         fitting-set records (t .lines) (t .lines + 1) _ (getD-set-same records (t .lines) _ blank (omega (arith, a .1))) (λ j b e. omega arith) (g .fitting)
         (record { first = omega arith; count = omega arith; indent = a .0; addressed = omega arith })
+    fitting-after (Marked low high) a =
+        let f = last-fits (a .0) in
+        let in-lines = last-inside (a .0) in
+        fitting-set records (s .line) (t .lines) (line-after (Marked low high) t line) (getD-set-same records (s .line) _ blank (omega arith)) (λ j h e. h) (g .fitting)
+        (record { first = f .first; count = f .count; indent = f .indent; addressed = f .addressed })
     fitting-after (Token kind count) a =
         let f = last-fits (a .3) in
         let in-lines = last-inside (a .3) in
@@ -198,6 +216,7 @@ module _ {tape tokens : List ℕ} {records : List LineRecord} {s : Laying} (k : 
   last-after : (c : Command) → 0 < count-after c → place-after c t (s .line) ≡ count-after c - 1
   last-after (Addressed address indent) b = omega arith
   last-after (Plain indent) b = omega arith
+  last-after (Marked low high) b = g .last b
   last-after (Token kind count) b = g .last b
   last-after End b = g .last b
 
@@ -206,7 +225,7 @@ module _ {tape tokens : List ℕ} {records : List LineRecord} {s : Laying} (k : 
   -- (the fields of `Lays`, so that the command does not hang on what they say of u)
   module _ {u : Laid} {tokens′ : List ℕ} (c : Command) (stood-there : found-in tape (s .at) (Whole c) ≡ standing tape (s .at)) (line-is : u .line ≡ line-after c t line)
       (tokens-are : tokens′ ≡ tokens-after (s .at) c t tokens) (at-is : u .next .at ≡ s .at + size-of c) (place-is : u .next .line ≡ place-after c t (s .line))
-      (totals-are : totals-of (u .next .totals) ≡ counted c (totals-of t)) (going-is : u .next .going ≡ not (ends c)) where
+      (totals-are : totals-of (u .next .totals) ≡ counted c (totals-of t)) (going-is : u .next .going ≡ not (ends c)) (bytes : Bytes tape) where
     turn-here : Turn tape tokens (g .lines) (g .addresses) (s .at) t c
     turn-here = turn-at stood-there
 
@@ -219,6 +238,7 @@ module _ {tape tokens : List ℕ} {records : List LineRecord} {s : Laying} (k : 
         place-low : (c : Command) → Adds (s .at) c t (g .lines) → place-after c t (s .line) < 256
         place-low (Addressed address indent) a = a .1
         place-low (Plain indent) a = a .1
+        place-low (Marked low high) a = b
         place-low (Token kind count) a = b
         place-low End a = b
 
@@ -236,6 +256,10 @@ module _ {tape tokens : List ℕ} {records : List LineRecord} {s : Laying} (k : 
           holding = rw (place-is, line-is, count-is) (holding-after (room .few-lines) (room .few-tokens) c a);
           fitting = rw (place-is, line-is, count-is) (fitting-after (room .few-lines) (room .few-tokens) c a);
           last = rw (place-is, count-is) (last-after c);
+          noted =
+              rw (place-is, line-is)
+              (noted-more (g .noted) {c = c} (stands stood-there) (turn-passed turn-here) (s .line) (g .last) (room .few-lines) enough bytes (turn-begun turn-here)
+              (turn-counts turn-here) goes at-is totals-are);
         }
 
     recorded : ends c ≡ true → Recorded tape tokens records t
@@ -245,6 +269,7 @@ module _ {tape tokens : List ℕ} {records : List LineRecord} {s : Laying} (k : 
           loaded = λ lines addresses h. loaded-held few (g .fitting) (g .holding) h (turn-ends turn-here e);
           fitting = g .fitting;
           few = few;
+          marks = noted-ends (g .noted) {c = c} (stands stood-there) (turn-passed turn-here) e;
         }
 
     over-by : u .next .going ≡ false → Recorded tape tokens′ (set records (u .next .line) (u .line)) (u .next .totals)
@@ -259,6 +284,7 @@ module _ {tape tokens : List ℕ} {records : List LineRecord} {s : Laying} (k : 
             → (records-after c ≡ records) × (tokens-after (s .at) c t tokens ≡ tokens) × (counted c (totals-of t) ≡ totals-of t)
         at-end (Addressed address indent) e = absurd (false≢true e)
         at-end (Plain indent) e = absurd (false≢true e)
+        at-end (Marked low high) e = absurd (false≢true e)
         at-end (Token kind count) e = absurd (false≢true e)
         at-end End e = (set-getD records (s .line) blank, refl, refl)
 
@@ -271,13 +297,13 @@ module _ {tape tokens : List ℕ} {records : List LineRecord} {s : Laying} (k : 
 
   module _ {u : Laid} {tokens′ : List ℕ} (l : Lays tape s line tokens tokens′ u) where
     pub laid-line : s .line < 256 → u .next .line < 256
-    laid-line = line-by (l .command) (l .stands) (l .line-is) (l .tokens-are) (l .at-is) (l .place-is) (l .totals-are) (l .going-is)
+    laid-line = line-by (l .command) (l .stands) (l .line-is) (l .tokens-are) (l .at-is) (l .place-is) (l .totals-are) (l .going-is) (l .bytes)
 
     pub laid-going : u .next .going ≡ true → Going tape tokens′ (set records (u .next .line) (u .line)) (u .next)
-    laid-going = going-by (l .command) (l .stands) (l .line-is) (l .tokens-are) (l .at-is) (l .place-is) (l .totals-are) (l .going-is)
+    laid-going = going-by (l .command) (l .stands) (l .line-is) (l .tokens-are) (l .at-is) (l .place-is) (l .totals-are) (l .going-is) (l .bytes)
 
     pub laid-over : u .next .going ≡ false → Recorded tape tokens′ (set records (u .next .line) (u .line)) (u .next .totals)
-    laid-over = over-by (l .command) (l .stands) (l .line-is) (l .tokens-are) (l .at-is) (l .place-is) (l .totals-are) (l .going-is)
+    laid-over = over-by (l .command) (l .stands) (l .line-is) (l .tokens-are) (l .at-is) (l .place-is) (l .totals-are) (l .going-is) (l .bytes)
 
     pub laid-less : s .going ≡ true → left tape (u .next) < left tape s
-    laid-less = less-by (l .command) (l .stands) (l .line-is) (l .tokens-are) (l .at-is) (l .place-is) (l .totals-are) (l .going-is)
+    laid-less = less-by (l .command) (l .stands) (l .line-is) (l .tokens-are) (l .at-is) (l .place-is) (l .totals-are) (l .going-is) (l .bytes)

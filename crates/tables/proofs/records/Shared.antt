@@ -58,7 +58,7 @@ abbrev pub many : List LineRecord
 many = replicate 256 blank
 
 pub blank-is : Is T.the-row blank (LL.vals T.the-type T′.the-laws blank)
-blank-is = LL.owes T.the-type T′.the-laws blank ((refl, lit< tt), ((refl, lit< tt), ((refl, lit< tt), ((refl, lit< tt), ((refl, lit< tt), tt)))))
+blank-is = LL.owes T.the-type T′.the-laws blank ((refl, lit< tt), ((refl, lit< tt), ((refl, lit< tt), ((refl, lit< tt), ((refl, lit< tt), ((refl, lit< tt), ((refl, lit< tt), tt)))))))
 
 pub enough : Room T.the-row 256
 enough = (lit< tt, lit< tt)

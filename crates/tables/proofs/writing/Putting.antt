@@ -7,16 +7,21 @@ use mathlib.Core.List.{List, [], _∷_, _++_, map, flatMap, map-append, append-n
 use lib.ListN.{length, take, drop, set, getD, length-append, length-set, take-append-drop, drop-of-length-le}
 use lib.Seq.{drop-drop, drop-cons, paste}
 use borrow.Author.Tests.{eq-eqb, ne-eqb}
-use Rattle.reference.specs.Listing.{token, Listing}
-use Rattle.reference.specs.Tape.{to-le-bytes, new-line, write-command, write-line, write-lines, write}
+use Rattle.reference.specs.Listing.{token, Line}
+use Rattle.reference.specs.Spans.{Marks}
+use Rattle.reference.specs.Tape.{to-le-bytes, new-line, marked, write-command, write-marks, write-line, write-lines, write}
 use Rattle.reference.proofs.LittleEndian.{to-length}
 use Rattle.reference.proofs.Writing.{flat-append}
 use Rattle.laws.proofs.Scans.{if-true, if-false}
+use Rattle.joining.specs.Carried.{marks-of, pair-at}
+use Rattle.joining.proofs.Carried.{some-marks, no-marks}
 use Rattle.lines.specs.Words.{tokens-of}
+use Rattle.lines.specs.Lines.{origin-of, line-in, listing-of}
 use Rattle.tape.specs.Bytes.{put, Puts}
 use Rattle.tape.proofs.little_endian.Bytes.{put-front, put-none, put-pasted, put-one, put-length, put-append, put-cons, puts-length}
-use Rattle.tables.specs.Records.{address-of, part-at, line-of}
-use Rattle.tables.specs.Writing.{token-bytes, line-bytes, tokens-bytes, Wrote}
+use Rattle.tables.specs.Tables.{marks-for}
+use Rattle.tables.specs.Records.{address-of, pair-of, part-at, line-of}
+use Rattle.tables.specs.Writing.{token-bytes, line-bytes, tokens-bytes, lines-bytes, paged, Wrote}
 use Rattle.tables.specs.declared.records.LineRecord.{LineRecord}
 
 -- ---- functions that write
@@ -49,6 +54,27 @@ module _ (out : List ℕ) (at : ℕ) where
         holds = put-one (set out at 2) (at + 1) indent (rw length-set (omega arith)) ∙ sym (put-cons out at 2 (indent ∷ []) (omega arith));
         ends = refl;
       }
+
+  pub marked-puts : (low high : ℕ) {mid after : List ℕ} → at + 17 ≤ length out → mid ≡ put (set out at 3) (at + 1) (to-le-bytes 8 low)
+      → after ≡ put mid (at + 9) (to-le-bytes 8 high) → Puts out at (write-command (marked (record { lowest = low; highest = high }))) after (at + 17)
+  unfolding write-command
+  marked-puts low high {mid} h e f =
+      let lowest : List ℕ = to-le-bytes 8 low in
+      let highest : List ℕ = to-le-bytes 8 high in
+      let n : length lowest ≡ 8 = to-length 8 low in
+      let m : length highest ≡ 8 = to-length 8 high in
+      let begun : List ℕ = set out at 3 in
+      let long : length begun ≡ length out = length-set out at 3 in
+      let k : at + 9 ≡ at + 1 + length lowest = omega arith in
+      record {
+        holds = f ∙ rw (k, e) (put-append begun (at + 1) lowest highest (omega arith)) ∙ sym (put-cons out at 3 (lowest ++ highest) (omega arith));
+        ends = omega (arith, length-append lowest highest);
+      }
+
+  -- where there are no marks, nothing is written
+  pub unmarked-puts : (low high : ℕ) → high < low → Puts out at (write-marks (marks-of (low, high))) out at
+  unfolding write-marks
+  unmarked-puts low high h = rw (no-marks (low, high) h) (record { holds = sym (put-none out at); ends = omega arith })
 
   pub token-puts : (kind : ℕ) (text : List ℕ) {mid after : List ℕ} → at + 3 + length text ≤ length out
       → mid ≡ put (set out at (16 + kind)) (at + 1) (to-le-bytes 2 (length text)) → after ≡ paste mid (at + 3) text (length text)
@@ -83,22 +109,51 @@ module _ (out : List ℕ) where
 
 -- ---- what is written of a line, and of a listing
 
-pub write-split : (listing : Listing) → write listing ≡ flatMap write-line listing ++ (0xFF ∷ [])
-unfolding write write-lines write-command
-write-split listing = refl
+module _ {B : Type 0} (f : B → Line) (g : B → Marks) where
+  pairs-written : (ws : List B) → write-lines (map f ws) (map g ws) ≡ lines-bytes (map (λ w. (f w, g w)) ws)
+  unfolding write-lines flatMap
+  pairs-written [] = refl
+  pairs-written (w ∷ ws) = ap (λ (more : List ℕ). write-line (f w) (g w) ++ more) (pairs-written ws)
 
-pub write-room : (listing : Listing) {n : ℕ} → length (write listing) ≤ n → length (flatMap write-line listing) + 1 ≤ n
-write-room listing h = omega (arith, ap length (write-split listing), length-append (flatMap write-line listing) (0xFF ∷ []))
+module _ (tape area tokens addresses lows highs lines : List ℕ) where
+  abbrev the-tape : List ℕ
+  the-tape = write (listing-of tape area tokens addresses lines) (marks-for lows highs lines)
+
+  abbrev the-lines : List ℕ
+  the-lines = lines-bytes (paged tape area tokens addresses lows highs lines)
+
+  pub write-split : the-tape ≡ the-lines ++ (0xFF ∷ [])
+  unfolding write write-command
+  write-split =
+      ap (λ (bytes : List ℕ). bytes ++ (0xFF ∷ []))
+      (pairs-written (line-in tape area tokens addresses) (λ l. marks-of (pair-at lows highs (origin-of l))) lines)
+
+  pub write-room : {n : ℕ} → length the-tape ≤ n → length the-lines + 1 ≤ n
+  write-room h = omega (arith, ap length write-split, length-append the-lines (0xFF ∷ []))
 
 module _ (tape area tokens : List ℕ) (r : LineRecord) where
-  pub line-split : write-line (line-of tape area tokens r) ≡ line-bytes r ++ tokens-bytes (tokens-of tape area (part-at tokens r))
+  abbrev marks-bytes : List ℕ
+  marks-bytes = write-marks (marks-of (pair-of r))
+
+  abbrev its-tokens : List ℕ
+  its-tokens = tokens-bytes (tokens-of tape area (part-at tokens r))
+
+  pub line-split : write-line (line-of tape area tokens r) (marks-of (pair-of r)) ≡ line-bytes r ++ marks-bytes ++ its-tokens
   unfolding write-line
   line-split = refl
 
-  pub line-room : (at : ℕ) {n : ℕ} → at + length (write-line (line-of tape area tokens r)) ≤ n
-      → at + length (line-bytes r) + length (tokens-bytes (tokens-of tape area (part-at tokens r))) ≤ n
+  pub line-room : (at : ℕ) {n : ℕ} → at + length (write-line (line-of tape area tokens r) (marks-of (pair-of r))) ≤ n
+      → at + length (line-bytes r) + length marks-bytes + length its-tokens ≤ n
   line-room at h =
-      omega (arith, ap length line-split, length-append (line-bytes r) (tokens-bytes (tokens-of tape area (part-at tokens r))))
+      omega (arith, ap length line-split, length-append (line-bytes r ++ marks-bytes) its-tokens, length-append (line-bytes r) marks-bytes)
+
+pub marked-bytes : (low high : ℕ) → low ≤ high → write-marks (marks-of (low, high)) ≡ write-command (marked (record { lowest = low; highest = high }))
+unfolding write-marks
+marked-bytes low high h = rw (some-marks (low, high) h)
+
+pub marked-size : (low high : ℕ) → length (write-command (marked (record { lowest = low; highest = high }))) ≡ 17
+unfolding write-command
+marked-size low high = omega (arith, length-append (to-le-bytes 8 low) (to-le-bytes 8 high), to-length 8 low, to-length 8 high)
 
 pub addressed-bytes : (r : LineRecord) → r .addressed ≡ 1 → line-bytes r ≡ write-command (new-line (some (r .address)) (r .indent))
 unfolding address-of

@@ -9,10 +9,10 @@ use lib.ListN.{length, getD, take, drop, length-drop, drop-of-length-le}
 use lib.Seq.{getD-drop, drop-drop}
 use borrow.Author.Tests.{leb-true, le-leb, lt-leb}
 use Rattle.reference.specs.Listing.{token}
-use Rattle.reference.specs.Tape.{from-le-bytes, new-line, new-token, end, command-size, command-of}
+use Rattle.reference.specs.Tape.{from-le-bytes, new-line, marked, new-token, end, command-size, command-of}
 use Rattle.reference.specs.Questions.{is-command, ends-inside, Refused, Passed}
 use Rattle.reference.proofs.Cases.{fails}
-use Rattle.reference.proofs.Commands.{Form, is-address, is-plain, is-token, is-ending, form, is-form, address-form, plain-form, token-form, end-form}
+use Rattle.reference.proofs.Commands.{Form, is-address, is-plain, is-marks, is-token, is-ending, form, is-form, address-form, plain-form, marks-form, token-form, end-form}
 use Rattle.reference.proofs.Reading.{ask-yes, ask-no, ask-passed, passed-inj, size-positive}
 use Rattle.tape.specs.Commands.{command-in, size-of, Sized, found-in, standing, Stood}
 use Rattle.tape.specs.declared.commands.Command.{Command}
@@ -51,15 +51,16 @@ module _ (tape : List ℕ) (at : ℕ) where
 
   -- ---- by the first byte
 
-  pub no-command : (getD tape at 0 ≡ 0x01 → ⊥) → (getD tape at 0 ≡ 0x02 → ⊥) → (getD tape at 0 ≡ 0xFF → ⊥) → (0x10 ≤ getD tape at 0 → getD tape at 0 ≤ 0x17 → ⊥)
-      → Refused 3 at ≡ standing tape at
-  no-command n₁ n₂ n₃ n₄ = unknown none-of
+  pub no-command : (getD tape at 0 ≡ 0x01 → ⊥) → (getD tape at 0 ≡ 0x02 → ⊥) → (getD tape at 0 ≡ 0x03 → ⊥) → (getD tape at 0 ≡ 0xFF → ⊥)
+      → (0x10 ≤ getD tape at 0 → getD tape at 0 ≤ 0x17 → ⊥) → Refused 3 at ≡ standing tape at
+  no-command n₁ n₂ n₃ n₄ n₅ = unknown none-of
     where
       none-of : Form here → ⊥
       none-of (is-address e) = n₁ (sym head ∙ e)
       none-of (is-plain e) = n₂ (sym head ∙ e)
-      none-of (is-token low high) = n₄ (rw (← head) low) (rw (← head) high)
-      none-of (is-ending e) = n₃ (sym head ∙ e)
+      none-of (is-marks e) = n₃ (sym head ∙ e)
+      none-of (is-token low high) = n₅ (rw (← head) low) (rw (← head) high)
+      none-of (is-ending e) = n₄ (sym head ∙ e)
 
   pub ending : at < length tape → getD tape at 0 ≡ 0xFF → Passed (end, 1) ≡ standing tape at
   ending h e =
@@ -87,6 +88,17 @@ module _ (tape : List ℕ) (at : ℕ) where
         let f = plain-form here (head ∙ e) in
         let w = whole (is-plain (head ∙ e)) (omega (arith, f .0)) in
         rw ei (rw (f .0, f .1, getD-drop at tape 1 0) at w)
+
+  module _ (e : getD tape at 0 ≡ 0x03) where
+    pub marked-cut : length tape - at < 17 → Refused 4 at ≡ standing tape at
+    marked-cut h = cut-off (is-marks (head ∙ e)) (omega (arith, marks-form here (head ∙ e) .0))
+
+    pub marked-whole : {low high : ℕ} → 17 ≤ length tape - at → low ≡ from-le-bytes (take 8 (drop (at + 1) tape))
+        → high ≡ from-le-bytes (take 8 (drop (at + 9) tape)) → Passed (marked (record { lowest = low; highest = high }), 17) ≡ standing tape at
+    marked-whole h el eh =
+        let f = marks-form here (head ∙ e) in
+        let w = whole (is-marks (head ∙ e)) (omega (arith, f .0)) in
+        rw (el, eh) (rw (f .0, f .1, drop-drop 1 at tape, drop-drop 9 at tape) at w)
 
   module _ (low : 0x10 ≤ getD tape at 0) (high : getD tape at 0 ≤ 0x17) where
     low′ : 0x10 ≤ getD here 0 0

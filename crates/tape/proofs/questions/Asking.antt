@@ -11,7 +11,8 @@ use borrow.Author.Tests.{leb-true, le-leb}
 use Rattle.reference.specs.Control.{if_then_else_}
 use Rattle.reference.specs.Lists.{is-empty}
 use Rattle.reference.specs.Listing.{Token, token}
-use Rattle.reference.specs.Tape.{new-line, new-token, end, command-of}
+use Rattle.reference.specs.Spans.{Span}
+use Rattle.reference.specs.Tape.{new-line, marked, new-token, end, command-of}
 use Rattle.reference.specs.Questions as Q
 use Rattle.reference.specs.Questions.{is-command, ends-inside, has-line, is-within, is-printable, is-over, is-end, Answer, Refused, Passed, ask, count-in, Advance, read-command}
 use Rattle.reference.proofs.Cases.{by-if, both}
@@ -20,7 +21,7 @@ use Rattle.reference.proofs.Reading.{Yes, ask-yes, refused-passed, advance}
 use Rattle.tape.specs.Commands.{command-in, size-of, ends, standing}
 use Rattle.tape.specs.Questions.{first-no, totals-of, questions, counted, Counts}
 use Rattle.tape.specs.declared.commands.Command.{Command}
-use Rattle.tape.specs.declared.commands.Command.the-variants.{Addressed, Plain, Token as NewToken, End}
+use Rattle.tape.specs.declared.commands.Command.the-variants.{Addressed, Plain, Marked, Token as NewToken, End}
 use Rattle.tape.specs.declared.questions.Totals.{Totals}
 use Rattle.tape.proofs.commands.Standing.{Stands, stands-inside}
 
@@ -75,6 +76,14 @@ module _ (rest : List ℕ) (t : Q.Totals) where
   unfolding first-no is-within has-line is-printable is-over if_then_else_
   line-exceeds address indent e f = rw (sym e ∙ f)
 
+  pub marks-fit : (s : Span) {x : Bool} → x ≡ has-line t (marked s) → x ≡ true → 0 ≡ first-no (questions rest t (marked s))
+  unfolding first-no is-within is-printable is-over if_then_else_
+  marks-fit s e f = rw (sym e ∙ f)
+
+  pub marks-misplaced : (s : Span) {x : Bool} → x ≡ has-line t (marked s) → x ≡ false → 5 ≡ first-no (questions rest t (marked s))
+  unfolding first-no if_then_else_
+  marks-misplaced s e f = rw (sym e ∙ f)
+
   token-asked : (s : Token) → first-no (questions [] t (new-token s)) ≡ first-no (questions rest t (new-token s))
   unfolding is-over
   token-asked s = refl
@@ -123,6 +132,7 @@ module _ (tape : List ℕ) (at : ℕ) where
     unfolding count-in
     counted-same {c = Addressed address indent} s = refl
     counted-same {c = Plain indent} s = refl
+    counted-same {c = Marked low high} s = refl
     counted-same {c = NewToken kind count} s = rw (text-long s)
     counted-same {c = End} s = refl
 
@@ -159,6 +169,7 @@ module _ (tape : List ℕ) (at : ℕ) where
   unfolding is-within
   within-counts {c = Addressed address indent} t s w = omega (arith, leb-true (t .lines + 1) 256 (both w .1))
   within-counts {c = Plain indent} t s w = omega (arith, leb-true (t .lines + 1) 256 (both w .1))
+  within-counts {c = Marked low high} t s w = tt
   within-counts {c = NewToken kind count} t s w =
       omega (arith, leb-true (t .tokens + 1) 1024 (both w .0), leb-true (t .text + length (take count (drop (at + 3) tape))) 24576 (both (both w .1) .0), text-long s)
   within-counts {c = End} t s w = tt
@@ -166,5 +177,6 @@ module _ (tape : List ℕ) (at : ℕ) where
   pub ends-same : (c : Command) → is-end (command-in tape at c) ≡ ends c
   ends-same (Addressed address indent) = refl
   ends-same (Plain indent) = refl
+  ends-same (Marked low high) = refl
   ends-same (NewToken kind count) = refl
   ends-same End = refl

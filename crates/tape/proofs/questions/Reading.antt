@@ -7,18 +7,20 @@ use mathlib.Core.List.{List, []}
 use lib.ListN.{length, drop}
 use Rattle.reference.specs.Control.{if_then_else_}
 use Rattle.reference.specs.Listing.{Listing}
-use Rattle.reference.specs.Questions.{Totals, Answer, Refused, Passed, let-passed_then_, Advance, read-command, is-end, add, read}
-use Rattle.reference.proofs.Reading.{refused-passed, by-passed, let-refused, let-is, Passes, command-passed, advances, reading, reading-step, Reached, here, on, reading-of, accepted}
-use Rattle.reference.proofs.Tapes.{totals-so-far}
-use Rattle.tape.specs.Questions.{totals-in, Accepted}
+use Rattle.reference.specs.Spans.{Marks}
+use Rattle.reference.specs.Questions.{Totals, Answer, Refused, Passed, let-passed_then_, Advance, read-command, is-end, add, no-commands, read, add-marks, marks-in}
+use Rattle.reference.proofs.Reading.{refused-passed, by-passed, let-refused, let-is, Passes, command-passed, advances, reading, reading-step, Reached, here, on, reading-of, Accepts, accepted, marks-read}
+use Rattle.reference.proofs.Tapes.{kept}
+use Rattle.tape.specs.Questions.{Sizes, sizes-in, Accepted}
 
 -- the reading comes to this offset with these totals
 pub record Reads (tape : List ℕ) (at : ℕ) (t : Totals) : Type 0 where
   pub lines : Listing
-  pub reached : Reached tape (record { at = at; totals = t; lines = lines })
+  pub marks : List Marks
+  pub reached : Reached tape (record { at = at; totals = t; lines = lines; marks = marks })
 
-abbrev pub reads-begin : (tape : List ℕ) → Reads tape 0 (record { lines = 0; tokens = 0; text = 0 })
-reads-begin tape = record { lines = []; reached = here }
+abbrev pub reads-begin : (tape : List ℕ) → Reads tape 0 (no-commands)
+reads-begin tape = record { lines = []; marks = []; reached = here }
 
 module _ {tape : List ℕ} {at : ℕ} {t : Totals} (r : Reads tape at t) where
   step-of : read tape
@@ -38,22 +40,32 @@ module _ {tape : List ℕ} {at : ℕ} {t : Totals} (r : Reads tape at t) where
     abbrev pub reads-on : is-end (a .command) ≡ false → Reads tape (a .next) (a .totals)
     reads-on n =
         let p = command-passed tape at t a (sym e) in
-        record { lines = add (a .command) (r .lines); reached = rw (p .1) (on (r .reached) (p .0) (rw (p .1) at n)) }
+        record {
+          lines = add (a .command) (r .lines);
+          marks = add-marks (a .command) (r .marks);
+          reached = rw (p .1) (on (r .reached) (p .0) (rw (p .1) at n));
+        }
 
-    pub read-passed : is-end (a .command) ≡ true → read tape ≡ Passed (r .lines)
-    read-passed n =
+    abbrev ends-here : is-end (a .command) ≡ true → Accepts tape (r .lines)
+    ends-here n =
         let p = command-passed tape at t a (sym e) in
-        accepted tape (r .lines)
-        (record {
-          state = record { at = at; totals = t; lines = r .lines };
+        record {
+          state = record { at = at; totals = t; lines = r .lines; marks = r .marks };
           reached = r .reached;
           passes = p .0;
           ends = rw (p .1) at n;
           listing = refl;
-        })
+        }
 
-  pub totals-are : t ≡ totals-in (r .lines)
-  totals-are = totals-so-far tape (r .reached)
+    pub read-passed : is-end (a .command) ≡ true → read tape ≡ Passed (r .lines)
+    read-passed n = accepted tape (r .lines) (ends-here n)
+
+    -- and the 03s are those that it came to
+    pub marks-passed : is-end (a .command) ≡ true → marks-in tape ≡ r .marks
+    marks-passed n = marks-read tape (r .lines) (ends-here n)
+
+  pub sizes-are : record { lines = t .lines; tokens = t .tokens; text = t .text } ≡ sizes-in (r .lines)
+  sizes-are = let k = kept tape (r .reached) in λ i. record { lines = k .lines i; tokens = k .tokens i; text = k .text i }
 
   -- on an accepted tape every command passes
   pub accepted-passes : Accepted tape → Passes (drop at tape) t
@@ -65,25 +77,25 @@ module _ {tape : List ℕ} {at : ℕ} {t : Totals} (r : Reads tape at t) where
 
 -- ---- what `check` answers
 
-abbrev pub Verdict : List ℕ → Answer Totals
-Verdict tape = let-passed (read tape) then λ lines. Passed (totals-in lines)
+abbrev pub Verdict : List ℕ → Answer Sizes
+Verdict tape = let-passed (read tape) then λ lines. Passed (sizes-in lines)
 
 module _ (tape : List ℕ) where
   pub verdict-refused : {n p : ℕ} → read tape ≡ Refused n p → Refused n p ≡ Verdict tape
   verdict-refused e = sym (let-refused _ e)
 
-  pub verdict-passed : {lines : Listing} → read tape ≡ Passed lines → Passed (totals-in lines) ≡ Verdict tape
+  pub verdict-passed : {lines : Listing} → read tape ≡ Passed lines → Passed (sizes-in lines) ≡ Verdict tape
   verdict-passed e = sym (let-is _ e)
 
   -- and what its answers say of the tape
   pub refused-by : {n p : ℕ} → Refused n p ≡ Verdict tape → read tape ≡ Refused n p
   refused-by {n} {p} =
-      by-passed (λ (x : Answer Totals). Refused n p ≡ x → read tape ≡ Refused n p)
+      by-passed (λ (x : Answer Sizes). Refused n p ≡ x → read tape ≡ Refused n p)
       (λ number place u e. u ∙ sym (let z = e in cc))
       (λ lines u e. absurd (refused-passed e))
 
-  pub accepted-by : {t : Totals} → Passed t ≡ Verdict tape → Accepted tape
+  pub accepted-by : {t : Sizes} → Passed t ≡ Verdict tape → Accepted tape
   accepted-by {t} =
-      by-passed (λ (x : Answer Totals). Passed t ≡ x → Accepted tape)
+      by-passed (λ (x : Answer Sizes). Passed t ≡ x → Accepted tape)
       (λ number place u e. absurd (refused-passed (sym e)))
       (λ lines u e. record { listing = lines; reads = u })

@@ -12,24 +12,25 @@ slice-reshare-prefix-decide : tie.Need-slice-reshare-prefix-decide
 slice-reshare-prefix-decide c = search needs
 
 slice-aggregate-decide : tie.Need-slice-aggregate-decide
-slice-aggregate-decide c = sym (length-take-le _ _ (c .before .before .before .before .before .before .before .before .before .before .pre .current .text-fits))
+slice-aggregate-decide c = sym (length-take-le _ _ (c .before .before .before .before .before .before .before .before .before .before .before .before .pre .current .text-fits))
 
 slice-reshare-prefix-decide-2 : tie.Need-slice-reshare-prefix-decide-2
 slice-reshare-prefix-decide-2 c = search needs
 
 slice-aggregate-decide-2 : tie.Need-slice-aggregate-decide-2
-slice-aggregate-decide-2 c = sym (length-take-le _ _ (c .before .before .before .before .before .before .before .before .before .before .before .pre .current .words-fit))
+slice-aggregate-decide-2 c = sym (length-take-le _ _ (c .before .before .before .before .before .before .before .before .before .before .before .before .before .pre .current .words-fit))
 
 slice-reshare-prefix-decide-3 : tie.Need-slice-reshare-prefix-decide-3
 slice-reshare-prefix-decide-3 c = search needs
 
 slice-aggregate-decide-3 : tie.Need-slice-aggregate-decide-3
-slice-aggregate-decide-3 c = sym (length-take-le _ _ (c .before .before .before .before .before .before .before .before .before .before .before .before .pre .current .lines-fit))
+slice-aggregate-decide-3 c = sym (length-take-le _ _ (c .before .before .before .before .before .before .before .before .before .before .before .before .before .before .pre .current .lines-fit))
 
 decide-requires : tie.Need-decide-requires
 decide-requires c κs =
-    let p = c .before .before .before .before .before .before .before .before .before .before .before .before .pre in
-    (p .current .listed, p .labelled, p .slotted, inside (rules-of (c .before .before .before .before .before .before .before .before .before .before .before .before .args .rules)) p)
+    let s = c .before .before .before .before .before .before .before .before .before .before .before .before .before .before in
+    let p = s .pre in
+    (p .current .listed, p .labelled, p .slotted, inside (rules-of (s .args .rules)) p)
 
 enum-known-j : tie.Need-enum-known-j
 enum-known-j c = search needs
@@ -48,13 +49,40 @@ same-length-3 c = search needs
 
 returns : tie.Need-returns
 returns c =
-    let e : c .before .before .decide .result ≡ Nothing = search needs in
-    nothing-done (rules-of (c .before .before .before .before .before .before .before .before .before .before .before .before .before .before .before .args .rules)) (c .before .before .before .before .before .before .before .before .before .before .before .before .before .before .before .pre) (c .before .before .decide .ensures) e
+    let d = c .before .before in
+    let e : d .decide .result ≡ Nothing = search needs in
+    let s = d .before .before .before .before .before .before .before .before .before .before .before .before .before .before .before in
+    nothing-done (rules-of (s .args .rules)) (s .pre) (d .decide .ensures) e
+
+slice-reshare-prefix-carry-marks : tie.Need-slice-reshare-prefix-carry-marks
+slice-reshare-prefix-carry-marks c = search needs
+
+slice-aggregate-carry-marks : tie.Need-slice-aggregate-carry-marks
+slice-aggregate-carry-marks c = sym (length-take-le _ _ (c .before .before .before .before .before .before .before .before .before .before .before .before .before .before .before .before .before .before .before .pre .current .text-fits))
+
+slice-reshare-prefix-carry-marks-2 : tie.Need-slice-reshare-prefix-carry-marks-2
+slice-reshare-prefix-carry-marks-2 c = search needs
+
+slice-aggregate-carry-marks-2 : tie.Need-slice-aggregate-carry-marks-2
+slice-aggregate-carry-marks-2 c = sym (length-take-le _ _ (c .before .before .before .before .before .before .before .before .before .before .before .before .before .before .before .before .before .before .before .before .pre .current .words-fit))
+
+slice-reshare-prefix-carry-marks-3 : tie.Need-slice-reshare-prefix-carry-marks-3
+slice-reshare-prefix-carry-marks-3 c = search needs
+
+slice-aggregate-carry-marks-3 : tie.Need-slice-aggregate-carry-marks-3
+slice-aggregate-carry-marks-3 c = sym (length-take-le _ _ (c .before .before .before .before .before .before .before .before .before .before .before .before .before .before .before .before .before .before .before .before .before .pre .current .lines-fit))
+
+carry-marks-requires : tie.Need-carry-marks-requires
+carry-marks-requires c κs =
+    let d = c .before .before .before .before .before .before .before .before in
+    let s = d .before .before .before .before .before .before .before .before .before .before .before .before .before .before .before in
+    (plannable (rules-of (s .args .rules)) (s .pre) (d .decide .ensures) (search needs), s .pre .for-lows, s .pre .for-highs)
 
 apply-requires : tie.Need-apply-requires
 apply-requires c κs =
-    let p = c .before .before .before .before .before .before .before .before .before .before .before .before .before .before .before .before .before .before .before .before .before .pre in
-    (plannable (rules-of (c .before .before .before .before .before .before .before .before .before .before .before .before .before .before .before .before .before .before .before .before .before .args .rules)) p (c .before .before .before .before .before .before .before .before .decide .ensures) (search needs), p .current, p .lent)
+    let d = c .before .before .before .before .before .before .before .before .before .before .before .before .before .before .before .before .before .before in
+    let s = d .before .before .before .before .before .before .before .before .before .before .before .before .before .before .before in
+    (plannable (rules-of (s .args .rules)) (s .pre) (d .decide .ensures) (c .before .before .before .before .before .before .before .before .before .before .before .before .before .before .before .before .j .given .1), s .pre .current, s .pre .lent)
 
 same-length-4 : tie.Need-same-length-4
 same-length-4 c = search needs
@@ -71,9 +99,18 @@ same-length-7 c = search needs
 same-length-8 : tie.Need-same-length-8
 same-length-8 c = search needs
 
+same-length-9 : tie.Need-same-length-9
+same-length-9 c = search needs
+
+same-length-10 : tie.Need-same-length-10
+same-length-10 c = search needs
+
 returns-2 : tie.Need-returns-2
 returns-2 c =
-    joined-done (rules-of (c .before .before .before .before .before .before .before .before .before .before .before .before .before .before .before .before .before .before .before .before .before .before .before .before .before .before .before .before .before .before .before .before .args .rules)) (c .before .before .before .before .before .before .before .before .before .before .before .before .before .before .before .before .before .before .before .before .before .before .before .before .before .before .before .before .before .before .before .before .pre) (c .before .before .before .before .before .before .before .before .before .before .before .before .before .before .before .before .before .before .before .decide .ensures) (search needs) (c .before .before .before .before .before .before .before .before .before .before .apply .ensures)
+    let m = c .before .before .before .before .before .before .before .before .before .before .before .before .before .before .before .before .before .before .before .before in
+    let d = m .before .before .before .before .before .before .before .before .before in
+    let s = d .before .before .before .before .before .before .before .before .before .before .before .before .before .before .before in
+    joined-done (rules-of (s .args .rules)) (s .pre) (d .decide .ensures) (c .before .before .before .before .before .before .before .before .before .before .before .before .before .before .before .before .before .before .before .before .before .before .before .before .before .before .before .j .given .1) (m .carry-marks .ensures) (c .before .before .before .before .before .before .before .before .before .before .apply .ensures)
 
 pub try-at-spec : {M : Type 1} → statement M
 try-at-spec =
@@ -92,10 +129,19 @@ try-at-spec =
     same-length-2
     same-length-3
     returns
+    slice-reshare-prefix-carry-marks
+    slice-aggregate-carry-marks
+    slice-reshare-prefix-carry-marks-2
+    slice-aggregate-carry-marks-2
+    slice-reshare-prefix-carry-marks-3
+    slice-aggregate-carry-marks-3
+    carry-marks-requires
     apply-requires
     same-length-4
     same-length-5
     same-length-6
     same-length-7
     same-length-8
+    same-length-9
+    same-length-10
     returns-2)

@@ -8,101 +8,107 @@ use Rattle.rounds.proofs.rounds.propagate_once.Statement.{statement}
 use Rattle.rounds.proofs.rounds.propagate_once.Tie as tie
 
 slice-reshare-prefix-gather-labels : tie.Need-slice-reshare-prefix-gather-labels
-slice-reshare-prefix-gather-labels c = c .before .before .before .before .before .before .before .before .before .pre .current .text-fits
+slice-reshare-prefix-gather-labels c = c .before .before .before .before .before .before .before .before .before .before .before .pre .current .text-fits
 
 slice-aggregate-gather-labels : tie.Need-slice-aggregate-gather-labels
-slice-aggregate-gather-labels c = sym (length-take-le _ _ (c .before .before .before .before .before .before .before .before .before .before .pre .current .text-fits))
+slice-aggregate-gather-labels c = sym (length-take-le _ _ (c .before .before .before .before .before .before .before .before .before .before .before .before .pre .current .text-fits))
 
 slice-reshare-prefix-gather-labels-2 : tie.Need-slice-reshare-prefix-gather-labels-2
-slice-reshare-prefix-gather-labels-2 c = c .before .before .before .before .before .before .before .before .before .before .pre .current .words-fit
+slice-reshare-prefix-gather-labels-2 c = c .before .before .before .before .before .before .before .before .before .before .before .before .pre .current .words-fit
 
 slice-aggregate-gather-labels-2 : tie.Need-slice-aggregate-gather-labels-2
-slice-aggregate-gather-labels-2 c = sym (length-take-le _ _ (c .before .before .before .before .before .before .before .before .before .before .before .pre .current .words-fit))
+slice-aggregate-gather-labels-2 c = sym (length-take-le _ _ (c .before .before .before .before .before .before .before .before .before .before .before .before .before .pre .current .words-fit))
 
 slice-reshare-prefix-gather-labels-3 : tie.Need-slice-reshare-prefix-gather-labels-3
-slice-reshare-prefix-gather-labels-3 c = c .before .before .before .before .before .before .before .before .before .before .before .pre .current .lines-fit
+slice-reshare-prefix-gather-labels-3 c = c .before .before .before .before .before .before .before .before .before .before .before .before .before .pre .current .lines-fit
 
 slice-aggregate-gather-labels-3 : tie.Need-slice-aggregate-gather-labels-3
-slice-aggregate-gather-labels-3 c = sym (length-take-le _ _ (c .before .before .before .before .before .before .before .before .before .before .before .before .pre .current .lines-fit))
+slice-aggregate-gather-labels-3 c = sym (length-take-le _ _ (c .before .before .before .before .before .before .before .before .before .before .before .before .before .before .pre .current .lines-fit))
 
 gather-labels-requires : tie.Need-gather-labels-requires
 gather-labels-requires c κs =
-    let a = c .before .before .before .before .before .before .before .before .before .before .before .before .before .args in
-    let p = c .before .before .before .before .before .before .before .before .before .before .before .before .before .pre in
+    let a = c .before .before .before .before .before .before .before .before .before .before .before .before .before .before .before .args in
+    let p = c .before .before .before .before .before .before .before .before .before .before .before .before .before .before .before .pre in
     let size = length-take-le (a .size .lines) (a .lines .now) (p .current .lines-fit) in
     (p .current .listed, omega (arith, p .for-labels, now-few (p .current) (p .limits)))
 
 slice-reshare-prefix-gather-slots : tie.Need-slice-reshare-prefix-gather-slots
-slice-reshare-prefix-gather-slots c = c .before .before .before .before .before .before .before .before .before .before .before .before .before .before .before .before .pre .current .text-fits
+slice-reshare-prefix-gather-slots c = c .before .before .before .before .before .before .before .before .before .before .before .before .before .before .before .before .before .before .pre .current .text-fits
 
 slice-aggregate-gather-slots : tie.Need-slice-aggregate-gather-slots
-slice-aggregate-gather-slots c = sym (length-take-le _ _ (c .before .before .before .before .before .before .before .before .before .before .before .before .before .before .before .before .before .pre .current .text-fits))
+slice-aggregate-gather-slots c = sym (length-take-le _ _ (c .before .before .before .before .before .before .before .before .before .before .before .before .before .before .before .before .before .before .before .pre .current .text-fits))
 
 slice-reshare-prefix-gather-slots-2 : tie.Need-slice-reshare-prefix-gather-slots-2
-slice-reshare-prefix-gather-slots-2 c = c .before .before .before .before .before .before .before .before .before .before .before .before .before .before .before .before .before .pre .current .words-fit
+slice-reshare-prefix-gather-slots-2 c = c .before .before .before .before .before .before .before .before .before .before .before .before .before .before .before .before .before .before .before .pre .current .words-fit
 
 slice-aggregate-gather-slots-2 : tie.Need-slice-aggregate-gather-slots-2
-slice-aggregate-gather-slots-2 c = sym (length-take-le _ _ (c .before .before .before .before .before .before .before .before .before .before .before .before .before .before .before .before .before .before .pre .current .words-fit))
+slice-aggregate-gather-slots-2 c = sym (length-take-le _ _ (c .before .before .before .before .before .before .before .before .before .before .before .before .before .before .before .before .before .before .before .before .pre .current .words-fit))
 
 slice-reshare-prefix-gather-slots-3 : tie.Need-slice-reshare-prefix-gather-slots-3
-slice-reshare-prefix-gather-slots-3 c = c .before .before .before .before .before .before .before .before .before .before .before .before .before .before .before .before .before .before .pre .current .lines-fit
+slice-reshare-prefix-gather-slots-3 c = c .before .before .before .before .before .before .before .before .before .before .before .before .before .before .before .before .before .before .before .before .pre .current .lines-fit
 
 slice-aggregate-gather-slots-3 : tie.Need-slice-aggregate-gather-slots-3
-slice-aggregate-gather-slots-3 c = sym (length-take-le _ _ (c .before .before .before .before .before .before .before .before .before .before .before .before .before .before .before .before .before .before .before .pre .current .lines-fit))
+slice-aggregate-gather-slots-3 c = sym (length-take-le _ _ (c .before .before .before .before .before .before .before .before .before .before .before .before .before .before .before .before .before .before .before .before .before .pre .current .lines-fit))
 
 gather-slots-requires : tie.Need-gather-slots-requires
-gather-slots-requires c κs = (c .before .before .before .before .before .before .before .before .before .before .before .before .before .before .before .before .before .before .before .before .before .pre .current .listed, begin-room (c .before .before .before .before .before .before .before .before .before .before .before .before .before .before .before .before .before .before .before .before .before .pre))
+gather-slots-requires c κs = (c .before .before .before .before .before .before .before .before .before .before .before .before .before .before .before .before .before .before .before .before .before .before .before .pre .current .listed, begin-room (c .before .before .before .before .before .before .before .before .before .before .before .before .before .before .before .before .before .before .before .before .before .before .before .pre))
 
 slice-relend-prefix-turns : tie.Need-slice-relend-prefix-turns
-slice-relend-prefix-turns c = begin-inside (c .before .before .before .before .before .before .before .before .before .before .before .before .before .before .before .before .before .before .before .before .before .before .before .before .before .before .before .before .before .before .before .pre) (c .before .before .before .before .before .before .before .before .before .before .before .before .before .before .before .before .before .gather-labels .ensures)
+slice-relend-prefix-turns c = begin-inside (c .before .before .before .before .before .before .before .before .before .before .before .before .before .before .before .before .before .before .before .before .before .before .before .before .before .before .before .before .before .before .before .before .before .before .before .pre) (c .before .before .before .before .before .before .before .before .before .before .before .before .before .before .before .before .before .before .before .gather-labels .ensures)
 
 slice-aggregate-turns : tie.Need-slice-aggregate-turns
-slice-aggregate-turns c = sym (length-take-le _ _ (begin-inside (c .before .before .before .before .before .before .before .before .before .before .before .before .before .before .before .before .before .before .before .before .before .before .before .before .before .before .before .before .before .before .before .before .pre) (c .before .before .before .before .before .before .before .before .before .before .before .before .before .before .before .before .before .before .gather-labels .ensures)))
+slice-aggregate-turns c = sym (length-take-le _ _ (begin-inside (c .before .before .before .before .before .before .before .before .before .before .before .before .before .before .before .before .before .before .before .before .before .before .before .before .before .before .before .before .before .before .before .before .before .before .before .before .pre) (c .before .before .before .before .before .before .before .before .before .before .before .before .before .before .before .before .before .before .before .before .gather-labels .ensures)))
 
 slice-reshare-prefix-turns : tie.Need-slice-reshare-prefix-turns
-slice-reshare-prefix-turns c = c .before .before .before .before .before .before .before .before .before .before .gather-slots .ensures .slotting .text-fits
+slice-reshare-prefix-turns c = c .before .before .before .before .before .before .before .before .before .before .before .before .gather-slots .ensures .slotting .text-fits
 
 slice-aggregate-turns-2 : tie.Need-slice-aggregate-turns-2
-slice-aggregate-turns-2 c = sym (length-take-le _ _ (c .before .before .before .before .before .before .before .before .before .before .before .gather-slots .ensures .slotting .text-fits))
+slice-aggregate-turns-2 c = sym (length-take-le _ _ (c .before .before .before .before .before .before .before .before .before .before .before .before .before .gather-slots .ensures .slotting .text-fits))
 
 slice-reshare-prefix-turns-2 : tie.Need-slice-reshare-prefix-turns-2
-slice-reshare-prefix-turns-2 c = c .before .before .before .before .before .before .before .before .before .before .before .gather-slots .ensures .slotting .words-fit
+slice-reshare-prefix-turns-2 c = c .before .before .before .before .before .before .before .before .before .before .before .before .before .gather-slots .ensures .slotting .words-fit
 
 slice-aggregate-turns-3 : tie.Need-slice-aggregate-turns-3
-slice-aggregate-turns-3 c = sym (length-take-le _ _ (c .before .before .before .before .before .before .before .before .before .before .before .before .gather-slots .ensures .slotting .words-fit))
+slice-aggregate-turns-3 c = sym (length-take-le _ _ (c .before .before .before .before .before .before .before .before .before .before .before .before .before .before .gather-slots .ensures .slotting .words-fit))
 
 turns-requires : tie.Need-turns-requires
-turns-requires c κs = begin-roundable (c .before .before .before .before .before .before .before .before .before .before .before .before .before .before .before .before .before .before .before .before .before .before .before .before .before .before .before .before .before .before .before .before .before .before .pre) (c .before .before .before .before .before .before .before .before .before .before .before .before .before .before .before .before .before .before .before .before .gather-labels .ensures) (c .before .before .before .before .before .before .before .before .before .before .before .before .gather-slots .ensures)
+turns-requires c κs = begin-roundable (c .before .before .before .before .before .before .before .before .before .before .before .before .before .before .before .before .before .before .before .before .before .before .before .before .before .before .before .before .before .before .before .before .before .before .before .before .before .before .pre) (c .before .before .before .before .before .before .before .before .before .before .before .before .before .before .before .before .before .before .before .before .before .before .gather-labels .ensures) (c .before .before .before .before .before .before .before .before .before .before .before .before .before .before .gather-slots .ensures)
 
 same-length : tie.Need-same-length
-same-length c = c .before .before .before .before .before .before .before .before .before .before .before .before .turns .kept .1 .0
+same-length c = c .before .before .before .before .before .before .before .before .before .before .before .before .before .before .before .before .turns .kept .1 .0
 
 same-length-2 : tie.Need-same-length-2
-same-length-2 c = c .before .before .before .before .before .before .before .before .before .before .before .before .turns .kept .1 .1 .0
+same-length-2 c = c .before .before .before .before .before .before .before .before .before .before .before .before .before .before .before .before .turns .kept .1 .1 .0
 
 same-length-3 : tie.Need-same-length-3
-same-length-3 c = c .before .before .before .before .before .before .before .before .before .before .before .before .turns .kept .1 .1 .1 .0
+same-length-3 c = c .before .before .before .before .before .before .before .before .before .before .before .before .before .before .before .before .turns .kept .1 .1 .1 .0
 
 same-length-4 : tie.Need-same-length-4
-same-length-4 c = c .before .before .before .before .before .before .before .before .before .before .before .before .turns .kept .1 .1 .1 .1 .0
+same-length-4 c = c .before .before .before .before .before .before .before .before .before .before .before .before .before .before .before .before .turns .kept .1 .1 .1 .1 .0
 
 same-length-5 : tie.Need-same-length-5
-same-length-5 c = c .before .before .before .before .before .before .before .before .before .before .before .before .turns .kept .1 .1 .1 .1 .1 .0
+same-length-5 c = c .before .before .before .before .before .before .before .before .before .before .before .before .before .before .before .before .turns .kept .1 .1 .1 .1 .1 .0
 
 same-length-6 : tie.Need-same-length-6
-same-length-6 c =
-    let g = c .before .before .before .before .before .before .before .before .before .before .before .before .before .before .before .before .before .before .before .before .before .before .before .before .before .before .before .before .before .before .before .before .before .gather-labels in
-    let t = c .before .before .before .before .before .before .before .before .before .before .before .before .turns in
-    length-front (g .last .1 .1 .1 .1 .0) (t .last .1 .1 .1 .1 .1 .1 .0) (g .result) (t .kept .1 .1 .1 .1 .1 .1 .0) ∙ g .kept .1 .1 .1 .1 .0
+same-length-6 c = c .before .before .before .before .before .before .before .before .before .before .before .before .before .before .before .before .turns .kept .1 .1 .1 .1 .1 .1 .0
 
 same-length-7 : tie.Need-same-length-7
-same-length-7 c = c .before .before .before .before .before .before .before .before .before .before .before .before .before .before .before .before .before .before .before .before .before .before .before .before .before .gather-slots .kept .1 .1 .1 .1 .0
+same-length-7 c = c .before .before .before .before .before .before .before .before .before .before .before .before .before .before .before .before .turns .kept .1 .1 .1 .1 .1 .1 .1 .0
 
 same-length-8 : tie.Need-same-length-8
-same-length-8 c = c .before .before .before .before .before .before .before .before .before .before .before .before .before .before .before .before .before .before .before .before .before .before .before .before .before .gather-slots .kept .1 .1 .1 .1 .1 .0
+same-length-8 c =
+    let g = c .before .before .before .before .before .before .before .before .before .before .before .before .before .before .before .before .before .before .before .before .before .before .before .before .before .before .before .before .before .before .before .before .before .before .before .before .before .before .before .gather-labels in
+    let t = c .before .before .before .before .before .before .before .before .before .before .before .before .before .before .before .before .turns in
+    length-front (g .last .1 .1 .1 .1 .0) (t .last .1 .1 .1 .1 .1 .1 .1 .1 .0) (g .result) (t .kept .1 .1 .1 .1 .1 .1 .1 .1 .0) ∙ g .kept .1 .1 .1 .1 .0
+
+same-length-9 : tie.Need-same-length-9
+same-length-9 c = c .before .before .before .before .before .before .before .before .before .before .before .before .before .before .before .before .before .before .before .before .before .before .before .before .before .before .before .before .before .before .before .gather-slots .kept .1 .1 .1 .1 .0
+
+same-length-10 : tie.Need-same-length-10
+same-length-10 c = c .before .before .before .before .before .before .before .before .before .before .before .before .before .before .before .before .before .before .before .before .before .before .before .before .before .before .before .before .before .before .before .gather-slots .kept .1 .1 .1 .1 .1 .0
 
 returns : tie.Need-returns
-returns c = begin-made (c .before .before .before .before .before .before .before .before .before .before .before .before .before .before .before .before .before .before .before .before .before .before .before .before .before .before .before .before .before .before .before .before .before .before .before .before .before .before .before .before .before .before .before .before .before .before .before .pre) (c .before .before .before .before .before .before .before .before .before .before .before .before .before .before .before .before .before .before .before .before .before .before .before .before .before .before .before .before .before .before .before .before .before .gather-labels .ensures) (c .before .before .before .before .before .before .before .before .before .before .before .before .before .before .before .before .before .before .before .before .before .before .before .before .before .gather-slots .ensures) _ (c .before .before .before .before .before .before .before .before .before .before .before .before .turns .ensures)
+returns c = begin-made (c .before .before .before .before .before .before .before .before .before .before .before .before .before .before .before .before .before .before .before .before .before .before .before .before .before .before .before .before .before .before .before .before .before .before .before .before .before .before .before .before .before .before .before .before .before .before .before .before .before .before .before .before .before .before .before .pre) (c .before .before .before .before .before .before .before .before .before .before .before .before .before .before .before .before .before .before .before .before .before .before .before .before .before .before .before .before .before .before .before .before .before .before .before .before .before .before .before .gather-labels .ensures) (c .before .before .before .before .before .before .before .before .before .before .before .before .before .before .before .before .before .before .before .before .before .before .before .before .before .before .before .before .before .before .before .gather-slots .ensures) _ (c .before .before .before .before .before .before .before .before .before .before .before .before .before .before .before .before .turns .ensures)
 
 pub propagate-once-spec : {M : Type 1} → statement M
 propagate-once-spec =
@@ -137,4 +143,6 @@ propagate-once-spec =
     same-length-6
     same-length-7
     same-length-8
+    same-length-9
+    same-length-10
     returns)

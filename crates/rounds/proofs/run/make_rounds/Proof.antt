@@ -9,46 +9,42 @@ use Rattle.rounds.proofs.run.make_rounds.Statement.{statement}
 use Rattle.rounds.proofs.run.make_rounds.Tie as tie
 
 abbrev Inv-loop : tie.InvT-loop
-Inv-loop tape area₀ tokens₀ lines₀ area2₀ tokens2₀ labels₀ slots₀ slot-words₀ rules s₀ area tokens lines area2 tokens2 labels slots slot-words s =
+Inv-loop tape area₀ tokens₀ lines₀ area2₀ tokens2₀ lows₀ highs₀ labels₀ slots₀ slot-words₀ rules s₀ area tokens lines area2 tokens2 lows highs labels slots slot-words s =
     (length area ≡ length area₀) × (length tokens ≡ length tokens₀) × (length lines ≡ length lines₀) × (length area2 ≡ length area2₀)
-    × (length tokens2 ≡ length tokens2₀) × (length labels ≡ length labels₀) × (length slots ≡ length slots₀)
-    × (length slot-words ≡ length slot-words₀)
-    × Going (rules-of rules) tape area₀ tokens₀ lines₀ (s₀ .size) (s₀ .left) area tokens lines s
+    × (length tokens2 ≡ length tokens2₀) × (length lows ≡ length lows₀) × (length highs ≡ length highs₀) × (length labels ≡ length labels₀)
+    × (length slots ≡ length slots₀) × (length slot-words ≡ length slot-words₀)
+    × Going (rules-of rules) tape area₀ tokens₀ lines₀ lows₀ highs₀ (s₀ .size) (s₀ .left) area tokens lines lows highs s
 
 abbrev μ-loop : tie.MeasureT-loop
-μ-loop tape area₀ tokens₀ lines₀ area2₀ tokens2₀ labels₀ slots₀ slot-words₀ rules s₀ area tokens lines area2 tokens2 labels slots slot-words s = s .left
+μ-loop tape area₀ tokens₀ lines₀ area2₀ tokens2₀ lows₀ highs₀ labels₀ slots₀ slot-words₀ rules s₀ area tokens lines area2 tokens2 lows highs labels slots slot-words s =
+    s .left
 
 most-rounds-requires : tie.Need-most-rounds-requires Inv-loop μ-loop
-most-rounds-requires c κs = let p = c .before .before .before .before .before .before .before .before .before .pre in now-few (p .current) (p .limits)
+most-rounds-requires c κs = let p = c .before .before .before .before .before .before .before .before .before .before .before .pre in now-few (p .current) (p .limits)
 
 loop-holds : tie.Need-loop-holds Inv-loop μ-loop
-loop-holds c =
-    (refl, refl, refl, refl, refl, refl, refl, refl, going-begin (c .before .before .before .before .before .before .before .before .before .before .pre) (c .most-rounds .ensures))
+loop-holds c = (refl, refl, refl, refl, refl, refl, refl, refl, refl, refl, going-begin (c .before .before .before .before .before .before .before .before .before .before .before .before .pre) (c .most-rounds .ensures))
 
 propagate-once-requires : tie.Need-propagate-once-requires Inv-loop μ-loop
 propagate-once-requires c κs =
-    let at = c .before .before .before .before .before .before .before .before .before .before .before in
-    let l = at .loop in
+    let l = c .before .before .before .before .before .before .before .before .before .before .before .before .before .loop in
     let i = l .inv in
-    let p = at .before .before .before .before .before .before .before .before .before .before .before .pre in
-    runnable-again (l .area2) (l .tokens2) (l .labels) (l .slots) (l .slot-words) p (i .8) (i .0) (i .1) (i .3) (i .4) (i .5) (i .6) (i .7)
+    runnable-again (l .area2) (l .tokens2) (l .labels) (l .slots) (l .slot-words) (l .lows) (l .highs) (c .before .before .before .before .before .before .before .before .before .before .before .before .before .before .before .before .before .before .before .before .before .before .before .before .before .before .pre) (i .10)
+    (i .0) (i .1) (i .3) (i .4) (i .5) (i .6) (i .7) (i .8) (i .9)
 
 after-round-requires : tie.Need-after-round-requires Inv-loop μ-loop
-after-round-requires c κs =
-    let m = c .before .before .before .before .before .before .before .before .before .before .before .before .before .before .before .before .propagate-once .ensures in
-    let at = c .before .before .before .before .before .before .before .before .before .before .before .before .before .before .before .before .before .before .before .before .before .before .before .before .before .before in
-    (at .before .before .loop .inv .8 .few, m .few, omega (arith, at .if1 .taken))
+after-round-requires c κs = (c .before .before .before .before .before .before .before .before .before .before .before .before .before .before .before .before .before .before .before .before .before .before .before .before .before .before .before .before .before .before .before .before .before .before .loop .inv .10 .few, c .before .before .before .before .before .before .before .before .before .before .before .before .before .before .before .before .before .before .before .before .propagate-once .ensures .few, omega (arith, c .before .before .before .before .before .before .before .before .before .before .before .before .before .before .before .before .before .before .before .before .before .before .before .before .before .before .before .before .before .before .before .before .if1 .taken))
 
 loop-less : tie.Need-loop-less Inv-loop μ-loop
 loop-less c =
-    let at = c .before .before .before .before .before .before .before .before .before .before .before .before .before .before .before .before .before .before .before .before .before .before .before .before .before .before .before in
-    rw (c .after-round .ensures) (going-less (at .before .before .loop .inv .8) (omega (arith, at .if1 .taken)) (c .before .before .before .before .before .before .before .before .before .before .before .before .before .before .before .before .before .propagate-once .ensures))
+    let left = c .before .before .before .before .before .before .before .before .before .before .before .before .before .before .before .before .before .before .before .before .before .before .before .before .before .before .before .before .before .before .before .before .before .if1 .taken in
+    rw (c .after-round .ensures) (going-less (c .before .before .before .before .before .before .before .before .before .before .before .before .before .before .before .before .before .before .before .before .before .before .before .before .before .before .before .before .before .before .before .before .before .before .before .loop .inv .10) (omega arith) (c .before .before .before .before .before .before .before .before .before .before .before .before .before .before .before .before .before .before .before .before .before .propagate-once .ensures))
 
 loop-again : tie.Need-loop-again Inv-loop μ-loop
 loop-again c =
-    let r = c .before .before .before .before .before .before .before .before .before .before .before .before .before .before .before .before .before .propagate-once in
-    let at = c .before .before .before .before .before .before .before .before .before .before .before .before .before .before .before .before .before .before .before .before .before .before .before .before .before .before .before in
-    let i = at .before .before .loop .inv in (
+    let r = c .before .before .before .before .before .before .before .before .before .before .before .before .before .before .before .before .before .before .before .before .before .propagate-once in
+    let left = c .before .before .before .before .before .before .before .before .before .before .before .before .before .before .before .before .before .before .before .before .before .before .before .before .before .before .before .before .before .before .before .before .before .if1 .taken in
+    let i = c .before .before .before .before .before .before .before .before .before .before .before .before .before .before .before .before .before .before .before .before .before .before .before .before .before .before .before .before .before .before .before .before .before .before .before .loop .inv in (
       r .kept .1 .0 ∙ i .0,
       r .kept .1 .1 .0 ∙ i .1,
       r .kept .1 .1 .1 .0 ∙ i .2,
@@ -57,7 +53,9 @@ loop-again c =
       r .kept .1 .1 .1 .1 .1 .1 .0 ∙ i .5,
       r .kept .1 .1 .1 .1 .1 .1 .1 .0 ∙ i .6,
       r .kept .1 .1 .1 .1 .1 .1 .1 .1 .0 ∙ i .7,
-      rw (c .after-round .ensures) (going-next (i .8) (omega (arith, at .if1 .taken)) (r .ensures)),
+      r .kept .1 .1 .1 .1 .1 .1 .1 .1 .1 .0 ∙ i .8,
+      r .kept .1 .1 .1 .1 .1 .1 .1 .1 .1 .1 .0 ∙ i .9,
+      rw (c .after-round .ensures) (going-next (i .10) (omega arith) (r .ensures)),
     )
 
 same-length : tie.Need-same-length Inv-loop μ-loop
@@ -84,10 +82,14 @@ same-length-7 c = c .before .before .loop .inv .6
 same-length-8 : tie.Need-same-length-8 Inv-loop μ-loop
 same-length-8 c = c .before .before .loop .inv .7
 
+same-length-9 : tie.Need-same-length-9 Inv-loop μ-loop
+same-length-9 c = c .before .before .loop .inv .8
+
+same-length-10 : tie.Need-same-length-10 Inv-loop μ-loop
+same-length-10 c = c .before .before .loop .inv .9
+
 returns : tie.Need-returns Inv-loop μ-loop
-returns c =
-    let at = c .before .before in
-    going-end (at .loop .inv .8) (at .before .before .before .before .before .before .before .before .before .before .before .pre) (at .before .most-rounds .ensures) (c .if1 .left)
+returns c = going-end (c .before .before .loop .inv .10) (c .before .before .before .before .before .before .before .before .before .before .before .before .before .before .before .pre) (c .before .before .before .most-rounds .ensures) (c .if1 .left)
 
 pub make-rounds-spec : {M : Type 1} → statement M
 make-rounds-spec =
@@ -109,4 +111,6 @@ make-rounds-spec =
     same-length-6
     same-length-7
     same-length-8
+    same-length-9
+    same-length-10
     returns)

@@ -51,6 +51,7 @@ returns c =
       at-is = rw (c .before .before .before .size-of .ensures);
       place-is = c .before .before .place-after .ensures;
       totals-are = c .before .count-in .ensures;
+      bytes = λ i. omega (arith, k .before .before .before .shared-slice-known .given i);
       going-is = ap not (c .before .before .before .before .is-end .ensures);
     }
 

@@ -1,4 +1,4 @@
--- `tape::records::line_at` meets its contract: a walk of its MIR, by hand. The place of `lines[at]` is 40 * at past the slice's pointer; the slice is looked into, the record is taken out of the row, read whole, and put back.
+-- `tape::records::line_at` meets its contract: a walk of its MIR, by hand. The place of `lines[at]` is 56 * at past the slice's pointer; the slice is looked into, the record is taken out of the row, read whole, and put back.
 -- Assumes nothing.
 use mathlib.Core.Path.{refl, sym}
 use Prim.Native.Nat.{ℕ, _*_, _<_, _^_}
@@ -74,13 +74,13 @@ module _ {M : Type 1} (𝓤 : URA M) (H : Heap 𝓤) (A : Atoms 𝓤) (W : Given
   module _ (C : Calls 𝓤 H) (Λ : Loops 𝓤 H) where
     walk : Room T.the-row (length ys) → i < 2 ^ 64 → i < length ys → ent 𝓤 (onEntry 𝓤 H A line-at.signature (κ, tt) (q, tt) (x, (i, tt)) at) (WpFn 𝓤 H C Λ code.function (sliceVal (b, o) (length ys) ∷ vint w64 i ∷ []) Post)
     walk gn gi l =
-        let small : i * 40 < 2 ^ 64 = omega (arith, gn .1) in
+        let small : i * 56 < 2 ^ 64 = omega (arith, gn .1) in
         qed W ((‵ (flft κ q) ⊛ ‵ ftrue) ∷ ‵ (owns (ShrSlice (named 0) κ T.the-row ∷ usize ∷ []) (x, (i, tt)) at) ∷ []) ∵ enter ! C Λ code.function (sliceVal (b, o) (length ys) ∷ vint w64 i ∷ []) _ $
         alloc1 ! (λ l₀. alloc1 ! (λ l₁. alloc1 ! (λ l₂. alloc1 ! (λ l₃. alloc1 ! (λ l₄. alloc1 ! (λ l₅. alloc0 ! $ params1 ! $
         pass1 ! (init ! 8 refl (tt, (tt, (record { fits = gn .0 }, tt)))) $ pass1 ! (init ! 6 refl (tt, record { fits = gi })) $ pass0 ! $
         assigns ! (bin ! (load ! (from ! (stop !)) (look ! 6 refl)) (lit ! tt) (record { fits = small })) (from ! (stop !)) (init ! 4 refl (tt, record { fits = small })) $
         assigns ! (bin ! (load ! (from ! (fld ! refl (stop !))) (look-in ! 8 (sub ! 0 refl (whole !)))) (load ! (from ! (stop !)) (look ! 4 refl)) tt) (from ! (stop !)) (init ! 2 refl (tt, tt)) $
-        rewrite ! 2 (λ (p : ℕ). ‵ (fat fullShare tyPtr l₄ 0 (vptr b p))) (sym (place-is 40 o i)) refl $
+        rewrite ! 2 (λ (p : ℕ). ‵ (fat fullShare tyPtr l₄ 0 (vptr b p))) (sym (place-is 56 o i)) refl $
         move ! (13 ∷ []) $ fsplit ! $ fsplit ! $ move ! (1 ∷ []) $ fsplit ! $ move ! (16 ∷ []) $ split ! $ move ! (3 ∷ 0 ∷ []) $
         looks-slice ! tt T.the-row (Is T.the-row) (shows 𝓤 H A T.the-row) (LL.vals T.the-type T′.the-laws) (LL.tells T.the-type T′.the-laws) ((LL.copy T.the-type T′.the-copy) 𝓤 H A W) ys b o (λ q′.
         elem-out ! T.the-row (Is T.the-row) (shows 𝓤 H A T.the-row) (LL.vals T.the-type T′.the-laws) (LL.tells T.the-type T′.the-laws) q′ ys i blank b o l (λ g.

@@ -86,14 +86,14 @@ module _ {M : Type 1} (𝓤 : URA M) (H : Heap 𝓤) (A : Atoms 𝓤) (W : Given
   module _ (C : Calls 𝓤 H) (Λ : Loops 𝓤 H) where
     walk : Room T.the-row (length ys) → i < 2 ^ 64 → Is T.the-row r (mach ∷ []) → i < length ys → ent 𝓤 (onEntry 𝓤 H A store-line.signature (κ, tt) (q, tt) a at) (WpFn 𝓤 H C Λ code.function (sliceVal (b, o) (length ys) ∷ vint w64 i ∷ mach ∷ []) Post)
     walk room gi gr l =
-        let small : i * 40 < 2 ^ 64 = omega (arith, room .1) in
+        let small : i * 56 < 2 ^ 64 = omega (arith, room .1) in
         let typed : Holds (hasTy T′.mir mach) × WT mach = LL.lawful T.the-type T′.the-laws 𝓤 H A W .typed r _ gr .0 in
         qed W ((‵ (flft κ q) ⊛ ‵ ftrue) ∷ ‵ (owns (MutSlice (named 0) κ T.the-row ∷ usize ∷ T.the-row ∷ []) a at) ∷ []) ∵ enter ! C Λ code.function (sliceVal (b, o) (length ys) ∷ vint w64 i ∷ mach ∷ []) _ $
         alloc1 ! (λ l₀. alloc1 ! (λ l₁. alloc1 ! (λ l₂. alloc1 ! (λ l₃. alloc1 ! (λ l₄. alloc1 ! (λ l₅. alloc0 ! $ params1 ! $
         pass1 ! (init ! 8 refl (tt, (tt, (record { fits = room .0 }, tt)))) $ pass1 ! (init ! 6 refl (tt, record { fits = gi })) $ pass1 ! (init ! 4 refl typed) $ pass0 ! $
         assigns ! (bin ! (load ! (from ! (stop !)) (look ! 6 refl)) (lit ! tt) (record { fits = small })) (from ! (stop !)) (init ! 2 refl (tt, record { fits = small })) $
         assigns ! (bin ! (load ! (from ! (fld ! refl (stop !))) (look-in ! 8 (sub ! 0 refl (whole !)))) (load ! (from ! (stop !)) (look ! 2 refl)) tt) (from ! (stop !)) (init ! 0 refl (tt, tt)) $
-        rewrite ! 0 (λ (p : ℕ). ‵ (fat fullShare tyPtr l₅ 0 (vptr b p))) (sym (place-is 40 o i)) refl $
+        rewrite ! 0 (λ (p : ℕ). ‵ (fat fullShare tyPtr l₅ 0 (vptr b p))) (sym (place-is 56 o i)) refl $
         move ! (13 ∷ []) $ fsplit ! $ fsplit ! $ move ! (1 ∷ []) $ fsplit ! $ move ! (16 ∷ []) $ split ! $ move ! (2 ∷ 3 ∷ 0 ∷ []) $
         opens-slice ! tt T.the-row ys b o $ elem-out ! T.the-row (Is T.the-row) (shows 𝓤 H A T.the-row) (LL.vals T.the-type T′.the-laws) (LL.tells T.the-type T′.the-laws) fullShare ys i r b o l (λ _.
         -- [lines[at]; what it owns; the others; the open borrow; obs; auth; true; lines's fact; at's and rec's; _5; …; _4; …; _3; …; _2; …; _1; …; room for _0; …]

@@ -49,10 +49,9 @@ use denote.Triple.Table.{entered, cited}
 use denote.Triple.Walked.{says, needs, Stays, stay-none, stay-none-slice, stay-slice, walkOf, goes-none, goes-none-slice, goes-slice, Walks, ends-at, walked, walk-meets}
 use denote.Exit.{yes}
 use denote.Triple.Clauses.{ensured, lasts}
-use Rattle.reference.specs.Tape.{write-line}
 use Rattle.tape.specs.Bytes.{Puts}
-use Rattle.tables.specs.Records.{blank, line-of, Sound}
-use Rattle.tables.specs.Writing.{lines-bytes, recorded, Writes}
+use Rattle.tables.specs.Records.{blank, Sound}
+use Rattle.tables.specs.Writing.{whole-line, lines-bytes, marked-of, recorded, Writes}
 use Rattle.tables.specs.declared.records.LineRecord.{LineRecord}
 use Rattle.tables.proofs.records.Again.{LentAgain, lends-again-at, comes-back-at}
 use Rattle.tables.proofs.records.Shared.{after, LineAt, at-said, to-at, goes-at}
@@ -91,7 +90,7 @@ module _ (tape area tokens : List ℕ) (rows : List LineRecord) (n : ℕ) (ys : 
     pub to : ℕ
     pub low : k ≤ n
     pub fits : to < 2 ^ 64
-    pub written : Written (line-of tape area tokens) write-line (take n rows) ys at l to k
+    pub written : Written (marked-of tape area tokens) whole-line (take n rows) ys at l to k
 
   abbrev Nearer : State → State → Type 0
   Nearer u t = n - u .k < n - t .k
@@ -111,10 +110,10 @@ module _ (tape area tokens : List ℕ) (rows : List LineRecord) (n : ℕ) (ys : 
       inside : t .k < length (take n rows)
       inside = omega (arith, long)
 
-      asked : Sound tape area tokens r × (t .to + length (write-line (line-of tape area tokens r)) ≤ length (t .l))
+      asked : Sound tape area tokens r × (t .to + length (whole-line (marked-of tape area tokens r)) ≤ length (t .l))
       asked = (rw e (pre .sound (t .k) h), rw here at (written-room (t .written) (pre .room) blank inside))
 
-      abbrev next : {l′ : List ℕ} {to′ : ℕ} → to′ < 2 ^ 64 → Puts (t .l) (t .to) (write-line (line-of tape area tokens r)) l′ to′ → State
+      abbrev next : {l′ : List ℕ} {to′ : ℕ} → to′ < 2 ^ 64 → Puts (t .l) (t .to) (whole-line (marked-of tape area tokens r)) l′ to′ → State
       next {l′} {to′} fits′ p = record {
         k = t .k + 1;
         l = l′;
@@ -200,7 +199,7 @@ module _ {M : Type 1} (𝓤 : URA M) (H : Heap 𝓤) (A : Atoms 𝓤) (W : Given
   abbrev to-put : ℕ → GName → LineRecord → Val → List ℕ → ℕ → PutLine 𝓤 H A mem run .Ghost
   to-put ν δ r u l m = (((κ, (ν ∷ [], tt)), (q, (fullShare, tt)), tt, (p₁, (p₂, (p₃, (r, (x δ l, (m, tt)))))), (v₁ ∷ [], (v₂ ∷ [], (v₃ ∷ [], (u ∷ [], (s ∷ [], (vint w64 m ∷ [], tt))))))), tt)
 
-  goes-put : (ν : ℕ) (δ : GName) (r : LineRecord) (u : Val) (l : List ℕ) (m : ℕ) → m < 2 ^ 64 → Sound (now p₁) (now p₂) (now p₃) r × (m + length (write-line (line-of (now p₁) (now p₂) (now p₃) r)) ≤ length l)
+  goes-put : (ν : ℕ) (δ : GName) (r : LineRecord) (u : Val) (l : List ℕ) (m : ℕ) → m < 2 ^ 64 → Sound (now p₁) (now p₂) (now p₃) r × (m + length (whole-line (marked-of (now p₁) (now p₂) (now p₃) r)) ≤ length l)
       → ent 𝓤 (sep 𝓤 (sep 𝓤 (A .lft κ q) (A .lft (ν ∷ []) fullShare)) (sep 𝓤 (sep 𝓤 (sem 𝓤 H A Tape) (sep 𝓤 (sem 𝓤 H A Area) (sem 𝓤 H A Words))) (sep 𝓤 (sem 𝓤 H A (T.the-row .own r (u ∷ []))) (sem 𝓤 H A (MutSlice (named 1) (ν ∷ []) u8 .own (x δ l) (s ∷ [])))))) (PutLine 𝓤 H A mem run .pre (to-put ν δ r u l m))
   goes-put ν δ r u l m fits asked-is =
       qed W ((‵ (flft κ q) ⊛ ‵ (flft (ν ∷ []) fullShare)) ∷ (‵ Tape ⊛ ‵ Area ⊛ ‵ Words) ∷ (‵ (T.the-row .own r (u ∷ [])) ⊛ ‵ (MutSlice (named 1) (ν ∷ []) u8 .own (x δ l) (s ∷ []))) ∷ []) ∵ says ! asked-is $ split ! $
@@ -277,8 +276,8 @@ module _ {M : Type 1} (𝓤 : URA M) (H : Heap 𝓤) (A : Atoms 𝓤) (W : Given
         -- [what `put_whole_line` asks; the tokens; the area; the tape; the lender's part; the records' token; the records; _13; …]
         calls-at ! (fmOf 𝓤 H (W .laws) 𝓣) (PutLine 𝓤 H A mem run) known-put (to-put ν δ r u (t .l) (t .to)) (and-then ! (load ! (from ! (stop !)) (look ! 31 refl)) (and-then ! (load ! (from ! (stop !)) (look ! 29 refl)) (and-then ! (load ! (from ! (stop !)) (look ! 27 refl)) (and-then ! (load ! (from ! (stop !)) (look ! 13 refl)) (and-then ! (load ! (from ! (stop !)) (look ! 7 refl)) (and-then ! (load ! (from ! (stop !)) (look ! 17 refl)) (no-more !))))))) (λ w.
         use1 W (later (some (λ (m : ℕ). ((‵ (flft κ q) ⊛ ‵ (flft (ν ∷ []) fullShare) ⊛ ‵ ftrue) ⊛ ‵ (usize .own m (w ∷ []))) ⊛ raw (ensured 𝓤 H A puts.ended (puts.clauses 𝓤 H A mem run) (κ, (ν ∷ [], tt)) (p₁, (p₂, (p₃, (r, (x δ (t .l), (t .to, tt)))))) tt m)))) (id⊢ 𝓤 _) $ await ! tt $ pick ! (λ m.
-        split ! $ move ! (1 ∷ []) $ use1 W (some (λ (zs : Unit {0} × (Unit {0} × (Unit {0} × (Unit {0} × (List ℕ × (Unit {0} × Unit {0})))))). ‵ (lasts puts.ended (κ, (ν ∷ [], tt)) (p₁, (p₂, (p₃, (r, (x δ (t .l), (t .to, tt)))))) zs) ⊛ raw (fact 𝓤 (Puts (t .l) (t .to) (write-line (line-of (now p₁) (now p₂) (now p₃) r)) (zs .1 .1 .1 .1 .0) m)))) (id⊢ 𝓤 _) $ pick ! (λ zs.
-        split ! $ move ! (1 ∷ []) $ heard ! (Puts (t .l) (t .to) (write-line (line-of (now p₁) (now p₂) (now p₃) r)) (zs .1 .1 .1 .1 .0) m) (λ e₂. fsplit ! $ drop ! $ fsplit ! $ drop ! $ fsplit ! $ drop ! $ fsplit ! $ drop ! $ fsplit ! $ fsplit ! $ move ! (1 ∷ []) $ feqL ! (λ len.
+        split ! $ move ! (1 ∷ []) $ use1 W (some (λ (zs : Unit {0} × (Unit {0} × (Unit {0} × (Unit {0} × (List ℕ × (Unit {0} × Unit {0})))))). ‵ (lasts puts.ended (κ, (ν ∷ [], tt)) (p₁, (p₂, (p₃, (r, (x δ (t .l), (t .to, tt)))))) zs) ⊛ raw (fact 𝓤 (Puts (t .l) (t .to) (whole-line (marked-of (now p₁) (now p₂) (now p₃) r)) (zs .1 .1 .1 .1 .0) m)))) (id⊢ 𝓤 _) $ pick ! (λ zs.
+        split ! $ move ! (1 ∷ []) $ heard ! (Puts (t .l) (t .to) (whole-line (marked-of (now p₁) (now p₂) (now p₃) r)) (zs .1 .1 .1 .1 .0) m) (λ e₂. fsplit ! $ drop ! $ fsplit ! $ drop ! $ fsplit ! $ drop ! $ fsplit ! $ drop ! $ fsplit ! $ fsplit ! $ move ! (1 ∷ []) $ feqL ! (λ len.
         move ! (2 ∷ []) $ split ! $ move ! (1 ∷ []) $ peeks ! usize (Is usize) (shows 𝓤 H A usize) m (w ∷ []) (λ is₂.
         land ! (from ! (stop !)) (store ! 20 refl (uint-lawful 𝓤 H A W w64 .typed m _ is₂ .0)) $ rewrite ! 20 (λ (z : Val). ‵ (fat fullShare word l₈ 0 z)) (ap only (is₂ .0)) refl $
         -- [the place; the tokens; the output's last list; …; the tokens; the area; the tape; the lender's part; the records' token; the records; _13; …]
@@ -308,7 +307,7 @@ module _ {M : Type 1} (𝓤 : URA M) (H : Heap 𝓤) (A : Atoms 𝓤) (W : Given
 
   -- the state before the first turn
   abbrev begun : St
-  begun = record { k = 0; l = ys; to = at; low = zero-le; fits = at-fits; written = written-begin (line-of (now p₁) (now p₂) (now p₃)) write-line (take n (now rs)) ys at }
+  begun = record { k = 0; l = ys; to = at; low = zero-le; fits = at-fits; written = written-begin (marked-of (now p₁) (now p₂) (now p₃)) whole-line (take n (now rs)) ys at }
 
   walk : (𝓣 : Tables 𝓤 H) → Triple 𝓤 (𝓣 .C #tables·line-at) (LineAt 𝓤 H A mem run) → Triple 𝓤 (𝓣 .C #tables·put-whole-line) (PutLine 𝓤 H A mem run)
       → ent 𝓤 (onEntry 𝓤 H A put-records.signature (κ, (κ₁, (κ₂, tt))) (q, (q₁, (q₂, tt))) a vals) (WpFn 𝓤 H (𝓣 .C) (𝓣 .Λ) code.function (v₁ ∷ v₂ ∷ v₃ ∷ v ∷ vint w64 n ∷ s ∷ vint w64 at ∷ []) Post)

@@ -23,25 +23,34 @@ plain-from-requires c κs = search needs
 returns-3 : tie.Need-returns-3
 returns-3 c = search needs
 
+marked-from-requires : tie.Need-marked-from-requires
+marked-from-requires c κs = search needs
+
 returns-4 : tie.Need-returns-4
-returns-4 c = let a = c .before .before .before .before .before .before .args in
-    ending (a .tape .now) (a .at) (c .before .before .before .before .if1 .left) (c .if4 .taken)
+returns-4 c = search needs
 
 returns-5 : tie.Need-returns-5
-returns-5 c = let a = c .before .before .before .before .before .before .before .args in
-    let no-line = c .before .before .before .if2 .left in
-    no-command (a .tape .now) (a .at) no-line (c .before .before .if3 .left) (c .before .if4 .left) (λ low high. omega (arith, c .if5 .taken))
+returns-5 c = let b = c .before .before .before .before .before in
+    let a = b .before .before .args in
+    ending (a .tape .now) (a .at) (b .if1 .left) (c .if5 .taken)
 
 returns-6 : tie.Need-returns-6
-returns-6 c = let a = c .before .before .before .before .before .before .before .before .args in
-    let no-line = c .before .before .before .before .if2 .left in
-    no-command (a .tape .now) (a .at) no-line (c .before .before .before .if3 .left) (c .before .before .if4 .left) (λ low high. omega (arith, c .if6 .taken))
+returns-6 c = let b = c .before .before .before .before in
+    let a = b .before .before .before .before .args in
+    let marks = c .before .before .if4 .left in
+    no-command (a .tape .now) (a .at) (b .if2 .left) (c .before .before .before .if3 .left) marks (c .before .if5 .left) (λ low high. omega (arith, c .if6 .taken))
+
+returns-7 : tie.Need-returns-7
+returns-7 c = let b = c .before .before .before .before .before in
+    let a = b .before .before .before .before .args in
+    let d = c .before .before in
+    no-command (a .tape .now) (a .at) (b .if2 .left) (d .before .before .if3 .left) (d .before .if4 .left) (d .if5 .left) (λ low high. omega (arith, c .if7 .taken))
 
 token-from-requires : tie.Need-token-from-requires
 token-from-requires c κs = search needs
 
-returns-7 : tie.Need-returns-7
-returns-7 c = search needs
+returns-8 : tie.Need-returns-8
+returns-8 c = search needs
 
 pub found-at-spec : {M : Type 1} → statement M
 found-at-spec =
@@ -53,8 +62,10 @@ found-at-spec =
     returns-2
     plain-from-requires
     returns-3
+    marked-from-requires
     returns-4
     returns-5
     returns-6
+    returns-7
     token-from-requires
-    returns-7)
+    returns-8)

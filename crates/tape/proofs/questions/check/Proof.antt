@@ -6,7 +6,7 @@ use lib.ListN.{length}
 use Rattle.reference.specs.Questions.{Passed}
 use Rattle.tape.specs.Questions.{totals-of}
 use Rattle.tape.proofs.questions.Asking.{ends-same}
-use Rattle.tape.proofs.questions.Reading.{Reads, reads-begin, read-refused, moves, reads-on, read-passed, totals-are, verdict-refused, verdict-passed}
+use Rattle.tape.proofs.questions.Reading.{Reads, reads-begin, read-refused, moves, reads-on, read-passed, sizes-are, verdict-refused, verdict-passed}
 use borrow.Author.Needs.{needs}
 use Rattle.tape.proofs.questions.check.Statement.{statement}
 use Rattle.tape.proofs.questions.check.Tie as tie
@@ -42,7 +42,7 @@ returns-2 c = let l = c .before .before .before .before .before .before .loop in
     let w = c .before .before .before .command .given in
     let e = rw (w .1) at (c .before .before .before .before .before .step .ensures) in
     let ended = ends-same tape (l .at) (w .0 .0) ∙ sym (c .before .is-end .ensures) ∙ c .if1 .taken in
-    ap Passed (totals-are (l .inv)) ∙ verdict-passed tape (read-passed (l .inv) e ended)
+    ap Passed (sizes-are (l .inv)) ∙ verdict-passed tape (read-passed (l .inv) e ended)
 
 loop-less : tie.Need-loop-less Inv-loop μ-loop
 loop-less c = let e = rw (c .before .before .before .command .given .1) at (c .before .before .before .before .before .step .ensures) in
