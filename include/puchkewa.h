@@ -17,7 +17,7 @@ extern "C" {
 #endif
 
 /* The version of the interface and of what it does: a change of either changes it. */
-#define PUCHKEWA_VERSION "0.5.0"
+#define PUCHKEWA_VERSION "0.6.0"
 
 /* The least that each work area and the output must have, in bytes. 59,137 bytes are enough for the output of every tape. */
 #define PUCHKEWA_WORK 49152
@@ -38,7 +38,8 @@ struct puchkewa_settings {
                            round before the cuts would change no byte */
 };
 
-/* Why a call was refused: the first question that was answered "no". Questions 3 to 8 are asked of each command of the tape from the left. */
+/* Why a call was refused: the first question that was answered "no". The questions from 3 on are asked of each command
+ * of the tape from the left, in the order 3, 4, 5, 6, 10, 11, 7, 8. docs/TAPE.md has the table. */
 enum puchkewa_refusal {
     PUCHKEWA_FINISHED = 0,           /* nothing was refused */
     PUCHKEWA_BAD_CONVENTION = 1,     /* the convention is not 0, 1 or 2 */
@@ -47,16 +48,18 @@ enum puchkewa_refusal {
     PUCHKEWA_CUT_OFF = 4,            /* the command's operand or text runs past the end of the tape */
     PUCHKEWA_TOKEN_BEFORE_LINE = 5,  /* a token before any line; an 03 that does not stand directly after a line's command, or
                                         has its lowest address above its highest */
-    PUCHKEWA_BEYOND_LIMITS = 6,      /* indent above 63; more than 256 lines, 1,024 tokens or 24,576 bytes of text; a text that is empty; a
-                                        Number of more than 24 bytes */
+    PUCHKEWA_BEYOND_LIMITS = 6,      /* indent above 63; a text that is empty; a Number of more than 24 bytes */
     PUCHKEWA_NOT_PRINTABLE = 7,      /* a text byte outside 20 to 7E (hexadecimal) */
-    PUCHKEWA_AFTER_END = 8           /* bytes after the end command FF */
+    PUCHKEWA_AFTER_END = 8,          /* bytes after the end command FF */
+    PUCHKEWA_TOO_MANY = 10,          /* more than 256 lines or 1,024 tokens */
+    PUCHKEWA_TOO_MUCH_TEXT = 11      /* more than 24,576 bytes of text */
 };
 
 /* What a call did. */
 struct puchkewa_report {
     uint64_t refusal;    /* 0 when finished, else the number of the question that refused: enum puchkewa_refusal */
-    uint64_t place;      /* of a refusal by 3 to 8: the offset in the tape of the command that was refused; otherwise 0 */
+    uint64_t place;      /* of a refusal by 3 or more: the offset in the tape of the command that was refused, by 7 of the first byte
+                            that is not printable; otherwise 0 */
     uint64_t length;     /* the length of the new tape, at the front of the output */
     uint64_t attempts_1; /* attempts to join a line into a later one, in the first round; 0 where `settle` was set .. */
     uint64_t attempts_2; /* .. in the second, 0 if it was not run .. */

@@ -25,7 +25,8 @@ pub struct Report {
 
 type Refusal = (u64, usize);
 
-/// The listing of an accepted tape: the questions 3 to 8. An 03 (request M-105) is asked its questions and left out.
+/// The listing of an accepted tape: the questions of each command, in the order 3, 4, 5, 6, 10, 11, 7, 8. An 03 (request M-105) is asked its questions and left
+/// out.
 pub fn read_tape(tape: &[u8]) -> Result<Vec<PseudoLine>, Refusal> {
     let mut lines: Vec<PseudoLine> = Vec::new();
     let (mut tokens, mut text, mut at) = (0, 0, 0);
@@ -48,8 +49,11 @@ pub fn read_tape(tape: &[u8]) -> Result<Vec<PseudoLine>, Refusal> {
         match command {
             0x01 | 0x02 => {
                 let indent = rest[operand - 1];
-                if indent > 63 || lines.len() == 256 {
+                if indent > 63 {
                     return Err((6, at));
+                }
+                if lines.len() == 256 {
+                    return Err((10, at));
                 }
                 let address = (command == 0x01).then(|| u64::from_le_bytes(rest[..8].try_into().unwrap()));
                 lines.push(PseudoLine { address, indent, tokens: Vec::new() });
@@ -75,12 +79,18 @@ pub fn read_tape(tape: &[u8]) -> Result<Vec<PseudoLine>, Refusal> {
                 let k = KINDS[(command - 0x10) as usize];
                 tokens += 1;
                 text += n;
-                if tokens > 1024 || text > 24_576 || n == 0 || k == TokenKind::Number && n > 24 {
+                if n == 0 || k == TokenKind::Number && n > 24 {
                     return Err((6, at));
                 }
+                if tokens > 1024 {
+                    return Err((10, at));
+                }
+                if text > 24_576 {
+                    return Err((11, at));
+                }
                 let bytes = &rest[2..2 + n];
-                if !bytes.iter().all(|b| (0x20..=0x7E).contains(b)) {
-                    return Err((7, at));
+                if let Some(i) = bytes.iter().position(|b| !(0x20..=0x7E).contains(b)) {
+                    return Err((7, at + 3 + i));
                 }
                 last.tokens.push(Token { t: String::from_utf8(bytes.to_vec()).unwrap(), k });
                 at += 3 + n;

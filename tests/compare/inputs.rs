@@ -333,6 +333,47 @@ fn fitting(lines: Vec<PseudoLine>) -> Vec<PseudoLine> {
         .collect()
 }
 
+/// A tape that comes near the total of lines, tokens or text, and a few commands that may pass it, or another limit, or both (M-101).
+fn totals(r: &mut Rng) -> Vec<u8> {
+    let mut tape = vec![0x02, 0x00];
+    let text = match r.below(3) {
+        0 => {
+            tape = [0x02, 0x00].repeat(r.range(255, 256));
+            0
+        }
+        1 => {
+            let n = [1, 24][r.below(2)];
+            let token = [vec![0x10 + r.below(8) as u8, n, 0], vec![b'a'; n as usize]].concat();
+            let times = r.range(1023, 1024);
+            tape.extend(token.repeat(times));
+            times * n as usize
+        }
+        _ => {
+            let n = r.range(24_576 - 30, 24_576);
+            tape.extend([0x10, n as u8, (n >> 8) as u8]);
+            tape.extend(vec![b'a'; n]);
+            n
+        }
+    };
+    for _ in 0..r.range(1, 3) {
+        if r.chance(30) {
+            tape.extend([0x02, [0, 63, 64][r.below(3)]]);
+        } else {
+            let n = [0, 1, 24, 25, 24_576usize.saturating_sub(text).min(99)][r.below(5)];
+            let at = tape.len() + 3;
+            tape.extend([0x10 + r.below(8) as u8, n as u8, 0]);
+            tape.extend(vec![b'5'; n]);
+            if n > 0 && r.chance(30) {
+                for _ in 0..2 {
+                    tape[at + r.below(n)] = [0x07, 0x1F, 0x7F, 0xFF][r.below(4)];
+                }
+            }
+        }
+    }
+    tape.push(0xFF);
+    tape
+}
+
 /// Some bytes changed, lost or added.
 fn damage(r: &mut Rng, tape: &mut Vec<u8>) {
     for _ in 0..r.range(1, 3) {
@@ -364,7 +405,7 @@ pub fn case(seed: u64, number: u64) -> Input {
         94..=95 => grown(r),
         _ => laborious(r),
     };
-    let mut tape = write_tape(&if r.chance(98) { fitting(lines) } else { lines });
+    let mut tape = if r.below(200) == 0 { totals(r) } else { write_tape(&if r.chance(98) { fitting(lines) } else { lines }) };
     if r.chance(6) {
         damage(r, &mut tape);
     }

@@ -82,7 +82,7 @@ module _ (rules : Rules) (tape work-a work-b out : List ℕ) where
     -- question 1 or 2 refuses the call
     pub refused-at-door : (n ≡ 0 → ⊥) → Promise work-a work-b out (Said.Refused n 0)
     unfolding reply-by
-    refused-at-door z = refused (ask-number 0 (door rules (length work-a) (length work-b) (length out)) _ z (sym e))
+    refused-at-door z = refused (ask-number (λ number. 0) (door rules (length work-a) (length work-b) (length out)) _ z (sym e))
 
     module _ (z : n ≡ 0) where
       open-door : Yes (door rules (length work-a) (length work-b) (length out))
@@ -90,7 +90,7 @@ module _ (rules : Rules) (tape work-a work-b out : List ℕ) where
 
       answer-is : answer ≡ (let-passed (read tape) then λ lines. cleaned rules tape lines)
       unfolding reply-by
-      answer-is = ask-yes 0 (door rules (length work-a) (length work-b) (length out)) _ open-door
+      answer-is = ask-yes (λ number. 0) (door rules (length work-a) (length work-b) (length out)) _ open-door
 
       -- a later question refuses the tape
       pub refused-on-tape : {number place : ℕ} → read tape ≡ Refused number place → Promise work-a work-b out (Said.Refused number place)

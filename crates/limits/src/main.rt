@@ -1,5 +1,6 @@
-// The limits of document 01's sheet, and those of the marks (M-105): for each a tape is built and asked the questions 3 to 8. A line each: what the tape
-// is, and `accepted` or `refused`, number, `at`, place. The file `stdout` has the answers of the Rust behind the same questions.
+// The limits of document 01's sheet, commands that pass two of them (M-101), and the limits of the marks (M-105): for each a tape is built
+// and asked the tape's questions. A line each: what the tape is, and `accepted` or `refused`, number, `at`, place. The file `stdout` has
+// the answers of the Rust behind the same questions.
 use libc::STDOUT_FILENO;
 use tape::commands::text_of;
 use tape::questions::Checked;
@@ -103,6 +104,37 @@ const MARKED: [u8; 32] = [
     0x00,
     0x66,
     0xFF,
+];
+
+// A token of 24 bytes of text: 1,024 of them are 24,576.
+const TOKEN_24: [u8; 27] = [
+    0x10,
+    0x18,
+    0x00,
+    0x61,
+    0x61,
+    0x61,
+    0x61,
+    0x61,
+    0x61,
+    0x61,
+    0x61,
+    0x61,
+    0x61,
+    0x61,
+    0x61,
+    0x61,
+    0x61,
+    0x61,
+    0x61,
+    0x61,
+    0x61,
+    0x61,
+    0x61,
+    0x61,
+    0x61,
+    0x61,
+    0x61,
 ];
 
 // ---- answers
@@ -300,6 +332,86 @@ fn marks_everywhere(buffer: &mut [u8], tape: &[u8]) {
     }
 }
 
+// ---- two limits passed by one command, and the place of 7
+
+// Ends the tape behind the first n bytes with one command more.
+fn answer_last(buffer: &mut [u8], n: usize, last: &[u8]) {
+    let n = append(buffer, n, last);
+    let n = append(buffer, n, &[0xFF]);
+    answer_first(buffer, n);
+}
+
+fn line_257(buffer: &mut [u8], indent: u8) {
+    write(b"line 257, indent ");
+    write_number(indent as usize);
+    let n = append_times(buffer, 0, &[0x02, 0x00], 256);
+    answer_last(buffer, n, &[0x02, indent]);
+}
+
+// A line with 1,024 tokens, all alike, then one more.
+fn token_1025(buffer: &mut [u8], token: &[u8], last: &[u8]) {
+    let n = append(buffer, 0, &[0x02, 0x00]);
+    let n = append_times(buffer, n, token, 1024);
+    answer_last(buffer, n, last);
+}
+
+// A line with a text of 24,576 bytes, then a token of a command's kind whose text is a byte many times.
+fn past_text(buffer: &mut [u8], command: u8, byte: u8, times: u8) {
+    let n = append_token(buffer, 0x10, b'a', 24576);
+    let n = append(buffer, n, &[command, times, 0x00]);
+    let n = append_times(buffer, n, &[byte], times as usize);
+    answer_last(buffer, n, &[]);
+}
+
+fn last_tokens(buffer: &mut [u8]) {
+    write(b"token 1025, empty");
+    token_1025(buffer, &[0x10, 0x01, 0x00, 0x66], &[0x10, 0x00, 0x00]);
+    write(b"token 1025, not printable");
+    token_1025(buffer, &[0x10, 0x01, 0x00, 0x66], &[0x10, 0x01, 0x00, 0x07]);
+    write(b"token 1025, past the text");
+    token_1025(buffer, &TOKEN_24, &[0x10, 0x01, 0x00, 0x66]);
+    write(b"token 1025, past the text, a Number of 25");
+    token_1025(buffer, &TOKEN_24, b"\x12\x19\x005555555555555555555555555");
+}
+
+fn last_texts(buffer: &mut [u8]) {
+    write(b"past the text, a Number of 24");
+    past_text(buffer, 0x12, b'5', 24);
+    write(b"past the text, a Number of 25");
+    past_text(buffer, 0x12, b'5', 25);
+    write(b"past the text, not printable");
+    past_text(buffer, 0x10, 0x07, 1);
+    write(b"past the text, empty");
+    past_text(buffer, 0x10, 0x07, 0);
+}
+
+fn first_offending() {
+    write(b"second byte");
+    answer(&[0x02, 0x00, 0x10, 0x02, 0x00, 0x41, 0x07, 0xFF]);
+    write(b"first and third byte");
+    answer(&[0x02, 0x00, 0x10, 0x03, 0x00, 0x1F, 0x41, 0x7F, 0xFF]);
+    write(b"third byte of the second token");
+    answer(
+        &[
+            0x02,
+            0x00,
+            0x10,
+            0x01,
+            0x00,
+            0x66,
+            0x11,
+            0x03,
+            0x00,
+            0x72,
+            0x61,
+            0xFF,
+            0xFF,
+        ],
+    );
+    write(b"in a Number of 25");
+    answer(b"\x02\x00\x12\x19\x00\x07555555555555555555555555\xff");
+}
+
 // ---- truncations
 
 fn truncation(what: &[u8], tape: &[u8], n: usize) {
@@ -338,6 +450,11 @@ fn main() {
     byte(0x7E);
     byte(0x7F);
     refusals();
+    line_257(&mut buffer, 63);
+    line_257(&mut buffer, 64);
+    last_tokens(&mut buffer);
+    last_texts(&mut buffer);
+    first_offending();
     truncations(b"example", &EXAMPLE);
     span(&mut buffer, 0, 0);
     span(&mut buffer, 16, 32);

@@ -21,6 +21,7 @@ pub mod Writing
 pub mod Limits
 pub mod Tapes
 pub mod Written
+pub mod Refusals
 pub mod Guarantee
 pub mod WorkSpace
 pub mod Unmarked

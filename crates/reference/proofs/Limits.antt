@@ -1,4 +1,4 @@
--- A listing within the limits of document 01: what questions 6 and 7 let pass, with kinds and addresses that a tape can hold. Assumes nothing.
+-- A listing within the limits of document 01: what questions 6, 10, 11 and 7 let pass, with kinds and addresses that a tape can hold. Assumes nothing.
 use Prim.Native.Nat.{ℕ, zero, suc, _<_, _≤_}
 use mathlib.Core.Path.{_≡_}
 use mathlib.Core.Bool.{true, false}

@@ -12,8 +12,8 @@ use borrow.Author.Tests.{leb-true, le-leb, lt-leb}
 use Rattle.reference.specs.Control.{if_then_else_}
 use Rattle.reference.specs.Listing.{Listing}
 use Rattle.reference.specs.Spans.{Marks}
-use Rattle.reference.specs.Tape.{command-size, command-of}
-use Rattle.reference.specs.Questions.{Totals, is-command, ends-inside, has-line, is-within, is-printable, is-over, Answer, Refused, Passed, ask, let-passed_then_, count-in, Advance, read-command, is-end, add, no-commands, read-from, read, add-marks, marks-from, marks-in}
+use Rattle.reference.specs.Tape.{Command, command-size, command-of}
+use Rattle.reference.specs.Questions.{Totals, is-command, ends-inside, has-line, is-within, is-few, is-short, is-printable, is-over, first-offending, place-at, Answer, Refused, Passed, ask, let-passed_then_, count-in, Advance, read-command, is-end, add, no-commands, read-from, read, add-marks, marks-from, marks-in}
 use Rattle.reference.proofs.Cases.{by-if}
 use Rattle.reference.proofs.Commands.{Form, is-address, is-plain, is-marks, is-token, is-ending, form, is-form, address-form, plain-form, marks-form, token-form, end-form}
 
@@ -31,18 +31,18 @@ module _ {A : Type 0} where
   pub passed-inj : {x y : A} → Passed x ≡ Passed y → x ≡ y
   passed-inj e = cc
 
-  pub ask-yes : (place : ℕ) (qs : List (ℕ × Bool)) (a : Answer A) → Yes qs → ask place qs a ≡ a
+  pub ask-yes : (place : ℕ → ℕ) (qs : List (ℕ × Bool)) (a : Answer A) → Yes qs → ask place qs a ≡ a
   unfolding ask if_then_else_
   ask-yes place [] a h = refl
   ask-yes place (q ∷ more) a h = rw (h .0) (ask-yes place more a (h .1))
 
-  pub ask-no : (place : ℕ) (before : List (ℕ × Bool)) (q : ℕ × Bool) (after : List (ℕ × Bool)) (a : Answer A) → Yes before → q .1 ≡ false
-      → ask place (before ++ q ∷ after) a ≡ Refused (q .0) place
+  pub ask-no : (place : ℕ → ℕ) (before : List (ℕ × Bool)) (q : ℕ × Bool) (after : List (ℕ × Bool)) (a : Answer A) → Yes before → q .1 ≡ false
+      → ask place (before ++ q ∷ after) a ≡ Refused (q .0) (place (q .0))
   unfolding ask if_then_else_
   ask-no place [] q after a h e = rw e
   ask-no place (p ∷ before) q after a h e = rw (h .0) (ask-no place before q after a (h .1) e)
 
-  pub ask-passed : (place : ℕ) (qs : List (ℕ × Bool)) (a : Answer A) (x : A) → ask place qs a ≡ Passed x → Yes qs × (a ≡ Passed x)
+  pub ask-passed : (place : ℕ → ℕ) (qs : List (ℕ × Bool)) (a : Answer A) (x : A) → ask place qs a ≡ Passed x → Yes qs × (a ≡ Passed x)
   unfolding ask
   ask-passed place [] a x = λ e. (tt, e)
   ask-passed place (q ∷ more) a x =
@@ -73,12 +73,14 @@ module _ {A : Type 0} where
 
 -- ---- one command
 
--- the questions 3 to 8 are answered "yes"
+-- the questions 3 to 8, 10 and 11 are answered "yes"
 pub record Passes (rest : List ℕ) (t : Totals) : Type 0 where
   pub known : Form rest
   pub inside : command-size rest ≤ length rest
   pub begun : has-line t (command-of rest) ≡ true
-  pub within : is-within t (command-of rest) ≡ true
+  pub within : is-within (command-of rest) ≡ true
+  pub few : is-few t (command-of rest) ≡ true
+  pub short : is-short t (command-of rest) ≡ true
   pub printable : is-printable (command-of rest) ≡ true
   pub over : is-over rest (command-of rest) ≡ true
 
@@ -94,7 +96,7 @@ pub command-passed : (tape : List ℕ) (at : ℕ) (t : Totals) (a : Advance) →
     → Passes (drop at tape) t × (a ≡ advance tape at t)
 unfolding read-command ends-inside
 command-passed tape at t a e =
-    let r = ask-passed at _ (Passed (advance tape at t)) a e in
+    let r = ask-passed _ _ (Passed (advance tape at t)) a e in
     let yes = r .0 in
     let passes : Passes (drop at tape) t =
     record {
@@ -102,44 +104,69 @@ command-passed tape at t a e =
       inside = leb-true _ _ (yes .1 .0);
       begun = yes .1 .1 .0;
       within = yes .1 .1 .1 .0;
-      printable = yes .1 .1 .1 .1 .0;
-      over = yes .1 .1 .1 .1 .1 .0;
+      few = yes .1 .1 .1 .1 .0;
+      short = yes .1 .1 .1 .1 .1 .0;
+      printable = yes .1 .1 .1 .1 .1 .1 .0;
+      over = yes .1 .1 .1 .1 .1 .1 .1 .0;
     } in
     (passes, sym (passed-inj (r .1)))
 
 pub pass-command : (tape : List ℕ) (at : ℕ) (t : Totals) → Passes (drop at tape) t → read-command tape at t ≡ Passed (advance tape at t)
 unfolding read-command ends-inside
 pass-command tape at t p =
-    ask-yes at _ _ (is-form _ (p .known), (le-leb _ _ (p .inside), (p .begun, (p .within, (p .printable, (p .over, tt))))))
+    ask-yes _ _ _ (is-form _ (p .known), (le-leb _ _ (p .inside), (p .begun, (p .within, (p .few, (p .short, (p .printable, (p .over, tt))))))))
 
 -- and where one is the first answered "no"
 module _ (tape : List ℕ) (at : ℕ) (t : Totals) where
-  pub refused-3 : is-command (drop at tape) ≡ false → read-command tape at t ≡ Refused 3 at
-  unfolding read-command
-  refused-3 e = ask-no at [] _ _ _ tt e
+  abbrev rest : List ℕ
+  rest = drop at tape
 
-  pub refused-4 : Form (drop at tape) → length (drop at tape) < command-size (drop at tape) → read-command tape at t ≡ Refused 4 at
-  unfolding read-command ends-inside
-  refused-4 f h = ask-no at ((3, _) ∷ []) _ _ _ (is-form _ f, tt) (lt-leb _ _ h)
+  abbrev c : Command
+  c = command-of rest
 
-  module _ (f : Form (drop at tape)) (inside : command-size (drop at tape) ≤ length (drop at tape)) where
-    pub refused-5 : has-line t (command-of (drop at tape)) ≡ false → read-command tape at t ≡ Refused 5 at
-    unfolding read-command ends-inside
-    refused-5 e = ask-no at ((3, _) ∷ (4, _) ∷ []) _ _ _ (is-form _ f, (le-leb _ _ inside, tt)) e
+  pub refused-3 : is-command rest ≡ false → read-command tape at t ≡ Refused 3 at
+  unfolding read-command place-at if_then_else_
+  refused-3 e = ask-no _ [] _ _ _ tt e
 
-    module _ (begun : has-line t (command-of (drop at tape)) ≡ true) where
-      pub refused-6 : is-within t (command-of (drop at tape)) ≡ false → read-command tape at t ≡ Refused 6 at
-      unfolding read-command ends-inside
-      refused-6 e = ask-no at ((3, _) ∷ (4, _) ∷ (5, _) ∷ []) _ _ _ (is-form _ f, (le-leb _ _ inside, (begun, tt))) e
+  pub refused-4 : Form rest → length rest < command-size rest → read-command tape at t ≡ Refused 4 at
+  unfolding read-command ends-inside place-at if_then_else_
+  refused-4 f h = ask-no _ ((3, _) ∷ []) _ _ _ (is-form _ f, tt) (lt-leb _ _ h)
 
-      module _ (within : is-within t (command-of (drop at tape)) ≡ true) where
-        pub refused-7 : is-printable (command-of (drop at tape)) ≡ false → read-command tape at t ≡ Refused 7 at
-        unfolding read-command ends-inside
-        refused-7 e = ask-no at ((3, _) ∷ (4, _) ∷ (5, _) ∷ (6, _) ∷ []) _ _ _ (is-form _ f, (le-leb _ _ inside, (begun, (within, tt)))) e
+  module _ (f : Form rest) (inside : command-size rest ≤ length rest) where
+    pub refused-5 : has-line t c ≡ false → read-command tape at t ≡ Refused 5 at
+    unfolding read-command ends-inside place-at if_then_else_
+    refused-5 e = ask-no _ ((3, _) ∷ (4, _) ∷ []) _ _ _ (is-form _ f, (le-leb _ _ inside, tt)) e
 
-        pub refused-8 : is-printable (command-of (drop at tape)) ≡ true → is-over (drop at tape) (command-of (drop at tape)) ≡ false → read-command tape at t ≡ Refused 8 at
-        unfolding read-command ends-inside
-        refused-8 p e = ask-no at ((3, _) ∷ (4, _) ∷ (5, _) ∷ (6, _) ∷ (7, _) ∷ []) _ _ _ (is-form _ f, (le-leb _ _ inside, (begun, (within, (p, tt))))) e
+    module _ (begun : has-line t c ≡ true) where
+      pub refused-6 : is-within c ≡ false → read-command tape at t ≡ Refused 6 at
+      unfolding read-command ends-inside place-at if_then_else_
+      refused-6 e = ask-no _ ((3, _) ∷ (4, _) ∷ (5, _) ∷ []) _ _ _ (is-form _ f, (le-leb _ _ inside, (begun, tt))) e
+
+      module _ (within : is-within c ≡ true) where
+        pub refused-10 : is-few t c ≡ false → read-command tape at t ≡ Refused 10 at
+        unfolding read-command ends-inside place-at if_then_else_
+        refused-10 e = ask-no _ ((3, _) ∷ (4, _) ∷ (5, _) ∷ (6, _) ∷ []) _ _ _ (is-form _ f, (le-leb _ _ inside, (begun, (within, tt)))) e
+
+        module _ (few : is-few t c ≡ true) where
+          pub refused-11 : is-short t c ≡ false → read-command tape at t ≡ Refused 11 at
+          unfolding read-command ends-inside place-at if_then_else_
+          refused-11 e =
+              ask-no _ ((3, _) ∷ (4, _) ∷ (5, _) ∷ (6, _) ∷ (10, _) ∷ []) _ _ _ (is-form _ f, (le-leb _ _ inside, (begun, (within, (few, tt))))) e
+
+          module _ (short : is-short t c ≡ true) where
+            pub refused-7 : is-printable c ≡ false → read-command tape at t ≡ Refused 7 (at + first-offending c)
+            unfolding read-command ends-inside place-at if_then_else_
+            refused-7 e =
+                ask-no _ ((3, _) ∷ (4, _) ∷ (5, _) ∷ (6, _) ∷ (10, _) ∷ (11, _) ∷ []) _ _ _
+                (is-form _ f, (le-leb _ _ inside, (begun, (within, (few, (short, tt))))))
+                e
+
+            pub refused-8 : is-printable c ≡ true → is-over rest c ≡ false → read-command tape at t ≡ Refused 8 at
+            unfolding read-command ends-inside place-at if_then_else_
+            refused-8 p e =
+                ask-no _ ((3, _) ∷ (4, _) ∷ (5, _) ∷ (6, _) ∷ (10, _) ∷ (11, _) ∷ (7, _) ∷ []) _ _ _
+                (is-form _ f, (le-leb _ _ inside, (begun, (within, (few, (short, (p, tt)))))))
+                e
 
 pub size-positive : (rest : List ℕ) → Form rest → 1 ≤ command-size rest
 size-positive rest (is-address e) = omega (arith, address-form rest e .0)

@@ -10,7 +10,7 @@ use Rattle.reference.specs.Control.{let-some_else_then_}
 use Rattle.reference.specs.Text.{Text, bytes}
 use Rattle.reference.specs.Numbers.{unsigned}
 use Rattle.reference.specs.Run.{three, settled, Counts}
-use Rattle.reference.specs.Questions.{WORK, OUTPUT, Refused, Passed, read, marks-in}
+use Rattle.reference.specs.Questions.{WORK, OUTPUT, Refused, Passed, read-command, read, marks-in}
 use Rattle.reference.specs.Reply.{Reply, reply, output-after, work-after, Told, told, report}
 use Rattle.reference.proofs.Opened.{opened}
 
@@ -62,10 +62,10 @@ pub record TapeExamples : Type 0 where
   pub indent : refuses (tape "02 40 FF") 6 0
   pub no-text : refuses (tape "02 00 10 00 00 FF") 6 2
   pub long-number : refuses (tape "02 00 12 19 00" ++ replicate 25 0x30 ++ tape "FF") 6 2
-  pub unprintable : refuses (tape "02 00 10 02 00 66 7F FF") 7 2
+  pub unprintable : refuses (tape "02 00 10 02 00 66 7F FF") 7 6
   pub after-end : refuses (tape "02 00 FF 00") 8 2
   pub many-lines : read (blank-lines 256) ≡ Passed (replicate 256 (record { address = none; indent = 0; tokens = [] }))
-  pub too-many-lines : refuses (blank-lines 257) 6 512
+  pub too-many-lines : refuses (blank-lines 257) 10 512
   pub untouched : (output-after (Refused 3 0) (7 ∷ []) ≡ 7 ∷ []) × (work-after (Refused 3 0) (7 ∷ []) ≡ 7 ∷ [])
   pub written : output-after done (7 ∷ 8 ∷ 9 ∷ []) ≡ 1 ∷ 0xFF ∷ 9 ∷ []
   pub zeroed : work-after done (replicate 49154 7) ≡ replicate 49152 0 ++ (7 ∷ 7 ∷ [])
@@ -110,6 +110,42 @@ tape-examples =
       refusal = refl;
       counts = refl;
       settling = refl;
+    }
+
+-- Which limit it was (M-101): of two questions that refuse one command, the one asked first. By the step where a tape would be long: the command at 0,
+-- after so many lines, tokens and bytes of text.
+abbrev step-refuses : ℕ → ℕ → ℕ → List ℕ → ℕ → ℕ → Type 0
+step-refuses lines tokens text t number place =
+    read-command t 0 (record { lines = lines; tokens = tokens; text = text; fresh = false }) ≡ Refused number place
+
+pub record LimitExamples : Type 0 where
+  -- "So 257 lines are now 10."
+  pub line-257 : step-refuses 256 0 0 (tape "02 00") 10 0
+  pub line-257-indent-64 : step-refuses 256 0 0 (tape "02 40") 6 0
+  pub token-1025 : step-refuses 1 1024 0 (tape "10 01 00 41") 10 0
+  pub token-1025-empty : step-refuses 1 1024 0 (tape "10 00 00") 6 0
+  pub token-1025-long-text : step-refuses 1 1024 24576 (tape "10 01 00 41") 10 0
+  pub long-text : refuses (tape "02 00 10 01 60" ++ replicate 24577 0x41 ++ tape "FF") 11 2
+  pub long-text-long-number : step-refuses 1 0 24576 (tape "12 19 00" ++ replicate 25 0x30) 6 0
+  pub long-text-offending : step-refuses 1 0 24576 (tape "10 01 00 07") 11 0
+  -- "For 7 they want the offset of the first offending byte"
+  pub offending : refuses (tape "02 00 10 02 00 41 07 FF") 7 6
+  pub first-of-two : refuses (tape "02 00 10 03 00 1F 41 7F FF") 7 5
+
+pub limit-examples : LimitExamples
+unfolding opened
+limit-examples =
+    record {
+      line-257 = refl;
+      line-257-indent-64 = refl;
+      token-1025 = refl;
+      token-1025-empty = refl;
+      token-1025-long-text = refl;
+      long-text = refl;
+      long-text-long-number = refl;
+      long-text-offending = refl;
+      offending = refl;
+      first-of-two = refl;
     }
 
 -- Marks (M-105): 03 in the input and in the output.

@@ -12,7 +12,7 @@ use borrow.Author.Tests.{leb-true}
 use Rattle.reference.specs.Lists.{is-empty}
 use Rattle.reference.specs.Listing.{Token, Line, Listing, _at_}
 use Rattle.reference.specs.Tape.{Command, new-line, marked, new-token, end, write-command, write-lines, write, command-size, command-of}
-use Rattle.reference.specs.Questions.{Totals, has-line, is-within, is-printable, is-over, Passed, count-in, is-end, add, read, add-marks, marks-in}
+use Rattle.reference.specs.Questions.{Totals, has-line, is-within, is-few, is-short, is-printable, is-over, Passed, count-in, is-end, add, read, add-marks, marks-in}
 use Rattle.reference.specs.Claim.{sum, size, token-count, text-in, text}
 use Rattle.reference.proofs.Cases.{both, either, not-true, true-false}
 use Rattle.reference.proofs.Weights.{sum-append}
@@ -32,10 +32,10 @@ sum-add G t n h lines le =
     let i : ℕ = pred (length lines) in
     omega (arith, sum-modify G (with-token t) i lines (omega arith), h (lines at i))
 
-token-fits : (t : Token) (n : Totals) → t .kind < 8 → is-within n (new-token t) ≡ true → is-printable (new-token t) ≡ true → TokenFits t
+token-fits : (t : Token) → t .kind < 8 → is-within (new-token t) ≡ true → is-printable (new-token t) ≡ true → TokenFits t
 unfolding is-within is-printable
-token-fits t n kind within printable =
-    let w = both (both (both within .1) .1) in
+token-fits t kind within printable =
+    let w = both within in
     record {
       kind = kind;
       some-text = leb-true _ _ (w .0);
@@ -61,21 +61,20 @@ pub record Kept (s : State) : Type 0 where
   pub marks : length (s .marks) ≡ length (s .lines)
   pub fresh : s .totals .fresh ≡ true → Fresh (s .lines) (s .marks)
 
-kept-command : (s : State) (n : ℕ) (c : Command) → Kept s → Sized c n → has-line (s .totals) c ≡ true → is-within (s .totals) c ≡ true
-    → is-printable c ≡ true → is-end c ≡ false → Kept (record { at = s .at + n; totals = count-in c (s .totals); lines = add c (s .lines); marks = add-marks c (s .marks) })
-unfolding has-line is-within count-in
-kept-command s n (new-line address indent) k z begun within printable no-end =
-    let w = both within in
+kept-command : (s : State) (n : ℕ) (c : Command) → Kept s → Sized c n → has-line (s .totals) c ≡ true → is-within c ≡ true
+    → is-few (s .totals) c ≡ true → is-short (s .totals) c ≡ true → is-printable c ≡ true → is-end c ≡ false → Kept (record { at = s .at + n; totals = count-in c (s .totals); lines = add c (s .lines); marks = add-marks c (s .marks) })
+unfolding has-line is-within is-few is-short count-in
+kept-command s n (new-line address indent) k z begun within few short printable no-end =
     let l : Line = record { address = address; indent = indent; tokens = [] } in
     unfold add add-marks in
     record {
       lines = omega (arith, k .lines, length-append (s .lines) (l ∷ []));
       tokens = omega (arith, k .tokens, sum-append (λ l. length (l .tokens)) (s .lines) (l ∷ []));
       text = omega (arith, k .text, sum-append (λ l. text-in (l .tokens)) (s .lines) (l ∷ []));
-      few-lines = leb-true _ _ (w .1);
+      few-lines = leb-true _ _ few;
       few-tokens = k .few-tokens;
       short-text = k .short-text;
-      each = all-append LineFits (s .lines) (l ∷ []) (k .each) (record { indent = leb-true _ _ (w .0); tokens = tt }, tt);
+      each = all-append LineFits (s .lines) (l ∷ []) (k .each) (record { indent = leb-true _ _ within; tokens = tt }, tt);
       place = omega (arith, k .place);
       marks = omega (arith, k .marks, length-append (s .lines) (l ∷ []), length-append (s .marks) (none ∷ []));
       fresh = λ e.
@@ -89,7 +88,7 @@ kept-command s n (new-line address indent) k z begun within printable no-end =
             same = k .marks;
           };
     }
-kept-command s n (marked span) k z begun within printable no-end =
+kept-command s n (marked span) k z begun within few short printable no-end =
     let b = both begun in
     let e : s .totals .fresh ≡ true = b .0 in
     let place : s .at + 17 ≤ s .totals .text + 3 * s .totals .tokens + 27 * s .totals .lines = rw e at (k .place) in
@@ -106,17 +105,16 @@ kept-command s n (marked span) k z begun within printable no-end =
       marks = unfold add-marks in length-modify (λ m. some span) _ (s .marks) ∙ k .marks;
       fresh = λ e. absurd (false≢true e);
     }
-kept-command s n (new-token t) k z begun within printable no-end =
-    let w = both within in
+kept-command s n (new-token t) k z begun within few short printable no-end =
     let there : 1 ≤ length (s .lines) = omega (arith, k .lines, leb-true 1 (s .totals .lines) begun) in
-    let fits = token-fits t (s .totals) (z .1) within printable in
+    let fits = token-fits t (z .1) within printable in
     record {
       lines = unfold add in k .lines ∙ sym (length-modify (with-token t) _ (s .lines));
       tokens = omega (arith, k .tokens, sum-add (λ l. length (l .tokens)) t 1 (λ l. omega (arith, length-append (l .tokens) (t ∷ []))) (s .lines) there);
       text = omega (arith, k .text, sum-add (λ l. text-in (l .tokens)) t (size t) (λ l. omega (arith, sum-append size (l .tokens) (t ∷ []))) (s .lines) there);
       few-lines = k .few-lines;
-      few-tokens = leb-true _ _ (w .0);
-      short-text = leb-true _ _ (both (w .1) .0);
+      few-tokens = leb-true _ _ few;
+      short-text = leb-true _ _ short;
       each =
           unfold add in
           all-modify LineFits (with-token t)
@@ -128,7 +126,7 @@ kept-command s n (new-token t) k z begun within printable no-end =
       marks = unfold add add-marks in k .marks ∙ sym (length-modify (with-token t) _ (s .lines));
       fresh = λ e. absurd (false≢true e);
     }
-kept-command s n end k z begun within printable no-end = absurd (true≢false no-end)
+kept-command s n end k z begun within few short printable no-end = absurd (true≢false no-end)
 
 module _ (tape : List ℕ) where
   pub kept : {s : State} → Reached tape s → Kept s
@@ -146,7 +144,7 @@ module _ (tape : List ℕ) where
         fresh = λ e. absurd (false≢true e);
       }
   kept (on {s = s} r p n) =
-      kept-command s _ _ (kept r) (sized (left tape s) (p .known) (p .inside)) (p .begun) (p .within) (p .printable) n
+      kept-command s _ _ (kept r) (sized (left tape s) (p .known) (p .inside)) (p .begun) (p .within) (p .few) (p .short) (p .printable) n
 
   -- READ FROM THE START, THE TOTALS ARE THOSE OF THE LISTING SO FAR
   pub totals-so-far : {s : State} → Reached tape s

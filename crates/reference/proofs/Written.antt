@@ -13,7 +13,7 @@ use Rattle.reference.specs.Control.{not, _||_}
 use Rattle.reference.specs.Listing.{Token, Line, Listing, with-tokens}
 use Rattle.reference.specs.Spans.{Marks}
 use Rattle.reference.specs.Tape.{Command, new-line, marked, new-token, end, write-command, write-marks, write-line, write-lines, write, command-size}
-use Rattle.reference.specs.Questions.{Totals, has-line, is-within, is-printable, is-over, Passed, count-in, is-end, add, read, add-marks, marks-in}
+use Rattle.reference.specs.Questions.{Totals, has-line, is-within, is-few, is-short, is-printable, is-over, Passed, count-in, is-end, add, read, add-marks, marks-in}
 use Rattle.reference.specs.Claim.{size, token-count, text-in, text}
 use Rattle.reference.proofs.Cases.{pair}
 use Rattle.reference.proofs.Commands.{AddressFits, Writable, read-of-write, form}
@@ -41,15 +41,17 @@ no-end-over rest (new-token t) n = refl
 no-end-over rest end n = absurd (true≢false n)
 
 -- a command that was written passes
-passes : (c : Command) (post : List ℕ) (t : Totals) → Writable c → has-line t c ≡ true → is-within t c ≡ true → is-printable c ≡ true
-    → is-over (write-command c ++ post) c ≡ true → Passes (write-command c ++ post) t
-passes c post t w begun within printable over =
+passes : (c : Command) (post : List ℕ) (t : Totals) → Writable c → has-line t c ≡ true → is-within c ≡ true → is-few t c ≡ true → is-short t c ≡ true
+    → is-printable c ≡ true → is-over (write-command c ++ post) c ≡ true → Passes (write-command c ++ post) t
+passes c post t w begun within few short printable over =
     let b = read-of-write c post w in
     record {
       known = form _ (b .known);
       inside = rw (b .size, length-append (write-command c) post) (omega arith);
       begun = rw (b .same) begun;
       within = rw (b .same) within;
+      few = rw (b .same) few;
+      short = rw (b .same) short;
       printable = rw (b .same) printable;
       over = rw (b .same) over;
     }
@@ -69,22 +71,22 @@ module _ (tape : List ℕ) where
     text-room : state .totals .text + k ≤ 24576
 
   over-command : (c : Command) (post : List ℕ) (s : State) → Reached tape s → left tape s ≡ write-command c ++ post → Writable c
-      → has-line (s .totals) c ≡ true → is-within (s .totals) c ≡ true → is-printable c ≡ true → is-end c ≡ false
+      → has-line (s .totals) c ≡ true → is-within c ≡ true → is-few (s .totals) c ≡ true → is-short (s .totals) c ≡ true → is-printable c ≡ true → is-end c ≡ false
       → (s′ : State) × Reached tape s′ × (left tape s′ ≡ post) × (s′ .lines ≡ add c (s .lines)) × (s′ .totals ≡ count-in c (s .totals))
       × (s′ .marks ≡ add-marks c (s .marks))
-  over-command c post s r e w begun within printable n =
+  over-command c post s r e w begun within few short printable n =
       let b = read-of-write c post w in
-      let p = passes c post (s .totals) w begun within printable (no-end-over _ c n) in
+      let p = passes c post (s .totals) w begun within few short printable (no-end-over _ c n) in
       (after tape s, on r (rw e p) (rw (e, b .same) n), sym (drop-drop (command-size (left tape s)) (s .at) tape) ∙ rw (e, b .size, drop-append-seam (write-command c) post), rw (e, b .same), rw (e, b .same), rw (e, b .same))
 
   over-line : (address : Option ℕ) (indent : ℕ) (post : List ℕ) (read : Listing) (marks : List Marks) (m n k : ℕ) → AddressFits address → indent ≤ 63
       → To (write-command (new-line address indent) ++ post) read marks (suc m) n k
       → (to : To post (read ++ (record { address = address; indent = indent; tokens = [] } ∷ [])) (marks ++ (none ∷ [])) m n k) × (to .state .totals .fresh ≡ true)
-  unfolding has-line is-within is-printable count-in add add-marks
+  unfolding has-line is-within is-few is-short is-printable count-in add add-marks
   over-line address indent post read marks m n k a i to =
       let t = to .state .totals in
       let r = over-command (new-line address indent) post (to .state) (to .reached) (to .rest) a refl
-      (pair (le-leb _ _ i) (le-leb (t .lines + 1) 256 (omega (arith, to .line-room)))) refl refl in (
+      (le-leb _ _ i) (le-leb (t .lines + 1) 256 (omega (arith, to .line-room))) refl refl refl in (
         record {
           state = r .0;
           reached = r .1;
@@ -102,10 +104,10 @@ module _ (tape : List ℕ) where
   over-marks : (mark : Marks) (post : List ℕ) (read : Listing) (marks : List Marks) (m n k : ℕ) → MarksFit mark
       → (to : To (write-marks mark ++ post) read (marks ++ (none ∷ [])) m n k) → to .state .totals .fresh ≡ true
       → To post read (marks ++ (mark ∷ [])) m n k
-  unfolding write-marks has-line is-within is-printable count-in add
+  unfolding write-marks has-line is-within is-few is-short is-printable count-in add
   over-marks none post read marks m n k f to fresh = to
   over-marks (some s) post read marks m n k f to fresh =
-      let r = over-command (marked s) post (to .state) (to .reached) (to .rest) (f .0) (pair fresh (le-leb _ _ (f .1))) refl refl refl in
+      let r = over-command (marked s) post (to .state) (to .reached) (to .rest) (f .0) (pair fresh (le-leb _ _ (f .1))) refl refl refl refl refl in
       record {
         state = r .0;
         reached = r .1;
@@ -120,14 +122,14 @@ module _ (tape : List ℕ) where
   over-token : (u : Token) (post : List ℕ) (init : Listing) (l : Line) (marks : List Marks) (m n k : ℕ) → TokenFits u
       → To (write-command (new-token u) ++ post) (init ++ (l ∷ [])) marks m (suc n) (size u + k)
       → To post (init ++ (with-token u l ∷ [])) marks m n k
-  unfolding has-line is-within is-printable count-in add-marks
+  unfolding has-line is-within is-few is-short is-printable count-in add-marks
   over-token u post init l marks m n k f to =
       let t = to .state .totals in
       let begun : 1 ≤ t .lines = omega (arith, ap (λ (t : Totals). t .lines) (totals-so-far tape (to .reached)), ap length (to .lines), length-append init (l ∷ [])) in
       let r = over-command (new-token u) post (to .state) (to .reached) (to .rest) (f .kind, omega (arith, to .text-room)) (le-leb _ _ begun)
-      (pair (le-leb (t .tokens + 1) 1024 (omega (arith, to .token-room)))
-      (pair (le-leb (t .text + length (u .text)) 24576 (omega (arith, to .text-room)))
-      (pair (le-leb _ _ (f .some-text)) (implied _ _ (λ e. le-leb _ _ (f .number e))))))
+      (pair (le-leb _ _ (f .some-text)) (implied _ _ (λ e. le-leb _ _ (f .number e))))
+      (le-leb (t .tokens + 1) 1024 (omega (arith, to .token-room)))
+      (le-leb (t .text + length (u .text)) 24576 (omega (arith, to .text-room)))
       (flip-false (f .printable)) refl in
       record {
         state = r .0;
@@ -192,7 +194,7 @@ module _ (tape : List ℕ) where
 -- WHAT IS WRITTEN READS BACK, the listing and the marks
 pub read-write : (lines : Listing) (marks : List Marks) → Fits lines → All MarksFit marks → length marks ≡ length lines
     → (read (write lines marks) ≡ Passed lines) × (marks-in (write lines marks) ≡ marks)
-unfolding write write-command has-line is-within is-printable is-over
+unfolding write write-command has-line is-within is-few is-short is-printable is-over
 read-write lines marks f g e =
     let tape = write lines marks in
     let to = over-lines tape lines marks (write-command end) [] [] e (f .limits .each) (f .addresses) g
@@ -211,7 +213,7 @@ read-write lines marks f g e =
     record {
       state = to .state;
       reached = to .reached;
-      passes = rw (to .rest) (passes end [] (to .state .totals) tt refl refl refl refl);
+      passes = rw (to .rest) (passes end [] (to .state .totals) tt refl refl refl refl refl refl);
       ends = rw (to .rest, w .same);
       listing = to .lines;
     } in

@@ -6,12 +6,17 @@ use mathlib.Core.List.{List, [], _∷_, _++_}
 use mathlib.Core.Option.{none, some}
 use lib.Dec.{leb, ltb, eqb}
 use lib.ListN.{length, drop}
-use Rattle.reference.specs.Control.{not, _&&_, _||_, if_then_else_}
-use Rattle.reference.specs.Lists.{any, is-empty, modify}
+use Rattle.reference.specs.Control.{not, _&&_, _||_, if_then_else_, let-some_else_then_}
+use Rattle.reference.specs.Lists.{any, position, is-empty, modify}
 use Rattle.reference.specs.Listing.{is, Number, Listing, with-tokens}
 use Rattle.reference.specs.Rules.{Rules}
 use Rattle.reference.specs.Spans.{Marks}
 use Rattle.reference.specs.Tape.{Command, new-line, marked, new-token, end, command-size, command-of}
+
+-- The numbers that a call can give, in the order in which they are asked: document 01's eight, and those of the requests after it.
+-- "Demand 1's eight and their order take in this number and each one below."
+abbrev pub numbers : List ℕ
+numbers = 1 ∷ 2 ∷ 3 ∷ 4 ∷ 5 ∷ 6 ∷ 10 ∷ 11 ∷ 7 ∷ 8 ∷ []
 
 -- what every work area has at least, and every output
 abbrev pub WORK : ℕ
@@ -58,22 +63,35 @@ has-line t (marked s) = t .fresh && leb (s .lowest) (s .highest)
 has-line t (new-token s) = leb 1 (t .lines)
 has-line t end = true
 
--- 6. Is indent at most 63, are lines at most 256, tokens 1,024, all text 24,576 bytes, each text at least 1 byte, each N text at most 24?
-unfoldable pub is-within : Totals → Command → Bool
-is-within t (marked s) = true
-is-within t (new-line address indent) = leb indent 63 && leb (t .lines + 1) 256
-is-within t (new-token s) =
-    leb (t .tokens + 1) 1024
-    && leb (t .text + length (s .text)) 24576
-    && leb 1 (length (s .text))
-    && (not (is Number s) || leb (length (s .text)) 24)
-is-within t end = true
+-- 6. Is indent at most 63, each text at least 1 byte, each N text at most 24? "Keep 6 for indent, empty text and long numbers."
+unfoldable pub is-within : Command → Bool
+is-within (new-line address indent) = leb indent 63
+is-within (marked s) = true
+is-within (new-token s) = leb 1 (length (s .text)) && (not (is Number s) || leb (length (s .text)) 24)
+is-within end = true
+
+-- 10. With this command, are lines at most 256 and tokens 1,024? "10, more than 256 lines or 1,024 tokens, after 6"
+unfoldable pub is-few : Totals → Command → Bool
+is-few t (new-line address indent) = leb (t .lines + 1) 256
+is-few t (marked s) = true
+is-few t (new-token s) = leb (t .tokens + 1) 1024
+is-few t end = true
+
+-- 11. With this command, is all text at most 24,576 bytes? "11, text over 24,576 bytes, after 10 and before 7"
+unfoldable pub is-short : Totals → Command → Bool
+is-short t (new-line address indent) = true
+is-short t (marked s) = true
+is-short t (new-token s) = leb (t .text + length (s .text)) 24576
+is-short t end = true
 
 -- 7. Is each text byte 20 to 7E?
+abbrev pub is-offending : ℕ → Bool
+is-offending b = ltb b 0x20 || ltb 0x7E b
+
 unfoldable pub is-printable : Command → Bool
 is-printable (marked s) = true
 is-printable (new-line address indent) = true
-is-printable (new-token s) = not (any (λ b. ltb b 0x20 || ltb 0x7E b) (s .text))
+is-printable (new-token s) = not (any is-offending (s .text))
 is-printable end = true
 
 -- 8. After FF, is the tape over?
@@ -83,6 +101,20 @@ is-over rest (new-line address indent) = true
 is-over rest (new-token s) = true
 is-over rest end = is-empty (drop 1 rest)
 
+-- ---- places
+
+-- how far behind its command the first offending byte stands; a token's text begins 3 bytes behind it
+unfoldable pub first-offending : Command → ℕ
+first-offending (new-line address indent) = 0
+first-offending (marked s) = 0
+first-offending (new-token s) = 3 + (let-some (position is-offending (s .text)) else 0 then λ i. i)
+first-offending end = 0
+
+-- The place of each number at the command c, which stands at an offset: the command's.
+-- "For 7 they want the offset of the first offending byte, not of its command."
+unfoldable pub place-at : ℕ → Command → ℕ → ℕ
+place-at at c number = if eqb number 7 then at + first-offending c else at
+
 -- ---- asking
 
 -- the number and place of a question answered "no", or what is said where all are answered "yes"
@@ -91,11 +123,11 @@ pub data Answer (A : Type 0) : Type 0 where
   Passed : A → Answer A
 
 module _ {A : Type 0} where
-  -- "Asked in order; the first "no" gives its number." Of two questions that would refuse one command the lower number is given: a token before
-  -- any line is 4 if it runs past the tape, otherwise 5, also with an empty text.
-  unfoldable pub ask : ℕ → List (ℕ × Bool) → Answer A → Answer A
+  -- "Asked in order; the first "no" gives its number", and its number the place. Of two questions that would refuse one command the first
+  -- in the list is given: a token before any line is 4 if it runs past the tape, otherwise 5, also with an empty text.
+  unfoldable pub ask : (ℕ → ℕ) → List (ℕ × Bool) → Answer A → Answer A
   ask place [] a = a
-  ask place (q ∷ more) a = let r = ask place more a in if q .1 then r else Refused (q .0) place
+  ask place (q ∷ more) a = let r = ask place more a in if q .1 then r else Refused (q .0) (place (q .0))
 
   -- `let x = a?; k(x)`
   infixr 1 let-passed_then_
@@ -123,11 +155,13 @@ unfoldable pub read-command : List ℕ → ℕ → Totals → Answer Advance
 read-command tape at t =
     let rest : List ℕ = drop at tape in
     let c : Command = command-of rest in
-    ask at
+    ask (place-at at c)
     ((3, is-command rest)
     ∷ (4, ends-inside rest)
     ∷ (5, has-line t c)
-    ∷ (6, is-within t c)
+    ∷ (6, is-within c)
+    ∷ (10, is-few t c)
+    ∷ (11, is-short t c)
     ∷ (7, is-printable c)
     ∷ (8, is-over rest c)
     ∷ [])

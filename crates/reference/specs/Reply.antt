@@ -19,7 +19,7 @@ Reply = Answer Cleaned
 -- the settings, the tape, and how many bytes the two work areas and the output have; before them the figure that the work areas are asked for
 unfoldable pub reply-by : ℕ → Rules → List ℕ → ℕ → ℕ → ℕ → Reply
 reply-by figure rules tape work-a work-b output =
-    ask 0 ((1, is-convention rules) ∷ (2, has-room-by figure work-a work-b output) ∷ [])
+    ask (λ number. 0) ((1, is-convention rules) ∷ (2, has-room-by figure work-a work-b output) ∷ [])
     (let-passed (read tape) then λ lines.
     Passed (record { tape = write (finished rules lines) (finished-marks rules lines (marks-in tape)); counts = counts rules (run rules lines) }))
 

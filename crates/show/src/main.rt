@@ -24,9 +24,11 @@ use tape::questions::is_end;
 use tape::questions::step;
 use tape::reader::command_from;
 use tape::reader::token_text;
-ghost use Prim.Native.Nat.{_+_, _-_, _≤_, min};
+ghost use Prim.Native.Nat.{_+_, _-_, _*_, _≤_, min};
+ghost use lib.Dec.{eqb};
 ghost use lib.ListN.{length};
 ghost use mathlib.Core.Path.{_≡_};
+ghost use Rattle.reference.specs.Control.{if_then_else_};
 ghost use Rattle.tape.specs.Commands.{size-of};
 
 fn print(s: &[u8]) {
@@ -59,14 +61,22 @@ fn print_meaning(number: u64) {
         }
         6 => {
             print(
-                b"a limit is passed here: indent 63, 256 lines, 1,024 tokens, 24,576 bytes of text, 24 bytes of a number, or a text has no byte\n",
+                b"an indent above 63 stands here, a text with no byte, or a number of more than 24 bytes\n",
             );
         }
         7 => {
-            print(b"the text here has a byte that is not printable (20 to 7E)\n");
+            print(b"the byte that stands here in a text is not printable (20 to 7E)\n");
         }
         8 => {
             print(b"the tape goes on behind the end that stands here\n");
+        }
+        10 => {
+            print(
+                b"with the command that stands here there are more than 256 lines or 1,024 tokens\n",
+            );
+        }
+        11 => {
+            print(b"with the text that stands here there are more than 24,576 bytes of text\n");
         }
         _ => {}
     }
@@ -211,9 +221,9 @@ fn print_listing(tape: &[u8]) {
     let mut fresh = false;
     loop {
         match step(tape, at, begun(at, fresh)) {
-            Stepped::Refused(number) => {
+            Stepped::Refused { number, place } => {
                 end_line(at);
-                print_refusal(number, at);
+                print_refusal(number, place);
                 return;
             }
             Stepped::Passed {
@@ -244,6 +254,16 @@ fn digit(b: u8) -> u64
     wide(b) - 48
 }
 
+// The number that two bytes begin with: of one digit, then a space, or of two.
+fn number_of(first: u8, second: u8) -> u64
+    ensures { λ r. ⌜ r ≡ (if eqb second 32 then first - 48 else 10 * (first - 48) + (second - 48)) ⌝ }
+{
+    if second == b' ' {
+        return digit(first);
+    }
+    10 * digit(first) + digit(second)
+}
+
 // What the filter wrote: a tape, or its refusal, whose number stands behind eight bytes.
 fn show_output(written: &[u8]) {
     if !text::starts(written, b"refused ") {
@@ -251,8 +271,8 @@ fn show_output(written: &[u8]) {
         return;
     }
     print(written);
-    if 8 < written.len() {
-        print_meaning(digit(written[8]));
+    if 9 < written.len() {
+        print_meaning(number_of(written[8], written[9]));
     }
 }
 

@@ -47,7 +47,7 @@ found-in tape at CutOff = Refused 4 at
 -- the questions 3 and 4, and the command where both are answered "yes"
 unfoldable pub standing : List ℕ → ℕ → Answer Sized
 standing tape at =
-    ask at
+    ask (λ number. at)
     ((3, is-command (drop at tape)) ∷ (4, ends-inside (drop at tape)) ∷ [])
     (Passed (Tape.command-of (drop at tape), Tape.command-size (drop at tape)))
 

@@ -9,7 +9,7 @@ use Rattle.reference.specs.Listing.{Listing}
 use Rattle.reference.specs.Tape as Tape
 use Rattle.reference.specs.Claim.{token-count, text}
 use Rattle.reference.specs.Questions as Q
-use Rattle.reference.specs.Questions.{has-line, is-within, is-printable, is-over, Answer, Advance, read}
+use Rattle.reference.specs.Questions.{has-line, is-within, is-few, is-short, is-printable, is-over, Answer, Advance, read}
 use Rattle.tape.specs.Commands.{command-in}
 use Rattle.tape.specs.declared.commands.Command.{Command}
 use Rattle.tape.specs.declared.commands.Command.the-variants.{Addressed, Plain, Marked, Token, End}
@@ -41,9 +41,10 @@ sizes-of t = record { lines = t .lines; tokens = t .tokens; text = t .text }
 abbrev pub sizes-in : Listing → Sizes
 sizes-in lines = record { lines = length lines; tokens = token-count lines; text = text lines }
 
--- the questions 5 to 8 of a command that stands at the head of `rest`
+-- the questions after 4 of a command that stands at the head of `rest`
 abbrev pub questions : List ℕ → Q.Totals → Tape.Command → List (ℕ × Bool)
-questions rest t c = (5, has-line t c) ∷ (6, is-within t c) ∷ (7, is-printable c) ∷ (8, is-over rest c) ∷ []
+questions rest t c =
+    (5, has-line t c) ∷ (6, is-within c) ∷ (10, is-few t c) ∷ (11, is-short t c) ∷ (7, is-printable c) ∷ (8, is-over rest c) ∷ []
 
 -- the totals with one command more, as numbers
 abbrev pub counted : Command → Q.Totals → Q.Totals
@@ -70,7 +71,7 @@ pub record Accepted (tape : List ℕ) : Type 0 where
 abbrev pub stepped : List ℕ → ℕ → Stepped → Answer Advance
 stepped tape at (Passed command next totals) =
     Q.Passed (record { command = command-in tape at command; next = next; totals = totals-of totals })
-stepped tape at (Refused number) = Q.Refused number at
+stepped tape at (Refused number place) = Q.Refused number place
 
 abbrev pub checked : Checked → Answer Sizes
 checked (C.Passed totals) = Q.Passed (sizes-of totals)

@@ -9,11 +9,14 @@ use lines::words::NUMBER;
 ghost use mathlib.Core.Path.{_≡_};
 ghost use mathlib.Core.List.{[], _∷_};
 ghost use Prim.Native.Nat.{_+_, _≤_};
+ghost use lib.Dec.{leb};
 ghost use lib.ListN.{length, drop};
+ghost use Rattle.reference.specs.Control.{let-some_else_then_};
+ghost use Rattle.reference.specs.Lists.{position};
 ghost use Rattle.reference.specs.Listing.{token};
 ghost use Rattle.reference.specs.Tape.{new-line, marked, new-token};
 ghost use mathlib.Core.Option.{none};
-ghost use Rattle.reference.specs.Questions.{is-convention, has-room, has-line, is-within, is-printable, read-command, let-passed_then_, Passed, read};
+ghost use Rattle.reference.specs.Questions.{is-convention, has-room, has-line, is-within, is-printable, is-offending, place-at, read-command, let-passed_then_, Passed, read};
 ghost use Rattle.lines.specs.Rules.{rules-of};
 ghost use Rattle.tape.specs.Commands.{size-of, command-in, ends};
 ghost use Rattle.tape.specs.Questions.{first-no, questions, totals-of, sizes-in, Counts, counted, stepped, checked};
@@ -26,14 +29,17 @@ pub struct Totals {
     pub fresh: bool,
 }
 
-// A command that passed the questions 3 to 8, the offset after it and the totals with it; or the number of the question that refuses it.
+// A command that passed the questions, the offset after it and the totals with it; or the number and place of the question that refuses it.
 pub enum Stepped {
     Passed {
         command: Command,
         next: usize,
         totals: Totals,
     },
-    Refused(u64),
+    Refused {
+        number: u64,
+        place: usize,
+    },
 }
 
 // The totals of an accepted tape, or the number and place of the question that refuses it.
@@ -44,16 +50,16 @@ pub enum Checked {
 
 // ---- one command
 
-fn line_fits(indent: u64, totals: Totals) -> bool
-    ensures { λ r. ⌜ r ≡ is-within (totals-of totals) (new-line none indent) ⌝ }
+fn line_refusal(indent: u64, totals: Totals) -> u64
+    ensures { λ r. ⌜ r ≡ first-no (questions [] (totals-of totals) (new-line none indent)) ⌝ }
 {
     if 63 < indent {
-        return false;
+        return 6;
     }
     if 256 <= totals.lines {
-        return false;
+        return 10; // 257 lines
     }
-    true
+    0
 }
 
 // Whether marks may stand here: directly after a line's command, the lowest not above the highest.
@@ -66,19 +72,10 @@ fn marks_follow(low: u64, high: u64, totals: Totals) -> bool
     low <= high
 }
 
-fn token_fits(kind: u64, text: &[u8], totals: Totals) -> bool
-    ensures { λ r. ⌜ r ≡ is-within (totals-of totals) (new-token (token kind (now (text .entry)))) ⌝ }
+fn token_fits(kind: u64, text: &[u8]) -> bool
+    ensures { λ r. ⌜ r ≡ is-within (new-token (token kind (now (text .entry)))) ⌝ }
 {
     let n = text.len();
-    if 1024 <= totals.tokens {
-        return false;
-    }
-    if 24576 < totals.text {
-        return false;
-    }
-    if 24576 - totals.text < n {
-        return false;
-    }
     if n == 0 {
         return false;
     }
@@ -88,16 +85,23 @@ fn token_fits(kind: u64, text: &[u8], totals: Totals) -> bool
     n <= 24
 }
 
+// Whether a byte of a text is not 20 to 7E.
+fn offends(byte: u8) -> bool
+    ensures { λ r. ⌜ r ≡ is-offending byte ⌝ }
+{
+    if byte < 32 {
+        return true;
+    }
+    126 < byte
+}
+
 fn printable(kind: u64, text: &[u8]) -> bool
     ensures { λ r. ⌜ r ≡ is-printable (new-token (token kind (now (text .entry)))) ⌝ }
 {
     let mut i = 0;
     while i < text.len() {
         let b = text[i];
-        if b < 32 {
-            return false;
-        }
-        if 126 < b {
+        if offends(b) {
             return false;
         }
         i += 1;
@@ -105,31 +109,65 @@ fn printable(kind: u64, text: &[u8]) -> bool
     true
 }
 
+// Where the first byte of a text that is not 20 to 7E stands, or 0.
+fn first_offending(text: &[u8]) -> usize
+    ensures { λ r. ⌜ (r ≡ (let-some (position is-offending (now (text .entry))) else 0 then λ i. i)) × (r ≤ length (now (text .entry))) ⌝ }
+{
+    let mut i = 0;
+    while i < text.len() {
+        let b = text[i];
+        if offends(b) {
+            return i;
+        }
+        i += 1;
+    }
+    0
+}
+
+// Whether all text stays within its limit with a text more.
+fn text_fits(sum: usize, count: usize) -> bool
+    ensures { λ r. ⌜ r ≡ leb (sum + count) 24576 ⌝ }
+{
+    if 24576 < sum {
+        return false;
+    }
+    count <= 24576 - sum
+}
+
+// The number of the question after 4 that refuses a token, or 0: each test is made, then asked in order.
 fn token_refusal(kind: u64, text: &[u8], totals: Totals) -> u64
     ensures { λ r. ⌜ r ≡ first-no (questions [] (totals-of totals) (new-token (token kind (now (text .entry))))) ⌝ }
 {
+    let within = token_fits(kind, text);
+    let few = totals.tokens < 1024;
+    let short = text_fits(totals.text, text.len());
+    let legible = printable(kind, text);
     if totals.lines == 0 {
         return 5;
     }
-    if !token_fits(kind, text, totals) {
+    if !within {
         return 6;
     }
-    if !printable(kind, text) {
+    if !few {
+        return 10; // before 11
+    }
+    if !short {
+        return 11; // before 7
+    }
+    if !legible {
         return 7;
     }
     0
 }
 
-// The number of the question from 5 to 8 that refuses a command, or 0.
+// The number of the question after 4 that refuses a command, or 0.
 fn refusal(tape: &[u8], at: usize, command: Command, totals: Totals) -> u64
     requires { ⌜ at + size-of command ≤ length (now tape) ⌝ }
     ensures { λ r. ⌜ r ≡ first-no (questions (drop at (now (tape .entry))) (totals-of totals) (command-in (now (tape .entry)) at command)) ⌝ }
 {
     match command {
-        Command::Addressed { address: _, indent } => {
-            if line_fits(indent, totals) { 0 } else { 6 }
-        }
-        Command::Plain { indent } => { if line_fits(indent, totals) { 0 } else { 6 } }
+        Command::Addressed { address: _, indent } => line_refusal(indent, totals),
+        Command::Plain { indent } => line_refusal(indent, totals),
         Command::Marked { low, high } => {
             if marks_follow(low, high, totals) {
                 0
@@ -139,6 +177,26 @@ fn refusal(tape: &[u8], at: usize, command: Command, totals: Totals) -> u64
         }
         Command::Token { kind, count } => token_refusal(kind, token_text(tape, at, count), totals),
         Command::End => { if tape.len() - at == 1 { 0 } else { 8 } }
+    }
+}
+
+// The place of a number that refuses a command: the command's; of 7 the offset of the first offending byte.
+fn place_of(tape: &[u8], at: usize, command: Command, number: u64) -> usize
+    requires { ⌜ at + size-of command ≤ length (now tape) ⌝ }
+    ensures { λ r. ⌜ r ≡ place-at at (command-in (now (tape .entry)) at command) number ⌝ }
+{
+    if number != 7 {
+        return at;
+    }
+    match command {
+        Command::Addressed {
+            address: _,
+            indent: _,
+        } => at,
+        Command::Plain { indent: _ } => at,
+        Command::Marked { low: _, high: _ } => at,
+        Command::Token { kind: _, count } => at + 3 + first_offending(token_text(tape, at, count)),
+        Command::End => at,
     }
 }
 
@@ -184,12 +242,19 @@ pub fn step(tape: &[u8], at: usize, totals: Totals) -> Stepped
     ensures { λ r. ⌜ stepped (now (tape .entry)) at r ≡ read-command (now (tape .entry)) at (totals-of totals) ⌝ }
 {
     match command_from(tape, at) {
-        Found::Unknown => Stepped::Refused(3),
-        Found::CutOff => Stepped::Refused(4),
+        Found::Unknown => Stepped::Refused {
+            number: 3,
+            place: at,
+        },
+        Found::CutOff => Stepped::Refused {
+            number: 4, // before 5
+            place: at,
+        },
         Found::Whole(command) => {
             let number = refusal(tape, at, command, totals);
             if number != 0 {
-                return Stepped::Refused(number);
+                let place = place_of(tape, at, command, number);
+                return Stepped::Refused { number, place };
             }
             Stepped::Passed {
                 command,
@@ -217,7 +282,7 @@ pub fn is_end(command: Command) -> bool
     }
 }
 
-// Asks the questions 3 to 8 of every command.
+// Asks the questions of every command.
 pub fn check(tape: &[u8]) -> Checked
     ensures { λ r. ⌜ checked r ≡ (let-passed (read (now (tape .entry))) then λ lines. Passed (sizes-in lines)) ⌝ }
 {
@@ -230,8 +295,8 @@ pub fn check(tape: &[u8]) -> Checked
     };
     loop {
         match step(tape, at, totals) {
-            Stepped::Refused(number) => {
-                return Checked::Refused { number, place: at };
+            Stepped::Refused { number, place } => {
+                return Checked::Refused { number, place };
             }
             Stepped::Passed {
                 command,

@@ -7,7 +7,7 @@ use mathlib.Core.List.{List, [], _∷_}
 use lib.ListN.{length, drop, take, length-append}
 use lib.Seq.{length-take-le}
 use borrow.Author.Tests.{leb-true}
-use Rattle.reference.specs.Questions.{has-line, is-within, Passed, read-command, add, add-marks, read}
+use Rattle.reference.specs.Questions.{has-line, is-within, is-few, is-short, Passed, read-command, add, add-marks, read}
 use Rattle.reference.proofs.Cases.{both}
 use Rattle.reference.proofs.Commands as R
 use Rattle.reference.proofs.Reading.{Passes, pass-command}
@@ -66,8 +66,14 @@ module _ {tape tokens lines addresses : List ℕ} {at : ℕ} {t : Totals} {c : C
         few-lines = limits .few-lines;
       }
 
-  within : is-within (totals-of t) (command-in tape at c) ≡ true
+  within : is-within (command-in tape at c) ≡ true
   within = rw (u .stands .same) (passes .within)
+
+  few : is-few (totals-of t) (command-in tape at c) ≡ true
+  few = rw (u .stands .same) (passes .few)
+
+  short : is-short (totals-of t) (command-in tape at c) ≡ true
+  short = rw (u .stands .same) (passes .short)
 
   pub turn-begun : has-line (totals-of t) (command-in tape at c) ≡ true
   turn-begun = rw (u .stands .same) (passes .begun)
@@ -76,7 +82,7 @@ module _ {tape tokens lines addresses : List ℕ} {at : ℕ} {t : Totals} {c : C
   sized = rw (u .stands .same, u .stands .size) (R.sized (drop at tape) (passes .known) (passes .inside))
 
   pub turn-counts : Counts c t
-  turn-counts = within-counts tape at t (u .stands) within
+  turn-counts = within-counts tape at t (u .stands) few short
 
   pub turn-passed : Passed (advanced tape at (totals-of t) c) ≡ read-command tape at (totals-of t)
   turn-passed = sym (pass-command tape at (totals-of t) passes ∙ ap Passed (advanced-same tape at (totals-of t) (u .stands)))
@@ -86,11 +92,9 @@ module _ {tape tokens lines addresses : List ℕ} {at : ℕ} {t : Totals} {c : C
 
 -- the numbers fit the words
 adds : {tape tokens lines addresses : List ℕ} {at : ℕ} {t : Totals} (c : Command) → Turn tape tokens lines addresses at t c → Adds at c t lines
-unfolding has-line is-within
-adds {t = t} (Addressed address indent) u =
-    let w = both (within u) in (omega (arith, leb-true indent 63 (w .0)), omega (arith, leb-true (t .lines + 1) 256 (w .1)))
-adds {t = t} (Plain indent) u =
-    let w = both (within u) in (omega (arith, leb-true indent 63 (w .0)), omega (arith, leb-true (t .lines + 1) 256 (w .1)))
+unfolding has-line is-within is-few
+adds {t = t} (Addressed address indent) u = (omega (arith, leb-true indent 63 (within u)), omega (arith, leb-true (t .lines + 1) 256 (few u)))
+adds {t = t} (Plain indent) u = (omega (arith, leb-true indent 63 (within u)), omega (arith, leb-true (t .lines + 1) 256 (few u)))
 adds {t = t} (Marked low high) u =
     let b = both (turn-begun u) in
     let f = limits u .fresh (b .0) in
@@ -100,7 +104,7 @@ adds {tape} {t = t} (Token kind count) u =
     let short : length tape ≤ 34561 = accepted-length tape (u .accepted .listing) (u .accepted .reads) in (
       sized u .1,
       omega (arith, stands-inside (u .stands)),
-      omega (arith, leb-true (t .tokens + 1) 1024 (both (within u) .0)),
+      omega (arith, leb-true (t .tokens + 1) 1024 (few u)),
       some,
       omega (arith, u .filled .table .last some, limits u .few-tokens),
     )

@@ -30,21 +30,21 @@ module _ (tape : List ℕ) (at : ℕ) where
 
   pub no-byte : length tape ≤ at → Refused 3 at ≡ standing tape at
   unfolding standing is-command
-  no-byte h = sym (ask-no at [] _ _ _ tt (rw (drop-of-length-le tape h)))
+  no-byte h = sym (ask-no _ [] _ _ _ tt (rw (drop-of-length-le tape h)))
 
   unknown : (Form here → ⊥) → Refused 3 at ≡ standing tape at
   unfolding standing
-  unknown n = sym (ask-no at [] _ _ _ tt (fails (λ e. n (form here e))))
+  unknown n = sym (ask-no _ [] _ _ _ tt (fails (λ e. n (form here e))))
 
   cut-off : Form here → length tape - at < command-size here → Refused 4 at ≡ standing tape at
   unfolding standing ends-inside
   cut-off f h =
       sym
-      (ask-no at ((3, is-command here) ∷ []) (4, ends-inside here) [] _ (is-form here f, tt) (lt-leb (command-size here) (length here) (rw length-drop h)))
+      (ask-no _ ((3, is-command here) ∷ []) (4, ends-inside here) [] _ (is-form here f, tt) (lt-leb (command-size here) (length here) (rw length-drop h)))
 
   whole : Form here → command-size here ≤ length tape - at → Passed (command-of here, command-size here) ≡ standing tape at
   unfolding standing ends-inside
-  whole f h = sym (ask-yes at _ _ (is-form here f, (le-leb (command-size here) (length here) (rw length-drop h), tt)))
+  whole f h = sym (ask-yes _ _ _ (is-form here f, (le-leb (command-size here) (length here) (rw length-drop h), tt)))
 
   pub stood : Form here → command-size here ≤ length here → Stood tape at
   stood f h = record { what = _; stands = sym (whole f (rw length-drop at h)) }
@@ -135,7 +135,7 @@ module _ {tape : List ℕ} {at : ℕ} where
   pub stands : {c : Command} → found-in tape at (Whole c) ≡ standing tape at → Stands tape at c
   unfolding standing ends-inside
   stands {c} e =
-      let r = ask-passed at _ _ _ (sym e) in
+      let r = ask-passed _ _ _ _ (sym e) in
       let p = passed-inj (r .1) in
       record {
         known = form _ (r .0 .0);

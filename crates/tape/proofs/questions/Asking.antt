@@ -7,14 +7,15 @@ use mathlib.Core.List.{List, [], _∷_, _++_}
 use mathlib.Core.Option.{Option, none}
 use lib.ListN.{length, take, drop, length-drop, drop-of-length-le}
 use lib.Seq.{length-take-le}
-use borrow.Author.Tests.{leb-true, le-leb}
-use Rattle.reference.specs.Control.{if_then_else_}
-use Rattle.reference.specs.Lists.{is-empty}
+use borrow.Author.Tests.{leb-true, le-leb, ne-eqb}
+use Rattle.reference.specs.Control.{if_then_else_, let-some_else_then_}
+use Rattle.reference.specs.Lists.{position, is-empty}
 use Rattle.reference.specs.Listing.{Token, token}
 use Rattle.reference.specs.Spans.{Span}
+use Rattle.reference.specs.Tape as Tape
 use Rattle.reference.specs.Tape.{new-line, marked, new-token, end, command-of}
 use Rattle.reference.specs.Questions as Q
-use Rattle.reference.specs.Questions.{is-command, ends-inside, has-line, is-within, is-printable, is-over, is-end, Answer, Refused, Passed, ask, count-in, Advance, read-command}
+use Rattle.reference.specs.Questions.{is-command, ends-inside, has-line, is-within, is-few, is-short, is-printable, is-over, is-offending, first-offending, place-at, is-end, Answer, Refused, Passed, ask, count-in, Advance, read-command}
 use Rattle.reference.proofs.Cases.{by-if, both}
 use Rattle.reference.proofs.Commands.{is-form}
 use Rattle.reference.proofs.Reading.{Yes, ask-yes, refused-passed, advance}
@@ -42,12 +43,12 @@ by-test : {X : Type 0} (b : Bool) → (b ≡ true → X) → (b ≡ false → X)
 by-test true f g = f refl
 by-test false f g = g refl
 
-module _ {A : Type 0} (place : ℕ) where
-  pub ask-number : (qs : List (ℕ × Bool)) (a : Answer A) {n : ℕ} → (n ≡ 0 → ⊥) → first-no qs ≡ n → ask place qs a ≡ Refused n place
+module _ {A : Type 0} (place : ℕ → ℕ) where
+  pub ask-number : (qs : List (ℕ × Bool)) (a : Answer A) {n : ℕ} → (n ≡ 0 → ⊥) → first-no qs ≡ n → ask place qs a ≡ Refused n (place n)
   unfolding first-no ask if_then_else_
   ask-number [] a z e = absurd (z (sym e))
   ask-number (q ∷ more) a z e =
-      by-test (q .1) (λ t. rw t (ask-number more a z (rw t at e))) (λ t. rw t (ap (λ (k : ℕ). Refused k place) (rw t at e)))
+      by-test (q .1) (λ t. rw t (ask-number more a z (rw t at e))) (λ t. rw t (ap (λ (k : ℕ). Refused k (place k)) (rw t at e)))
 
   -- a refusal by the first questions is a refusal by all
   ask-front : {B : Type 0} (qs more : List (ℕ × Bool)) (x : B) (a : Answer A) {n p : ℕ} → ask place qs (Passed x) ≡ Refused n p
@@ -63,21 +64,16 @@ module _ {A : Type 0} (place : ℕ) where
   ask-later [] more a h = refl
   ask-later (q ∷ qs) more a h = rw (h .0) (ask-later qs more a (h .1))
 
--- ---- the questions 5 to 8, kind by kind
+-- ---- the questions after 4, kind by kind
 
 module _ (rest : List ℕ) (t : Q.Totals) where
-  pub line-fits : (address : Option ℕ) (indent : ℕ) {x : Bool} → x ≡ is-within t (new-line none indent) → x ≡ true
-      → 0 ≡ first-no (questions rest t (new-line address indent))
-  unfolding first-no is-within has-line is-printable is-over if_then_else_
-  line-fits address indent e f = rw (sym e ∙ f)
-
-  pub line-exceeds : (address : Option ℕ) (indent : ℕ) {x : Bool} → x ≡ is-within t (new-line none indent) → x ≡ false
-      → 6 ≡ first-no (questions rest t (new-line address indent))
-  unfolding first-no is-within has-line is-printable is-over if_then_else_
-  line-exceeds address indent e f = rw (sym e ∙ f)
+  pub line-refuses : (address : Option ℕ) (indent : ℕ) {r : ℕ} → r ≡ first-no (questions [] t (new-line none indent))
+      → r ≡ first-no (questions rest t (new-line address indent))
+  unfolding has-line is-within is-few is-short is-printable is-over
+  line-refuses address indent e = e
 
   pub marks-fit : (s : Span) {x : Bool} → x ≡ has-line t (marked s) → x ≡ true → 0 ≡ first-no (questions rest t (marked s))
-  unfolding first-no is-within is-printable is-over if_then_else_
+  unfolding first-no is-within is-few is-short is-printable is-over if_then_else_
   marks-fit s e f = rw (sym e ∙ f)
 
   pub marks-misplaced : (s : Span) {x : Bool} → x ≡ has-line t (marked s) → x ≡ false → 5 ≡ first-no (questions rest t (marked s))
@@ -89,7 +85,7 @@ module _ (rest : List ℕ) (t : Q.Totals) where
   token-asked s = refl
 
   end-asked : first-no (questions rest t end) ≡ (if is-empty (drop 1 rest) then 0 else 8)
-  unfolding first-no has-line is-within is-printable is-over if_then_else_
+  unfolding first-no has-line is-within is-few is-short is-printable is-over if_then_else_
   end-asked = refl
 
 module _ (tape : List ℕ) (at : ℕ) (t : Q.Totals) where
@@ -115,14 +111,31 @@ module _ (tape : List ℕ) (at : ℕ) (t : Q.Totals) where
       not-empty [] h = absurd (omega arith)
       not-empty (x ∷ s) h = refl
 
+-- ---- the place of a refusal
+
+module _ (at : ℕ) where
+  pub place-same : (c : Tape.Command) {n : ℕ} → (n ≡ 7 → ⊥) → at ≡ place-at at c n
+  unfolding place-at if_then_else_
+  place-same c {n} h = rw (ne-eqb n 7 h)
+
+  -- a command without a text
+  pub place-textless : (c : Tape.Command) {n : ℕ} → n ≡ 7 → first-offending c ≡ 0 → at ≡ place-at at c n
+  unfolding place-at if_then_else_
+  place-textless c e f = rw (e, f) (omega arith)
+
+  pub place-token : (tape : List ℕ) (kind count : ℕ) {n r : ℕ} {text : List ℕ} → n ≡ 7 → r ≡ (let-some (position is-offending text) else 0 then λ i. i)
+      → text ≡ take count (drop (at + 3) tape) → at + 3 + r ≡ place-at at (command-in tape at (NewToken kind count)) n
+  unfolding place-at first-offending if_then_else_
+  place-token tape kind count e f g = rw (e, f, g) (omega arith)
+
 -- ---- one command
 
 module _ (tape : List ℕ) (at : ℕ) where
   -- question 3 or 4 refuses it
   pub stops : (t : Q.Totals) {n p : ℕ} → Refused n p ≡ standing tape at → Refused n p ≡ read-command tape at t
-  unfolding standing read-command
+  unfolding standing read-command ask place-at if_then_else_
   stops t e =
-      sym (ask-front at ((3, is-command (drop at tape)) ∷ (4, ends-inside (drop at tape)) ∷ []) (questions (drop at tape) t (command-of (drop at tape))) _ _ (sym e))
+      sym (ask-front (place-at at (command-of (drop at tape))) ((3, is-command (drop at tape)) ∷ (4, ends-inside (drop at tape)) ∷ []) (questions (drop at tape) t (command-of (drop at tape))) _ _ (sym e))
 
   text-long : {kind count : ℕ} → Stands tape at (NewToken kind count) → length (take count (drop (at + 3) tape)) ≡ count
   text-long {count = count} s = length-take-le count (drop (at + 3) tape) (rw length-drop (omega (arith, stands-inside s)))
@@ -145,34 +158,36 @@ module _ (tape : List ℕ) (at : ℕ) where
     pub advanced-same : {c : Command} → Stands tape at c → advance tape at t ≡ advanced c
     advanced-same s = rw (s .same, s .size, ← counted-as s)
 
-    asks : {c : Command} → Stands tape at c → read-command tape at t ≡ ask at (questions (drop at tape) t (command-in tape at c)) (Passed (advanced c))
+    asks : {c : Command} → Stands tape at c → read-command tape at t
+        ≡ ask (place-at at (command-in tape at c)) (questions (drop at tape) t (command-in tape at c)) (Passed (advanced c))
     unfolding read-command ends-inside
     asks s =
-        ask-later at ((3, is-command (drop at tape)) ∷ (4, ends-inside (drop at tape)) ∷ []) _ _ (is-form _ (s .known), (le-leb _ _ (s .inside), tt))
+        ask-later _ ((3, is-command (drop at tape)) ∷ (4, ends-inside (drop at tape)) ∷ []) _ _ (is-form _ (s .known), (le-leb _ _ (s .inside), tt))
         ∙ rw (← advanced-same s, s .same)
 
     -- a later question refuses it
-    pub refuses : {c : Command} {n : ℕ} → Stands tape at c → (n ≡ 0 → ⊥) → n ≡ first-no (questions (drop at tape) t (command-in tape at c))
-        → Refused n at ≡ read-command tape at t
-    refuses s z e = sym (asks s ∙ ask-number at _ _ z (sym e))
+    pub refuses : {c : Command} {n place : ℕ} → Stands tape at c → (n ≡ 0 → ⊥) → n ≡ first-no (questions (drop at tape) t (command-in tape at c))
+        → place ≡ place-at at (command-in tape at c) n → Refused n place ≡ read-command tape at t
+    refuses s z e p = rw p (sym (asks s ∙ ask-number _ _ _ z (sym e)))
 
     -- none does
     pub all-yes : (c : Command) {n : ℕ} → n ≡ 0 → n ≡ first-no (questions (drop at tape) t (command-in tape at c))
         → Yes (questions (drop at tape) t (command-in tape at c))
-    all-yes c z e = none-no _ (omega arith, (omega arith, (omega arith, (omega arith, tt)))) (sym e ∙ z)
+    all-yes c z e = none-no _ (omega arith, (omega arith, (omega arith, (omega arith, (omega arith, (omega arith, tt)))))) (sym e ∙ z)
 
     pub passes : {c : Command} {n : ℕ} → Stands tape at c → n ≡ 0 → n ≡ first-no (questions (drop at tape) t (command-in tape at c))
         → Passed (advanced c) ≡ read-command tape at t
-    passes {c} s z e = sym (asks s ∙ ask-yes at _ _ (all-yes c z e))
+    passes {c} s z e = sym (asks s ∙ ask-yes _ _ _ (all-yes c z e))
 
-  pub within-counts : {c : Command} (t : Totals) → Stands tape at c → is-within (totals-of t) (command-in tape at c) ≡ true → Counts c t
-  unfolding is-within
-  within-counts {c = Addressed address indent} t s w = omega (arith, leb-true (t .lines + 1) 256 (both w .1))
-  within-counts {c = Plain indent} t s w = omega (arith, leb-true (t .lines + 1) 256 (both w .1))
-  within-counts {c = Marked low high} t s w = tt
-  within-counts {c = NewToken kind count} t s w =
-      omega (arith, leb-true (t .tokens + 1) 1024 (both w .0), leb-true (t .text + length (take count (drop (at + 3) tape))) 24576 (both (both w .1) .0), text-long s)
-  within-counts {c = End} t s w = tt
+  pub within-counts : {c : Command} (t : Totals) → Stands tape at c → is-few (totals-of t) (command-in tape at c) ≡ true
+      → is-short (totals-of t) (command-in tape at c) ≡ true → Counts c t
+  unfolding is-few is-short
+  within-counts {c = Addressed address indent} t s few short = omega (arith, leb-true (t .lines + 1) 256 few)
+  within-counts {c = Plain indent} t s few short = omega (arith, leb-true (t .lines + 1) 256 few)
+  within-counts {c = Marked low high} t s few short = tt
+  within-counts {c = NewToken kind count} t s few short =
+      omega (arith, leb-true (t .tokens + 1) 1024 few, leb-true (t .text + length (take count (drop (at + 3) tape))) 24576 short, text-long s)
+  within-counts {c = End} t s few short = tt
 
   pub ends-same : (c : Command) → is-end (command-in tape at c) ≡ ends c
   ends-same (Addressed address indent) = refl

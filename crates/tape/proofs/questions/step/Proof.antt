@@ -26,15 +26,18 @@ enum-known-command c = search needs
 refusal-requires : tie.Need-refusal-requires
 refusal-requires c κs = stands-inside (here (c .before)) .1
 
+place-of-requires : tie.Need-place-of-requires
+place-of-requires c κs = stands-inside (here (c .before .before .before)) .1
+
 returns : tie.Need-returns
-returns c = let a = c .before .before .before .before .before .before .before .args in
-    refuses (a .tape .now) (a .at) (totals-of (a .totals)) (here (c .before .before .before)) (c .if1 .taken) (c .before .refusal .ensures)
+returns c = let a = c .before .before .before .before .before .before .before .before .args in
+    refuses (a .tape .now) (a .at) (totals-of (a .totals)) (here (c .before .before .before .before)) (c .before .if1 .taken) (c .before .before .refusal .ensures) (c .place-of .ensures)
 
 size-of-requires : tie.Need-size-of-requires
 size-of-requires c κs = omega (arith, stands-inside (here (c .before .before .before)), c .before .before .before .before .before .before .before .good)
 
-add-t10 : tie.Need-add-t10
-add-t10 c = omega
+add-t11 : tie.Need-add-t11
+add-t11 c = omega
     (arith, stands-inside (here (c .before .before .before .before)), c .size-of .ensures, c .before .before .before .before .before .before .before .before .good)
 
 count-in-requires : tie.Need-count-in-requires
@@ -42,7 +45,7 @@ count-in-requires c κs = let a = c .before .before .before .before .before .bef
     let p = c .before .before .before .before in
     let none = c .before .if1 .left in
     let yes = all-yes (a .tape .now) (a .at) (totals-of (a .totals)) (p .command .given .0 .0) none (c .before .before .refusal .ensures) in
-    within-counts (a .tape .now) (a .at) (a .totals) (here p) (yes .1 .0)
+    within-counts (a .tape .now) (a .at) (a .totals) (here p) (yes .1 .1 .0) (yes .1 .1 .1 .0)
 
 returns-2 : tie.Need-returns-2
 returns-2 c = let a = c .before .before .before .before .args in
@@ -66,9 +69,10 @@ step-spec =
     enum-told-2
     enum-known-command
     refusal-requires
+    place-of-requires
     returns
     size-of-requires
-    add-t10
+    add-t11
     count-in-requires
     returns-2
     returns-3
