@@ -16,7 +16,9 @@ pub mod Rounds
 pub mod Settling
 pub mod LittleEndian
 pub mod Commands
+pub mod Steps
 pub mod Reading
+pub mod Sums
 pub mod Writing
 pub mod Limits
 pub mod Tapes

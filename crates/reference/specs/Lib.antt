@@ -15,4 +15,5 @@ pub mod Tape
 pub mod Questions
 pub mod Reply
 pub mod Claim
+pub mod Steps
 pub mod Demand

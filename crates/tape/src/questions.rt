@@ -17,6 +17,7 @@ ghost use Rattle.reference.specs.Listing.{token};
 ghost use Rattle.reference.specs.Tape.{new-line, marked, new-token};
 ghost use mathlib.Core.Option.{none};
 ghost use Rattle.reference.specs.Questions.{is-convention, has-room, has-line, is-within, is-printable, is-offending, place-at, read-command, let-passed_then_, Passed, read};
+ghost use Rattle.reference.specs.Steps.{FromHere};
 ghost use Rattle.lines.specs.Rules.{rules-of};
 ghost use Rattle.tape.specs.Commands.{size-of, command-in, ends};
 ghost use Rattle.tape.specs.Questions.{first-no, questions, totals-of, sizes-in, Counts, counted, stepped, checked};
@@ -200,6 +201,14 @@ fn place_of(tape: &[u8], at: usize, command: Command, number: u64) -> usize
     }
 }
 
+// The text sum so far with one text more.
+fn text_sum(sum: usize, count: usize) -> usize
+    requires { ⌜ sum + count ≤ 24576 ⌝ }
+    ensures { λ r. ⌜ r ≡ sum + count ⌝ }
+{
+    sum + count
+}
+
 // The totals with one command more.
 pub fn count_in(command: Command, totals: Totals) -> Totals
     requires { ⌜ Counts command totals ⌝ }
@@ -230,16 +239,18 @@ pub fn count_in(command: Command, totals: Totals) -> Totals
         Command::Token { kind: _, count } => Totals {
             lines: totals.lines,
             tokens: totals.tokens + 1,
-            text: totals.text + count,
+            text: text_sum(totals.text, count),
             fresh: false, // and not behind a token
         },
         Command::End => totals,
     }
 }
 
-// Reads the command at an offset, the totals so far being given.
+// Reads the command at an offset, the totals so far being given: any, also such as no tape reaches. The answer depends only on them and on
+// the tape from the offset on (`FromHere`, request M-102).
 pub fn step(tape: &[u8], at: usize, totals: Totals) -> Stepped
     ensures { λ r. ⌜ stepped (now (tape .entry)) at r ≡ read-command (now (tape .entry)) at (totals-of totals) ⌝ }
+    ensures { λ r. ⌜ FromHere (now (tape .entry)) at (totals-of totals) (stepped (now (tape .entry)) at r) ⌝ }
 {
     match command_from(tape, at) {
         Found::Unknown => Stepped::Refused {

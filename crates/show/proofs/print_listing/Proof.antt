@@ -56,7 +56,7 @@ returns-2 c = search needs
 
 loop-less : tie.Need-loop-less Inv-loop μ-loop
 loop-less c =
-    let e = rw (c .before .before .before .before .command .given .1) at (c .before .before .before .before .before .before .step .ensures) in
+    let e = rw (c .before .before .before .before .command .given .1) at (c .before .before .before .before .before .before .step .ensures .0) in
     omega (arith, moves _ _ _ _ e)
 
 loop-again : tie.Need-loop-again Inv-loop μ-loop

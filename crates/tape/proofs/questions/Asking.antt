@@ -16,9 +16,11 @@ use Rattle.reference.specs.Tape as Tape
 use Rattle.reference.specs.Tape.{new-line, marked, new-token, end, command-of}
 use Rattle.reference.specs.Questions as Q
 use Rattle.reference.specs.Questions.{is-command, ends-inside, has-line, is-within, is-few, is-short, is-printable, is-over, is-offending, first-offending, place-at, is-end, Answer, Refused, Passed, ask, count-in, Advance, read-command}
+use Rattle.reference.specs.Steps.{FromHere}
 use Rattle.reference.proofs.Cases.{by-if, both}
 use Rattle.reference.proofs.Commands.{is-form}
 use Rattle.reference.proofs.Reading.{Yes, ask-yes, refused-passed, advance}
+use Rattle.reference.proofs.Steps.{step-from-here}
 use Rattle.tape.specs.Commands.{command-in, size-of, ends, standing}
 use Rattle.tape.specs.Questions.{first-no, totals-of, questions, counted, Counts}
 use Rattle.tape.specs.declared.commands.Command.{Command}
@@ -188,6 +190,10 @@ module _ (tape : List ℕ) (at : ℕ) where
   within-counts {c = NewToken kind count} t s few short =
       omega (arith, leb-true (t .tokens + 1) 1024 few, leb-true (t .text + length (take count (drop (at + 3) tape))) 24576 short, text-long s)
   within-counts {c = End} t s few short = tt
+
+  -- the step's promise
+  pub promised : (t : Q.Totals) {x : Answer Advance} → x ≡ read-command tape at t → (x ≡ read-command tape at t) × FromHere tape at t x
+  promised t e = (e, rw e (step-from-here tape at t))
 
   pub ends-same : (c : Command) → is-end (command-in tape at c) ≡ ends c
   ends-same (Addressed address indent) = refl

@@ -27,7 +27,7 @@ enum-known-number : tie.Need-enum-known-number Inv-loop μ-loop
 enum-known-number c = search needs
 
 returns : tie.Need-returns Inv-loop μ-loop
-returns c = let e = rw (c .before .number .given .1) at (c .before .before .before .step .ensures) in
+returns c = let e = rw (c .before .number .given .1) at (c .before .before .before .step .ensures .0) in
     verdict-refused (c .before .before .before .before .before .before .args .tape .now) (read-refused (c .before .before .before .before .loop .inv) e)
 
 enum-known-command : tie.Need-enum-known-command Inv-loop μ-loop
@@ -40,19 +40,19 @@ returns-2 : tie.Need-returns-2 Inv-loop μ-loop
 returns-2 c = let l = c .before .before .before .before .before .before .loop in
     let tape = c .before .before .before .before .before .before .before .before .args .tape .now in
     let w = c .before .before .before .command .given in
-    let e = rw (w .1) at (c .before .before .before .before .before .step .ensures) in
+    let e = rw (w .1) at (c .before .before .before .before .before .step .ensures .0) in
     let ended = ends-same tape (l .at) (w .0 .0) ∙ sym (c .before .is-end .ensures) ∙ c .if1 .taken in
     ap Passed (sizes-are (l .inv)) ∙ verdict-passed tape (read-passed (l .inv) e ended)
 
 loop-less : tie.Need-loop-less Inv-loop μ-loop
-loop-less c = let e = rw (c .before .before .before .command .given .1) at (c .before .before .before .before .before .step .ensures) in
+loop-less c = let e = rw (c .before .before .before .command .given .1) at (c .before .before .before .before .before .step .ensures .0) in
     omega (arith, moves (c .before .before .before .before .before .before .loop .inv) e)
 
 loop-again : tie.Need-loop-again Inv-loop μ-loop
 loop-again c = let l = c .before .before .before .before .before .before .loop in
     let tape = c .before .before .before .before .before .before .before .before .args .tape .now in
     let w = c .before .before .before .command .given in
-    let e = rw (w .1) at (c .before .before .before .before .before .step .ensures) in
+    let e = rw (w .1) at (c .before .before .before .before .before .step .ensures .0) in
     reads-on (l .inv) e (ends-same tape (l .at) (w .0 .0) ∙ sym (c .before .is-end .ensures) ∙ c .if1 .left)
 
 pub check-spec : {M : Type 1} → statement M

@@ -25,8 +25,8 @@ enum-known-command c = search needs
 add-t7 : tie.Need-add-t7
 add-t7 c = let p = rw (c .before .before .command .given .1) at (c .before .before .before .before .pre) in omega arith
 
-add-t8 : tie.Need-add-t8
-add-t8 c = let p = rw (c .before .before .before .command .given .1) at (c .before .before .before .before .before .pre) in omega arith
+text-sum-requires : tie.Need-text-sum-requires
+text-sum-requires c κs = let p = rw (c .before .before .command .given .1) at (c .before .before .before .before .pre) in omega arith
 
 enum-told-4 : tie.Need-enum-told-4
 enum-told-4 c = search needs
@@ -41,7 +41,7 @@ returns-3 : tie.Need-returns-3
 returns-3 c = rw (c .enum-told3 .given .1)
 
 returns-4 : tie.Need-returns-4
-returns-4 c = rw (c .before .before .before .command .given .1)
+returns-4 c = rw (c .before .before .before .command .given .1, c .text-sum .ensures)
 
 returns-5 : tie.Need-returns-5
 returns-5 c = rw (c .enum-told4 .given .1)
@@ -57,7 +57,7 @@ count-in-spec =
     enum-told-3
     enum-known-command
     add-t7
-    add-t8
+    text-sum-requires
     enum-told-4
     returns
     returns-2

@@ -2,7 +2,7 @@
 use native.Mathlib.Omega.{arith}
 use Rattle.tape.specs.Questions.{totals-of}
 use Rattle.tape.proofs.commands.Standing.{Stands, stands, stands-inside}
-use Rattle.tape.proofs.questions.Asking.{stops, refuses, all-yes, passes, within-counts}
+use Rattle.tape.proofs.questions.Asking.{stops, refuses, all-yes, passes, within-counts, promised}
 use borrow.Author.Needs.{needs}
 use Rattle.tape.proofs.questions.step.Statement.{statement}
 use Rattle.tape.proofs.questions.step.Tie as tie
@@ -31,7 +31,8 @@ place-of-requires c κs = stands-inside (here (c .before .before .before)) .1
 
 returns : tie.Need-returns
 returns c = let a = c .before .before .before .before .before .before .before .before .args in
-    refuses (a .tape .now) (a .at) (totals-of (a .totals)) (here (c .before .before .before .before)) (c .before .if1 .taken) (c .before .before .refusal .ensures) (c .place-of .ensures)
+    promised (a .tape .now) (a .at) (totals-of (a .totals))
+    (refuses (a .tape .now) (a .at) (totals-of (a .totals)) (here (c .before .before .before .before)) (c .before .if1 .taken) (c .before .before .refusal .ensures) (c .place-of .ensures))
 
 size-of-requires : tie.Need-size-of-requires
 size-of-requires c κs = omega (arith, stands-inside (here (c .before .before .before)), c .before .before .before .before .before .before .before .good)
@@ -49,16 +50,19 @@ count-in-requires c κs = let a = c .before .before .before .before .before .bef
 
 returns-2 : tie.Need-returns-2
 returns-2 c = let a = c .before .before .before .before .args in
-    stops (a .tape .now) (a .at) (totals-of (a .totals)) (rw (c .enum-told .given .1) at (c .before .before .command-from .ensures))
+    promised (a .tape .now) (a .at) (totals-of (a .totals))
+    (stops (a .tape .now) (a .at) (totals-of (a .totals)) (rw (c .enum-told .given .1) at (c .before .before .command-from .ensures)))
 
 returns-3 : tie.Need-returns-3
 returns-3 c = let a = c .before .before .before .before .args in
-    stops (a .tape .now) (a .at) (totals-of (a .totals)) (rw (c .enum-told2 .given .1) at (c .before .before .command-from .ensures))
+    promised (a .tape .now) (a .at) (totals-of (a .totals))
+    (stops (a .tape .now) (a .at) (totals-of (a .totals)) (rw (c .enum-told2 .given .1) at (c .before .before .command-from .ensures)))
 
 returns-4 : tie.Need-returns-4
 returns-4 c = let a = c .before .before .before .before .before .before .before .before .before .args in
-    rw (c .before .size-of .ensures, c .count-in .ensures)
-    (passes (a .tape .now) (a .at) (totals-of (a .totals)) (here (c .before .before .before .before .before)) (c .before .before .if1 .left) (c .before .before .before .refusal .ensures))
+    promised (a .tape .now) (a .at) (totals-of (a .totals))
+    (rw (c .before .size-of .ensures, c .count-in .ensures)
+    (passes (a .tape .now) (a .at) (totals-of (a .totals)) (here (c .before .before .before .before .before)) (c .before .before .if1 .left) (c .before .before .before .refusal .ensures)))
 
 pub step-spec : {M : Type 1} → statement M
 step-spec =
