@@ -17,7 +17,7 @@ extern "C" {
 #endif
 
 /* The version of the interface and of what it does: a change of either changes it. */
-#define PUCHKEWA_VERSION "0.6.0"
+#define PUCHKEWA_VERSION "0.7.0"
 
 /* The least that each work area and the output must have, in bytes. 59,137 bytes are enough for the output of every tape. */
 #define PUCHKEWA_WORK 49152
@@ -30,15 +30,22 @@ enum puchkewa_convention {
     PUCHKEWA_WINDOWS_64 = 2 /* 64 bits, Windows: rax rcx rdx r8 r9 r10 r11 */
 };
 
+/* How numbers are read: by C's edition of 2018, as far as the Rust follows it, or by that of 2024 (docs/DIFFERENCES.md has both). */
+enum puchkewa_edition {
+    PUCHKEWA_C_2018 = 0, /* as the Rust reads them: decimal, a leading 0 or not, and 0x */
+    PUCHKEWA_C_2024 = 1  /* decimal, octal behind a leading 0, 0x and 0X, 0b and 0B; one ' may stand between two digits */
+};
+
 /* The settings of a call, passed by value. Set all of them by { .convention = .. }: those that are not named are then off, also those that a later
  * version adds. */
 struct puchkewa_settings {
     uint8_t convention; /* 0, 1 or 2: enum puchkewa_convention */
     bool settle;        /* false: at most three rounds. true: rounds until one changes nothing, at most one more than the listing has lines; one further
                            round before the cuts would change no byte */
+    uint8_t edition;    /* 0 or 1: enum puchkewa_edition */
 };
 
-/* Why a call was refused: the first question that was answered "no". The questions from 3 on are asked of each command
+/* Why a call was refused: the first question that was answered "no". They are asked in the order 1, 9, 2; those from 3 on are asked of each command
  * of the tape from the left, in the order 3, 4, 5, 6, 10, 11, 7, 8. docs/TAPE.md has the table. */
 enum puchkewa_refusal {
     PUCHKEWA_FINISHED = 0,           /* nothing was refused */
@@ -51,6 +58,7 @@ enum puchkewa_refusal {
     PUCHKEWA_BEYOND_LIMITS = 6,      /* indent above 63; a text that is empty; a Number of more than 24 bytes */
     PUCHKEWA_NOT_PRINTABLE = 7,      /* a text byte outside 20 to 7E (hexadecimal) */
     PUCHKEWA_AFTER_END = 8,          /* bytes after the end command FF */
+    PUCHKEWA_BAD_EDITION = 9,        /* the edition is not 0 or 1 */
     PUCHKEWA_TOO_MANY = 10,          /* more than 256 lines or 1,024 tokens */
     PUCHKEWA_TOO_MUCH_TEXT = 11      /* more than 24,576 bytes of text */
 };

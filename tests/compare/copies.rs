@@ -1,6 +1,7 @@
 // The two copies of pseudo_opt.rs, what they lean on, and the counters; included at the root of each program.
 
 mod counting;
+mod edition;
 mod reference;
 
 include!("stand_ins.rs");
@@ -23,6 +24,7 @@ pub mod probe {
     thread_local! {
         static COUNTS: Cell<Counts> = const { Cell::new(Counts { rounds: 0, attempts: [0; 3], all: 0, removed: 0, cuts: 0 }) };
         static LIMIT: Cell<usize> = const { Cell::new(3) };
+        static EDITION: Cell<u8> = const { Cell::new(0) };
     }
 
     fn change(f: impl FnOnce(&mut Counts)) {
@@ -60,6 +62,16 @@ pub mod probe {
     /// From now on it makes as many as it takes, or three.
     pub fn settle(yes: bool) {
         LIMIT.set(if yes { usize::MAX } else { 3 });
+    }
+
+    /// The edition by which the counting copy reads numbers.
+    pub fn edition() -> u8 {
+        EDITION.get()
+    }
+
+    /// From now on it reads by this one.
+    pub fn read_by(edition: u8) {
+        EDITION.set(edition);
     }
 
     /// What was counted since the last call.

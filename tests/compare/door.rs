@@ -153,10 +153,13 @@ pub fn settings(convention: u8) -> (u32, bool) {
 }
 
 /// One call, with what is lent given by its lengths: the report and the output.
-pub fn answer(convention: u8, settle: bool, tape: &[u8], lent: [usize; 3]) -> (Report, Vec<u8>) {
+pub fn answer(convention: u8, settle: bool, edition: u8, tape: &[u8], lent: [usize; 3]) -> (Report, Vec<u8>) {
     let refused = |refusal, place| (Report { refusal, place, ..Report::default() }, Vec::new());
     if convention > 2 {
         return refused(1, 0);
+    }
+    if edition > 1 {
+        return refused(9, 0);
     }
     if lent[0] < WORK || lent[1] < WORK || lent[2] < OUTPUT {
         return refused(2, 0);
@@ -167,6 +170,7 @@ pub fn answer(convention: u8, settle: bool, tape: &[u8], lent: [usize; 3]) -> (R
             let (bits, sysv) = settings(convention);
             probe::take();
             probe::settle(settle);
+            probe::read_by(edition);
             crate::counting::optimize(&crate::Binary, &mut lines, sysv, bits);
             let c = probe::take();
             let out = write_tape(&lines);

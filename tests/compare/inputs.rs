@@ -10,6 +10,7 @@ pub const ENOUGH: [usize; 3] = [WORK, WORK, OUTPUT];
 
 pub struct Input {
     pub convention: u8,
+    pub edition: u8,
     pub tape: Vec<u8>,
     /// how many bytes of the two work areas and of the output are lent
     pub lent: [usize; 3],
@@ -374,6 +375,47 @@ fn totals(r: &mut Rng) -> Vec<u8> {
     tape
 }
 
+/// A number by the rules of one of the editions, or nearly so: its base, digits, quotes between some; sometimes a quote elsewhere, a digit of another
+/// base, a suffix.
+fn number_by_editions(r: &mut Rng) -> String {
+    const HEXADECIMAL: &str = "0123456789abcdefABCDEF";
+    let (prefix, digits) =
+        [("", "0123456789"), ("0", "01234567"), ("0x", HEXADECIMAL), ("0X", HEXADECIMAL), ("0b", "01"), ("0B", "01"), ("", "123456789")][r.below(7)];
+    let mut s = prefix.to_string();
+    let quotes = [0, 0, 20, 60][r.below(4)];
+    for k in 0..if r.chance(15) { r.range(15, 24) } else { r.range(0, 5) } {
+        if (k > 0 || r.chance(4)) && r.chance(quotes) {
+            s.push('\'');
+        }
+        let d = digits.as_bytes()[r.below(digits.len())] as char;
+        s.push(if r.chance(98) { d } else { "'28gu"[r.below(5)..].chars().next().unwrap() });
+    }
+    if r.chance(6) {
+        s += r.pick(&["u", "L", "ull", "wb", "'", "''"]);
+    }
+    r.pick(&["", "", "", "", "", "-", "-", "--", "+", "-+"]).to_string() + &s
+}
+
+/// Small sums of such numbers: `rax = A;` `rbx = rax + B;`, a few times.
+fn sums(r: &mut Rng) -> Vec<PseudoLine> {
+    let one = |r: &mut Rng| if r.chance(70) { tok(Number, number_by_editions(r)) } else { number(r) };
+    (0..r.range(1, 6))
+        .flat_map(|_| {
+            let (a, b) = (one(r), one(r));
+            let sum = vec![tok(Register, "rbx"), tok(Punct, " = "), tok(Register, "rax"), tok(Punct, r.pick(&[" + ", " - "])), b, tok(Punct, ";")];
+            [line(0, vec![tok(Register, "rax"), tok(Punct, " = "), a, tok(Punct, ";")]), line(0, sum)]
+        })
+        .collect()
+}
+
+fn by_editions(r: &mut Rng, lines: &mut [PseudoLine]) {
+    for t in lines.iter_mut().flat_map(|l| &mut l.tokens).filter(|t| t.k == Number) {
+        if r.chance(60) {
+            t.t = number_by_editions(r);
+        }
+    }
+}
+
 /// Some bytes changed, lost or added.
 fn damage(r: &mut Rng, tape: &mut Vec<u8>) {
     for _ in 0..r.range(1, 3) {
@@ -395,7 +437,8 @@ fn damage(r: &mut Rng, tape: &mut Vec<u8>) {
 pub fn case(seed: u64, number: u64) -> Input {
     let r = &mut Rng::new(seed, number);
     let lines = match r.below(100) {
-        0..=54 => c_lines(r),
+        0..=44 => c_lines(r),
+        45..=54 => sums(r),
         55..=66 => soup(r),
         67..=81 => spoilt(r),
         82..=84 => folded(r),
@@ -405,12 +448,17 @@ pub fn case(seed: u64, number: u64) -> Input {
         94..=95 => grown(r),
         _ => laborious(r),
     };
+    let mut lines = lines;
+    if r.chance(40) {
+        by_editions(r, &mut lines);
+    }
     let mut tape = if r.below(200) == 0 { totals(r) } else { write_tape(&if r.chance(98) { fitting(lines) } else { lines }) };
     if r.chance(6) {
         damage(r, &mut tape);
     }
     tape.truncate(crate::door::MOST_TAPE);
     let convention = if r.chance(99) { r.below(3) as u8 } else { r.next() as u8 };
+    let edition = if r.chance(99) { r.below(2) as u8 } else { r.next() as u8 };
     let lent = match r.below(100) {
         0 => [WORK - 1 + r.below(2), WORK - 1 + r.below(2), OUTPUT - 1 + r.below(2)],
         1..=9 => [WORK + r.below(100), WORK + r.below(100), OUTPUT + r.below(100)],
@@ -418,5 +466,5 @@ pub fn case(seed: u64, number: u64) -> Input {
         10 => [65_536 - 1 + r.below(3), 65_536 - 1 + r.below(3), OUTPUT + r.below(2)],
         _ => ENOUGH,
     };
-    Input { convention, tape, lent }
+    Input { convention, edition, tape, lent }
 }

@@ -8,6 +8,7 @@ use crate::door::Report;
 pub struct Settings {
     pub convention: u8,
     pub settle: bool,
+    pub edition: u8,
 }
 
 extern "C" {

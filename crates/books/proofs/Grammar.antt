@@ -14,25 +14,26 @@ use Rattle.reference.specs.Lists.{any, is-empty}
 use Rattle.reference.specs.Text.{Text, bytes, starts-with, contains}
 use Rattle.reference.specs.Numbers.{to-digit, digits-value, as-i64, parse-c-number}
 use Rattle.reference.proofs.Opened.{opened}
+use Rattle.reference.proofs.Numerals.{value-more, begins-with-digit, read-decimal, read-hexadecimal}
 use Rattle.laws.proofs.Scans.{or-true, or-false, any-append}
 use Rattle.books.specs.Tables.{_∈_}
 use Rattle.books.specs.Constants.{digits, nonzero-digits, octal-digits, hexadecimal-digits, hexadecimal-prefixes, integer-suffix, Decimal, nonzero-digit, then-digit, Octal, zero-digit, then-octal, Hexadecimal, prefix-then, then-hexadecimal, Unsuffixed, decimal, octal, hexadecimal, Constant, unsuffixed, suffixed}
 use Rattle.books.proofs.Entries.{at-each}
-use Rattle.books.proofs.Reading.{value-more, begins-with-digit, read-decimal, read-hexadecimal, stranger, unread}
+use Rattle.books.proofs.Reading.{stranger, unread}
 
 -- ---- digits
 
-abbrev read-as : ℕ → ℕ × ℕ → Option ℕ
+abbrev pub read-as : ℕ → ℕ × ℕ → Option ℕ
 read-as radix e = to-digit radix (e .0)
 
-abbrev value : ℕ × ℕ → Option ℕ
+abbrev pub value : ℕ × ℕ → Option ℕ
 value e = some (e .1)
 
-digits-are : map (read-as 10) digits ≡ map value digits
+pub digits-are : map (read-as 10) digits ≡ map value digits
 unfolding opened
 digits-are = refl
 
-nonzero-digits-are : map (read-as 10) nonzero-digits ≡ map value nonzero-digits
+pub nonzero-digits-are : map (read-as 10) nonzero-digits ≡ map value nonzero-digits
 unfolding opened
 nonzero-digits-are = refl
 
@@ -40,7 +41,7 @@ octal-digits-are : map (read-as 10) octal-digits ≡ map value octal-digits
 unfolding opened
 octal-digits-are = refl
 
-hexadecimal-digits-are : map (read-as 16) hexadecimal-digits ≡ map value hexadecimal-digits
+pub hexadecimal-digits-are : map (read-as 16) hexadecimal-digits ≡ map value hexadecimal-digits
 unfolding opened
 hexadecimal-digits-are = refl
 
@@ -62,7 +63,7 @@ decimal-filled : {s : Text} {n : ℕ} → Decimal s n → is-empty s ≡ false
 decimal-filled (nonzero-digit h) = refl
 decimal-filled (then-digit {s} {c = c} r h) = filled s c
 
-no-zero : map (λ e. eqb (e .0) 48) nonzero-digits ≡ map (λ e. false) nonzero-digits
+pub no-zero : map (λ e. eqb (e .0) 48) nonzero-digits ≡ map (λ e. false) nonzero-digits
 no-zero = refl
 
 decimal-begins : {s : Text} {n : ℕ} → Decimal s n → (p t : Text) → starts-with (s ++ t) (48 ∷ p) ≡ false
@@ -153,7 +154,7 @@ module _ (p : ℕ → Bool) where
   any-left : (s t : Text) → any p s ≡ true → any p (s ++ t) ≡ true
   any-left s t h = any-append p s t ∙ or-true (any p t) h
 
-  any-right : (s t : Text) → any p t ≡ true → any p (s ++ t) ≡ true
+  pub any-right : (s t : Text) → any p t ≡ true → any p (s ++ t) ≡ true
   unfolding _||_
   any-right s t h = any-append p s t ∙ step (any p s) h
     where
@@ -161,14 +162,14 @@ module _ (p : ℕ → Bool) where
       step true e = refl
       step false e = e
 
-  free : (s t : Text) → any p s ≡ false → any p t ≡ false → any p (s ++ t) ≡ false
+  pub free : (s t : Text) → any p s ≡ false → any p t ≡ false → any p (s ++ t) ≡ false
   free s t e f = any-append p s t ∙ or-false (any p t) e ∙ f
 
   -- none of a table's characters is such a byte
-  abbrev Free : List (ℕ × ℕ) → Type 0
+  abbrev pub Free : List (ℕ × ℕ) → Type 0
   Free table = map (λ e. any p (e .0 ∷ [])) table ≡ map (λ e. false) table
 
-  free-digit : (table : List (ℕ × ℕ)) → Free table → {c d : ℕ} → (c, d) ∈ table → any p (c ∷ []) ≡ false
+  pub free-digit : (table : List (ℕ × ℕ)) → Free table → {c d : ℕ} → (c, d) ∈ table → any p (c ∷ []) ≡ false
   free-digit table f h = at-each (λ e. any p (e .0 ∷ [])) (λ e. false) table f h
 
   decimal-free : Free nonzero-digits → Free digits → {s : Text} {n : ℕ} → Decimal s n → any p s ≡ false

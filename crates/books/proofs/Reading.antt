@@ -1,17 +1,16 @@
--- `parse-c-number`, on any text: what it reads of digits alone and of digits behind `0x`, and that a byte which is no hexadecimal digit, no sign
--- and no x leaves the text unread. Assumes nothing.
+-- `parse-c-number`, on any text: a byte which is no hexadecimal digit, no sign and no x leaves it unread. Assumes nothing.
 use Prim.Native.Nat.{ℕ, suc, _+_, _*_, _<_, _^_, _-_}
 use native.Mathlib.Nat.{mod-eq-of-lt}
 use mathlib.Core.Path.{_≡_, refl, sym, _∙_}
 use mathlib.Core.Bool.{Bool, true, false, cond, false≢true}
-use mathlib.Core.List.{[], _∷_, _++_, map}
+use mathlib.Core.List.{[], _∷_, map}
 use mathlib.Core.Option.{Option, none, some}
-use lib.Dec.{eqb, ltb}
+use lib.Dec.{ltb}
 use lib.ListN.{length, drop}
 use lib.IntN.{pos, negsuc}
 use borrow.Author.Tests.{eqb-true, lt-ltb}
 use Rattle.reference.specs.Control.{not, _&&_, _||_, if_then_else_, let-some_else_then_}
-use Rattle.reference.specs.Lists.{any, is-some, is-empty}
+use Rattle.reference.specs.Lists.{any, is-some}
 use Rattle.reference.specs.Text.{Text, bytes, starts-with, contains, strip-prefix}
 use Rattle.reference.specs.Numbers.{to-digit, digits-value, unsigned, read-u64, read-i64, as-i64, parse-c-number}
 use Rattle.reference.proofs.Opened.{opened}
@@ -20,82 +19,6 @@ use Rattle.laws.proofs.Scans.{or-false}
 use Rattle.books.specs.Tables.{words, _∈_}
 use Rattle.books.specs.Constants.{twos-complement}
 use Rattle.books.proofs.Entries.{at-each}
-
--- ---- digits
-
--- one digit more
-module _ (radix c : ℕ) {d : ℕ} (h : to-digit radix c ≡ some d) where
-  pub value-more : (a : ℕ) (s : Text) {n : ℕ} → digits-value radix a s ≡ some n → digits-value radix a (s ++ (c ∷ [])) ≡ some (n * radix + d)
-  unfolding digits-value let-some_else_then_
-  value-more a [] e = rw h (cc)
-  value-more a (x ∷ xs) {n} e = step (to-digit radix x) (λ b. value-more b xs) e
-    where
-      step : (o : Option ℕ) → ((b : ℕ) → digits-value radix b xs ≡ some n → digits-value radix b (xs ++ (c ∷ [])) ≡ some (n * radix + d))
-          → (let-some o else none then λ v. digits-value radix (a * radix + v) xs) ≡ some n
-          → (let-some o else none then λ v. digits-value radix (a * radix + v) (xs ++ (c ∷ []))) ≡ some (n * radix + d)
-      step none more q = cc
-      step (some v) more q = more (a * radix + v) q
-
--- digits begin with no byte that is no digit
-pub begins-with-digit : (radix a b : ℕ) (p s : Text) {n : ℕ} → to-digit radix b ≡ none → digits-value radix a s ≡ some n → starts-with s (b ∷ p) ≡ false
-unfolding _&&_ digits-value let-some_else_then_
-begins-with-digit radix a b p [] z e = refl
-begins-with-digit radix a b p (x ∷ xs) {n} z e = step (eqb x b) refl
-  where
-    step : (t : Bool) → eqb x b ≡ t → (t && starts-with xs p) ≡ false
-    step true q = let w : to-digit radix x ≡ none = rw (eqb-true x b q) z in let f : none ≡ some n = rw w at e in cc
-    step false q = refl
-
--- ---- what is read
-
-no-minus : to-digit 10 45 ≡ none
-unfolding opened
-no-minus = refl
-
-no-plus : to-digit 10 43 ≡ none
-unfolding opened
-no-plus = refl
-
-no-plus-16 : to-digit 16 43 ≡ none
-unfolding opened
-no-plus-16 = refl
-
--- what follows a bound that was kept
-kept-then {ℓ κ} : {A : Type ℓ} {B : Type κ} (b : Bool) (x : A) (k : A → Option B) → (let-some (if b then some x else none) else none then k) ≡ (if b then k x else none)
-unfolding if_then_else_ let-some_else_then_
-kept-then true x k = refl
-kept-then false x k = refl
-
-no-prefix : (p s : Text) → starts-with s p ≡ false → strip-prefix p s ≡ none
-unfolding strip-prefix if_then_else_
-no-prefix p s e = rw e
-
-module _ {n : ℕ} (s : Text) (f : is-empty s ≡ false) where
-  unsigned-is : (radix : ℕ) → digits-value radix 0 s ≡ some n → unsigned radix s ≡ some n
-  unfolding unsigned if_then_else_
-  unsigned-is radix e = rw f e
-
-  read-i64-is : digits-value 10 0 s ≡ some n → read-i64 s ≡ (if ltb n (2 ^ 63) then some (pos n) else none)
-  unfolding read-i64 let-some_else_then_
-  read-i64-is e =
-      rw (no-prefix (bytes "-") s (begins-with-digit 10 0 45 [] s no-minus e), no-prefix (bytes "+") s (begins-with-digit 10 0 43 [] s no-plus e), unsigned-is 10 e)
-
-  read-u64-is : digits-value 16 0 s ≡ some n → read-u64 16 s ≡ (if ltb n (2 ^ 64) then some n else none)
-  unfolding read-u64 let-some_else_then_
-  read-u64-is e = rw (no-prefix (bytes "+") s (begins-with-digit 16 0 43 [] s no-plus-16 e), unsigned-is 16 e)
-
-  -- decimal digits alone
-  pub read-decimal : starts-with s (bytes "0x") ≡ false → digits-value 10 0 s ≡ some n
-      → parse-c-number s ≡ (if ltb n (2 ^ 63) then some (pos n) else none)
-  unfolding parse-c-number let-some_else_then_ if_then_else_
-  read-decimal x e =
-      let m : starts-with s (bytes "-") ≡ false = begins-with-digit 10 0 45 [] s no-minus e in
-      rw (no-prefix (bytes "-") s m, m, no-prefix (bytes "0x") s x, read-i64-is e) (kept-then (ltb n (2 ^ 63)) (pos n) some)
-
-  -- hexadecimal digits behind `0x`
-  pub read-hexadecimal : digits-value 16 0 s ≡ some n → parse-c-number (bytes "0x" ++ s) ≡ (if ltb n (2 ^ 64) then some (as-i64 n) else none)
-  unfolding parse-c-number let-some_else_then_ strip-prefix if_then_else_ _&&_
-  read-hexadecimal e = rw (read-u64-is e, kept-then (ltb n (2 ^ 64)) n (λ m. some (as-i64 m))) (kept-then (ltb n (2 ^ 64)) (as-i64 n) some)
 
 -- `n as i64` is two's complement
 pub as-i64-is : (n : ℕ) → n < 2 ^ 64 → as-i64 n ≡ twos-complement n

@@ -35,7 +35,7 @@ no-constant s = (n : ℕ) → Constant (bytes s) n → ⊥
 
 -- what the fold makes of a sum
 abbrev sums-to : String → String → String → Type 0
-sums-to a b r = fold (token Number (bytes a) ∷ token Punct (bytes " + ") ∷ token Number (bytes b) ∷ []) ≡ token Number (bytes r) ∷ []
+sums-to a b r = fold 0 (token Number (bytes a) ∷ token Punct (bytes " + ") ∷ token Number (bytes b) ∷ []) ≡ token Number (bytes r) ∷ []
 
 pub record Differences : Type 0 where
   -- ---- names of registers: Intel, volume 1, table 3-2

@@ -2,8 +2,10 @@ pub mod Tables
 pub mod Registers
 pub mod Conventions
 pub mod Constants
+pub mod Constants2024
 pub mod Agreement
 pub mod Notation
 pub mod Differences
 pub mod Readings
 pub mod Spellings
+pub mod Editions

@@ -54,7 +54,7 @@ unfoldable pub listing : List String → Listing
 listing ls = map (λ l. line-at 0 (bytes l)) ls
 
 abbrev pub convention-1 : Rules
-convention-1 = record { convention = 1; settle = false }
+convention-1 = record { convention = 1; settle = false; edition = 0 }
 
 -- the finished listing, under convention 1
 abbrev pub gives : List String → List String → Type 0

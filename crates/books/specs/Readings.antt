@@ -51,7 +51,7 @@ pub record Readings : Type 0 where
   pub comma-behind-bracket : gives ("rax = f(g(rbx), rcx);" ∷ "rdx = rsi - rax;" ∷ []) ("rdx = rsi - (f(g(rbx), rcx));" ∷ [])
   pub comma-alone : gives ("rax = f(rbx, rcx);" ∷ "rdx = rsi - rax;" ∷ []) ("rdx = rsi - f(rbx, rcx);" ∷ [])
   -- 3: the middle of a fold may be of any kind, and three terms do not fold
-  pub fold-of-any-kind : fold (N "5" ∷ T " + " ∷ N "4" ∷ []) ≡ N "9" ∷ []
+  pub fold-of-any-kind : fold 0 (N "5" ∷ T " + " ∷ N "4" ∷ []) ≡ N "9" ∷ []
   pub three-terms : gives ("rax = 5;" ∷ "rbx = rax + 4 + 1;" ∷ []) ("rbx = 5 + 4 + 1;" ∷ [])
   -- 4: a Register whose text ends `;`
   pub semicolon-in-register :

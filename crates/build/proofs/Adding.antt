@@ -74,8 +74,8 @@ module _ {tape old : Text} {words : List ℕ} {w : ℕ} (i : Lined tape old word
   added-kept l =
       rw (part-length i) at (added l w hf (omega (arith, part-length i, count-below w)) ev (λ addresses. line-read tape old words addresses w) (λ addresses. refl))
 
-  pub added-rewritten : (name : Text) (right : List Token) {n k : ℕ} → k < 2048
-      → Laid tape area tokens at (fold (merge (substitute name right (tokens-of tape old (part-of words w))))) n k area′ tokens′ at′
-      → Added tape area tokens at (λ addresses. rewrite-use name right (line-read tape old words addresses w)) n k area′ tokens′ (record { line = v; size = at′ })
+  pub added-rewritten : (edition : ℕ) (name : Text) (right : List Token) {n k : ℕ} → k < 2048
+      → Laid tape area tokens at (fold edition (merge (substitute name right (tokens-of tape old (part-of words w))))) n k area′ tokens′ at′
+      → Added tape area tokens at (λ addresses. rewrite-use edition name right (line-read tape old words addresses w)) n k area′ tokens′ (record { line = v; size = at′ })
   unfolding rewrite-use
-  added-rewritten name right hk l = added l w hf hk ev (λ addresses. rewrite-use name right (line-read tape old words addresses w)) (λ addresses. refl)
+  added-rewritten edition name right hk l = added l w hf hk ev (λ addresses. rewrite-use edition name right (line-read tape old words addresses w)) (λ addresses. refl)

@@ -32,7 +32,7 @@ module _ {tape area : Text} {tokens : List ℕ} {from : ℕ} {at : Size} (b : Bu
     short = rw line-words at (r .short);
   }
 
-  module _ {area′ : Text} {line′ : List ℕ} {f : Folding} (rest : List ℕ) (h : Folded tape area line (at .text) area′ line′ f)
+  module _ {edition : ℕ} {area′ : Text} {line′ : List ℕ} {f : Folding} (rest : List ℕ) (h : Folded edition tape area line (at .text) area′ line′ f)
       (la : length area′ ≡ length area) (ll : length line′ ≡ length line) where
     abbrev tokens′ : List ℕ
     tokens′ = take from tokens ++ (line′ ++ rest)
@@ -49,7 +49,7 @@ module _ {tape area : Text} {tokens : List ℕ} {from : ℕ} {at : Size} (b : Bu
         drop-take from (from + f .kept) tokens′
         ∙ rw (e, drop-at (take from tokens) (line′ ++ rest) from front) (take-append-le (f .kept) line′ rest (omega (arith, h .kept-inside)))
 
-    pub folded-last : Room area tokens at (signs-room (line-now tape area tokens from at)) 0 → FoldedLast tape area tokens from at area′ tokens′ at′
+    pub folded-last : Room area tokens at (signs-room (line-now tape area tokens from at)) 0 → FoldedLast edition tape area tokens from at area′ tokens′ at′
     folded-last r =
         let most : f .text ≤ at .text + signs-room (line-now tape area tokens from at) = rw line-words (h .text-most) in
         record {

@@ -12,7 +12,7 @@ use lib.Seq.{take-suc, drop-cons, getD-drop}
 use Rattle.reference.specs.Control.{_&&_, _||_, if_then_else_, let-some_else_then_}
 use Rattle.reference.specs.Text.{Text, bytes, _==_, starts-with, ends-with}
 use Rattle.reference.specs.Listing.{Token, token, is, Number}
-use Rattle.reference.specs.Numbers.{parse-c-number, wrap, show, delim-before, delim-after, folded, fold-at, fold}
+use Rattle.reference.specs.Numbers.{read-number, wrap, show, delim-before, delim-after, folded, fold-at, fold}
 use Rattle.reference.specs.Claim.{size}
 use Rattle.reference.proofs.Cases.{none-some}
 use Rattle.reference.proofs.Shapes.{folds}
@@ -62,58 +62,58 @@ folded-shape true true true true true plus none p = refl
 folded-shape true true true true true plus (some x) none = refl
 folded-shape true true true true true plus (some x) (some y) = refl
 
-module _ (a b c : Token) where
-  pub sum-left : false ≡ is Number a → none ≡ sum-of a b c
+module _ (edition : ℕ) (a b c : Token) where
+  pub sum-left : false ≡ is Number a → none ≡ sum-of edition a b c
   unfolding sum-of
   sum-left e = sym (if-false _ _ (and-false _ (sym e)))
 
   module _ (e : true ≡ is Number a) where
-    pub sum-right : false ≡ is Number c → none ≡ sum-of a b c
+    pub sum-right : false ≡ is Number c → none ≡ sum-of edition a b c
     unfolding sum-of
     sum-right f = sym (if-false _ _ (and-true _ (sym e) ∙ and-false _ (sym f)))
 
     -- x is what a call answered of the sign
     module _ {x : Bool} (f : true ≡ is Number c) (g : x ≡ ((b .text == bytes " + ") || (b .text == bytes " - "))) where
-      pub sum-sign : x ≡ false → none ≡ sum-of a b c
+      pub sum-sign : x ≡ false → none ≡ sum-of edition a b c
       unfolding sum-of is-sign
       sum-sign h = sym (if-false _ _ (and-true _ (sym e) ∙ and-true _ (sym f) ∙ sym g ∙ h))
 
-      pub sum-is : x ≡ true → operated (b .text == bytes " + ") (parse-c-number (a .text)) (parse-c-number (c .text)) ≡ sum-of a b c
+      pub sum-is : x ≡ true → operated (b .text == bytes " + ") (read-number edition (a .text)) (read-number edition (c .text)) ≡ sum-of edition a b c
       unfolding sum-of is-sign
       sum-is h = sym (if-true _ _ (and-true _ (sym e) ∙ and-true _ (sym f) ∙ sym g ∙ h))
 
   module _ (before : Option Token) (rest : List Token) where
-    folded-is : folded before a b c rest ≡ (if delim-before before && delim-after rest then number-token (sum-of a b c) else none)
+    folded-is : folded edition before a b c rest ≡ (if delim-before before && delim-after rest then number-token (sum-of edition a b c) else none)
     unfolding folded sum-of operated is-sign
     folded-is =
         folded-shape (delim-before before) (delim-after rest) (is Number a) (is Number c) ((b .text == bytes " + ") || (b .text == bytes " - "))
-        (b .text == bytes " + ") (parse-c-number (a .text)) (parse-c-number (c .text))
+        (b .text == bytes " + ") (read-number edition (a .text)) (read-number edition (c .text))
 
-    pub folded-open : delim-before before ≡ false → none ≡ folded before a b c rest
+    pub folded-open : delim-before before ≡ false → none ≡ folded edition before a b c rest
     folded-open e = sym (folded-is ∙ if-false _ _ (and-false _ e))
 
-    pub folded-shut : delim-before before ≡ true → delim-after rest ≡ false → none ≡ folded before a b c rest
+    pub folded-shut : delim-before before ≡ true → delim-after rest ≡ false → none ≡ folded edition before a b c rest
     folded-shut e f = sym (folded-is ∙ if-false _ _ (and-true _ e ∙ f))
 
-    pub folded-sum : delim-before before ≡ true → delim-after rest ≡ true → number-token (sum-of a b c) ≡ folded before a b c rest
+    pub folded-sum : delim-before before ≡ true → delim-after rest ≡ true → number-token (sum-of edition a b c) ≡ folded edition before a b c rest
     folded-sum e f = sym (folded-is ∙ if-true _ _ (and-true _ e ∙ f))
 
 -- ---- a step
 
-pub fold-few : (before : Option Token) (ts : List Token) → length ts < 3 → none ≡ fold-next before ts
-fold-few before [] h = refl
-fold-few before (a ∷ []) h = refl
-fold-few before (a ∷ b ∷ []) h = refl
-fold-few before (a ∷ b ∷ c ∷ rest) h = absurd (omega arith)
+pub fold-few : (edition : ℕ) (before : Option Token) (ts : List Token) → length ts < 3 → none ≡ fold-next edition before ts
+fold-few edition before [] h = refl
+fold-few edition before (a ∷ []) h = refl
+fold-few edition before (a ∷ b ∷ []) h = refl
+fold-few edition before (a ∷ b ∷ c ∷ rest) h = absurd (omega arith)
 
-pub fold-kept : (before : Option Token) (a : Token) (rest : List Token) → fold-next before (a ∷ rest) ≡ none → fold-behind before (a ∷ rest) ≡ a ∷ fold-behind (some a) rest
+pub fold-kept : (edition : ℕ) (before : Option Token) (a : Token) (rest : List Token) → fold-next edition before (a ∷ rest) ≡ none → fold-behind edition before (a ∷ rest) ≡ a ∷ fold-behind edition (some a) rest
 unfolding fold-at let-some_else_then_
-fold-kept before a [] e = refl
-fold-kept before a (b ∷ []) e = refl
-fold-kept before a (b ∷ c ∷ rest) e = rw e
+fold-kept edition before a [] e = refl
+fold-kept edition before a (b ∷ []) e = refl
+fold-kept edition before a (b ∷ c ∷ rest) e = rw e
 
-module _ (before : Option Token) (n : Token) where
-  pub fold-made : (ts : List Token) → fold-next before ts ≡ some n → fold-behind before ts ≡ fold-behind before (n ∷ drop 3 ts)
+module _ (edition : ℕ) (before : Option Token) (n : Token) where
+  pub fold-made : (ts : List Token) → fold-next edition before ts ≡ some n → fold-behind edition before ts ≡ fold-behind edition before (n ∷ drop 3 ts)
   unfolding fold-at let-some_else_then_
   fold-made [] e = absurd (none-some e)
   fold-made (a ∷ []) e = absurd (none-some e)
@@ -121,20 +121,20 @@ module _ (before : Option Token) (n : Token) where
   fold-made (a ∷ b ∷ c ∷ rest) e = rw e
 
   -- three tokens, the one in the middle a sign; and what they make is short
-  pub fold-long : (ts : List Token) → fold-next before ts ≡ some n → (3 ≤ length ts) × (size n ≤ 19) × (1 + signs (drop 3 ts) ≤ signs (drop 1 ts))
+  pub fold-long : (ts : List Token) → fold-next edition before ts ≡ some n → (3 ≤ length ts) × (size n ≤ 19) × (1 + signs (drop 3 ts) ≤ signs (drop 1 ts))
   unfolding is-sign
   fold-long [] e = absurd (none-some e)
   fold-long (a ∷ []) e = absurd (none-some e)
   fold-long (a ∷ b ∷ []) e = absurd (none-some e)
   fold-long (a ∷ b ∷ c ∷ rest) e =
-      let f = folds before a b c rest n e in
+      let f = folds edition before a b c rest n e in
       let one : signs (b ∷ c ∷ rest) ≡ suc (signs (c ∷ rest)) = if-true _ _ (f .sign) in
       (omega arith, f .small, omega (arith, keep-room c rest))
 
-pub fold-begin : (ts : List Token) → fold ts ≡ fold-behind none ts
+pub fold-begin : (edition : ℕ) (ts : List Token) → fold edition ts ≡ fold-behind edition none ts
 unfolding fold
-fold-begin [] = refl
-fold-begin (a ∷ rest) = refl
+fold-begin edition [] = refl
+fold-begin edition (a ∷ rest) = refl
 
 pub last-snoc : (ts : List Token) (t : Token) → last-of (ts ++ (t ∷ [])) ≡ some t
 last-snoc [] t = refl
@@ -187,25 +187,25 @@ module _ (tape area : Text) (line : List ℕ) where
       cc
 
   -- what a call answered, at the three words from `next` on
-  module _ (before : Option Token) (next : ℕ) where
-    pub next-few : length line - next < 3 → number-token none ≡ fold-next before (tokens-of tape area (drop next line))
+  module _ (edition : ℕ) (before : Option Token) (next : ℕ) where
+    pub next-few : length line - next < 3 → number-token none ≡ fold-next edition before (tokens-of tape area (drop next line))
     unfolding let-some_else_then_
-    next-few h = fold-few before (tokens-of tape area (drop next line)) (rw (length-map, length-drop) h)
+    next-few h = fold-few edition before (tokens-of tape area (drop next line)) (rw (length-map, length-drop) h)
 
     module _ {x : Bool} (h : next + 3 ≤ length line) (ex : x ≡ delim-before before) where
-      pub next-open : x ≡ false → number-token none ≡ fold-next before (tokens-of tape area (drop next line))
+      pub next-open : x ≡ false → number-token none ≡ fold-next edition before (tokens-of tape area (drop next line))
       unfolding let-some_else_then_
-      next-open e = rw (three next h) (folded-open _ _ _ before _ (sym ex ∙ e))
+      next-open e = rw (three next h) (folded-open edition _ _ _ before _ (sym ex ∙ e))
 
       module _ {y : Bool} (e : x ≡ true) (ey : y ≡ delim-after (tokens-of tape area (drop (next + 3) line))) where
-        pub next-shut : y ≡ false → number-token none ≡ fold-next before (tokens-of tape area (drop next line))
+        pub next-shut : y ≡ false → number-token none ≡ fold-next edition before (tokens-of tape area (drop next line))
         unfolding let-some_else_then_
-        next-shut f = rw (three next h) (folded-shut _ _ _ before _ (sym ex ∙ e) (sym ey ∙ f))
+        next-shut f = rw (three next h) (folded-shut edition _ _ _ before _ (sym ex ∙ e) (sym ey ∙ f))
 
         pub next-sum : {o : Option ℤ} → y ≡ true
-            → o ≡ sum-of (token-of tape area (getD line next 0)) (token-of tape area (getD line (next + 1) 0)) (token-of tape area (getD line (next + 2) 0))
-            → number-token o ≡ fold-next before (tokens-of tape area (drop next line))
-        next-sum f g = rw (three next h, g) (folded-sum _ _ _ before _ (sym ex ∙ e) (sym ey ∙ f))
+            → o ≡ sum-of edition (token-of tape area (getD line next 0)) (token-of tape area (getD line (next + 1) 0)) (token-of tape area (getD line (next + 2) 0))
+            → number-token o ≡ fold-next edition before (tokens-of tape area (drop next line))
+        next-sum f g = rw (three next h, g) (folded-sum edition _ _ _ before _ (sym ex ∙ e) (sym ey ∙ f))
 
 -- a word of the rest of a line
 pub held-at : {tape area : Text} (next : ℕ) (line : List ℕ) → Holds tape area (drop next line) → (k : ℕ) → next ≤ k → k < length line → Points tape area (getD line k 0)

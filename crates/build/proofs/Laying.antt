@@ -94,11 +94,11 @@ module _ {area : Text} {tokens : List ℕ} {at : Size} (ts : List Token) (short 
       words-fit = omega (arith, r .words-fit, l .words-most);
     })
 
-    pub laid-folded : {area″ : Text} {tokens″ : List ℕ} {at″ : Size} → FoldedLast tape area′ tokens′ (at .tokens) at′ area″ tokens″ at″
-        → Laid tape area tokens at (fold (merge ts)) (sum room ts) (length ts) area″ tokens″ at″
-    laid-folded f = record {
+    pub laid-folded : {edition : ℕ} {area″ : Text} {tokens″ : List ℕ} {at″ : Size} → FoldedLast edition tape area′ tokens′ (at .tokens) at′ area″ tokens″ at″
+        → Laid tape area tokens at (fold edition (merge ts)) (sum room ts) (length ts) area″ tokens″ at″
+    laid-folded {edition} f = record {
       built = f .built;
-      line-is = f .line-is ∙ ap fold (l .line-is);
+      line-is = f .line-is ∙ ap (fold edition) (l .line-is);
       grows = grows-then (l .grows) (f .grows);
       text-most = omega (arith, room-covers ts short, l .text-most, ap signs-room (l .line-is), f .text-most);
       words-most = omega (arith, l .words-most, f .words-most);

@@ -29,32 +29,33 @@ module _ {tape area : Text} {line : List ℕ} {f : Folding} (s : Foldable tape a
   unfolding signs-room
   text-inside = omega (arith, s .text-fits)
 
-  -- the texts in use are texts of the whole area
-  next-used : fold-next (last-of (tokens-of tape area (take (f .kept) line))) (tokens-of tape area (drop (f .next) line))
-      ≡ fold-next (last-of (done-now tape area line f)) (left-now tape area line f)
-  next-used = rw (tokens-prefix (f .text) area (s .done), tokens-prefix (f .text) area (s .left))
-
-  -- what a call answered of them
-  pub next-none : {o : Option ℤ} → o ≡ none → number-token o ≡ fold-next (last-of (tokens-of tape area (take (f .kept) line))) (tokens-of tape area (drop (f .next) line))
-      → fold-next (last-of (done-now tape area line f)) (left-now tape area line f) ≡ none
-  unfolding let-some_else_then_
-  next-none e h = sym (h ∙ next-used) ∙ rw e
-
-  pub next-some : {o : Option ℤ} {z z′ : ℤ} → o ≡ some z → z′ ≡ z
-      → number-token o ≡ fold-next (last-of (tokens-of tape area (take (f .kept) line))) (tokens-of tape area (drop (f .next) line))
-      → fold-next (last-of (done-now tape area line f)) (left-now tape area line f) ≡ some (token Number (show z′))
-  unfolding let-some_else_then_
-  next-some e g h = sym (h ∙ next-used) ∙ rw (e, g)
-
   pub done-whole : Holds tape area (take (f .kept) line)
   done-whole = holds-prefix (f .text) area (s .done)
 
   pub left-whole : Holds tape area (drop (f .next) line)
   left-whole = holds-prefix (f .text) area (s .left)
 
+module _ {tape area : Text} {line : List ℕ} {f : Folding} (s : Foldable tape area line f) (edition : ℕ) where
+  -- the texts in use are texts of the whole area
+  next-used : fold-next edition (last-of (tokens-of tape area (take (f .kept) line))) (tokens-of tape area (drop (f .next) line))
+      ≡ fold-next edition (last-of (done-now tape area line f)) (left-now tape area line f)
+  next-used = rw (tokens-prefix (f .text) area (s .done), tokens-prefix (f .text) area (s .left))
+
+  -- what a call answered of them
+  pub next-none : {o : Option ℤ} → o ≡ none → number-token o ≡ fold-next edition (last-of (tokens-of tape area (take (f .kept) line))) (tokens-of tape area (drop (f .next) line))
+      → fold-next edition (last-of (done-now tape area line f)) (left-now tape area line f) ≡ none
+  unfolding let-some_else_then_
+  next-none e h = sym (h ∙ next-used) ∙ rw e
+
+  pub next-some : {o : Option ℤ} {z z′ : ℤ} → o ≡ some z → z′ ≡ z
+      → number-token o ≡ fold-next edition (last-of (tokens-of tape area (take (f .kept) line))) (tokens-of tape area (drop (f .next) line))
+      → fold-next edition (last-of (done-now tape area line f)) (left-now tape area line f) ≡ some (token Number (show z′))
+  unfolding let-some_else_then_
+  next-some e g h = sym (h ∙ next-used) ∙ rw (e, g)
+
   -- ---- a token is kept
 
-  module _ (more : f .next < length line) (e : fold-next (last-of (done-now tape area line f)) (left-now tape area line f) ≡ none) where
+  module _ (more : f .next < length line) (e : fold-next edition (last-of (done-now tape area line f)) (left-now tape area line f) ≡ none) where
     abbrev w : ℕ
     w = getD line (f .next) 0
 
@@ -94,7 +95,7 @@ module _ {tape area : Text} {line : List ℕ} {f : Folding} (s : Foldable tape a
     unfolding signs-room
     limit-kept = rw (left′-is, left-is) (omega (arith, signs-drop rest))
 
-    pub stepped-kept : Stepped tape area line f area line′ f′
+    pub stepped-kept : Stepped edition tape area line f area line′ f′
     stepped-kept = record {
       foldable = record {
         kept-first = omega (arith, s .kept-first);
@@ -107,7 +108,7 @@ module _ {tape area : Text} {line : List ℕ} {f : Folding} (s : Foldable tape a
       further = omega arith;
       same =
           rw (done-is, left′-is, left-is, last-snoc, append-assoc)
-          (ap (λ (l : List Token). done-now tape area line f ++ l) (sym (fold-kept (last-of (done-now tape area line f)) (token-of tape (take (f .text) area) w) rest (rw left-is at e))));
+          (ap (λ (l : List Token). done-now tape area line f ++ l) (sym (fold-kept edition (last-of (done-now tape area line f)) (token-of tape (take (f .text) area) w) rest (rw left-is at e))));
       text-grows = le-refl _;
       text-below = refl;
       limit = limit-kept;
@@ -121,13 +122,13 @@ module _ {tape area : Text} {line : List ℕ} {f : Folding} (s : Foldable tape a
 
   -- ---- three tokens become a Number, whose text t stands behind the text in use
 
-  module _ {t : Text} (e : fold-next (last-of (done-now tape area line f)) (left-now tape area line f) ≡ some (token Number t)) where
+  module _ {t : Text} (e : fold-next edition (last-of (done-now tape area line f)) (left-now tape area line f) ≡ some (token Number t)) where
     left-length : length (left-now tape area line f) ≡ length line - f .next
     left-length = length-map (drop (f .next) line) (token-of tape (take (f .text) area)) ∙ length-drop (f .next) line
 
     facts : (3 ≤ length (left-now tape area line f)) × (length t ≤ 19)
         × (1 + signs (drop 3 (left-now tape area line f)) ≤ signs (drop 1 (left-now tape area line f)))
-    facts = fold-long (last-of (done-now tape area line f)) (token Number t) (left-now tape area line f) e
+    facts = fold-long edition (last-of (done-now tape area line f)) (token Number t) (left-now tape area line f) e
 
     pub fold-inside : f .next + 2 < length line
     fold-inside = omega (arith, facts .0, left-length)
@@ -154,7 +155,7 @@ module _ {tape area : Text} {line : List ℕ} {f : Folding} (s : Foldable tape a
       folding = record { kept = f .kept; next = f .next + 2; text = f .text + length t }
 
       used-is : take (f .text + length t) area′ ≡ take (f .text) area ++ t
-      used-is = take-behind area (f .text) t text-inside (wr .bytes-are)
+      used-is = take-behind area (f .text) t (text-inside s) (wr .bytes-are)
 
       word-front : take (f .kept) folded-line ≡ take (f .kept) line
       word-front = take-set-le (f .kept) line (f .next + 2) v (omega (arith, s .kept-first))
@@ -169,10 +170,10 @@ module _ {tape area : Text} {line : List ℕ} {f : Folding} (s : Foldable tape a
       rest-holds = rw (← drop-drop 3 (f .next) line) (holds-drop (s .left) 3)
 
       made-points : Points tape (take (f .text) area ++ t) v
-      made-points = rw ev (behind-points tape (take (f .text) area) t Number (f .text) (omega arith) (length-take-le (f .text) area text-inside) (omega (arith, fold-short, fold-text)))
+      made-points = rw ev (behind-points tape (take (f .text) area) t Number (f .text) (omega arith) (length-take-le (f .text) area (text-inside s)) (omega (arith, fold-short, fold-text)))
 
       made-means : token-of tape (take (f .text) area ++ t) v ≡ token Number t
-      made-means = rw ev (behind-means tape (take (f .text) area) t Number (f .text) (omega arith) (length-take-le (f .text) area text-inside) (omega (arith, fold-short, fold-text)))
+      made-means = rw ev (behind-means tape (take (f .text) area) t Number (f .text) (omega arith) (length-take-le (f .text) area (text-inside s)) (omega (arith, fold-short, fold-text)))
 
       done-same : done-now tape area′ folded-line folding ≡ done-now tape area line f
       done-same = rw (used-is, word-front) (tokens-grow t (s .done))
@@ -188,7 +189,7 @@ module _ {tape area : Text} {line : List ℕ} {f : Folding} (s : Foldable tape a
       limit-made = rw left-made (omega (arith, facts .1, facts .2))
 
       module _ (la : length area′ ≡ length area) where
-        stepped : Stepped tape area line f area′ folded-line folding
+        stepped : Stepped edition tape area line f area′ folded-line folding
         stepped = record {
           foldable = record {
             kept-first = omega (arith, s .kept-first);
@@ -201,11 +202,11 @@ module _ {tape area : Text} {line : List ℕ} {f : Folding} (s : Foldable tape a
           further = omega arith;
           same =
               rw (done-same, left-made)
-              (ap (λ (l : List Token). done-now tape area line f ++ l) (sym (fold-made (last-of (done-now tape area line f)) (token Number t) (left-now tape area line f) e)));
+              (ap (λ (l : List Token). done-now tape area line f ++ l) (sym (fold-made edition (last-of (done-now tape area line f)) (token Number t) (left-now tape area line f) e)));
           text-grows = omega arith;
           text-below =
               sym (take-take (f .text) (f .text + length t) area′ (omega arith)) ∙ ap (take (f .text)) used-is
-              ∙ take-at (take (f .text) area) t (f .text) (length-take-le (f .text) area text-inside);
+              ∙ take-at (take (f .text) area) t (f .text) (length-take-le (f .text) area (text-inside s));
           limit = limit-made;
           fresh = λ m h d l.
               let P : ℕ → Type 0 = λ x. place-of x ≡ 1 → m ≤ start-of x in
@@ -218,19 +219,19 @@ module _ {tape area : Text} {line : List ℕ} {f : Folding} (s : Foldable tape a
               );
         }
 
-        pub stepped-made : Stepped tape area line f area′ folded-line (record { kept = f .kept; next = f .next + 2; text = end })
+        pub stepped-made : Stepped edition tape area line f area′ folded-line (record { kept = f .kept; next = f .next + 2; text = end })
         stepped-made = rw (wr .end-is) stepped
 
 -- ---- the loop
 
-module _ (tape : Text) (area₀ : Text) (line₀ : List ℕ) (n : ℕ) where
+module _ (edition : ℕ) (tape : Text) (area₀ : Text) (line₀ : List ℕ) (n : ℕ) where
   abbrev start : Folding
   start = record { kept = 0; next = 0; text = n }
 
   -- what holds before each turn
   pub record Turning (area : Text) (line : List ℕ) (f : Folding) : Type 0 where
     pub foldable : Foldable tape area line f
-    pub same : folds-to tape area line f ≡ fold (tokens-of tape (take n area₀) line₀)
+    pub same : folds-to edition tape area line f ≡ fold edition (tokens-of tape (take n area₀) line₀)
     pub text-grows : n ≤ f .text
     pub text-below : take n area ≡ take n area₀
     pub limit : text-limit tape area line f ≤ text-limit tape area₀ line₀ start
@@ -239,7 +240,7 @@ module _ (tape : Text) (area₀ : Text) (line₀ : List ℕ) (n : ℕ) where
   pub turning-begin : Foldable tape area₀ line₀ start → Turning area₀ line₀ start
   turning-begin s = record {
     foldable = s;
-    same = sym (fold-begin (tokens-of tape (take n area₀) line₀));
+    same = sym (fold-begin edition (tokens-of tape (take n area₀) line₀));
     text-grows = le-refl _;
     text-below = refl;
     limit = le-refl _;
@@ -247,7 +248,7 @@ module _ (tape : Text) (area₀ : Text) (line₀ : List ℕ) (n : ℕ) where
   }
 
   module _ {area : Text} {line : List ℕ} {f : Folding} (t : Turning area line f) where
-    pub turning-again : {area′ : Text} {line′ : List ℕ} {f′ : Folding} → Stepped tape area line f area′ line′ f′ → Turning area′ line′ f′
+    pub turning-again : {area′ : Text} {line′ : List ℕ} {f′ : Folding} → Stepped edition tape area line f area′ line′ f′ → Turning area′ line′ f′
     turning-again {area′} s = record {
       foldable = s .foldable;
       same = s .same ∙ t .same;
@@ -258,11 +259,11 @@ module _ (tape : Text) (area₀ : Text) (line₀ : List ℕ) (n : ℕ) where
       fresh = λ m h l. let q = t .fresh m h l in s .fresh m (omega (arith, t .text-grows)) (q .0) (q .1);
     }
 
-    pub turning-end : length line ≤ f .next → length line ≡ length line₀ → Folded tape area₀ line₀ n area line f
+    pub turning-end : length line ≤ f .next → length line ≡ length line₀ → Folded edition tape area₀ line₀ n area line f
     unfolding signs-room
     turning-end over ll =
         let none-left : drop (f .next) line ≡ [] = drop-of-length-le line over in
-        let e : folds-to tape area line f ≡ done-now tape area line f = rw none-left (append-nil _) in
+        let e : folds-to edition tape area line f ≡ done-now tape area line f = rw none-left (append-nil _) in
         record {
           kept-inside = omega (arith, t .foldable .kept-first, t .foldable .inside);
           holds = t .foldable .done;

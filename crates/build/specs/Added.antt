@@ -66,8 +66,8 @@ pub record Rewritable (tape old : Text) (words : List ℕ) (source : ℕ) (j : S
   pub few : length (unmerged tape old words source j l) < 2048
 
 -- it means what `rewrite-use` makes of it
-abbrev pub Rewritten : Text → Text → List ℕ → ℕ → Substitution → ℕ → Text → List ℕ → Size → Text → List ℕ → Appended → Type 0
-Rewritten tape old words source j l area tokens at =
+abbrev pub Rewritten : ℕ → Text → Text → List ℕ → ℕ → Substitution → ℕ → Text → List ℕ → Size → Text → List ℕ → Appended → Type 0
+Rewritten edition tape old words source j l area tokens at =
     Added tape area tokens at
-    (λ addresses. rewrite-use (fam-text tape old (j .family)) (right-of tape old (part-of words source) j) (line-read tape old words addresses l))
+    (λ addresses. rewrite-use edition (fam-text tape old (j .family)) (right-of tape old (part-of words source) j) (line-read tape old words addresses l))
     (sum room (unmerged tape old words source j l)) (length (unmerged tape old words source j l))

@@ -3,8 +3,8 @@
 use crate::used::Size;
 use lines::words;
 use numbers::Number;
-use numbers::parse_c_number;
 use numbers::put_number;
+use numbers::read_number;
 use numbers::wrapping_add;
 use numbers::wrapping_sub;
 ghost use mathlib.Core.Path.{_≡_};
@@ -41,10 +41,17 @@ fn is_sign(s: &[u8]) -> bool
     text::is_plus(s) || text::is_minus(s)
 }
 
-// The sum or the difference of two Numbers around an operator token.
-fn sum_of<'a>(tape: &'a [u8], area: &'a [u8], left: u64, operator: u64, right: u64) -> Number
+// The sum or the difference of two Numbers around an operator token, read by an edition.
+fn sum_of<'a>(
+    tape: &'a [u8],
+    area: &'a [u8],
+    left: u64,
+    operator: u64,
+    right: u64,
+    edition: u8,
+) -> Number
     requires { ⌜ Points (now tape) (now area) left × Points (now tape) (now area) operator × Points (now tape) (now area) right ⌝ }
-    ensures { λ r. ⌜ meaning r ≡ sum-of (token-of (now (tape .entry)) (now (area .entry)) left) (token-of (now (tape .entry)) (now (area .entry)) operator) (token-of (now (tape .entry)) (now (area .entry)) right) ⌝ }
+    ensures { λ r. ⌜ meaning r ≡ sum-of edition (token-of (now (tape .entry)) (now (area .entry)) left) (token-of (now (tape .entry)) (now (area .entry)) operator) (token-of (now (tape .entry)) (now (area .entry)) right) ⌝ }
 {
     if words::kind(left) != words::NUMBER {
         return Number::Unread;
@@ -58,8 +65,8 @@ fn sum_of<'a>(tape: &'a [u8], area: &'a [u8], left: u64, operator: u64, right: u
     }
     operate(
         text::is_plus(sign),
-        parse_c_number(words::text(tape, area, left)),
-        parse_c_number(words::text(tape, area, right)),
+        read_number(edition, words::text(tape, area, left)),
+        read_number(edition, words::text(tape, area, right)),
     )
 }
 
@@ -92,9 +99,10 @@ fn fold_value<'a>(
     line: &'a [u64],
     kept: usize,
     next: usize,
+    edition: u8,
 ) -> Number
     requires { ⌜ (kept ≤ length (now line)) × (next ≤ length (now line)) × Holds (now tape) (now area) (take kept (now line)) × Holds (now tape) (now area) (drop next (now line)) ⌝ }
-    ensures { λ r. ⌜ number-token (meaning r) ≡ fold-next (last-of (tokens-of (now (tape .entry)) (now (area .entry)) (take kept (now (line .entry))))) (tokens-of (now (tape .entry)) (now (area .entry)) (drop next (now (line .entry)))) ⌝ }
+    ensures { λ r. ⌜ number-token (meaning r) ≡ fold-next edition (last-of (tokens-of (now (tape .entry)) (now (area .entry)) (take kept (now (line .entry))))) (tokens-of (now (tape .entry)) (now (area .entry)) (drop next (now (line .entry)))) ⌝ }
 {
     if line.len() - next < 3 {
         return Number::Unread;
@@ -105,7 +113,14 @@ fn fold_value<'a>(
     if !delimited_after(tape, area, line, next + 3) {
         return Number::Unread;
     }
-    sum_of(tape, area, line[next], line[next + 1], line[next + 2])
+    sum_of(
+        tape,
+        area,
+        line[next],
+        line[next + 1],
+        line[next + 2],
+        edition,
+    )
 }
 
 // How far the folding of a line has come: its first `kept` words are done, those from `next` on are still to be seen; `text` is the text in
@@ -117,14 +132,14 @@ pub struct Folding {
 }
 
 // One step: three tokens become a Number, which is looked at again, or a token is kept.
-fn fold_step(tape: &[u8], area: &mut [u8], line: &mut [u64], f: Folding) -> Folding
+fn fold_step(tape: &[u8], area: &mut [u8], line: &mut [u64], f: Folding, edition: u8) -> Folding
     requires { ⌜ Foldable (now tape) (now area) (now line) f × (f .next < length (now line)) ⌝ }
-    ensures { λ r. ⌜ Stepped (now (tape .entry)) (now (area .entry)) (now (line .entry)) f (now (area .exit)) (now (line .exit)) r ⌝ }
+    ensures { λ r. ⌜ Stepped edition (now (tape .entry)) (now (area .entry)) (now (line .entry)) f (now (area .exit)) (now (line .exit)) r ⌝ }
 {
     let kept = f.kept;
     let next = f.next;
     let at = f.text;
-    match fold_value(tape, area, line, kept, next) {
+    match fold_value(tape, area, line, kept, next, edition) {
         Number::Read(v) => {
             let end = put_number(v, area, at);
             let to = next + 2;
@@ -147,9 +162,9 @@ fn fold_step(tape: &[u8], area: &mut [u8], line: &mut [u64], f: Folding) -> Fold
 }
 
 // Folds a line's words, with `text` bytes in use.
-fn fold(tape: &[u8], area: &mut [u8], line: &mut [u64], text: usize) -> Folding
+fn fold(tape: &[u8], area: &mut [u8], line: &mut [u64], text: usize, edition: u8) -> Folding
     requires { ⌜ Foldable (now tape) (now area) (now line) (record { kept = 0; next = 0; text = text }) ⌝ }
-    ensures { λ r. ⌜ Folded (now (tape .entry)) (now (area .entry)) (now (line .entry)) text (now (area .exit)) (now (line .exit)) r ⌝ }
+    ensures { λ r. ⌜ Folded edition (now (tape .entry)) (now (area .entry)) (now (line .entry)) text (now (area .exit)) (now (line .exit)) r ⌝ }
 {
     let mut f = Folding {
         kept: 0,
@@ -157,18 +172,25 @@ fn fold(tape: &[u8], area: &mut [u8], line: &mut [u64], text: usize) -> Folding
         text,
     };
     while f.next < line.len() {
-        f = fold_step(tape, area, line, f);
+        f = fold_step(tape, area, line, f, edition);
     }
     f
 }
 
 // Folds the line that began at `from`.
-pub fn fold_last(tape: &[u8], area: &mut [u8], tokens: &mut [u64], from: usize, size: Size) -> Size
+pub fn fold_last(
+    tape: &[u8],
+    area: &mut [u8],
+    tokens: &mut [u64],
+    from: usize,
+    size: Size,
+    edition: u8,
+) -> Size
     requires { ⌜ Built (now tape) (now area) (now tokens) from size × Room (now area) (now tokens) size (signs-room (line-now (now tape) (now area) (now tokens) from size)) 0 ⌝ }
-    ensures { λ r. ⌜ FoldedLast (now (tape .entry)) (now (area .entry)) (now (tokens .entry)) from size (now (area .exit)) (now (tokens .exit)) r ⌝ }
+    ensures { λ r. ⌜ FoldedLast edition (now (tape .entry)) (now (area .entry)) (now (tokens .entry)) from size (now (area .exit)) (now (tokens .exit)) r ⌝ }
 {
     let to = size.tokens;
-    let f = fold(tape, area, &mut tokens[from..to], size.text);
+    let f = fold(tape, area, &mut tokens[from..to], size.text, edition);
     Size {
         lines: size.lines,
         tokens: from + f.kept,

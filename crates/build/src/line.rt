@@ -71,9 +71,10 @@ pub fn rewrite_line<'a>(
     area: &mut [u8],
     tokens: &mut [u64],
     size: Size,
+    edition: u8,
 ) -> Appended
     requires { ⌜ Rewritable (now tape) (now old) (now «old_tokens») source j l (now area) (now tokens) size ⌝ }
-    ensures { λ r. ⌜ Rewritten (now (tape .entry)) (now (old .entry)) (now («old_tokens» .entry)) source j l (now (area .entry)) (now (tokens .entry)) size (now (area .exit)) (now (tokens .exit)) r ⌝ }
+    ensures { λ r. ⌜ Rewritten edition (now (tape .entry)) (now (old .entry)) (now («old_tokens» .entry)) source j l (now (area .entry)) (now (tokens .entry)) size (now (area .exit)) (now (tokens .exit)) r ⌝ }
 {
     let from = size.tokens;
     let merged = merge(
@@ -86,7 +87,7 @@ pub fn rewrite_line<'a>(
         tokens,
         size,
     );
-    let s = fold_last(tape, area, tokens, from, merged);
+    let s = fold_last(tape, area, tokens, from, merged, edition);
     let count = s.tokens - from;
     Appended {
         line: words::with_tokens(l, from, count),

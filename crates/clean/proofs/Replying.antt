@@ -8,7 +8,7 @@ use lib.ListN.{length}
 use borrow.Author.Tests.{leb-true}
 use Rattle.reference.specs.Listing.{Listing}
 use Rattle.reference.specs.Rules.{Rules}
-use Rattle.reference.specs.Questions.{is-convention, has-room-by, has-room, Answer, Refused, Passed, let-passed_then_, read}
+use Rattle.reference.specs.Questions.{is-convention, is-edition, has-room-by, has-room, Answer, Refused, Passed, let-passed_then_, read}
 use Rattle.reference.specs.Reply.{Reply, Told, told, Report, reply-by, reply, output-after, work-after, report}
 use Rattle.reference.proofs.Cases.{both}
 use Rattle.reference.proofs.Reading.{Yes, passed-inj, ask-yes, let-refused, let-is}
@@ -40,9 +40,9 @@ report-is : (rules : Rules) (tape : List ℕ) (input : Listing) (f : Finished) �
 unfolding report
 report-is rules tape input f e = ap report-with (passed-inj e)
 
--- the questions 1 and 2, of the settings and of the lengths of what is lent
+-- the questions 1, 9 and 2, of the settings and of the lengths of what is lent
 abbrev door : Rules → ℕ → ℕ → ℕ → List (ℕ × Bool)
-door rules work-a work-b output = (1, is-convention rules) ∷ (2, has-room work-a work-b output) ∷ []
+door rules work-a work-b output = (1, is-convention rules) ∷ (9, is-edition rules) ∷ (2, has-room work-a work-b output) ∷ []
 
 -- what a call does is said of any reply that is the same
 pub same-reply : {rules : Rules} {tape work-a work-b out work-a′ work-b′ out′ : List ℕ} {r s : C.Reply} → r ≡ s
@@ -79,14 +79,14 @@ module _ (rules : Rules) (tape work-a work-b out : List ℕ) where
   )
 
   module _ {n : ℕ} (e : n ≡ first-no (door rules (length work-a) (length work-b) (length out))) where
-    -- question 1 or 2 refuses the call
+    -- question 1, 9 or 2 refuses the call
     pub refused-at-door : (n ≡ 0 → ⊥) → Promise work-a work-b out (Said.Refused n 0)
     unfolding reply-by
     refused-at-door z = refused (ask-number (λ number. 0) (door rules (length work-a) (length work-b) (length out)) _ z (sym e))
 
     module _ (z : n ≡ 0) where
       open-door : Yes (door rules (length work-a) (length work-b) (length out))
-      open-door = none-no _ (omega arith, (omega arith, tt)) (sym e ∙ z)
+      open-door = none-no _ (omega arith, (omega arith, (omega arith, tt))) (sym e ∙ z)
 
       answer-is : answer ≡ (let-passed (read tape) then λ lines. cleaned rules tape lines)
       unfolding reply-by
@@ -100,7 +100,7 @@ module _ (rules : Rules) (tape work-a work-b out : List ℕ) where
       pub cleanable : Accepted tape → Cleanable tape work-a work-b out
       unfolding has-room-by
       cleanable a =
-          let room = both (open-door .1 .0) in
+          let room = both (open-door .1 .1 .0) in
           record {
             accepted = a;
             room-a = leb-true _ _ (room .0);

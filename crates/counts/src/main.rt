@@ -73,7 +73,11 @@ fn count(convention: u8, settle: bool, tape: &[u8]) {
     let mut work_a = [0u8; 49152];
     let mut work_b = [0u8; 49152];
     let mut out = [0u8; 59137];
-    let rules = Rules { convention, settle };
+    let rules = Rules {
+        convention,
+        settle,
+        edition: 0,
+    };
     print_reply(clean::clean(rules, tape, &mut work_a, &mut work_b, &mut out));
 }
 

@@ -42,7 +42,7 @@ module _ {rules : Rules} {tape old : Text} {words lines : List ℕ} {j : Join} (
     rest-is = refl;
     behind = omega arith;
     listed = listed-none tape _ _;
-    means = λ addresses. sym (built-begin (acted-line (volatile rules) (j .line) plan) (j .line) (listing-read tape old words addresses lines));
+    means = λ addresses. sym (built-begin (acted-line rules (j .line) plan) (j .line) (listing-read tape old words addresses lines));
     within = within-begin h;
   }
 
@@ -51,7 +51,7 @@ module _ {rules : Rules} {tape old : Text} {words lines : List ℕ} {j : Join} (
     pub passed : k ≡ j .line → Upto rules tape old words lines j (k + 1) area tokens lines′ size
     passed e =
         let skip : (addresses : Reading) → acted-upto rules j plan (listing-read tape old words addresses lines) (k + 1) ≡ acted-upto rules j plan (listing-read tape old words addresses lines) k =
-        λ addresses. rw e (built-skip (acted-line (volatile rules) (j .line) plan) (j .line) (listing-read tape old words addresses lines) (rw length-map (h .inside)) blank) in
+        λ addresses. rw e (built-skip (acted-line rules (j .line) plan) (j .line) (listing-read tape old words addresses lines) (rw length-map (h .inside)) blank) in
         record {
           as-many = u .as-many;
           rest-is = rest-next k lines′ lines (u .rest-is);
@@ -79,7 +79,7 @@ module _ {rules : Rules} {tape old : Text} {words lines : List ℕ} {j : Join} (
                 ap (listing-read tape _ _ addresses) front
                 ∙ listing-added a (u .listed) addresses
                 ∙ rw (u .means addresses)
-                (sym (built-turn (acted-line (volatile rules) (j .line) plan) (j .line) (listing-read tape old words addresses lines) k blank (rw length-map b) n
+                (sym (built-turn (acted-line rules (j .line) plan) (j .line) (listing-read tape old words addresses lines) k blank (rw length-map b) n
                 ∙ rw (listing-at tape old words addresses lines k b, el, es)));
             within = within-placed h (u .within) b n es el a refl refl;
           })

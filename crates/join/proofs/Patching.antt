@@ -112,7 +112,7 @@ module _ {rules : Rules} {tape old : Text} {words lines : List ℕ} {j : Join} (
   plan = plan-of tape old words lines j
 
   abbrev by-plan : ℕ → Line → Line
-  by-plan = acted-line (volatile rules) (j .line) plan
+  by-plan = acted-line rules (j .line) plan
 
   pub patch-begun : (area : Text) (tokens : List ℕ) → Patching rules tape old words lines j from (j .line + 1) area tokens lines from
   patch-begun area tokens = record {

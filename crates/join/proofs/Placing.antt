@@ -120,7 +120,7 @@ module _ {rules : Rules} {tape old : Text} {words : List ℕ} {source : ℕ} {j 
       few = rw rewritten-tokens at (h .few);
     }
 
-    pub placed-rewritten : {area′ : Text} {tokens′ : List ℕ} {r : Appended} → Rewritten tape old words source (substitution-of j) l area tokens at area′ tokens′ r
+    pub placed-rewritten : {area′ : Text} {tokens′ : List ℕ} {r : Appended} → Rewritten (rules .edition) tape old words source (substitution-of j) l area tokens at area′ tokens′ r
         → Placed rules tape old words source j k l area tokens at area′ tokens′ r
     unfolding changes right-of right-side-of
     placed-rewritten a =

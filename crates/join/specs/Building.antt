@@ -31,7 +31,7 @@ substitution-of j = record { family = j .family; expr = j .expr; brackets = j .b
 -- what line k, whose word is l, becomes; `source` is the word of the line that is joined
 abbrev pub new-line : Rules → Text → Text → List ℕ → ℕ → Join → ℕ → ℕ → Reading → Line
 new-line rules tape old words source j k l addresses =
-    acted-line (volatile rules) (j .line) (join-in tape old (part-of words source) j) k (line-read tape old words addresses l)
+    acted-line rules (j .line) (join-in tape old (part-of words source) j) k (line-read tape old words addresses l)
 
 -- its tokens, not merged and folded yet
 abbrev pub new-tokens : Rules → Text → Text → List ℕ → ℕ → Join → ℕ → ℕ → List Token
@@ -74,7 +74,7 @@ pub record Plannable (rules : Rules) (tape old : Text) (words lines : List ℕ) 
 
 -- the lines of the new listing up to line k: as they are, and not merged and folded
 abbrev pub acted-upto : Rules → Join → Plan → Listing → ℕ → Listing
-acted-upto rules j p = built (acted-line (volatile rules) (j .line) p) (j .line)
+acted-upto rules j p = built (acted-line rules (j .line) p) (j .line)
 
 abbrev pub unmerged-upto : Rules → Join → Plan → Listing → ℕ → Listing
 unmerged-upto rules j p = built (unmerged-line (volatile rules) (j .line) p) (j .line)

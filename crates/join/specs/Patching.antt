@@ -70,7 +70,7 @@ pub record Patching (rules : Rules) (tape old : Text) (words lines : List ℕ) (
   pub words-from : from .tokens ≤ at .tokens
   pub listed : Listed tape (mixed old (from .text) (at .text) area) (mixed words (from .tokens) (at .tokens) tokens) lines′
   pub means : (addresses : Reading) → mixed-listing tape old words from area tokens lines′ at addresses
-      ≡ changed-upto (acted-line (volatile rules) (j .line) (plan-of tape old words lines j)) (listing-read tape old words addresses lines) k
+      ≡ changed-upto (acted-line rules (j .line) (plan-of tape old words lines j)) (listing-read tape old words addresses lines) k
   pub text-left : at .text + need-from words lines j k ≤ from .text + need-from words lines j (j .line + 1)
   pub words-left : 24 * at .tokens + need-from words lines j k ≤ 24 * from .tokens + need-from words lines j (j .line + 1)
 

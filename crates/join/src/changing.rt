@@ -41,7 +41,7 @@ pub fn is_changed<'a>(
     life::uses(tape, area, words::line_of(tokens, l), f, rules)
 }
 
-// Appends the line l with the right side of the line `source` for each token of the family.
+// Appends the line l with the right side of the line `source` for each token of the family, numbers being read by an edition.
 pub fn rewrite<'a>(
     tape: &'a [u8],
     area: &'a [u8],
@@ -52,9 +52,10 @@ pub fn rewrite<'a>(
     area2: &mut [u8],
     tokens2: &mut [u64],
     size: Size,
+    edition: u8,
 ) -> Appended
     requires { ⌜ Rewritable (now tape) (now area) (now tokens) source (substitution-of j) l (now area2) (now tokens2) size ⌝ }
-    ensures { λ r. ⌜ Rewritten (now (tape .entry)) (now (area .entry)) (now (tokens .entry)) source (substitution-of j) l (now (area2 .entry)) (now (tokens2 .entry)) size (now (area2 .exit)) (now (tokens2 .exit)) r ⌝ }
+    ensures { λ r. ⌜ Rewritten edition (now (tape .entry)) (now (area .entry)) (now (tokens .entry)) source (substitution-of j) l (now (area2 .entry)) (now (tokens2 .entry)) size (now (area2 .exit)) (now (tokens2 .exit)) r ⌝ }
 {
     let family = j.family;
     let expr = j.expr;
@@ -64,5 +65,16 @@ pub fn rewrite<'a>(
         expr,
         brackets,
     };
-    rewrite_line(tape, area, tokens, source, l, s, area2, tokens2, size)
+    rewrite_line(
+        tape,
+        area,
+        tokens,
+        source,
+        l,
+        s,
+        area2,
+        tokens2,
+        size,
+        edition,
+    )
 }

@@ -43,7 +43,18 @@ fn patch_lines<'a>(
         next += 1;
         let l = lines[k];
         if is_changed(tape, area, tokens, l, k, j, rules) {
-            let a = rewrite(tape, area, tokens, source, l, j, area2, tokens2, s);
+            let a = rewrite(
+                tape,
+                area,
+                tokens,
+                source,
+                l,
+                j,
+                area2,
+                tokens2,
+                s,
+                rules.edition,
+            );
             lines[k] = a.line;
             s = a.size;
         }

@@ -34,7 +34,18 @@ fn build_line<'a>(
     ensures { λ r. ⌜ Placed (rules-of rules) (now (tape .entry)) (now (area .entry)) (now (tokens .entry)) source j k l (now (area2 .entry)) (now (tokens2 .entry)) size (now (area2 .exit)) (now (tokens2 .exit)) r ⌝ }
 {
     if is_changed(tape, area, tokens, l, k, j, rules) {
-        return rewrite(tape, area, tokens, source, l, j, area2, tokens2, size);
+        return rewrite(
+            tape,
+            area,
+            tokens,
+            source,
+            l,
+            j,
+            area2,
+            tokens2,
+            size,
+            rules.edition,
+        );
     }
     keep_line(tape, area, tokens, l, area2, tokens2, size)
 }

@@ -13,6 +13,7 @@ use Rattle.reference.specs.Control.{_&&_, if_then_else_}
 use Rattle.reference.specs.Lists.{modify}
 use Rattle.reference.specs.Text.{Text}
 use Rattle.reference.specs.Listing.{Token, Line, Listing}
+use Rattle.reference.specs.Rules.{Rules, volatile}
 use Rattle.reference.specs.Life.{touch, is-use}
 use Rattle.reference.specs.Join.{rewrite-use, rewrite-uses}
 use Rattle.laws.proofs.Scans.{if-true, if-false, and-true, and-false}
@@ -25,10 +26,10 @@ unfoldable pub modifies : (Line → Line) → List ℕ → Listing → Listing
 modifies g [] lines = lines
 modifies g (j ∷ js) lines = modifies g js (modify j g lines)
 
-rewrites : (fam : Text) (expr : List Token) (js : List ℕ) (lines : Listing) → rewrite-uses fam expr js lines ≡ modifies (rewrite-use fam expr) js lines
+rewrites : (edition : ℕ) (fam : Text) (expr : List Token) (js : List ℕ) (lines : Listing) → rewrite-uses edition fam expr js lines ≡ modifies (rewrite-use edition fam expr) js lines
 unfolding rewrite-uses modifies
-rewrites fam expr [] lines = refl
-rewrites fam expr (j ∷ js) lines = rewrites fam expr js (modify j (rewrite-use fam expr) lines)
+rewrites edition fam expr [] lines = refl
+rewrites edition fam expr (j ∷ js) lines = rewrites edition fam expr js (modify j (rewrite-use edition fam expr) lines)
 
 module _ (vol : List Text) (i : ℕ) (p : Plan) where
   pub changes-later : (k : ℕ) (l : Line) → i < k → changes vol i p k l ≡ (leb k (p .last) && is-use (touch l (p .fam) vol))
@@ -80,7 +81,8 @@ module _ (vol : List Text) (i : ℕ) (p : Plan) where
         ∙ sym (map-from-append (where-used vol i p g) 0 front rest ∙ rw (same, size, zero-add))
         ∙ ap (map-from (where-used vol i p g) 0) whole)
 
-  pub acted : (lines : Listing) → i < length lines
-      → map-from (acted-line vol i p) 0 lines
-      ≡ rewrite-uses (p .fam) (right-side-of p) (uses-upto (p .fam) vol (p .last) (suc i) (drop (suc i) lines)) lines
-  acted lines h = changed (rewrite-use (p .fam) (right-side-of p)) lines h ∙ sym (rewrites (p .fam) (right-side-of p) _ lines)
+pub acted : (rules : Rules) (i : ℕ) (p : Plan) (lines : Listing) → i < length lines
+    → map-from (acted-line rules i p) 0 lines
+    ≡ rewrite-uses (rules .edition) (p .fam) (right-side-of p) (uses-upto (p .fam) (volatile rules) (p .last) (suc i) (drop (suc i) lines)) lines
+acted rules i p lines h =
+    changed (volatile rules) i p (rewrite-use (rules .edition) (p .fam) (right-side-of p)) lines h ∙ sym (rewrites (rules .edition) (p .fam) (right-side-of p) _ lines)

@@ -108,19 +108,19 @@ same-map {ℓ κ} : {A : Type ℓ} {B : Type κ} (f : A → B) (g : ℕ → A �
 same-map f g e k [] = refl
 same-map f g e k (x ∷ xs) = λ t. e k x t ∷ same-map f g e (suc k) xs t
 
-line-bare : (vol : List Text) (i : ℕ) (p : Plan) (k : ℕ) (l : Line) → acted-line vol i p k (bare l) ≡ bare (acted-line vol i p k l)
+line-bare : (rules : Rules) (i : ℕ) (p : Plan) (k : ℕ) (l : Line) → acted-line rules i p k (bare l) ≡ bare (acted-line rules i p k l)
 unfolding where-used changes if_then_else_ rewrite-use
-line-bare vol i p k l = go (changes vol i p k l)
+line-bare rules i p k l = go (changes (volatile rules) i p k l)
   where
-    go : (b : Bool) → (if b then rewrite-use (p .fam) (right-side-of p) (bare l) else bare l) ≡ bare (if b then rewrite-use (p .fam) (right-side-of p) l else l)
+    go : (b : Bool) → (if b then rewrite-use (rules .edition) (p .fam) (right-side-of p) (bare l) else bare l) ≡ bare (if b then rewrite-use (rules .edition) (p .fam) (right-side-of p) l else l)
     go true = refl
     go false = refl
 
 pub act-bare : (rules : Rules) (lines : Listing) (i : ℕ) (p : Plan) → act rules (bare-lines lines) i p ≡ bare-lines (act rules lines i p)
 unfolding act
 act-bare rules lines i p =
-    ap (remove i) (map-from-map bare (acted-line (volatile rules) i p) (acted-line (volatile rules) i p) (line-bare (volatile rules) i p) 0 lines)
-    ∙ remove-map bare i (map-from (acted-line (volatile rules) i p) 0 lines)
+    ap (remove i) (map-from-map bare (acted-line rules i p) (acted-line rules i p) (line-bare rules i p) 0 lines)
+    ∙ remove-map bare i (map-from (acted-line rules i p) 0 lines)
 
 pub try-at-bare : (rules : Rules) (lines : Listing) (i : ℕ) (labels : Labels) (addressed : List Text)
     → try-at rules (bare-lines lines) i labels addressed ≡ (let-some (try-at rules lines i labels addressed) else none then λ lines′. some (bare-lines lines′))
@@ -175,15 +175,15 @@ with-addresses (x ∷ xs) (y ∷ ys) e h =
     let more : xs ≡ ys = with-addresses xs ys (cc) (cc) in
     λ t. record { address = address t; indent = first t .indent; tokens = first t .tokens } ∷ more t
 
-address-stays : (vol : List Text) (i : ℕ) (p : Plan) (k : ℕ) (l : Line) → acted-line vol i p k l .address ≡ l .address
+address-stays : (rules : Rules) (i : ℕ) (p : Plan) (k : ℕ) (l : Line) → acted-line rules i p k l .address ≡ l .address
 unfolding where-used rewrite-use
-address-stays vol i p k l = by-if (λ (x : Line). x .address ≡ l .address) (λ e. refl) (λ e. refl)
+address-stays rules i p k l = by-if (λ (x : Line). x .address ≡ l .address) (λ e. refl) (λ e. refl)
 
 pub act-addresses : (rules : Rules) (lines : Listing) (i : ℕ) (p : Plan) → map (λ l. l .address) (act rules lines i p) ≡ remove i (map (λ l. l .address) lines)
 unfolding act
 act-addresses rules lines i p =
-    sym (remove-map (λ (l : Line). l .address) i (map-from (acted-line (volatile rules) i p) 0 lines))
-    ∙ ap (remove i) (same-map (λ (l : Line). l .address) (acted-line (volatile rules) i p) (address-stays (volatile rules) i p) 0 lines)
+    sym (remove-map (λ (l : Line). l .address) i (map-from (acted-line rules i p) 0 lines))
+    ∙ ap (remove i) (same-map (λ (l : Line). l .address) (acted-line rules i p) (address-stays rules i p) 0 lines)
 
 pub cut-addresses : (i : ℕ) (lines : Listing) → map (λ l. l .address) (cut-at i lines) ≡ map (λ l. l .address) lines
 cut-addresses i [] = refl

@@ -62,6 +62,6 @@ module _ {ℓ κ} {A : Type ℓ} {B : Type κ} (f : ℕ → A → B) (i : ℕ) (
   built-end k h = rw (take-all k xs h)
 
 pub act-built : (rules : Rules) (lines : Listing) (i : ℕ) (p : Plan) (k : ℕ) → length lines ≤ k
-    → built (acted-line (volatile rules) i p) i lines k ≡ act rules lines i p
+    → built (acted-line rules i p) i lines k ≡ act rules lines i p
 unfolding act
-act-built rules lines i p k h = built-end (acted-line (volatile rules) i p) i lines k h
+act-built rules lines i p k h = built-end (acted-line rules i p) i lines k h

@@ -94,14 +94,14 @@ module _ (rules : Rules) (lines : Listing) (i : ℕ) where
     within : i < length lines
     within = inside lines i d known
 
-    constant-is : propagate-constant lines i (d .fam .name) (d .expr) labels (volatile rules) ≡ done (plan-constant lines i d labels (volatile rules))
+    constant-is : propagate-constant (rules .edition) lines i (d .fam .name) (d .expr) labels (volatile rules) ≡ done (plan-constant lines i d labels (volatile rules))
     unfolding propagate-constant plan-constant plan-reach gathered ends-at all-take right-side-of if_then_else_ act
     constant-is =
         let fam : Text = d .fam .name in
         let g : Uses = gathered lines i fam (volatile rules) in
         let p : Plan = record { fam = fam; expr = d .expr; last = g .last; brackets = false } in
-        let same : rewrite-uses fam (d .expr) (g .uses) lines ≡ map-from (acted-line (volatile rules) i p) 0 lines =
-        ap (λ (u : List ℕ). rewrite-uses fam (d .expr) u lines) (gathered-uses lines i fam (volatile rules)) ∙ sym (acted (volatile rules) i p lines within) in
+        let same : rewrite-uses (rules .edition) fam (d .expr) (g .uses) lines ≡ map-from (acted-line rules i p) 0 lines =
+        ap (λ (u : List ℕ). rewrite-uses (rules .edition) fam (d .expr) u lines) (gathered-uses lines i fam (volatile rules)) ∙ sym (acted rules i p lines within) in
         rw (
           reach-used lines i fam (volatile rules),
           reach-last lines i fam (volatile rules),
@@ -118,7 +118,7 @@ module _ (rules : Rules) (lines : Listing) (i : ℕ) where
     found j = use-from ((lines at i) .indent) (d .fam .name) (d .expr) (is-some (call-in ((lines at i) .tokens))) (volatile rules) (suc i) (drop (suc i) lines) ≡ some j
 
     replaced : (j pos : ℕ) → found j → position (of-family (d .fam .name)) ((lines at j) .tokens) ≡ some pos
-        → remove i (modify j (rewrite-one pos (d .expr)) lines) ≡ act rules lines i (plan-at j pos)
+        → remove i (modify j (rewrite-one (rules .edition) pos (d .expr)) lines) ≡ act rules lines i (plan-at j pos)
     unfolding found plan-at act rewrite-uses rewrite-use rewrite-one
     replaced j pos h hp =
         let fam : Text = d .fam .name in
@@ -128,22 +128,22 @@ module _ (rules : Rules) (lines : Listing) (i : ℕ) where
         let u = use-found lines ((lines at i) .indent) fam (volatile rules) (d .expr) (is-some (call-in ((lines at i) .tokens))) (suc i) (drop (suc i) lines) j refl h in
         let one = replaced-one p ((lines at j) .tokens) pos refl hp (use-count ((lines at j) .tokens) fam (volatile rules) 1 (u .once)) in
         ap (remove i)
-        (modify-same (rewrite-one pos (d .expr)) (rewrite-use fam (right-side-of p)) blank j lines
-        (ap (λ (ts : List Token). with-tokens (fold (merge ts)) (lines at j)) (sym one))
-        ∙ ap (λ (us : List ℕ). rewrite-uses fam (right-side-of p) us lines) (sym only)
-        ∙ sym (acted (volatile rules) i p lines within))
+        (modify-same (rewrite-one (rules .edition) pos (d .expr)) (rewrite-use (rules .edition) fam (right-side-of p)) blank j lines
+        (ap (λ (ts : List Token). with-tokens (fold (rules .edition) (merge ts)) (lines at j)) (sym one))
+        ∙ ap (λ (us : List ℕ). rewrite-uses (rules .edition) fam (right-side-of p) us lines) (sym only)
+        ∙ sym (acted rules i p lines within))
 
-    single-is : join-one lines i (d .fam) (d .expr) labels (volatile rules) ≡ done (plan-single lines i d labels (volatile rules))
+    single-is : join-one (rules .edition) lines i (d .fam) (d .expr) labels (volatile rules) ≡ done (plan-single lines i d labels (volatile rules))
     unfolding join-one join-at plan-single use-of plan-use found plan-at done let-some_else_then_
     single-is =
         rw (defined-by ((lines at i) .tokens) d known .calls-is)
-        (carried _ (join-at lines i (d .fam) (d .expr) labels (volatile rules)) (plan-use lines i d labels (volatile rules)) (λ j h.
+        (carried _ (join-at (rules .edition) lines i (d .fam) (d .expr) labels (volatile rules)) (plan-use lines i d labels (volatile rules)) (λ j h.
         chosen _ _ _ _ _
         (λ b. refl)
         (λ b. carried _ _ _ (λ pos hp. chosen _ _ _ _ _ (λ c. ap {B = Option Listing} some (replaced j pos h hp)) (λ c. refl)))))
 
-    plan-is : (let-some (if lone-number (d .expr) then propagate-constant lines i (d .fam .name) (d .expr) labels (volatile rules) else none)
-        else join-one lines i (d .fam) (d .expr) labels (volatile rules) then λ l. some l) ≡ done (plan-for lines i d labels (volatile rules))
+    plan-is : (let-some (if lone-number (d .expr) then propagate-constant (rules .edition) lines i (d .fam .name) (d .expr) labels (volatile rules) else none)
+        else join-one (rules .edition) lines i (d .fam) (d .expr) labels (volatile rules) then λ l. some l) ≡ done (plan-for lines i d labels (volatile rules))
     unfolding plan-for
     plan-is =
         first-of _ _ (if lone-number (d .expr) then plan-constant lines i d labels (volatile rules) else none) (plan-single lines i d labels (volatile rules))
@@ -219,7 +219,7 @@ module _ (rules : Rules) (lines : Listing) (i : ℕ) (labels : Labels) (d : Defi
   done-some none = refl
   done-some (some p) = refl
 
-  constant-some : is-some (propagate-constant lines i (d .fam .name) (d .expr) labels (volatile rules)) ≡ is-some (plan-constant lines i d labels (volatile rules))
+  constant-some : is-some (propagate-constant (rules .edition) lines i (d .fam .name) (d .expr) labels (volatile rules)) ≡ is-some (plan-constant lines i d labels (volatile rules))
   constant-some = ap is-some (constant-is rules lines i labels d known) ∙ done-some _
 
   -- every use that was gathered
@@ -264,7 +264,7 @@ targets-are rules lines i labels addressed p e =
     let defined : definition-of ((lines at i) .tokens) ≡ some d = known .1 ∙ ap {B = Option Definition} some (sym same) in
     let planned : plan-for lines i d labels (volatile rules) ≡ some p =
     subst (λ (x : Definition). plan-for lines i x labels (volatile rules) ≡ some p) (sym same) (unless-some (known .2) .1) in
-    let constant : is-some (propagate-constant lines i (d .fam .name) (d .expr) labels (volatile rules)) ≡ is-some (plan-constant lines i d labels (volatile rules)) =
+    let constant : is-some (propagate-constant (rules .edition) lines i (d .fam .name) (d .expr) labels (volatile rules)) ≡ is-some (plan-constant lines i d labels (volatile rules)) =
     constant-some rules lines i labels d defined in
     by-targets rules lines i labels (λ js. js ≡ changed-places rules lines i p) (a .0) (f .0) (a .1) (f .1)
     (λ many. by-some (λ (o : Option Plan). o ≡ some p → all-uses lines i (f .0) (volatile rules) ≡ changed-places rules lines i p)

@@ -87,7 +87,7 @@ module _ {rules : Rules} {lines : Listing} {i : ℕ} {p : Plan} (h : Planned rul
       let d = defined-by ((lines at i) .tokens) (h .def) (h .known) in
       true-false (subst (λ (k : ℕ). is-label (lines at k) ≡ true) s e) (assigning-plain (assigns ((lines at i) .tokens) (d .to) (d .assignment-is)))
 
-  label-stands : (q : ℕ) → is-label (lines at q) ≡ true → acted-line (volatile rules) i p q (lines at q) ≡ lines at q
+  label-stands : (q : ℕ) → is-label (lines at q) ≡ true → acted-line rules i p q (lines at q) ≡ lines at q
   label-stands q e =
       by-cases (decLe (suc i) q)
       (λ lt. line-kept (volatile rules) i p rewritten q (lines at q)
@@ -96,13 +96,13 @@ module _ {rules : Rules} {lines : Listing} {i : ℕ} {p : Plan} (h : Planned rul
       (λ le. early (volatile rules) i p rewritten q (lines at q) (omega arith))
     where
       rewritten : Line → Line
-      rewritten = rewrite-use (p .fam) (right-side-of p)
+      rewritten = rewrite-use (rules .edition) (p .fam) (right-side-of p)
 
   pub act-label : (q : ℕ) → is-label (lines at q) ≡ true → act rules lines i p at (shift-place i q) ≡ lines at q
   unfolding act
   act-label q e =
-      at-shifted blank i (map-from (acted-line (volatile rules) i p) 0 lines) q (label-other q e)
-      ∙ getD-map-from (acted-line (volatile rules) i p) 0 lines q blank blank (label-inside lines q e)
+      at-shifted blank i (map-from (acted-line rules i p) 0 lines) q (label-other q e)
+      ∙ getD-map-from (acted-line rules i p) 0 lines q blank blank (label-inside lines q e)
       ∙ rw (zero-add q) (label-stands q e)
 
 module _ (rules : Rules) (lines : Listing) (i : ℕ) (labels : Labels) (addressed : List Text) {lines′ : Listing}

@@ -138,10 +138,10 @@ pub keep-room : (b : Token) (rest : List Token) → signs rest ≤ signs (b ∷ 
 keep-room b rest = by-if (λ (n : ℕ). signs rest ≤ n) (λ h. omega arith) (λ h. omega arith)
 
 -- one fold: the number that it makes is paid for by the sign that goes
-pub fold-room : (before : Option Token) (a b c : Token) (rest : List Token) (n : Token) → folded before a b c rest ≡ some n
+pub fold-room : (edition : ℕ) (before : Option Token) (a b c : Token) (rest : List Token) (n : Token) → folded edition before a b c rest ≡ some n
     → size n + 19 * signs rest ≤ 19 * signs (b ∷ c ∷ rest)
 unfolding is-sign
-fold-room before a b c rest n e =
-    let f = folds before a b c rest n e in
+fold-room edition before a b c rest n e =
+    let f = folds edition before a b c rest n e in
     let one : signs (b ∷ c ∷ rest) ≡ suc (signs (c ∷ rest)) = if-true _ _ (f .sign) in
     omega (arith, keep-room c rest, f .small)

@@ -165,8 +165,9 @@ module _ (volatile : List Text) (i : ℕ) (p : Plan) where
   abbrev pub unmerged-line : ℕ → Line → Line
   unmerged-line = where-used (λ l. with-tokens (substitute (p .fam) (right-side-of p) (l .tokens)) l)
 
-  abbrev pub acted-line : ℕ → Line → Line
-  acted-line = where-used (rewrite-use (p .fam) (right-side-of p))
+-- the line k as the plan of line i leaves it
+abbrev pub acted-line : Rules → ℕ → Plan → ℕ → Line → Line
+acted-line rules i p = where-used (volatile rules) i p (rewrite-use (rules .edition) (p .fam) (right-side-of p))
 
 module _ {ℓ κ} {A : Type ℓ} {B : Type κ} where
   -- what a loop over the first k elements has built, leaving out the element i
@@ -174,4 +175,4 @@ module _ {ℓ κ} {A : Type ℓ} {B : Type κ} where
   built f i xs k = remove i (map-from f 0 (take k xs))
 
 unfoldable pub act : Rules → Listing → ℕ → Plan → Listing
-act rules lines i p = remove i (map-from (acted-line (volatile rules) i p) 0 lines)
+act rules lines i p = remove i (map-from (acted-line rules i p) 0 lines)

@@ -13,7 +13,7 @@ use Rattle.reference.specs.Control.{not, _&&_, _||_, if_then_else_, let-some_el
 use Rattle.reference.specs.Text.{Text, bytes, _==_, has}
 use Rattle.reference.specs.Listing.{token, is, Number}
 use Rattle.reference.specs.Names.{family, volatile-of}
-use Rattle.reference.specs.Numbers.{parse-c-number, wrap, show, delim-before, delim-after, folded}
+use Rattle.reference.specs.Numbers.{parse-c-number, read-number, wrap, show, delim-before, delim-after, folded}
 use Rattle.reference.proofs.Cases.{same-number}
 use Rattle.laws.proofs.Scans.{or-true, or-false, if-true, if-false}
 use Rattle.names.specs.Families.{row-name, Spells}
@@ -116,11 +116,11 @@ module _ (a b : Text) where
   folds f (some x) (some y) = refl
 
   pub sum-folds : value (combined false a b) ≡ fold-answer (bytes " + ") a b
-  unfolding combined fold-answer folded delim-before delim-after is _&&_ _||_ if_then_else_
+  unfolding combined fold-answer folded read-number delim-before delim-after is _&&_ _||_ if_then_else_
   sum-folds = folds (λ x y. x +ℤ y) (parse-c-number a) (parse-c-number b)
 
   pub difference-folds : value (combined true a b) ≡ fold-answer (bytes " - ") a b
-  unfolding combined fold-answer folded delim-before delim-after is _&&_ _||_ if_then_else_
+  unfolding combined fold-answer folded read-number delim-before delim-after is _&&_ _||_ if_then_else_
   difference-folds = folds (λ x y. x -ℤ y) (parse-c-number a) (parse-c-number b)
 
 module _ {n : N.Number} where
@@ -183,9 +183,14 @@ module _ (q a b : Text) where
           unfolding answer-to
           asks-volatile e = sym (if-false _ _ n₁ ∙ if-false _ _ n₂ ∙ if-false _ _ n₃ ∙ if-false _ _ n₄ ∙ if-true _ _ e)
 
-          pub asks-nothing : (q == bytes "volatile") ≡ false → bytes "no such question" ≡ answer-to q a b
-          unfolding answer-to
-          asks-nothing e = sym (if-false _ _ n₁ ∙ if-false _ _ n₂ ∙ if-false _ _ n₃ ∙ if-false _ _ n₄ ∙ if-false _ _ e)
+          module _ (n₅ : (q == bytes "volatile") ≡ false) where
+            pub asks-constant : (q == bytes "constant") ≡ true → value (read-number 1 a) ≡ answer-to q a b
+            unfolding answer-to
+            asks-constant e = sym (if-false _ _ n₁ ∙ if-false _ _ n₂ ∙ if-false _ _ n₃ ∙ if-false _ _ n₄ ∙ if-false _ _ n₅ ∙ if-true _ _ e)
+
+            pub asks-nothing : (q == bytes "constant") ≡ false → bytes "no such question" ≡ answer-to q a b
+            unfolding answer-to
+            asks-nothing e = sym (if-false _ _ n₁ ∙ if-false _ _ n₂ ∙ if-false _ _ n₃ ∙ if-false _ _ n₄ ∙ if-false _ _ n₅ ∙ if-false _ _ e)
 
 -- ---- the answer on a line: q, w and v are its question, and what stands behind the first word and the second
 
@@ -200,11 +205,16 @@ module _ (line : Text) {q w v : Text} (e : q ≡ before line 32) (f : w ≡ behi
   module _ (n : (q == bytes "family") ≡ false) where
     pub expects-number : (q == bytes "number") ≡ true → v ≡ expected line
     unfolding expected
-    expects-number h = second ∙ sym (if-true _ _ (or-false _ (rw e at n) ∙ (rw e at h)))
+    expects-number h = second ∙ sym (if-true _ _ (or-false _ (rw e at n) ∙ or-true _ (rw e at h)))
 
-    pub expects-other : (q == bytes "number") ≡ false → {u : Text} → u ≡ behind v 32 → u ≡ expected line
-    unfolding expected
-    expects-other h k = k ∙ ap (λ (t : Text). behind t 32) second ∙ sym (if-false _ _ (or-false _ (rw e at n) ∙ (rw e at h)))
+    module _ (m : (q == bytes "number") ≡ false) where
+      pub expects-constant : (q == bytes "constant") ≡ true → v ≡ expected line
+      unfolding expected
+      expects-constant h = second ∙ sym (if-true _ _ (or-false _ (rw e at n) ∙ or-false _ (rw e at m) ∙ (rw e at h)))
+
+      pub expects-other : (q == bytes "constant") ≡ false → {u : Text} → u ≡ behind v 32 → u ≡ expected line
+      unfolding expected
+      expects-other h k = k ∙ ap (λ (t : Text). behind t 32) second ∙ sym (if-false _ _ (or-false _ (rw e at n) ∙ or-false _ (rw e at m) ∙ (rw e at h)))
 
 -- ---- a line's question: q, a and b are its first three words, w and v what stands behind the first and the second
 

@@ -1,5 +1,5 @@
--- What a line of the vectors asks, what its answer is by the reference's definitions, and which answer the line has. A line is a question, its one
--- operand or two, and the Rust's answer; tests/leaves says how the Rust's is got. Assumes nothing.
+-- What a line of the vectors asks, what its answer is by the reference's definitions, and which answer the line has. A line is a question,
+-- its one operand or two, and the Rust's answer (for `constant` the oracle's); tests/leaves says how it is got. Assumes nothing.
 use Prim.Native.Nat.{ℕ}
 use mathlib.Core.Bool.{Bool, false}
 use mathlib.Core.List.{[], _++_}
@@ -10,7 +10,7 @@ use Rattle.reference.specs.Lists.{count}
 use Rattle.reference.specs.Text.{Text, bytes, _==_, has}
 use Rattle.reference.specs.Listing.{token, Number, Punct}
 use Rattle.reference.specs.Names.{family, volatile-of}
-use Rattle.reference.specs.Numbers.{parse-c-number, wrap, folded, show}
+use Rattle.reference.specs.Numbers.{parse-c-number, read-number, wrap, folded, show}
 use Rattle.printing.specs.Decimals.{decimal}
 use Rattle.leaves.specs.Fields.{behind-words, word, lines}
 
@@ -34,10 +34,10 @@ combined minus a b =
     let-some (parse-c-number b) else none then λ y.
     some (wrap (if minus then x -ℤ y else x +ℤ y))
 
--- what a fold makes of `a op b` alone on a line
+-- what a fold makes of `a op b` alone on a line, by edition 0
 unfoldable pub fold-answer : Text → Text → Text → Text
 fold-answer op a b =
-    let-some (folded none (token Number a) (token Punct op) (token Number b) []) else bytes "unread" then λ t. t .text
+    let-some (folded 0 none (token Number a) (token Punct op) (token Number b) []) else bytes "unread" then λ t. t .text
 
 -- document 01's conventions; any text but `0` and `1` stands for 2
 unfoldable pub convention : Text → ℕ
@@ -58,6 +58,7 @@ answer-to question a b =
     else if question == bytes "sum" then fold-answer (bytes " + ") a b
     else if question == bytes "difference" then fold-answer (bytes " - ") a b
     else if question == bytes "volatile" then yes-no (overwrites (convention a) b)
+    else if question == bytes "constant" then value (read-number 1 a)
     else bytes "no such question"
 
 unfoldable pub answer : Text → Text
@@ -67,7 +68,8 @@ answer line = answer-to (word 0 line) (word 1 line) (word 2 line)
 
 unfoldable pub expected : Text → Text
 expected line =
-    if (word 0 line == bytes "family") || (word 0 line == bytes "number") then behind-words 2 line else behind-words 3 line
+    if (word 0 line == bytes "family") || (word 0 line == bytes "number") || (word 0 line == bytes "constant") then behind-words 2 line
+    else behind-words 3 line
 
 -- how many lines have another answer than the definitions'
 unfoldable pub differing : Text → ℕ

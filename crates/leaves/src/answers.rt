@@ -1,10 +1,11 @@
 // The questions, and what this repository answers. Words stand one space apart, and a word may be empty.
 //
 //     family NAME                 its family and width, or `none`
-//     number TEXT                 its value as folding prints it, or `unread`
+//     number TEXT                 its value in edition 0, as folding prints it, or `unread`
 //     sum TEXT TEXT               likewise
 //     difference TEXT TEXT        likewise
 //     volatile CONVENTION NAME    whether a call overwrites the register: `yes` or `no`
+//     constant TEXT               its value in edition 1, or `unread`
 //
 // An answer is written into a slice of the caller's, and its length returned.
 use crate::fields::before;
@@ -142,6 +143,9 @@ fn put_answer_to(question: &[u8], a: &[u8], b: &[u8], out: &mut [u8]) -> usize
     if same(question, b"volatile") {
         return put_yes_no(overwrites(convention(a), b), out);
     }
+    if same(question, b"constant") {
+        return put_value(numbers::read_number(1, a), out);
+    }
     put(b"no such question", out, 0)
 }
 
@@ -169,6 +173,9 @@ pub fn expected(line: &[u8]) -> &[u8]
         return answer;
     }
     if same(question, b"number") {
+        return answer;
+    }
+    if same(question, b"constant") {
         return answer;
     }
     behind(answer, b' ')

@@ -44,7 +44,7 @@ module _ {A : Type 0} (f : ℕ → A) (most : ℕ) where
       by true = refl
       by false = refl
 
-  below : (o : Option ℕ) → (let-some o else none then λ n. if ltb n (suc most) then some (f n) else none) ≡ (let-some (at-most most o) else none then λ n. some (f n))
+  pub below : (o : Option ℕ) → (let-some o else none then λ n. if ltb n (suc most) then some (f n) else none) ≡ (let-some (at-most most o) else none then λ n. some (f n))
   below o = simp leb·suc-suc (up-to o)
 
 -- ---- without the sign in front
@@ -70,11 +70,11 @@ module _ (s : Text) where
   negative-is = up-to (λ n. negℤ (pos n)) (2 ^ 63) (unsigned 10 s)
 
 module _ {A B : Type 0} (f : A → B) {o : Option A} where
-  then-some : {a : A} → some a ≡ o → some (f a) ≡ (let-some o else none then λ x. some (f x))
+  pub then-some : {a : A} → some a ≡ o → some (f a) ≡ (let-some o else none then λ x. some (f x))
   unfolding let-some_else_then_
   then-some e = rw (← e)
 
-  then-none : none ≡ o → none ≡ (let-some o else none then λ x. some (f x))
+  pub then-none : none ≡ o → none ≡ (let-some o else none then λ x. some (f x))
   unfolding let-some_else_then_
   then-none e = rw (← e)
 

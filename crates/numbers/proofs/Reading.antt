@@ -60,11 +60,11 @@ module _ (radix c : ℕ) where
 -- ---- a number that is at most `most`
 
 module _ (most : ℕ) where
-  most-none : at-most most none ≡ none
+  pub most-none : at-most most none ≡ none
   unfolding at-most let-some_else_then_
   most-none = refl
 
-  most-in : (n : ℕ) → n ≤ most → at-most most (some n) ≡ some n
+  pub most-in : (n : ℕ) → n ≤ most → at-most most (some n) ≡ some n
   unfolding at-most let-some_else_then_
   most-in n h = if-true _ _ (le-leb n most h)
 
@@ -112,10 +112,30 @@ module _ (most radix v c : ℕ) {d : ℕ} (e : d ≡ worth c) where
   unfolding with-digit
   with-in h o = sym (digit-some most radix c _ (rw e at h) ∙ rw (← e) (most-in most (v * radix + d) o))
 
+-- the byte c after the number v, where `k` is what follows a number; o is what comes of it
+module _ (most radix v c : ℕ) (k : ℕ → Option ℕ) {o : Option ℕ} (next : o ≡ (let-some (to-digit radix c) else none then λ d. k (v * radix + d))) where
+  pub byte-read : {n : ℕ} → some n ≡ at-most most (with-digit radix v c) → (n ≤ most) × (at-most most o ≡ at-most most (k n))
+  byte-read {n} e =
+      by-cases (decLe radix (worth c))
+      (λ l. let z : _≡_ {A = ℕ} 0 1 = cc (with-none most radix v c refl l) in absurd (omega arith))
+      (λ l. by-cases (decLe (v * radix + worth c) most)
+      (λ h.
+      let m : n ≡ v * radix + worth c = cc (with-in most radix v c refl (omega arith) h) in
+      (omega arith, ap (at-most most) next ∙ digit-some most radix _ _ (omega arith) ∙ rw m refl))
+      (λ h. let z : _≡_ {A = ℕ} 0 1 = cc (with-over most radix v c refl (omega arith) (omega arith)) in absurd (omega arith)))
+
+  pub byte-unread : (0 < radix → (n : ℕ) → most < n → at-most most (k n) ≡ none) → none ≡ at-most most (with-digit radix v c) → at-most most o ≡ none
+  byte-unread large e =
+      by-cases (decLe radix (worth c))
+      (λ l. ap (at-most most) next ∙ digit-none most radix _ _ l)
+      (λ l. by-cases (decLe (v * radix + worth c) most)
+      (λ h. cc (with-in most radix v c refl (omega arith) h))
+      (λ h. ap (at-most most) next ∙ digit-some most radix _ _ (omega arith) ∙ large (omega arith) _ (omega arith)))
+
 -- ---- a row of digits
 
 -- past `most` no digit helps
-too-large : (most radix : ℕ) → 0 < radix → (v : ℕ) (s : Text) → most < v → at-most most (digits-value radix v s) ≡ none
+pub too-large : (most radix : ℕ) → 0 < radix → (v : ℕ) (s : Text) → most < v → at-most most (digits-value radix v s) ≡ none
 unfolding digits-value
 too-large most radix p v [] h = most-over most v h
 too-large most radix p v (c ∷ s) h =
@@ -132,22 +152,11 @@ module _ (most radix v : ℕ) (s : Text) (i : ℕ) (h : i < length s) where
 
   pub digit-read : {n : ℕ} → some n ≡ at-most most (with-digit radix v (getD s i 0))
       → (n ≤ most) × (at-most most (digits-value radix v (drop i s)) ≡ at-most most (digits-value radix n (drop (i + 1) s)))
-  digit-read {n} e =
-      by-cases (decLe radix (worth (getD s i 0)))
-      (λ l. let z : _≡_ {A = ℕ} 0 1 = cc (with-none most radix v (getD s i 0) refl l) in absurd (omega arith))
-      (λ l. by-cases (decLe (v * radix + worth (getD s i 0)) most)
-      (λ o.
-      let m : n ≡ v * radix + worth (getD s i 0) = cc (with-in most radix v (getD s i 0) refl (omega arith) o) in
-      (omega arith, ap (at-most most) next ∙ digit-some most radix _ _ (omega arith) ∙ rw m refl))
-      (λ o. let z : _≡_ {A = ℕ} 0 1 = cc (with-over most radix v (getD s i 0) refl (omega arith) (omega arith)) in absurd (omega arith)))
+  digit-read e = byte-read most radix v (getD s i 0) (λ n. digits-value radix n (drop (i + 1) s)) next e
 
   pub digit-unread : none ≡ at-most most (with-digit radix v (getD s i 0)) → at-most most (digits-value radix v (drop i s)) ≡ none
   digit-unread e =
-      by-cases (decLe radix (worth (getD s i 0)))
-      (λ l. ap (at-most most) next ∙ digit-none most radix _ _ l)
-      (λ l. by-cases (decLe (v * radix + worth (getD s i 0)) most)
-      (λ o. cc (with-in most radix v _ refl (omega arith) o))
-      (λ o. ap (at-most most) next ∙ digit-some most radix _ _ (omega arith) ∙ too-large most radix (omega arith) _ _ (omega arith)))
+      byte-unread most radix v (getD s i 0) (λ n. digits-value radix n (drop (i + 1) s)) next (λ p n h. too-large most radix p n _ h) e
 
 -- the whole row, empty and not
 module _ (most radix : ℕ) where

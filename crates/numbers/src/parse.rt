@@ -19,7 +19,7 @@ pub enum Number {
 }
 
 // What a row of digits spells.
-enum Natural {
+pub enum Natural {
     Read(u64),
     Unread,
 }
@@ -47,7 +47,7 @@ fn worth(b: u8) -> u64
 }
 
 // The number with one digit more, if `b` is a digit and the number then is at most `most`.
-fn with_digit(v: u64, b: u8, radix: u64, most: u64) -> Natural
+pub fn with_digit(v: u64, b: u8, radix: u64, most: u64) -> Natural
     ensures { λ r. ⌜ natural-meaning r ≡ at-most most (reading.with-digit radix v b) ⌝ }
 {
     let d = worth(b);

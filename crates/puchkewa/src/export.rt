@@ -11,6 +11,7 @@ ghost use Rattle.puchkewa.specs.Exports.{settings-of, exported};
 pub struct Settings {
     pub convention: u8,
     pub settle: bool,
+    pub edition: u8,
 }
 
 // `refusal` is 0 when finished, else the number of the question that refused, at `place`; then all other numbers are 0.
@@ -44,6 +45,7 @@ pub extern "C" fn puchkewa_clean(
     let rules = Rules {
         convention: settings.convention,
         settle: settings.settle,
+        edition: settings.edition,
     };
     match clean(rules, tape, work_a, work_b, out) {
         Reply::Refused { number, place } => Report {

@@ -55,34 +55,34 @@ module _ (lines : Listing) (base-indent : ℕ) (fam : Text) (volatile : List Tex
       (λ o. (le-refl j, d .2, plain, tt))
       (λ o. (le-refl j, d .2, plain, gathered (suc j) rest j (d .1))))))
 
-module _ (fam : Text) (expr : List Token) (lone : lone-number expr ≡ true) where
-  found-later : (lines : Listing) (j k : ℕ) (js : List ℕ) → j < k → Found lines k js → Found (modify j (rewrite-use fam expr) lines) k js
+module _ (edition : ℕ) (fam : Text) (expr : List Token) (lone : lone-number expr ≡ true) where
+  found-later : (lines : Listing) (j k : ℕ) (js : List ℕ) → j < k → Found lines k js → Found (modify j (rewrite-use edition fam expr) lines) k js
   found-later lines j k [] h o = tt
   found-later lines j k (n ∷ js) h o =
       let after : j < n = omega (arith, o .0) in (
         o .0,
         rw length-modify (o .1),
-        rw (at-modify (rewrite-use fam expr) n j lines (λ e. omega arith)) (o .2),
+        rw (at-modify (rewrite-use edition fam expr) n j lines (λ e. omega arith)) (o .2),
         found-later lines j (suc n) js (omega arith) (o .3),
       )
 
-  use-changes : (j : ℕ) (lines : Listing) → j < length lines → is-label (lines at j) ≡ false → Changes expr [] [] lines (modify j (rewrite-use fam expr) lines)
+  use-changes : (j : ℕ) (lines : Listing) → j < length lines → is-label (lines at j) ≡ false → Changes expr [] [] lines (modify j (rewrite-use edition fam expr) lines)
   unfolding rewrite-use calls-in
   use-changes j lines lt plain =
       let ts = (lines at j) .tokens in
-      changes-line (rewrite-use fam expr) j lines lt plain refl
-      (λ w light. omega (arith, fold-merge-le w (substitute fam expr ts), substitute-le w fam expr (light lone) ts))
-      (λ c. omega (arith, fold-merge-keeps (substitute fam expr ts) .called c, substitute-keeps fam expr ts .called c))
+      changes-line (rewrite-use edition fam expr) j lines lt plain refl
+      (λ w light. omega (arith, fold-merge-le w edition (substitute fam expr ts), substitute-le w fam expr (light lone) ts))
+      (λ c. omega (arith, fold-merge-keeps edition (substitute fam expr ts) .called c, substitute-keeps fam expr ts .called c))
 
   uses-change : (k : ℕ) (js : List ℕ) (lines : Listing) → Found lines k js
-      → Changes expr [] [] lines (rewrite-uses fam expr js lines) × ((i : ℕ) → i < k → rewrite-uses fam expr js lines at i ≡ lines at i)
+      → Changes expr [] [] lines (rewrite-uses edition fam expr js lines) × ((i : ℕ) → i < k → rewrite-uses edition fam expr js lines at i ≡ lines at i)
   unfolding rewrite-uses
   uses-change k [] lines o = (unchanged expr lines, λ i h. refl)
   uses-change k (j ∷ js) lines o =
-      let later = uses-change (suc j) js (modify j (rewrite-use fam expr) lines) (found-later lines j (suc j) js (le-refl _) (o .3)) in
+      let later = uses-change (suc j) js (modify j (rewrite-use edition fam expr) lines) (found-later lines j (suc j) js (le-refl _) (o .3)) in
       let here : k ≤ j = o .0 in (
         changes-trans (use-changes j lines (o .1) (o .2)) (later .0),
-        λ i h. later .1 i (omega arith) ∙ at-modify (rewrite-use fam expr) i j lines (λ e. omega arith),
+        λ i h. later .1 i (omega arith) ∙ at-modify (rewrite-use edition fam expr) i j lines (λ e. omega arith),
       )
 
 -- ---- an expression, to one use
@@ -103,18 +103,18 @@ module _ (lines : Listing) (base-indent : ℕ) (fam : Text) (expr : List Token) 
 
 -- ---- the attempt
 
-module _ {lines : Listing} {i : ℕ} (s : Assigns lines i) (labels : Labels) (volatile : List Text) {lines′ : Listing} where
+module _ {lines : Listing} {i : ℕ} (s : Assigns lines i) (edition : ℕ) (labels : Labels) (volatile : List Text) {lines′ : Listing} where
   open Assigns s using (to, fam, assignment-is, family-is)
 
-  constant-removed : lone-number (to .expr) ≡ true → propagate-constant lines i (fam .name) (to .expr) labels volatile ≡ some lines′ → Removed lines i lines′
+  constant-removed : lone-number (to .expr) ≡ true → propagate-constant edition lines i (fam .name) (to .expr) labels volatile ≡ some lines′ → Removed lines i lines′
   unfolding propagate-constant calls-in
   constant-removed lone e =
       let u = unless-some (unless-some e .1) in
       let found = gather ((lines at i) .indent) (fam .name) volatile (suc i) (drop (suc i) lines) i in
-      let r = uses-change (fam .name) (to .expr) lone (suc i) (found .uses) lines (gathered lines ((lines at i) .indent) (fam .name) volatile (suc i) (drop (suc i) lines) i refl) in
+      let r = uses-change edition (fam .name) (to .expr) lone (suc i) (found .uses) lines (gathered lines ((lines at i) .indent) (fam .name) volatile (suc i) (drop (suc i) lines) i refl) in
       record {
         assigned = s;
-        between = rewrite-uses (fam .name) (to .expr) (found .uses) lines;
+        between = rewrite-uses edition (fam .name) (to .expr) (found .uses) lines;
         changes =
             record {
               places-same = r .0 .places-same;
@@ -126,7 +126,7 @@ module _ {lines : Listing} {i : ℕ} (s : Assigns lines i) (labels : Labels) (vo
         left = sym (some-inj (u .1));
       }
 
-  join-removed : join-one lines i fam (to .expr) labels volatile ≡ some lines′ → Removed lines i lines′
+  join-removed : join-one edition lines i fam (to .expr) labels volatile ≡ some lines′ → Removed lines i lines′
   unfolding join-one join-at rewrite-one
   join-removed e =
       let u = bind-some e in
@@ -138,12 +138,12 @@ module _ {lines : Listing} {i : ℕ} (s : Assigns lines i) (labels : Labels) (vo
       let new = replace-at ts pos (to .expr) in
       record {
         assigned = s;
-        between = modify j (rewrite-one pos (to .expr)) lines;
+        between = modify j (rewrite-one edition pos (to .expr)) lines;
         changes =
-            changes-line (rewrite-one pos (to .expr)) j lines (place .1) (place .2) refl
-            (λ w h. omega (arith, fold-merge-le w new, replaced-le w (fam .name) ts pos (assigns ((lines at i) .tokens) to assignment-is) (p .1)))
-            (λ c. omega (arith, fold-merge-keeps new .called c, replaced-keeps (fam .name) ts (to .expr) pos (p .1) .called c));
-        line-same = at-modify (rewrite-one pos (to .expr)) i j lines (λ e. omega (arith, place .0));
+            changes-line (rewrite-one edition pos (to .expr)) j lines (place .1) (place .2) refl
+            (λ w h. omega (arith, fold-merge-le w edition new, replaced-le w (fam .name) ts pos (assigns ((lines at i) .tokens) to assignment-is) (p .1)))
+            (λ c. omega (arith, fold-merge-keeps edition new .called c, replaced-keeps (fam .name) ts (to .expr) pos (p .1) .called c));
+        line-same = at-modify (rewrite-one edition pos (to .expr)) i j lines (λ e. omega (arith, place .0));
         left = sym (some-inj (if-some (p .2) .1));
       }
 
@@ -155,8 +155,8 @@ attempt-removed rules lines i labels addressed {lines′} e =
     let f = bind-some (a .2) in
     let s : Assigns lines i = record { to = a .0; fam = f .0; assignment-is = a .1; family-is = f .1 } in
     by-some (λ (o : Option Listing). o ≡ some lines′ → Removed lines i lines′)
-    (λ n u. join-removed s labels (volatile rules) u)
-    (λ l h u. (let c = if-some (h ∙ u) in constant-removed s labels (volatile rules) (c .0) (c .1)))
+    (λ n u. join-removed s (rules .edition) labels (volatile rules) u)
+    (λ l h u. (let c = if-some (h ∙ u) in constant-removed s (rules .edition) labels (volatile rules) (c .0) (c .1)))
     (unless-some (f .2) .1)
 
 -- ---- the lines that it is joined into
@@ -186,8 +186,8 @@ abbrev pub one-use : Listing → ℕ → Fam → List Token → List Text → Li
 one-use lines i f expr volatile =
     let-some (use-from ((lines at i) .indent) (f .name) expr (is-some (call-at (lines at i))) volatile (suc i) (drop (suc i) lines)) else [] then λ j. j ∷ []
 
-module _ (lines : Listing) (i : ℕ) (f : Fam) (expr : List Token) (labels : Labels) (volatile : List Text) {lines′ : Listing} where
-  constant-joined : propagate-constant lines i (f .name) expr labels volatile ≡ some lines′
+module _ (edition : ℕ) (lines : Listing) (i : ℕ) (f : Fam) (expr : List Token) (labels : Labels) (volatile : List Text) {lines′ : Listing} where
+  constant-joined : propagate-constant edition lines i (f .name) expr labels volatile ≡ some lines′
       → Joined i (length lines) (all-uses lines i f volatile)
   unfolding propagate-constant
   constant-joined e =
@@ -198,7 +198,7 @@ module _ (lines : Listing) (i : ℕ) (f : Fam) (expr : List Token) (labels : Lab
         each = found-all lines i (suc i) (found .uses) (le-refl _) (gathered lines indent (f .name) volatile (suc i) (drop (suc i) lines) i refl);
       }
 
-  one-joined : join-one lines i f expr labels volatile ≡ some lines′ → Joined i (length lines) (one-use lines i f expr volatile)
+  one-joined : join-one edition lines i f expr labels volatile ≡ some lines′ → Joined i (length lines) (one-use lines i f expr volatile)
   unfolding join-one let-some_else_then_
   one-joined e =
       let u = bind-some e in
@@ -208,7 +208,7 @@ module _ (lines : Listing) (i : ℕ) (f : Fam) (expr : List Token) (labels : Lab
 module _ (rules : Rules) (lines : Listing) (i : ℕ) (labels : Labels) where
   -- a goal over `targets`, by whether the constant goes to all its uses
   pub by-targets : (P : List ℕ → Type 0) (a : Assignment) (f : Fam) → assignment (lines at i) ≡ some a → family (a .lhs .text) ≡ some f
-      → let many = lone-number (a .expr) && is-some (propagate-constant lines i (f .name) (a .expr) labels (volatile rules)) in
+      → let many = lone-number (a .expr) && is-some (propagate-constant (rules .edition) lines i (f .name) (a .expr) labels (volatile rules)) in
       (many ≡ true → P (all-uses lines i f (volatile rules))) → (many ≡ false → P (one-use lines i f (a .expr) (volatile rules)))
       → P (targets rules lines i labels)
   unfolding targets let-some_else_then_
@@ -222,10 +222,10 @@ module _ (rules : Rules) (lines : Listing) (i : ℕ) (labels : Labels) where
       let a = bind-some e in
       let f = bind-some (a .2) in
       let expr : List Token = a .0 .expr in
-      let constant : Option Listing = propagate-constant lines i (f .0 .name) expr labels (volatile rules) in
+      let constant : Option Listing = propagate-constant (rules .edition) lines i (f .0 .name) expr labels (volatile rules) in
       by-targets (λ js. Joined i (length lines) js) (a .0) (f .0) (a .1) (f .1)
-      (λ t. constant-joined lines i (f .0) expr labels (volatile rules) (is-some-some constant (both t .1) .1))
+      (λ t. constant-joined (rules .edition) lines i (f .0) expr labels (volatile rules) (is-some-some constant (both t .1) .1))
       (λ t. by-some (λ (o : Option Listing). o ≡ some lines′ → Joined i (length lines) (one-use lines i (f .0) expr (volatile rules)))
-      (λ n u. one-joined lines i (f .0) expr labels (volatile rules) u)
+      (λ n u. one-joined (rules .edition) lines i (f .0) expr labels (volatile rules) u)
       (λ l h u. (let c = if-some h in absurd (true-false (pair (c .0) (ap is-some (c .1))) t)))
       (unless-some (f .2) .1))

@@ -136,15 +136,15 @@ sign-mark none a b d n rest h =
     (starts-as (b .text) (bytes " - ") (bytes "((void") false (unfold _&&_ in refl))))
 sign-mark (some name) a b d n rest h = fails (λ e. true-false (both (both e .1) .1) (closed Number d rest refl (h .last)))
 
-fold-at-keeps : (before : Option Token) (a : Token) (ts : List Token) → Keeps [] (a ∷ ts) (fold-at before a ts)
+fold-at-keeps : (edition : ℕ) (before : Option Token) (a : Token) (ts : List Token) → Keeps [] (a ∷ ts) (fold-at edition before a ts)
 unfolding fold-at calls-in
-fold-at-keeps before a [] = keeps-refl _
-fold-at-keeps before a (b ∷ []) = keeps-refl _
-fold-at-keeps before a (b ∷ d ∷ rest) =
+fold-at-keeps edition before a [] = keeps-refl _
+fold-at-keeps edition before a (b ∷ []) = keeps-refl _
+fold-at-keeps edition before a (b ∷ d ∷ rest) =
     by-some (λ (r : List Token). Keeps [] (a ∷ b ∷ d ∷ rest) r)
-    (λ e. keeps-cons a (fold-at-keeps (some a) b (d ∷ rest)))
+    (λ e. keeps-cons a (fold-at-keeps edition (some a) b (d ∷ rest)))
     (λ n e.
-    (let h = folds before a b d rest n e in
+    (let h = folds edition before a b d rest n e in
     keeps-trans
     (record {
       opened = λ o. absurd (true-false o (closed Number a (b ∷ d ∷ rest) refl (h .first)));
@@ -156,16 +156,16 @@ fold-at-keeps before a (b ∷ d ∷ rest) =
         more c n rest,
       );
     })
-    (fold-at-keeps before n rest)))
+    (fold-at-keeps edition before n rest)))
 
-pub fold-merge-keeps : (ts : List Token) → Keeps [] ts (fold (merge ts))
+pub fold-merge-keeps : (edition : ℕ) (ts : List Token) → Keeps [] ts (fold edition (merge ts))
 unfolding fold merge
-fold-merge-keeps [] = keeps-refl []
-fold-merge-keeps (t ∷ ts) = keeps-trans (into-keeps t ts) (go (merge-into t ts))
+fold-merge-keeps edition [] = keeps-refl []
+fold-merge-keeps edition (t ∷ ts) = keeps-trans (into-keeps t ts) (go (merge-into t ts))
   where
-    go : (ts : List Token) → Keeps [] ts (fold ts)
+    go : (ts : List Token) → Keeps [] ts (fold edition ts)
     go [] = keeps-refl []
-    go (a ∷ rest) = fold-at-keeps none a rest
+    go (a ∷ rest) = fold-at-keeps edition none a rest
 
 -- ---- an assignment cut to its expression
 

@@ -3,7 +3,7 @@ use Prim.Native.Nat.{ℕ}
 use Prim.Native.String.{String}
 use mathlib.Core.Path.{_≡_, refl}
 use mathlib.Core.Bool.{true, false}
-use mathlib.Core.List.{List, [], _∷_}
+use mathlib.Core.List.{List, [], _∷_, _++_}
 use mathlib.Core.Option.{Option, none, some}
 use lib.IntN.{pos, negsuc}
 use Rattle.reference.specs.Text.{bytes}
@@ -41,7 +41,7 @@ abbrev made : ℕ → ℕ → ℕ → ℕ → ℕ → Counts
 made a b c r x = record { tally = three a b c; lines-removed = r; results-cut = x }
 
 abbrev convention-1 : Rules
-convention-1 = record { convention = 1; settle = false }
+convention-1 = record { convention = 1; settle = false; edition = 0 }
 
 -- the finished listing under convention 1, and the counts
 abbrev cleans : Listing → Listing → Counts → Type 0
@@ -61,9 +61,9 @@ pub record Starred : Type 0 where
   pub two-minuses : parse-c-number (bytes "--5") ≡ some (pos 5)
   pub no-digits : parse-c-number (bytes "0x") ≡ none
   pub too-large : parse-c-number (bytes "9223372036854775808") ≡ none
-  pub minus-nine : fold (N "4" ∷ P " - " ∷ N "13" ∷ []) ≡ N "-9" ∷ []
-  pub minus-ten : fold (N "4" ∷ P " - " ∷ N "14" ∷ []) ≡ N "-0xa" ∷ []
-  pub wraps : fold (N "9223372036854775807" ∷ P " + " ∷ N "1" ∷ []) ≡ N "-0x8000000000000000" ∷ []
+  pub minus-nine : fold 0 (N "4" ∷ P " - " ∷ N "13" ∷ []) ≡ N "-9" ∷ []
+  pub minus-ten : fold 0 (N "4" ∷ P " - " ∷ N "14" ∷ []) ≡ N "-0xa" ∷ []
+  pub wraps : fold 0 (N "9223372036854775807" ∷ P " + " ∷ N "1" ∷ []) ≡ N "-0x8000000000000000" ∷ []
   pub constant :
       cleans
       (line (R "rax" ∷ P " = " ∷ N "5" ∷ P ";" ∷ []) ∷ line (R "rbx" ∷ P " = " ∷ R "rax" ∷ P " + " ∷ N "4" ∷ P ";" ∷ []) ∷ [])
@@ -157,7 +157,7 @@ telling = record { labels-frozen = (refl, refl); steps-back = (refl, refl); word
 -- ---- a fourth round (M-112)
 
 abbrev settling-1 : Rules
-settling-1 = record { convention = 1; settle = true }
+settling-1 = record { convention = 1; settle = true; edition = 0 }
 
 abbrev settles : Listing → Listing → Counts → Type 0
 settles before after c = (finished settling-1 before ≡ after) × (counts settling-1 (run settling-1 before) ≡ c)
@@ -202,3 +202,25 @@ pub record FourthRound : Type 0 where
 pub fourth-round : FourthRound
 unfolding opened
 fourth-round = record { three-rounds = (refl, refl); until-it-settles = (refl, refl); nothing = (refl, refl) }
+
+-- ---- two editions (M-100)
+
+-- `rax = a;` and `rbx = rax + b;` become `rbx = ` and these tokens and `;`, in the edition
+abbrev joins-to : ℕ → String → String → List Token → Type 0
+joins-to edition a b made =
+    finished (record { convention = 1; settle = false; edition = edition })
+    (line (R "rax" ∷ P " = " ∷ N a ∷ P ";" ∷ []) ∷ line (R "rbx" ∷ P " = " ∷ R "rax" ∷ P " + " ∷ N b ∷ P ";" ∷ []) ∷ [])
+    ≡ line (R "rbx" ∷ P " = " ∷ (made ++ (P ";" ∷ []))) ∷ []
+
+pub record TwoEditions : Type 0 where
+  pub ten-by-the-rust : joins-to 0 "010" "1" (N "0xb" ∷ [])
+  pub eight-by-the-book : joins-to 1 "010" "1" (N "9" ∷ [])
+  -- a Number that is not read is joined and not folded
+  pub unread-by-the-book : joins-to 1 "08" "1" (N "08" ∷ P " + " ∷ N "1" ∷ [])
+  pub unread-by-the-rust : joins-to 0 "0b1" "1'0" (N "0b1" ∷ P " + " ∷ N "1'0" ∷ [])
+  pub quotes-and-bits : joins-to 1 "0b1" "1'0" (N "0xb" ∷ [])
+
+pub two-editions : TwoEditions
+unfolding opened
+two-editions =
+    record { ten-by-the-rust = refl; eight-by-the-book = refl; unread-by-the-book = refl; unread-by-the-rust = refl; quotes-and-bits = refl }

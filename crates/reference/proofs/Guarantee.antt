@@ -99,7 +99,7 @@ pub answered : (rules : Rules) (tape : List ℕ) (work-a work-b output : ℕ) (c
 unfolding reply-by has-room-by
 answered rules tape work-a work-b output c e =
     let r = ask-passed (λ number. 0) _ _ c e in
-    let room = both (r .0 .1 .0) in
+    let room = both (r .0 .1 .1 .0) in
     by-passed (λ (x : Reply). x ≡ Passed c → Answered rules tape work-a work-b output c)
     (λ number place u e. absurd (refused-passed e))
     (λ input reads e.

@@ -4,6 +4,8 @@ pub mod Opened
 pub mod Examples
 pub mod TapeExamples
 pub mod Cases
+pub mod Numerals
+pub mod Printed
 pub mod Shapes
 pub mod Weights
 pub mod Calls

@@ -47,7 +47,7 @@ pub refused-number : (rules : Rules) (tape : List ℕ) (work-a work-b output : �
     → any (eqb n) numbers ≡ true
 unfolding reply-by read _||_
 refused-number rules tape work-a work-b output {n} {p} =
-    asked-number _ _ _ (refl, (refl, tt))
+    asked-number _ _ _ (refl, (refl, (refl, tt)))
     (by-passed (λ (x : Reply). x ≡ Refused n p → Given n)
     (λ number place u. same-number (read-number _ tape _ _ _ u))
     (λ lines u e. absurd (refused-passed (sym e))))

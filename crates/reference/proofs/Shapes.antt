@@ -88,9 +88,9 @@ pub record Folds (a b c n : Token) : Type 0 where
   pub made : is Number n ≡ true
   pub small : size n ≤ 19
 
-pub folds : (before : Option Token) (a b c : Token) (rest : List Token) (n : Token) → folded before a b c rest ≡ some n → Folds a b c n
+pub folds : (edition : ℕ) (before : Option Token) (a b c : Token) (rest : List Token) (n : Token) → folded edition before a b c rest ≡ some n → Folds a b c n
 unfolding folded is
-folds before a b c rest n e =
+folds edition before a b c rest n e =
     let f = if-some e in
     let tests = both (both (both (f .0) .1) .1) in
     let x = bind-some (f .1) in

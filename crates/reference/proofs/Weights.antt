@@ -103,31 +103,31 @@ module _ (w : Weight) where
   merge-le [] = omega arith
   merge-le (t ∷ ts) = into-le t ts
 
-  fold-at-le : (before : Option Token) (a : Token) (ts : List Token) → weight w (fold-at before a ts) ≤ weigh w a + weight w ts
+  fold-at-le : (edition : ℕ) (before : Option Token) (a : Token) (ts : List Token) → weight w (fold-at edition before a ts) ≤ weigh w a + weight w ts
   unfolding fold-at
-  fold-at-le before a [] = omega arith
-  fold-at-le before a (b ∷ []) = omega arith
-  fold-at-le before a (b ∷ c ∷ rest) =
+  fold-at-le edition before a [] = omega arith
+  fold-at-le edition before a (b ∷ []) = omega arith
+  fold-at-le edition before a (b ∷ c ∷ rest) =
       by-some (λ (r : List Token). weight w r ≤ weigh w a + (weigh w b + (weigh w c + weight w rest)))
-      (λ e. omega (arith, fold-at-le (some a) b (c ∷ rest)))
+      (λ e. omega (arith, fold-at-le edition (some a) b (c ∷ rest)))
       (λ n e.
-      (let h = folds before a b c rest n e in
+      (let h = folds edition before a b c rest n e in
       omega (
         arith,
-        fold-at-le before n rest,
+        fold-at-le edition before n rest,
         weigh-number a (h .first),
         weigh-number c (h .last),
         weigh-number n (h .made),
         w .laws .fold (size a) (size c) (size n) (h .small),
       )))
 
-  pub fold-merge-le : (ts : List Token) → weight w (fold (merge ts)) ≤ weight w ts
+  pub fold-merge-le : (edition : ℕ) (ts : List Token) → weight w (fold edition (merge ts)) ≤ weight w ts
   unfolding fold
-  fold-merge-le ts = le-trans (go (merge ts)) (merge-le ts)
+  fold-merge-le edition ts = le-trans (go (merge ts)) (merge-le ts)
     where
-      go : (ts : List Token) → weight w (fold ts) ≤ weight w ts
+      go : (ts : List Token) → weight w (fold edition ts) ≤ weight w ts
       go [] = omega arith
-      go (a ∷ rest) = fold-at-le none a rest
+      go (a ∷ rest) = fold-at-le edition none a rest
 
   -- ---- an assignment's expression, with the brackets that may come around it, weighs no more than its line and one register
 

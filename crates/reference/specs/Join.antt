@@ -63,19 +63,19 @@ unfoldable pub substitute : Text → List Token → List Token → List Token
 substitute fam expr [] = []
 substitute fam expr (t ∷ ts) = let r = substitute fam expr ts in if of-family fam t then expr ++ r else t ∷ r
 
-unfoldable pub rewrite-use : Text → List Token → Line → Line
-rewrite-use fam expr l = with-tokens (fold (merge (substitute fam expr (l .tokens)))) l
+unfoldable pub rewrite-use : ℕ → Text → List Token → Line → Line
+rewrite-use edition fam expr l = with-tokens (fold edition (merge (substitute fam expr (l .tokens)))) l
 
 -- `for &j in &uses { lines[j].tokens = .. }`
-unfoldable pub rewrite-uses : Text → List Token → List ℕ → Listing → Listing
-rewrite-uses fam expr [] lines = lines
-rewrite-uses fam expr (j ∷ js) lines = rewrite-uses fam expr js (modify j (rewrite-use fam expr) lines)
+unfoldable pub rewrite-uses : ℕ → Text → List Token → List ℕ → Listing → Listing
+rewrite-uses edition fam expr [] lines = lines
+rewrite-uses edition fam expr (j ∷ js) lines = rewrite-uses edition fam expr js (modify j (rewrite-use edition fam expr) lines)
 
-unfoldable pub propagate-constant : Listing → ℕ → Text → List Token → Labels → List Text → Option Listing
-propagate-constant lines i fam expr labels volatile =
+unfoldable pub propagate-constant : ℕ → Listing → ℕ → Text → List Token → Labels → List Text → Option Listing
+propagate-constant edition lines i fam expr labels volatile =
     let base-indent : ℕ = (lines at i) .indent in
     let found : Uses = gather base-indent fam volatile (suc i) (drop (suc i) lines) i in
-    let changed : Listing = remove i (rewrite-uses fam expr (found .uses) lines) in
+    let changed : Listing = remove i (rewrite-uses edition fam expr (found .uses) lines) in
     if is-empty (found .uses)
     || (not (dead-after lines (found .last) fam base-indent labels i volatile)
     && not (is-kill (touch (lines at (found .last)) fam volatile)))
@@ -155,8 +155,8 @@ replacement expr before after =
 unfoldable pub replace-at : List Token → ℕ → List Token → List Token
 replace-at toks pos expr = take pos toks ++ replacement expr (text-before toks pos) (text-after toks pos) ++ drop (suc pos) toks
 
-unfoldable pub rewrite-one : ℕ → List Token → Line → Line
-rewrite-one pos expr l = with-tokens (fold (merge (replace-at (l .tokens) pos expr))) l
+unfoldable pub rewrite-one : ℕ → ℕ → List Token → Line → Line
+rewrite-one edition pos expr l = with-tokens (fold edition (merge (replace-at (l .tokens) pos expr))) l
 
 unfoldable pub use-width : List Token → ℕ → ℕ
 use-width toks pos = let-some (get toks pos) else 64 then λ t. let-some (family (t .text)) else 64 then λ f. f .width
@@ -176,18 +176,18 @@ replaceable fam width toks pos =
     && not (written-from fam toks)
 
 -- line i joined into the use on line j
-unfoldable pub join-at : Listing → ℕ → Fam → List Token → Labels → List Text → ℕ → Option Listing
-join-at lines i f expr labels volatile j =
+unfoldable pub join-at : ℕ → Listing → ℕ → Fam → List Token → Labels → List Text → ℕ → Option Listing
+join-at edition lines i f expr labels volatile j =
     if has-kw (lines at j) "while" || not (dead-after lines j (f .name) ((lines at i) .indent) labels i volatile) then none
     else let-some (position (of-family (f .name)) ((lines at j) .tokens)) else none then λ pos.
     if replaceable (f .name) (f .width) ((lines at j) .tokens) pos
-    then some (remove i (modify j (rewrite-one pos expr) lines))
+    then some (remove i (modify j (rewrite-one edition pos expr) lines))
     else none
 
-unfoldable pub join-one : Listing → ℕ → Fam → List Token → Labels → List Text → Option Listing
-join-one lines i f expr labels volatile =
+unfoldable pub join-one : ℕ → Listing → ℕ → Fam → List Token → Labels → List Text → Option Listing
+join-one edition lines i f expr labels volatile =
     let-some (use-from ((lines at i) .indent) (f .name) expr (is-some (call-at (lines at i))) volatile (suc i) (drop (suc i) lines)) else none then λ j.
-    join-at lines i f expr labels volatile j
+    join-at edition lines i f expr labels volatile j
 
 -- `if let [t] = expr.as_slice() { if t.k == TokenKind::Number`
 unfoldable pub lone-number : List Token → Bool
@@ -201,8 +201,8 @@ try-at rules lines i labels addressed =
     let-some (assignment (lines at i)) else none then λ a.
     let-some (family (a .lhs .text)) else none then λ f.
     let constant : Option Listing =
-    if lone-number (a .expr) then propagate-constant lines i (f .name) (a .expr) labels (volatile rules) else none in
-    let joined : Option Listing = join-one lines i f (a .expr) labels (volatile rules) in
+    if lone-number (a .expr) then propagate-constant (rules .edition) lines i (f .name) (a .expr) labels (volatile rules) else none in
+    let joined : Option Listing = join-one (rules .edition) lines i f (a .expr) labels (volatile rules) in
     if has addressed (f .name) || any (of-family (f .name)) (a .expr) then none
     else let-some constant else joined then λ lines′. some lines′
 
@@ -217,4 +217,4 @@ targets rules lines i labels =
     let one : List ℕ =
     let-some (use-from ((lines at i) .indent) (f .name) (a .expr) (is-some (call-at (lines at i))) (volatile rules) (suc i) (drop (suc i) lines))
     else [] then λ j. j ∷ [] in
-    if lone-number (a .expr) && is-some (propagate-constant lines i (f .name) (a .expr) labels (volatile rules)) then uses else one
+    if lone-number (a .expr) && is-some (propagate-constant (rules .edition) lines i (f .name) (a .expr) labels (volatile rules)) then uses else one

@@ -16,7 +16,7 @@ use Rattle.reference.specs.Tape.{Command, new-line, marked, new-token, e
 -- The numbers that a call can give, in the order in which they are asked: document 01's eight, and those of the requests after it.
 -- "Demand 1's eight and their order take in this number and each one below."
 abbrev pub numbers : List ℕ
-numbers = 1 ∷ 2 ∷ 3 ∷ 4 ∷ 5 ∷ 6 ∷ 10 ∷ 11 ∷ 7 ∷ 8 ∷ []
+numbers = 1 ∷ 9 ∷ 2 ∷ 3 ∷ 4 ∷ 5 ∷ 6 ∷ 10 ∷ 11 ∷ 7 ∷ 8 ∷ []
 
 -- what every work area has at least, and every output
 abbrev pub WORK : ℕ
@@ -28,6 +28,10 @@ OUTPUT = 59137
 -- 1. Is the convention 0, 1 or 2?
 unfoldable pub is-convention : Rules → Bool
 is-convention rules = leb (rules .convention) 2
+
+-- 9. Is the edition 0 or 1? (M-100: "asked just after the convention")
+unfoldable pub is-edition : Rules → Bool
+is-edition rules = leb (rules .edition) 1
 
 -- 2. Are both work areas at least 49,152 bytes (M-109) and the output at least 59,137?
 -- The figure for the work areas is a parameter, so that it can be said what another one would change (proofs/WorkSpace.antt).

@@ -6,7 +6,8 @@ use Rattle.reference.specs.Rules.{Rules}
 use Rattle.reference.specs.Run.{run, finished, Tally, three, settled, Counts, counts}
 use Rattle.reference.specs.Marks.{finished-marks}
 use Rattle.reference.specs.Tape.{write}
-use Rattle.reference.specs.Questions.{WORK, is-convention, has-room-by, Answer, Refused, Passed, ask, let-passed_then_, read, marks-in}
+use Rattle.reference.specs.Questions.{WORK, is-convention, is-edition, has-room-by}
+use Rattle.reference.specs.Questions.{Answer, Refused, Passed, ask, let-passed_then_, read, marks-in}
 
 -- the tape of the finished listing with its marks, and the counts of the run
 pub record Cleaned : Type 0 where
@@ -19,7 +20,7 @@ Reply = Answer Cleaned
 -- the settings, the tape, and how many bytes the two work areas and the output have; before them the figure that the work areas are asked for
 unfoldable pub reply-by : ℕ → Rules → List ℕ → ℕ → ℕ → ℕ → Reply
 reply-by figure rules tape work-a work-b output =
-    ask (λ number. 0) ((1, is-convention rules) ∷ (2, has-room-by figure work-a work-b output) ∷ [])
+    ask (λ number. 0) ((1, is-convention rules) ∷ (9, is-edition rules) ∷ (2, has-room-by figure work-a work-b output) ∷ [])
     (let-passed (read tape) then λ lines.
     Passed (record { tape = write (finished rules lines) (finished-marks rules lines (marks-in tape)); counts = counts rules (run rules lines) }))
 

@@ -10,6 +10,8 @@ pub record Rules : Type 0 where
   pub convention : ℕ
   -- M-112: whether to go "on until a round changes nothing", in place of at most three rounds
   pub settle : Bool
+  -- M-100: how numbers are read: 0 as the Rust does, 1 by ISO/IEC 9899:2024
+  pub edition : ℕ
 
 -- the families that a call overwrites
 abbrev pub volatile : Rules → List Text

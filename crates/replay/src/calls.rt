@@ -201,6 +201,7 @@ fn settings(list: &[u8]) -> Rules
     Rules {
         convention: (n % 256) as u8,
         settle: n / 256 % 2 == 1,
+        edition: (n / 65536 % 256) as u8,
     }
 }
 

@@ -65,8 +65,11 @@ fn print_class(class: u64) {
         7 => {
             print(b"settling: ");
         }
-        _ => {
+        8 => {
             print(b"marks: ");
+        }
+        _ => {
+            print(b"editions: ");
         }
     }
 }
@@ -125,7 +128,7 @@ fn run(list: &[u8]) {
         tapes: 0,
         differ: 0,
     };
-    while class < 9 {
+    while class < 10 {
         let counts = replayed(list, class);
         print_class(class);
         print_counts(counts);

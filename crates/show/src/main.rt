@@ -70,6 +70,9 @@ fn print_meaning(number: u64) {
         8 => {
             print(b"the tape goes on behind the end that stands here\n");
         }
+        9 => {
+            print(b"the number edition is not 0 or 1\n");
+        }
         10 => {
             print(
                 b"with the command that stands here there are more than 256 lines or 1,024 tokens\n",

@@ -16,7 +16,7 @@ ghost use Rattle.reference.specs.Lists.{position};
 ghost use Rattle.reference.specs.Listing.{token};
 ghost use Rattle.reference.specs.Tape.{new-line, marked, new-token};
 ghost use mathlib.Core.Option.{none};
-ghost use Rattle.reference.specs.Questions.{is-convention, has-room, has-line, is-within, is-printable, is-offending, place-at, read-command, let-passed_then_, Passed, read};
+ghost use Rattle.reference.specs.Questions.{is-convention, is-edition, has-room, has-line, is-within, is-printable, is-offending, place-at, read-command, let-passed_then_, Passed, read};
 ghost use Rattle.reference.specs.Steps.{FromHere};
 ghost use Rattle.lines.specs.Rules.{rules-of};
 ghost use Rattle.tape.specs.Commands.{size-of, command-in, ends};
@@ -326,12 +326,16 @@ pub fn check(tape: &[u8]) -> Checked
 
 // ---- before the tape
 
-// The number of the question that refuses the settings (1) or the lengths of what is lent (2), or 0.
+// The number of the question that refuses the settings (1, 9) or the lengths of what is lent (2), or 0.
 pub fn asked(rules: Rules, work_a: usize, work_b: usize, output: usize) -> u64
-    ensures { λ r. ⌜ r ≡ first-no ((1, is-convention (rules-of rules)) ∷ (2, has-room «work_a» «work_b» output) ∷ []) ⌝ }
+    ensures { λ r. ⌜ r ≡ first-no ((1, is-convention (rules-of rules)) ∷ (9, is-edition (rules-of rules))
+        ∷ (2, has-room «work_a» «work_b» output) ∷ []) ⌝ }
 {
     if 2 < rules.convention {
         return 1;
+    }
+    if 1 < rules.edition {
+        return 9;
     }
     if work_a < 49152 {
         return 2;

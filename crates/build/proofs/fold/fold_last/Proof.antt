@@ -21,8 +21,8 @@ fold-requires c κs =
     let p = c .before .before .before .before .before .pre in
     foldable-last (p .0) (p .1)
 
-add-t10 : tie.Need-add-t10
-add-t10 c = search needs
+add-t11 : tie.Need-add-t11
+add-t11 c = search needs
 
 same-length : tie.Need-same-length
 same-length c = search needs
@@ -45,7 +45,7 @@ fold-last-spec =
     part-fold-start
     part-fold-end
     fold-requires
-    add-t10
+    add-t11
     same-length
     same-length-2
     returns)

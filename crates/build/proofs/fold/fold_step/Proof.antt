@@ -19,9 +19,10 @@ enum-known-v c = search needs
 put-number-requires : tie.Need-put-number-requires
 put-number-requires c κs =
     let p = c .before .before .before .before .before .before .before .before .before .before .pre in
+    let n = c .before .before .before .before .before .before .before .before .before .before .args .edition in
     let v = c .before .before .v in
     let fold-value = c .before .before .before .before .fold-value in
-    fold-room (p .0) (next-some (p .0) (ap meaning (v .given .1)) (read-back (v .given .0 .0) (c .before .known-told .given .0 .1)) (fold-value .ensures))
+    fold-room (p .0) n (next-some (p .0) n (ap meaning (v .given .1)) (read-back (v .given .0 .0) (c .before .known-told .given .0 .1)) (fold-value .ensures))
 
 add-to : tie.Need-add-to
 add-to c = search needs
@@ -32,12 +33,13 @@ sub-token-word c = search needs
 token-word-requires : tie.Need-token-word-requires
 token-word-requires c κs =
     let p = c .before .before .before .before .before .before .before .before .before .before .before .before .before .pre in
+    let n = c .before .before .before .before .before .before .before .before .before .before .before .before .before .args .edition in
     let v = c .before .before .before .before .before .v in
     let known-told = c .before .before .before .before .known-told in
     let fold-value = c .before .before .before .before .before .before .before .fold-value in
     let s = p .0 in
-    let e = next-some s (ap meaning (v .given .1)) (read-back (v .given .0 .0) (known-told .given .0 .1)) (fold-value .ensures) in
-    omega (arith, fold-short s e, fold-text s e, c .before .before .put-number .ensures .end-is)
+    let e = next-some s n (ap meaning (v .given .1)) (read-back (v .given .0 .0) (known-told .given .0 .1)) (fold-value .ensures) in
+    omega (arith, fold-short s n e, fold-text s n e, c .before .before .put-number .ensures .end-is)
 
 mul-line : tie.Need-mul-line
 mul-line c = search needs
@@ -45,10 +47,11 @@ mul-line c = search needs
 slice-write-line : tie.Need-slice-write-line
 slice-write-line c =
     let p = c .before .before .before .before .before .before .before .before .before .before .before .before .before .before .pre in
+    let n = c .before .before .before .before .before .before .before .before .before .before .before .before .before .before .args .edition in
     let v = c .before .before .before .before .before .before .v in
     let known-told = c .before .before .before .before .before .known-told in
     let fold-value = c .before .before .before .before .before .before .before .before .fold-value in
-    fold-inside (p .0) (next-some (p .0) (ap meaning (v .given .1)) (read-back (v .given .0 .0) (known-told .given .0 .1)) (fold-value .ensures))
+    fold-inside (p .0) n (next-some (p .0) n (ap meaning (v .given .1)) (read-back (v .given .0 .0) (known-told .given .0 .1)) (fold-value .ensures))
 
 enum-told : tie.Need-enum-told
 enum-told c = search needs
@@ -65,11 +68,11 @@ mul-line-3 c = search needs
 slice-write-line-2 : tie.Need-slice-write-line-2
 slice-write-line-2 c = search needs
 
-add-t23 : tie.Need-add-t23
-add-t23 c = search needs
+add-t24 : tie.Need-add-t24
+add-t24 c = search needs
 
-add-t26 : tie.Need-add-t26
-add-t26 c = search needs
+add-t27 : tie.Need-add-t27
+add-t27 c = search needs
 
 same-length : tie.Need-same-length
 same-length c = search needs
@@ -80,12 +83,13 @@ same-length-2 c = search needs
 returns : tie.Need-returns
 returns c =
     let p = c .before .before .before .before .before .before .before .before .before .before .before .before .before .before .pre in
+    let n = c .before .before .before .before .before .before .before .before .before .before .before .before .before .before .args .edition in
     let v = c .before .before .before .before .before .before .v in
     let known-told = c .before .before .before .before .before .known-told in
     let fold-value = c .before .before .before .before .before .before .before .before .fold-value in
     let put-number = c .before .before .before .put-number in
     let s = p .0 in
-    stepped-made s (next-some s (ap meaning (v .given .1)) (read-back (v .given .0 .0) (known-told .given .0 .1)) (fold-value .ensures)) (put-number .ensures) (c .token-word .ensures) (put-number .kept .1 .0)
+    stepped-made s n (next-some s n (ap meaning (v .given .1)) (read-back (v .given .0 .0) (known-told .given .0 .1)) (fold-value .ensures)) (put-number .ensures) (c .token-word .ensures) (put-number .kept .1 .0)
 
 same-length-3 : tie.Need-same-length-3
 same-length-3 c = search needs
@@ -96,8 +100,9 @@ same-length-4 c = search needs
 returns-2 : tie.Need-returns-2
 returns-2 c =
     let p = c .before .before .before .before .before .before .before .before .before .pre in
+    let n = c .before .before .before .before .before .before .before .before .before .args .edition in
     let fold-value = c .before .before .before .fold-value in
-    stepped-kept (p .0) (p .1) (next-none (p .0) (ap meaning (c .before .enum-told .given .1)) (fold-value .ensures))
+    stepped-kept (p .0) n (p .1) (next-none (p .0) n (ap meaning (c .before .enum-told .given .1)) (fold-value .ensures))
 
 pub fold-step-spec : {M : Type 1} → statement M
 fold-step-spec =
@@ -116,8 +121,8 @@ fold-step-spec =
     slice-read-line
     mul-line-3
     slice-write-line-2
-    add-t23
-    add-t26
+    add-t24
+    add-t27
     same-length
     same-length-2
     returns

@@ -15,7 +15,7 @@ sub-if1 c = search needs
 returns : tie.Need-returns
 returns c =
     let a = c .before .before .before .before .args in
-    next-few (a .tape .now) (a .area .now) (a .line .now) _ (a .next) (c .if1 .taken)
+    next-few (a .tape .now) (a .area .now) (a .line .now) (a .edition) _ (a .next) (c .if1 .taken)
 
 delimited-before-requires : tie.Need-delimited-before-requires
 delimited-before-requires c κs = search needs
@@ -23,7 +23,7 @@ delimited-before-requires c κs = search needs
 returns-2 : tie.Need-returns-2
 returns-2 c =
     let a = c .before .before .before .before .before .before .args in
-    next-open (a .tape .now) (a .area .now) (a .line .now) _ (a .next) (omega arith) (c .before .delimited-before .ensures) (not-true _ (c .if2 .taken))
+    next-open (a .tape .now) (a .area .now) (a .line .now) (a .edition) _ (a .next) (omega arith) (c .before .delimited-before .ensures) (not-true _ (c .if2 .taken))
 
 add-delimited-after : tie.Need-add-delimited-after
 add-delimited-after c = search needs
@@ -38,7 +38,7 @@ returns-3 : tie.Need-returns-3
 returns-3 c =
     let a = c .before .before .before .before .before .before .before .before .args in
     let delimited-before = c .before .before .before .delimited-before in
-    next-shut (a .tape .now) (a .area .now) (a .line .now) _ (a .next) (omega arith) (delimited-before .ensures) (not-false _ (c .before .before .if2 .left)) (c .before .delimited-after .ensures) (not-true _ (c .if3 .taken))
+    next-shut (a .tape .now) (a .area .now) (a .line .now) (a .edition) _ (a .next) (omega arith) (delimited-before .ensures) (not-false _ (c .before .before .if2 .left)) (c .before .delimited-after .ensures) (not-true _ (c .if3 .taken))
 
 mul-sum-of : tie.Need-mul-sum-of
 mul-sum-of c = search needs
@@ -80,7 +80,7 @@ returns-4 c =
     let if2 = c .before .before .before .before .before .before .if2 in
     let delimited-after = c .before .before .before .before .before .delimited-after in
     let if3 = c .before .before .before .before .if3 in
-    next-sum (a .tape .now) (a .area .now) (a .line .now) _ (a .next) (omega arith) (delimited-before .ensures) (not-false _ (if2 .left)) (delimited-after .ensures) (not-false _ (if3 .left)) (c .sum-of .ensures)
+    next-sum (a .tape .now) (a .area .now) (a .line .now) (a .edition) _ (a .next) (omega arith) (delimited-before .ensures) (not-false _ (if2 .left)) (delimited-after .ensures) (not-false _ (if3 .left)) (c .sum-of .ensures)
 
 pub fold-value-spec : {M : Type 1} → statement M
 fold-value-spec =

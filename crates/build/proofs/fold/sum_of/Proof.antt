@@ -15,7 +15,7 @@ kind-requires c κs = search needs
 returns : tie.Need-returns
 returns c =
     let a = c .before .before .before .before .args in
-    sum-left _ _ _ (is-not (token-of (a .tape .now) (a .area .now) (a .left)) Number (c .before .kind .ensures) (c .if1 .taken))
+    sum-left _ _ _ _ (is-not (token-of (a .tape .now) (a .area .now) (a .left)) Number (c .before .kind .ensures) (c .if1 .taken))
 
 kind-requires-2 : tie.Need-kind-requires-2
 kind-requires-2 c κs = search needs
@@ -26,7 +26,7 @@ returns-2 c =
     let kind = c .before .before .before .kind in
     let t = args .tape .now in
     let a = args .area .now in
-    sum-right _ _ _ (is-it (token-of t a (args .left)) Number (kind .ensures) (c .before .before .if1 .left)) (is-not (token-of t a (args .right)) Number (c .before .kind2 .ensures) (c .if2 .taken))
+    sum-right _ _ _ _ (is-it (token-of t a (args .left)) Number (kind .ensures) (c .before .before .if1 .left)) (is-not (token-of t a (args .right)) Number (c .before .kind2 .ensures) (c .if2 .taken))
 
 text-requires : tie.Need-text-requires
 text-requires c κs = search needs
@@ -43,7 +43,7 @@ returns-3 c =
     let if2 = c .before .before .before .if2 in
     let t = args .tape .now in
     let a = args .area .now in
-    sum-sign _ _ _ (is-it (token-of t a (args .left)) Number (kind .ensures) (if1 .left)) (is-it (token-of t a (args .right)) Number (kind2 .ensures) (if2 .left)) (rw (c .before .before .text .ensures) at (c .before .is-sign .ensures)) (not-true _ (c .if3 .taken))
+    sum-sign _ _ _ _ (is-it (token-of t a (args .left)) Number (kind .ensures) (if1 .left)) (is-it (token-of t a (args .right)) Number (kind2 .ensures) (if2 .left)) (rw (c .before .before .text .ensures) at (c .before .is-sign .ensures)) (not-true _ (c .if3 .taken))
 
 is-plus-requires : tie.Need-is-plus-requires
 is-plus-requires c κs = search needs
@@ -51,14 +51,14 @@ is-plus-requires c κs = search needs
 text-requires-2 : tie.Need-text-requires-2
 text-requires-2 c κs = search needs
 
-parse-c-number-requires : tie.Need-parse-c-number-requires
-parse-c-number-requires c κs = search needs
+read-number-requires : tie.Need-read-number-requires
+read-number-requires c κs = search needs
 
 text-requires-3 : tie.Need-text-requires-3
 text-requires-3 c κs = search needs
 
-parse-c-number-requires-2 : tie.Need-parse-c-number-requires-2
-parse-c-number-requires-2 c κs = search needs
+read-number-requires-2 : tie.Need-read-number-requires-2
+read-number-requires-2 c κs = search needs
 
 operate-requires : tie.Need-operate-requires
 operate-requires c κs = search needs
@@ -67,7 +67,7 @@ returns-4 : tie.Need-returns-4
 returns-4 c =
     let args = c .before .before .before .before .before .before .before .before .before .before .before .before .before .before .before .args in
     let is-plus = c .before .before .before .before .before .is-plus in
-    let parse-c-number = c .before .before .before .parse-c-number in
+    let read-number = c .before .before .before .read-number in
     let text = c .before .before .before .before .before .before .before .before .text in
     let text2 = c .before .before .before .before .text2 in
     let kind = c .before .before .before .before .before .before .before .before .before .before .before .before .kind in
@@ -78,8 +78,8 @@ returns-4 c =
     let if3 = c .before .before .before .before .before .before .if3 in
     let t = args .tape .now in
     let a = args .area .now in
-    c .operate .ensures ∙ rw (is-plus .ensures, parse-c-number .ensures, c .before .parse-c-number2 .ensures, text .ensures, text2 .ensures, c .before .before .text3 .ensures)
-    (sum-is _ _ _ (is-it (token-of t a (args .left)) Number (kind .ensures) (if1 .left)) (is-it (token-of t a (args .right)) Number (kind2 .ensures) (if2 .left)) (rw (text .ensures) at (is-sign .ensures)) (not-false _ (if3 .left)))
+    c .operate .ensures ∙ rw (is-plus .ensures, read-number .ensures, c .before .read-number2 .ensures, text .ensures, text2 .ensures, c .before .before .text3 .ensures)
+    (sum-is _ _ _ _ (is-it (token-of t a (args .left)) Number (kind .ensures) (if1 .left)) (is-it (token-of t a (args .right)) Number (kind2 .ensures) (if2 .left)) (rw (text .ensures) at (is-sign .ensures)) (not-false _ (if3 .left)))
 
 pub sum-of-spec : {M : Type 1} → statement M
 sum-of-spec =
@@ -94,8 +94,8 @@ sum-of-spec =
     returns-3
     is-plus-requires
     text-requires-2
-    parse-c-number-requires
+    read-number-requires
     text-requires-3
-    parse-c-number-requires-2
+    read-number-requires-2
     operate-requires
     returns-4)

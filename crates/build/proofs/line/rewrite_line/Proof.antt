@@ -64,7 +64,7 @@ returns c =
     let fold-last = c .before .before .before .before .before .before .fold-last in
     let l = rw (line-of .ensures, line-of2 .ensures) at (merge .ensures) in
     let ts = unmerged (a .tape .now) (a .old .now) (a .old-tokens .now) (a .source) (a .j) (a .l) in
-    added-rewritten (p .lined) (p .first-fits) (c .with-tokens .ensures) (fam-text (a .tape .now) (a .old .now) (a .j .family)) (right-of (a .tape .now) (a .old .now) (part-of (a .old-tokens .now) (a .source)) (a .j)) (p .few)
+    added-rewritten (p .lined) (p .first-fits) (c .with-tokens .ensures) (a .edition) (fam-text (a .tape .now) (a .old .now) (a .j .family)) (right-of (a .tape .now) (a .old .now) (part-of (a .old-tokens .now) (a .source)) (a .j)) (p .few)
     (laid-folded ts (p .numbers-short) (p .has-room) l (fold-last .ensures))
 
 pub rewrite-line-spec : {M : Type 1} → statement M

@@ -1,6 +1,6 @@
 -- `leaves::answers::expected` meets its contract. Assumes nothing.
 use mathlib.Core.Path.{sym, _∙_}
-use Rattle.leaves.proofs.Answering.{expects-family, expects-number, expects-other}
+use Rattle.leaves.proofs.Answering.{expects-family, expects-number, expects-constant, expects-other}
 use borrow.Author.Needs.{needs}
 use Rattle.leaves.proofs.answers.expected.Statement.{statement}
 use Rattle.leaves.proofs.answers.expected.Tie as tie
@@ -35,13 +35,30 @@ returns-2 c =
     expects-number _ (c .before .before .before .before .before .before .before .before .before2 .ensures) (c .before .before .before .before .before .before .before .behind .ensures) (c .before .before .before .before .before .before .behind2 .ensures) (sym (c .before .before .before .before .same .ensures) ∙ c .before .before .before .if1 .left)
     (sym (c .before .same2 .ensures) ∙ c .if2 .taken)
 
-behind-requires-3 : tie.Need-behind-requires-3
-behind-requires-3 c κs = search needs
+slice-aggregate-same-3 : tie.Need-slice-aggregate-same-3
+slice-aggregate-same-3 c = search needs
+
+same-requires-3 : tie.Need-same-requires-3
+same-requires-3 c κs = search needs
 
 returns-3 : tie.Need-returns-3
 returns-3 c =
-    expects-other _ (c .before .before .before .before .before .before .before .before .before .before2 .ensures) (c .before .before .before .before .before .before .before .before .behind .ensures) (c .before .before .before .before .before .before .before .behind2 .ensures) (sym (c .before .before .before .before .before .same .ensures) ∙ c .before .before .before .before .if1 .left)
-    (sym (c .before .before .same2 .ensures) ∙ c .before .if2 .left) (c .behind3 .ensures)
+    let t₃ = c in
+    let t₂ = t₃ .before .before .before in
+    let t₁ = t₂ .before .before .before in
+    expects-constant _ (t₁ .before .before .before .before .before .before2 .ensures) (t₁ .before .before .before .before .behind .ensures) (t₁ .before .before .before .behind2 .ensures) (sym (t₁ .before .same .ensures) ∙ t₁ .if1 .left)
+    (sym (t₂ .before .same2 .ensures) ∙ t₂ .if2 .left) (sym (t₃ .before .same3 .ensures) ∙ t₃ .if3 .taken)
+
+behind-requires-3 : tie.Need-behind-requires-3
+behind-requires-3 c κs = search needs
+
+returns-4 : tie.Need-returns-4
+returns-4 c =
+    let t₃ = c .before in
+    let t₂ = t₃ .before .before .before in
+    let t₁ = t₂ .before .before .before in
+    expects-other _ (t₁ .before .before .before .before .before .before2 .ensures) (t₁ .before .before .before .before .behind .ensures) (t₁ .before .before .before .behind2 .ensures) (sym (t₁ .before .same .ensures) ∙ t₁ .if1 .left)
+    (sym (t₂ .before .same2 .ensures) ∙ t₂ .if2 .left) (sym (t₃ .before .same3 .ensures) ∙ t₃ .if3 .left) (c .behind3 .ensures)
 
 pub expected-spec : {M : Type 1} → statement M
 expected-spec =
@@ -56,5 +73,8 @@ expected-spec =
     slice-aggregate-same-2
     same-requires-2
     returns-2
+    slice-aggregate-same-3
+    same-requires-3
+    returns-3
     behind-requires-3
-    returns-3)
+    returns-4)

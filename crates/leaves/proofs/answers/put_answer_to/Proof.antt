@@ -1,6 +1,6 @@
 -- `leaves::answers::put_answer_to` meets its contract. Assumes nothing.
 use mathlib.Core.Path.{sym, _∙_}
-use Rattle.leaves.proofs.Answering.{asks-family, asks-number, asks-sum, asks-difference, asks-volatile, asks-nothing}
+use Rattle.leaves.proofs.Answering.{asks-family, asks-number, asks-sum, asks-difference, asks-volatile, asks-constant, asks-nothing}
 use borrow.Author.Needs.{needs}
 use Rattle.leaves.proofs.answers.put_answer_to.Statement.{statement}
 use Rattle.leaves.proofs.answers.put_answer_to.Tie as tie
@@ -120,23 +120,50 @@ returns-5 c =
     rw (← asks-volatile _ _ _ (sym (t₁ .before .same .ensures) ∙ t₁ .if1 .left) (sym (t₂ .before .same2 .ensures) ∙ t₂ .if2 .left) (sym (t₃ .before .same3 .ensures) ∙ t₃ .if3 .left) (sym (t₄ .before .same4 .ensures) ∙ t₄ .if4 .left) (sym (t₅ .before .same5 .ensures) ∙ t₅ .if5 .taken), ← (c .before .before .before .before .before .convention .ensures), ← (c .before .before .before .before .overwrites .ensures))
     (c .before .before .put-yes-no .ensures)
 
-slice-aggregate-put : tie.Need-slice-aggregate-put
-slice-aggregate-put c = search needs
+slice-aggregate-same-6 : tie.Need-slice-aggregate-same-6
+slice-aggregate-same-6 c = search needs
 
-put-requires : tie.Need-put-requires
-put-requires c κs = search needs
+same-requires-6 : tie.Need-same-requires-6
+same-requires-6 c κs = search needs
+
+read-number-requires : tie.Need-read-number-requires
+read-number-requires c κs = search needs
+
+put-value-requires-4 : tie.Need-put-value-requires-4
+put-value-requires-4 c κs = search needs
 
 same-length-6 : tie.Need-same-length-6
 same-length-6 c = search needs
 
 returns-6 : tie.Need-returns-6
 returns-6 c =
-    let t₅ = c .before .before .before .before .before in
+    let t₆ = c .before .before .before .before .before in
+    let t₅ = t₆ .before .before .before in
     let t₄ = t₅ .before .before .before in
     let t₃ = t₄ .before .before .before in
     let t₂ = t₃ .before .before .before in
     let t₁ = t₂ .before .before .before in
-    rw (← asks-nothing _ _ _ (sym (t₁ .before .same .ensures) ∙ t₁ .if1 .left) (sym (t₂ .before .same2 .ensures) ∙ t₂ .if2 .left) (sym (t₃ .before .same3 .ensures) ∙ t₃ .if3 .left) (sym (t₄ .before .same4 .ensures) ∙ t₄ .if4 .left) (sym (t₅ .before .same5 .ensures) ∙ t₅ .if5 .left))
+    rw (← asks-constant _ _ _ (sym (t₁ .before .same .ensures) ∙ t₁ .if1 .left) (sym (t₂ .before .same2 .ensures) ∙ t₂ .if2 .left) (sym (t₃ .before .same3 .ensures) ∙ t₃ .if3 .left) (sym (t₄ .before .same4 .ensures) ∙ t₄ .if4 .left) (sym (t₅ .before .same5 .ensures) ∙ t₅ .if5 .left) (sym (t₆ .before .same6 .ensures) ∙ t₆ .if6 .taken), ← (c .before .before .before .before .read-number .ensures))
+    (c .before .before .put-value4 .ensures)
+
+slice-aggregate-put : tie.Need-slice-aggregate-put
+slice-aggregate-put c = search needs
+
+put-requires : tie.Need-put-requires
+put-requires c κs = search needs
+
+same-length-7 : tie.Need-same-length-7
+same-length-7 c = search needs
+
+returns-7 : tie.Need-returns-7
+returns-7 c =
+    let t₆ = c .before .before .before .before .before in
+    let t₅ = t₆ .before .before .before in
+    let t₄ = t₅ .before .before .before in
+    let t₃ = t₄ .before .before .before in
+    let t₂ = t₃ .before .before .before in
+    let t₁ = t₂ .before .before .before in
+    rw (← asks-nothing _ _ _ (sym (t₁ .before .same .ensures) ∙ t₁ .if1 .left) (sym (t₂ .before .same2 .ensures) ∙ t₂ .if2 .left) (sym (t₃ .before .same3 .ensures) ∙ t₃ .if3 .left) (sym (t₄ .before .same4 .ensures) ∙ t₄ .if4 .left) (sym (t₅ .before .same5 .ensures) ∙ t₅ .if5 .left) (sym (t₆ .before .same6 .ensures) ∙ t₆ .if6 .left))
     (c .before .before .put .ensures)
 
 pub put-answer-to-spec : {M : Type 1} → statement M
@@ -173,7 +200,13 @@ put-answer-to-spec =
     put-yes-no-requires
     same-length-5
     returns-5
+    slice-aggregate-same-6
+    same-requires-6
+    read-number-requires
+    put-value-requires-4
+    same-length-6
+    returns-6
     slice-aggregate-put
     put-requires
-    same-length-6
-    returns-6)
+    same-length-7
+    returns-7)

@@ -11,8 +11,11 @@ number-requires c κs = search needs
 cast-t4 : tie.Need-cast-t4
 cast-t4 c = search needs
 
+cast-t10 : tie.Need-cast-t10
+cast-t10 c = search needs
+
 returns : tie.Need-returns
 returns c = ap rules-as (c .number .ensures)
 
 pub settings-spec : {M : Type 1} → statement M
-settings-spec = tie.close (tie.spec number-requires cast-t4 returns)
+settings-spec = tie.close (tie.spec number-requires cast-t4 cast-t10 returns)
