@@ -2,7 +2,7 @@
  *
  * The function is proved to meet what is said here, for every input (crates/puchkewa/src/export.rt, its promise `Cleans` in
  * crates/clean/specs/Replies.antt). It keeps no state, allocates nothing and calls nothing of C but memset. Not proved, but measured: it takes
- * about 100,000 bytes of stack. Calls in several threads are safe where they share no memory that one of them writes.
+ * about 105,000 bytes of stack. Calls in several threads are safe where they share no memory that one of them writes.
  *
  * Link with target/staticlib/libpuchkewa.a, which `rt staticlib puchkewa` writes (x86-64 Linux). */
 #ifndef PUCHKEWA_H
