@@ -17,7 +17,7 @@ extern "C" {
 #endif
 
 /* The version of the interface and of what it does: a change of either changes it. */
-#define PUCHKEWA_VERSION "0.7.0"
+#define PUCHKEWA_VERSION "0.8.0"
 
 /* The least that each work area and the output must have, in bytes. 59,137 bytes are enough for the output of every tape. */
 #define PUCHKEWA_WORK 49152
@@ -43,6 +43,7 @@ struct puchkewa_settings {
     bool settle;        /* false: at most three rounds. true: rounds until one changes nothing, at most one more than the listing has lines; one further
                            round before the cuts would change no byte */
     uint8_t edition;    /* 0 or 1: enum puchkewa_edition */
+    bool parts;         /* true: a value assigned to a part of a register is joined into a use below 32 bits only if that is the same part: ah is not al */
 };
 
 /* Why a call was refused: the first question that was answered "no". They are asked in the order 1, 9, 2; those from 3 on are asked of each command

@@ -110,13 +110,13 @@ struct Lent(Vec<u8>, Vec<u8>, Vec<u8>);
 
 impl Lent {
     fn call(&mut self, convention: u8, tape: &[u8]) -> door::Report {
-        library::clean(library::Settings { convention, settle: false, edition: 0 }, tape, &mut self.0, &mut self.1, &mut self.2)
+        library::clean(library::Settings { convention, settle: false, edition: 0, parts: false }, tape, &mut self.0, &mut self.1, &mut self.2)
     }
 }
 
 fn one(name: &str, convention: u8, tape: &[u8]) {
     let mut lent = Lent(vec![0; WORK], vec![0; WORK], vec![0; OUTPUT]);
-    let (want, output) = door::answer(convention, false, 0, tape, [WORK, WORK, OUTPUT]);
+    let (want, output) = door::answer(convention, false, 0, false, tape, [WORK, WORK, OUTPUT]);
     let got = lent.call(convention, tape);
     let (plain, marks) = door::unmarked(&lent.2[..got.length as usize]);
     assert_eq!(got, door::Report { length: want.length + 17 * marks, ..want }, "{name}: another reply");

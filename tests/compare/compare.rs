@@ -40,7 +40,7 @@ fn all(s: &[u8], b: u8) -> bool {
 /// What the library did otherwise than the Rust and document 01, marks left out. The buffers hold the mark before and after.
 fn difference(input: &Input, settle: bool, want: &Report, tape: &[u8], lent: &mut Lent) -> Option<String> {
     let [a, b, o] = input.lent;
-    let settings = library::Settings { convention: input.convention, settle, edition: input.edition };
+    let settings = library::Settings { convention: input.convention, settle, edition: input.edition, parts: input.parts };
     let got = library::clean(settings, &input.tape, &mut lent.work_a[..a], &mut lent.work_b[..b], &mut lent.out[..o]);
     let wiped = if want.refusal == 0 { WORK } else { 0 };
     let n = (got.length as usize).min(o);
@@ -80,10 +80,11 @@ fn input(seed: u64, number: u64) -> Input {
     }
     let made = gen::case(seed, number / 2);
     let Some((&convention, tape)) = made.split_first() else {
-        return Input { convention: 255, edition: 0, tape: Vec::new(), lent: inputs::ENOUGH };
+        return Input { convention: 255, edition: 0, parts: false, tape: Vec::new(), lent: inputs::ENOUGH };
     };
     let edition = (number / 2 % 4 == 3) as u8;
-    Input { convention, edition, tape: tape[..tape.len().min(MOST_TAPE)].to_vec(), lent: inputs::ENOUGH }
+    let parts = number / 8 % 2 == 1;
+    Input { convention, edition, parts, tape: tape[..tape.len().min(MOST_TAPE)].to_vec(), lent: inputs::ENOUGH }
 }
 
 #[cfg(not(more))]
@@ -99,17 +100,22 @@ fn run(seed: u64, count: u64) -> bool {
     let (mut with_removals, mut with_cuts, mut bytes, mut longest) = (0u64, 0u64, 0u64, 0u64);
     let (mut fourth, mut changed_later, mut most_rounds) = (0u64, 0u64, 0u64);
     let (mut editions, mut by_edition) = ([0u64; 2], 0u64);
+    let (mut parts, mut by_parts) = (0u64, 0u64);
     let mut wrong: Vec<(Input, String)> = Vec::new();
     for number in 0..count {
         let one = input(seed, number);
-        let (want, tape) = door::answer(one.convention, false, one.edition, &one.tape, one.lent);
-        let (settled, settled_tape) = door::answer(one.convention, true, one.edition, &one.tape, one.lent);
+        let (want, tape) = door::answer(one.convention, false, one.edition, one.parts, &one.tape, one.lent);
+        let (settled, settled_tape) = door::answer(one.convention, true, one.edition, one.parts, &one.tape, one.lent);
         *refusals.entry(want.refusal).or_default() += 1;
         if want.refusal == 0 {
             conventions[one.convention as usize] += 1;
             editions[one.edition as usize] += 1;
             if one.edition == 1 {
-                by_edition += (door::answer(one.convention, false, 0, &one.tape, one.lent).1 != tape) as u64;
+                by_edition += (door::answer(one.convention, false, 0, one.parts, &one.tape, one.lent).1 != tape) as u64;
+            }
+            if one.parts {
+                parts += 1;
+                by_parts += (door::answer(one.convention, false, one.edition, false, &one.tape, one.lent).1 != tape) as u64;
             }
             for (sum, attempts) in rounds.iter_mut().zip(want.attempts) {
                 *sum += attempts;
@@ -138,11 +144,12 @@ fn run(seed: u64, count: u64) -> bool {
     println!("lines removed: {removed}, in {with_removals} listings; results cut: {cut}, in {with_cuts}");
     println!("settling: {fourth} made a fourth round, {changed_later} have another output than after three, at most {most_rounds} rounds");
     println!("accepted in edition 0, 1: {} {}; in edition 1 {by_edition} have another output than in edition 0", editions[0], editions[1]);
+    println!("accepted with parts told apart: {parts}; {by_parts} of them have another output than without");
     println!("longest output: {longest} bytes");
     println!("seconds: {:.0}", began.elapsed().as_secs_f64());
     wrong.sort_by_key(|w| w.0.tape.len());
     for (one, what) in wrong.iter().take(10) {
-        println!("{what}\n  convention {}, edition {}, lent {:?}, tape {}", one.convention, one.edition, one.lent, hex(&one.tape));
+        println!("{what}\n  convention {}, edition {}, parts {}, lent {:?}, tape {}", one.convention, one.edition, one.parts, one.lent, hex(&one.tape));
     }
     println!("{} same, {} different", count - wrong.len() as u64, wrong.len());
     wrong.is_empty()
@@ -152,7 +159,7 @@ fn answer() {
     let mut data = Vec::new();
     std::io::stdin().lock().read_to_end(&mut data).expect("standard input");
     let (convention, tape) = data.split_first().map_or((255, &[][..]), |(c, t)| (*c, t));
-    let (r, out) = door::answer(convention, false, 0, &tape[..tape.len().min(MOST_TAPE)], inputs::ENOUGH);
+    let (r, out) = door::answer(convention, false, 0, false, &tape[..tape.len().min(MOST_TAPE)], inputs::ENOUGH);
     if r.refusal != 0 {
         println!("refused {} {}", r.refusal, r.place);
     } else {

@@ -25,6 +25,7 @@ pub mod probe {
         static COUNTS: Cell<Counts> = const { Cell::new(Counts { rounds: 0, attempts: [0; 3], all: 0, removed: 0, cuts: 0 }) };
         static LIMIT: Cell<usize> = const { Cell::new(3) };
         static EDITION: Cell<u8> = const { Cell::new(0) };
+        static PARTS: Cell<bool> = const { Cell::new(false) };
     }
 
     fn change(f: impl FnOnce(&mut Counts)) {
@@ -72,6 +73,17 @@ pub mod probe {
     /// From now on it reads by this one.
     pub fn read_by(edition: u8) {
         EDITION.set(edition);
+    }
+
+    /// From now on it tells parts apart, or does not.
+    pub fn tell_parts(yes: bool) {
+        PARTS.set(yes);
+    }
+
+    /// Request M-104: whether the used name, of less than 32 bits, is another part than the assigned one; each with its width.
+    pub fn other_part(used: (&str, u32), assigned: (&str, u32)) -> bool {
+        let part = |(name, width): (&str, u32)| (width, ["ah", "bh", "ch", "dh"].contains(&name));
+        PARTS.get() && used.1 < 32 && part(used) != part(assigned)
     }
 
     /// What was counted since the last call.

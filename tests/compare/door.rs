@@ -153,7 +153,7 @@ pub fn settings(convention: u8) -> (u32, bool) {
 }
 
 /// One call, with what is lent given by its lengths: the report and the output.
-pub fn answer(convention: u8, settle: bool, edition: u8, tape: &[u8], lent: [usize; 3]) -> (Report, Vec<u8>) {
+pub fn answer(convention: u8, settle: bool, edition: u8, parts: bool, tape: &[u8], lent: [usize; 3]) -> (Report, Vec<u8>) {
     let refused = |refusal, place| (Report { refusal, place, ..Report::default() }, Vec::new());
     if convention > 2 {
         return refused(1, 0);
@@ -171,6 +171,7 @@ pub fn answer(convention: u8, settle: bool, edition: u8, tape: &[u8], lent: [usi
             probe::take();
             probe::settle(settle);
             probe::read_by(edition);
+            probe::tell_parts(parts);
             crate::counting::optimize(&crate::Binary, &mut lines, sysv, bits);
             let c = probe::take();
             let out = write_tape(&lines);

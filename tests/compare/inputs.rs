@@ -11,6 +11,7 @@ pub const ENOUGH: [usize; 3] = [WORK, WORK, OUTPUT];
 pub struct Input {
     pub convention: u8,
     pub edition: u8,
+    pub parts: bool,
     pub tape: Vec<u8>,
     /// how many bytes of the two work areas and of the output are lent
     pub lent: [usize; 3],
@@ -416,6 +417,15 @@ fn by_editions(r: &mut Rng, lines: &mut [PseudoLine]) {
     }
 }
 
+/// Registers made bytes and words of a few families, so that parts meet.
+fn by_parts(r: &mut Rng, lines: &mut [PseudoLine]) {
+    for t in lines.iter_mut().flat_map(|l| &mut l.tokens).filter(|t| t.k == Register) {
+        if r.chance(60) {
+            t.t = r.pick(&["ah", "al", "ah", "al", "bh", "bl", "ch", "dl", "ax", "eax", "rax"]).to_string();
+        }
+    }
+}
+
 /// Some bytes changed, lost or added.
 fn damage(r: &mut Rng, tape: &mut Vec<u8>) {
     for _ in 0..r.range(1, 3) {
@@ -452,6 +462,9 @@ pub fn case(seed: u64, number: u64) -> Input {
     if r.chance(40) {
         by_editions(r, &mut lines);
     }
+    if r.chance(20) {
+        by_parts(r, &mut lines);
+    }
     let mut tape = if r.below(200) == 0 { totals(r) } else { write_tape(&if r.chance(98) { fitting(lines) } else { lines }) };
     if r.chance(6) {
         damage(r, &mut tape);
@@ -466,5 +479,5 @@ pub fn case(seed: u64, number: u64) -> Input {
         10 => [65_536 - 1 + r.below(3), 65_536 - 1 + r.below(3), OUTPUT + r.below(2)],
         _ => ENOUGH,
     };
-    Input { convention, edition, tape, lent }
+    Input { convention, edition, parts: r.chance(50), tape, lent }
 }

@@ -9,6 +9,7 @@ pub struct Settings {
     pub convention: u8,
     pub settle: bool,
     pub edition: u8,
+    pub parts: bool,
 }
 
 extern "C" {

@@ -24,7 +24,7 @@ abbrev read : Register → Option Fam
 read r = family (r .name)
 
 abbrev meant : Register → Option Fam
-meant r = some (record { name = r .family; width = r .width })
+meant r = some (record { name = r .family; width = r .width; lowest = r .lowest })
 
 every-name : map read registers ≡ map meant registers
 unfolding opened

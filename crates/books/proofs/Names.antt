@@ -38,7 +38,7 @@ module _ (s : Text) (f : Fam) where
   Says o = o ≡ some f → by-the-manual s ≡ some f
 
   abbrev in-row : List Text → ℕ → Option Fam
-  in-row names w = some (record { name = getD names 0 []; width = w })
+  in-row names w = some (record { name = getD names 0 []; width = w; lowest = 0 })
 
   abbrev widths : List ℕ
   widths = 64 ∷ 32 ∷ 16 ∷ 8 ∷ []
@@ -61,7 +61,7 @@ module _ (s : Text) (f : Fam) where
   highs = bytes "ah" ∷ bytes "bh" ∷ bytes "ch" ∷ bytes "dh" ∷ []
 
   abbrev high : Text → Option Fam
-  high n = some (record { name = bytes "r" ++ (getD n 0 0 ∷ []) ++ bytes "x"; width = 8 })
+  high n = some (record { name = bytes "r" ++ (getD n 0 0 ∷ []) ++ bytes "x"; width = 8; lowest = 8 })
 
   every-high : map by-the-manual highs ≡ map high highs
   unfolding opened register by-the-manual

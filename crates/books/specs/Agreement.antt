@@ -21,8 +21,8 @@ pub data Known (s : Text) (f : Fam) : Type 0 where
   stack : starts-with s (bytes "var_") ≡ true → Known s f
 
 pub record Agreement : Type 0 where
-  -- every register of the manual has the manual's family and width
-  pub names : {r : Register} → r ∈ registers → family (r .name) ≡ some (record { name = r .family; width = r .width })
+  -- every register of the manual has the manual's family, width and lowest bit
+  pub names : {r : Register} → r ∈ registers → family (r .name) ≡ some (record { name = r .family; width = r .width; lowest = r .lowest })
   -- and no text has a family but these, the numbered ones and the stack slots
   pub no-other-name : {s : Text} {f : Fam} → family s ≡ some f → Known s f
   -- the volatile lists, in the order of the books

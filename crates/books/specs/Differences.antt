@@ -14,11 +14,11 @@ use Rattle.reference.specs.Numbers.{parse-c-number, fold}
 use Rattle.books.specs.Tables.{words, _∈_}
 use Rattle.books.specs.Registers.{register, read, write, the}
 use Rattle.books.specs.Constants.{Decimal, Octal, Hexadecimal, Unsuffixed, integer-suffix, Constant}
-use Rattle.books.specs.Notation.{gives}
+use Rattle.books.specs.Notation.{gives, gives-parts}
 
 -- the book has no such register, and the Rust has it as a family of its own
 abbrev invented : String → Type 0
-invented s = (register (bytes s) ≡ none) × (family (bytes s) ≡ some (record { name = bytes s; width = 64 }))
+invented s = (register (bytes s) ≡ none) × (family (bytes s) ≡ some (record { name = bytes s; width = 64; lowest = 0 }))
 
 -- the manual's registers beside the general-purpose ones, one of each sort (volume 1, figure 3-2)
 abbrev others : List Text
@@ -57,6 +57,10 @@ pub record Differences : Type 0 where
   pub al-for-rax : (read (the "rax") (write (the "al") 256 5) ≡ 261) × gives ("al = 5;" ∷ "rbx = rax;" ∷ []) ("rbx = 5;" ∷ [])
   -- where rax held 0, al is 0 after `ah = 5;`
   pub ah-for-al : (read (the "al") (write (the "ah") 0 5) ≡ 0) × gives ("ah = 5;" ∷ "bl = al;" ∷ []) ("bl = 5;" ∷ [])
+  -- gone under the parts setting (M-104): the lines stand
+  pub ah-for-al-parts : gives-parts ("ah = 5;" ∷ "bl = al;" ∷ []) ("ah = 5;" ∷ "bl = al;" ∷ [])
+  -- which asks uses below 32 bits alone: this difference stays
+  pub al-for-rax-parts : gives-parts ("al = 5;" ∷ "rbx = rax;" ∷ []) ("rbx = 5;" ∷ [])
   -- `eax = -1;` makes rax 2^32 - 1
   pub eax-minus-one : (write (the "eax") 0 (2 ^ 64 - 1) ≡ 2 ^ 32 - 1) × gives ("eax = -1;" ∷ "rbx = rax;" ∷ []) ("rbx = -1;" ∷ [])
   pub eax-of-rax : (read (the "eax") 0x100000005 ≡ 5) × gives ("rax = 0x100000005;" ∷ "rbx = eax;" ∷ []) ("rbx = 0x100000005;" ∷ [])

@@ -3,7 +3,7 @@
 use Prim.Native.Nat.{ℕ, suc}
 use Prim.Native.String.{String}
 use mathlib.Core.Path.{_≡_}
-use mathlib.Core.Bool.{Bool, false}
+use mathlib.Core.Bool.{Bool, true, false}
 use mathlib.Core.List.{List, [], _∷_, map}
 use mathlib.Core.Option.{none}
 use lib.Dec.{eqb, leb}
@@ -54,11 +54,19 @@ unfoldable pub listing : List String → Listing
 listing ls = map (λ l. line-at 0 (bytes l)) ls
 
 abbrev pub convention-1 : Rules
-convention-1 = record { convention = 1; settle = false; edition = 0 }
+convention-1 = record { convention = 1; settle = false; edition = 0; parts = false }
+
+-- M-104
+abbrev pub convention-1-parts : Rules
+convention-1-parts = record { convention = 1; settle = false; edition = 0; parts = true }
 
 -- the finished listing, under convention 1
 abbrev pub gives : List String → List String → Type 0
 gives before after = finished convention-1 (listing before) ≡ listing after
+
+-- and under the parts setting
+abbrev pub gives-parts : List String → List String → Type 0
+gives-parts before after = finished convention-1-parts (listing before) ≡ listing after
 
 -- opens all of the above, and the reference
 unfoldable pub spelled-out : Unit {0}

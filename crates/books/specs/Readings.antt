@@ -58,7 +58,7 @@ pub record Readings : Type 0 where
       turns
       (line (R "rax" ∷ P " = " ∷ N "5" ∷ P ";" ∷ []) ∷ line (R "rbx" ∷ P " = " ∷ R "rax;" ∷ []) ∷ [])
       (line (R "rax" ∷ P " = " ∷ N "5" ∷ P ";" ∷ []) ∷ line (R "rbx" ∷ P " = " ∷ R "rax;" ∷ []) ∷ [])
-  pub semicolon-in-slot : family (bytes "var_8;") ≡ some (record { name = bytes "var_8;"; width = 64 })
+  pub semicolon-in-slot : family (bytes "var_8;") ≡ some (record { name = bytes "var_8;"; width = 64; lowest = 0 })
   -- 5: `*(` in the Punct of the ` = ` reads no memory (`read-past-store` of Differences), a Keyword `*(` does
   pub keyword-reads-memory :
       turns

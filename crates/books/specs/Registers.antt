@@ -48,9 +48,9 @@ register name = find (λ r. r .name == name) registers
 unfoldable pub family-of : Text → Text
 family-of name = let-some (register name) else [] then λ r. r .family
 
--- family and width, as the reference puts them
+-- family, width and lowest bit, as the reference puts them
 unfoldable pub by-the-manual : Text → Option Fam
-by-the-manual name = let-some (register name) else none then λ r. some (record { name = r .family; width = r .width })
+by-the-manual name = let-some (register name) else none then λ r. some (record { name = r .family; width = r .width; lowest = r .lowest })
 
 -- ---- parts
 

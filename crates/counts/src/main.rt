@@ -77,6 +77,7 @@ fn count(convention: u8, settle: bool, tape: &[u8]) {
         convention,
         settle,
         edition: 0,
+        parts: false,
     };
     print_reply(clean::clean(rules, tape, &mut work_a, &mut work_b, &mut out));
 }

@@ -73,13 +73,13 @@ module _ (lines : Listing) (i : ℕ) where
         rw (at-bare lines i, drop-map bare (suc i) lines)
         (use-from-bare ((lines at i) .indent) (d .fam .name) volatile (d .expr) (d .calls) (suc i) (drop (suc i) lines))
 
-    plan-use-bare : (j : ℕ) → plan-use (bare-lines lines) i d labels volatile j ≡ plan-use lines i d labels volatile j
+    plan-use-bare : (parts : Bool) (j : ℕ) → plan-use parts (bare-lines lines) i d labels volatile j ≡ plan-use parts lines i d labels volatile j
     unfolding plan-use
-    plan-use-bare j = rw (at-bare lines i, at-bare lines j, dead-after-bare lines (d .fam .name) ((lines at i) .indent) labels i volatile j)
+    plan-use-bare parts j = rw (at-bare lines i, at-bare lines j, dead-after-bare lines (d .fam .name) ((lines at i) .indent) labels i volatile j)
 
-    plan-for-bare : plan-for (bare-lines lines) i d labels volatile ≡ plan-for lines i d labels volatile
+    plan-for-bare : (parts : Bool) → plan-for parts (bare-lines lines) i d labels volatile ≡ plan-for parts lines i d labels volatile
     unfolding plan-for plan-constant plan-single
-    plan-for-bare = rw (reach-of-bare (d .fam .name) volatile, plan-reach-bare (reach-of lines i (d .fam .name) volatile), use-of-bare) (simp plan-use-bare)
+    plan-for-bare parts = rw (reach-of-bare (d .fam .name) volatile, plan-reach-bare (reach-of lines i (d .fam .name) volatile), use-of-bare) (simp (plan-use-bare parts))
 
 pub decide-bare : (rules : Rules) (lines : Listing) (i : ℕ) (labels : Labels) (addressed : List Text)
     → decide rules (bare-lines lines) i labels addressed ≡ decide rules lines i labels addressed

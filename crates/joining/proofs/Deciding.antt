@@ -133,20 +133,20 @@ module _ (rules : Rules) (lines : Listing) (i : ℕ) where
         ∙ ap (λ (us : List ℕ). rewrite-uses (rules .edition) fam (right-side-of p) us lines) (sym only)
         ∙ sym (acted rules i p lines within))
 
-    single-is : join-one (rules .edition) lines i (d .fam) (d .expr) labels (volatile rules) ≡ done (plan-single lines i d labels (volatile rules))
+    single-is : join-one (rules .edition) (rules .parts) lines i (d .fam) (d .expr) labels (volatile rules) ≡ done (plan-single (rules .parts) lines i d labels (volatile rules))
     unfolding join-one join-at plan-single use-of plan-use found plan-at done let-some_else_then_
     single-is =
         rw (defined-by ((lines at i) .tokens) d known .calls-is)
-        (carried _ (join-at (rules .edition) lines i (d .fam) (d .expr) labels (volatile rules)) (plan-use lines i d labels (volatile rules)) (λ j h.
+        (carried _ (join-at (rules .edition) (rules .parts) lines i (d .fam) (d .expr) labels (volatile rules)) (plan-use (rules .parts) lines i d labels (volatile rules)) (λ j h.
         chosen _ _ _ _ _
         (λ b. refl)
         (λ b. carried _ _ _ (λ pos hp. chosen _ _ _ _ _ (λ c. ap {B = Option Listing} some (replaced j pos h hp)) (λ c. refl)))))
 
     plan-is : (let-some (if lone-number (d .expr) then propagate-constant (rules .edition) lines i (d .fam .name) (d .expr) labels (volatile rules) else none)
-        else join-one (rules .edition) lines i (d .fam) (d .expr) labels (volatile rules) then λ l. some l) ≡ done (plan-for lines i d labels (volatile rules))
+        else join-one (rules .edition) (rules .parts) lines i (d .fam) (d .expr) labels (volatile rules) then λ l. some l) ≡ done (plan-for (rules .parts) lines i d labels (volatile rules))
     unfolding plan-for
     plan-is =
-        first-of _ _ (if lone-number (d .expr) then plan-constant lines i d labels (volatile rules) else none) (plan-single lines i d labels (volatile rules))
+        first-of _ _ (if lone-number (d .expr) then plan-constant lines i d labels (volatile rules) else none) (plan-single (rules .parts) lines i d labels (volatile rules))
         (chosen (lone-number (d .expr)) _ _ (plan-constant lines i d labels (volatile rules)) none (λ b. constant-is) (λ b. done-none)) single-is
 
 -- where there is none, and where there may be one
@@ -170,7 +170,7 @@ module _ (rules : Rules) (lines : Listing) (i : ℕ) (labels : Labels) (addresse
   undecided h = rw h
 
   decided : (d : Definition) → definition-of ((lines at i) .tokens) ≡ some d
-      → decide rules lines i labels addressed ≡ (if has addressed (d .fam .name) then none else plan-for lines i d labels (volatile rules))
+      → decide rules lines i labels addressed ≡ (if has addressed (d .fam .name) then none else plan-for (rules .parts) lines i d labels (volatile rules))
   unfolding decide let-some_else_then_
   decided d h = rw h
 
@@ -238,7 +238,7 @@ module _ (rules : Rules) (lines : Listing) (i : ℕ) (labels : Labels) (d : Defi
   one-target o j e = rw e
 
   -- the one use
-  single-targets : (p : Plan) → plan-single lines i d labels (volatile rules) ≡ some p → one-use lines i (d .fam) (d .expr) (volatile rules) ≡ changed-places rules lines i p
+  single-targets : (p : Plan) → plan-single (rules .parts) lines i d labels (volatile rules) ≡ some p → one-use lines i (d .fam) (d .expr) (volatile rules) ≡ changed-places rules lines i p
   unfolding plan-single use-of plan-use
   single-targets p e =
       let b = bind-some e in
@@ -262,8 +262,8 @@ targets-are rules lines i labels addressed p e =
     let d : Definition = record { fam = f .0; expr = a .0 .expr; calls = is-some (call-in ((lines at i) .tokens)) } in
     let same : d ≡ known .0 = some-inj (unless-some (f .2) .1) in
     let defined : definition-of ((lines at i) .tokens) ≡ some d = known .1 ∙ ap {B = Option Definition} some (sym same) in
-    let planned : plan-for lines i d labels (volatile rules) ≡ some p =
-    subst (λ (x : Definition). plan-for lines i x labels (volatile rules) ≡ some p) (sym same) (unless-some (known .2) .1) in
+    let planned : plan-for (rules .parts) lines i d labels (volatile rules) ≡ some p =
+    subst (λ (x : Definition). plan-for (rules .parts) lines i x labels (volatile rules) ≡ some p) (sym same) (unless-some (known .2) .1) in
     let constant : is-some (propagate-constant (rules .edition) lines i (d .fam .name) (d .expr) labels (volatile rules)) ≡ is-some (plan-constant lines i d labels (volatile rules)) =
     constant-some rules lines i labels d defined in
     by-targets rules lines i labels (λ js. js ≡ changed-places rules lines i p) (a .0) (f .0) (a .1) (f .1)

@@ -52,7 +52,7 @@ module _ (rules : Rules) (lines : Listing) (i : ℕ) (labels : Labels) (p : Plan
           way = constant n refl;
         })
 
-    from-single : plan-single lines i d labels (volatile rules) ≡ some p → Planned rules lines i p
+    from-single : plan-single (rules .parts) lines i d labels (volatile rules) ≡ some p → Planned rules lines i p
     unfolding plan-single plan-use use-of
     from-single e =
         let j = bind-some e in
@@ -73,7 +73,7 @@ module _ (rules : Rules) (lines : Listing) (i : ℕ) (labels : Labels) (p : Plan
               ((lines at (j .0)) .tokens) (pos .0) refl (pos .1) (use-count ((lines at (j .0)) .tokens) (d .fam .name) (volatile rules) 1 (u .once)));
         })
 
-    from-plan : plan-for lines i d labels (volatile rules) ≡ some p → Planned rules lines i p
+    from-plan : plan-for (rules .parts) lines i d labels (volatile rules) ≡ some p → Planned rules lines i p
     unfolding plan-for
     from-plan =
         by-some (λ (o : Option Plan). o ≡ some p → Planned rules lines i p)

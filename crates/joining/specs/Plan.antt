@@ -116,29 +116,29 @@ unfoldable pub wants-brackets : List Token → List Token → ℕ → Bool
 wants-brackets expr toks pos = is-operator-expr expr && not (standalone (text-before toks pos) (text-after toks pos))
 
 -- the plan for the use on line j
-unfoldable pub plan-use : Listing → ℕ → Definition → Labels → List Text → ℕ → Option Plan
-plan-use lines i d labels volatile j =
+unfoldable pub plan-use : Bool → Listing → ℕ → Definition → Labels → List Text → ℕ → Option Plan
+plan-use parts lines i d labels volatile j =
     if has-kw (lines at j) "while" || not (dead-after lines j (d .fam .name) ((lines at i) .indent) labels i volatile) then none
     else let-some (position (of-family (d .fam .name)) ((lines at j) .tokens)) else none then λ pos.
-    if replaceable (d .fam .name) (d .fam .width) ((lines at j) .tokens) pos
+    if replaceable parts (d .fam) ((lines at j) .tokens) pos
     then some (record { fam = d .fam .name; expr = d .expr; last = j; brackets = wants-brackets (d .expr) ((lines at j) .tokens) pos })
     else none
 
-unfoldable pub plan-single : Listing → ℕ → Definition → Labels → List Text → Option Plan
-plan-single lines i d labels volatile =
-    let-some (use-of lines i d volatile) else none then λ j. plan-use lines i d labels volatile j
+unfoldable pub plan-single : Bool → Listing → ℕ → Definition → Labels → List Text → Option Plan
+plan-single parts lines i d labels volatile =
+    let-some (use-of lines i d volatile) else none then λ j. plan-use parts lines i d labels volatile j
 
 -- ---- the decision
 
-unfoldable pub plan-for : Listing → ℕ → Definition → Labels → List Text → Option Plan
-plan-for lines i d labels volatile =
+unfoldable pub plan-for : Bool → Listing → ℕ → Definition → Labels → List Text → Option Plan
+plan-for parts lines i d labels volatile =
     let-some (if lone-number (d .expr) then plan-constant lines i d labels volatile else none)
-    else plan-single lines i d labels volatile then λ p. some p
+    else plan-single parts lines i d labels volatile then λ p. some p
 
 unfoldable pub decide : Rules → Listing → ℕ → Labels → List Text → Option Plan
 decide rules lines i labels addressed =
     let-some (definition-of ((lines at i) .tokens)) else none then λ d.
-    if has addressed (d .fam .name) then none else plan-for lines i d labels (volatile rules)
+    if has addressed (d .fam .name) then none else plan-for (rules .parts) lines i d labels (volatile rules)
 
 -- ---- the change
 

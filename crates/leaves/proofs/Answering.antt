@@ -53,13 +53,13 @@ unfolding three-bytes all-below _&&_
 row-length row h = same-number (below-at 8 three-bytes row refl h)
 
 module _ (s : Text) {r : Spelled} (h : Spells s (family s) r) where
-  pub row-in : {row width : ℕ} → r ≡ Row row width → row < 8
+  pub row-in : {row width lowest : ℕ} → r ≡ Row row width lowest → row < 8
   row-in e = rw e at (h .sound)
 
   pub front-in : {n width : ℕ} → r ≡ Front n width → n ≤ length s
   front-in e = (rw e at (h .sound)) .0
 
-  pub answers-row : {row width : ℕ} → r ≡ Row row width → family-answer s ≡ register (row-name row) width
+  pub answers-row : {row width lowest : ℕ} → r ≡ Row row width lowest → family-answer s ≡ register (row-name row) width
   unfolding family-answer let-some_else_then_
   answers-row e = rw (← (h .is), e)
 
@@ -72,7 +72,7 @@ module _ (s : Text) {r : Spelled} (h : Spells s (family s) r) where
   answers-none e = rw (← (h .is), e)
 
   module _ (c : ℕ) where
-    pub overwrites-row : {row width : ℕ} → r ≡ Row row width → has (volatile-of c) (name-numbered row) ≡ overwrites c s
+    pub overwrites-row : {row width lowest : ℕ} → r ≡ Row row width lowest → has (volatile-of c) (name-numbered row) ≡ overwrites c s
     unfolding overwrites let-some_else_then_
     overwrites-row {row} e = row-overwritten c row (row-in e) ∙ rw (← (h .is), e)
 

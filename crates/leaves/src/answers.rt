@@ -59,7 +59,7 @@ fn put_family(name: &[u8], out: &mut [u8]) -> usize
     ensures { λ r. ⌜ Written (now (out .entry)) 0 (family-answer (now (name .entry))) (now (out .exit)) r ⌝ }
 {
     match names::family(name) {
-        Spelled::Row(row, width) => put_row(row, width, out),
+        Spelled::Row(row, width, _) => put_row(row, width, out),
         Spelled::Front(n, width) => put_register(&name[..n], width, out),
         Spelled::Nothing => put(b"none", out, 0),
     }
@@ -107,7 +107,7 @@ fn overwrites(convention: u8, name: &[u8]) -> bool
     ensures { λ r. ⌜ r ≡ overwrites convention (now (name .entry)) ⌝ }
 {
     match names::family(name) {
-        Spelled::Row(row, _) => names::overwritten(row, convention),
+        Spelled::Row(row, _, _) => names::overwritten(row, convention),
         Spelled::Front(n, _) => names::overwritten(names::number_of(&name[..n]), convention),
         Spelled::Nothing => false,
     }

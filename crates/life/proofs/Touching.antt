@@ -56,7 +56,7 @@ module _ (tape area : Text) (ws : List ℕ) (x : Expr) (fam : Text) {r : Named} 
   unfolding kills-by let-some_else_then_
   by-none e = rw (named-not h e)
 
-  module _ {g : Fam} {k : ℕ} (e : r ≡ As g k) {b : Bool} (eb : b ≡ (fam-text tape area g == fam)) where
+  module _ {g : Fam} {k m : ℕ} (e : r ≡ As g k m) {b : Bool} (eb : b ≡ (fam-text tape area g == fam)) where
     by-name : kills-by tape area ws x fam
         ≡ ((fam-text tape area g == fam) && leb 32 k && not (any (of-family fam) (tokens-of tape area (expr-words ws x))))
     unfolding kills-by let-some_else_then_

@@ -27,7 +27,7 @@ fn overwrites_by<'a>(tape: &'a [u8], area: &'a [u8], line: &'a [u64], x: Expr, f
     requires { ⌜ Holds (now tape) (now area) (now line) × Expression (now line) x × Known (now tape) (now area) f ⌝ }
     ensures { λ r. ⌜ r ≡ kills-by (now (tape .entry)) (now (area .entry)) (now (line .entry)) x (fam-text (now (tape .entry)) (now (area .entry)) f) ⌝ }
 {
-    let Named::As(g, width) = fams::name_of(tape, area, line[0]) else {
+    let Named::As(g, width, _) = fams::name_of(tape, area, line[0]) else {
         return false;
     };
     if !fams::same_family(tape, area, g, f) {

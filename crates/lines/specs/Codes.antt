@@ -1,5 +1,5 @@
--- The code of a name: its family and its width in one number, which a token word keeps so that they are found once. 0 says nothing.
--- Assumes nothing.
+-- The code of a name that begins at bit 0: its family and its width in one number, which a token word keeps so that they are found once.
+-- 0 says nothing. Assumes nothing.
 use Prim.Native.Nat.{ℕ, _+_, _-_, _*_, _/_, _%_, _≤_, _<_}
 use mathlib.Core.Logic.{_⊎_}
 use mathlib.Core.Path.{_≡_}
@@ -37,7 +37,7 @@ coded-name c s = if ltb c 36 then row-name (c / 4 - 1) else if eqb (c % 4) 0 the
 pub record Says (c : ℕ) (s : Text) : Type 0 where
   pub least : 4 ≤ c
   pub some-byte : 1 ≤ length s
-  pub family-is : family s ≡ some (record { name = coded-name c s; width = coded-width c })
+  pub family-is : family s ≡ some (record { name = coded-name c s; width = coded-width c; lowest = 0 })
   pub number-is : c / 4 - 1 ≡ family-number (coded-name c s)
 
 -- the answer of `code_of`

@@ -30,10 +30,10 @@ unfoldable pub fam-number : Text → Text → Fam → ℕ
 fam-number tape area f = if ltb f 8 then f else number-of (text-of tape area f)
 
 abbrev pub named : Text → Text → Named → Option N.Fam
-named tape area (As f k) = some (record { name = fam-text tape area f; width = k })
+named tape area (As f k l) = some (record { name = fam-text tape area f; width = k; lowest = l })
 named tape area Nothing = none
 
 -- the answer r says what the definition o says, of a family that is known
 pub record Names (tape area : Text) (o : Option N.Fam) (r : Named) : Type 0 where
   pub is : named tape area r ≡ o
-  pub known : (f : Fam) (k : ℕ) → r ≡ As f k → Known tape area f
+  pub known : (f : Fam) (k l : ℕ) → r ≡ As f k l → Known tape area f

@@ -1,4 +1,5 @@
-// Codes: the family and the width of a token's text, found once and kept in its word.
+// Codes: the family and the width of a token's text that begins at bit 0, found once and kept in its word. A high byte has none, and is
+// read.
 use crate::fams::Named;
 use crate::words;
 use names::Spelled;
@@ -42,7 +43,7 @@ fn width_of(c: u64) -> u64
     }
 }
 
-// The family and the width that the code of a word says.
+// The family and the width that the code of a word says; the lowest bit is 0.
 pub fn decoded<'a>(tape: &'a [u8], area: &'a [u8], w: u64) -> Named
     requires { ⌜ Points (now tape) (now area) w × (code-of w ≡ 0 → ⊥) ⌝ }
     ensures { λ r. ⌜ Names (now (tape .entry)) (now (area .entry)) (family (text-of (now (tape .entry)) (now (area .entry)) w)) r ⌝ }
@@ -50,12 +51,12 @@ pub fn decoded<'a>(tape: &'a [u8], area: &'a [u8], w: u64) -> Named
     let c = words::code(w);
     let width = width_of(c);
     if c < 36 {
-        return Named::As(c / 4 - 1, width);
+        return Named::As(c / 4 - 1, width, 0);
     }
     if c % 4 == 0 {
-        return Named::As(w, width);
+        return Named::As(w, width, 0);
     }
-    Named::As(words::without_last(w), width)
+    Named::As(words::without_last(w), width, 0)
 }
 
 // Whether two tokens have one text: codes that differ tell at once.
@@ -77,9 +78,9 @@ pub fn same_text<'a>(tape: &'a [u8], area: &'a [u8], v: u64, w: u64) -> bool
 
 // ---- to the code
 
-// The code of a row and a width; 0 for another width.
+// The code of a row and a width from bit 0; 0 for another width.
 fn row_code(s: &[u8], row: u64, width: u64) -> u64
-    requires { ⌜ Spells (now s) (family (now s)) (Row row width) ⌝ }
+    requires { ⌜ Spells (now s) (family (now s)) (Row row width 0) ⌝ }
     ensures { λ r. ⌜ Codes (now (s .entry)) r ⌝ }
 {
     let base = 4 + 4 * row;
@@ -126,12 +127,17 @@ fn front_code(s: &[u8], n: usize, width: u64) -> u64
     }
 }
 
-// The code of a name; 0 where it has no family.
+// The code of a name; 0 where it has no family, and for a high byte.
 fn code_of(s: &[u8]) -> u64
     ensures { λ r. ⌜ Codes (now (s .entry)) r ⌝ }
 {
     match names::family(s) {
-        Spelled::Row(row, width) => row_code(s, row, width),
+        Spelled::Row(row, width, lowest) => {
+            if lowest == 0 {
+                return row_code(s, row, width);
+            }
+            0
+        }
         Spelled::Front(n, width) => {
             if width == 64 {
                 return whole_code(s, n);

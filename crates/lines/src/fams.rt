@@ -24,25 +24,25 @@ ghost use Rattle.lines.specs.Fams.{fam-text, fam-number, Known, Names};
 // A family in one number: below 8 a row of the table of names, else the token word of its name.
 pub type Fam = u64;
 
-// A family and a width.
+// A family, a width and a lowest bit.
 pub enum Named {
-    As(Fam, u64),
+    As(Fam, u64, u64),
     Nothing,
 }
 
-// The family and the width of a token's text, read from its bytes.
+// The family, the width and the lowest bit of a token's text, read from its bytes.
 fn spelled<'a>(tape: &'a [u8], area: &'a [u8], w: u64) -> Named
     requires { ⌜ Points (now tape) (now area) w ⌝ }
     ensures { λ r. ⌜ Names (now (tape .entry)) (now (area .entry)) (family (text-of (now (tape .entry)) (now (area .entry)) w)) r ⌝ }
 {
     match names::family(words::text(tape, area, w)) {
-        Spelled::Row(row, width) => Named::As(row, width),
-        Spelled::Front(n, width) => Named::As(words::first_bytes(w, n), width),
+        Spelled::Row(row, width, lowest) => Named::As(row, width, lowest),
+        Spelled::Front(n, width) => Named::As(words::first_bytes(w, n), width, 0),
         Spelled::Nothing => Named::Nothing,
     }
 }
 
-// The family and the width of a token's text, whatever its kind.
+// The family, the width and the lowest bit of a token's text, whatever its kind.
 pub fn name_of<'a>(tape: &'a [u8], area: &'a [u8], w: u64) -> Named
     requires { ⌜ Points (now tape) (now area) w ⌝ }
     ensures { λ r. ⌜ Names (now (tape .entry)) (now (area .entry)) (family (text-of (now (tape .entry)) (now (area .entry)) w)) r ⌝ }
@@ -53,7 +53,7 @@ pub fn name_of<'a>(tape: &'a [u8], area: &'a [u8], w: u64) -> Named
     codes::decoded(tape, area, w)
 }
 
-// The family and the width of a token: of a Register alone.
+// The family, the width and the lowest bit of a token: of a Register alone.
 pub fn fam_of<'a>(tape: &'a [u8], area: &'a [u8], w: u64) -> Named
     requires { ⌜ Points (now tape) (now area) w ⌝ }
     ensures { λ r. ⌜ Names (now (tape .entry)) (now (area .entry)) (fam-of (token-of (now (tape .entry)) (now (area .entry)) w)) r ⌝ }
@@ -92,7 +92,7 @@ pub fn is_of<'a>(tape: &'a [u8], area: &'a [u8], w: u64, f: Fam) -> bool
         }
     }
     match fam_of(tape, area, w) {
-        Named::As(g, _) => same_family(tape, area, g, f),
+        Named::As(g, _, _) => same_family(tape, area, g, f),
         Named::Nothing => false,
     }
 }
@@ -103,7 +103,7 @@ pub fn is_narrow_of<'a>(tape: &'a [u8], area: &'a [u8], w: u64, f: Fam) -> bool
     ensures { λ r. ⌜ r ≡ is-narrow (fam-text (now (tape .entry)) (now (area .entry)) f) (token-of (now (tape .entry)) (now (area .entry)) w) ⌝ }
 {
     match fam_of(tape, area, w) {
-        Named::As(g, width) => {
+        Named::As(g, width, _) => {
             if 32 <= width {
                 return false;
             }

@@ -123,12 +123,12 @@ other-numbered s e = rw e
 -- ---- a name with an r in front, and n where its digits end
 
 module _ (s : Text) (r : starts-with s (bytes "r") ≡ true) {n : ℕ} (en : n ≡ 1 + length (digits-of (drop 1 s))) where
-  opened : numbered s ≡ (if is-empty (digits-of (drop 1 s)) then stack-slot s else let-some (suffix (drop n s)) else none then λ w. some (record { name = take n s; width = w }))
+  opened : numbered s ≡ (if is-empty (digits-of (drop 1 s)) then stack-slot s else let-some (suffix (drop n s)) else none then λ w. some (record { name = take n s; width = w; lowest = 0 }))
   unfolding numbered strip-prefix let-some_else_then_ if_then_else_
   opened = split s r en
     where
       split : (s : Text) → starts-with s (bytes "r") ≡ true → n ≡ 1 + length (digits-of (drop 1 s))
-          → numbered s ≡ (if is-empty (digits-of (drop 1 s)) then stack-slot s else let-some (suffix (drop n s)) else none then λ w. some (record { name = take n s; width = w }))
+          → numbered s ≡ (if is-empty (digits-of (drop 1 s)) then stack-slot s else let-some (suffix (drop n s)) else none then λ w. some (record { name = take n s; width = w; lowest = 0 }))
       split [] r en = absurd (false≢true r)
       split (x ∷ s) r en =
           let t : n ≡ suc (length (digits-of s)) = omega arith in
@@ -149,7 +149,7 @@ module _ (s : Text) (r : starts-with s (bytes "r") ≡ true) {n : ℕ} (en : n �
   bare e = opened ∙ if-true _ _ (no-digits (digits-of (drop 1 s)) (omega arith))
 
   module _ (digits : n ≡ 1 → ⊥) where
-    go : numbered s ≡ (let-some (suffix (drop n s)) else none then λ w. some (record { name = take n s; width = w }))
+    go : numbered s ≡ (let-some (suffix (drop n s)) else none then λ w. some (record { name = take n s; width = w; lowest = 0 }))
     go = opened ∙ if-false _ _ (a-digit (digits-of (drop 1 s)) (λ e. digits (omega arith)))
 
     second : getD (take n s) 1 0 < 97

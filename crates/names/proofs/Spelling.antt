@@ -45,7 +45,7 @@ module _ (s : Text) where
   pub slot : starts-with s (bytes "var_") ≡ true → Spells s (stack-slot s) (Front (length s) 64)
   unfolding stack-slot
   slot e = record {
-    is = ap (λ (l : Text). some (record { name = l; width = 64 })) (take-length s) ∙ sym (if-true _ _ e);
+    is = ap (λ (l : Text). some (record { name = l; width = 64; lowest = 0 })) (take-length s) ∙ sym (if-true _ _ e);
     sound = (le-refl _, rw take-length (other-first s (λ r. omega (arith, first s e))));
   }
     where
@@ -71,13 +71,13 @@ unfolding high-name all-below _&&_
 high-row k h = same-true (high-name (getD HIGH k [])) (row-name k) (below-at 4 (λ k. high-name (getD HIGH k []) == row-name k) k refl h)
 
 module _ (s : Text) where
-  pub high : {k : ℕ} → position (_== s) HIGH ≡ some k → Spells s (high-byte s) (Row k 8)
+  pub high : {k : ℕ} → position (_== s) HIGH ≡ some k → Spells s (high-byte s) (Row k 8 8)
   unfolding high-byte high-name
   high {k} e =
       let f : (k < 4) × ((getD HIGH k [] == s) ≡ true) = position-at (_== s) HIGH [] e in
       let t : getD HIGH k [] ≡ s = same-true (getD HIGH k []) s (f .1) in
       record {
-        is = ap (λ (l : Text). some (record { name = l; width = 8 })) (sym (high-row k (f .0)) ∙ ap high-name t) ∙ sym (if-true _ _ (any-at (_== s) HIGH [] k (f .0) (f .1)));
+        is = ap (λ (l : Text). some (record { name = l; width = 8; lowest = 8 })) (sym (high-row k (f .0)) ∙ ap high-name t) ∙ sym (if-true _ _ (any-at (_== s) HIGH [] k (f .0) (f .1)));
         sound = omega arith;
       }
 
@@ -87,11 +87,11 @@ module _ (s : Text) where
 
   -- ---- the table first
 
-  pub in-table : {r w : ℕ} → Lists LEGACY s (At r w) → Spells s (family s) (Row r w)
+  pub in-table : {r w : ℕ} → Lists LEGACY s (At r w) → Spells s (family s) (Row r w 0)
   unfolding family let-some_else_then_
   in-table {r} {w} h =
       let e : row-name r ≡ getD (getD LEGACY r []) 0 [] = List·getD-map (λ (names : List Text). getD names 0 []) LEGACY r [] in
-      record { is = ap (λ (l : Text). some (record { name = l; width = w })) e ∙ rw (sym (h .is)); sound = h .inside }
+      record { is = ap (λ (l : Text). some (record { name = l; width = w; lowest = 0 })) e ∙ rw (sym (h .is)); sound = h .inside }
 
   pub not-in-table : Lists LEGACY s Unlisted → family s ≡ high-byte s
   unfolding family let-some_else_then_

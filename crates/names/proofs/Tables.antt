@@ -95,7 +95,7 @@ module _ (padded : List (List Text)) (s : Text) where
     row-here = List·getD-map (map unpadded) padded i []
 
     next : Option ℕ → Option Fam
-    next o = let-some o else legacy (drop (suc i) table) s then λ k. some (record { name = getD (getD table i []) 0 []; width = getD WIDTHS k 0 })
+    next o = let-some o else legacy (drop (suc i) table) s then λ k. some (record { name = getD (getD table i []) 0 []; width = getD WIDTHS k 0; lowest = 0 })
 
     at-row : legacy table s ≡ next (position (_== s) (map unpadded (getD padded i [])))
     unfolding legacy next

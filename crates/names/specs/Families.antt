@@ -25,13 +25,13 @@ unfoldable pub is-row : Text → Bool
 is-row s = has ROWS s
 
 abbrev pub spelled : Text → Spelled → Option Fam
-spelled s (Row r w) = some (record { name = row-name r; width = w })
-spelled s (Front n w) = some (record { name = take n s; width = w })
+spelled s (Row r w l) = some (record { name = row-name r; width = w; lowest = l })
+spelled s (Front n w) = some (record { name = take n s; width = w; lowest = 0 })
 spelled s Nothing = none
 
 -- a row is one of the table, a front is a part of the text and no row's family
 abbrev pub Sound : Text → Spelled → Type 0
-Sound s (Row r w) = r < 8
+Sound s (Row r w l) = r < 8
 Sound s (Front n w) = (n ≤ length s) × (is-row (take n s) ≡ false)
 Sound s Nothing = Unit
 
@@ -43,7 +43,7 @@ pub record Spells (s : Text) (o : Option Fam) (r : Spelled) : Type 0 where
 -- ---- in a table
 
 abbrev pub listed : List (List Text) → Listed → Option Fam
-listed table (At r w) = some (record { name = getD (getD table r []) 0 []; width = w })
+listed table (At r w) = some (record { name = getD (getD table r []) 0 []; width = w; lowest = 0 })
 listed table Unlisted = none
 
 abbrev pub In : List (List Text) → Listed → Type 0

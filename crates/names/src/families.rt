@@ -30,9 +30,10 @@ pub const RAX: u64 = 0;
 // The high bytes of the first four families.
 const HIGH: [[u8; 3]; 4] = [*b"ah\0", *b"bh\0", *b"ch\0", *b"dh\0"];
 
-// What the bytes of a name say: a row of the table, or how many of its bytes name its family; and the width.
+// What the bytes of a name say: a row of the table, its width and its lowest bit; or how many of its bytes name its family, and its
+// width, from bit 0.
 pub enum Spelled {
-    Row(u64, u64),
+    Row(u64, u64, u64),
     Front(usize, u64),
     Nothing,
 }
@@ -141,18 +142,18 @@ fn numbered(s: &[u8]) -> Spelled
     Spelled::Front(n, width)
 }
 
-// ah, bh, ch, dh, and what follows them.
+// ah, bh, ch, dh, which begin at bit 8, and what follows them.
 fn high_byte(s: &[u8]) -> Spelled
     ensures { λ r. ⌜ Spells (now (s .entry)) (high-byte (now (s .entry))) r ⌝ }
 {
     let row = column_in(s, HIGH);
     if row < 4 {
-        return Spelled::Row(row as u64, 8);
+        return Spelled::Row(row as u64, 8, 8);
     }
     numbered(s)
 }
 
-// The family and the width of a name.
+// The family, the width and the lowest bit of a name.
 pub fn family(s: &[u8]) -> Spelled
     ensures { λ r. ⌜ Spells (now (s .entry)) (family (now (s .entry))) r ⌝ }
 {
@@ -161,7 +162,7 @@ pub fn family(s: &[u8]) -> Spelled
         return numbered(s);
     }
     match legacy(s) {
-        Listed::At(row, width) => Spelled::Row(row, width),
+        Listed::At(row, width) => Spelled::Row(row, width, 0),
         Listed::Nothing => high_byte(s),
     }
 }

@@ -141,14 +141,14 @@ module _ (tape area : Text) (ws : List ℕ) where
       unfolding definition-of let-some_else_then_
       no-name f = undefined (rw (assigned-to h e, named-not hn f))
 
-      module _ {g : Fam} {k : ℕ} (f : n ≡ NamedAs g k) {m : Bool} (em : m ≡ any (of-family (fam-text tape area g)) (tokens-of tape area (expr-words ws x))) where
+      module _ {g : Fam} {k l : ℕ} (f : n ≡ NamedAs g k l) {m : Bool} (em : m ≡ any (of-family (fam-text tape area g)) (tokens-of tape area (expr-words ws x))) where
         pub mentioned : m ≡ true → Defines tape area ws Nothing
         unfolding definition-of let-some_else_then_ if_then_else_
         mentioned t = undefined (rw (assigned-to h e, named-as hn f, ← em, t))
 
         pub defined-as : m ≡ false → {calls reads : Bool} → calls ≡ is-some (call-in (tokens-of tape area ws))
             → reads ≡ reads-memory (tokens-of tape area (expr-words ws x))
-            → Defines tape area ws (As (record { family = g; width = k; expr = x; calls = calls; reads = reads }))
+            → Defines tape area ws (As (record { family = g; width = k; lowest = l; expr = x; calls = calls; reads = reads }))
         unfolding definition-of let-some_else_then_ if_then_else_
         defined-as t ec er =
             record {

@@ -15,7 +15,8 @@ use Rattle.reference.specs.Text.{Text, bytes, starts-with, ends-with, trim-star
 use Rattle.reference.specs.Listing.{Token, is, Punct}
 use Rattle.reference.specs.Names.{family}
 use Rattle.reference.specs.Shapes.{is-operator-expr}
-use Rattle.reference.specs.Join.{written-from, starts-with-operator, text-before, text-after, standalone, use-width, is-compound, replaceable}
+use Rattle.reference.specs.Join.{written-from, starts-with-operator, text-before, text-after, standalone, use-width, use-lowest, is-compound, replaceable}
+use Rattle.reference.proofs.Parts.{without-parts, adds-lowest}
 use Rattle.laws.proofs.Scans.{and-here, and-second, and-true, and-false, and-not-here, and-not-second, not-same}
 use Rattle.joining.specs.Plan.{wants-brackets}
 use Rattle.joining.proofs.Fitting.{before-at, after-at, first-not-standalone, last-not-standalone}
@@ -52,9 +53,27 @@ module _ (width used : ℕ) where
 
 -- n is the name of the token at `pos`
 module _ (tape area : Text) (ws : List ℕ) (pos : ℕ) (h : pos < length ws) {n : Named} (hn : Names tape area (family (text-of tape area (getD ws pos 0))) n) where
-  pub width-named : {g : Fam} {k : ℕ} → n ≡ NamedAs g k → k ≡ use-width (tokens-of tape area ws) pos
+  pub width-named : {g : Fam} {k l : ℕ} → n ≡ NamedAs g k l → k ≡ use-width (tokens-of tape area ws) pos
   unfolding use-width let-some_else_then_
   width-named e = rw (get-at (token-of tape area) ws pos h, named-as hn e)
+
+  -- another lowest bit, below 32 bits
+  abbrev elsewhere : ℕ → Bool
+  elsewhere lowest = ltb (use-width (tokens-of tape area ws) pos) 32 && not (eqb (use-lowest (tokens-of tape area ws) pos) lowest)
+
+  lowest-named : {g : Fam} {k l : ℕ} → n ≡ NamedAs g k l → l ≡ use-lowest (tokens-of tape area ws) pos
+  unfolding use-lowest let-some_else_then_
+  lowest-named e = rw (get-at (token-of tape area) ws pos h, named-as hn e)
+
+  pub elsewhere-wide : {g : Fam} {k l : ℕ} (lowest : ℕ) → n ≡ NamedAs g k l → 32 ≤ k → false ≡ elsewhere lowest
+  elsewhere-wide {k = k} lowest e b = sym (and-false _ (rw (← width-named e) (le-ltb k 32 b)))
+
+  pub elsewhere-narrow : {g : Fam} {k l : ℕ} (lowest : ℕ) → n ≡ NamedAs g k l → k < 32 → flip (eqb l lowest) ≡ elsewhere lowest
+  elsewhere-narrow {k = k} {l = l} lowest e b = sym (and-true _ (rw (← width-named e) (lt-ltb k 32 b)) ∙ rw (← lowest-named e) (sym (not-same {a = eqb l lowest} refl)))
+
+  pub elsewhere-unnamed : (lowest : ℕ) → n ≡ Unnamed → false ≡ elsewhere lowest
+  unfolding use-width let-some_else_then_
+  elsewhere-unnamed lowest e = sym (and-false _ (rw (get-at (token-of tape area) ws pos h, named-not hn e)))
 
   pub width-unnamed : n ≡ Unnamed → 64 ≡ use-width (tokens-of tape area ws) pos
   unfolding use-width let-some_else_then_
@@ -95,23 +114,55 @@ pub ruleset compounding = (compound-later, compound-short, compound-kind, compou
 
 -- ---- the whole test
 
-module _ (fam : Text) (width : ℕ) (toks : List Token) (pos : ℕ) {u : ℕ} (eu : u ≡ use-width toks pos)
-    {a : Bool} (ea : a ≡ not ((ltb u 32 || ltb width 32) && not (eqb u width))) where
-  fits-is : replaceable fam width toks pos ≡ (a && not (is-compound toks pos) && not (written-from fam toks))
-  unfolding replaceable
-  fits-is = rw (← eu, ← ea)
+module _ (fam : Text) (width : ℕ) (toks : List Token) (pos : ℕ) where
+  abbrev plain : Bool
+  plain = replaceable false (record { name = fam; width = width; lowest = 0 }) toks pos
 
-  pub fits-not : flip a ≡ true → false ≡ replaceable fam width toks pos
-  fits-not t = rw fits-is (and-here _ refl (not-true a t))
+  module _ {u : ℕ} (eu : u ≡ use-width toks pos) {a : Bool} (ea : a ≡ not ((ltb u 32 || ltb width 32) && not (eqb u width))) where
+    fits-is : plain ≡ (a && not (is-compound toks pos) && not (written-from fam toks))
+    fits-is = without-parts (record { name = fam; width = width; lowest = 0 }) toks pos ∙ rw (← eu, ← ea)
 
-  module _ (ta : flip a ≡ false) {b : Bool} (eb : b ≡ is-compound toks pos) where
-    pub fits-compound : b ≡ true → false ≡ replaceable fam width toks pos
-    fits-compound t = rw fits-is (and-second refl (not-false a ta) (and-not-here _ eb t))
+    pub fits-not : flip a ≡ true → false ≡ plain
+    fits-not t = rw fits-is (and-here _ refl (not-true a t))
 
-    pub fits-written : b ≡ false → {x : Bool} → x ≡ written-from fam toks → flip x ≡ replaceable fam width toks pos
-    fits-written t ex = rw fits-is (and-second refl (not-false a ta) (and-not-second eb t (not-same ex)))
+    module _ (ta : flip a ≡ false) {b : Bool} (eb : b ≡ is-compound toks pos) where
+      pub fits-compound : b ≡ true → false ≡ plain
+      fits-compound t = rw fits-is (and-second refl (not-false a ta) (and-not-here _ eb t))
+
+      pub fits-written : b ≡ false → {x : Bool} → x ≡ written-from fam toks → flip x ≡ plain
+      fits-written t ex = rw fits-is (and-second refl (not-false a ta) (and-not-second eb t (not-same ex)))
+
+  -- and the part
+  module _ (lowest : ℕ) {a : Bool} (ea : a ≡ plain) where
+    abbrev part : Bool → Bool
+    part parts = replaceable parts (record { name = fam; width = width; lowest = lowest }) toks pos
+
+    -- without the setting the lowest bit does not matter
+    off-is : part false ≡ a
+    off-is =
+        without-parts (record { name = fam; width = width; lowest = lowest }) toks pos
+        ∙ sym (without-parts (record { name = fam; width = width; lowest = 0 }) toks pos)
+        ∙ sym ea
+
+    on-is : part true ≡ (a && not (ltb (use-width toks pos) 32 && not (eqb (use-lowest toks pos) lowest)))
+    on-is =
+        adds-lowest (record { name = fam; width = width; lowest = lowest }) toks pos
+        ∙ ap (λ (b : Bool). b && not (ltb (use-width toks pos) 32 && not (eqb (use-lowest toks pos) lowest))) off-is
+
+    pub part-unfit : (parts : Bool) → flip a ≡ true → false ≡ part parts
+    part-unfit true t = rw on-is (and-here _ refl (not-true a t))
+    part-unfit false t = sym (off-is ∙ not-true a t)
+
+    module _ (ta : flip a ≡ false) where
+      pub part-off : (parts : Bool) → flip parts ≡ true → true ≡ part parts
+      part-off parts t = rw (not-true parts t) (sym (off-is ∙ not-false a ta))
+
+      pub part-on : (parts : Bool) → flip parts ≡ false → {x : Bool} → x ≡ (ltb (use-width toks pos) 32 && not (eqb (use-lowest toks pos) lowest)) → flip x ≡ part parts
+      part-on parts t ex = rw (not-false parts t, on-is) (and-second refl (not-false a ta) (not-same ex))
 
 pub ruleset fitting = (fits-not, fits-compound, fits-written)
+
+pub ruleset parting = (part-unfit, part-off, part-on)
 
 -- ---- the texts beside it
 

@@ -81,7 +81,7 @@ module _ (tape area : Text) (expr : List Token) (ws : List ℕ) {r : Assigned} (
     unfolding leaves-inputs let-some_else_then_
     leaves-unnamed f = rw (assigned-to h e, named-not hn f)
 
-    module _ {g : Fam} {k : ℕ} (f : n ≡ NamedAs g k) {m : Bool} (em : m ≡ any (of-family (fam-text tape area g)) expr) where
+    module _ {g : Fam} {k l : ℕ} (f : n ≡ NamedAs g k l) {m : Bool} (em : m ≡ any (of-family (fam-text tape area g)) expr) where
       leaves-is : leaves-inputs expr (tokens-of tape area ws) ≡ (not m && not (reads-memory expr && starts-with (text-of tape area (getD ws 0 0)) (bytes "var_")))
       unfolding leaves-inputs let-some_else_then_
       leaves-is = rw (assigned-to h e, named-as hn f, mentions expr (fam-text tape area g), ← em)

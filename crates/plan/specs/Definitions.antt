@@ -25,7 +25,7 @@ before-at ts k = if eqb k 0 then none else get ts (k - 1)
 abbrev pub definition-in : Text → Text → List ℕ → Definition → J.Definition
 definition-in tape area ws d =
     record {
-      fam = record { name = fam-text tape area (d .family); width = d .width };
+      fam = record { name = fam-text tape area (d .family); width = d .width; lowest = d .lowest };
       expr = tokens-of tape area (expr-words ws (d .expr));
       calls = d .calls;
     }

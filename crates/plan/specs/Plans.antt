@@ -1,6 +1,7 @@
 -- What the code's plan means. Assumes nothing.
 use Prim.Native.Nat.{ℕ}
 use mathlib.Core.Path.{_≡_}
+use mathlib.Core.Bool.{Bool}
 use mathlib.Core.List.{List}
 use mathlib.Core.Option.{Option, none, some}
 use Rattle.reference.specs.Control.{if_then_else_, let-some_else_then_}
@@ -18,10 +19,10 @@ use Rattle.plan.specs.declared.plans.Plan.{Plan}
 use Rattle.plan.specs.declared.plans.Plan.the-variants.{Do, Nothing}
 
 -- `plan-use` of a line that is no loop's end and after which the value is not read: the plan for the use among its tokens, line j's
-unfoldable pub plan-among : J.Definition → List Token → ℕ → Option J.Plan
-plan-among d ts j =
+unfoldable pub plan-among : Bool → J.Definition → List Token → ℕ → Option J.Plan
+plan-among parts d ts j =
     let-some (position (of-family (d .fam .name)) ts) else none then λ pos.
-    if replaceable (d .fam .name) (d .fam .width) ts pos
+    if replaceable parts (d .fam) ts pos
     then some (record { fam = d .fam .name; expr = d .expr; last = j; brackets = J.wants-brackets (d .expr) ts pos })
     else none
 

@@ -14,10 +14,12 @@ ghost use Rattle.lines.specs.Words.{token-of, tokens-of, Holds};
 ghost use Rattle.lines.specs.Shapes.{expr-words, Expression};
 ghost use Rattle.plan.specs.Definitions.{before-at, Defines};
 
-// The register or slot, its width, the right side, whether the line has a call mark, and whether the right side reads memory.
+// The register or slot, its width and its lowest bit, the right side, whether the line has a call mark, and whether the right side reads
+// memory.
 pub struct Definition {
     pub family: Fam,
     pub width: u64,
+    pub lowest: u64,
     pub expr: Expr,
     pub calls: bool,
     pub reads: bool,
@@ -75,7 +77,7 @@ pub fn definition_of<'a>(tape: &'a [u8], area: &'a [u8], line: &'a [u64]) -> Def
     let Assigned::To(x) = shapes::assignment(tape, area, line) else {
         return Defined::Nothing;
     };
-    let Named::As(f, width) = fams::name_of(tape, area, line[0]) else {
+    let Named::As(f, width, lowest) = fams::name_of(tape, area, line[0]) else {
         return Defined::Nothing;
     };
     if fams::mentions(tape, area, line, x, f) {
@@ -86,6 +88,7 @@ pub fn definition_of<'a>(tape: &'a [u8], area: &'a [u8], line: &'a [u64]) -> Def
     Defined::As(Definition {
         family: f,
         width,
+        lowest,
         expr: x,
         calls,
         reads,

@@ -113,15 +113,19 @@ fn plan_among<'a>(
     i: usize,
     j: usize,
     d: Definition,
+    rules: Rules,
 ) -> Plan
     requires { ⌜ Holds (now tape) (now area) (now source) × Holds (now tape) (now area) (now line) × Sound (now tape) (now area) (now source) d ⌝ }
-    ensures { λ r. ⌜ Plans (now (tape .entry)) (now (area .entry)) (now (source .entry)) i (plan-among (definition-in (now (tape .entry)) (now (area .entry)) (now (source .entry)) d) (tokens-of (now (tape .entry)) (now (area .entry)) (now (line .entry))) j) r ⌝ }
+    ensures { λ r. ⌜ Plans (now (tape .entry)) (now (area .entry)) (now (source .entry)) i
+        (plan-among (rules .parts)
+        (definition-in (now (tape .entry)) (now (area .entry)) (now (source .entry)) d)
+        (tokens-of (now (tape .entry)) (now (area .entry)) (now (line .entry))) j) r ⌝ }
 {
     let f = d.family;
     let Found::At(pos) = fams::first_of(tape, area, line, f) else {
         return Plan::Nothing;
     };
-    if !uses::use_fits(tape, area, line, pos, f, d.width) {
+    if !uses::use_fits(tape, area, line, pos, f, d.width, d.lowest, rules.parts) {
         return Plan::Nothing;
     }
     let x = d.expr;
@@ -142,7 +146,11 @@ fn plan_use<'a>(
     rules: Rules,
 ) -> Plan
     requires { ⌜ Listed (now tape) (now area) (now tokens) (now lines) × Labelled (bare-listing (now tape) (now area) (now tokens) (now lines)) (now labels) × Sound (now tape) (now area) (part-of (now tokens) (getD (now lines) i 0)) d × (i < length (now lines)) × (j < length (now lines)) ⌝ }
-    ensures { λ r. ⌜ Plans (now (tape .entry)) (now (area .entry)) (part-of (now (tokens .entry)) (getD (now (lines .entry)) i 0)) i (plan-use (bare-listing (now (tape .entry)) (now (area .entry)) (now (tokens .entry)) (now (lines .entry))) i (definition-in (now (tape .entry)) (now (area .entry)) (part-of (now (tokens .entry)) (getD (now (lines .entry)) i 0)) d) (labels-at (bare-listing (now (tape .entry)) (now (area .entry)) (now (tokens .entry)) (now (lines .entry))) (now (labels .entry))) (volatile (rules-of rules)) j) r ⌝ }
+    ensures { λ r. ⌜ Plans (now (tape .entry)) (now (area .entry)) (part-of (now (tokens .entry)) (getD (now (lines .entry)) i 0)) i
+        (plan-use (rules .parts) (bare-listing (now (tape .entry)) (now (area .entry)) (now (tokens .entry)) (now (lines .entry))) i
+        (definition-in (now (tape .entry)) (now (area .entry)) (part-of (now (tokens .entry)) (getD (now (lines .entry)) i 0)) d)
+        (labels-at (bare-listing (now (tape .entry)) (now (area .entry)) (now (tokens .entry)) (now (lines .entry)))
+        (now (labels .entry))) (volatile (rules-of rules)) j) r ⌝ }
 {
     let s = lines[i];
     let line = words::line_of(tokens, lines[j]);
@@ -165,7 +173,7 @@ fn plan_use<'a>(
     ) {
         return Plan::Nothing;
     }
-    plan_among(tape, area, words::line_of(tokens, s), line, i, j, d)
+    plan_among(tape, area, words::line_of(tokens, s), line, i, j, d, rules)
 }
 
 // The plan for the single use of the definition d of line i.
@@ -180,7 +188,11 @@ fn plan_single<'a>(
     rules: Rules,
 ) -> Plan
     requires { ⌜ Listed (now tape) (now area) (now tokens) (now lines) × Labelled (bare-listing (now tape) (now area) (now tokens) (now lines)) (now labels) × Sound (now tape) (now area) (part-of (now tokens) (getD (now lines) i 0)) d × (i < length (now lines)) ⌝ }
-    ensures { λ r. ⌜ Plans (now (tape .entry)) (now (area .entry)) (part-of (now (tokens .entry)) (getD (now (lines .entry)) i 0)) i (plan-single (bare-listing (now (tape .entry)) (now (area .entry)) (now (tokens .entry)) (now (lines .entry))) i (definition-in (now (tape .entry)) (now (area .entry)) (part-of (now (tokens .entry)) (getD (now (lines .entry)) i 0)) d) (labels-at (bare-listing (now (tape .entry)) (now (area .entry)) (now (tokens .entry)) (now (lines .entry))) (now (labels .entry))) (volatile (rules-of rules))) r ⌝ }
+    ensures { λ r. ⌜ Plans (now (tape .entry)) (now (area .entry)) (part-of (now (tokens .entry)) (getD (now (lines .entry)) i 0)) i
+        (plan-single (rules .parts) (bare-listing (now (tape .entry)) (now (area .entry)) (now (tokens .entry)) (now (lines .entry))) i
+        (definition-in (now (tape .entry)) (now (area .entry)) (part-of (now (tokens .entry)) (getD (now (lines .entry)) i 0)) d)
+        (labels-at (bare-listing (now (tape .entry)) (now (area .entry)) (now (tokens .entry)) (now (lines .entry)))
+        (now (labels .entry))) (volatile (rules-of rules))) r ⌝ }
 {
     let Found::At(j) = uses::use_of(tape, area, tokens, lines, i, d, rules) else {
         return Plan::Nothing;
@@ -200,7 +212,11 @@ fn plan_for<'a>(
     rules: Rules,
 ) -> Plan
     requires { ⌜ Listed (now tape) (now area) (now tokens) (now lines) × Labelled (bare-listing (now tape) (now area) (now tokens) (now lines)) (now labels) × Sound (now tape) (now area) (part-of (now tokens) (getD (now lines) i 0)) d × (i < length (now lines)) ⌝ }
-    ensures { λ r. ⌜ Plans (now (tape .entry)) (now (area .entry)) (part-of (now (tokens .entry)) (getD (now (lines .entry)) i 0)) i (plan-for (bare-listing (now (tape .entry)) (now (area .entry)) (now (tokens .entry)) (now (lines .entry))) i (definition-in (now (tape .entry)) (now (area .entry)) (part-of (now (tokens .entry)) (getD (now (lines .entry)) i 0)) d) (labels-at (bare-listing (now (tape .entry)) (now (area .entry)) (now (tokens .entry)) (now (lines .entry))) (now (labels .entry))) (volatile (rules-of rules))) r ⌝ }
+    ensures { λ r. ⌜ Plans (now (tape .entry)) (now (area .entry)) (part-of (now (tokens .entry)) (getD (now (lines .entry)) i 0)) i
+        (plan-for (rules .parts) (bare-listing (now (tape .entry)) (now (area .entry)) (now (tokens .entry)) (now (lines .entry))) i
+        (definition-in (now (tape .entry)) (now (area .entry)) (part-of (now (tokens .entry)) (getD (now (lines .entry)) i 0)) d)
+        (labels-at (bare-listing (now (tape .entry)) (now (area .entry)) (now (tokens .entry)) (now (lines .entry)))
+        (now (labels .entry))) (volatile (rules-of rules))) r ⌝ }
 {
     let x = d.expr;
     if !shapes::is_lone_number(words::line_of(tokens, lines[i]), x) {

@@ -13,12 +13,13 @@ use lines::shapes::Assigned;
 use lines::shapes::Found;
 use lines::words;
 ghost use mathlib.Core.Path.{_≡_};
+ghost use mathlib.Core.Bool.{false};
 ghost use Prim.Native.Nat.{_<_};
 ghost use lib.Dec.{ltb, eqb};
 ghost use lib.ListN.{length, getD};
 ghost use Rattle.reference.specs.Control.{not, _&&_, _||_};
 ghost use Rattle.reference.specs.Rules.{volatile};
-ghost use Rattle.reference.specs.Join.{text-before, text-after, standalone, use-width, is-compound, replaceable};
+ghost use Rattle.reference.specs.Join.{text-before, text-after, standalone, use-width, use-lowest, is-compound, replaceable};
 ghost use Rattle.joining.specs.Plan.{look, use-of};
 ghost use Rattle.lines.specs.Codes.{family-number};
 ghost use Rattle.lines.specs.Words.{tokens-of, Holds};
@@ -75,7 +76,7 @@ fn leaves_inputs<'a>(
     let Assigned::To(_) = shapes::assignment(tape, area, line) else {
         return false;
     };
-    let Named::As(g, _) = fams::name_of(tape, area, line[0]) else {
+    let Named::As(g, _, _) = fams::name_of(tape, area, line[0]) else {
         return false;
     };
     let x = d.expr;
@@ -217,7 +218,7 @@ fn use_width<'a>(tape: &'a [u8], area: &'a [u8], line: &'a [u64], pos: usize) ->
     ensures { λ r. ⌜ r ≡ use-width (tokens-of (now (tape .entry)) (now (area .entry)) (now (line .entry))) pos ⌝ }
 {
     match fams::name_of(tape, area, line[pos]) {
-        Named::As(_, width) => width,
+        Named::As(_, width, _) => width,
         Named::Nothing => 64,
     }
 }
@@ -244,17 +245,12 @@ fn is_compound<'a>(tape: &'a [u8], area: &'a [u8], line: &'a [u64], pos: usize) 
     !text::begins_assign(s)
 }
 
-// Whether the use at `pos` may be replaced by an expression of this width.
-pub fn use_fits<'a>(
-    tape: &'a [u8],
-    area: &'a [u8],
-    line: &'a [u64],
-    pos: usize,
-    f: Fam,
-    width: u64,
-) -> bool
+// Whether the use at `pos` may be replaced by an expression of this width, whatever its part.
+fn fits<'a>(tape: &'a [u8], area: &'a [u8], line: &'a [u64], pos: usize, f: Fam, width: u64) -> bool
     requires { ⌜ Holds (now tape) (now area) (now line) × (pos < length (now line)) × Known (now tape) (now area) f ⌝ }
-    ensures { λ r. ⌜ r ≡ replaceable (fam-text (now (tape .entry)) (now (area .entry)) f) width (tokens-of (now (tape .entry)) (now (area .entry)) (now (line .entry))) pos ⌝ }
+    ensures { λ r. ⌜ r ≡ replaceable false
+        (record { name = fam-text (now (tape .entry)) (now (area .entry)) f; width = width; lowest = 0 })
+        (tokens-of (now (tape .entry)) (now (area .entry)) (now (line .entry))) pos ⌝ }
 {
     if !widths_fit(width, use_width(tape, area, line, pos)) {
         return false;
@@ -263,6 +259,55 @@ pub fn use_fits<'a>(
         return false;
     }
     !fams::writes(tape, area, line, f)
+}
+
+// Whether the token at `pos` has less than 32 bits, and another lowest bit.
+fn begins_elsewhere<'a>(
+    tape: &'a [u8],
+    area: &'a [u8],
+    line: &'a [u64],
+    pos: usize,
+    lowest: u64,
+) -> bool
+    requires { ⌜ Holds (now tape) (now area) (now line) × (pos < length (now line)) ⌝ }
+    ensures { λ r. ⌜ r ≡ (ltb (use-width (tokens-of (now (tape .entry)) (now (area .entry)) (now (line .entry))) pos) 32
+        && not (eqb (use-lowest (tokens-of (now (tape .entry)) (now (area .entry)) (now (line .entry))) pos) lowest)) ⌝ }
+{
+    match fams::name_of(tape, area, line[pos]) {
+        Named::As(_, width, from) => {
+            if 32 <= width {
+                return false;
+            }
+            from != lowest
+        }
+        Named::Nothing => false,
+    }
+}
+
+// Whether the use at `pos` may be replaced by an expression that was assigned to this width of f from this lowest bit on.
+// Under `parts` a use below 32 bits must be the same part (M-104); its width is asked in any case.
+pub fn use_fits<'a>(
+    tape: &'a [u8],
+    area: &'a [u8],
+    line: &'a [u64],
+    pos: usize,
+    f: Fam,
+    width: u64,
+    lowest: u64,
+    parts: bool,
+) -> bool
+    requires { ⌜ Holds (now tape) (now area) (now line) × (pos < length (now line)) × Known (now tape) (now area) f ⌝ }
+    ensures { λ r. ⌜ r ≡ replaceable parts
+        (record { name = fam-text (now (tape .entry)) (now (area .entry)) f; width = width; lowest = lowest })
+        (tokens-of (now (tape .entry)) (now (area .entry)) (now (line .entry))) pos ⌝ }
+{
+    if !fits(tape, area, line, pos, f, width) {
+        return false;
+    }
+    if !parts {
+        return true;
+    }
+    !begins_elsewhere(tape, area, line, pos, lowest)
 }
 
 // Whether the token at `pos` stands between delimiters.

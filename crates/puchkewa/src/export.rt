@@ -12,6 +12,7 @@ pub struct Settings {
     pub convention: u8,
     pub settle: bool,
     pub edition: u8,
+    pub parts: bool,
 }
 
 // `refusal` is 0 when finished, else the number of the question that refused, at `place`; then all other numbers are 0.
@@ -46,6 +47,7 @@ pub extern "C" fn puchkewa_clean(
         convention: settings.convention,
         settle: settings.settle,
         edition: settings.edition,
+        parts: settings.parts,
     };
     match clean(rules, tape, work_a, work_b, out) {
         Reply::Refused { number, place } => Report {

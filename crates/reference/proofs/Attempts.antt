@@ -126,9 +126,9 @@ module _ {lines : Listing} {i : ℕ} (s : Assigns lines i) (edition : ℕ) (labe
         left = sym (some-inj (u .1));
       }
 
-  join-removed : join-one edition lines i fam (to .expr) labels volatile ≡ some lines′ → Removed lines i lines′
+  join-removed : (parts : Bool) → join-one edition parts lines i fam (to .expr) labels volatile ≡ some lines′ → Removed lines i lines′
   unfolding join-one join-at rewrite-one
-  join-removed e =
+  join-removed parts e =
       let u = bind-some e in
       let j : ℕ = u .0 in
       let place = used lines ((lines at i) .indent) (fam .name) (to .expr) (is-some (call-at (lines at i))) volatile (suc i) (drop (suc i) lines) j refl (u .1) in
@@ -155,7 +155,7 @@ attempt-removed rules lines i labels addressed {lines′} e =
     let f = bind-some (a .2) in
     let s : Assigns lines i = record { to = a .0; fam = f .0; assignment-is = a .1; family-is = f .1 } in
     by-some (λ (o : Option Listing). o ≡ some lines′ → Removed lines i lines′)
-    (λ n u. join-removed s (rules .edition) labels (volatile rules) u)
+    (λ n u. join-removed s (rules .edition) labels (volatile rules) (rules .parts) u)
     (λ l h u. (let c = if-some (h ∙ u) in constant-removed s (rules .edition) labels (volatile rules) (c .0) (c .1)))
     (unless-some (f .2) .1)
 
@@ -198,9 +198,9 @@ module _ (edition : ℕ) (lines : Listing) (i : ℕ) (f : Fam) (expr : List Toke
         each = found-all lines i (suc i) (found .uses) (le-refl _) (gathered lines indent (f .name) volatile (suc i) (drop (suc i) lines) i refl);
       }
 
-  one-joined : join-one edition lines i f expr labels volatile ≡ some lines′ → Joined i (length lines) (one-use lines i f expr volatile)
+  one-joined : (parts : Bool) → join-one edition parts lines i f expr labels volatile ≡ some lines′ → Joined i (length lines) (one-use lines i f expr volatile)
   unfolding join-one let-some_else_then_
-  one-joined e =
+  one-joined parts e =
       let u = bind-some e in
       let place = used lines ((lines at i) .indent) (f .name) expr (is-some (call-at (lines at i))) volatile (suc i) (drop (suc i) lines) (u .0) refl (u .1) in
       rw (u .1) (record { some-line = omega arith; each = ((place .0, place .1), tt) })
@@ -226,6 +226,6 @@ module _ (rules : Rules) (lines : Listing) (i : ℕ) (labels : Labels) where
       by-targets (λ js. Joined i (length lines) js) (a .0) (f .0) (a .1) (f .1)
       (λ t. constant-joined (rules .edition) lines i (f .0) expr labels (volatile rules) (is-some-some constant (both t .1) .1))
       (λ t. by-some (λ (o : Option Listing). o ≡ some lines′ → Joined i (length lines) (one-use lines i (f .0) expr (volatile rules)))
-      (λ n u. one-joined (rules .edition) lines i (f .0) expr labels (volatile rules) u)
+      (λ n u. one-joined (rules .edition) lines i (f .0) expr labels (volatile rules) (rules .parts) u)
       (λ l h u. (let c = if-some h in absurd (true-false (pair (c .0) (ap is-some (c .1))) t)))
       (unless-some (f .2) .1))

@@ -16,8 +16,8 @@ use Rattle.reference.specs.Questions.{WORK, OUTPUT, Passed}
 use Rattle.reference.specs.Reply.{Reply, reply, report}
 use Rattle.reference.proofs.Opened.{opened}
 
-abbrev fam : String → ℕ → Option Fam
-fam s w = some (record { name = bytes s; width = w })
+abbrev fam : String → ℕ → ℕ → Option Fam
+fam s w l = some (record { name = bytes s; width = w; lowest = l })
 
 abbrev R : String → Token
 R s = token Register (bytes s)
@@ -41,7 +41,7 @@ abbrev made : ℕ → ℕ → ℕ → ℕ → ℕ → Counts
 made a b c r x = record { tally = three a b c; lines-removed = r; results-cut = x }
 
 abbrev convention-1 : Rules
-convention-1 = record { convention = 1; settle = false; edition = 0 }
+convention-1 = record { convention = 1; settle = false; edition = 0; parts = false }
 
 -- the finished listing under convention 1, and the counts
 abbrev cleans : Listing → Listing → Counts → Type 0
@@ -52,10 +52,10 @@ abbrev end-alone-reply : Reply
 end-alone-reply = reply convention-1 (0xFF ∷ []) WORK WORK OUTPUT
 
 pub record Starred : Type 0 where
-  pub ah : family (bytes "ah") ≡ fam "rax" 8
-  pub r8l : family (bytes "r8l") ≡ fam "r8" 8
+  pub ah : family (bytes "ah") ≡ fam "rax" 8 8
+  pub r8l : family (bytes "r8l") ≡ fam "r8" 8 0
   pub r8x : family (bytes "r8x") ≡ none
-  pub r99 : family (bytes "r99") ≡ fam "r99" 64
+  pub r99 : family (bytes "r99") ≡ fam "r99" 64 0
   pub all-ones : parse-c-number (bytes "0xffffffffffffffff") ≡ some (negsuc 0)
   pub ten : parse-c-number (bytes "010") ≡ some (pos 10)
   pub two-minuses : parse-c-number (bytes "--5") ≡ some (pos 5)
@@ -157,7 +157,7 @@ telling = record { labels-frozen = (refl, refl); steps-back = (refl, refl); word
 -- ---- a fourth round (M-112)
 
 abbrev settling-1 : Rules
-settling-1 = record { convention = 1; settle = true; edition = 0 }
+settling-1 = record { convention = 1; settle = true; edition = 0; parts = false }
 
 abbrev settles : Listing → Listing → Counts → Type 0
 settles before after c = (finished settling-1 before ≡ after) × (counts settling-1 (run settling-1 before) ≡ c)
@@ -208,7 +208,7 @@ fourth-round = record { three-rounds = (refl, refl); until-it-settles = (refl, r
 -- `rax = a;` and `rbx = rax + b;` become `rbx = ` and these tokens and `;`, in the edition
 abbrev joins-to : ℕ → String → String → List Token → Type 0
 joins-to edition a b made =
-    finished (record { convention = 1; settle = false; edition = edition })
+    finished (record { convention = 1; settle = false; edition = edition; parts = false })
     (line (R "rax" ∷ P " = " ∷ N a ∷ P ";" ∷ []) ∷ line (R "rbx" ∷ P " = " ∷ R "rax" ∷ P " + " ∷ N b ∷ P ";" ∷ []) ∷ [])
     ≡ line (R "rbx" ∷ P " = " ∷ (made ++ (P ";" ∷ []))) ∷ []
 
@@ -224,3 +224,42 @@ pub two-editions : TwoEditions
 unfolding opened
 two-editions =
     record { ten-by-the-rust = refl; eight-by-the-book = refl; unread-by-the-book = refl; unread-by-the-rust = refl; quotes-and-bits = refl }
+
+-- M-104: high byte and low byte, with the setting (`under-parts`) and without it (`cleans`)
+abbrev parts-1 : Rules
+parts-1 = record { convention = 1; settle = false; edition = 0; parts = true }
+
+abbrev under-parts : Listing → Listing → Counts → Type 0
+under-parts before after c = (finished parts-1 before ≡ after) × (counts parts-1 (run parts-1 before) ≡ c)
+
+-- an assignment `to = e;`
+abbrev sets : String → Token → Line
+sets to e = line (R to ∷ P " = " ∷ e ∷ P ";" ∷ [])
+
+pub record Bytes : Type 0 where
+  -- "8 for ah, bh, ch and dh, 0 otherwise"
+  pub dh : family (bytes "dh") ≡ fam "rdx" 8 8
+  pub al : family (bytes "al") ≡ fam "rax" 8 0
+  pub slot : family (bytes "var_8") ≡ fam "var_8" 64 0
+  -- "With it `ah = 5;` `bl = al;` is left standing; without it the Rust's reply holds."
+  pub flag-stands : under-parts (sets "ah" (N "5") ∷ sets "bl" (R "al") ∷ []) (sets "ah" (N "5") ∷ sets "bl" (R "al") ∷ []) (made 2 0 0 0 0)
+  pub flag-joins : cleans (sets "ah" (N "5") ∷ sets "bl" (R "al") ∷ []) (sets "bl" (N "5") ∷ []) (made 2 1 0 1 0)
+  -- the same part joins
+  pub same-part : under-parts (sets "ah" (R "rcx") ∷ sets "bl" (R "ah") ∷ []) (sets "bl" (R "rcx") ∷ []) (made 2 1 0 1 0)
+  -- a use of 32 bits or more goes as without the setting
+  pub wide-use : under-parts (sets "al" (N "5") ∷ sets "rbx" (R "rax") ∷ []) (sets "rbx" (N "5") ∷ []) (made 2 1 0 1 0)
+  pub high-wide-use : under-parts (sets "ah" (N "5") ∷ sets "ebx" (R "eax") ∷ []) (sets "ebx" (N "5") ∷ []) (made 2 1 0 1 0)
+
+pub high-and-low : Bytes
+unfolding opened
+high-and-low =
+    record {
+      dh = refl;
+      al = refl;
+      slot = refl;
+      flag-stands = (refl, refl);
+      flag-joins = (refl, refl);
+      same-part = (refl, refl);
+      wide-use = (refl, refl);
+      high-wide-use = (refl, refl);
+    }

@@ -13,6 +13,7 @@ pub mod Lines
 pub mod Changes
 pub mod Fits
 pub mod Attempts
+pub mod Parts
 pub mod Cuts
 pub mod Rounds
 pub mod Settling

@@ -161,6 +161,14 @@ rewrite-one edition pos expr l = with-tokens (fold edition (merge (replace-at (l
 unfoldable pub use-width : List Token → ℕ → ℕ
 use-width toks pos = let-some (get toks pos) else 64 then λ t. let-some (family (t .text)) else 64 then λ f. f .width
 
+unfoldable pub use-lowest : List Token → ℕ → ℕ
+use-lowest toks pos = let-some (get toks pos) else 0 then λ t. let-some (family (t .text)) else 0 then λ f. f .lowest
+
+-- M-104: "a use below 32 bits [..], if that use's width or lowest bit is not the assigned register's"
+unfoldable pub other-part : Fam → List Token → ℕ → Bool
+other-part f toks pos =
+    ltb (use-width toks pos) 32 && (not (eqb (use-width toks pos) (f .width)) || not (eqb (use-lowest toks pos) (f .lowest)))
+
 -- a use on the left of a compound operator is a write
 unfoldable pub is-compound : List Token → ℕ → Bool
 is-compound toks pos =
@@ -168,26 +176,28 @@ is-compound toks pos =
     && (let-some (get toks 1) else false then λ t.
     is Punct t && starts-with-operator (trim-start (t .text)) && not (starts-with (t .text) (bytes " = ")))
 
--- whether the use at `pos` may be replaced by an expression of this width
-unfoldable pub replaceable : Text → ℕ → List Token → ℕ → Bool
-replaceable fam width toks pos =
-    not ((ltb (use-width toks pos) 32 || ltb width 32) && not (eqb (use-width toks pos) width))
+-- whether the use at `pos` may be replaced by an expression that was assigned to f; M-104: "Under a new parts setting an attempt that
+-- would join" another part "fails, changing nothing"
+unfoldable pub replaceable : Bool → Fam → List Token → ℕ → Bool
+replaceable parts f toks pos =
+    not ((ltb (use-width toks pos) 32 || ltb (f .width) 32) && not (eqb (use-width toks pos) (f .width)))
+    && not (parts && other-part f toks pos)
     && not (is-compound toks pos)
-    && not (written-from fam toks)
+    && not (written-from (f .name) toks)
 
 -- line i joined into the use on line j
-unfoldable pub join-at : ℕ → Listing → ℕ → Fam → List Token → Labels → List Text → ℕ → Option Listing
-join-at edition lines i f expr labels volatile j =
+unfoldable pub join-at : ℕ → Bool → Listing → ℕ → Fam → List Token → Labels → List Text → ℕ → Option Listing
+join-at edition parts lines i f expr labels volatile j =
     if has-kw (lines at j) "while" || not (dead-after lines j (f .name) ((lines at i) .indent) labels i volatile) then none
     else let-some (position (of-family (f .name)) ((lines at j) .tokens)) else none then λ pos.
-    if replaceable (f .name) (f .width) ((lines at j) .tokens) pos
+    if replaceable parts f ((lines at j) .tokens) pos
     then some (remove i (modify j (rewrite-one edition pos expr) lines))
     else none
 
-unfoldable pub join-one : ℕ → Listing → ℕ → Fam → List Token → Labels → List Text → Option Listing
-join-one edition lines i f expr labels volatile =
+unfoldable pub join-one : ℕ → Bool → Listing → ℕ → Fam → List Token → Labels → List Text → Option Listing
+join-one edition parts lines i f expr labels volatile =
     let-some (use-from ((lines at i) .indent) (f .name) expr (is-some (call-at (lines at i))) volatile (suc i) (drop (suc i) lines)) else none then λ j.
-    join-at edition lines i f expr labels volatile j
+    join-at edition parts lines i f expr labels volatile j
 
 -- `if let [t] = expr.as_slice() { if t.k == TokenKind::Number`
 unfoldable pub lone-number : List Token → Bool
@@ -202,7 +212,7 @@ try-at rules lines i labels addressed =
     let-some (family (a .lhs .text)) else none then λ f.
     let constant : Option Listing =
     if lone-number (a .expr) then propagate-constant (rules .edition) lines i (f .name) (a .expr) labels (volatile rules) else none in
-    let joined : Option Listing = join-one (rules .edition) lines i f (a .expr) labels (volatile rules) in
+    let joined : Option Listing = join-one (rules .edition) (rules .parts) lines i f (a .expr) labels (volatile rules) in
     if has addressed (f .name) || any (of-family (f .name)) (a .expr) then none
     else let-some constant else joined then λ lines′. some lines′
 

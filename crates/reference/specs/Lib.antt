@@ -9,6 +9,7 @@ pub mod Numbers
 pub mod Shapes
 pub mod Life
 pub mod Join
+pub mod Parts
 pub mod Run
 pub mod Marks
 pub mod Tape

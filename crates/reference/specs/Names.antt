@@ -10,9 +10,10 @@ use Rattle.reference.specs.Lists.{position, is-empty}
 use Rattle.reference.specs.Text.{Text, bytes, has, strip-prefix, _==_, starts-with}
 use Rattle.reference.specs.Listing.{Token, is, Register}
 
--- a register family, named by its 64-bit register, and a width in bits
+-- what a name says: a register family, named by its 64-bit register, a width in bits, and (M-104) "the lowest bit of the part, 8 for ah,
+-- bh, ch and dh, 0 otherwise"
 abbrev pub Fam : Type 0
-Fam = record { name : Text; width : ℕ }
+Fam = record { name : Text; width : ℕ; lowest : ℕ }
 
 abbrev pub LEGACY : List (List Text)
 LEGACY =
@@ -32,7 +33,7 @@ legacy [] name = none
 legacy (names ∷ rest) name =
     let next = legacy rest name in
     let-some (position (_== name) names) else next then λ i.
-    some (record { name = getD names 0 []; width = getD (64 ∷ 32 ∷ 16 ∷ 8 ∷ []) i 0 })
+    some (record { name = getD names 0 []; width = getD (64 ∷ 32 ∷ 16 ∷ 8 ∷ []) i 0; lowest = 0 })
 
 abbrev pub is-digit : ℕ → Bool
 is-digit c = leb 48 c && leb c 57
@@ -52,7 +53,7 @@ suffix s =
 
 -- Stack variables behave like registers.
 unfoldable pub stack-slot : Text → Option Fam
-stack-slot name = if starts-with name (bytes "var_") then some (record { name = name; width = 64 }) else none
+stack-slot name = if starts-with name (bytes "var_") then some (record { name = name; width = 64; lowest = 0 }) else none
 
 -- `if let Some(rest) = name.strip_prefix('r') { .. }`, and what follows it
 unfoldable pub numbered : Text → Option Fam
@@ -61,13 +62,13 @@ numbered name =
     let digits : Text = digits-of rest in
     if is-empty digits then stack-slot name
     else let-some (suffix (drop (length digits) rest)) else none then λ w.
-    some (record { name = bytes "r" ++ digits; width = w })
+    some (record { name = bytes "r" ++ digits; width = w; lowest = 0 })
 
 -- `if matches!(name, "ah" | "bh" | "ch" | "dh") { .. }`, and what follows it
 unfoldable pub high-byte : Text → Option Fam
 high-byte name =
     if has (bytes "ah" ∷ bytes "bh" ∷ bytes "ch" ∷ bytes "dh" ∷ []) name
-    then some (record { name = bytes "r" ++ (getD name 0 0 ∷ []) ++ bytes "x"; width = 8 })
+    then some (record { name = bytes "r" ++ (getD name 0 0 ∷ []) ++ bytes "x"; width = 8; lowest = 8 })
     else numbered name
 
 unfoldable pub family : Text → Option Fam

@@ -12,6 +12,8 @@ pub record Rules : Type 0 where
   pub settle : Bool
   -- M-100: how numbers are read: 0 as the Rust does, 1 by ISO/IEC 9899:2024
   pub edition : ℕ
+  -- M-104: whether a use below 32 bits must be the assigned part
+  pub parts : Bool
 
 -- the families that a call overwrites
 abbrev pub volatile : Rules → List Text

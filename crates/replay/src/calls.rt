@@ -202,6 +202,7 @@ fn settings(list: &[u8]) -> Rules
         convention: (n % 256) as u8,
         settle: n / 256 % 2 == 1,
         edition: (n / 65536 % 256) as u8,
+        parts: n / 512 % 2 == 1,
     }
 }
 

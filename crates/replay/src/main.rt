@@ -68,8 +68,11 @@ fn print_class(class: u64) {
         8 => {
             print(b"marks: ");
         }
-        _ => {
+        9 => {
             print(b"editions: ");
+        }
+        _ => {
+            print(b"parts: ");
         }
     }
 }
@@ -128,7 +131,7 @@ fn run(list: &[u8]) {
         tapes: 0,
         differ: 0,
     };
-    while class < 10 {
+    while class < 11 {
         let counts = replayed(list, class);
         print_class(class);
         print_counts(counts);

@@ -130,15 +130,15 @@ module _ (tape area : Text) (w : ℕ) (p : Points tape area w) (n : code-of w �
     text-number : 36 ≤ c → is-row (coded-name c (text-of tape area w)) ≡ false
     text-number h = no-row (coded-name c (text-of tape area w)) (omega (arith, here .number-is))
 
-    pub decoded-row : c < 36 → Names tape area (family (text-of tape area w)) (As (c / 4 - 1) k)
+    pub decoded-row : c < 36 → Names tape area (family (text-of tape area w)) (As (c / 4 - 1) k 0)
     decoded-row h = row-names tape area (omega (arith, here .least)) (rw (ek, ← name-row c (text-of tape area w) h) (sym (here .family-is)))
 
-    pub decoded-whole : 36 ≤ c → c % 4 ≡ 0 → Names tape area (family (text-of tape area w)) (As w k)
+    pub decoded-whole : 36 ≤ c → c % 4 ≡ 0 → Names tape area (family (text-of tape area w)) (As w k 0)
     decoded-whole h e =
         let t : coded-name c (text-of tape area w) ≡ text-of tape area w = name-whole c (text-of tape area w) h e in
-        word-names tape area _ p (ap is-row (sym t) ∙ text-number h) (rw ek (ap (λ (x : Text). some (record { name = x; width = coded-width c })) (sym t) ∙ sym (here .family-is)))
+        word-names tape area _ p (ap is-row (sym t) ∙ text-number h) (rw ek (ap (λ (x : Text). some (record { name = x; width = coded-width c; lowest = 0 })) (sym t) ∙ sym (here .family-is)))
 
-    pub decoded-front : 36 ≤ c → (c % 4 ≡ 0 → ⊥) → {v : ℕ} → v ≡ first-bytes w (len-of w - 1) → Names tape area (family (text-of tape area w)) (As v k)
+    pub decoded-front : 36 ≤ c → (c % 4 ≡ 0 → ⊥) → {v : ℕ} → v ≡ first-bytes w (len-of w - 1) → Names tape area (family (text-of tape area w)) (As v k 0)
     decoded-front h m {v} ev =
         let b : len-of w - 1 ≤ len-of w = omega arith in
         let l : length (text-of tape area w) - 1 ≡ len-of w - 1 = ap (λ (x : ℕ). x - 1) (text-length p) in
@@ -187,7 +187,7 @@ width-place a b h k e = sym (width-back a h) ∙ ap back e ∙ width-back b k
 pub one-code : {a b : ℕ} {s : Text} → Says a s → Says b s → a ≡ b
 unfolding coded-width
 one-code {a} {b} {s} f g =
-    let e : _≡_ {A = NFam} (record { name = coded-name a s; width = coded-width a }) (record { name = coded-name b s; width = coded-width b }) = some-inj (sym (f .family-is) ∙ g .family-is) in
+    let e : _≡_ {A = NFam} (record { name = coded-name a s; width = coded-width a; lowest = 0 }) (record { name = coded-name b s; width = coded-width b; lowest = 0 }) = some-inj (sym (f .family-is) ∙ g .family-is) in
     let n : coded-name a s ≡ coded-name b s = ap (λ (x : NFam). x .name) e in
     let m : a / 4 - 1 ≡ b / 4 - 1 = f .number-is ∙ ap family-number n ∙ sym (g .number-is) in
     let k : a % 4 ≡ b % 4 = width-place (a % 4) (b % 4) (omega arith) (omega arith) (ap (λ (x : NFam). x .width) e) in
@@ -218,11 +218,14 @@ spelled-as h e = rw e at h
 pub spelled-wide : {s : Text} {q : Spelled} {n w : ℕ} → Spells s (family s) q → q ≡ Front n w → w ≡ 64 → Spells s (family s) (Front n 64)
 spelled-wide h e f = rw (e, f) at h
 
+pub spelled-low : {s : Text} {q : Spelled} {r w l : ℕ} → Spells s (family s) q → q ≡ InRow r w l → l ≡ 0 → Spells s (family s) (InRow r w 0)
+spelled-low h e f = rw (e, f) at h
+
 pub no-code : (s : Text) → Codes s 0
 no-code s = record { small = omega arith; true = inl refl }
 
 module _ {s : Text} where
-  pub code-row : {r w x : ℕ} (k : ℕ) → Spells s (family s) (InRow r w) → (length s ≡ 0 → ⊥) → k < 4 → w ≡ getD WIDTHS k 0 → x ≡ 4 + 4 * r + k → Codes s x
+  pub code-row : {r w x : ℕ} (k : ℕ) → Spells s (family s) (InRow r w 0) → (length s ≡ 0 → ⊥) → k < 4 → w ≡ getD WIDTHS k 0 → x ≡ 4 + 4 * r + k → Codes s x
   unfolding coded-width
   code-row {r} {w} k h n b e ex = rw ex (
       let i : r < 8 = h .sound in
@@ -259,4 +262,4 @@ module _ {s : Text} where
       })
 
 -- `search (needs, coding)` proves what the functions on codes leave
-pub ruleset coding = (refl, bucket-short, bucket-long, has-byte, has-place, decoded-row, decoded-whole, decoded-front, codes-differ, same-by, no-code, code-whole, spelled-as, spelled-wide)
+pub ruleset coding = (refl, bucket-short, bucket-long, has-byte, has-place, decoded-row, decoded-whole, decoded-front, codes-differ, same-by, no-code, code-whole, spelled-as, spelled-wide, spelled-low)

@@ -94,44 +94,44 @@ fam-overwritten tape area c f k = row-or-name f
 
 -- ---- names
 
-same-as : {f g : Fam} {k l : ℕ} → As f k ≡ As g l → f ≡ g
+same-as : {f g : Fam} {k l m n : ℕ} → As f k m ≡ As g l n → f ≡ g
 same-as e = cc
 
-never-as : {f : Fam} {k : ℕ} {X : Type 0} → Nothing ≡ As f k → X
+never-as : {f : Fam} {k l : ℕ} {X : Type 0} → Nothing ≡ As f k l → X
 never-as e = absurd (let z : _≡_ {A = ℕ} 0 1 = cc in omega arith)
 
 -- what a caller knows of the answer
 module _ {tape area : Text} {o : Option N.Fam} {r : Named} (h : Names tape area o r) where
-  pub named-as : {f : Fam} {k : ℕ} → r ≡ As f k → o ≡ some (record { name = fam-text tape area f; width = k })
+  pub named-as : {f : Fam} {k l : ℕ} → r ≡ As f k l → o ≡ some (record { name = fam-text tape area f; width = k; lowest = l })
   named-as e = rw (← h .is, e)
 
   pub named-not : r ≡ Nothing → o ≡ none
   named-not e = rw (← h .is, e)
 
-  pub as-known : {f : Fam} {k : ℕ} → r ≡ As f k → Known tape area f
-  as-known {f} {k} e = h .known f k e
+  pub as-known : {f : Fam} {k l : ℕ} → r ≡ As f k l → Known tape area f
+  as-known {f} {k} {l} e = h .known f k l e
 
 -- and the answers that are made
 module _ (tape area : Text) where
   no-name : Names tape area none Nothing
-  no-name = record { is = refl; known = λ f k e. never-as e }
+  no-name = record { is = refl; known = λ f k l e. never-as e }
 
-  pub row-names : {r k : ℕ} {o : Option N.Fam} → r < 8 → some (record { name = row-name r; width = k }) ≡ o → Names tape area o (As r k)
-  row-names {r} h e = record { is = rw (fam-row tape area {f = r} h) e; known = λ f l i. rw (sym (same-as i)) (row-known tape area h) }
+  pub row-names : {r k l : ℕ} {o : Option N.Fam} → r < 8 → some (record { name = row-name r; width = k; lowest = l }) ≡ o → Names tape area o (As r k l)
+  row-names {r} h e = record { is = rw (fam-row tape area {f = r} h) e; known = λ f l m i. rw (sym (same-as i)) (row-known tape area h) }
 
-  pub word-names : {w k : ℕ} (s : Text) → Points tape area w → is-row (text-of tape area w) ≡ false
-      → some (record { name = text-of tape area w; width = k }) ≡ family s → Names tape area (family s) (As w k)
+  pub word-names : {w k l : ℕ} (s : Text) → Points tape area w → is-row (text-of tape area w) ≡ false
+      → some (record { name = text-of tape area w; width = k; lowest = l }) ≡ family s → Names tape area (family s) (As w k l)
   word-names {w} s p n e =
       let h = name-least w (omega (arith, text-length p, some-byte s _ (sym e))) in
-      record { is = rw (fam-name tape area {f = w} h) e; known = λ f l i. rw (sym (same-as i)) (record { points = λ _. p; no-row = λ _. n }) }
+      record { is = rw (fam-name tape area {f = w} h) e; known = λ f l m i. rw (sym (same-as i)) (record { points = λ _. p; no-row = λ _. n }) }
 
 -- s is the token's text, q what its bytes say
 module _ (tape area : Text) (w : ℕ) {s : Text} (es : s ≡ text-of tape area w) {q : Spelled} (h : Spells s (family s) q) where
-  pub named-row : {r k : ℕ} → q ≡ InRow r k → Names tape area (family (text-of tape area w)) (As r k)
+  pub named-row : {r k l : ℕ} → q ≡ InRow r k l → Names tape area (family (text-of tape area w)) (As r k l)
   named-row e = let g = rw e at h in row-names tape area (g .sound) (g .is ∙ ap family es)
 
   pub named-none : q ≡ Unspelled → Names tape area (family (text-of tape area w)) Nothing
-  named-none e = let g = rw e at h in record { is = g .is ∙ ap family es; known = λ f l i. never-as i }
+  named-none e = let g = rw e at h in record { is = g .is ∙ ap family es; known = λ f l m i. never-as i }
 
   module _ (p : Points tape area w) {n k : ℕ} (e : q ≡ Front n k) where
     front : Spells s (family s) (Front n k)
@@ -140,7 +140,7 @@ module _ (tape area : Text) (w : ℕ) {s : Text} (es : s ≡ text-of tape area w
     pub front-inside : n ≤ len-of w
     front-inside = omega (arith, front .sound .0, ap length es, text-length p)
 
-    pub named-front : {v : ℕ} → v ≡ first-bytes w n → Names tape area (family (text-of tape area w)) (As v k)
+    pub named-front : {v : ℕ} → v ≡ first-bytes w n → Names tape area (family (text-of tape area w)) (As v k 0)
     named-front i =
         let t : text-of tape area (first-bytes w n) ≡ take n s = ap (λ (x : Token). x .text) (first-bytes-means tape area w n p front-inside) ∙ rw es in
         rw i (word-names tape area _ (first-bytes-points tape area w n p front-inside) (rw t (front .sound .1)) (rw t (front .is ∙ ap family es)))
@@ -176,7 +176,7 @@ module _ (tape area : Text) (w : ℕ) {r : Named} (h : Names tape area (fam-of (
   unfolding is-narrow let-some_else_then_
   narrow-none e = rw (← h .is, e)
 
-  module _ {g : Fam} {k : ℕ} (e : r ≡ As g k) where
+  module _ {g : Fam} {k m : ℕ} (e : r ≡ As g k m) where
     pub narrow-wide : 32 ≤ k → false ≡ is-narrow fam (token-of tape area w)
     unfolding is-narrow let-some_else_then_
     narrow-wide l = rw (← h .is, e, le-ltb k 32 l) (sym (and-false (fam-text tape area g == fam)))

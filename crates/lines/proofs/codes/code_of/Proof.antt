@@ -13,14 +13,17 @@ enum-known-row c = search needs
 row-code-requires : tie.Need-row-code-requires
 row-code-requires c κs = search (needs, coding)
 
+returns : tie.Need-returns
+returns c = search (needs, coding)
+
 enum-known-n : tie.Need-enum-known-n
 enum-known-n c = search needs
 
 whole-code-requires : tie.Need-whole-code-requires
 whole-code-requires c κs = search (needs, coding)
 
-returns : tie.Need-returns
-returns c = search needs
+returns-2 : tie.Need-returns-2
+returns-2 c = search (needs, coding)
 
 front-code-requires : tie.Need-front-code-requires
 front-code-requires c κs = search (needs, coding)
@@ -28,14 +31,14 @@ front-code-requires c κs = search (needs, coding)
 enum-told : tie.Need-enum-told
 enum-told c = search needs
 
-returns-2 : tie.Need-returns-2
-returns-2 c = search needs
-
 returns-3 : tie.Need-returns-3
-returns-3 c = search needs
+returns-3 c = search (needs, coding)
 
 returns-4 : tie.Need-returns-4
 returns-4 c = search (needs, coding)
+
+returns-5 : tie.Need-returns-5
+returns-5 c = search (needs, coding)
 
 pub code-of-spec : {M : Type 1} → statement M
 code-of-spec =
@@ -44,11 +47,12 @@ code-of-spec =
     family-requires
     enum-known-row
     row-code-requires
+    returns
     enum-known-n
     whole-code-requires
-    returns
+    returns-2
     front-code-requires
     enum-told
-    returns-2
     returns-3
-    returns-4)
+    returns-4
+    returns-5)
