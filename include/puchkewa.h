@@ -1,8 +1,10 @@
-/* Puchkewa: cleans a listing of pseudocode. One call: a tape in, the cleaned tape out. What a tape is: docs/TAPE.md.
+/* Puchkewa: cleans a listing of pseudocode, a tape in, the cleaned tape out; and brings one from one edition of C to the other. What a tape is:
+ * docs/TAPE.md.
  *
- * The function is proved to meet what is said here, for every input (crates/puchkewa/src/export.rt, its promise `Cleans` in
- * crates/clean/specs/Replies.antt). It keeps no state, allocates nothing and calls nothing of C but memset. Not proved, but measured: it takes
- * about 105,000 bytes of stack. Calls in several threads are safe where they share no memory that one of them writes.
+ * Each function is proved to meet what is said here, for every input (crates/puchkewa/src; the promise of the cleaning is `Cleans` in
+ * crates/clean/specs/Replies.antt, that of a call that writes a tape is `WritesTold` in crates/answers/specs/Answers.antt). They keep no state,
+ * allocate nothing and call nothing of C but memset. Not proved, but measured: the cleaning takes about 105,000 bytes of stack. Calls in several
+ * threads are safe where they share no memory that one of them writes.
  *
  * Link with target/staticlib/libpuchkewa.a, which `rt staticlib puchkewa` writes (x86-64 Linux). */
 #ifndef PUCHKEWA_H
@@ -17,7 +19,7 @@ extern "C" {
 #endif
 
 /* The version of the interface and of what it does: a change of either changes it. */
-#define PUCHKEWA_VERSION "0.8.0"
+#define PUCHKEWA_VERSION "0.9.0"
 
 /* The least that each work area and the output must have, in bytes. 59,137 bytes are enough for the output of every tape. */
 #define PUCHKEWA_WORK 49152
@@ -61,7 +63,10 @@ enum puchkewa_refusal {
     PUCHKEWA_AFTER_END = 8,          /* bytes after the end command FF */
     PUCHKEWA_BAD_EDITION = 9,        /* the edition is not 0 or 1 */
     PUCHKEWA_TOO_MANY = 10,          /* more than 256 lines or 1,024 tokens */
-    PUCHKEWA_TOO_MUCH_TEXT = 11      /* more than 24,576 bytes of text */
+    PUCHKEWA_TOO_MUCH_TEXT = 11,     /* more than 24,576 bytes of text */
+    PUCHKEWA_NEW_KEYWORD = 12,       /* puchkewa_to_2024: a Symbol that is a keyword of C's edition of 2024 and was none in 2018 */
+    PUCHKEWA_NEW_NUMBER = 13         /* puchkewa_to_2018: a Number that begins 0b or 0B after at most one minus, or holds a ', and is not read by
+                                        the 2024 edition */
 };
 
 /* What a call did. */
@@ -96,6 +101,29 @@ struct puchkewa_report puchkewa_clean(struct puchkewa_settings settings,
                                       uint8_t *work_a, size_t work_a_length,
                                       uint8_t *work_b, size_t work_b_length,
                                       uint8_t *out, size_t out_length);
+
+/* What a call beside the cleaning answers. */
+struct puchkewa_answer {
+    uint64_t refusal; /* 0, or the number of the question that refused: enum puchkewa_refusal */
+    uint64_t place;   /* of a refusal: where, as in puchkewa_report; 0 for 2 */
+    uint64_t value;   /* where nothing refused: what the call says of its answer; otherwise 0 */
+};
+
+/* Between C's editions of 2018 and 2024: the tape of a listing for the one, made a tape for the other.
+ *
+ * puchkewa_to_2018: Numbers that the 2024 edition reads lose their quotes, and binary ones become hexadecimal in small letters without leading
+ * zeros, behind their minus if they have one: 0b1010 is 0xa. Their values by the 2024 edition stay the same, and no text grows.
+ * puchkewa_to_2024: nothing changes; a listing that uses a new keyword as a name is refused.
+ * Kinds, lines, marks (03) and all other texts are kept.
+ *
+ * tape          the tape: tape_length bytes, only read.
+ * out           the output: out_length bytes, at least as many as the tape has; otherwise 2.
+ *
+ * First 2 is asked, then the questions of the tape (3 to 8, 10 and 11), then 13 or 12 of each command from the left. `value` is the length of the
+ * new tape; the first `value` bytes of the output are that tape and its other bytes are as before. When refused, nothing that was lent is
+ * changed. The tape and the output must not overlap, and no pointer may be null. */
+struct puchkewa_answer puchkewa_to_2018(const uint8_t *tape, size_t tape_length, uint8_t *out, size_t out_length);
+struct puchkewa_answer puchkewa_to_2024(const uint8_t *tape, size_t tape_length, uint8_t *out, size_t out_length);
 
 #ifdef __cplusplus
 }

@@ -30,11 +30,11 @@ use Rattle.books.proofs.Grammar2024.{decimal-is, octal-is, hexadecimal-
 unquoted-as : (G : Text → Type 0) (s : Text) (c : ℕ) → G (s ++ [] ++ (c ∷ [])) → G (s ++ (c ∷ []))
 unquoted-as G s c g = rw append-nil at g
 
-still-decimal : {s : Text} {n : ℕ} → edition-2018.Decimal s n → Decimal s n
+pub still-decimal : {s : Text} {n : ℕ} → edition-2018.Decimal s n → Decimal s n
 still-decimal (edition-2018.nonzero-digit h) = nonzero-digit h
 still-decimal (edition-2018.then-digit {s} {n} {c} {d} r h) = unquoted-as (λ t. Decimal t (n * 10 + d)) s c (then-digit (still-decimal r) (0, refl) h)
 
-still-octal : {s : Text} {n : ℕ} → edition-2018.Octal s n → Octal s n
+pub still-octal : {s : Text} {n : ℕ} → edition-2018.Octal s n → Octal s n
 still-octal edition-2018.zero-digit = zero-digit
 still-octal (edition-2018.then-octal {s} {n} {c} {d} r h) = unquoted-as (λ t. Octal t (n * 8 + d)) s c (then-octal (still-octal r) (0, refl) h)
 
@@ -56,7 +56,7 @@ split {prefix} (edition-2018.then-hexadecimal {s} {n} {c} {d} r h) = one-more (s
           digits = unquoted-as (λ t. HexadecimalDigits t (n * 16 + d)) (q .rest) c (then-hexadecimal (q .digits) (0, refl) h);
         }
 
-still-hexadecimal : {p s : Text} {n : ℕ} → p ∈ edition-2018.hexadecimal-prefixes → edition-2018.Hexadecimal p s n → Hexadecimal s n
+pub still-hexadecimal : {p s : Text} {n : ℕ} → p ∈ edition-2018.hexadecimal-prefixes → edition-2018.Hexadecimal p s n → Hexadecimal s n
 still-hexadecimal {n = n} m r = let q = split r in subst⁻¹ (λ (t : Text). Hexadecimal t n) (q .whole) (prefix-digits m (q .digits))
 
 still-unsuffixed : {s : Text} {n : ℕ} → edition-2018.Unsuffixed s n → Unsuffixed s n

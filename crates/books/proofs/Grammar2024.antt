@@ -67,14 +67,14 @@ hexadecimal-spells (then-hexadecimal {c = c} r q h) =
     spells-more 16 no-quote-16 c (at-each (read-as 16) value hexadecimal-digits hexadecimal-digits-are h) (hexadecimal-spells r) q
 
 -- a prefix, and a row behind it
-record Behind (prefixes : List Text) (base : ℕ) (s : Text) (n : ℕ) : Type 0 where
-  prefix : Text
-  rest : Text
-  known : prefix ∈ prefixes
-  whole : s ≡ prefix ++ rest
-  spells : Spells base rest n
+pub record Behind (prefixes : List Text) (base : ℕ) (s : Text) (n : ℕ) : Type 0 where
+  pub prefix : Text
+  pub rest : Text
+  pub known : prefix ∈ prefixes
+  pub whole : s ≡ prefix ++ rest
+  pub spells : Spells base rest n
 
-binary-spells : {s : Text} {n : ℕ} → Binary s n → Behind binary-prefixes 2 s n
+pub binary-spells : {s : Text} {n : ℕ} → Binary s n → Behind binary-prefixes 2 s n
 binary-spells (prefix-digit {p} {c} m h) =
     record { prefix = p; rest = c ∷ []; known = m; whole = refl; spells = spells-one 2 no-quote-2 c (at-each (read-as 2) value binary-digits binary-digits-are h) }
 binary-spells (then-binary {s} {q} {n} {c} {d} r m h) = one-more (binary-spells r)
@@ -96,7 +96,7 @@ unfolding _&&_
 decimal-begins (nonzero-digit h) p t = rw (at-each (λ e. eqb (e .0) 48) (λ e. false) nonzero-digits no-zero h)
 decimal-begins (then-digit {s} {q} {c = c} r m h) p t = rw (append-assoc (s ++ q) (c ∷ []) t, append-assoc s q (c ∷ t)) (decimal-begins r p (q ++ c ∷ t))
 
-decimal-base : {s : Text} {n : ℕ} → Decimal s n → base-of s ≡ 10
+pub decimal-base : {s : Text} {n : ℕ} → Decimal s n → base-of s ≡ 10
 unfolding base-of if_then_else_ _||_
 decimal-base {s} r =
     let b : (p : Text) → starts-with s (48 ∷ p) ≡ false = λ p. rw append-nil at (decimal-begins r p []) in
@@ -166,7 +166,7 @@ letters : map prefix-letter (bytes "xXbB") ≡ true ∷ true ∷ true ∷ true �
 unfolding opened
 letters = refl
 
-octal-base : {s : Text} {n : ℕ} → Octal s n → base-of s ≡ 8
+pub octal-base : {s : Text} {n : ℕ} → Octal s n → base-of s ≡ 8
 unfolding base-of if_then_else_ _||_
 octal-base {s} r =
     let z = begins-with-zero r in
@@ -183,12 +183,12 @@ read-row s base {n} b r = read-constant-is s (r .digits) {n = n} (rw b (r .witho
 pub pos-is : (n : ℕ) → n < 2 ^ 63 → as-i64 n ≡ pos n
 pos-is n h = as-i64-is n (omega arith) ∙ rw (lt-ltb n (2 ^ 63) h) refl
 
-base-hexadecimal : (p s : Text) → p ∈ hexadecimal-prefixes → (base-of (p ++ s) ≡ 16) × (drop 2 (p ++ s) ≡ s)
+pub base-hexadecimal : (p s : Text) → p ∈ hexadecimal-prefixes → (base-of (p ++ s) ≡ 16) × (drop 2 (p ++ s) ≡ s)
 base-hexadecimal p s (zero, e) = rw (← (some-inj e)) (base-0x s, refl)
 base-hexadecimal p s (suc zero, e) = rw (← (some-inj e)) (base-0X s, refl)
 base-hexadecimal p s (suc (suc i), e) = absurd (none-some e)
 
-base-binary : (p s : Text) → p ∈ binary-prefixes → (base-of (p ++ s) ≡ 2) × (drop 2 (p ++ s) ≡ s)
+pub base-binary : (p s : Text) → p ∈ binary-prefixes → (base-of (p ++ s) ≡ 2) × (drop 2 (p ++ s) ≡ s)
 base-binary p s (zero, e) = rw (← (some-inj e)) (base-0b s, refl)
 base-binary p s (suc zero, e) = rw (← (some-inj e)) (base-0B s, refl)
 base-binary p s (suc (suc i), e) = absurd (none-some e)
@@ -236,7 +236,7 @@ module _ (p : ℕ → Bool) (q : any p (bytes "'") ≡ false) (d : Free p nonzer
   unsuffixed-free (hexadecimal r) = hexadecimal-free p q x e r
   unsuffixed-free (binary r) = binary-free p q b u r
 
-sized-constant : {s : Text} {z : ℤ} → Sized s z → (n : ℕ) × Unsuffixed s n
+pub sized-constant : {s : Text} {z : ℤ} → Sized s z → (n : ℕ) × Unsuffixed s n
 sized-constant (small-decimal {n = n} r h) = (n, decimal r)
 sized-constant (small-octal {n = n} r h) = (n, octal r)
 sized-constant (small-hexadecimal {n = n} r h) = (n, hexadecimal r)
@@ -261,7 +261,7 @@ no-minus (c ∷ s) f = by (eqb c 45) refl
 pub unsuffixed-plain : {s : Text} {n : ℕ} → Unsuffixed s n → starts-with s (bytes "-") ≡ false
 unsuffixed-plain {s} r = no-minus s (unsuffixed-unsigned r)
 
-in-edition-1 : (s : Text) → read-number 1 s ≡ parse-2024 s
+pub in-edition-1 : (s : Text) → read-number 1 s ≡ parse-2024 s
 unfolding read-number if_then_else_
 in-edition-1 s = refl
 
@@ -280,7 +280,7 @@ in-octal-digits : {c d : ℕ} → to-digit 8 c ≡ some d → (c, d) ∈ octal-d
 unfolding opened
 in-octal-digits = in-table 8 octal-digits (omega arith) refl
 
-in-hexadecimal-digits : {c d : ℕ} → to-digit 16 c ≡ some d → (c, d) ∈ hexadecimal-digits
+pub in-hexadecimal-digits : {c d : ℕ} → to-digit 16 c ≡ some d → (c, d) ∈ hexadecimal-digits
 unfolding opened
 in-hexadecimal-digits = in-table 16 hexadecimal-digits (omega arith) refl
 
@@ -295,7 +295,7 @@ data Based (s : Text) : ℕ → Type 0 where
   eight : starts-with s (bytes "0") ≡ true → Based s 8
   ten : starts-with s (bytes "0") ≡ false → Based s 10
 
-begins : (s p : Text) → starts-with s p ≡ true → s ≡ p ++ drop (length p) s
+pub begins : (s p : Text) → starts-with s p ≡ true → s ≡ p ++ drop (length p) s
 begins s [] h = refl
 begins [] (y ∷ p) h = absurd (false≢true h)
 begins (x ∷ s) (y ∷ p) h = λ k. eqb-true x y (both h .0) k ∷ begins s p (both h .1) k

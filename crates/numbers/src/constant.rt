@@ -26,7 +26,7 @@ fn begins_hexadecimal(s: &[u8]) -> bool
     starts(s, b"0x") || starts(s, b"0X")
 }
 
-fn begins_binary(s: &[u8]) -> bool
+pub fn begins_binary(s: &[u8]) -> bool
     ensures { λ r. ⌜ r ≡ (starts-with (now (s .entry)) (bytes "0b") || starts-with (now (s .entry)) (bytes "0B")) ⌝ }
 {
     starts(s, b"0b") || starts(s, b"0B")
@@ -44,7 +44,7 @@ fn past_quote(s: &[u8], i: usize) -> usize
 }
 
 // One digit or more, of a number that is at most `most`. At i a digit must stand.
-fn row(s: &[u8], radix: u64, most: u64) -> Natural
+pub fn row(s: &[u8], radix: u64, most: u64) -> Natural
     requires { ⌜ radix ≤ 36 ⌝ }
     ensures { λ r. ⌜ natural-meaning r ≡ at-most most (constants.row radix (now (s .entry))) ⌝ }
 {

@@ -17,7 +17,7 @@ fn last_digit(v: u64) -> u8
 }
 
 // Writes the hexadecimal digits at `at`, and says where they end.
-fn put_digits(v: u64, out: &mut [u8], at: usize) -> usize
+pub fn put_digits(v: u64, out: &mut [u8], at: usize) -> usize
     requires { ⌜ at + length (hexadecimal v) ≤ length (now out) ⌝ }
     ensures { λ r. ⌜ Written (now (out .entry)) at (hexadecimal v) (now (out .exit)) r ⌝ }
 {

@@ -1,7 +1,11 @@
 // The library: every entry, for Rattle by `use`, for C and Rust in the archive (include/puchkewa.h). An archive holds only the exports of the crate that
 // it is made of, so all of them are declared here; the work is done in the crates below.
-mod export; // the entries for C and Rust
+mod export; // the cleaning, for C and Rust
+mod export_editions; // between the two C editions, for C and Rust
 
+pub use answers::Answer;
 pub use clean::Reply;
 pub use clean::clean;
+pub use editions::to_2018;
+pub use editions::to_2024;
 pub use lines::rules::Rules;

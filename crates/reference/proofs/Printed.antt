@@ -52,19 +52,19 @@ module _ (base : ℕ) (two : 2 ≤ base) (small : base ≤ 16) where
 
 -- ---- hexadecimal digits
 
-hexadecimal : ℕ → Text
+unfoldable pub hexadecimal : ℕ → Text
 hexadecimal n = digits 16 16 n []
 
-no-quote : to-digit 16 39 ≡ none
+pub no-quote : to-digit 16 39 ≡ none
 unfolding opened
 no-quote = refl
 
 module _ (n : ℕ) (h : n < 2 ^ 64) where
-  comes-to : digits-value 16 0 (hexadecimal n) ≡ some n
+  pub comes-to : digits-value 16 0 (hexadecimal n) ≡ some n
   unfolding hexadecimal digits-value
   comes-to = digits-back 16 (omega arith) (omega arith) 16 n [] h
 
-  some-digit : is-empty (hexadecimal n) ≡ false
+  pub some-digit : is-empty (hexadecimal n) ≡ false
   unfolding hexadecimal digits
   some-digit = by-if (λ (t : Text). is-empty t ≡ false) (λ e. refl) (λ e. filled 16 (omega arith) (omega arith) 15 (n / 16) (digit-byte (n % 16)) [])
 
