@@ -1,9 +1,9 @@
-/* Puchkewa: cleans a listing of pseudocode, a tape in, the cleaned tape out; and brings one from one edition of C to the other. What a tape is:
- * docs/TAPE.md.
+/* Puchkewa: cleans a listing of pseudocode, a tape in, the cleaned tape out; brings one from one edition of C to the other; keeps named states
+ * of one. What a tape is: docs/TAPE.md.
  *
  * Each function is proved to meet what is said here, for every input (crates/puchkewa/src; the promise of the cleaning is `Cleans` in
  * crates/clean/specs/Replies.antt, that of a call that writes a tape is `WritesTold` in crates/answers/specs/Answers.antt). They keep no state,
- * allocate nothing and call nothing of C but memset. Not proved, but measured: the cleaning takes about 105,000 bytes of stack. Calls in several
+ * allocate nothing and call nothing of C but memset and memcpy. Not proved, but measured: the cleaning takes about 105,000 bytes of stack. Calls in several
  * threads are safe where they share no memory that one of them writes.
  *
  * Link with target/staticlib/libpuchkewa.a, which `rt staticlib puchkewa` writes (x86-64 Linux). */
@@ -19,11 +19,15 @@ extern "C" {
 #endif
 
 /* The version of the interface and of what it does: a change of either changes it. */
-#define PUCHKEWA_VERSION "0.9.0"
+#define PUCHKEWA_VERSION "0.10.0"
 
 /* The least that each work area and the output must have, in bytes. 59,137 bytes are enough for the output of every tape. */
 #define PUCHKEWA_WORK 49152
 #define PUCHKEWA_OUTPUT 59137
+
+/* Named states: the least that the store must have, and the output of coming back. */
+#define PUCHKEWA_STORE 524288
+#define PUCHKEWA_RESTORED 65523
 
 /* The calling convention of the listed code: which registers a call overwrites. */
 enum puchkewa_convention {
@@ -65,8 +69,11 @@ enum puchkewa_refusal {
     PUCHKEWA_TOO_MANY = 10,          /* more than 256 lines or 1,024 tokens */
     PUCHKEWA_TOO_MUCH_TEXT = 11,     /* more than 24,576 bytes of text */
     PUCHKEWA_NEW_KEYWORD = 12,       /* puchkewa_to_2024: a Symbol that is a keyword of C's edition of 2024 and was none in 2018 */
-    PUCHKEWA_NEW_NUMBER = 13         /* puchkewa_to_2018: a Number that begins 0b or 0B after at most one minus, or holds a ', and is not read by
+    PUCHKEWA_NEW_NUMBER = 13,        /* puchkewa_to_2018: a Number that begins 0b or 0B after at most one minus, or holds a ', and is not read by
                                         the 2024 edition */
+    PUCHKEWA_NOT_HELD = 20,          /* named states: no state is held under the name */
+    PUCHKEWA_STORE_FULL = 21,        /* named states: the name is new, and eight states are held */
+    PUCHKEWA_STORE_DAMAGED = 22      /* named states: a cell that no call leaves so; the place is its number from 0 */
 };
 
 /* What a call did. */
@@ -124,6 +131,27 @@ struct puchkewa_answer {
  * changed. The tape and the output must not overlap, and no pointer may be null. */
 struct puchkewa_answer puchkewa_to_2018(const uint8_t *tape, size_t tape_length, uint8_t *out, size_t out_length);
 struct puchkewa_answer puchkewa_to_2024(const uint8_t *tape, size_t tape_length, uint8_t *out, size_t out_length);
+
+/* Named states of a listing: up to eight tapes, each under a name of 8 bytes (any bytes), in a lent store.
+ *
+ * store         PUCHKEWA_STORE bytes or more, of which the first 524,288 are used: eight cells of 65,536. A cell is a byte 0 (free) or 1 (held), the
+ *               name, the tape's length in 4 bytes, the lowest first, and the tape. A store whose bytes are all 0 holds nothing.
+ * name          8 bytes, only read.
+ *
+ * Questions: 2 (a shorter store, or on coming back an output below PUCHKEWA_RESTORED bytes), then 22; saving: the tape's, then 21; coming back and
+ * deleting: 20. When refused, nothing that was lent is changed.
+ *
+ * puchkewa_save     saves a tape: in the cell that is held under the name (length and tape are written, and what a longer one left behind it stays), or in
+ *                   the first free cell. `value` is 0. No other byte changes.
+ * puchkewa_restore  copies the tape that is held under the name to the front of the output, as it stands, unasked; `value` is its length. The output past
+ *                   it is as before, and so is the store.
+ * puchkewa_delete   sets the first byte of the name's cell to 0, and nothing else. `value` is 0.
+ *
+ * While only these calls write the store, what comes back is the tape last saved under that name, and no store that they made earns 22. Store, name, tape and
+ * output must not overlap, and no pointer may be null. (crates/puchkewa/src/export_states.rt, definitions in crates/states/specs.) */
+struct puchkewa_answer puchkewa_save(uint8_t *store, size_t store_length, const uint8_t name[8], const uint8_t *tape, size_t tape_length);
+struct puchkewa_answer puchkewa_restore(const uint8_t *store, size_t store_length, const uint8_t name[8], uint8_t *out, size_t out_length);
+struct puchkewa_answer puchkewa_delete(uint8_t *store, size_t store_length, const uint8_t name[8]);
 
 #ifdef __cplusplus
 }

@@ -2,6 +2,7 @@
 // it is made of, so all of them are declared here; the work is done in the crates below.
 mod export; // the cleaning, for C and Rust
 mod export_editions; // between the two C editions, for C and Rust
+mod export_states; // named states, for C and Rust
 
 pub use answers::Answer;
 pub use clean::Reply;
@@ -9,3 +10,6 @@ pub use clean::clean;
 pub use editions::to_2018;
 pub use editions::to_2024;
 pub use lines::rules::Rules;
+pub use states::delete;
+pub use states::restore;
+pub use states::save;
