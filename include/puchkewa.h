@@ -1,5 +1,5 @@
 /* Puchkewa: cleans a listing of pseudocode, a tape in, the cleaned tape out; brings one from one edition of C to the other; keeps named states
- * of one. What a tape is: docs/TAPE.md.
+ * of one; writes the most laborious one. What a tape is: docs/TAPE.md.
  *
  * Each function is proved to meet what is said here, for every input (crates/puchkewa/src; the promise of the cleaning is `Cleans` in
  * crates/clean/specs/Replies.antt, that of a call that writes a tape is `WritesTold` in crates/answers/specs/Answers.antt). They keep no state,
@@ -19,7 +19,7 @@ extern "C" {
 #endif
 
 /* The version of the interface and of what it does: a change of either changes it. */
-#define PUCHKEWA_VERSION "0.10.0"
+#define PUCHKEWA_VERSION "0.11.0"
 
 /* The least that each work area and the output must have, in bytes. 59,137 bytes are enough for the output of every tape. */
 #define PUCHKEWA_WORK 49152
@@ -71,6 +71,7 @@ enum puchkewa_refusal {
     PUCHKEWA_NEW_KEYWORD = 12,       /* puchkewa_to_2024: a Symbol that is a keyword of C's edition of 2024 and was none in 2018 */
     PUCHKEWA_NEW_NUMBER = 13,        /* puchkewa_to_2018: a Number that begins 0b or 0B after at most one minus, or holds a ', and is not read by
                                         the 2024 edition */
+    PUCHKEWA_TOO_MANY_LINES = 17,    /* the most laborious listing: more than 256 lines were asked for */
     PUCHKEWA_NOT_HELD = 20,          /* named states: no state is held under the name */
     PUCHKEWA_STORE_FULL = 21,        /* named states: the name is new, and eight states are held */
     PUCHKEWA_STORE_DAMAGED = 22      /* named states: a cell that no call leaves so; the place is its number from 0 */
@@ -152,6 +153,16 @@ struct puchkewa_answer puchkewa_to_2024(const uint8_t *tape, size_t tape_length,
 struct puchkewa_answer puchkewa_save(uint8_t *store, size_t store_length, const uint8_t name[8], const uint8_t *tape, size_t tape_length);
 struct puchkewa_answer puchkewa_restore(const uint8_t *store, size_t store_length, const uint8_t name[8], uint8_t *out, size_t out_length);
 struct puchkewa_answer puchkewa_delete(uint8_t *store, size_t store_length, const uint8_t name[8]);
+
+/* The most laborious listing of so many lines, 0 to 256: writes the tape of a listing whose first round makes the most attempts, in every setting of a
+ * call: 0 for none, 1 for one line, and 2n - 2 for n from two on. No listing of n lines needs more.
+ *
+ * lines         how many; more than 256 are refused by 17, before 2.
+ * out           the output: out_length bytes, at least PUCHKEWA_OUTPUT; fewer are refused by 2.
+ *
+ * `value` is the tape's length (6,131 for 256 lines); the output past it is as before. When refused, nothing is changed.
+ * (crates/puchkewa/src/export_laborious.rt; the claim is `MostLaborious` in crates/laborious/specs/Listing.antt.) */
+struct puchkewa_answer puchkewa_laborious(uint64_t lines, uint8_t *out, size_t out_length);
 
 #ifdef __cplusplus
 }

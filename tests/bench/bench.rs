@@ -87,17 +87,13 @@ fn short() -> Vec<u8> {
     tape(&lines)
 }
 
-/// Request M-108's hint: a label, a move from a third register, then moves to and fro between two others.
+/// The most laborious listing of 256 lines, as the library writes it (request M-108).
 fn laborious() -> Vec<u8> {
-    let lines: Vec<_> = (0..256)
-        .map(|i| match i {
-            0 => line(&[(S, "L"), (P, ":")]),
-            1 => moved("rbx", (R, "rsi")),
-            _ if i % 2 == 0 => moved("rbp", (R, "rbx")),
-            _ => moved("rbx", (R, "rbp")),
-        })
-        .collect();
-    tape(&lines)
+    let mut out = vec![0; OUTPUT];
+    let answer = library::laborious(256, &mut out);
+    assert_eq!(answer.refusal, 0, "the most laborious listing is refused");
+    out.truncate(answer.value as usize);
+    out
 }
 
 /// Every attempt reads to the end of the listing.

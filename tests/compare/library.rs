@@ -1,4 +1,4 @@
-//! The static library's entry.
+//! The static library's entries.
 
 use crate::door::Report;
 
@@ -12,7 +12,17 @@ pub struct Settings {
     pub parts: bool,
 }
 
+/// `struct puchkewa_answer`.
+#[repr(C)]
+#[derive(Clone, Copy)]
+pub struct Answer {
+    pub refusal: u64,
+    pub place: u64,
+    pub value: u64,
+}
+
 extern "C" {
+    fn puchkewa_laborious(lines: u64, out: *mut u8, out_length: usize) -> Answer;
     fn puchkewa_clean(
         settings: Settings,
         tape: *const u8,
@@ -41,4 +51,9 @@ pub fn clean(settings: Settings, tape: &[u8], work_a: &mut [u8], work_b: &mut [u
             out.len(),
         )
     }
+}
+
+pub fn laborious(lines: u64, out: &mut [u8]) -> Answer {
+    // SAFETY: pointer and length are of a slice.
+    unsafe { puchkewa_laborious(lines, out.as_mut_ptr(), out.len()) }
 }

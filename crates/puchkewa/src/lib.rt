@@ -2,6 +2,7 @@
 // it is made of, so all of them are declared here; the work is done in the crates below.
 mod export; // the cleaning, for C and Rust
 mod export_editions; // between the two C editions, for C and Rust
+mod export_laborious; // the most laborious listing, for C and Rust
 mod export_states; // named states, for C and Rust
 
 pub use answers::Answer;
@@ -9,6 +10,7 @@ pub use clean::Reply;
 pub use clean::clean;
 pub use editions::to_2018;
 pub use editions::to_2024;
+pub use laborious::laborious;
 pub use lines::rules::Rules;
 pub use states::delete;
 pub use states::restore;
