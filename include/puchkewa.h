@@ -19,7 +19,7 @@ extern "C" {
 #endif
 
 /* The version of the interface and of what it does: a change of either changes it. */
-#define PUCHKEWA_VERSION "0.11.0"
+#define PUCHKEWA_VERSION "0.12.0"
 
 /* The least that each work area and the output must have, in bytes. 59,137 bytes are enough for the output of every tape. */
 #define PUCHKEWA_WORK 49152
@@ -72,6 +72,9 @@ enum puchkewa_refusal {
     PUCHKEWA_NEW_NUMBER = 13,        /* puchkewa_to_2018: a Number that begins 0b or 0B after at most one minus, or holds a ', and is not read by
                                         the 2024 edition */
     PUCHKEWA_TOO_MANY_LINES = 17,    /* the most laborious listing: more than 256 lines were asked for */
+    PUCHKEWA_OUT_OF_REACH = 18,      /* puchkewa_to_offsets: an address below the base, or 2^32 or more above it;
+                                        puchkewa_from_offsets: base and offset together are above 2^64 - 1 */
+    PUCHKEWA_NO_BASE = 19,           /* puchkewa_from_offsets: the tape does not begin with 06 */
     PUCHKEWA_NOT_HELD = 20,          /* named states: no state is held under the name */
     PUCHKEWA_STORE_FULL = 21,        /* named states: the name is new, and eight states are held */
     PUCHKEWA_STORE_DAMAGED = 22      /* named states: a cell that no call leaves so; the place is its number from 0 */
@@ -163,6 +166,24 @@ struct puchkewa_answer puchkewa_delete(uint8_t *store, size_t store_length, cons
  * `value` is the tape's length (6,131 for 256 lines); the output past it is as before. When refused, nothing is changed.
  * (crates/puchkewa/src/export_laborious.rt; the claim is `MostLaborious` in crates/laborious/specs/Listing.antt.) */
 struct puchkewa_answer puchkewa_laborious(uint64_t lines, uint8_t *out, size_t out_length);
+
+/* The least that the output of the two conversions must have, in bytes. */
+#define PUCHKEWA_OFFSETS_OUTPUT 59146
+
+/* A tape brought to the form by offset from the load address `base`, and back (docs/TAPE.md). There and back at the same base gives the identical tape.
+ *
+ * base          the load address.
+ * tape          the tape: tape_length bytes, only read. puchkewa_to_offsets takes one of the form that puchkewa_clean takes, puchkewa_from_offsets one that
+ *               begins with 06 and its base.
+ * out           the output: out_length bytes, at least PUCHKEWA_OFFSETS_OUTPUT.
+ *
+ * When not refused, `value` is the length of the new tape, at the front of the output; its other bytes are as before. When refused, nothing is changed. The questions:
+ * 2; of puchkewa_from_offsets 19, and 4 if 06 is cut short; those of the tape; then 18, whose place is the first command with such an address. The tape and the output
+ * must not overlap, and no pointer may be null. */
+struct puchkewa_answer puchkewa_to_offsets(uint64_t base, const uint8_t *tape, size_t tape_length,
+                                           uint8_t *out, size_t out_length);
+struct puchkewa_answer puchkewa_from_offsets(const uint8_t *tape, size_t tape_length,
+                                             uint8_t *out, size_t out_length);
 
 #ifdef __cplusplus
 }

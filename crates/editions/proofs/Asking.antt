@@ -108,7 +108,7 @@ pub record Walk (tape : List ℕ) (at : ℕ) : Type 0 where
   pub reads : Reads tape at totals
 
 abbrev pub walk-begin : (tape : List ℕ) → Walk tape 0
-walk-begin tape = record { totals = no-commands; reads = reads-begin tape }
+walk-begin tape = record { totals = no-commands; reads = reads-begin Tape.old tape }
 
 module _ {tape : List ℕ} {at : ℕ} (w : Walk tape at) (k : Accepted tape) where
   pub walk-passes : Passes (drop at tape) (w .totals)
@@ -120,7 +120,7 @@ module _ {tape : List ℕ} {at : ℕ} (w : Walk tape at) (k : Accepted tape) whe
   abbrev pub walk-on : {c : Command} → Stands tape at c → ends c ≡ false → Walk tape (at + size-of c)
   walk-on {c} s n =
       let passed = sym (pass-command tape at (w .totals) walk-passes) in
-      let go = reads-on (w .reads) {a = advance tape at (w .totals)} passed (ap is-end (sym (s .same)) ∙ ends-same tape at c ∙ n) in
+      let go = reads-on (w .reads) {a = advance tape at (w .totals)} passed (ap is-end (sym (s .same)) ∙ ends-same Tape.old tape at c ∙ n) in
       record {
         totals = count-in (command-of (drop at tape)) (w .totals);
         reads =
@@ -169,7 +169,7 @@ module _ {up : Bool} {tape : List ℕ} {at : ℕ} (u : Unearned up tape at) {c :
 
     module _ (f : x ≡ false) where
       pub none-earned : ends c ≡ true → none ≡ first-place (of-command (earns up)) (length tape) tape 0
-      none-earned t = sym (unrolled ∙ if-false _ _ (sym e ∙ f) ∙ if-true _ _ (ends-same tape at c ∙ t))
+      none-earned t = sym (unrolled ∙ if-false _ _ (sym e ∙ f) ∙ if-true _ _ (ends-same Tape.old tape at c ∙ t))
 
       abbrev pub unearned-more : Accepted tape → ends c ≡ false → Unearned up tape (at + size-of c)
       unearned-more k n =
@@ -177,5 +177,5 @@ module _ {up : Bool} {tape : List ℕ} {at : ℕ} (u : Unearned up tape at) {c :
             walk = walk-on (u .walk) k s n;
             fuel = some-fuel .0;
             enough = omega (arith, u .enough, some-fuel .1, stands-inside s);
-            same = unrolled ∙ if-false _ _ (sym e ∙ f) ∙ if-false _ _ (ends-same tape at c ∙ n);
+            same = unrolled ∙ if-false _ _ (sym e ∙ f) ∙ if-false _ _ (ends-same Tape.old tape at c ∙ n);
           }

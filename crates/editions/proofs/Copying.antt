@@ -15,7 +15,7 @@ use Rattle.reference.specs.Text.{Text}
 use Rattle.reference.specs.Listing.{Token, token, is, Number, Line, Listing, with-tokens}
 use Rattle.reference.specs.Spans.{Span, Marks}
 use Rattle.reference.specs.Tape as Tape
-use Rattle.reference.specs.Tape.{to-le-bytes, new-token, write-command, write-lines, write, command-of}
+use Rattle.reference.specs.Tape.{to-le-bytes, new-token, write-command, write-lines, write, command-of, write-by, write-command-by, write-lines-by}
 use Rattle.reference.specs.Questions.{has-line, is-within, Passed, is-end, add, read, add-marks, marks-in}
 use Rattle.reference.proofs.Cases.{both, either, not-true, fails, true-false, pair}
 use Rattle.reference.proofs.Commands.{write-of-read}
@@ -76,7 +76,7 @@ module _ (out : List ℕ) (at n : ℕ) (t : Text) (h : at + 3 + length t ≤ len
       ∙ ap (λ (k : ℕ). take at out ++ (18 ∷ n ∷ 0 ∷ t) ++ drop k out) far)
 
 number-bytes : (t : Text) → length t ≤ 24 → write-command (new-token (token 2 t)) ≡ 18 ∷ length t ∷ 0 ∷ t
-unfolding write-command to-le-bytes
+unfolding write-command-by to-le-bytes
 number-bytes t h =
     let low : length t % 256 ≡ length t = omega arith in
     let high : length t / 256 % 256 ≡ 0 = omega arith in
@@ -185,21 +185,21 @@ grown : (s : State) (c : Tape.Command) → Kept s → has-line (s .totals) c ≡
 unfolding has-line
 grown s (Tape.new-line address indent) k b n =
     let same : length (s .marks) ≡ length (change down-token (s .lines)) = k .marks ∙ sym (change-length down-token (s .lines)) in
-    rw (change-new-line address indent (s .lines)) (write-new-line (change down-token (s .lines)) (s .marks) same address indent)
+    rw (change-new-line address indent (s .lines)) (write-new-line Tape.old (change down-token (s .lines)) (s .marks) same address indent)
 grown s (Tape.marked span) k b n =
     rw (change-marked span (s .lines))
-    (write-new-marks span (change down-token (s .lines)) (s .marks) (change-fresh (s .lines) (s .marks) (k .fresh (both b .0))))
+    (write-new-marks Tape.old span (change down-token (s .lines)) (s .marks) (change-fresh (s .lines) (s .marks) (k .fresh (both b .0))))
 grown s (Tape.new-token t) k b n =
     let same : length (s .marks) ≡ length (change down-token (s .lines)) = k .marks ∙ sym (change-length down-token (s .lines)) in
     let there : 1 ≤ length (change down-token (s .lines)) =
     omega (arith, k .lines, leb-true 1 (s .totals .lines) b, change-length down-token (s .lines)) in
     rw (change-new-token t (s .lines), token-marks t (down-token t) (s .marks))
-    (write-new-token (change down-token (s .lines)) (s .marks) same (down-token t) there)
+    (write-new-token Tape.old (change down-token (s .lines)) (s .marks) same (down-token t) there)
 grown s Tape.end k b n = absurd (true≢false n)
 
 -- no command grows
 pub command-shorter : (c : Tape.Command) → length (write-command (down-command c)) ≤ length (write-command c)
-unfolding write-command
+unfolding write-command-by
 command-shorter (Tape.new-line address indent) = omega arith
 command-shorter (Tape.marked s) = omega arith
 command-shorter (Tape.new-token t) = simp (length-append, to-length) (omega (arith, down-short t))
@@ -222,7 +222,7 @@ pub record Going (tape out₀ out : List ℕ) (at to : ℕ) : Type 0 where
   pub long : length out ≡ length out₀
 
 pub going-begin : (tape out : List ℕ) → Going tape out out 0 0
-unfolding write-lines change flatMap
+unfolding write-lines-by change flatMap
 going-begin tape out =
     record {
       unearned = unearned-begin false tape;
@@ -280,7 +280,7 @@ module _ {tape out₀ out : List ℕ} {at to : ℕ} (g : Going tape out₀ out a
         let w = g .unearned .walk in
         let state : State = record { at = at; totals = w .totals; lines = w .reads .lines; marks = w .reads .marks } in
         let more = grown state (command-in tape at c) (kept tape (w .reads .reached)) (rw (s .same) (passes .begun))
-        (ends-same tape at c ∙ n) in
+        (ends-same Tape.old tape at c ∙ n) in
         record {
           unearned = unearned-more (g .unearned) s refl older (k .accepted) n;
           puts = rw more both-puts;
@@ -290,11 +290,11 @@ module _ {tape out₀ out : List ℕ} {at to : ℕ} (g : Going tape out₀ out a
 
     pub gone : ends c ≡ true → (lines : Listing) → read tape ≡ Passed lines
         → Puts out₀ 0 (write (change down-token lines) (marks-in tape)) out′ to′
-    unfolding write
+    unfolding write-by
     gone n lines e =
         let w = g .unearned .walk in
         let passed = sym (pass-command tape at (w .totals) passes) in
-        let over : is-end (command-of (drop at tape)) ≡ true = ap is-end (sym (s .same)) ∙ ends-same tape at c ∙ n in
+        let over : is-end (command-of (drop at tape)) ≡ true = ap is-end (sym (s .same)) ∙ ends-same Tape.old tape at c ∙ n in
         let r : read tape ≡ Passed (w .reads .lines) = read-passed (w .reads) {a = advance tape at (w .totals)} passed over in
         let m : marks-in tape ≡ w .reads .marks = marks-passed (w .reads) {a = advance tape at (w .totals)} passed over in
         let l : lines ≡ w .reads .lines = passed-inj (sym e ∙ r) in

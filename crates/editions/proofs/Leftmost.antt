@@ -11,7 +11,7 @@ use mathlib.Core.Option.{Option, some}
 use lib.ListN.{length, drop}
 use Rattle.reference.specs.Listing.{Token, Listing}
 use Rattle.reference.specs.Tape.{command-size, command-of}
-use Rattle.reference.specs.Questions.{Answer, Passed, read-from, read}
+use Rattle.reference.specs.Questions.{Answer, Passed, read-from, read, read-by, read-from-by}
 use Rattle.reference.proofs.Cases.{by-if, none-some, some-inj}
 use Rattle.reference.proofs.Reading.{refused-passed, by-passed, command-passed, advances, State, start, left, after, Reached, here, on}
 use Rattle.laws.proofs.Scans.{if-true, if-false}
@@ -48,7 +48,7 @@ module _ (tape : List ℕ) where
     module _ (out : Listing) {place : ℕ} where
       from : (fuel : ℕ) (s : State) → Reached tape s → Before (s .at) → first-place (of-command p) fuel tape (s .at) ≡ some place
           → read-from fuel tape (s .at) (s .totals) (s .lines) ≡ Passed out → Leftmost p tape place
-      unfolding read-from first-place
+      unfolding read-from-by first-place
       from zero s r b = λ f e. absurd (none-some f)
       from (suc fuel) s r b =
           by-if
@@ -72,5 +72,5 @@ module _ (tape : List ℕ) where
           (rw (q .1) at e))))
 
       pub leftmost : read tape ≡ Passed out → first-place (of-command p) (length tape) tape 0 ≡ some place → Leftmost p tape place
-      unfolding read
+      unfolding read-by
       leftmost e f = from (length tape) start here (λ s r h. absurd (omega arith)) f e

@@ -11,7 +11,7 @@ use Rattle.reference.specs.Control.{_&&_, _||_}
 use Rattle.reference.specs.Lists.{any}
 use Rattle.reference.specs.Listing.{Token, token, is, Number, Listing}
 use Rattle.reference.specs.Spans.{Marks}
-use Rattle.reference.specs.Tape.{new-token, write-command, write-line, write-lines, write}
+use Rattle.reference.specs.Tape.{new-token, write-command, write-lines, write, write-by, write-command-by, write-line-by, write-lines-by}
 use Rattle.reference.specs.Claim.{size, token-count, text-in, text}
 use Rattle.reference.proofs.Cases.{by-if, neither, pair, fails, true-false, both}
 use Rattle.reference.proofs.Commands.{AddressFits}
@@ -56,17 +56,17 @@ module _ (f : Token → Token) where
 
     tokens-shorter : (ts : List Token)
         → length (flatMap (λ t. write-command (new-token t)) (map f ts)) ≤ length (flatMap (λ t. write-command (new-token t)) ts)
-    unfolding flatMap write-command
+    unfolding flatMap write-command-by
     tokens-shorter [] = omega arith
     tokens-shorter (t ∷ ts) = simp (length-append, to-length) (omega (arith, short t, tokens-shorter ts))
 
     lines-shorter : (lines : Listing) (marks : List Marks) → length (write-lines (change f lines) marks) ≤ length (write-lines lines marks)
-    unfolding change write-lines write-line flatMap
+    unfolding change write-lines-by write-line-by flatMap
     lines-shorter [] marks = omega arith
     lines-shorter (l ∷ ls) marks = simp length-append (omega (arith, tokens-shorter (l .tokens), lines-shorter ls (drop 1 marks)))
 
     pub write-shorter : (lines : Listing) (marks : List Marks) → length (write (change f lines) marks) ≤ length (write lines marks)
-    unfolding write
+    unfolding write-by
     write-shorter lines marks = simp length-append (omega (arith, lines-shorter lines marks))
 
     -- one that keeps tokens within the limits

@@ -11,7 +11,7 @@ use Rattle.reference.specs.Control.{_||_, if_then_else_}
 use Rattle.reference.specs.Lists.{any, modify}
 use Rattle.reference.specs.Listing.{Token, Listing}
 use Rattle.reference.specs.Tape.{Command, new-line, marked, new-token, end, command-size, command-of}
-use Rattle.reference.specs.Questions.{Totals, has-line, Answer, Passed, count-in, is-end, add, read-from, read}
+use Rattle.reference.specs.Questions.{Totals, has-line, Answer, Passed, count-in, is-end, add, read-from, read, read-by, read-from-by}
 use Rattle.reference.proofs.Cases.{by-if, neither, none-some, fails}
 use Rattle.reference.proofs.Lines.{length-modify}
 use Rattle.reference.proofs.Reading.{refused-passed, passed-inj, by-passed, command-passed}
@@ -103,7 +103,7 @@ module _ (p : Token → Bool) (tape : List ℕ) (out : Listing) where
   -- where no place is found, no token of the listing is
   clean-from : (fuel at : ℕ) (t : Totals) (lines : Listing) → first-place (of-command p) fuel tape at ≡ none → holds p lines ≡ false
       → read-from fuel tape at t lines ≡ Passed out → holds p out ≡ false
-  unfolding read-from
+  unfolding read-from-by
   clean-from zero at t lines f h = λ e. absurd (refused-passed e)
   clean-from (suc fuel) at t lines f h =
       by-passed (λ (x : Answer Listing). x ≡ Passed out → holds p out ≡ false)
@@ -123,7 +123,7 @@ module _ (p : Token → Bool) (tape : List ℕ) (out : Listing) where
 
   place-from : (fuel at : ℕ) (t : Totals) (lines : Listing) → t .lines ≡ length lines → holds p out ≡ false
       → read-from fuel tape at t lines ≡ Passed out → Nowhere fuel at lines
-  unfolding read-from
+  unfolding read-from-by
   place-from zero at t lines k h = λ e. absurd (refused-passed e)
   place-from (suc fuel) at t lines k h =
       by-passed (λ (x : Answer Listing). x ≡ Passed out → Nowhere (suc fuel) at lines)
@@ -140,9 +140,9 @@ module _ (p : Token → Bool) (tape : List ℕ) (out : Listing) where
 
   module _ (e : read tape ≡ Passed out) where
     pub clean : first-place (of-command p) (length tape) tape 0 ≡ none → holds p out ≡ false
-    unfolding read holds
+    unfolding read-by holds
     clean f = clean-from (length tape) 0 _ [] f refl e
 
     pub no-place : holds p out ≡ false → first-place (of-command p) (length tape) tape 0 ≡ none
-    unfolding read
+    unfolding read-by
     no-place h = place-from (length tape) 0 _ [] refl h e .0

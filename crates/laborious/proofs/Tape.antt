@@ -16,7 +16,7 @@ use Rattle.reference.specs.Listing.{Token, token, Register, Listing}
 use Rattle.reference.specs.Claim.{token-count, text}
 use Rattle.reference.specs.Run.{propagate-once}
 use Rattle.reference.specs.Spans.{Marks}
-use Rattle.reference.specs.Tape.{write-lines, write}
+use Rattle.reference.specs.Tape.{write-lines, write-by, write-lines-by}
 use Rattle.reference.proofs.Limits.{All, MarksFit, TokenFits, LineFits, Fits}
 use Rattle.reference.proofs.Commands.{AddressFits}
 use Rattle.reference.proofs.Written.{read-write}
@@ -121,13 +121,13 @@ unmarked-fit zero = tt
 unmarked-fit (suc n) = (tt, unmarked-fit n)
 
 write-unmarked : (lines : Listing) → write-lines lines (unmarked (length lines)) ≡ write-lines lines []
-unfolding write-lines
+unfolding write-lines-by
 write-unmarked [] = refl
 write-unmarked (l ∷ ls) = rw (write-unmarked ls)
 
 -- M-108
 pub most-laborious : (n : ℕ) → n ≤ 256 → MostLaborious n (laborious-tape n)
-unfolding write
+unfolding write-by
 most-laborious n le =
     let lines = laborious n in
     let r = read-write lines (unmarked (length lines)) (laborious-fits n le) (unmarked-fit (length lines))

@@ -15,7 +15,7 @@ use lib.Seq.{paste, paste-zero, paste-suc, take-at, take-length, drop-append-add
 use borrow.Author.Tests.{eq-eqb, ne-eqb}
 use Rattle.reference.specs.Control.{if_then_else_}
 use Rattle.reference.specs.Listing.{Line, Listing}
-use Rattle.reference.specs.Tape.{write-line, write-lines, write-command, write}
+use Rattle.reference.specs.Tape.{write-line, write-lines, write, write-by, write-command-by, write-lines-by}
 use Rattle.reference.proofs.Cases.{by-if}
 use Rattle.reference.proofs.Opened.{opened}
 use Rattle.laws.proofs.Scans.{if-true, if-false}
@@ -73,7 +73,7 @@ laborious-snoc (suc (suc n)) =
     ∙ ap (λ (l : Line). label ∷ move "rbx" "rsi" ∷ (to-and-fro "rbx" "rbp" n ++ (l ∷ []))) last
 
 lines-snoc : (lines : Listing) (l : Line) → write-lines (lines ++ (l ∷ [])) [] ≡ write-lines lines [] ++ write-line l none
-unfolding write-lines
+unfolding write-lines-by
 lines-snoc [] l = append-nil (write-line l none)
 lines-snoc (x ∷ lines) l =
     rw (lines-snoc lines l) (sym (append-assoc (write-line x none) (write-lines lines []) (write-line l none)))
@@ -157,7 +157,7 @@ next-turn n out out₁ out₂ at i end lt t p =
 
 pub last-turn : (n : ℕ) (out out′ : List ℕ) (at i : ℕ) → n ≤ i → at < length out′ → Turn n out out′ at i
     → Front out (write (laborious n) []) (set out′ at 255) (at + 1)
-unfolding write write-command
+unfolding write-by write-command-by
 last-turn n out out′ at i ge lt t =
     let last : i ≡ n = omega (arith, t .inside) in
     rw last at (front-put (t .front) (put-byte out′ at 255 lt))

@@ -13,44 +13,115 @@ use borrow.Author.Tests.{ne-eqb, eqb-true, leb-true, le-leb}
 use Rattle.reference.specs.Control.{_&&_, _||_, if_then_else_}
 use Rattle.reference.specs.Listing.{token}
 use Rattle.reference.specs.Spans.{Span}
-use Rattle.reference.specs.Tape.{to-le-bytes, from-le-bytes, Command, new-line, marked, new-token, end, write-command, text-length, command-size, command-of}
-use Rattle.reference.specs.Questions.{is-command}
+use Rattle.reference.specs.Tape.{to-le-bytes, from-le-bytes, TapeForm, old, offsets, line-byte, marks-byte, width, Command, new-line, marked, new-token, end, write-command-by, text-length, command-size-by, command-by}
+use Rattle.reference.specs.Questions.{is-command-by}
 use Rattle.reference.proofs.Cases.{either, both}
 use Rattle.reference.proofs.LittleEndian.{Bytes, bytes-drop, bytes-take, from-to, from-below, from-at, to-take}
 
 -- ---- by the first byte
 
-module _ (rest : List ℕ) where
+-- the bytes of a form are apart from each other and from all other commands' bytes
+pub record Apart (form : TapeForm) : Type 0 where
+  pub line-plain : eqb 0x02 (line-byte form) ≡ false
+  pub line-end : eqb 0xFF (line-byte form) ≡ false
+  pub marks-line : eqb (marks-byte form) (line-byte form) ≡ false
+  pub marks-plain : eqb (marks-byte form) 0x02 ≡ false
+  pub marks-end : eqb 0xFF (marks-byte form) ≡ false
+  pub line-low : line-byte form < 0x10
+  pub marks-low : marks-byte form < 0x10
+  pub line-some : 0 < line-byte form
+  pub marks-some : 0 < marks-byte form
+  pub same-line : eqb (line-byte form) (line-byte form) ≡ true
+  pub same-marks : eqb (marks-byte form) (marks-byte form) ≡ true
+
+pub apart : (form : TapeForm) → Apart form
+apart old =
+    record {
+      line-plain = refl;
+      line-end = refl;
+      marks-line = refl;
+      marks-plain = refl;
+      marks-end = refl;
+      line-low = omega arith;
+      marks-low = omega arith;
+      line-some = omega arith;
+      marks-some = omega arith;
+      same-line = refl;
+      same-marks = refl;
+    }
+apart offsets =
+    record {
+      line-plain = refl;
+      line-end = refl;
+      marks-line = refl;
+      marks-plain = refl;
+      marks-end = refl;
+      line-low = omega arith;
+      marks-low = omega arith;
+      line-some = omega arith;
+      marks-some = omega arith;
+      same-line = refl;
+      same-marks = refl;
+    }
+
+module _ (form : TapeForm) (rest : List ℕ) where
   -- a command's size, and what it says
+  abbrev pub SaysBy : ℕ → Command → Type 0
+  SaysBy n c = (command-size-by form rest ≡ n) × (command-by form rest ≡ c)
+
+  pub address-form-by : getD rest 0 0 ≡ line-byte form
+      → SaysBy (2 + width form) (new-line (some (from-le-bytes (take (width form) (drop 1 rest)))) (getD rest (1 + width form) 0))
+  unfolding command-size-by command-by if_then_else_
+  address-form-by e = let a = apart form .same-line in (rw (e, a), rw (e, a))
+
+  pub plain-form-by : getD rest 0 0 ≡ 0x02 → SaysBy 2 (new-line none (getD rest 1 0))
+  unfolding command-size-by command-by if_then_else_
+  plain-form-by e = let a = apart form .line-plain in (rw (e, a), rw (e, a))
+
+  pub marks-form-by : getD rest 0 0 ≡ marks-byte form
+      → SaysBy (1 + width form + width form)
+      (marked (record { lowest = from-le-bytes (take (width form) (drop 1 rest)); highest = from-le-bytes (take (width form) (drop (1 + width form) rest)) }))
+  unfolding command-size-by command-by if_then_else_
+  marks-form-by e =
+      let a = apart form in
+      (rw (e, a .marks-line, a .marks-plain, a .same-marks), rw (e, a .marks-line, a .marks-plain, a .same-marks))
+
+  pub end-form-by : getD rest 0 0 ≡ 0xFF → SaysBy 1 end
+  unfolding command-size-by command-by if_then_else_
+  end-form-by e = let a = apart form in (rw (e, a .line-end, a .marks-end), rw (e, a .line-end, a .marks-end))
+
+  pub token-form-by : 0x10 ≤ getD rest 0 0 → getD rest 0 0 ≤ 0x17
+      → SaysBy (3 + text-length rest) (new-token (token (getD rest 0 0 - 0x10) (take (text-length rest) (drop 3 rest))))
+  unfolding command-size-by command-by if_then_else_
+  token-form-by low high =
+      let a = apart form in
+      let e₁ : eqb (getD rest 0 0) (line-byte form) ≡ false = ne-eqb (getD rest 0 0) (line-byte form) (λ e. omega (arith, a .line-low)) in
+      let e₂ : eqb (getD rest 0 0) 0x02 ≡ false = ne-eqb (getD rest 0 0) 0x02 (λ e. omega arith) in
+      let e₃ : eqb (getD rest 0 0) (marks-byte form) ≡ false = ne-eqb (getD rest 0 0) (marks-byte form) (λ e. omega (arith, a .marks-low)) in
+      let e₄ : eqb (getD rest 0 0) 0xFF ≡ false = ne-eqb (getD rest 0 0) 0xFF (λ e. omega arith) in
+      (rw (e₁, e₂, e₃, e₄), rw (e₁, e₂, e₃, e₄))
+
+-- the old form's, in its own numbers
+module _ (rest : List ℕ) where
   abbrev pub Says : ℕ → Command → Type 0
-  Says n c = (command-size rest ≡ n) × (command-of rest ≡ c)
+  Says = SaysBy old rest
 
   pub address-form : getD rest 0 0 ≡ 0x01 → Says 10 (new-line (some (from-le-bytes (take 8 (drop 1 rest)))) (getD rest 9 0))
-  unfolding command-size command-of if_then_else_
-  address-form e = (rw e, rw e)
+  address-form = address-form-by old rest
 
   pub plain-form : getD rest 0 0 ≡ 0x02 → Says 2 (new-line none (getD rest 1 0))
-  unfolding command-size command-of if_then_else_
-  plain-form e = (rw e, rw e)
+  plain-form = plain-form-by old rest
 
   pub marks-form : getD rest 0 0 ≡ 0x03
       → Says 17 (marked (record { lowest = from-le-bytes (take 8 (drop 1 rest)); highest = from-le-bytes (take 8 (drop 9 rest)) }))
-  unfolding command-size command-of if_then_else_
-  marks-form e = (rw e, rw e)
+  marks-form = marks-form-by old rest
 
   pub end-form : getD rest 0 0 ≡ 0xFF → Says 1 end
-  unfolding command-size command-of if_then_else_
-  end-form e = (rw e, rw e)
+  end-form = end-form-by old rest
 
   pub token-form : 0x10 ≤ getD rest 0 0 → getD rest 0 0 ≤ 0x17
       → Says (3 + text-length rest) (new-token (token (getD rest 0 0 - 0x10) (take (text-length rest) (drop 3 rest))))
-  unfolding command-size command-of if_then_else_
-  token-form low high =
-      let e₁ : eqb (getD rest 0 0) 0x01 ≡ false = ne-eqb (getD rest 0 0) 0x01 (λ e. omega arith) in
-      let e₂ : eqb (getD rest 0 0) 0x02 ≡ false = ne-eqb (getD rest 0 0) 0x02 (λ e. omega arith) in
-      let e₃ : eqb (getD rest 0 0) 0x03 ≡ false = ne-eqb (getD rest 0 0) 0x03 (λ e. omega arith) in
-      let e₄ : eqb (getD rest 0 0) 0xFF ≡ false = ne-eqb (getD rest 0 0) 0xFF (λ e. omega arith) in
-      (rw (e₁, e₂, e₃, e₄), rw (e₁, e₂, e₃, e₄))
+  token-form = token-form-by old rest
 
 -- a text's length, as code reads it
 pub text-length-at : (tape : List ℕ) (at : ℕ) → text-length (drop at tape) ≡ getD tape (at + 1) 0 + 256 * getD tape (at + 2) 0
@@ -60,152 +131,186 @@ text-length-at tape at =
     rw (drop-drop 1 at tape, from-at 1 (at + 1) tape, from-at 0 (suc (at + 1)) tape, e) (omega arith)
 
 -- question 3's five cases
-pub data Form (rest : List ℕ) : Type 0 where
-  is-address : getD rest 0 0 ≡ 0x01 → Form rest
-  is-plain : getD rest 0 0 ≡ 0x02 → Form rest
-  is-marks : getD rest 0 0 ≡ 0x03 → Form rest
-  is-token : 0x10 ≤ getD rest 0 0 → getD rest 0 0 ≤ 0x17 → Form rest
-  is-ending : getD rest 0 0 ≡ 0xFF → Form rest
+pub data FormBy (form : TapeForm) (rest : List ℕ) : Type 0 where
+  is-address : getD rest 0 0 ≡ line-byte form → FormBy form rest
+  is-plain : getD rest 0 0 ≡ 0x02 → FormBy form rest
+  is-marks : getD rest 0 0 ≡ marks-byte form → FormBy form rest
+  is-token : 0x10 ≤ getD rest 0 0 → getD rest 0 0 ≤ 0x17 → FormBy form rest
+  is-ending : getD rest 0 0 ≡ 0xFF → FormBy form rest
 
-pub form : (rest : List ℕ) → is-command rest ≡ true → Form rest
-unfolding is-command
-form [] h = absurd (false≢true h)
-form (b ∷ rest) h =
-    either (Form (b ∷ rest)) h (λ e. is-address (eqb-true _ _ e))
-    (λ h. either (Form (b ∷ rest)) h (λ e. is-plain (eqb-true _ _ e))
-    (λ h. either (Form (b ∷ rest)) h (λ e. is-marks (eqb-true _ _ e))
-    (λ h. either (Form (b ∷ rest)) h (λ e. is-token (leb-true _ _ (both e .0)) (leb-true _ _ (both e .1)))
-    (λ e. is-ending (eqb-true _ _ e)))))
+abbrev pub Form : List ℕ → Type 0
+Form = FormBy old
 
-pub is-form : (rest : List ℕ) → Form rest → is-command rest ≡ true
-unfolding is-command _||_ _&&_
-is-form [] (is-address e) = absurd (omega arith)
-is-form [] (is-plain e) = absurd (omega arith)
-is-form [] (is-marks e) = absurd (omega arith)
-is-form [] (is-token low high) = absurd (omega arith)
-is-form [] (is-ending e) = absurd (omega arith)
-is-form (b ∷ rest) (is-address e) = rw e
-is-form (b ∷ rest) (is-plain e) = rw e
-is-form (b ∷ rest) (is-marks e) = rw e
-is-form (b ∷ rest) (is-token low high) =
-    rw (ne-eqb b 0x01 (λ e. omega arith), ne-eqb b 0x02 (λ e. omega arith), ne-eqb b 0x03 (λ e. omega arith), le-leb 0x10 b low, le-leb b 0x17 high)
-is-form (b ∷ rest) (is-ending e) = rw e
+module _ {form : TapeForm} where
+  pub form-of : (rest : List ℕ) → is-command-by form rest ≡ true → FormBy form rest
+  unfolding is-command-by
+  form-of [] h = absurd (false≢true h)
+  form-of (b ∷ rest) h =
+      either (FormBy form (b ∷ rest)) h (λ e. is-address (eqb-true _ _ e))
+      (λ h. either (FormBy form (b ∷ rest)) h (λ e. is-plain (eqb-true _ _ e))
+      (λ h. either (FormBy form (b ∷ rest)) h (λ e. is-marks (eqb-true _ _ e))
+      (λ h. either (FormBy form (b ∷ rest)) h (λ e. is-token (leb-true _ _ (both e .0)) (leb-true _ _ (both e .1)))
+      (λ e. is-ending (eqb-true _ _ e)))))
+
+  pub is-form : (rest : List ℕ) → FormBy form rest → is-command-by form rest ≡ true
+  unfolding is-command-by _||_ _&&_
+  is-form [] (is-address e) = absurd (omega (arith, apart form .line-some))
+  is-form [] (is-plain e) = absurd (omega arith)
+  is-form [] (is-marks e) = absurd (omega (arith, apart form .marks-some))
+  is-form [] (is-token low high) = absurd (omega arith)
+  is-form [] (is-ending e) = absurd (omega arith)
+  is-form (b ∷ rest) (is-address e) = rw (e, apart form .same-line)
+  is-form (b ∷ rest) (is-plain e) = rw (e, apart form .line-plain)
+  is-form (b ∷ rest) (is-marks e) = let a = apart form in rw (e, a .marks-line, a .marks-plain, a .same-marks)
+  is-form (b ∷ rest) (is-token low high) =
+      let a = apart form in
+      rw (ne-eqb b (line-byte form) (λ e. omega (arith, a .line-low)), ne-eqb b 0x02 (λ e. omega arith), ne-eqb b (marks-byte form) (λ e. omega (arith, a .marks-low)), le-leb 0x10 b low, le-leb b 0x17 high)
+  is-form (b ∷ rest) (is-ending e) = let a = apart form in rw (e, a .line-end, a .marks-end)
+
+-- the name of `form-of` for the old form
+pub form : (rest : List ℕ) → is-command-by old rest ≡ true → Form rest
+form = form-of
 
 -- a command that ends inside the tape: its size, and a token's kind
 abbrev pub Sized : Command → ℕ → Type 0
 Sized (new-line address indent) n = n ≤ 10
-Sized (marked s) n = n ≡ 17
+Sized (marked s) n = n ≤ 17
 Sized (new-token t) n = (n ≡ 3 + length (t .text)) × (t .kind < 8)
 Sized end n = n ≡ 1
 
-pub sized : (rest : List ℕ) → Form rest → command-size rest ≤ length rest → Sized (command-of rest) (command-size rest)
-sized rest (is-address e) inside = let f = address-form rest e in rw (f .1, f .0) (omega arith)
-sized rest (is-plain e) inside = let f = plain-form rest e in rw (f .1, f .0) (omega arith)
-sized rest (is-marks e) inside = let f = marks-form rest e in rw (f .1, f .0) refl
-sized rest (is-token low high) inside =
-    let f = token-form rest low high in
-    let fits : text-length rest ≤ length (drop 3 rest) = rw length-drop (omega (arith, f .0)) in
-    rw (f .1, f .0, length-take-le (text-length rest) (drop 3 rest) fits) (refl, omega arith)
-sized rest (is-ending e) inside = let f = end-form rest e in rw (f .1, f .0) refl
+pub widths : (form : TapeForm) → width form ≤ 8
+widths old = omega arith
+widths offsets = omega arith
+
+module _ {form : TapeForm} where
+  pub sized : (rest : List ℕ) → FormBy form rest → command-size-by form rest ≤ length rest → Sized (command-by form rest) (command-size-by form rest)
+  sized rest (is-address e) inside = let f = address-form-by form rest e in rw (f .1, f .0) (omega (arith, widths form))
+  sized rest (is-plain e) inside = let f = plain-form-by form rest e in rw (f .1, f .0) (omega arith)
+  sized rest (is-marks e) inside = let f = marks-form-by form rest e in rw (f .1, f .0) (omega (arith, widths form))
+  sized rest (is-token low high) inside =
+      let f = token-form-by form rest low high in
+      let fits : text-length rest ≤ length (drop 3 rest) = rw length-drop (omega (arith, f .0)) in
+      rw (f .1, f .0, length-take-le (text-length rest) (drop 3 rest) fits) (refl, omega arith)
+  sized rest (is-ending e) inside = let f = end-form-by form rest e in rw (f .1, f .0) refl
 
 -- ---- there and back
 
 -- what of a command its bytes can hold
+abbrev pub AddressFitsBy : TapeForm → Option ℕ → Type 0
+AddressFitsBy form none = Unit {0}
+AddressFitsBy form (some address) = address < 256 ^ width form
+
+abbrev pub SpanFitsBy : TapeForm → Span → Type 0
+SpanFitsBy form s = (s .lowest < 256 ^ width form) × (s .highest < 256 ^ width form)
+
+abbrev pub WritableBy : TapeForm → Command → Type 0
+WritableBy form (new-line address indent) = AddressFitsBy form address
+WritableBy form (marked s) = SpanFitsBy form s
+WritableBy form (new-token t) = (t .kind < 8) × (length (t .text) < 2 ^ 16)
+WritableBy form end = Unit {0}
+
 abbrev pub AddressFits : Option ℕ → Type 0
-AddressFits none = Unit {0}
-AddressFits (some address) = address < 2 ^ 64
+AddressFits = AddressFitsBy old
 
 abbrev pub SpanFits : Span → Type 0
-SpanFits s = (s .lowest < 2 ^ 64) × (s .highest < 2 ^ 64)
+SpanFits = SpanFitsBy old
 
 abbrev pub Writable : Command → Type 0
-Writable (new-line address indent) = AddressFits address
-Writable (marked s) = SpanFits s
-Writable (new-token t) = (t .kind < 8) × (length (t .text) < 2 ^ 16)
-Writable end = Unit {0}
+Writable = WritableBy old
 
-pub writable : (rest : List ℕ) → Bytes rest → Form rest → command-size rest ≤ length rest → Writable (command-of rest)
-writable rest h (is-address e) inside =
-    let f = address-form rest e in
-    let n : length (take 8 (drop 1 rest)) ≡ 8 = length-take-le 8 (drop 1 rest) (rw length-drop (omega (arith, f .0))) in
-    rw (f .1) (rw n at (from-below (take 8 (drop 1 rest)) (bytes-take 8 (drop 1 rest) (bytes-drop 1 rest h))))
-writable rest h (is-plain e) inside = let f = plain-form rest e in rw (f .1) tt
-writable rest h (is-marks e) inside =
-    let f = marks-form rest e in
-    let m : length (take 8 (drop 1 rest)) ≡ 8 = length-take-le 8 (drop 1 rest) (rw length-drop (omega (arith, f .0))) in
-    let n : length (take 8 (drop 9 rest)) ≡ 8 = length-take-le 8 (drop 9 rest) (rw length-drop (omega (arith, f .0))) in
-    rw (f .1) (
-      rw m at (from-below (take 8 (drop 1 rest)) (bytes-take 8 (drop 1 rest) (bytes-drop 1 rest h))),
-      rw n at (from-below (take 8 (drop 9 rest)) (bytes-take 8 (drop 9 rest) (bytes-drop 9 rest h))),
-    )
-writable rest h (is-token low high) inside =
-    let f = token-form rest low high in
-    let n : length (take 2 (drop 1 rest)) ≡ 2 = length-take-le 2 (drop 1 rest) (rw length-drop (omega (arith, f .0))) in
-    let fits : text-length rest ≤ length (drop 3 rest) = rw length-drop (omega (arith, f .0)) in
-    let below = rw n at (from-below (take 2 (drop 1 rest)) (bytes-take 2 (drop 1 rest) (bytes-drop 1 rest h))) in
-    rw (f .1, length-take-le (text-length rest) (drop 3 rest) fits) (omega arith, below)
-writable rest h (is-ending e) inside = let f = end-form rest e in rw (f .1) tt
+size-of-none : (form : TapeForm) → command-size-by form [] ≡ 3
+unfolding command-size-by if_then_else_ from-le-bytes
+size-of-none old = refl
+size-of-none offsets = refl
 
-size-of-none : command-size [] ≡ 3
-unfolding command-size if_then_else_ from-le-bytes
-size-of-none = refl
+module _ {form : TapeForm} where
+  pub writable : (rest : List ℕ) → Bytes rest → FormBy form rest → command-size-by form rest ≤ length rest → WritableBy form (command-by form rest)
+  writable rest h (is-address e) inside =
+      let w : ℕ = width form in
+      let f = address-form-by form rest e in
+      let n : length (take w (drop 1 rest)) ≡ w = length-take-le w (drop 1 rest) (rw length-drop (omega (arith, f .0))) in
+      rw (f .1) (rw n at (from-below (take w (drop 1 rest)) (bytes-take w (drop 1 rest) (bytes-drop 1 rest h))))
+  writable rest h (is-plain e) inside = let f = plain-form-by form rest e in rw (f .1) tt
+  writable rest h (is-marks e) inside =
+      let w : ℕ = width form in
+      let f = marks-form-by form rest e in
+      let m : length (take w (drop 1 rest)) ≡ w = length-take-le w (drop 1 rest) (rw length-drop (omega (arith, f .0))) in
+      let n : length (take w (drop (1 + w) rest)) ≡ w = length-take-le w (drop (1 + w) rest) (rw length-drop (omega (arith, f .0))) in
+      rw (f .1) (
+        rw m at (from-below (take w (drop 1 rest)) (bytes-take w (drop 1 rest) (bytes-drop 1 rest h))),
+        rw n at (from-below (take w (drop (1 + w) rest)) (bytes-take w (drop (1 + w) rest) (bytes-drop (1 + w) rest h))),
+      )
+  writable rest h (is-token low high) inside =
+      let f = token-form-by form rest low high in
+      let n : length (take 2 (drop 1 rest)) ≡ 2 = length-take-le 2 (drop 1 rest) (rw length-drop (omega (arith, f .0))) in
+      let fits : text-length rest ≤ length (drop 3 rest) = rw length-drop (omega (arith, f .0)) in
+      let below = rw n at (from-below (take 2 (drop 1 rest)) (bytes-take 2 (drop 1 rest) (bytes-drop 1 rest h))) in
+      rw (f .1, length-take-le (text-length rest) (drop 3 rest) fits) (omega arith, below)
+  writable rest h (is-ending e) inside = let f = end-form-by form rest e in rw (f .1) tt
 
--- what is read writes back
-pub write-of-read : (rest : List ℕ) → Bytes rest → Form rest → command-size rest ≤ length rest
-    → write-command (command-of rest) ≡ take (command-size rest) rest
-unfolding write-command
-write-of-read [] h f inside = absurd (omega (arith, size-of-none))
-write-of-read (b ∷ more) h (is-address e) inside =
-    let f = address-form (b ∷ more) e in
-    rw (f .0, f .1, e, to-take 8 more (λ i. h (suc i)) (omega (arith, f .0)), take-suc more 8 0 (omega (arith, f .0)))
-write-of-read (b ∷ more) h (is-plain e) inside =
-    let f = plain-form (b ∷ more) e in
-    rw (f .0, f .1, e, take-suc more 0 0 (omega (arith, f .0)))
-write-of-read (b ∷ more) h (is-marks e) inside =
-    let f = marks-form (b ∷ more) e in
-    let long : 8 ≤ length (drop 8 more) = rw length-drop (omega (arith, f .0)) in
-    rw (f .0, f .1, e, to-take 8 more (λ i. h (suc i)) (omega (arith, f .0)), to-take 8 (drop 8 more) (bytes-drop 8 more (λ i. h (suc i))) long, ← take-add 8 8 more)
-write-of-read (b ∷ more) h (is-token low high) inside =
-    let f = token-form (b ∷ more) low high in
-    let n : ℕ = from-le-bytes (take 2 more) in
-    let fits : n ≤ length (drop 2 more) = rw length-drop (omega (arith, f .0)) in
-    let kind : 0x10 + (b - 0x10) ≡ b = omega arith in
-    let size : 3 + n ≡ suc (2 + n) = omega arith in
-    rw (f .0, f .1, kind, length-take-le n (drop 2 more) fits, to-take 2 more (λ i. h (suc i)) (omega (arith, f .0)), size, take-add 2 n more)
-write-of-read (b ∷ more) h (is-ending e) inside = let f = end-form (b ∷ more) e in rw (f .0, f .1, e)
+  -- what is read writes back
+  pub write-of-read : (rest : List ℕ) → Bytes rest → FormBy form rest → command-size-by form rest ≤ length rest
+      → write-command-by form (command-by form rest) ≡ take (command-size-by form rest) rest
+  unfolding write-command-by
+  write-of-read [] h f inside = absurd (omega (arith, size-of-none form))
+  write-of-read (b ∷ more) h (is-address e) inside =
+      let w : ℕ = width form in
+      let f = address-form-by form (b ∷ more) e in
+      let size : 2 + w ≡ suc (suc w) = omega arith in
+      let next : 1 + w ≡ suc w = omega arith in
+      rw (f .0, f .1, e, size, next, to-take w more (λ i. h (suc i)) (omega (arith, f .0)), take-suc more w 0 (omega (arith, f .0)))
+  write-of-read (b ∷ more) h (is-plain e) inside =
+      let f = plain-form-by form (b ∷ more) e in
+      rw (f .0, f .1, e, take-suc more 0 0 (omega (arith, f .0)))
+  write-of-read (b ∷ more) h (is-marks e) inside =
+      let w : ℕ = width form in
+      let f = marks-form-by form (b ∷ more) e in
+      let long : w ≤ length (drop w more) = rw length-drop (omega (arith, f .0)) in
+      let size : 1 + w + w ≡ suc (w + w) = omega arith in
+      let next : 1 + w ≡ suc w = omega arith in
+      rw (f .0, f .1, e, size, next, to-take w more (λ i. h (suc i)) (omega (arith, f .0)), to-take w (drop w more) (bytes-drop w more (λ i. h (suc i))) long, ← take-add w w more)
+  write-of-read (b ∷ more) h (is-token low high) inside =
+      let f = token-form-by form (b ∷ more) low high in
+      let n : ℕ = from-le-bytes (take 2 more) in
+      let fits : n ≤ length (drop 2 more) = rw length-drop (omega (arith, f .0)) in
+      let kind : 0x10 + (b - 0x10) ≡ b = omega arith in
+      let size : 3 + n ≡ suc (2 + n) = omega arith in
+      rw (f .0, f .1, kind, length-take-le n (drop 2 more) fits, to-take 2 more (λ i. h (suc i)) (omega (arith, f .0)), size, take-add 2 n more)
+  write-of-read (b ∷ more) h (is-ending e) inside = let f = end-form-by form (b ∷ more) e in rw (f .0, f .1, e)
 
 -- what is written reads back
-pub record ReadBack (rest : List ℕ) (c : Command) : Type 0 where
-  pub known : is-command rest ≡ true
-  pub size : command-size rest ≡ length (write-command c)
-  pub same : command-of rest ≡ c
+pub record ReadBackBy (form : TapeForm) (rest : List ℕ) (c : Command) : Type 0 where
+  pub known : is-command-by form rest ≡ true
+  pub size : command-size-by form rest ≡ length (write-command-by form c)
+  pub same : command-by form rest ≡ c
 
-pub read-of-write : (c : Command) (more : List ℕ) → Writable c → ReadBack (write-command c ++ more) c
-unfolding write-command to-le-bytes
-read-of-write (new-line (some address) indent) more h =
-    let rest : List ℕ = write-command (new-line (some address) indent) ++ more in
-    let f = address-form rest refl in
+-- by form, as the bytes are then laid out one by one
+pub read-of-write : {form : TapeForm} (c : Command) (more : List ℕ) → WritableBy form c → ReadBackBy form (write-command-by form c ++ more) c
+unfolding write-command-by to-le-bytes
+read-of-write {form = old} (new-line (some address) indent) more h =
+    let rest : List ℕ = write-command-by old (new-line (some address) indent) ++ more in
+    let f = address-form-by old rest refl in
     record {
       known = is-form rest (is-address refl);
       size = f .0;
       same = f .1 ∙ ap (λ (n : ℕ). new-line (some n) indent) (from-to 8 address h);
     }
-read-of-write (new-line none indent) more h =
-    let rest : List ℕ = write-command (new-line none indent) ++ more in
-    let f = plain-form rest refl in
+read-of-write {form = old} (new-line none indent) more h =
+    let rest : List ℕ = write-command-by old (new-line none indent) ++ more in
+    let f = plain-form-by old rest refl in
     record { known = is-form rest (is-plain refl); size = f .0; same = f .1 }
-read-of-write (marked s) more h =
-    let rest : List ℕ = write-command (marked s) ++ more in
-    let f = marks-form rest refl in
+read-of-write {form = old} (marked s) more h =
+    let rest : List ℕ = write-command-by old (marked s) ++ more in
+    let f = marks-form-by old rest refl in
     record {
       known = is-form rest (is-marks refl);
       size = f .0;
       same = f .1 ∙ λ i. marked (record { lowest = from-to 8 (s .lowest) (h .0) i; highest = from-to 8 (s .highest) (h .1) i });
     }
-read-of-write (new-token t) more h =
-    let rest : List ℕ = write-command (new-token t) ++ more in
+read-of-write {form = old} (new-token t) more h =
+    let rest : List ℕ = write-command-by old (new-token t) ++ more in
     let n : ℕ = length (t .text) in
-    let f = token-form rest (omega arith) (omega arith) in
+    let f = token-form-by old rest (omega arith) (omega arith) in
     let len : text-length rest ≡ n = from-to 2 n (h .1) in
     let kind : 0x10 + t .kind - 0x10 ≡ t .kind = omega arith in
     record {
@@ -213,7 +318,42 @@ read-of-write (new-token t) more h =
       size = omega (arith, len, f .0);
       same = f .1 ∙ rw (len, kind, take-append-seam (t .text) more);
     }
-read-of-write end more h =
-    let rest : List ℕ = write-command end ++ more in
-    let f = end-form rest refl in
+read-of-write {form = old} end more h =
+    let rest : List ℕ = write-command-by old end ++ more in
+    let f = end-form-by old rest refl in
+    record { known = is-form rest (is-ending refl); size = f .0; same = f .1 }
+read-of-write {form = offsets} (new-line (some address) indent) more h =
+    let rest : List ℕ = write-command-by offsets (new-line (some address) indent) ++ more in
+    let f = address-form-by offsets rest refl in
+    record {
+      known = is-form rest (is-address refl);
+      size = f .0;
+      same = f .1 ∙ ap (λ (n : ℕ). new-line (some n) indent) (from-to 4 address h);
+    }
+read-of-write {form = offsets} (new-line none indent) more h =
+    let rest : List ℕ = write-command-by offsets (new-line none indent) ++ more in
+    let f = plain-form-by offsets rest refl in
+    record { known = is-form rest (is-plain refl); size = f .0; same = f .1 }
+read-of-write {form = offsets} (marked s) more h =
+    let rest : List ℕ = write-command-by offsets (marked s) ++ more in
+    let f = marks-form-by offsets rest refl in
+    record {
+      known = is-form rest (is-marks refl);
+      size = f .0;
+      same = f .1 ∙ λ i. marked (record { lowest = from-to 4 (s .lowest) (h .0) i; highest = from-to 4 (s .highest) (h .1) i });
+    }
+read-of-write {form = offsets} (new-token t) more h =
+    let rest : List ℕ = write-command-by offsets (new-token t) ++ more in
+    let n : ℕ = length (t .text) in
+    let f = token-form-by offsets rest (omega arith) (omega arith) in
+    let len : text-length rest ≡ n = from-to 2 n (h .1) in
+    let kind : 0x10 + t .kind - 0x10 ≡ t .kind = omega arith in
+    record {
+      known = is-form rest (is-token (omega arith) (omega arith));
+      size = omega (arith, len, f .0);
+      same = f .1 ∙ rw (len, kind, take-append-seam (t .text) more);
+    }
+read-of-write {form = offsets} end more h =
+    let rest : List ℕ = write-command-by offsets end ++ more in
+    let f = end-form-by offsets rest refl in
     record { known = is-form rest (is-ending refl); size = f .0; same = f .1 }

@@ -11,7 +11,8 @@ use Rattle.reference.specs.Lists.{any, modify}
 use Rattle.reference.specs.Listing.{Token, is, Number, Line, Listing}
 use Rattle.reference.specs.Spans.{Marks}
 use Rattle.reference.specs.Claim.{token-count, text}
-use Rattle.reference.proofs.Commands.{AddressFits, SpanFits}
+use Rattle.reference.specs.Tape.{TapeForm, old}
+use Rattle.reference.proofs.Commands.{AddressFitsBy, SpanFitsBy}
 
 module _ {A : Type 0} where
   abbrev pub All : (A → Type 0) → List A → Type 0
@@ -46,11 +47,17 @@ pub record Limits (lines : Listing) : Type 0 where
   pub each : All LineFits lines
 
 -- marks that an accepted tape of bytes can hold
-abbrev pub MarksFit : Marks → Type 0
-MarksFit none = Unit {0}
-MarksFit (some s) = SpanFits s × (s .lowest ≤ s .highest)
+abbrev pub MarksFitBy : TapeForm → Marks → Type 0
+MarksFitBy form none = Unit {0}
+MarksFitBy form (some s) = SpanFitsBy form s × (s .lowest ≤ s .highest)
 
--- what an accepted tape of bytes holds: addresses have 8 of them
-pub record Fits (lines : Listing) : Type 0 where
+-- what an accepted tape of bytes holds: addresses have 8 of them, offsets 4
+pub record FitsBy (form : TapeForm) (lines : Listing) : Type 0 where
   pub limits : Limits lines
-  pub addresses : All (λ l. AddressFits (l .address)) lines
+  pub addresses : All (λ l. AddressFitsBy form (l .address)) lines
+
+abbrev pub MarksFit : Marks → Type 0
+MarksFit = MarksFitBy old
+
+abbrev pub Fits : Listing → Type 0
+Fits = FitsBy old

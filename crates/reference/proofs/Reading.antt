@@ -2,7 +2,6 @@
 -- reading comes to. Assumes nothing.
 use Prim.Native.Nat.{ℕ, zero, suc, _+_, _-_, _<_, _≤_}
 use native.Mathlib.Omega.{arith}
-use native.Mathlib.Nat.{sub-zero}
 use mathlib.Core.Path.{_≡_, refl, sym, ap, _∙_}
 use mathlib.Core.Bool.{Bool, true, false}
 use mathlib.Core.List.{List, [], _∷_, _++_}
@@ -12,10 +11,10 @@ use borrow.Author.Tests.{leb-true, le-leb, lt-leb}
 use Rattle.reference.specs.Control.{if_then_else_}
 use Rattle.reference.specs.Listing.{Listing}
 use Rattle.reference.specs.Spans.{Marks}
-use Rattle.reference.specs.Tape.{Command, command-size, command-of}
-use Rattle.reference.specs.Questions.{Totals, is-command, ends-inside, has-line, is-within, is-few, is-short, is-printable, is-over, first-offending, place-at, Answer, Refused, Passed, ask, let-passed_then_, count-in, Advance, read-command, is-end, add, no-commands, read-from, read, add-marks, marks-from, marks-in}
+use Rattle.reference.specs.Tape.{TapeForm, old, header, Command, command-size-by, command-by}
+use Rattle.reference.specs.Questions.{Totals, is-command-by, ends-inside-by, has-line, is-within, is-few, is-short, is-printable, is-over, first-offending, place-at, Answer, Refused, Passed, ask, let-passed_then_, count-in, Advance, read-command-by, is-end, add, no-commands, read-from-by, read-by, add-marks, marks-from-by, marks-in-by}
 use Rattle.reference.proofs.Cases.{by-if}
-use Rattle.reference.proofs.Commands.{Form, is-address, is-plain, is-marks, is-token, is-ending, form, is-form, address-form, plain-form, marks-form, token-form, end-form}
+use Rattle.reference.proofs.Commands.{FormBy, is-address, is-plain, is-marks, is-token, is-ending, form-of, is-form, address-form-by, plain-form-by, marks-form-by, token-form-by, end-form-by}
 
 -- ---- questions
 
@@ -74,157 +73,186 @@ module _ {A : Type 0} where
 -- ---- one command
 
 -- the questions 3 to 8, 10 and 11 are answered "yes"
-pub record Passes (rest : List ℕ) (t : Totals) : Type 0 where
-  pub known : Form rest
-  pub inside : command-size rest ≤ length rest
-  pub begun : has-line t (command-of rest) ≡ true
-  pub within : is-within (command-of rest) ≡ true
-  pub few : is-few t (command-of rest) ≡ true
-  pub short : is-short t (command-of rest) ≡ true
-  pub printable : is-printable (command-of rest) ≡ true
-  pub over : is-over rest (command-of rest) ≡ true
+pub record PassesBy (form : TapeForm) (rest : List ℕ) (t : Totals) : Type 0 where
+  pub known : FormBy form rest
+  pub inside : command-size-by form rest ≤ length rest
+  pub begun : has-line t (command-by form rest) ≡ true
+  pub within : is-within (command-by form rest) ≡ true
+  pub few : is-few t (command-by form rest) ≡ true
+  pub short : is-short t (command-by form rest) ≡ true
+  pub printable : is-printable (command-by form rest) ≡ true
+  pub over : is-over rest (command-by form rest) ≡ true
 
-abbrev pub advance : List ℕ → ℕ → Totals → Advance
-advance tape at t =
+abbrev pub Passes : List ℕ → Totals → Type 0
+Passes = PassesBy old
+
+abbrev pub advance-by : TapeForm → List ℕ → ℕ → Totals → Advance
+advance-by form tape at t =
     record {
-      command = command-of (drop at tape);
-      next = at + command-size (drop at tape);
-      totals = count-in (command-of (drop at tape)) t;
+      command = command-by form (drop at tape);
+      next = at + command-size-by form (drop at tape);
+      totals = count-in (command-by form (drop at tape)) t;
     }
 
-pub command-passed : (tape : List ℕ) (at : ℕ) (t : Totals) (a : Advance) → read-command tape at t ≡ Passed a
-    → Passes (drop at tape) t × (a ≡ advance tape at t)
-unfolding read-command ends-inside
-command-passed tape at t a e =
-    let r = ask-passed _ _ (Passed (advance tape at t)) a e in
-    let yes = r .0 in
-    let passes : Passes (drop at tape) t =
-    record {
-      known = form _ (yes .0);
-      inside = leb-true _ _ (yes .1 .0);
-      begun = yes .1 .1 .0;
-      within = yes .1 .1 .1 .0;
-      few = yes .1 .1 .1 .1 .0;
-      short = yes .1 .1 .1 .1 .1 .0;
-      printable = yes .1 .1 .1 .1 .1 .1 .0;
-      over = yes .1 .1 .1 .1 .1 .1 .1 .0;
-    } in
-    (passes, sym (passed-inj (r .1)))
+abbrev pub advance : List ℕ → ℕ → Totals → Advance
+advance = advance-by old
 
-pub pass-command : (tape : List ℕ) (at : ℕ) (t : Totals) → Passes (drop at tape) t → read-command tape at t ≡ Passed (advance tape at t)
-unfolding read-command ends-inside
-pass-command tape at t p =
-    ask-yes _ _ _ (is-form _ (p .known), (le-leb _ _ (p .inside), (p .begun, (p .within, (p .few, (p .short, (p .printable, (p .over, tt))))))))
+module _ (form : TapeForm) where
+  pub command-passed-by : (tape : List ℕ) (at : ℕ) (t : Totals) (a : Advance) → read-command-by form tape at t ≡ Passed a
+      → PassesBy form (drop at tape) t × (a ≡ advance-by form tape at t)
+  unfolding read-command-by ends-inside-by
+  command-passed-by tape at t a e =
+      let r = ask-passed _ _ (Passed (advance-by form tape at t)) a e in
+      let yes = r .0 in
+      let passes : PassesBy form (drop at tape) t =
+      record {
+        known = form-of _ (yes .0);
+        inside = leb-true _ _ (yes .1 .0);
+        begun = yes .1 .1 .0;
+        within = yes .1 .1 .1 .0;
+        few = yes .1 .1 .1 .1 .0;
+        short = yes .1 .1 .1 .1 .1 .0;
+        printable = yes .1 .1 .1 .1 .1 .1 .0;
+        over = yes .1 .1 .1 .1 .1 .1 .1 .0;
+      } in
+      (passes, sym (passed-inj (r .1)))
+
+pub command-passed : (tape : List ℕ) (at : ℕ) (t : Totals) (a : Advance) → read-command-by old tape at t ≡ Passed a
+    → Passes (drop at tape) t × (a ≡ advance tape at t)
+command-passed = command-passed-by old
+
+module _ {form : TapeForm} where
+  pub pass-command : (tape : List ℕ) (at : ℕ) (t : Totals) → PassesBy form (drop at tape) t
+      → read-command-by form tape at t ≡ Passed (advance-by form tape at t)
+  unfolding read-command-by ends-inside-by
+  pass-command tape at t p =
+      ask-yes _ _ _ (is-form _ (p .known), (le-leb _ _ (p .inside), (p .begun, (p .within, (p .few, (p .short, (p .printable, (p .over, tt))))))))
 
 -- and where one is the first answered "no"
-module _ (tape : List ℕ) (at : ℕ) (t : Totals) where
-  abbrev rest : List ℕ
-  rest = drop at tape
+module _ (form : TapeForm) (tape : List ℕ) (at : ℕ) (t : Totals) where
+  pub refused-3-by : is-command-by form (drop at tape) ≡ false → read-command-by form tape at t ≡ Refused 3 at
+  unfolding read-command-by place-at if_then_else_
+  refused-3-by e = ask-no _ [] _ _ _ tt e
 
-  abbrev c : Command
-  c = command-of rest
+-- the command at an offset
+abbrev there : TapeForm → List ℕ → ℕ → Command
+there form tape at = command-by form (drop at tape)
 
-  pub refused-3 : is-command rest ≡ false → read-command tape at t ≡ Refused 3 at
-  unfolding read-command place-at if_then_else_
-  refused-3 e = ask-no _ [] _ _ _ tt e
-
-  pub refused-4 : Form rest → length rest < command-size rest → read-command tape at t ≡ Refused 4 at
-  unfolding read-command ends-inside place-at if_then_else_
+module _ {form : TapeForm} (tape : List ℕ) (at : ℕ) (t : Totals) where
+  pub refused-4 : FormBy form (drop at tape) → length (drop at tape) < command-size-by form (drop at tape) → read-command-by form tape at t ≡ Refused 4 at
+  unfolding read-command-by ends-inside-by place-at if_then_else_
   refused-4 f h = ask-no _ ((3, _) ∷ []) _ _ _ (is-form _ f, tt) (lt-leb _ _ h)
 
-  module _ (f : Form rest) (inside : command-size rest ≤ length rest) where
-    pub refused-5 : has-line t c ≡ false → read-command tape at t ≡ Refused 5 at
-    unfolding read-command ends-inside place-at if_then_else_
+  module _ (f : FormBy form (drop at tape)) (inside : command-size-by form (drop at tape) ≤ length (drop at tape)) where
+    pub refused-5 : has-line t (there form tape at) ≡ false → read-command-by form tape at t ≡ Refused 5 at
+    unfolding read-command-by ends-inside-by place-at if_then_else_
     refused-5 e = ask-no _ ((3, _) ∷ (4, _) ∷ []) _ _ _ (is-form _ f, (le-leb _ _ inside, tt)) e
 
-    module _ (begun : has-line t c ≡ true) where
-      pub refused-6 : is-within c ≡ false → read-command tape at t ≡ Refused 6 at
-      unfolding read-command ends-inside place-at if_then_else_
+    module _ (begun : has-line t (there form tape at) ≡ true) where
+      pub refused-6 : is-within (there form tape at) ≡ false → read-command-by form tape at t ≡ Refused 6 at
+      unfolding read-command-by ends-inside-by place-at if_then_else_
       refused-6 e = ask-no _ ((3, _) ∷ (4, _) ∷ (5, _) ∷ []) _ _ _ (is-form _ f, (le-leb _ _ inside, (begun, tt))) e
 
-      module _ (within : is-within c ≡ true) where
-        pub refused-10 : is-few t c ≡ false → read-command tape at t ≡ Refused 10 at
-        unfolding read-command ends-inside place-at if_then_else_
+      module _ (within : is-within (there form tape at) ≡ true) where
+        pub refused-10 : is-few t (there form tape at) ≡ false → read-command-by form tape at t ≡ Refused 10 at
+        unfolding read-command-by ends-inside-by place-at if_then_else_
         refused-10 e = ask-no _ ((3, _) ∷ (4, _) ∷ (5, _) ∷ (6, _) ∷ []) _ _ _ (is-form _ f, (le-leb _ _ inside, (begun, (within, tt)))) e
 
-        module _ (few : is-few t c ≡ true) where
-          pub refused-11 : is-short t c ≡ false → read-command tape at t ≡ Refused 11 at
-          unfolding read-command ends-inside place-at if_then_else_
+        module _ (few : is-few t (there form tape at) ≡ true) where
+          pub refused-11 : is-short t (there form tape at) ≡ false → read-command-by form tape at t ≡ Refused 11 at
+          unfolding read-command-by ends-inside-by place-at if_then_else_
           refused-11 e =
               ask-no _ ((3, _) ∷ (4, _) ∷ (5, _) ∷ (6, _) ∷ (10, _) ∷ []) _ _ _ (is-form _ f, (le-leb _ _ inside, (begun, (within, (few, tt))))) e
 
-          module _ (short : is-short t c ≡ true) where
-            pub refused-7 : is-printable c ≡ false → read-command tape at t ≡ Refused 7 (at + first-offending c)
-            unfolding read-command ends-inside place-at if_then_else_
+          module _ (short : is-short t (there form tape at) ≡ true) where
+            pub refused-7 : is-printable (there form tape at) ≡ false → read-command-by form tape at t ≡ Refused 7 (at + first-offending (there form tape at))
+            unfolding read-command-by ends-inside-by place-at if_then_else_
             refused-7 e =
                 ask-no _ ((3, _) ∷ (4, _) ∷ (5, _) ∷ (6, _) ∷ (10, _) ∷ (11, _) ∷ []) _ _ _
                 (is-form _ f, (le-leb _ _ inside, (begun, (within, (few, (short, tt))))))
                 e
 
-            pub refused-8 : is-printable c ≡ true → is-over rest c ≡ false → read-command tape at t ≡ Refused 8 at
-            unfolding read-command ends-inside place-at if_then_else_
+            pub refused-8 : is-printable (there form tape at) ≡ true → is-over (drop at tape) (there form tape at) ≡ false → read-command-by form tape at t ≡ Refused 8 at
+            unfolding read-command-by ends-inside-by place-at if_then_else_
             refused-8 p e =
                 ask-no _ ((3, _) ∷ (4, _) ∷ (5, _) ∷ (6, _) ∷ (10, _) ∷ (11, _) ∷ (7, _) ∷ []) _ _ _
                 (is-form _ f, (le-leb _ _ inside, (begun, (within, (few, (short, (p, tt)))))))
                 e
 
-pub size-positive : (rest : List ℕ) → Form rest → 1 ≤ command-size rest
-size-positive rest (is-address e) = omega (arith, address-form rest e .0)
-size-positive rest (is-plain e) = omega (arith, plain-form rest e .0)
-size-positive rest (is-marks e) = omega (arith, marks-form rest e .0)
-size-positive rest (is-token low high) = omega (arith, token-form rest low high .0)
-size-positive rest (is-ending e) = omega (arith, end-form rest e .0)
+module _ {form : TapeForm} where
+  pub size-positive : (rest : List ℕ) → FormBy form rest → 1 ≤ command-size-by form rest
+  size-positive rest (is-address e) = omega (arith, address-form-by form rest e .0)
+  size-positive rest (is-plain e) = omega (arith, plain-form-by form rest e .0)
+  size-positive rest (is-marks e) = omega (arith, marks-form-by form rest e .0)
+  size-positive rest (is-token low high) = omega (arith, token-form-by form rest low high .0)
+  size-positive rest (is-ending e) = omega (arith, end-form-by form rest e .0)
 
--- a command that passes goes on, inside the tape
-pub advances : (tape : List ℕ) (at : ℕ) (t : Totals) → Passes (drop at tape) t
-    → (at < at + command-size (drop at tape)) × (at + command-size (drop at tape) ≤ length tape)
-advances tape at t p =
-    let positive = size-positive (drop at tape) (p .known) in
-    let inside = rw length-drop at (p .inside) in
-    omega arith
+  -- a command that passes goes on, inside the tape
+  pub advances : (tape : List ℕ) (at : ℕ) (t : Totals) → PassesBy form (drop at tape) t
+      → (at < at + command-size-by form (drop at tape)) × (at + command-size-by form (drop at tape) ≤ length tape)
+  advances tape at t p =
+      let positive = size-positive (drop at tape) (p .known) in
+      let inside = rw length-drop at (p .inside) in
+      omega arith
 
--- where there is no byte, the answer is 3
-pub no-byte : (tape : List ℕ) (at : ℕ) (t : Totals) → length tape ≤ at → read-command tape at t ≡ Refused 3 at
-unfolding is-command
-no-byte tape at t h = refused-3 tape at t (rw (drop-of-length-le tape h))
+module _ (form : TapeForm) where
+  -- where there is no byte, the answer is 3
+  pub no-byte-by : (tape : List ℕ) (at : ℕ) (t : Totals) → length tape ≤ at → read-command-by form tape at t ≡ Refused 3 at
+  unfolding is-command-by
+  no-byte-by tape at t h = refused-3-by form tape at t (rw (drop-of-length-le tape h))
 
--- the answer depends on the numbers carried along and on the tape from the offset on
-pub read-command-rest : (s t : List ℕ) (at : ℕ) (n : Totals) → drop at s ≡ drop at t → read-command s at n ≡ read-command t at n
-unfolding read-command
-read-command-rest s t at n e = rw e
+  -- the answer depends on the numbers carried along and on the tape from the offset on
+  pub read-command-rest-by : (s t : List ℕ) (at : ℕ) (n : Totals) → drop at s ≡ drop at t → read-command-by form s at n ≡ read-command-by form t at n
+  unfolding read-command-by
+  read-command-rest-by s t at n e = rw e
+
+-- the old form's
+pub read-command-rest : (s t : List ℕ) (at : ℕ) (n : Totals) → drop at s ≡ drop at t → read-command-by old s at n ≡ read-command-by old t at n
+read-command-rest = read-command-rest-by old
+
+pub refused-3 : (tape : List ℕ) (at : ℕ) (t : Totals) → is-command-by old (drop at tape) ≡ false → read-command-by old tape at t ≡ Refused 3 at
+refused-3 = refused-3-by old
 
 -- ---- the fuel is enough
 
-module _ (tape : List ℕ) where
-  later : (at : ℕ) (t : Totals) (a : Advance) → read-command tape at t ≡ Passed a → at < a .next
-  later at t a e = let r = command-passed tape at t a e in omega (arith, advances tape at t (r .0), ap (λ (a : Advance). a .next) (r .1))
+module _ (form : TapeForm) (tape : List ℕ) where
+  later : (at : ℕ) (t : Totals) (a : Advance) → read-command-by form tape at t ≡ Passed a → at < a .next
+  later at t a e = let r = command-passed-by form tape at t a e in omega (arith, advances tape at t (r .0), ap (λ (a : Advance). a .next) (r .1))
 
   enough : (f g at : ℕ) (t : Totals) (lines : Listing) → length tape ≤ at + f → length tape ≤ at + g
-      → read-from f tape at t lines ≡ read-from g tape at t lines
-  unfolding read-from
+      → read-from-by form f tape at t lines ≡ read-from-by form g tape at t lines
+  unfolding read-from-by
   enough zero zero at t lines h k = refl
-  enough zero (suc g) at t lines h k = sym (let-refused _ (no-byte tape at t (omega arith)))
-  enough (suc f) zero at t lines h k = let-refused _ (no-byte tape at t (omega arith))
+  enough zero (suc g) at t lines h k = sym (let-refused _ (no-byte-by form tape at t (omega arith)))
+  enough (suc f) zero at t lines h k = let-refused _ (no-byte-by form tape at t (omega arith))
   enough (suc f) (suc g) at t lines h k =
       same-passed (λ r. r)
       λ a e. (let before = later at t a e in rw (enough f g (a .next) (a .totals) (add (a .command) lines) (omega arith) (omega arith)))
 
   -- the reading from an offset on
-  abbrev pub reading : ℕ → Totals → Listing → Answer Listing
-  reading at t lines = read-from (length tape - at) tape at t lines
+  abbrev pub reading-by : ℕ → Totals → Listing → Answer Listing
+  reading-by at t lines = read-from-by form (length tape - at) tape at t lines
 
-  pub reading-step : (at : ℕ) (t : Totals) (lines : Listing)
-      → reading at t lines
-      ≡ (let-passed (read-command tape at t) then λ a. if is-end (a .command) then Passed lines else reading (a .next) (a .totals) (add (a .command) lines))
-  unfolding read-from
-  reading-step at t lines =
+  pub reading-step-by : (at : ℕ) (t : Totals) (lines : Listing)
+      → reading-by at t lines
+      ≡ (let-passed (read-command-by form tape at t) then λ a. if is-end (a .command) then Passed lines else reading-by (a .next) (a .totals) (add (a .command) lines))
+  unfolding read-from-by
+  reading-step-by at t lines =
       enough (length tape - at) (suc (length tape)) at t lines (omega arith) (omega arith)
       ∙ same-passed (λ r. r)
       λ a e. (let before = later at t a e in rw (enough (length tape) (length tape - a .next) (a .next) (a .totals) (add (a .command) lines) (omega arith) (omega arith)))
 
-  pub read-whole : read tape ≡ reading 0 (no-commands) []
-  unfolding read
-  read-whole = rw sub-zero
+  pub read-whole-by : read-by form tape ≡ reading-by (header form) (no-commands) []
+  unfolding read-by
+  read-whole-by = enough (length tape) (length tape - header form) (header form) (no-commands) [] (omega arith) (omega arith)
+
+abbrev pub reading : List ℕ → ℕ → Totals → Listing → Answer Listing
+reading = reading-by old
+
+pub reading-step : (tape : List ℕ) (at : ℕ) (t : Totals) (lines : Listing)
+    → reading tape at t lines
+    ≡ (let-passed (read-command-by old tape at t) then λ a. if is-end (a .command) then Passed lines else reading tape (a .next) (a .totals) (add (a .command) lines))
+reading-step = reading-step-by old
 
 -- ---- the answer without the listing
 
@@ -238,13 +266,17 @@ same-if f true p q = p
 same-if f false p q = q
 
 -- whether a tape is refused does not depend on the lines read so far
-pub verdict-same : (tape : List ℕ) (fuel at : ℕ) (t : Totals) (l m : Listing)
-    → verdict (read-from fuel tape at t l) ≡ verdict (read-from fuel tape at t m)
-unfolding read-from
-verdict-same tape zero at t l m = refl
-verdict-same tape (suc fuel) at t l m =
+pub verdict-same-by : (form : TapeForm) (tape : List ℕ) (fuel at : ℕ) (t : Totals) (l m : Listing)
+    → verdict (read-from-by form fuel tape at t l) ≡ verdict (read-from-by form fuel tape at t m)
+unfolding read-from-by
+verdict-same-by form tape zero at t l m = refl
+verdict-same-by form tape (suc fuel) at t l m =
     same-passed verdict
-    λ a e. same-if verdict (is-end (a .command)) refl (verdict-same tape fuel (a .next) (a .totals) (add (a .command) l) (add (a .command) m))
+    λ a e. same-if verdict (is-end (a .command)) refl (verdict-same-by form tape fuel (a .next) (a .totals) (add (a .command) l) (add (a .command) m))
+
+pub verdict-same : (tape : List ℕ) (fuel at : ℕ) (t : Totals) (l m : Listing)
+    → verdict (read-from-by old fuel tape at t l) ≡ verdict (read-from-by old fuel tape at t m)
+verdict-same = verdict-same-by old
 
 -- ---- the places that a reading comes to
 
@@ -254,110 +286,128 @@ pub record State : Type 0 where
   pub lines : Listing
   pub marks : List Marks
 
+abbrev pub start-by : TapeForm → State
+start-by form = record { at = header form; totals = no-commands; lines = []; marks = [] }
+
 abbrev pub start : State
-start = record { at = 0; totals = no-commands; lines = []; marks = [] }
+start = start-by old
 
 module _ (tape : List ℕ) where
   abbrev pub left : State → List ℕ
   left s = drop (s .at) tape
 
-  abbrev pub after : State → State
-  after s =
+module _ (form : TapeForm) (tape : List ℕ) where
+  abbrev pub after-by : State → State
+  after-by s =
       record {
-        at = s .at + command-size (left s);
-        totals = count-in (command-of (left s)) (s .totals);
-        lines = add (command-of (left s)) (s .lines);
-        marks = add-marks (command-of (left s)) (s .marks);
+        at = s .at + command-size-by form (left tape s);
+        totals = count-in (command-by form (left tape s)) (s .totals);
+        lines = add (command-by form (left tape s)) (s .lines);
+        marks = add-marks (command-by form (left tape s)) (s .marks);
       }
 
   -- reached from the start by commands that pass and are not the end
-  pub data Reached : State → Type 0 where
-    here : Reached start
-    on : {s : State} → Reached s → Passes (left s) (s .totals) → is-end (command-of (left s)) ≡ false → Reached (after s)
+  pub data ReachedBy : State → Type 0 where
+    here : ReachedBy (start-by form)
+    on : {s : State} → ReachedBy s → PassesBy form (left tape s) (s .totals) → is-end (command-by form (left tape s)) ≡ false → ReachedBy (after-by s)
 
   -- the end is reached, and passes
-  pub record Accepts (out : Listing) : Type 0 where
+  pub record AcceptsBy (out : Listing) : Type 0 where
     pub state : State
-    pub reached : Reached state
-    pub passes : Passes (left state) (state .totals)
-    pub ends : is-end (command-of (left state)) ≡ true
+    pub reached : ReachedBy state
+    pub passes : PassesBy form (left tape state) (state .totals)
+    pub ends : is-end (command-by form (left tape state)) ≡ true
     pub listing : state .lines ≡ out
 
-  pub accepts : (out : Listing) → read tape ≡ Passed out → Accepts out
-  unfolding read read-from
-  accepts out = go (length tape) start here
+  pub accepts-by : (out : Listing) → read-by form tape ≡ Passed out → AcceptsBy out
+  unfolding read-by read-from-by
+  accepts-by out = go (length tape) (start-by form) here
     where
-      go : (fuel : ℕ) (s : State) → Reached s → read-from fuel tape (s .at) (s .totals) (s .lines) ≡ Passed out → Accepts out
+      go : (fuel : ℕ) (s : State) → ReachedBy s → read-from-by form fuel tape (s .at) (s .totals) (s .lines) ≡ Passed out → AcceptsBy out
       go zero s r = λ e. absurd (refused-passed e)
       go (suc fuel) s r =
-          by-passed (λ (x : Answer Listing). x ≡ Passed out → Accepts out)
+          by-passed (λ (x : Answer Listing). x ≡ Passed out → AcceptsBy out)
           (λ number place u e. absurd (refused-passed e))
           (λ a known e.
-          (let p = command-passed tape (s .at) (s .totals) a known in
-          by-if (λ (x : Answer Listing). x ≡ Passed out → Accepts out)
+          (let p = command-passed-by form tape (s .at) (s .totals) a known in
+          by-if (λ (x : Answer Listing). x ≡ Passed out → AcceptsBy out)
           (λ ends e. record { state = s; reached = r; passes = p .0; ends = ends; listing = passed-inj e })
-          (λ goes e. go fuel (after s) (on r (p .0) goes) e)
+          (λ goes e. go fuel (after-by s) (on r (p .0) goes) e)
           (rw (p .1) at e)))
 
-  pub reading-of : {s : State} → Reached s → read tape ≡ reading tape (s .at) (s .totals) (s .lines)
+module _ (form : TapeForm) where
+  marks-step : (f n : ℕ) (rest : List ℕ) (marks : List Marks) → f ≡ suc n → is-end (command-by form rest) ≡ false
+      → marks-from-by form f rest marks ≡ marks-from-by form n (drop (command-size-by form rest) rest) (add-marks (command-by form rest) marks)
+  unfolding marks-from-by if_then_else_
+  marks-step f n rest marks e h = rw (e, h)
+
+  marks-stop : (f n : ℕ) (rest : List ℕ) (marks : List Marks) → f ≡ suc n → is-end (command-by form rest) ≡ true → marks-from-by form f rest marks ≡ marks
+  unfolding marks-from-by if_then_else_
+  marks-stop f n rest marks e h = rw (e, h)
+
+  -- what is left to read of them, with as much fuel as there are bytes or more
+  record MarksLeft (tape : List ℕ) (s : State) : Type 0 where
+    fuel : ℕ
+    plenty : length (left tape s) ≤ fuel
+    so-far : marks-in-by form tape ≡ marks-from-by form fuel (left tape s) (s .marks)
+
+abbrev pub Reached : List ℕ → State → Type 0
+Reached = ReachedBy old
+
+abbrev pub Accepts : List ℕ → Listing → Type 0
+Accepts = AcceptsBy old
+
+abbrev pub after : List ℕ → State → State
+after = after-by old
+
+pub accepts : (tape : List ℕ) (out : Listing) → read-by old tape ≡ Passed out → Accepts tape out
+accepts = accepts-by old
+
+module _ {form : TapeForm} (tape : List ℕ) where
+  pub reading-of : {s : State} → ReachedBy form tape s → read-by form tape ≡ reading-by form tape (s .at) (s .totals) (s .lines)
   unfolding if_then_else_
-  reading-of here = read-whole tape
+  reading-of here = read-whole-by form tape
   reading-of (on {s = s} r p n) =
       reading-of r
-      ∙ reading-step tape (s .at) (s .totals) (s .lines)
+      ∙ reading-step-by form tape (s .at) (s .totals) (s .lines)
       ∙ let-is _ (pass-command tape (s .at) (s .totals) p)
       ∙ rw n
 
-  pub accepted : (out : Listing) → Accepts out → read tape ≡ Passed out
+  pub accepted : (out : Listing) → AcceptsBy form tape out → read-by form tape ≡ Passed out
   unfolding if_then_else_
   accepted out a =
       let s = a .state in
       reading-of (a .reached)
-      ∙ reading-step tape (s .at) (s .totals) (s .lines)
+      ∙ reading-step-by form tape (s .at) (s .totals) (s .lines)
       ∙ let-is _ (pass-command tape (s .at) (s .totals) (a .passes))
       ∙ rw (a .ends, a .listing)
 
   -- ---- the 03s that were read in
 
-  marks-step : (f n : ℕ) (rest : List ℕ) (marks : List Marks) → f ≡ suc n → is-end (command-of rest) ≡ false
-      → marks-from f rest marks ≡ marks-from n (drop (command-size rest) rest) (add-marks (command-of rest) marks)
-  unfolding marks-from if_then_else_
-  marks-step f n rest marks e h = rw (e, h)
-
-  marks-stop : (f n : ℕ) (rest : List ℕ) (marks : List Marks) → f ≡ suc n → is-end (command-of rest) ≡ true → marks-from f rest marks ≡ marks
-  unfolding marks-from if_then_else_
-  marks-stop f n rest marks e h = rw (e, h)
-
-  -- what is left to read of them, with as much fuel as there are bytes or more
-  record MarksLeft (s : State) : Type 0 where
-    fuel : ℕ
-    plenty : length (left s) ≤ fuel
-    so-far : marks-in tape ≡ marks-from fuel (left s) (s .marks)
-
-  some-left : {s : State} → Passes (left s) (s .totals) → (m : MarksLeft s) → (n : ℕ) × (m .fuel ≡ suc n)
+  some-left : {s : State} → PassesBy form (left tape s) (s .totals) → (m : MarksLeft form tape s) → (n : ℕ) × (m .fuel ≡ suc n)
   some-left {s} p m = go (m .fuel) (m .plenty)
     where
-      go : (f : ℕ) → length (left s) ≤ f → (n : ℕ) × (f ≡ suc n)
-      go zero le = absurd (omega (arith, size-positive (left s) (p .known), p .inside))
+      go : (f : ℕ) → length (left tape s) ≤ f → (n : ℕ) × (f ≡ suc n)
+      go zero le = absurd (omega (arith, size-positive (left tape s) (p .known), p .inside))
       go (suc n) le = (n, refl)
 
-  marks-left : {s : State} → Reached s → MarksLeft s
-  unfolding marks-in
-  marks-left here = record { fuel = length tape; plenty = omega arith; so-far = refl }
+  marks-left : {s : State} → ReachedBy form tape s → MarksLeft form tape s
+  unfolding marks-in-by
+  marks-left here = record { fuel = length tape; plenty = omega (arith, length-drop (header form) tape); so-far = refl }
   marks-left (on {s = s} r p n) =
       let m = marks-left r in
       let f = some-left p m in
-      let rest : List ℕ = left s in
-      let here = m .so-far ∙ marks-step (m .fuel) (f .0) rest (s .marks) (f .1) n in
+      let rest : List ℕ = left tape s in
+      let here = m .so-far ∙ marks-step form (m .fuel) (f .0) rest (s .marks) (f .1) n in
       record {
         fuel = f .0;
-        plenty = omega (arith, m .plenty, f .1, size-positive rest (p .known), p .inside, length-drop (s .at) tape, length-drop (s .at + command-size rest) tape);
-        so-far = here ∙ ap (λ (r : List ℕ). marks-from (f .0) r (add-marks (command-of rest) (s .marks))) (drop-drop (command-size rest) (s .at) tape);
+        plenty = omega (arith, m .plenty, f .1, size-positive rest (p .known), p .inside, length-drop (s .at) tape, length-drop (s .at + command-size-by form rest) tape);
+        so-far = here ∙ ap (λ (r : List ℕ). marks-from-by form (f .0) r (add-marks (command-by form rest) (s .marks))) (drop-drop (command-size-by form rest) (s .at) tape);
       }
 
   -- THE 03S OF AN ACCEPTED TAPE ARE THOSE THAT ITS READING COMES TO
-  pub marks-read : (out : Listing) (a : Accepts out) → marks-in tape ≡ a .state .marks
+  pub marks-read : (out : Listing) (a : AcceptsBy form tape out) → marks-in-by form tape ≡ a .state .marks
   marks-read out a =
       let m = marks-left (a .reached) in
       let f = some-left (a .passes) m in
-      m .so-far ∙ marks-stop (m .fuel) (f .0) (left (a .state)) (a .state .marks) (f .1) (a .ends)
+      m .so-far ∙ marks-stop form (m .fuel) (f .0) (left tape (a .state)) (a .state .marks) (f .1) (a .ends)

@@ -8,7 +8,7 @@ use Rattle.reference.specs.Control.{_||_}
 use Rattle.reference.specs.Lists.{any}
 use Rattle.reference.specs.Listing.{Listing}
 use Rattle.reference.specs.Rules.{Rules}
-use Rattle.reference.specs.Questions.{numbers, Totals, Answer, Refused, Passed, ask, read-command, read-from, read}
+use Rattle.reference.specs.Questions.{numbers, Totals, Answer, Refused, Passed, ask, read-command, read-from, read-by, read-command-by, read-from-by}
 use Rattle.reference.specs.Reply.{Reply, reply-by, reply}
 use Rattle.reference.proofs.Cases.{by-if}
 use Rattle.reference.proofs.Limits.{All}
@@ -30,12 +30,12 @@ module _ {A : Type 0} {n p : ℕ} where
       by-if (λ (x : Answer A). x ≡ Refused n p → Given n) (λ yes. asked-number place more a (h .1) k) (λ no. same-number (h .0))
 
 command-number : (tape : List ℕ) (at : ℕ) (t : Totals) {n p : ℕ} → read-command tape at t ≡ Refused n p → Given n
-unfolding read-command _||_
+unfolding read-command-by _||_
 command-number tape at t =
     asked-number _ _ _ (refl, (refl, (refl, (refl, (refl, (refl, (refl, (refl, tt)))))))) (λ e. absurd (refused-passed (sym e)))
 
 read-number : (fuel : ℕ) (tape : List ℕ) (at : ℕ) (t : Totals) (lines : Listing) {n p : ℕ} → read-from fuel tape at t lines ≡ Refused n p → Given n
-unfolding read-from _||_
+unfolding read-from-by _||_
 read-number zero tape at t lines = same-number refl
 read-number (suc fuel) tape at t lines {n} {p} =
     by-passed (λ (x : Answer Listing). x ≡ Refused n p → Given n)
@@ -45,7 +45,7 @@ read-number (suc fuel) tape at t lines {n} {p} =
 -- THE NUMBER OF A REFUSED CALL IS ONE OF THE LIST
 pub refused-number : (rules : Rules) (tape : List ℕ) (work-a work-b output : ℕ) {n p : ℕ} → reply rules tape work-a work-b output ≡ Refused n p
     → any (eqb n) numbers ≡ true
-unfolding reply-by read _||_
+unfolding reply-by read-by _||_
 refused-number rules tape work-a work-b output {n} {p} =
     asked-number _ _ _ (refl, (refl, (refl, tt)))
     (by-passed (λ (x : Reply). x ≡ Refused n p → Given n)

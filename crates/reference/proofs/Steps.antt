@@ -7,9 +7,9 @@ use mathlib.Core.List.{List, [], _∷_}
 use lib.Dec.{eqb}
 use lib.ListN.{drop}
 use Rattle.reference.specs.Control.{if_then_else_}
-use Rattle.reference.specs.Tape.{Command, command-of}
-use Rattle.reference.specs.Questions.{Totals, first-offending, place-at, Passed, ask, Advance, read-command}
-use Rattle.reference.specs.Steps.{AsFar, Same, FromHere}
+use Rattle.reference.specs.Tape.{TapeForm, old, Command, command-by}
+use Rattle.reference.specs.Questions.{Totals, first-offending, place-at, Passed, ask, Advance, read-command-by, read-command}
+use Rattle.reference.specs.Steps.{AsFar, Same, FromHereBy, FromHere}
 
 by-test : {X : Type 0} (b : Bool) → (b ≡ true → X) → (b ≡ false → X) → X
 by-test true f g = f refl
@@ -30,7 +30,11 @@ ask-same a b c (q ∷ more) x y h =
     by-test (q .1) (λ e. rw e (ask-same a b c more x y h)) (λ e. rw e (refl, place-as-far a b c (q .0)))
 
 -- FOR ANY SUM HANDED IN, THE STEP'S ANSWER DEPENDS ONLY ON THE NUMBERS CARRIED ALONG AND THE TAPE FROM ITS OFFSET ON
+pub step-from-here-by : (form : TapeForm) (tape : List ℕ) (at : ℕ) (t : Totals) → FromHereBy form tape at t (read-command-by form tape at t)
+unfolding read-command-by
+step-from-here-by form tape at t other b e =
+    rw e (ask-same at b (command-by form (drop b other)) _ _ _ (refl, refl, record { distance = _; first = refl; second = refl }))
+
+-- the old form's
 pub step-from-here : (tape : List ℕ) (at : ℕ) (t : Totals) → FromHere tape at t (read-command tape at t)
-unfolding read-command
-step-from-here tape at t other b e =
-    rw e (ask-same at b (command-of (drop b other)) _ _ _ (refl, refl, record { distance = _; first = refl; second = refl }))
+step-from-here = step-from-here-by old

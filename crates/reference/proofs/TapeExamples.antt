@@ -15,13 +15,13 @@ use Rattle.reference.specs.Reply.{Reply, reply, output-after, work-after
 use Rattle.reference.proofs.Opened.{opened}
 
 -- bytes as the document writes them: `hex (bytes "02 3F")` is 2 ∷ 63 ∷ []
-abbrev hex : Text → List ℕ
+abbrev pub hex : Text → List ℕ
 hex [] = []
 hex (a ∷ []) = []
 hex (a ∷ b ∷ []) = (let-some (unsigned 16 (a ∷ b ∷ [])) else 0 then λ v. v) ∷ []
 hex (a ∷ b ∷ space ∷ more) = (let-some (unsigned 16 (a ∷ b ∷ [])) else 0 then λ v. v) ∷ hex more
 
-abbrev tape : String → List ℕ
+abbrev pub tape : String → List ℕ
 tape s = hex (bytes s)
 
 -- convention 1, and just enough room

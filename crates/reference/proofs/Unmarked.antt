@@ -12,7 +12,7 @@ use borrow.Author.Tests.{ne-eqb}
 use Rattle.reference.specs.Control.{if_then_else_}
 use Rattle.reference.specs.Listing.{Token, Line, Listing}
 use Rattle.reference.specs.Spans.{Span, Marks}
-use Rattle.reference.specs.Tape.{Command, new-line, marked, new-token, end, write-command, write-marks, write-line, write-lines, write, command-size, unmarked-from, unmarked}
+use Rattle.reference.specs.Tape.{Command, new-line, marked, new-token, end, write-command, write-marks, write-line, write-lines, write, command-size, unmarked-from, unmarked, command-size-by, write-by, write-command-by, write-line-by, write-lines-by, write-marks-by}
 use Rattle.reference.proofs.Cases.{by-if}
 use Rattle.reference.proofs.Commands.{AddressFits, SpanFits, Writable, read-of-write}
 use Rattle.reference.proofs.Limits.{All}
@@ -20,7 +20,7 @@ use Rattle.reference.proofs.Limits.{All}
 -- ---- the fuel is enough
 
 some-size : (rest : List ℕ) → 1 ≤ command-size rest
-unfolding command-size
+unfolding command-size-by
 some-size rest =
     by-if (λ (n : ℕ). 1 ≤ n) (λ e. omega arith)
     (λ e. by-if (λ (n : ℕ). 1 ≤ n) (λ e. omega arith)
@@ -63,7 +63,7 @@ kept end = write-command end
 
 left-out : (c : Command) (post : List ℕ) → Writable c
     → (if eqb (getD (write-command c ++ post) 0 0) 0x03 then unmarked post else write-command c ++ unmarked post) ≡ kept c ++ unmarked post
-unfolding write-command if_then_else_
+unfolding write-command-by if_then_else_
 left-out (new-line (some address) indent) post w = refl
 left-out (new-line none indent) post w = refl
 left-out (marked s) post w = refl
@@ -71,7 +71,7 @@ left-out (new-token t) post w = rw (ne-eqb (0x10 + t .kind) 0x03 (λ e. omega ar
 left-out end post w = refl
 
 some-bytes : (c : Command) → (n : ℕ) × (length (write-command c) ≡ suc n)
-unfolding write-command
+unfolding write-command-by
 some-bytes (new-line (some address) indent) = (_, refl)
 some-bytes (new-line none indent) = (_, refl)
 some-bytes (marked s) = (_, refl)
@@ -115,17 +115,17 @@ over-tokens (t ∷ ts) post h =
     ∙ sym (append-assoc (write-command (new-token t)) rest (unmarked post))
 
 over-marks : (m : Marks) (post : List ℕ) → HoldableMarks m → unmarked (write-marks m ++ post) ≡ unmarked post
-unfolding write-marks
+unfolding write-marks-by
 over-marks none post h = refl
 over-marks (some s) post h = over-command (marked s) post h
 
 over-line : (l : Line) (m : Marks) (post : List ℕ) → Holdable l → HoldableMarks m → unmarked (write-line l m ++ post) ≡ write-line l none ++ unmarked post
-unfolding write-line
+unfolding write-line-by
 over-line l m post h k =
     let c : List ℕ = write-command (new-line (l .address) (l .indent)) in
     let ts : List ℕ = flatMap (λ t. write-command (new-token t)) (l .tokens) in
     let split : (c ++ write-marks m ++ ts) ++ post ≡ c ++ (write-marks m ++ (ts ++ post)) = simp append-assoc in
-    let back : c ++ (ts ++ unmarked post) ≡ (c ++ write-marks none ++ ts) ++ unmarked post = unfold write-marks in simp (append-assoc, append-nil) in
+    let back : c ++ (ts ++ unmarked post) ≡ (c ++ write-marks none ++ ts) ++ unmarked post = unfold write-marks-by in simp (append-assoc, append-nil) in
     ap unmarked split
     ∙ over-command (new-line (l .address) (l .indent)) (write-marks m ++ (ts ++ post)) (h .address)
     ∙ ap (λ (r : List ℕ). c ++ r) (over-marks m (ts ++ post) k ∙ over-tokens (l .tokens) post (h .tokens))
@@ -137,7 +137,7 @@ front (m ∷ ms) f = (f .0, f .1)
 
 over-lines : (lines : Listing) (marks : List Marks) (post : List ℕ) → All Holdable lines → All HoldableMarks marks
     → unmarked (write-lines lines marks ++ post) ≡ write-lines lines [] ++ unmarked post
-unfolding write-lines
+unfolding write-lines-by
 over-lines [] marks post h k = refl
 over-lines (l ∷ ls) marks post h k =
     let f = front marks k in
@@ -154,7 +154,7 @@ none-left = nothing 0
 
 -- WITHOUT ITS 03S A TAPE IS THAT OF ITS LISTING WITHOUT MARKS
 pub unmarked-write : (lines : Listing) (marks : List Marks) → All Holdable lines → All HoldableMarks marks → unmarked (write lines marks) ≡ write lines []
-unfolding write
+unfolding write-by
 unmarked-write lines marks h k = over-lines lines marks (write-command end) h k ∙ ap (λ (r : List ℕ). write-lines lines [] ++ r) last
   where
     last : unmarked (write-command end) ≡ write-command end

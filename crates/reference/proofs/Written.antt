@@ -6,20 +6,20 @@ use mathlib.Core.Path.{_≡_, refl, sym, ap, _∙_}
 use mathlib.Core.Bool.{Bool, true, false, true≢false}
 use mathlib.Core.List.{List, [], _∷_, _++_, flatMap, append-assoc, append-nil}
 use mathlib.Core.Option.{Option, none, some}
-use lib.ListN.{length, length-append}
+use lib.ListN.{length, drop, length-append}
 use lib.Seq.{drop-drop, drop-append-seam, append-snoc}
 use borrow.Author.Tests.{le-leb}
 use Rattle.reference.specs.Control.{not, _||_}
 use Rattle.reference.specs.Listing.{Token, Line, Listing, with-tokens}
 use Rattle.reference.specs.Spans.{Marks}
-use Rattle.reference.specs.Tape.{Command, new-line, marked, new-token, end, write-command, write-marks, write-line, write-lines, write, command-size}
-use Rattle.reference.specs.Questions.{Totals, has-line, is-within, is-few, is-short, is-printable, is-over, Passed, count-in, is-end, add, read, add-marks, marks-in}
+use Rattle.reference.specs.Tape.{TapeForm, old, header, Command, new-line, marked, new-token, end, write-command-by, write-marks-by, write-line-by, write-lines-by, write-by, write, command-size-by}
+use Rattle.reference.specs.Questions.{Totals, has-line, is-within, is-few, is-short, is-printable, is-over, Passed, count-in, is-end, add, read-by, read, add-marks, marks-in-by, marks-in}
 use Rattle.reference.specs.Claim.{size, token-count, text-in, text}
 use Rattle.reference.proofs.Cases.{pair}
-use Rattle.reference.proofs.Commands.{AddressFits, Writable, read-of-write, form}
-use Rattle.reference.proofs.Reading.{Passes, State, start, left, after, Reached, here, on, Accepts, accepted, marks-read}
+use Rattle.reference.proofs.Commands.{AddressFitsBy, WritableBy, read-of-write, form-of}
+use Rattle.reference.proofs.Reading.{PassesBy, State, start-by, left, after-by, ReachedBy, here, on, AcceptsBy, accepted, marks-read}
 use Rattle.reference.proofs.Writing.{with-token, add-last, mark-last}
-use Rattle.reference.proofs.Limits.{All, TokenFits, LineFits, MarksFit, Fits}
+use Rattle.reference.proofs.Limits.{All, TokenFits, LineFits, MarksFitBy, MarksFit, FitsBy, Fits}
 use Rattle.reference.proofs.Tapes.{totals-so-far}
 
 -- ---- tests that pass
@@ -41,13 +41,13 @@ no-end-over rest (new-token t) n = refl
 no-end-over rest end n = absurd (true≢false n)
 
 -- a command that was written passes
-passes : (c : Command) (post : List ℕ) (t : Totals) → Writable c → has-line t c ≡ true → is-within c ≡ true → is-few t c ≡ true → is-short t c ≡ true
-    → is-printable c ≡ true → is-over (write-command c ++ post) c ≡ true → Passes (write-command c ++ post) t
-passes c post t w begun within few short printable over =
-    let b = read-of-write c post w in
+passes : (form : TapeForm) (c : Command) (post : List ℕ) (t : Totals) → WritableBy form c → has-line t c ≡ true → is-within c ≡ true → is-few t c ≡ true
+    → is-short t c ≡ true → is-printable c ≡ true → is-over (write-command-by form c ++ post) c ≡ true → PassesBy form (write-command-by form c ++ post) t
+passes form c post t w begun within few short printable over =
+    let b = read-of-write {form = form} c post w in
     record {
-      known = form _ (b .known);
-      inside = rw (b .size, length-append (write-command c) post) (omega arith);
+      known = form-of _ (b .known);
+      inside = rw (b .size, length-append (write-command-by form c) post) (omega arith);
       begun = rw (b .same) begun;
       within = rw (b .same) within;
       few = rw (b .same) few;
@@ -58,11 +58,11 @@ passes c post t w begun within few short printable over =
 
 -- ---- from place to place
 
-module _ (tape : List ℕ) where
+module _ (form : TapeForm) (tape : List ℕ) where
   -- a place where the lines `read` and their marks are read, `post` is left, and there is room for m lines, n tokens and k bytes of text
   record To (post : List ℕ) (read : Listing) (marks : List Marks) (m n k : ℕ) : Type 0 where
     state : State
-    reached : Reached tape state
+    reached : ReachedBy form tape state
     rest : left tape state ≡ post
     lines : state .lines ≡ read
     marks-are : state .marks ≡ marks
@@ -70,17 +70,17 @@ module _ (tape : List ℕ) where
     token-room : state .totals .tokens + n ≤ 1024
     text-room : state .totals .text + k ≤ 24576
 
-  over-command : (c : Command) (post : List ℕ) (s : State) → Reached tape s → left tape s ≡ write-command c ++ post → Writable c
+  over-command : (c : Command) (post : List ℕ) (s : State) → ReachedBy form tape s → left tape s ≡ write-command-by form c ++ post → WritableBy form c
       → has-line (s .totals) c ≡ true → is-within c ≡ true → is-few (s .totals) c ≡ true → is-short (s .totals) c ≡ true → is-printable c ≡ true → is-end c ≡ false
-      → (s′ : State) × Reached tape s′ × (left tape s′ ≡ post) × (s′ .lines ≡ add c (s .lines)) × (s′ .totals ≡ count-in c (s .totals))
+      → (s′ : State) × ReachedBy form tape s′ × (left tape s′ ≡ post) × (s′ .lines ≡ add c (s .lines)) × (s′ .totals ≡ count-in c (s .totals))
       × (s′ .marks ≡ add-marks c (s .marks))
   over-command c post s r e w begun within few short printable n =
-      let b = read-of-write c post w in
-      let p = passes c post (s .totals) w begun within few short printable (no-end-over _ c n) in
-      (after tape s, on r (rw e p) (rw (e, b .same) n), sym (drop-drop (command-size (left tape s)) (s .at) tape) ∙ rw (e, b .size, drop-append-seam (write-command c) post), rw (e, b .same), rw (e, b .same), rw (e, b .same))
+      let b = read-of-write {form = form} c post w in
+      let p = passes form c post (s .totals) w begun within few short printable (no-end-over _ c n) in
+      (after-by form tape s, on r (rw e p) (rw (e, b .same) n), sym (drop-drop (command-size-by form (left tape s)) (s .at) tape) ∙ rw (e, b .size, drop-append-seam (write-command-by form c) post), rw (e, b .same), rw (e, b .same), rw (e, b .same))
 
-  over-line : (address : Option ℕ) (indent : ℕ) (post : List ℕ) (read : Listing) (marks : List Marks) (m n k : ℕ) → AddressFits address → indent ≤ 63
-      → To (write-command (new-line address indent) ++ post) read marks (suc m) n k
+  over-line : (address : Option ℕ) (indent : ℕ) (post : List ℕ) (read : Listing) (marks : List Marks) (m n k : ℕ) → AddressFitsBy form address → indent ≤ 63
+      → To (write-command-by form (new-line address indent) ++ post) read marks (suc m) n k
       → (to : To post (read ++ (record { address = address; indent = indent; tokens = [] } ∷ [])) (marks ++ (none ∷ [])) m n k) × (to .state .totals .fresh ≡ true)
   unfolding has-line is-within is-few is-short is-printable count-in add add-marks
   over-line address indent post read marks m n k a i to =
@@ -101,10 +101,10 @@ module _ (tape : List ℕ) where
       )
 
   -- the marks directly behind a line's command
-  over-marks : (mark : Marks) (post : List ℕ) (read : Listing) (marks : List Marks) (m n k : ℕ) → MarksFit mark
-      → (to : To (write-marks mark ++ post) read (marks ++ (none ∷ [])) m n k) → to .state .totals .fresh ≡ true
+  over-marks : (mark : Marks) (post : List ℕ) (read : Listing) (marks : List Marks) (m n k : ℕ) → MarksFitBy form mark
+      → (to : To (write-marks-by form mark ++ post) read (marks ++ (none ∷ [])) m n k) → to .state .totals .fresh ≡ true
       → To post read (marks ++ (mark ∷ [])) m n k
-  unfolding write-marks has-line is-within is-few is-short is-printable count-in add
+  unfolding write-marks-by has-line is-within is-few is-short is-printable count-in add
   over-marks none post read marks m n k f to fresh = to
   over-marks (some s) post read marks m n k f to fresh =
       let r = over-command (marked s) post (to .state) (to .reached) (to .rest) (f .0) (pair fresh (le-leb _ _ (f .1))) refl refl refl refl refl in
@@ -120,7 +120,7 @@ module _ (tape : List ℕ) where
       }
 
   over-token : (u : Token) (post : List ℕ) (init : Listing) (l : Line) (marks : List Marks) (m n k : ℕ) → TokenFits u
-      → To (write-command (new-token u) ++ post) (init ++ (l ∷ [])) marks m (suc n) (size u + k)
+      → To (write-command-by form (new-token u) ++ post) (init ++ (l ∷ [])) marks m (suc n) (size u + k)
       → To post (init ++ (with-token u l ∷ [])) marks m n k
   unfolding has-line is-within is-few is-short is-printable count-in add-marks
   over-token u post init l marks m n k f to =
@@ -143,23 +143,23 @@ module _ (tape : List ℕ) where
       }
 
   over-tokens : (ts : List Token) (post : List ℕ) (init : Listing) (l : Line) (marks : List Marks) (m n k : ℕ) → All TokenFits ts
-      → To (flatMap (λ t. write-command (new-token t)) ts ++ post) (init ++ (l ∷ [])) marks m (length ts + n) (text-in ts + k)
+      → To (flatMap (λ t. write-command-by form (new-token t)) ts ++ post) (init ++ (l ∷ [])) marks m (length ts + n) (text-in ts + k)
       → To post (init ++ (with-tokens (l .tokens ++ ts) l ∷ [])) marks m n k
   unfolding flatMap
   over-tokens [] post init l marks m n k f to = rw append-nil (rw (zero-add n, zero-add k) at to)
   over-tokens (u ∷ ts) post init l marks m n k f to =
-      let rest : List ℕ = flatMap (λ t. write-command (new-token t)) ts ++ post in
-      let first = rw (append-assoc (write-command (new-token u)) _ post, suc-add (length ts) n, add-assoc (size u) (text-in ts) k) at to in
+      let rest : List ℕ = flatMap (λ t. write-command-by form (new-token t)) ts ++ post in
+      let first = rw (append-assoc (write-command-by form (new-token u)) _ post, suc-add (length ts) n, add-assoc (size u) (text-in ts) k) at to in
       let more = over-tokens ts post init (with-token u l) marks m n k (f .1) (over-token u rest init l marks m (length ts + n) (text-in ts + k) (f .0) first) in
       rw (append-snoc (l .tokens) u ts) at more
 
-  over-whole-line : (l : Line) (mark : Marks) (post : List ℕ) (lines : Listing) (marks : List Marks) (m n k : ℕ) → LineFits l → AddressFits (l .address) → MarksFit mark
-      → To (write-line l mark ++ post) lines marks (suc m) (length (l .tokens) + n) (text-in (l .tokens) + k)
+  over-whole-line : (l : Line) (mark : Marks) (post : List ℕ) (lines : Listing) (marks : List Marks) (m n k : ℕ) → LineFits l → AddressFitsBy form (l .address) → MarksFitBy form mark
+      → To (write-line-by form l mark ++ post) lines marks (suc m) (length (l .tokens) + n) (text-in (l .tokens) + k)
       → To post (lines ++ (l ∷ [])) (marks ++ (mark ∷ [])) m n k
-  unfolding write-line
+  unfolding write-line-by
   over-whole-line l mark post lines marks m n k f a g to =
-      let tokens : List ℕ = flatMap (λ t. write-command (new-token t)) (l .tokens) ++ post in
-      let first = over-line (l .address) (l .indent) (write-marks mark ++ tokens) lines marks m _ _ a (f .indent) (simp append-assoc at to) in
+      let tokens : List ℕ = flatMap (λ t. write-command-by form (new-token t)) (l .tokens) ++ post in
+      let first = over-line (l .address) (l .indent) (write-marks-by form mark ++ tokens) lines marks m _ _ a (f .indent) (simp append-assoc at to) in
       let second = over-marks mark tokens _ marks m _ _ g (first .0) (first .1) in
       over-tokens (l .tokens) post lines _ (marks ++ (mark ∷ [])) m n k (f .tokens) second
 
@@ -179,42 +179,49 @@ module _ (tape : List ℕ) where
       }
 
   over-lines : (ls : Listing) (ms : List Marks) (post : List ℕ) (lines : Listing) (marks : List Marks) → length ms ≡ length ls → All LineFits ls
-      → All (λ l. AddressFits (l .address)) ls → All MarksFit ms
-      → To (write-lines ls ms ++ post) lines marks (length ls) (token-count ls) (text ls) → To post (lines ++ ls) (marks ++ ms) 0 0 0
-  unfolding write-lines
+      → All (λ l. AddressFitsBy form (l .address)) ls → All (MarksFitBy form) ms
+      → To (write-lines-by form ls ms ++ post) lines marks (length ls) (token-count ls) (text ls) → To post (lines ++ ls) (marks ++ ms) 0 0 0
+  unfolding write-lines-by
   over-lines [] [] post lines marks e f a g to = same-place refl (sym (append-nil lines)) (sym (append-nil marks)) to
   over-lines [] (m ∷ ms) post lines marks e f a g to = absurd (omega arith)
   over-lines (l ∷ ls) [] post lines marks e f a g to = absurd (omega arith)
   over-lines (l ∷ ls) (m ∷ ms) post lines marks e f a g to =
-      let line = over-whole-line l m (write-lines ls ms ++ post) lines marks (length ls) (token-count ls) (text ls) (f .0) (a .0) (g .0)
-      (same-place (append-assoc (write-line l m) (write-lines ls ms) post) refl refl to) in
+      let line = over-whole-line l m (write-lines-by form ls ms ++ post) lines marks (length ls) (token-count ls) (text ls) (f .0) (a .0) (g .0)
+      (same-place (append-assoc (write-line-by form l m) (write-lines-by form ls ms) post) refl refl to) in
       let more = over-lines ls ms post (lines ++ (l ∷ [])) (marks ++ (m ∷ [])) (omega arith) (f .1) (a .1) (g .1) line in
       same-place refl (append-snoc lines l ls) (append-snoc marks m ms) more
 
--- WHAT IS WRITTEN READS BACK, the listing and the marks
-pub read-write : (lines : Listing) (marks : List Marks) → Fits lines → All MarksFit marks → length marks ≡ length lines
-    → (read (write lines marks) ≡ Passed lines) × (marks-in (write lines marks) ≡ marks)
-unfolding write write-command has-line is-within is-few is-short is-printable is-over
-read-write lines marks f g e =
-    let tape = write lines marks in
-    let to = over-lines tape lines marks (write-command end) [] [] e (f .limits .each) (f .addresses) g
+-- WHAT IS WRITTEN READS BACK, the listing and the marks, after whatever stands before the first command
+pub read-write-by : (form : TapeForm) (front : List ℕ) (lines : Listing) (marks : List Marks) → length front ≡ header form → FitsBy form lines → All (MarksFitBy form) marks
+    → length marks ≡ length lines
+    → (read-by form (front ++ write-by form lines marks) ≡ Passed lines) × (marks-in-by form (front ++ write-by form lines marks) ≡ marks)
+unfolding write-by write-command-by has-line is-within is-few is-short is-printable is-over
+read-write-by form front lines marks n f g e =
+    let tape : List ℕ = front ++ write-by form lines marks in
+    let from : drop (header form) tape ≡ write-by form lines marks = rw (← n) (drop-append-seam front (write-by form lines marks)) in
+    let to = over-lines form tape lines marks (write-command-by form end) [] [] e (f .limits .each) (f .addresses) g
     (record {
-      state = start;
+      state = start-by form;
       reached = here;
-      rest = refl;
+      rest = from;
       lines = refl;
       marks-are = refl;
       line-room = omega (arith, f .limits .few-lines);
       token-room = omega (arith, f .limits .few-tokens);
       text-room = omega (arith, f .limits .short-text);
     }) in
-    let w = read-of-write end [] tt in
-    let a : Accepts tape lines =
+    let w = read-of-write {form = form} end [] tt in
+    let a : AcceptsBy form tape lines =
     record {
       state = to .state;
       reached = to .reached;
-      passes = rw (to .rest) (passes end [] (to .state .totals) tt refl refl refl refl refl refl);
+      passes = rw (to .rest) (passes form end [] (to .state .totals) tt refl refl refl refl refl refl);
       ends = rw (to .rest, w .same);
       listing = to .lines;
     } in
     (accepted tape lines a, marks-read tape lines a ∙ to .marks-are)
+
+-- WHAT IS WRITTEN READS BACK, the listing and the marks
+pub read-write : (lines : Listing) (marks : List Marks) → Fits lines → All MarksFit marks → length marks ≡ length lines
+    → (read (write lines marks) ≡ Passed lines) × (marks-in (write lines marks) ≡ marks)
+read-write lines marks = read-write-by old [] lines marks refl

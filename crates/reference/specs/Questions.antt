@@ -11,7 +11,8 @@ use Rattle.reference.specs.Lists.{any, position, is-empty, modify}
 use Rattle.reference.specs.Listing.{is, Number, Listing, with-tokens}
 use Rattle.reference.specs.Rules.{Rules}
 use Rattle.reference.specs.Spans.{Marks}
-use Rattle.reference.specs.Tape.{Command, new-line, marked, new-token, end, command-size, command-of}
+use Rattle.reference.specs.Tape.{TapeForm, old, line-byte, marks-byte, header}
+use Rattle.reference.specs.Tape.{Command, new-line, marked, new-token, end, command-size-by, command-by}
 
 -- The numbers that a call can give, in the order in which they are asked: document 01's eight, and those of the requests after it.
 -- "Demand 1's eight and their order take in this number and each one below."
@@ -41,7 +42,8 @@ has-room-by figure work-a work-b output = leb figure work-a && leb figure work-b
 abbrev pub has-room : ℕ → ℕ → ℕ → Bool
 has-room = has-room-by WORK
 
--- Then for each command from the left: `rest` is the tape from its offset on, `c` the command there, `t` the totals of the commands before it.
+-- Then for each command from the left: `rest` is the tape from its offset on, `c` the command there, `t` the totals of the commands before
+-- it.
 
 pub record Totals : Type 0 where
   pub lines : ℕ
@@ -50,17 +52,23 @@ pub record Totals : Type 0 where
   -- whether the command just before is a line's
   pub fresh : Bool
 
--- 3. Is there a byte, and is it a command?
-unfoldable pub is-command : List ℕ → Bool
-is-command [] = false
-is-command (b ∷ rest) = eqb b 0x01 || eqb b 0x02 || eqb b 0x03 || (leb 0x10 b && leb b 0x17) || eqb b 0xFF
+-- 3. Is there a byte, and is it a command? (By offset "01, 03 and a later 06 earn 3".)
+unfoldable pub is-command-by : TapeForm → List ℕ → Bool
+is-command-by form [] = false
+is-command-by form (b ∷ rest) = eqb b (line-byte form) || eqb b 0x02 || eqb b (marks-byte form) || (leb 0x10 b && leb b 0x17) || eqb b 0xFF
 
 -- 4. Do its operand and text end inside the tape?
-unfoldable pub ends-inside : List ℕ → Bool
-ends-inside rest = leb (command-size rest) (length rest)
+unfoldable pub ends-inside-by : TapeForm → List ℕ → Bool
+ends-inside-by form rest = leb (command-size-by form rest) (length rest)
 
--- 5. If a token, has a line begun? "Input tapes may carry 03 directly after a line's command, once; elsewhere, or with its lowest above its highest, it
--- earns 5."
+abbrev pub is-command : List ℕ → Bool
+is-command = is-command-by old
+
+abbrev pub ends-inside : List ℕ → Bool
+ends-inside = ends-inside-by old
+
+-- 5. If a token, has a line begun? "Input tapes may carry 03 directly after a line's command, once; elsewhere, or with its lowest above its
+-- highest, it earns 5." ("There 04 and 05 are asked what 01 and 03 are.")
 unfoldable pub has-line : Totals → Command → Bool
 has-line t (new-line address indent) = true
 has-line t (marked s) = t .fresh && leb (s .lowest) (s .highest)
@@ -155,13 +163,13 @@ pub record Advance : Type 0 where
   pub totals : Totals
 
 -- the command at an offset of a tape, the totals so far being t
-unfoldable pub read-command : List ℕ → ℕ → Totals → Answer Advance
-read-command tape at t =
+unfoldable pub read-command-by : TapeForm → List ℕ → ℕ → Totals → Answer Advance
+read-command-by form tape at t =
     let rest : List ℕ = drop at tape in
-    let c : Command = command-of rest in
+    let c : Command = command-by form rest in
     ask (place-at at c)
-    ((3, is-command rest)
-    ∷ (4, ends-inside rest)
+    ((3, is-command-by form rest)
+    ∷ (4, ends-inside-by form rest)
     ∷ (5, has-line t c)
     ∷ (6, is-within c)
     ∷ (10, is-few t c)
@@ -169,7 +177,10 @@ read-command tape at t =
     ∷ (7, is-printable c)
     ∷ (8, is-over rest c)
     ∷ [])
-    (Passed (record { command = c; next = at + command-size rest; totals = count-in c t }))
+    (Passed (record { command = c; next = at + command-size-by form rest; totals = count-in c t }))
+
+abbrev pub read-command : List ℕ → ℕ → Totals → Answer Advance
+read-command = read-command-by old
 
 -- ---- the whole tape
 
@@ -190,18 +201,25 @@ add end lines = lines
 abbrev pub no-commands : Totals
 no-commands = record { lines = 0; tokens = 0; text = 0; fresh = false }
 
--- the commands from an offset on, after those that made `lines`. `fuel` bounds them: a command has a byte or more, so where as much fuel as the
--- tape has bytes left is used up, there is no byte.
-unfoldable pub read-from : ℕ → List ℕ → ℕ → Totals → Listing → Answer Listing
-read-from zero tape at t lines = Refused 3 at
-read-from (suc fuel) tape at t lines =
-    let-passed (read-command tape at t) then λ a.
-    let more : Answer Listing = read-from fuel tape (a .next) (a .totals) (add (a .command) lines) in
+-- the commands from an offset on, after those that made `lines`. `fuel` bounds them: a command has a byte or more, so where as much fuel as
+-- the tape has bytes left is used up, there is no byte.
+unfoldable pub read-from-by : TapeForm → ℕ → List ℕ → ℕ → Totals → Listing → Answer Listing
+read-from-by form zero tape at t lines = Refused 3 at
+read-from-by form (suc fuel) tape at t lines =
+    let-passed (read-command-by form tape at t) then λ a.
+    let more : Answer Listing = read-from-by form fuel tape (a .next) (a .totals) (add (a .command) lines) in
     if is-end (a .command) then Passed lines else more
 
+-- the commands of a tape, from the first on
+unfoldable pub read-by : TapeForm → List ℕ → Answer Listing
+read-by form tape = read-from-by form (length tape) tape (header form) (no-commands) []
+
+abbrev pub read-from : ℕ → List ℕ → ℕ → Totals → Listing → Answer Listing
+read-from = read-from-by old
+
 -- the listing of an accepted tape
-unfoldable pub read : List ℕ → Answer Listing
-read tape = read-from (length tape) tape 0 (no-commands) []
+abbrev pub read : List ℕ → Answer Listing
+read = read-by old
 
 -- ---- the 03s
 
@@ -213,13 +231,19 @@ add-marks (new-token t) marks = marks
 add-marks end marks = marks
 
 -- by the commands of the bytes that are left; no question is asked
-unfoldable pub marks-from : ℕ → List ℕ → List Marks → List Marks
-marks-from zero rest marks = marks
-marks-from (suc fuel) rest marks =
-    let c : Command = command-of rest in
-    let more : List Marks = marks-from fuel (drop (command-size rest) rest) (add-marks c marks) in
+unfoldable pub marks-from-by : TapeForm → ℕ → List ℕ → List Marks → List Marks
+marks-from-by form zero rest marks = marks
+marks-from-by form (suc fuel) rest marks =
+    let c : Command = command-by form rest in
+    let more : List Marks = marks-from-by form fuel (drop (command-size-by form rest) rest) (add-marks c marks) in
     if is-end c then marks else more
 
+unfoldable pub marks-in-by : TapeForm → List ℕ → List Marks
+marks-in-by form tape = marks-from-by form (length tape) (drop (header form) tape) []
+
+abbrev pub marks-from : ℕ → List ℕ → List Marks → List Marks
+marks-from = marks-from-by old
+
 -- the 03s of an accepted tape, one for each line of its listing, none where there is none
-unfoldable pub marks-in : List ℕ → List Marks
-marks-in tape = marks-from (length tape) tape []
+abbrev pub marks-in : List ℕ → List Marks
+marks-in = marks-in-by old

@@ -1,13 +1,14 @@
 -- Request M-102: "the step that reads one command takes the text sum so far and hands back the new one. Proved: for any sum handed in, its
--- answer depends only on the numbers carried along and the tape from its offset on; read from the start, the sum is the bytes of all texts so
--- far." The step is `read-command`, the numbers carried along are `Totals`. Proved in proofs/Steps.antt and proofs/Sums.antt. Assumes nothing.
+-- answer depends only on the numbers carried along and the tape from its offset on; read from the start, the sum is the bytes of all texts
+-- so far." The step is `read-command`, the numbers carried along are `Totals`. Both are said for a form of the tape (M-110); the names
+-- without "-by" are the old form's. Proved in proofs/Steps.antt and proofs/Sums.antt. Assumes nothing.
 use Prim.Native.Nat.{ℕ, _+_}
 use mathlib.Core.Path.{_≡_}
 use mathlib.Core.Bool.{false}
 use mathlib.Core.List.{List, [], _∷_, _++_}
 use lib.ListN.{length, drop}
-use Rattle.reference.specs.Tape.{Command, new-line, marked, new-token, end}
-use Rattle.reference.specs.Questions.{Totals, no-commands, Answer, Refused, Passed, Advance, read-command, is-end}
+use Rattle.reference.specs.Tape.{TapeForm, old, header, Command, new-line, marked, new-token, end}
+use Rattle.reference.specs.Questions.{Totals, no-commands, Answer, Refused, Passed, Advance, read-command-by, is-end}
 use Rattle.reference.specs.Claim.{sum}
 
 -- ---- "its answer depends only on the numbers carried along and the tape from its offset on"
@@ -27,16 +28,23 @@ Same a (Passed x) b (Refused n q) = ⊥
 Same a (Refused m p) b (Passed y) = ⊥
 
 -- an answer at an offset of a tape, with these numbers: wherever another tape goes on as this one does, the step answers the same
+abbrev pub FromHereBy : TapeForm → List ℕ → ℕ → Totals → Answer Advance → Type 0
+FromHereBy form tape at t answer =
+    (other : List ℕ) (b : ℕ) → drop at tape ≡ drop b other → Same at answer b (read-command-by form other b t)
+
 abbrev pub FromHere : List ℕ → ℕ → Totals → Answer Advance → Type 0
-FromHere tape at t answer = (other : List ℕ) (b : ℕ) → drop at tape ≡ drop b other → Same at answer b (read-command other b t)
+FromHere = FromHereBy old
 
 -- ---- "read from the start, the sum is the bytes of all texts so far"
 
 -- the reading of a tape comes to an offset with these numbers, after these commands: each passed and was not the end
-pub data Comes (tape : List ℕ) : ℕ → Totals → List Command → Type 0 where
-  begins : Comes tape 0 (no-commands) []
-  goes-on : {at : ℕ} {t : Totals} {before : List Command} {a : Advance} → Comes tape at t before → read-command tape at t ≡ Passed a
-      → is-end (a .command) ≡ false → Comes tape (a .next) (a .totals) (before ++ (a .command ∷ []))
+pub data ComesBy (form : TapeForm) (tape : List ℕ) : ℕ → Totals → List Command → Type 0 where
+  begins : ComesBy form tape (header form) (no-commands) []
+  goes-on : {at : ℕ} {t : Totals} {before : List Command} {a : Advance} → ComesBy form tape at t before
+      → read-command-by form tape at t ≡ Passed a → is-end (a .command) ≡ false → ComesBy form tape (a .next) (a .totals) (before ++ (a .command ∷ []))
+
+abbrev pub Comes : List ℕ → ℕ → Totals → List Command → Type 0
+Comes = ComesBy old
 
 -- the bytes of a command's text
 abbrev pub text-bytes : Command → ℕ

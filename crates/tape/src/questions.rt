@@ -1,7 +1,10 @@
 // Document 01's questions, asked of each command from the left. Nothing is written.
 use crate::commands::Command;
 use crate::commands::Found;
+use crate::commands::header_of;
+use crate::commands::size_by;
 use crate::commands::size_of;
+use crate::reader::command_by;
 use crate::reader::command_from;
 use crate::reader::token_text;
 use lines::rules::Rules;
@@ -16,10 +19,11 @@ ghost use Rattle.reference.specs.Lists.{position};
 ghost use Rattle.reference.specs.Listing.{token};
 ghost use Rattle.reference.specs.Tape.{new-line, marked, new-token};
 ghost use mathlib.Core.Option.{none};
-ghost use Rattle.reference.specs.Questions.{is-convention, is-edition, has-room, has-line, is-within, is-printable, is-offending, place-at, read-command, let-passed_then_, Passed, read};
-ghost use Rattle.reference.specs.Steps.{FromHere};
+ghost use Rattle.reference.specs.Questions.{is-convention, is-edition, has-room, has-line, is-within, is-printable, is-offending, place-at};
+ghost use Rattle.reference.specs.Questions.{read-command-by, read-command, let-passed_then_, Passed, read-by, read};
+ghost use Rattle.reference.specs.Steps.{FromHereBy, FromHere};
 ghost use Rattle.lines.specs.Rules.{rules-of};
-ghost use Rattle.tape.specs.Commands.{size-of, command-in, ends};
+ghost use Rattle.tape.specs.Commands.{form-of, looked-at, command-in, ends};
 ghost use Rattle.tape.specs.Questions.{first-no, questions, totals-of, sizes-in, Counts, counted, stepped, checked};
 
 // What was read so far, and whether the command just before is a line's.
@@ -163,7 +167,7 @@ fn token_refusal(kind: u64, text: &[u8], totals: Totals) -> u64
 
 // The number of the question after 4 that refuses a command, or 0.
 fn refusal(tape: &[u8], at: usize, command: Command, totals: Totals) -> u64
-    requires { ⌜ at + size-of command ≤ length (now tape) ⌝ }
+    requires { ⌜ at + looked-at command ≤ length (now tape) ⌝ }
     ensures { λ r. ⌜ r ≡ first-no (questions (drop at (now (tape .entry))) (totals-of totals) (command-in (now (tape .entry)) at command)) ⌝ }
 {
     match command {
@@ -183,7 +187,7 @@ fn refusal(tape: &[u8], at: usize, command: Command, totals: Totals) -> u64
 
 // The place of a number that refuses a command: the command's; of 7 the offset of the first offending byte.
 fn place_of(tape: &[u8], at: usize, command: Command, number: u64) -> usize
-    requires { ⌜ at + size-of command ≤ length (now tape) ⌝ }
+    requires { ⌜ at + looked-at command ≤ length (now tape) ⌝ }
     ensures { λ r. ⌜ r ≡ place-at at (command-in (now (tape .entry)) at command) number ⌝ }
 {
     if number != 7 {
@@ -276,6 +280,38 @@ pub fn step(tape: &[u8], at: usize, totals: Totals) -> Stepped
     }
 }
 
+// The same of a tape of either form. (The cleaning's step has a body of its own: shared with the conversions it was not inlined there.)
+pub fn step_by(tape: &[u8], at: usize, totals: Totals, based: bool) -> Stepped
+    ensures { λ r. ⌜ stepped (now (tape .entry)) at r ≡ read-command-by (form-of based) (now (tape .entry)) at (totals-of totals) ⌝ }
+    ensures { λ r. ⌜ FromHereBy (form-of based) (now (tape .entry)) at (totals-of totals) (stepped (now (tape .entry)) at r) ⌝ }
+{
+    match command_by(tape, at, based) {
+        Found::Unknown => Stepped::Refused {
+            number: 3,
+            place: at,
+        },
+        Found::CutOff => Stepped::Refused {
+            number: 4,
+            place: at,
+        },
+        Found::Whole(command) => {
+            let number = refusal(tape, at, command, totals);
+            if number != 0 {
+                let offset = place_of(tape, at, command, number);
+                return Stepped::Refused {
+                    number,
+                    place: offset,
+                };
+            }
+            Stepped::Passed {
+                command,
+                next: at + size_by(command, based),
+                totals: count_in(command, totals),
+            }
+        }
+    }
+}
+
 // ---- the whole tape
 
 pub fn is_end(command: Command) -> bool
@@ -306,6 +342,37 @@ pub fn check(tape: &[u8]) -> Checked
     };
     loop {
         match step(tape, at, totals) {
+            Stepped::Refused { number, place } => {
+                return Checked::Refused { number, place };
+            }
+            Stepped::Passed {
+                command,
+                next,
+                totals: more,
+            } => {
+                if is_end(command) {
+                    return Checked::Passed(totals);
+                }
+                at = next;
+                totals = more;
+            }
+        }
+    }
+}
+
+// The same of a tape of either form, from its first command on.
+pub fn check_by(tape: &[u8], based: bool) -> Checked
+    ensures { λ r. ⌜ checked r ≡ (let-passed (read-by (form-of based) (now (tape .entry))) then λ lines. Passed (sizes-in lines)) ⌝ }
+{
+    let mut at = header_of(based);
+    let mut totals = Totals {
+        lines: 0,
+        tokens: 0,
+        text: 0,
+        fresh: false,
+    };
+    loop {
+        match step_by(tape, at, totals, based) {
             Stepped::Refused { number, place } => {
                 return Checked::Refused { number, place };
             }

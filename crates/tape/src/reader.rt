@@ -4,11 +4,12 @@
 use crate::commands::Command;
 use crate::commands::Found;
 use crate::commands::found_at;
+use crate::commands::found_by;
 use crate::commands::text_at;
 ghost use mathlib.Core.Path.{_≡_};
 ghost use Prim.Native.Nat.{_+_, _≤_};
 ghost use lib.ListN.{length, take, drop};
-ghost use Rattle.tape.specs.Commands.{found-in, standing, Stood};
+ghost use Rattle.tape.specs.Commands.{form-of, found-in-by, found-in, standing-by, standing, Stood};
 
 pub struct TapeReader<'a> {
     pub tape: &'a [u8],
@@ -56,6 +57,16 @@ pub fn command_from(tape: &[u8], at: usize) -> Found
     ensures { λ r. ⌜ found-in (now (tape .entry)) at r ≡ standing (now (tape .entry)) at ⌝ }
 {
     next(moved(new(tape), at))
+}
+
+// What stands at an offset of a tape of either form: document 01's is read through a reader.
+pub fn command_by(tape: &[u8], at: usize, based: bool) -> Found
+    ensures { λ r. ⌜ found-in-by (form-of based) (now (tape .entry)) at r ≡ standing-by (form-of based) (now (tape .entry)) at ⌝ }
+{
+    if based {
+        return found_by(tape, at, true);
+    }
+    command_from(tape, at)
 }
 
 // The text of the token at an offset: a part of the tape itself.

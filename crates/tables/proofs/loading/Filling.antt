@@ -7,6 +7,7 @@ use mathlib.Core.List.{List, [], _∷_}
 use lib.ListN.{length, drop, take, length-append}
 use lib.Seq.{length-take-le}
 use borrow.Author.Tests.{leb-true}
+use Rattle.reference.specs.Tape.{old}
 use Rattle.reference.specs.Questions.{has-line, is-within, is-few, is-short, Passed, read-command, add, add-marks, read}
 use Rattle.reference.proofs.Cases.{both}
 use Rattle.reference.proofs.Commands as R
@@ -29,7 +30,7 @@ pub record Filled (tape tokens lines addresses : List ℕ) (at : ℕ) (t : Total
   pub table : Table tape tokens lines addresses (totals-of t) (reads .lines)
 
 pub filled-none : (tape tokens lines addresses : List ℕ) → Filled tape tokens lines addresses 0 (record { lines = 0; tokens = 0; text = 0; fresh = false })
-filled-none tape tokens lines addresses = record { reads = reads-begin tape; table = table-none tape tokens lines addresses }
+filled-none tape tokens lines addresses = record { reads = reads-begin old tape; table = table-none tape tokens lines addresses }
 
 -- on an accepted tape every command passes
 
@@ -82,10 +83,10 @@ module _ {tape tokens lines addresses : List ℕ} {at : ℕ} {t : Totals} {c : C
   sized = rw (u .stands .same, u .stands .size) (R.sized (drop at tape) (passes .known) (passes .inside))
 
   pub turn-counts : Counts c t
-  turn-counts = within-counts tape at t (u .stands) few short
+  turn-counts = within-counts old tape at t (u .stands) few short
 
-  pub turn-passed : Passed (advanced tape at (totals-of t) c) ≡ read-command tape at (totals-of t)
-  turn-passed = sym (pass-command tape at (totals-of t) passes ∙ ap Passed (advanced-same tape at (totals-of t) (u .stands)))
+  pub turn-passed : Passed (advanced old tape at (totals-of t) c) ≡ read-command tape at (totals-of t)
+  turn-passed = sym (pass-command tape at (totals-of t) passes ∙ ap Passed (advanced-same old tape at (totals-of t) (u .stands)))
 
   pub turn-moves : (at < at + size-of c) × (at + size-of c ≤ length tape)
   turn-moves = moves (u .filled .reads) turn-passed
@@ -118,7 +119,7 @@ module _ {tape tokens lines addresses : List ℕ} {at : ℕ} {t : Totals} {c : C
       → totals-of t′ ≡ counted c (totals-of t) → Filled tape tokens′ lines′ addresses′ (at + size-of c) t′
   turn-more n added e =
       let f = u .filled in
-      let on = reads-on (f .reads) (turn-passed u) (ends-same tape at c ∙ n) in
+      let on = reads-on (f .reads) (turn-passed u) (ends-same old tape at c ∙ n) in
       let table = table-more at t (f .table) (turn-room u) c turn-adds (turn-moves u .1) in
       record {
         reads = record {
@@ -132,11 +133,11 @@ module _ {tape tokens lines addresses : List ℕ} {at : ℕ} {t : Totals} {c : C
   pub turn-ends : ends c ≡ true → Loaded tape tokens lines addresses t
   turn-ends n =
       let f = u .filled in
-      let e : read tape ≡ Passed (f .reads .lines) = read-passed (f .reads) (turn-passed u) (ends-same tape at c ∙ n) in
+      let e : read tape ≡ Passed (f .reads .lines) = read-passed (f .reads) (turn-passed u) (ends-same old tape at c ∙ n) in
       let long : length (take (t .tokens) tokens) ≡ t .tokens =
       length-take-le (t .tokens) tokens (omega (arith, turn-room u .few-tokens, turn-room u .for-tokens)) in
       record {
         listing = λ area. e ∙ ap Passed (sym (f .table .means area));
         listed = λ area. record { at = λ i b. lined-of _ (f .table .holds area) (rw long (f .table .inside i b)) (f .table .unmarked i b) };
-        totals = sym (ap Passed (sizes-are (f .reads)) ∙ verdict-passed tape e);
+        totals = sym (ap Passed (sizes-are (f .reads)) ∙ verdict-passed old tape e);
       }

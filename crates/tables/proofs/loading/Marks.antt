@@ -18,7 +18,7 @@ use Rattle.reference.specs.Listing as L
 use Rattle.reference.specs.Listing.{token, Line, Listing}
 use Rattle.reference.specs.Spans.{Span, Marks, hull, span-of}
 use Rattle.reference.specs.Marks.{adds, own-marks}
-use Rattle.reference.specs.Tape.{marked}
+use Rattle.reference.specs.Tape.{old, marked}
 use Rattle.reference.specs.Questions as Q
 use Rattle.reference.specs.Questions.{has-line, Passed, read-command, add, add-marks, read, marks-in}
 use Rattle.reference.proofs.Cases.{both}
@@ -179,10 +179,10 @@ pub record Noted (tape : List ℕ) (records : List LineRecord) (at : ℕ) (t : T
   pub marks : MarksRecorded (reads .lines) (reads .marks) records (t .lines)
 
 pub noted-none : (tape : List ℕ) (records : List LineRecord) → Noted tape records 0 (record { lines = 0; tokens = 0; text = 0; fresh = false })
-noted-none tape records = record { reads = reads-begin tape; marks = record { at = λ k b. absurd (omega arith); kept = λ k b. absurd (omega arith) } }
+noted-none tape records = record { reads = reads-begin old tape; marks = record { at = λ k b. absurd (omega arith); kept = λ k b. absurd (omega arith) } }
 
 module _ {tape : List ℕ} {records : List LineRecord} {at : ℕ} {t : Totals} (n : Noted tape records at t) {c : Command} (s : Stands tape at c)
-    (passed : Passed (advanced tape at (totals-of t) c) ≡ read-command tape at (totals-of t)) where
+    (passed : Passed (advanced old tape at (totals-of t) c) ≡ read-command tape at (totals-of t)) where
   module _ (last : ℕ) (last-is : 0 < t .lines → last ≡ t .lines - 1) (few : t .lines ≤ 256) (long : 256 ≤ length records) (bytes : Bytes tape)
       (begun : has-line (totals-of t) (command-in tape at c) ≡ true) where
     abbrev after : Command → List LineRecord
@@ -215,7 +215,7 @@ module _ {tape : List ℕ} {records : List LineRecord} {at : ℕ} {t : Totals} (
     pub noted-more : Counts c t → ends c ≡ false → {at′ : ℕ} {t′ : Totals} → at′ ≡ at + size-of c → totals-of t′ ≡ counted c (totals-of t)
         → Noted tape (after c) at′ t′
     noted-more counts goes e₁ e₂ =
-        let on = reads-on (n .reads) passed (ends-same tape at c ∙ goes) in
+        let on = reads-on (n .reads) passed (ends-same old tape at c ∙ goes) in
         let fits : R.Writable (command-in tape at c) = rw (s .same) (R.writable (drop at tape) (bytes-drop at tape bytes) (s .known) (s .inside)) in
         record {
           reads =
@@ -230,7 +230,7 @@ module _ {tape : List ℕ} {records : List LineRecord} {at : ℕ} {t : Totals} (
   -- at FF they are the listing's
   pub noted-ends : ends c ≡ true → (listing : Listing) → read tape ≡ Passed listing → MarksRecorded listing (marks-in tape) records (t .lines)
   noted-ends ended listing e =
-      let over = ends-same tape at c ∙ ended in
+      let over = ends-same old tape at c ∙ ended in
       let same : n .reads .lines ≡ listing = passed-inj (sym (read-passed (n .reads) passed over) ∙ e) in
       subst (λ (l : Listing). MarksRecorded l (marks-in tape) records (t .lines)) same
       (subst (λ (m : List Marks). MarksRecorded (n .reads .lines) m records (t .lines)) (sym (marks-passed (n .reads) passed over)) (n .marks))

@@ -9,7 +9,7 @@ use lib.Seq.{drop-drop, drop-cons, paste}
 use borrow.Author.Tests.{eq-eqb, ne-eqb}
 use Rattle.reference.specs.Listing.{token, Line}
 use Rattle.reference.specs.Spans.{Marks}
-use Rattle.reference.specs.Tape.{to-le-bytes, new-line, marked, write-command, write-marks, write-line, write-lines, write}
+use Rattle.reference.specs.Tape.{to-le-bytes, new-line, marked, write-command, write-marks, write-line, write-lines, write, write-by, write-command-by, write-line-by, write-lines-by, write-marks-by}
 use Rattle.reference.proofs.LittleEndian.{to-length}
 use Rattle.reference.proofs.Writing.{flat-append}
 use Rattle.laws.proofs.Scans.{if-true, if-false}
@@ -31,7 +31,7 @@ module _ (out : List ℕ) (at : ℕ) where
 
   pub addressed-puts : (address indent : ℕ) {mid : List ℕ} → at + 10 ≤ length out → mid ≡ put (set out at 1) (at + 1) (to-le-bytes 8 address)
       → Puts out at (write-command (new-line (some address) indent)) (set mid (at + 9) indent) (at + 10)
-  unfolding write-command
+  unfolding write-command-by
   addressed-puts address indent {mid} h e =
       let number : List ℕ = to-le-bytes 8 address in
       let n : length number ≡ 8 = to-length 8 address in
@@ -48,7 +48,7 @@ module _ (out : List ℕ) (at : ℕ) where
       }
 
   pub plain-puts : (indent : ℕ) → at + 2 ≤ length out → Puts out at (write-command (new-line none indent)) (set (set out at 2) (at + 1) indent) (at + 2)
-  unfolding write-command
+  unfolding write-command-by
   plain-puts indent h =
       record {
         holds = put-one (set out at 2) (at + 1) indent (rw length-set (omega arith)) ∙ sym (put-cons out at 2 (indent ∷ []) (omega arith));
@@ -57,7 +57,7 @@ module _ (out : List ℕ) (at : ℕ) where
 
   pub marked-puts : (low high : ℕ) {mid after : List ℕ} → at + 17 ≤ length out → mid ≡ put (set out at 3) (at + 1) (to-le-bytes 8 low)
       → after ≡ put mid (at + 9) (to-le-bytes 8 high) → Puts out at (write-command (marked (record { lowest = low; highest = high }))) after (at + 17)
-  unfolding write-command
+  unfolding write-command-by
   marked-puts low high {mid} h e f =
       let lowest : List ℕ = to-le-bytes 8 low in
       let highest : List ℕ = to-le-bytes 8 high in
@@ -73,13 +73,13 @@ module _ (out : List ℕ) (at : ℕ) where
 
   -- where there are no marks, nothing is written
   pub unmarked-puts : (low high : ℕ) → high < low → Puts out at (write-marks (marks-of (low, high))) out at
-  unfolding write-marks
+  unfolding write-marks-by
   unmarked-puts low high h = rw (no-marks (low, high) h) (record { holds = sym (put-none out at); ends = omega arith })
 
   pub token-puts : (kind : ℕ) (text : List ℕ) {mid after : List ℕ} → at + 3 + length text ≤ length out
       → mid ≡ put (set out at (16 + kind)) (at + 1) (to-le-bytes 2 (length text)) → after ≡ paste mid (at + 3) text (length text)
       → Puts out at (token-bytes (token kind text)) after (at + 3 + length text)
-  unfolding write-command
+  unfolding write-command-by
   token-puts kind text {mid} h e f =
       let number : List ℕ = to-le-bytes 2 (length text) in
       let n : length number ≡ 2 = to-length 2 (length text) in
@@ -111,7 +111,7 @@ module _ (out : List ℕ) where
 
 module _ {B : Type 0} (f : B → Line) (g : B → Marks) where
   pairs-written : (ws : List B) → write-lines (map f ws) (map g ws) ≡ lines-bytes (map (λ w. (f w, g w)) ws)
-  unfolding write-lines flatMap
+  unfolding write-lines-by flatMap
   pairs-written [] = refl
   pairs-written (w ∷ ws) = ap (λ (more : List ℕ). write-line (f w) (g w) ++ more) (pairs-written ws)
 
@@ -123,7 +123,7 @@ module _ (tape area tokens addresses lows highs lines : List ℕ) where
   the-lines = lines-bytes (paged tape area tokens addresses lows highs lines)
 
   pub write-split : the-tape ≡ the-lines ++ (0xFF ∷ [])
-  unfolding write write-command
+  unfolding write-by write-command-by
   write-split =
       ap (λ (bytes : List ℕ). bytes ++ (0xFF ∷ []))
       (pairs-written (line-in tape area tokens addresses) (λ l. marks-of (pair-at lows highs (origin-of l))) lines)
@@ -139,7 +139,7 @@ module _ (tape area tokens : List ℕ) (r : LineRecord) where
   its-tokens = tokens-bytes (tokens-of tape area (part-at tokens r))
 
   pub line-split : write-line (line-of tape area tokens r) (marks-of (pair-of r)) ≡ line-bytes r ++ marks-bytes ++ its-tokens
-  unfolding write-line
+  unfolding write-line-by
   line-split = refl
 
   pub line-room : (at : ℕ) {n : ℕ} → at + length (write-line (line-of tape area tokens r) (marks-of (pair-of r))) ≤ n
@@ -148,11 +148,11 @@ module _ (tape area tokens : List ℕ) (r : LineRecord) where
       omega (arith, ap length line-split, length-append (line-bytes r ++ marks-bytes) its-tokens, length-append (line-bytes r) marks-bytes)
 
 pub marked-bytes : (low high : ℕ) → low ≤ high → write-marks (marks-of (low, high)) ≡ write-command (marked (record { lowest = low; highest = high }))
-unfolding write-marks
+unfolding write-marks-by
 marked-bytes low high h = rw (some-marks (low, high) h)
 
 pub marked-size : (low high : ℕ) → length (write-command (marked (record { lowest = low; highest = high }))) ≡ 17
-unfolding write-command
+unfolding write-command-by
 marked-size low high = omega (arith, length-append (to-le-bytes 8 low) (to-le-bytes 8 high), to-length 8 low, to-length 8 high)
 
 pub addressed-bytes : (r : LineRecord) → r .addressed ≡ 1 → line-bytes r ≡ write-command (new-line (some (r .address)) (r .indent))
@@ -164,15 +164,15 @@ unfolding address-of
 plain-bytes r e = rw (if-false (some (r .address)) none (ne-eqb (r .addressed) 1 e))
 
 pub addressed-size : (address indent : ℕ) → length (write-command (new-line (some address) indent)) ≡ 10
-unfolding write-command
+unfolding write-command-by
 addressed-size address indent = omega (arith, length-append (to-le-bytes 8 address) (indent ∷ []), to-length 8 address)
 
 pub plain-size : (indent : ℕ) → length (write-command (new-line none indent)) ≡ 2
-unfolding write-command
+unfolding write-command-by
 plain-size indent = refl
 
 pub token-size : (kind : ℕ) (text : List ℕ) → length (token-bytes (token kind text)) ≡ 3 + length text
-unfolding write-command
+unfolding write-command-by
 token-size kind text = omega (arith, length-append (to-le-bytes 2 (length text)) text, to-length 2 (length text))
 
 -- ---- a loop that writes g of what f says each element means: what is still to be written, put where the loop stands, makes the whole

@@ -13,20 +13,20 @@ use Rattle.reference.specs.Lists.{position, is-empty}
 use Rattle.reference.specs.Listing.{Token, token}
 use Rattle.reference.specs.Spans.{Span}
 use Rattle.reference.specs.Tape as Tape
-use Rattle.reference.specs.Tape.{new-line, marked, new-token, end, command-of}
+use Rattle.reference.specs.Tape.{TapeForm, new-line, marked, new-token, end, command-by}
 use Rattle.reference.specs.Questions as Q
-use Rattle.reference.specs.Questions.{is-command, ends-inside, has-line, is-within, is-few, is-short, is-printable, is-over, is-offending, first-offending, place-at, is-end, Answer, Refused, Passed, ask, count-in, Advance, read-command}
-use Rattle.reference.specs.Steps.{FromHere}
+use Rattle.reference.specs.Questions.{is-command-by, ends-inside-by, has-line, is-within, is-few, is-short, is-printable, is-over, is-offending, first-offending, place-at, is-end, Answer, Refused, Passed, ask, count-in, Advance, read-command-by}
+use Rattle.reference.specs.Steps.{FromHereBy}
 use Rattle.reference.proofs.Cases.{by-if, both}
 use Rattle.reference.proofs.Commands.{is-form}
-use Rattle.reference.proofs.Reading.{Yes, ask-yes, refused-passed, advance}
-use Rattle.reference.proofs.Steps.{step-from-here}
-use Rattle.tape.specs.Commands.{command-in, size-of, ends, standing}
+use Rattle.reference.proofs.Reading.{Yes, ask-yes, refused-passed, advance-by}
+use Rattle.reference.proofs.Steps.{step-from-here-by}
+use Rattle.tape.specs.Commands.{command-in, size-of-by, looked-at, ends, standing-by}
 use Rattle.tape.specs.Questions.{first-no, totals-of, questions, counted, Counts}
 use Rattle.tape.specs.declared.commands.Command.{Command}
 use Rattle.tape.specs.declared.commands.Command.the-variants.{Addressed, Plain, Marked, Token as NewToken, End}
 use Rattle.tape.specs.declared.questions.Totals.{Totals}
-use Rattle.tape.proofs.commands.Standing.{Stands, stands-inside}
+use Rattle.tape.proofs.commands.Standing.{StandsBy, stands-inside}
 
 -- ---- the first "no"
 
@@ -132,18 +132,25 @@ module _ (at : ℕ) where
 
 -- ---- one command
 
-module _ (tape : List ℕ) (at : ℕ) where
-  -- question 3 or 4 refuses it
-  pub stops : (t : Q.Totals) {n p : ℕ} → Refused n p ≡ standing tape at → Refused n p ≡ read-command tape at t
-  unfolding standing read-command ask place-at if_then_else_
-  stops t e =
-      sym (ask-front (place-at at (command-of (drop at tape))) ((3, is-command (drop at tape)) ∷ (4, ends-inside (drop at tape)) ∷ []) (questions (drop at tape) t (command-of (drop at tape))) _ _ (sym e))
+pub looked-less : (form : TapeForm) (c : Command) → looked-at c ≤ size-of-by form c
+looked-less form (Addressed address indent) = omega arith
+looked-less form (Plain indent) = omega arith
+looked-less form (Marked low high) = omega arith
+looked-less form (NewToken kind count) = omega arith
+looked-less form End = omega arith
 
-  text-long : {kind count : ℕ} → Stands tape at (NewToken kind count) → length (take count (drop (at + 3) tape)) ≡ count
+module _ (form : TapeForm) (tape : List ℕ) (at : ℕ) where
+  -- question 3 or 4 refuses it
+  pub stops : (t : Q.Totals) {n p : ℕ} → Refused n p ≡ standing-by form tape at → Refused n p ≡ read-command-by form tape at t
+  unfolding standing-by read-command-by ask place-at if_then_else_
+  stops t e =
+      sym (ask-front (place-at at (command-by form (drop at tape))) ((3, is-command-by form (drop at tape)) ∷ (4, ends-inside-by form (drop at tape)) ∷ []) (questions (drop at tape) t (command-by form (drop at tape))) _ _ (sym e))
+
+  text-long : {kind count : ℕ} → StandsBy form tape at (NewToken kind count) → length (take count (drop (at + 3) tape)) ≡ count
   text-long {count = count} s = length-take-le count (drop (at + 3) tape) (rw length-drop (omega (arith, stands-inside s)))
 
   module _ (t : Q.Totals) where
-    counted-same : {c : Command} → Stands tape at c → count-in (command-in tape at c) t ≡ counted c t
+    counted-same : {c : Command} → StandsBy form tape at c → count-in (command-in tape at c) t ≡ counted c t
     unfolding count-in
     counted-same {c = Addressed address indent} s = refl
     counted-same {c = Plain indent} s = refl
@@ -151,25 +158,25 @@ module _ (tape : List ℕ) (at : ℕ) where
     counted-same {c = NewToken kind count} s = rw (text-long s)
     counted-same {c = End} s = refl
 
-    pub counted-as : {c : Command} → Stands tape at c → count-in (command-of (drop at tape)) t ≡ counted c t
+    pub counted-as : {c : Command} → StandsBy form tape at c → count-in (command-by form (drop at tape)) t ≡ counted c t
     counted-as s = ap (λ k. count-in k t) (sym (s .same)) ∙ counted-same s
 
     abbrev pub advanced : Command → Advance
-    advanced c = record { command = command-in tape at c; next = at + size-of c; totals = counted c t }
+    advanced c = record { command = command-in tape at c; next = at + size-of-by form c; totals = counted c t }
 
-    pub advanced-same : {c : Command} → Stands tape at c → advance tape at t ≡ advanced c
+    pub advanced-same : {c : Command} → StandsBy form tape at c → advance-by form tape at t ≡ advanced c
     advanced-same s = rw (s .same, s .size, ← counted-as s)
 
-    asks : {c : Command} → Stands tape at c → read-command tape at t
+    asks : {c : Command} → StandsBy form tape at c → read-command-by form tape at t
         ≡ ask (place-at at (command-in tape at c)) (questions (drop at tape) t (command-in tape at c)) (Passed (advanced c))
-    unfolding read-command ends-inside
+    unfolding read-command-by ends-inside-by
     asks s =
-        ask-later _ ((3, is-command (drop at tape)) ∷ (4, ends-inside (drop at tape)) ∷ []) _ _ (is-form _ (s .known), (le-leb _ _ (s .inside), tt))
+        ask-later _ ((3, is-command-by form (drop at tape)) ∷ (4, ends-inside-by form (drop at tape)) ∷ []) _ _ (is-form _ (s .known), (le-leb _ _ (s .inside), tt))
         ∙ rw (← advanced-same s, s .same)
 
     -- a later question refuses it
-    pub refuses : {c : Command} {n place : ℕ} → Stands tape at c → (n ≡ 0 → ⊥) → n ≡ first-no (questions (drop at tape) t (command-in tape at c))
-        → place ≡ place-at at (command-in tape at c) n → Refused n place ≡ read-command tape at t
+    pub refuses : {c : Command} {n place : ℕ} → StandsBy form tape at c → (n ≡ 0 → ⊥) → n ≡ first-no (questions (drop at tape) t (command-in tape at c))
+        → place ≡ place-at at (command-in tape at c) n → Refused n place ≡ read-command-by form tape at t
     refuses s z e p = rw p (sym (asks s ∙ ask-number _ _ _ z (sym e)))
 
     -- none does
@@ -177,11 +184,11 @@ module _ (tape : List ℕ) (at : ℕ) where
         → Yes (questions (drop at tape) t (command-in tape at c))
     all-yes c z e = none-no _ (omega arith, (omega arith, (omega arith, (omega arith, (omega arith, (omega arith, tt)))))) (sym e ∙ z)
 
-    pub passes : {c : Command} {n : ℕ} → Stands tape at c → n ≡ 0 → n ≡ first-no (questions (drop at tape) t (command-in tape at c))
-        → Passed (advanced c) ≡ read-command tape at t
+    pub passes : {c : Command} {n : ℕ} → StandsBy form tape at c → n ≡ 0 → n ≡ first-no (questions (drop at tape) t (command-in tape at c))
+        → Passed (advanced c) ≡ read-command-by form tape at t
     passes {c} s z e = sym (asks s ∙ ask-yes _ _ _ (all-yes c z e))
 
-  pub within-counts : {c : Command} (t : Totals) → Stands tape at c → is-few (totals-of t) (command-in tape at c) ≡ true
+  pub within-counts : {c : Command} (t : Totals) → StandsBy form tape at c → is-few (totals-of t) (command-in tape at c) ≡ true
       → is-short (totals-of t) (command-in tape at c) ≡ true → Counts c t
   unfolding is-few is-short
   within-counts {c = Addressed address indent} t s few short = omega (arith, leb-true (t .lines + 1) 256 few)
@@ -192,8 +199,8 @@ module _ (tape : List ℕ) (at : ℕ) where
   within-counts {c = End} t s few short = tt
 
   -- the step's promise
-  pub promised : (t : Q.Totals) {x : Answer Advance} → x ≡ read-command tape at t → (x ≡ read-command tape at t) × FromHere tape at t x
-  promised t e = (e, rw e (step-from-here tape at t))
+  pub promised : (t : Q.Totals) {x : Answer Advance} → x ≡ read-command-by form tape at t → (x ≡ read-command-by form tape at t) × FromHereBy form tape at t x
+  promised t e = (e, rw e (step-from-here-by form tape at t))
 
   pub ends-same : (c : Command) → is-end (command-in tape at c) ≡ ends c
   ends-same (Addressed address indent) = refl

@@ -1,4 +1,5 @@
 -- `tape::commands::addressed_from` meets its contract. Assumes nothing.
+use Rattle.reference.specs.Tape.{old}
 use Rattle.tape.proofs.commands.Standing.{addressed-cut, addressed-whole}
 use borrow.Author.Needs.{needs}
 use Rattle.tape.proofs.commands.addressed_from.Statement.{statement}
@@ -9,7 +10,7 @@ sub-if1 c = search needs
 
 returns : tie.Need-returns
 returns c = let s = c .before .before in
-    addressed-cut (s .args .tape .now) (s .args .at) (s .pre .1) (c .if1 .taken)
+    addressed-cut old (s .args .tape .now) (s .args .at) (s .pre .1) (c .if1 .taken)
 
 add-number-at : tie.Need-add-number-at
 add-number-at c = search needs
@@ -29,7 +30,7 @@ wide-requires c κs = search needs
 returns-2 : tie.Need-returns-2
 returns-2 c = let s = c .before .before .before .before .before in
     let long = c .before .before .before .if1 .left in
-    addressed-whole (s .args .tape .now) (s .args .at) (s .pre .1) long (c .before .before .number-at .ensures) (c .wide .ensures)
+    addressed-whole old (s .args .tape .now) (s .args .at) (s .pre .1) long (c .before .before .number-at .ensures) (c .wide .ensures)
 
 pub addressed-from-spec : {M : Type 1} → statement M
 addressed-from-spec =

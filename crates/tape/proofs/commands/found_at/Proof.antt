@@ -1,12 +1,13 @@
 -- `tape::commands::found_at` meets its contract. Assumes nothing.
 use native.Mathlib.Omega.{arith}
+use Rattle.reference.specs.Tape.{old}
 use Rattle.tape.proofs.commands.Standing.{no-byte, no-command, ending}
 use borrow.Author.Needs.{needs}
 use Rattle.tape.proofs.commands.found_at.Statement.{statement}
 use Rattle.tape.proofs.commands.found_at.Tie as tie
 
 returns : tie.Need-returns
-returns c = let a = c .before .before .args in no-byte (a .tape .now) (a .at) (c .if1 .taken)
+returns c = let a = c .before .before .args in no-byte old (a .tape .now) (a .at) (c .if1 .taken)
 
 shared-slice-read-b : tie.Need-shared-slice-read-b
 shared-slice-read-b c = search needs
@@ -32,19 +33,19 @@ returns-4 c = search needs
 returns-5 : tie.Need-returns-5
 returns-5 c = let b = c .before .before .before .before .before in
     let a = b .before .before .args in
-    ending (a .tape .now) (a .at) (b .if1 .left) (c .if5 .taken)
+    ending old (a .tape .now) (a .at) (b .if1 .left) (c .if5 .taken)
 
 returns-6 : tie.Need-returns-6
 returns-6 c = let b = c .before .before .before .before in
     let a = b .before .before .before .before .args in
     let marks = c .before .before .if4 .left in
-    no-command (a .tape .now) (a .at) (b .if2 .left) (c .before .before .before .if3 .left) marks (c .before .if5 .left) (λ low high. omega (arith, c .if6 .taken))
+    no-command old (a .tape .now) (a .at) (b .if2 .left) (c .before .before .before .if3 .left) marks (c .before .if5 .left) (λ low high. omega (arith, c .if6 .taken))
 
 returns-7 : tie.Need-returns-7
 returns-7 c = let b = c .before .before .before .before .before in
     let a = b .before .before .before .before .args in
     let d = c .before .before in
-    no-command (a .tape .now) (a .at) (b .if2 .left) (d .before .before .if3 .left) (d .before .if4 .left) (d .if5 .left) (λ low high. omega (arith, c .if7 .taken))
+    no-command old (a .tape .now) (a .at) (b .if2 .left) (d .before .before .if3 .left) (d .before .if4 .left) (d .if5 .left) (λ low high. omega (arith, c .if7 .taken))
 
 token-from-requires : tie.Need-token-from-requires
 token-from-requires c κs = search needs

@@ -1,4 +1,5 @@
 -- `tape::commands::marked_from` meets its contract. Assumes nothing.
+use Rattle.reference.specs.Tape.{old}
 use Rattle.tape.proofs.commands.Standing.{marked-cut, marked-whole}
 use borrow.Author.Needs.{needs}
 use Rattle.tape.proofs.commands.marked_from.Statement.{statement}
@@ -9,7 +10,7 @@ sub-if1 c = search needs
 
 returns : tie.Need-returns
 returns c = let s = c .before .before in
-    marked-cut (s .args .tape .now) (s .args .at) (s .pre .1) (c .if1 .taken)
+    marked-cut old (s .args .tape .now) (s .args .at) (s .pre .1) (c .if1 .taken)
 
 add-number-at : tie.Need-add-number-at
 add-number-at c = search needs
@@ -26,7 +27,7 @@ number-at-requires-2 c κs = search needs
 returns-2 : tie.Need-returns-2
 returns-2 c = let s = c .before .before .before .before in
     let long = c .before .before .if1 .left in
-    marked-whole (s .args .tape .now) (s .args .at) (s .pre .1) long (c .before .number-at .ensures) (c .number-at2 .ensures)
+    marked-whole old (s .args .tape .now) (s .args .at) (s .pre .1) long (c .before .number-at .ensures) (c .number-at2 .ensures)
 
 pub marked-from-spec : {M : Type 1} → statement M
 marked-from-spec =

@@ -1,4 +1,5 @@
 -- `tape::commands::plain_from` meets its contract. Assumes nothing.
+use Rattle.reference.specs.Tape.{old}
 use Rattle.tape.proofs.commands.Standing.{plain-cut, plain-whole}
 use borrow.Author.Needs.{needs}
 use Rattle.tape.proofs.commands.plain_from.Statement.{statement}
@@ -9,7 +10,7 @@ sub-if1 c = search needs
 
 returns : tie.Need-returns
 returns c = let s = c .before .before in
-    plain-cut (s .args .tape .now) (s .args .at) (s .pre .1) (c .if1 .taken)
+    plain-cut old (s .args .tape .now) (s .args .at) (s .pre .1) (c .if1 .taken)
 
 add-wide : tie.Need-add-wide
 add-wide c = search needs
@@ -22,7 +23,7 @@ wide-requires c κs = search needs
 
 returns-2 : tie.Need-returns-2
 returns-2 c = let s = c .before .before .before .before in
-    plain-whole (s .args .tape .now) (s .args .at) (s .pre .1) (c .before .before .if1 .left) (c .wide .ensures)
+    plain-whole old (s .args .tape .now) (s .args .at) (s .pre .1) (c .before .before .if1 .left) (c .wide .ensures)
 
 pub plain-from-spec : {M : Type 1} → statement M
 plain-from-spec =

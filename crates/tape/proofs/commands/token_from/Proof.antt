@@ -1,6 +1,7 @@
 -- `tape::commands::token_from` meets its contract. Assumes nothing.
 use Prim.Native.Nat.{ℕ, _-_}
 use mathlib.Core.Path.{ap}
+use Rattle.reference.specs.Tape.{old}
 use Rattle.tape.proofs.commands.Standing.{token-short, token-cut, token-whole}
 use borrow.Author.Needs.{needs}
 use Rattle.tape.proofs.commands.token_from.Statement.{statement}
@@ -11,7 +12,7 @@ sub-left c = search needs
 
 returns : tie.Need-returns
 returns c = let s = c .before .before in
-    token-short (s .args .tape .now) (s .args .at) (s .pre .1) (s .pre .2) (c .if1 .taken)
+    token-short old (s .args .tape .now) (s .args .at) (s .pre .1) (s .pre .2) (c .if1 .taken)
 
 add-number-at : tie.Need-add-number-at
 add-number-at c = search needs
@@ -21,7 +22,7 @@ number-at-requires c κs = search needs
 
 returns-2 : tie.Need-returns-2
 returns-2 c = let s = c .before .before .before .before in
-    token-cut (s .args .tape .now) (s .args .at) (s .pre .1) (s .pre .2) (c .before .number-at .ensures) (c .if2 .taken)
+    token-cut old (s .args .tape .now) (s .args .at) (s .pre .1) (s .pre .2) (c .before .number-at .ensures) (c .if2 .taken)
 
 shared-slice-read-wide : tie.Need-shared-slice-read-wide
 shared-slice-read-wide c = search needs
@@ -37,7 +38,7 @@ returns-3 c = let s = c .before .before .before .before .before .before in
     let kind = ap (λ (n : ℕ). n - 16) (c .wide .ensures) in
     let count = c .before .before .before .number-at .ensures in
     let long = c .before .before .before .before .if1 .left in
-    token-whole (s .args .tape .now) (s .args .at) (s .pre .1) (s .pre .2) count kind long (c .before .before .if2 .left)
+    token-whole old (s .args .tape .now) (s .args .at) (s .pre .1) (s .pre .2) count kind long (c .before .before .if2 .left)
 
 pub token-from-spec : {M : Type 1} → statement M
 token-from-spec =

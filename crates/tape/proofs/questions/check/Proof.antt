@@ -3,6 +3,7 @@ use Prim.Native.Nat.{_-_}
 use native.Mathlib.Omega.{arith}
 use mathlib.Core.Path.{sym, ap, _∙_}
 use lib.ListN.{length}
+use Rattle.reference.specs.Tape.{old}
 use Rattle.reference.specs.Questions.{Passed}
 use Rattle.tape.specs.Questions.{totals-of}
 use Rattle.tape.proofs.questions.Asking.{ends-same}
@@ -18,7 +19,7 @@ abbrev μ-loop : tie.MeasureT-loop
 μ-loop tape at₀ totals₀ at totals = length tape - at
 
 loop-holds : tie.Need-loop-holds Inv-loop μ-loop
-loop-holds c = reads-begin (c .before .args .tape .now)
+loop-holds c = reads-begin old (c .before .args .tape .now)
 
 step-requires : tie.Need-step-requires Inv-loop μ-loop
 step-requires c κs = search needs
@@ -28,7 +29,7 @@ enum-known-number c = search needs
 
 returns : tie.Need-returns Inv-loop μ-loop
 returns c = let e = rw (c .before .number .given .1) at (c .before .before .before .step .ensures .0) in
-    verdict-refused (c .before .before .before .before .before .before .args .tape .now) (read-refused (c .before .before .before .before .loop .inv) e)
+    verdict-refused old (c .before .before .before .before .before .before .args .tape .now) (read-refused (c .before .before .before .before .loop .inv) e)
 
 enum-known-command : tie.Need-enum-known-command Inv-loop μ-loop
 enum-known-command c = search needs
@@ -41,8 +42,8 @@ returns-2 c = let l = c .before .before .before .before .before .before .loop in
     let tape = c .before .before .before .before .before .before .before .before .args .tape .now in
     let w = c .before .before .before .command .given in
     let e = rw (w .1) at (c .before .before .before .before .before .step .ensures .0) in
-    let ended = ends-same tape (l .at) (w .0 .0) ∙ sym (c .before .is-end .ensures) ∙ c .if1 .taken in
-    ap Passed (sizes-are (l .inv)) ∙ verdict-passed tape (read-passed (l .inv) e ended)
+    let ended = ends-same old tape (l .at) (w .0 .0) ∙ sym (c .before .is-end .ensures) ∙ c .if1 .taken in
+    ap Passed (sizes-are (l .inv)) ∙ verdict-passed old tape (read-passed (l .inv) e ended)
 
 loop-less : tie.Need-loop-less Inv-loop μ-loop
 loop-less c = let e = rw (c .before .before .before .command .given .1) at (c .before .before .before .before .before .step .ensures .0) in
@@ -53,7 +54,7 @@ loop-again c = let l = c .before .before .before .before .before .before .loop i
     let tape = c .before .before .before .before .before .before .before .before .args .tape .now in
     let w = c .before .before .before .command .given in
     let e = rw (w .1) at (c .before .before .before .before .before .step .ensures .0) in
-    reads-on (l .inv) e (ends-same tape (l .at) (w .0 .0) ∙ sym (c .before .is-end .ensures) ∙ c .if1 .left)
+    reads-on (l .inv) e (ends-same old tape (l .at) (w .0 .0) ∙ sym (c .before .is-end .ensures) ∙ c .if1 .left)
 
 pub check-spec : {M : Type 1} → statement M
 check-spec =
