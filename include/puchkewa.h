@@ -19,7 +19,7 @@ extern "C" {
 #endif
 
 /* The version of the interface and of what it does: a change of either changes it. */
-#define PUCHKEWA_VERSION "0.12.0"
+#define PUCHKEWA_VERSION "0.13.0"
 
 /* The least that each work area and the output must have, in bytes. 59,137 bytes are enough for the output of every tape. */
 #define PUCHKEWA_WORK 49152
@@ -50,10 +50,14 @@ struct puchkewa_settings {
                            round before the cuts would change no byte */
     uint8_t edition;    /* 0 or 1: enum puchkewa_edition */
     bool parts;         /* true: a value assigned to a part of a register is joined into a use below 32 bits only if that is the same part: ah is not al */
+    bool profile;       /* true: the listing must be a straight piece: assignments to 64-bit registers, and a return, of sums and differences; each expression
+                           of more than one token that is joined into another gets brackets, and what is returned is the same before and after. Such a
+                           call goes down into nested brackets, some 464 bytes of stack each: up to 11.5 MB for a tape that is nothing but brackets
+                           (docs/TIMES.md) */
 };
 
 /* Why a call was refused: the first question that was answered "no". They are asked in the order 1, 9, 2; those from 3 on are asked of each command
- * of the tape from the left, in the order 3, 4, 5, 6, 10, 11, 7, 8. docs/TAPE.md has the table. */
+ * of the tape from the left, in the order 3, 4, 5, 6, 10, 11, 7, 8; and 14 once the tape is read, where the profile is asked for. docs/TAPE.md has the table. */
 enum puchkewa_refusal {
     PUCHKEWA_FINISHED = 0,           /* nothing was refused */
     PUCHKEWA_BAD_CONVENTION = 1,     /* the convention is not 0, 1 or 2 */
@@ -71,6 +75,7 @@ enum puchkewa_refusal {
     PUCHKEWA_NEW_KEYWORD = 12,       /* puchkewa_to_2024: a Symbol that is a keyword of C's edition of 2024 and was none in 2018 */
     PUCHKEWA_NEW_NUMBER = 13,        /* puchkewa_to_2018: a Number that begins 0b or 0B after at most one minus, or holds a ', and is not read by
                                         the 2024 edition */
+    PUCHKEWA_NOT_STRAIGHT = 14,      /* the profile was asked for, and a line breaks it: `place` is the number of the first such line, from 0 */
     PUCHKEWA_TOO_MANY_LINES = 17,    /* the most laborious listing: more than 256 lines were asked for */
     PUCHKEWA_OUT_OF_REACH = 18,      /* puchkewa_to_offsets: an address below the base, or 2^32 or more above it;
                                         puchkewa_from_offsets: base and offset together are above 2^64 - 1 */
@@ -84,7 +89,7 @@ enum puchkewa_refusal {
 struct puchkewa_report {
     uint64_t refusal;    /* 0 when finished, else the number of the question that refused: enum puchkewa_refusal */
     uint64_t place;      /* of a refusal by 3 or more: the offset in the tape of the command that was refused, by 7 of the first byte
-                            that is not printable; otherwise 0 */
+                            that is not printable; by 14 the number of the line, from 0; otherwise 0 */
     uint64_t length;     /* the length of the new tape, at the front of the output */
     uint64_t attempts_1; /* attempts to join a line into a later one, in the first round; 0 where `settle` was set .. */
     uint64_t attempts_2; /* .. in the second, 0 if it was not run .. */

@@ -11,6 +11,7 @@ struct Settings {
     settle: bool,
     edition: u8,
     parts: bool,
+    profile: bool,
 }
 
 /// `struct puchkewa_report` of include/puchkewa.h, where each number is explained.
@@ -63,7 +64,7 @@ const TAPE: &[u8] = b"\x02\x00\x11\x03\x00rax\x16\x03\x00 = \x14\x01\x00f\x16\x0
 
 fn main() {
     let (mut work_a, mut work_b, mut out) = (vec![0; 49152], vec![0; 49152], vec![0; 59137]);
-    let r = clean(Settings { convention: 1, settle: false, edition: 0, parts: false }, TAPE, &mut work_a, &mut work_b, &mut out);
+    let r = clean(Settings { convention: 1, settle: false, edition: 0, parts: false, profile: false }, TAPE, &mut work_a, &mut work_b, &mut out);
     if r.refusal != 0 {
         println!("refused {} at {}", r.refusal, r.place);
         std::process::exit(1);

@@ -106,7 +106,7 @@ struct Lent(Vec<u8>, Vec<u8>, Vec<u8>);
 
 impl Lent {
     fn call(&mut self, convention: u8, tape: &[u8]) -> door::Report {
-        library::clean(library::Settings { convention, settle: false, edition: 0, parts: false }, tape, &mut self.0, &mut self.1, &mut self.2)
+        library::clean(library::Settings { convention, settle: false, edition: 0, parts: false, profile: false }, tape, &mut self.0, &mut self.1, &mut self.2)
     }
 }
 

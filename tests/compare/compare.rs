@@ -40,7 +40,7 @@ fn all(s: &[u8], b: u8) -> bool {
 /// What the library did otherwise than the Rust and document 01, marks left out. The buffers hold the mark before and after.
 fn difference(input: &Input, settle: bool, want: &Report, tape: &[u8], lent: &mut Lent) -> Option<String> {
     let [a, b, o] = input.lent;
-    let settings = library::Settings { convention: input.convention, settle, edition: input.edition, parts: input.parts };
+    let settings = library::Settings { convention: input.convention, settle, edition: input.edition, parts: input.parts, profile: false };
     let got = library::clean(settings, &input.tape, &mut lent.work_a[..a], &mut lent.work_b[..b], &mut lent.out[..o]);
     let wiped = if want.refusal == 0 { WORK } else { 0 };
     let n = (got.length as usize).min(o);

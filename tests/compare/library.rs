@@ -10,6 +10,7 @@ pub struct Settings {
     pub settle: bool,
     pub edition: u8,
     pub parts: bool,
+    pub profile: bool,
 }
 
 /// `struct puchkewa_answer`.

@@ -33,7 +33,7 @@ abbrev pub made : ℕ → ℕ → ℕ → ℕ → ℕ → Counts
 made a b c r x = record { tally = three a b c; lines-removed = r; results-cut = x }
 
 abbrev pub under : ℕ → Rules
-under c = record { convention = c; settle = false; edition = 0; parts = false }
+under c = record { convention = c; settle = false; edition = 0; parts = false; profile = false }
 
 -- every listing of the run, the finished one, and the counts
 abbrev pub Runs : ℕ → Listing → List Listing → Listing → Counts → Type 0

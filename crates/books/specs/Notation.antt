@@ -54,11 +54,11 @@ unfoldable pub listing : List String → Listing
 listing ls = map (λ l. line-at 0 (bytes l)) ls
 
 abbrev pub convention-1 : Rules
-convention-1 = record { convention = 1; settle = false; edition = 0; parts = false }
+convention-1 = record { convention = 1; settle = false; edition = 0; parts = false; profile = false }
 
 -- M-104
 abbrev pub convention-1-parts : Rules
-convention-1-parts = record { convention = 1; settle = false; edition = 0; parts = true }
+convention-1-parts = record { convention = 1; settle = false; edition = 0; parts = true; profile = false }
 
 -- the finished listing, under convention 1
 abbrev pub gives : List String → List String → Type 0

@@ -1,8 +1,11 @@
 -- What the code's replies mean, and what a call promises. Assumes nothing.
 use Prim.Native.Nat.{ℕ}
 use mathlib.Core.Path.{_≡_}
+use mathlib.Core.Bool.{true}
 use mathlib.Core.List.{List}
+use mathlib.Core.Option.{Option, none}
 use lib.ListN.{length}
+use Rattle.reference.specs.Control.{if_then_else_}
 use Rattle.reference.specs.Rules.{Rules}
 use Rattle.reference.specs.Listing.{Listing}
 use Rattle.reference.specs.Run.{run, finished, three, Counts, counts}
@@ -10,8 +13,10 @@ use Rattle.reference.specs.Marks.{finished-marks}
 use Rattle.reference.specs.Tape.{write}
 use Rattle.reference.specs.Questions as Q
 use Rattle.reference.specs.Questions.{Answer, Passed, read, marks-in}
+use Rattle.reference.specs.Straight.{breaks}
 use Rattle.reference.specs.Demand.{Demand3}
 use Rattle.reference.specs.Reply as R
+use Rattle.straight.specs.Meaning.{Meaning}
 use Rattle.rounds.specs.Runs.{tally-of}
 use Rattle.clean.specs.declared.told.Told.{Told}
 use Rattle.clean.specs.declared.cleaning.Finished.{Finished}
@@ -69,12 +74,19 @@ pub record Leaves (reply : R.Reply) (work-a work-b out : List ℕ) (work-a′ wo
   pub work-b-is : work-b′ ≡ R.work-after reply work-b
 
 -- One call: its report and every lent byte afterwards are the definition's, on every tape and all lengths; and demand 3 holds of the run of
--- the listing that it cleaned.
+-- the listing that it cleaned. M-106: where the profile is asked for and the call is not refused, the cleaned listing returns for all
+-- starting register values what the input returns.
 pub record Cleans (rules : Rules) (tape work-a work-b out : List ℕ) (work-a′ work-b′ out′ : List ℕ) (report : R.Report) : Type 0 where
   pub leaves : Leaves (R.reply rules tape (length work-a) (length work-b) (length out)) work-a work-b out work-a′ work-b′ out′ report
   pub demand3 : (input : Listing) → read tape ≡ Passed input → Demand3 rules input
+  pub means : rules .profile ≡ true → (c : R.Cleaned) → R.reply rules tape (length work-a) (length work-b) (length out) ≡ Passed c
+      → (input : Listing) → read tape ≡ Passed input → Meaning rules input
 
 -- the definition's reply to the tape of a listing
 abbrev pub cleaned : Rules → List ℕ → Listing → R.Reply
 cleaned rules tape input =
     Passed (record { tape = write (finished rules input) (finished-marks rules input (marks-in tape)); counts = counts rules (run rules input) })
+
+-- M-106: the first line that breaks the profile, where it is asked for
+abbrev pub outside : Rules → Listing → Option ℕ
+outside rules input = if rules .profile then breaks input else none

@@ -1,7 +1,9 @@
 // The questions, then the cleaning.
+use crate::asking::outside_profile;
 use crate::cleaning::Finished;
 use crate::cleaning::finish;
 use lines::rules::Rules;
+use lines::shapes::Found;
 use tape::questions::Checked;
 ghost use mathlib.Core.Path.{_≡_};
 ghost use lib.ListN.{length};
@@ -36,6 +38,12 @@ pub fn clean(
     }
     match tape::check(tape) {
         Checked::Refused { number, place } => Reply::Refused { number, place },
-        Checked::Passed(_) => Reply::Finished(finish(rules, tape, work_a, work_b, out)),
+        Checked::Passed(_) => match outside_profile(rules, tape) {
+            Found::At(line) => Reply::Refused {
+                number: 14,
+                place: line,
+            },
+            Found::Nothing => Reply::Finished(finish(rules, tape, work_a, work_b, out)),
+        },
     }
 }

@@ -1,4 +1,5 @@
 // The public entry: a tape in, the cleaned tape out (document 01).
+mod asking; // the question of the profile
 mod cleaning; // the whole cleaning of an accepted tape
 mod entry; // the questions, then the cleaning
 mod told; // what is told of the rounds, in numbers

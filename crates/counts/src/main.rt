@@ -78,6 +78,7 @@ fn count(convention: u8, settle: bool, tape: &[u8]) {
         settle,
         edition: 0,
         parts: false,
+        profile: false,
     };
     print_reply(clean::clean(rules, tape, &mut work_a, &mut work_b, &mut out));
 }

@@ -21,7 +21,7 @@ shown (Passed c) = c .tape
 
 -- the settings: the convention; "The filter program keeps its input form, with .. every later setting off"
 abbrev pub settings : ℕ → Rules
-settings convention = record { convention = convention; settle = false; edition = 0; parts = false }
+settings convention = record { convention = convention; settle = false; edition = 0; parts = false; profile = false }
 
 -- the longest tape that is taken
 unfoldable pub LONGEST : ℕ

@@ -37,6 +37,7 @@ fn answer(convention: u8, tape: &[u8], out: &mut [u8]) -> usize
         settle: false,
         edition: 0,
         parts: false,
+        profile: false,
     };
     match clean(rules, tape, &mut work_a, &mut work_b, out) {
         Reply::Refused { number, place } => put_refusal(number, place as u64, out),

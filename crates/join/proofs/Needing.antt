@@ -86,7 +86,7 @@ module _ {rules : Rules} {lines : Listing} {i : ℕ} {p : Plan} (h : Planned rul
         let a : Assigning ((lines at i) .tokens) (d .to) = assigns ((lines at i) .tokens) (d .to) (d .assignment-is) in
         let expr : d .to .expr ≡ p .expr = sym (h .same-expr ∙ d .expr-is) in
         let line : weight w (put (lines at (p .last)) .tokens) ≤ weight w ((lines at (p .last)) .tokens) + weight w ((lines at i) .tokens) =
-        rw same (rw expr at (replaced-le w (p .fam) ((lines at (p .last)) .tokens) pos a hp)) in
+        rw same (rw expr at (replaced-le w rules (p .fam) ((lines at (p .last)) .tokens) pos a hp)) in
         by-if (λ (x : Line). weight w (x .tokens) ≤ most)
         (λ t. rw e line)
         (λ t. omega arith)))

@@ -51,7 +51,7 @@ module _ (lines : Listing) (i : ℕ) where
       rw (at-bare lines i, drop-map bare (suc i) lines)
       (reach-from-bare ((lines at i) .indent) fam volatile (suc i) (drop (suc i) lines) _)
 
-  module _ (d : Definition) (labels : Labels) (volatile : List Text) where
+  module _ (rules : Rules) (d : Definition) (labels : Labels) (volatile : List Text) where
     take-bare : (ls : Listing) → all-take (d .fam .name) volatile (bare-lines ls) ≡ all-take (d .fam .name) volatile ls
     unfolding all-take refuses
     take-bare ls = rw (any-map (refuses (d .fam .name) volatile) bare ls)
@@ -73,18 +73,18 @@ module _ (lines : Listing) (i : ℕ) where
         rw (at-bare lines i, drop-map bare (suc i) lines)
         (use-from-bare ((lines at i) .indent) (d .fam .name) volatile (d .expr) (d .calls) (suc i) (drop (suc i) lines))
 
-    plan-use-bare : (parts : Bool) (j : ℕ) → plan-use parts (bare-lines lines) i d labels volatile j ≡ plan-use parts lines i d labels volatile j
+    plan-use-bare : (j : ℕ) → plan-use rules (bare-lines lines) i d labels volatile j ≡ plan-use rules lines i d labels volatile j
     unfolding plan-use
-    plan-use-bare parts j = rw (at-bare lines i, at-bare lines j, dead-after-bare lines (d .fam .name) ((lines at i) .indent) labels i volatile j)
+    plan-use-bare j = rw (at-bare lines i, at-bare lines j, dead-after-bare lines (d .fam .name) ((lines at i) .indent) labels i volatile j)
 
-    plan-for-bare : (parts : Bool) → plan-for parts (bare-lines lines) i d labels volatile ≡ plan-for parts lines i d labels volatile
+    plan-for-bare : plan-for rules (bare-lines lines) i d labels volatile ≡ plan-for rules lines i d labels volatile
     unfolding plan-for plan-constant plan-single
-    plan-for-bare parts = rw (reach-of-bare (d .fam .name) volatile, plan-reach-bare (reach-of lines i (d .fam .name) volatile), use-of-bare) (simp (plan-use-bare parts))
+    plan-for-bare = rw (reach-of-bare (d .fam .name) volatile, plan-reach-bare (reach-of lines i (d .fam .name) volatile), use-of-bare) (simp plan-use-bare)
 
 pub decide-bare : (rules : Rules) (lines : Listing) (i : ℕ) (labels : Labels) (addressed : List Text)
     → decide rules (bare-lines lines) i labels addressed ≡ decide rules lines i labels addressed
 unfolding decide
-decide-bare rules lines i labels addressed = rw (at-bare lines i) (simp (plan-for-bare lines i))
+decide-bare rules lines i labels addressed = rw (at-bare lines i) (simp (plan-for-bare lines i rules))
 
 -- ---- the change
 

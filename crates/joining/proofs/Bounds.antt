@@ -110,7 +110,7 @@ module _ {rules : Rules} {lines : Listing} {i : ℕ} {p : Plan} (h : Planned rul
       let one : map-from (unmerged-line (volatile rules) i p) 0 lines ≡ modify j substituted lines =
       changed (volatile rules) i p substituted lines (inside lines i (h .def) (h .known)) ∙ ap (λ (us : List ℕ). modifies substituted us lines) only in
       let line : weight w (substituted (lines at j) .tokens) ≤ weight w ((lines at j) .tokens) + weight w ((lines at i) .tokens) =
-      rw same (rw (assigned h .2) at (replaced-le w (p .fam) ((lines at j) .tokens) pos (assigned h .1) hp)) in
+      rw same (rw (assigned h .2) at (replaced-le w rules (p .fam) ((lines at j) .tokens) pos (assigned h .1) hp)) in
       rw one
       (omega (
         arith,

@@ -112,13 +112,13 @@ module _ (rules : Rules) (lines : Listing) (i : ℕ) where
 
     -- the plan for the use on line j, at the token `pos`
     plan-at : ℕ → ℕ → Plan
-    plan-at j pos = record { fam = d .fam .name; expr = d .expr; last = j; brackets = wants-brackets (d .expr) ((lines at j) .tokens) pos }
+    plan-at j pos = record { fam = d .fam .name; expr = d .expr; last = j; brackets = wants-brackets rules (d .expr) ((lines at j) .tokens) pos }
 
     found : ℕ → Type 0
     found j = use-from ((lines at i) .indent) (d .fam .name) (d .expr) (is-some (call-in ((lines at i) .tokens))) (volatile rules) (suc i) (drop (suc i) lines) ≡ some j
 
     replaced : (j pos : ℕ) → found j → position (of-family (d .fam .name)) ((lines at j) .tokens) ≡ some pos
-        → remove i (modify j (rewrite-one (rules .edition) pos (d .expr)) lines) ≡ act rules lines i (plan-at j pos)
+        → remove i (modify j (rewrite-one rules pos (d .expr)) lines) ≡ act rules lines i (plan-at j pos)
     unfolding found plan-at act rewrite-uses rewrite-use rewrite-one
     replaced j pos h hp =
         let fam : Text = d .fam .name in
@@ -126,27 +126,27 @@ module _ (rules : Rules) (lines : Listing) (i : ℕ) where
         let only : uses-upto fam (volatile rules) j (suc i) (drop (suc i) lines) ≡ j ∷ [] =
         single-use fam (volatile rules) ((lines at i) .indent) (d .expr) (is-some (call-in ((lines at i) .tokens))) (suc i) (drop (suc i) lines) j h in
         let u = use-found lines ((lines at i) .indent) fam (volatile rules) (d .expr) (is-some (call-in ((lines at i) .tokens))) (suc i) (drop (suc i) lines) j refl h in
-        let one = replaced-one p ((lines at j) .tokens) pos refl hp (use-count ((lines at j) .tokens) fam (volatile rules) 1 (u .once)) in
+        let one = replaced-one rules p ((lines at j) .tokens) pos refl hp (use-count ((lines at j) .tokens) fam (volatile rules) 1 (u .once)) in
         ap (remove i)
-        (modify-same (rewrite-one (rules .edition) pos (d .expr)) (rewrite-use (rules .edition) fam (right-side-of p)) blank j lines
+        (modify-same (rewrite-one rules pos (d .expr)) (rewrite-use (rules .edition) fam (right-side-of p)) blank j lines
         (ap (λ (ts : List Token). with-tokens (fold (rules .edition) (merge ts)) (lines at j)) (sym one))
         ∙ ap (λ (us : List ℕ). rewrite-uses (rules .edition) fam (right-side-of p) us lines) (sym only)
         ∙ sym (acted rules i p lines within))
 
-    single-is : join-one (rules .edition) (rules .parts) lines i (d .fam) (d .expr) labels (volatile rules) ≡ done (plan-single (rules .parts) lines i d labels (volatile rules))
+    single-is : join-one rules lines i (d .fam) (d .expr) labels (volatile rules) ≡ done (plan-single rules lines i d labels (volatile rules))
     unfolding join-one join-at plan-single use-of plan-use found plan-at done let-some_else_then_
     single-is =
         rw (defined-by ((lines at i) .tokens) d known .calls-is)
-        (carried _ (join-at (rules .edition) (rules .parts) lines i (d .fam) (d .expr) labels (volatile rules)) (plan-use (rules .parts) lines i d labels (volatile rules)) (λ j h.
+        (carried _ (join-at rules lines i (d .fam) (d .expr) labels (volatile rules)) (plan-use rules lines i d labels (volatile rules)) (λ j h.
         chosen _ _ _ _ _
         (λ b. refl)
         (λ b. carried _ _ _ (λ pos hp. chosen _ _ _ _ _ (λ c. ap {B = Option Listing} some (replaced j pos h hp)) (λ c. refl)))))
 
     plan-is : (let-some (if lone-number (d .expr) then propagate-constant (rules .edition) lines i (d .fam .name) (d .expr) labels (volatile rules) else none)
-        else join-one (rules .edition) (rules .parts) lines i (d .fam) (d .expr) labels (volatile rules) then λ l. some l) ≡ done (plan-for (rules .parts) lines i d labels (volatile rules))
+        else join-one rules lines i (d .fam) (d .expr) labels (volatile rules) then λ l. some l) ≡ done (plan-for rules lines i d labels (volatile rules))
     unfolding plan-for
     plan-is =
-        first-of _ _ (if lone-number (d .expr) then plan-constant lines i d labels (volatile rules) else none) (plan-single (rules .parts) lines i d labels (volatile rules))
+        first-of _ _ (if lone-number (d .expr) then plan-constant lines i d labels (volatile rules) else none) (plan-single rules lines i d labels (volatile rules))
         (chosen (lone-number (d .expr)) _ _ (plan-constant lines i d labels (volatile rules)) none (λ b. constant-is) (λ b. done-none)) single-is
 
 -- where there is none, and where there may be one
@@ -170,7 +170,7 @@ module _ (rules : Rules) (lines : Listing) (i : ℕ) (labels : Labels) (addresse
   undecided h = rw h
 
   decided : (d : Definition) → definition-of ((lines at i) .tokens) ≡ some d
-      → decide rules lines i labels addressed ≡ (if has addressed (d .fam .name) then none else plan-for (rules .parts) lines i d labels (volatile rules))
+      → decide rules lines i labels addressed ≡ (if has addressed (d .fam .name) then none else plan-for rules lines i d labels (volatile rules))
   unfolding decide let-some_else_then_
   decided d h = rw h
 
@@ -238,7 +238,7 @@ module _ (rules : Rules) (lines : Listing) (i : ℕ) (labels : Labels) (d : Defi
   one-target o j e = rw e
 
   -- the one use
-  single-targets : (p : Plan) → plan-single (rules .parts) lines i d labels (volatile rules) ≡ some p → one-use lines i (d .fam) (d .expr) (volatile rules) ≡ changed-places rules lines i p
+  single-targets : (p : Plan) → plan-single rules lines i d labels (volatile rules) ≡ some p → one-use lines i (d .fam) (d .expr) (volatile rules) ≡ changed-places rules lines i p
   unfolding plan-single use-of plan-use
   single-targets p e =
       let b = bind-some e in
@@ -262,8 +262,8 @@ targets-are rules lines i labels addressed p e =
     let d : Definition = record { fam = f .0; expr = a .0 .expr; calls = is-some (call-in ((lines at i) .tokens)) } in
     let same : d ≡ known .0 = some-inj (unless-some (f .2) .1) in
     let defined : definition-of ((lines at i) .tokens) ≡ some d = known .1 ∙ ap {B = Option Definition} some (sym same) in
-    let planned : plan-for (rules .parts) lines i d labels (volatile rules) ≡ some p =
-    subst (λ (x : Definition). plan-for (rules .parts) lines i x labels (volatile rules) ≡ some p) (sym same) (unless-some (known .2) .1) in
+    let planned : plan-for rules lines i d labels (volatile rules) ≡ some p =
+    subst (λ (x : Definition). plan-for rules lines i x labels (volatile rules) ≡ some p) (sym same) (unless-some (known .2) .1) in
     let constant : is-some (propagate-constant (rules .edition) lines i (d .fam .name) (d .expr) labels (volatile rules)) ≡ is-some (plan-constant lines i d labels (volatile rules)) =
     constant-some rules lines i labels d defined in
     by-targets rules lines i labels (λ js. js ≡ changed-places rules lines i p) (a .0) (f .0) (a .1) (f .1)

@@ -26,7 +26,7 @@ pub data Way (rules : Rules) (lines : Listing) (i : ℕ) (p : Plan) : Type 0 whe
   constant : lone-number (p .expr) ≡ true → p .brackets ≡ false → Way rules lines i p
   single : (pos : ℕ) → i < p .last → uses-upto (p .fam) (volatile rules) (p .last) (suc i) (drop (suc i) lines) ≡ p .last ∷ []
       → position (of-family (p .fam)) ((lines at (p .last)) .tokens) ≡ some pos
-      → substitute (p .fam) (right-side-of p) ((lines at (p .last)) .tokens) ≡ replace-at ((lines at (p .last)) .tokens) pos (p .expr)
+      → substitute (p .fam) (right-side-of p) ((lines at (p .last)) .tokens) ≡ replace-at rules ((lines at (p .last)) .tokens) pos (p .expr)
       → Way rules lines i p
 
 pub record Planned (rules : Rules) (lines : Listing) (i : ℕ) (p : Plan) : Type 0 where
@@ -52,7 +52,7 @@ module _ (rules : Rules) (lines : Listing) (i : ℕ) (labels : Labels) (p : Plan
           way = constant n refl;
         })
 
-    from-single : plan-single (rules .parts) lines i d labels (volatile rules) ≡ some p → Planned rules lines i p
+    from-single : plan-single rules lines i d labels (volatile rules) ≡ some p → Planned rules lines i p
     unfolding plan-single plan-use use-of
     from-single e =
         let j = bind-some e in
@@ -69,11 +69,11 @@ module _ (rules : Rules) (lines : Listing) (i : ℕ) (labels : Labels) (p : Plan
               single (pos .0) (u .later)
               (single-use (d .fam .name) (volatile rules) ((lines at i) .indent) (d .expr) (d .calls) (suc i) (drop (suc i) lines) (j .0) (j .1))
               (pos .1)
-              (replaced-one (record { fam = d .fam .name; expr = d .expr; last = j .0; brackets = wants-brackets (d .expr) ((lines at (j .0)) .tokens) (pos .0) })
+              (replaced-one rules (record { fam = d .fam .name; expr = d .expr; last = j .0; brackets = wants-brackets rules (d .expr) ((lines at (j .0)) .tokens) (pos .0) })
               ((lines at (j .0)) .tokens) (pos .0) refl (pos .1) (use-count ((lines at (j .0)) .tokens) (d .fam .name) (volatile rules) 1 (u .once)));
         })
 
-    from-plan : plan-for (rules .parts) lines i d labels (volatile rules) ≡ some p → Planned rules lines i p
+    from-plan : plan-for rules lines i d labels (volatile rules) ≡ some p → Planned rules lines i p
     unfolding plan-for
     from-plan =
         by-some (λ (o : Option Plan). o ≡ some p → Planned rules lines i p)

@@ -11,6 +11,7 @@ use Rattle.reference.specs.Lists.{count, position}
 use Rattle.reference.specs.Text.{Text}
 use Rattle.reference.specs.Listing.{Token}
 use Rattle.reference.specs.Names.{of-family}
+use Rattle.reference.specs.Rules.{Rules}
 use Rattle.reference.specs.Life.{Touch, Use, touch-of}
 use Rattle.reference.specs.Join.{substitute, replacement, replace-at}
 use Rattle.reference.proofs.Cases.{by-if, by-some, some-inj, none-some}
@@ -62,8 +63,8 @@ module _ (fam : Text) (expr : List Token) where
           e
 
 -- the one token replaced, where the plan has the brackets that it wants
-pub replaced-one : (p : Plan) (ts : List Token) (pos : ℕ) → p .brackets ≡ wants-brackets (p .expr) ts pos
+pub replaced-one : (rules : Rules) (p : Plan) (ts : List Token) (pos : ℕ) → p .brackets ≡ wants-brackets rules (p .expr) ts pos
     → position (of-family (p .fam)) ts ≡ some pos → count (of-family (p .fam)) ts ≡ 1
-    → substitute (p .fam) (right-side-of p) ts ≡ replace-at ts pos (p .expr)
+    → substitute (p .fam) (right-side-of p) ts ≡ replace-at rules ts pos (p .expr)
 unfolding right-side-of wants-brackets replace-at replacement
-replaced-one p ts pos b h n = substitute-one (p .fam) (right-side-of p) ts pos h n ∙ rw b
+replaced-one rules p ts pos b h n = substitute-one (p .fam) (right-side-of p) ts pos h n ∙ rw b

@@ -54,7 +54,7 @@ module _ (fam : Text) (volatile : List Text) where
   lone j l ls n t = here j j l ls (omega arith) (used l n t) ∙ ap (λ (r : List ℕ). j ∷ r) (uses-past j (suc j) ls (omega arith))
 
   module _ (base-indent : ℕ) where
-    gather-last : (j : ℕ) (ls : Listing) (last : ℕ) → last < j → last ≤ (gather base-indent fam volatile j ls last) .last
+    pub gather-last : (j : ℕ) (ls : Listing) (last : ℕ) → last < j → last ≤ (gather base-indent fam volatile j ls last) .last
     unfolding gather
     gather-last j [] last h = omega arith
     gather-last j (l ∷ ls) last h =

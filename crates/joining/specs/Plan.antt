@@ -14,9 +14,10 @@ use Rattle.reference.specs.Text.{Text, bytes, has}
 use Rattle.reference.specs.Listing.{Token, token, Punct, Line, Listing, _at_, with-tokens}
 use Rattle.reference.specs.Names.{Fam, family, of-family}
 use Rattle.reference.specs.Rules.{Rules, volatile}
-use Rattle.reference.specs.Shapes.{is-label, has-kw, opens-or-closes, call-in, assignment-of, is-operator-expr}
+use Rattle.reference.specs.Shapes.{is-label, has-kw, opens-or-closes, call-in, assignment-of}
 use Rattle.reference.specs.Life.{touch, match-touch, is-use, is-kill, Labels, dead-after}
-use Rattle.reference.specs.Join.{ends-run, bad-use, substitute, rewrite-use, use-from, harmless, text-before, text-after, standalone, replaceable, lone-number}
+use Rattle.reference.specs.Join.{ends-run, bad-use, substitute, rewrite-use, use-from, harmless, text-before}
+use Rattle.reference.specs.Join.{text-after, standalone, is-bracketed, replaceable, lone-number}
 
 -- ---- what an attempt starts from
 
@@ -112,33 +113,38 @@ use-of lines i d volatile =
     use-from ((lines at i) .indent) (d .fam .name) (d .expr) (d .calls) volatile (suc i) (drop (suc i) lines)
 
 -- whether the right side wants brackets at `pos`
-unfoldable pub wants-brackets : List Token → List Token → ℕ → Bool
-wants-brackets expr toks pos = is-operator-expr expr && not (standalone (text-before toks pos) (text-after toks pos))
+unfoldable pub wants-brackets : Rules → List Token → List Token → ℕ → Bool
+wants-brackets rules expr toks pos = is-bracketed rules expr && not (standalone (text-before toks pos) (text-after toks pos))
 
 -- the plan for the use on line j
-unfoldable pub plan-use : Bool → Listing → ℕ → Definition → Labels → List Text → ℕ → Option Plan
-plan-use parts lines i d labels volatile j =
+unfoldable pub plan-use : Rules → Listing → ℕ → Definition → Labels → List Text → ℕ → Option Plan
+plan-use rules lines i d labels volatile j =
     if has-kw (lines at j) "while" || not (dead-after lines j (d .fam .name) ((lines at i) .indent) labels i volatile) then none
     else let-some (position (of-family (d .fam .name)) ((lines at j) .tokens)) else none then λ pos.
-    if replaceable parts (d .fam) ((lines at j) .tokens) pos
-    then some (record { fam = d .fam .name; expr = d .expr; last = j; brackets = wants-brackets (d .expr) ((lines at j) .tokens) pos })
+    if replaceable (rules .parts) (d .fam) ((lines at j) .tokens) pos
+    then some (record {
+      fam = d .fam .name;
+      expr = d .expr;
+      last = j;
+      brackets = wants-brackets rules (d .expr) ((lines at j) .tokens) pos;
+    })
     else none
 
-unfoldable pub plan-single : Bool → Listing → ℕ → Definition → Labels → List Text → Option Plan
-plan-single parts lines i d labels volatile =
-    let-some (use-of lines i d volatile) else none then λ j. plan-use parts lines i d labels volatile j
+unfoldable pub plan-single : Rules → Listing → ℕ → Definition → Labels → List Text → Option Plan
+plan-single rules lines i d labels volatile =
+    let-some (use-of lines i d volatile) else none then λ j. plan-use rules lines i d labels volatile j
 
 -- ---- the decision
 
-unfoldable pub plan-for : Bool → Listing → ℕ → Definition → Labels → List Text → Option Plan
-plan-for parts lines i d labels volatile =
+unfoldable pub plan-for : Rules → Listing → ℕ → Definition → Labels → List Text → Option Plan
+plan-for rules lines i d labels volatile =
     let-some (if lone-number (d .expr) then plan-constant lines i d labels volatile else none)
-    else plan-single parts lines i d labels volatile then λ p. some p
+    else plan-single rules lines i d labels volatile then λ p. some p
 
 unfoldable pub decide : Rules → Listing → ℕ → Labels → List Text → Option Plan
 decide rules lines i labels addressed =
     let-some (definition-of ((lines at i) .tokens)) else none then λ d.
-    if has addressed (d .fam .name) then none else plan-for (rules .parts) lines i d labels (volatile rules)
+    if has addressed (d .fam .name) then none else plan-for rules lines i d labels (volatile rules)
 
 -- ---- the change
 

@@ -45,9 +45,16 @@ module _ (rules : Rules) (addressed : List Text) (i : ℕ) (lines : Listing) (la
 abbrev marks : Labels
 marks = record { name = bytes "L"; place = 0 } ∷ []
 
--- a setting by its cases
-abbrev with-parts : Bool → Rules → Rules
-with-parts parts rules = record { convention = rules .convention; settle = rules .settle; edition = rules .edition; parts = parts }
+-- two settings by their cases
+abbrev with-settings : Bool → Bool → Rules → Rules
+with-settings parts profile rules =
+    record {
+      convention = rules .convention;
+      settle = rules .settle;
+      edition = rules .edition;
+      parts = parts;
+      profile = profile;
+    }
 
 -- Of the listing with n moves still to go into one another: the first line stays, the second goes into the third as long as there is one.
 record Moves (x y : String) : Type 0 where
@@ -60,29 +67,37 @@ there : Moves "rbx" "rbp"
 unfolding opened to-and-fro
 there = record { stays = λ rules n. refl; joined = joins; last = λ rules. refl; plain = λ ls. refl }
   where
-    by-parts : (parts : Bool) (rules : Rules) (n : ℕ)
-        → try-at (with-parts parts rules) (label-and-moves "rbx" "rbp" (suc n)) 1 marks [] ≡ some (label-and-moves "rbp" "rbx" n)
-    by-parts false rules zero = refl
-    by-parts false rules (suc n) = refl
-    by-parts true rules zero = refl
-    by-parts true rules (suc n) = refl
+    by-settings : (parts profile : Bool) (rules : Rules) (n : ℕ)
+        → try-at (with-settings parts profile rules) (label-and-moves "rbx" "rbp" (suc n)) 1 marks [] ≡ some (label-and-moves "rbp" "rbx" n)
+    by-settings false false rules zero = refl
+    by-settings false false rules (suc n) = refl
+    by-settings false true rules zero = refl
+    by-settings false true rules (suc n) = refl
+    by-settings true false rules zero = refl
+    by-settings true false rules (suc n) = refl
+    by-settings true true rules zero = refl
+    by-settings true true rules (suc n) = refl
 
     joins : (rules : Rules) (n : ℕ) → try-at rules (label-and-moves "rbx" "rbp" (suc n)) 1 marks [] ≡ some (label-and-moves "rbp" "rbx" n)
-    joins rules n = by-parts (rules .parts) rules n
+    joins rules n = by-settings (rules .parts) (rules .profile) rules n
 
 back : Moves "rbp" "rbx"
 unfolding opened to-and-fro
 back = record { stays = λ rules n. refl; joined = joins; last = λ rules. refl; plain = λ ls. refl }
   where
-    by-parts : (parts : Bool) (rules : Rules) (n : ℕ)
-        → try-at (with-parts parts rules) (label-and-moves "rbp" "rbx" (suc n)) 1 marks [] ≡ some (label-and-moves "rbx" "rbp" n)
-    by-parts false rules zero = refl
-    by-parts false rules (suc n) = refl
-    by-parts true rules zero = refl
-    by-parts true rules (suc n) = refl
+    by-settings : (parts profile : Bool) (rules : Rules) (n : ℕ)
+        → try-at (with-settings parts profile rules) (label-and-moves "rbp" "rbx" (suc n)) 1 marks [] ≡ some (label-and-moves "rbx" "rbp" n)
+    by-settings false false rules zero = refl
+    by-settings false false rules (suc n) = refl
+    by-settings false true rules zero = refl
+    by-settings false true rules (suc n) = refl
+    by-settings true false rules zero = refl
+    by-settings true false rules (suc n) = refl
+    by-settings true true rules zero = refl
+    by-settings true true rules (suc n) = refl
 
     joins : (rules : Rules) (n : ℕ) → try-at rules (label-and-moves "rbp" "rbx" (suc n)) 1 marks [] ≡ some (label-and-moves "rbx" "rbp" n)
-    joins rules n = by-parts (rules .parts) rules n
+    joins rules n = by-settings (rules .parts) (rules .profile) rules n
 
 -- ---- the round
 

@@ -65,6 +65,7 @@ fn attempts(convention: u8, tape: &[u8]) {
         settle: false,
         edition: 0,
         parts: false,
+        profile: false,
     };
     print_attempts(clean::clean(rules, tape, &mut work_a, &mut work_b, &mut out));
 }

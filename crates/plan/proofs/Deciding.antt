@@ -146,22 +146,22 @@ found-inside p tape area ws {pos = pos} h e =
     rw length-map at (found-at p (tokens-of tape area ws) pos (token-of tape area 0) (found-is h e) .0)
 
 -- the definition d of the line us, among the words ws
-module _ (parts : Bool) (tape area : Text) (us ws : List ℕ) (i j : ℕ) (d : Definition) where
+module _ (rules : Rules) (tape area : Text) (us ws : List ℕ) (i j : ℕ) (d : Definition) where
   abbrev among : Option J.Plan
-  among = plan-among parts (definition-in tape area us d) (tokens-of tape area ws) j
+  among = plan-among rules (definition-in tape area us d) (tokens-of tape area ws) j
 
   module _ (q : Found) (eq : found q ≡ position (of-family (fam-text tape area (d .family))) (tokens-of tape area ws)) where
     pub among-none : q ≡ Unfound → Plans tape area us i among Nothing
     unfolding plan-among let-some_else_then_
     among-none e = no-plan (rw (found-not eq e))
 
-    module _ {pos : ℕ} (e : q ≡ At pos) {b : Bool} (eb : b ≡ replaceable parts (record { name = fam-text tape area (d .family); width = d .width; lowest = d .lowest }) (tokens-of tape area ws) pos) where
+    module _ {pos : ℕ} (e : q ≡ At pos) {b : Bool} (eb : b ≡ replaceable (rules .parts) (record { name = fam-text tape area (d .family); width = d .width; lowest = d .lowest }) (tokens-of tape area ws) pos) where
       pub among-unfit : flip b ≡ true → Plans tape area us i among Nothing
       unfolding plan-among if_then_else_ let-some_else_then_
       among-unfit t = no-plan (rw (found-is eq e, ← eb, not-true b t))
 
       pub among-joins : flip b ≡ false → Sound tape area us d
-          → {y : Bool} → y ≡ wants-brackets (tokens-of tape area (expr-words us (d .expr))) (tokens-of tape area ws) pos
+          → {y : Bool} → y ≡ wants-brackets rules (tokens-of tape area (expr-words us (d .expr))) (tokens-of tape area ws) pos
           → {p : Plan} → p ≡ Do (record { line = i; last = j; brackets = y; family = d .family; expr = d .expr })
           → Plans tape area us i among p
       unfolding plan-among if_then_else_ let-some_else_then_
@@ -170,15 +170,15 @@ module _ (parts : Bool) (tape area : Text) (us ws : List ℕ) (i j : ℕ) (d : D
 pub ruleset placing = (among-none, among-unfit, among-joins)
 
 -- the line j, whose words are ws
-module _ (parts : Bool) (tape area : Text) (tokens lines : List ℕ) (i j : ℕ) (d : Definition) (labels : Labels) (vs : List Text)
+module _ (rules : Rules) (tape area : Text) (tokens lines : List ℕ) (i j : ℕ) (d : Definition) (labels : Labels) (vs : List Text)
     (hi : i < length lines) (hj : j < length lines) {ws : List ℕ} (ew : ws ≡ part-of tokens (getD lines j 0))
     {a : Bool} (ea : a ≡ kw-in (tokens-of tape area ws) (bytes "while")) where
   abbrev used : Option J.Plan
-  used = plan-use parts (bare-listing tape area tokens lines) i (definition-in tape area (part-of tokens (getD lines i 0)) d) labels vs j
+  used = plan-use rules (bare-listing tape area tokens lines) i (definition-in tape area (part-of tokens (getD lines i 0)) d) labels vs j
 
   used-is : used
       ≡ (if a || not (dead-after (bare-listing tape area tokens lines) j (fam-text tape area (d .family)) (indent-of (getD lines i 0)) labels i vs) then none
-      else plan-among parts (definition-in tape area (part-of tokens (getD lines i 0)) d) (tokens-of tape area ws) j)
+      else plan-among rules (definition-in tape area (part-of tokens (getD lines i 0)) d) (tokens-of tape area ws) j)
   unfolding plan-use plan-among
   used-is = rw (line-at tape area tokens lines i hi, line-at tape area tokens lines j hj, ← ew, ← ea)
 
@@ -193,14 +193,14 @@ module _ (parts : Bool) (tape area : Text) (tokens lines : List ℕ) (i j : ℕ)
     used-live t = no-plan (used-is ∙ rw (ta, ← ek, ← ex, not-true x t))
 
     pub used-among : flip x ≡ false → {us : List ℕ} → us ≡ part-of tokens (getD lines i 0) → {p : Plan}
-        → Plans tape area us i (plan-among parts (definition-in tape area us d) (tokens-of tape area ws) j) p
+        → Plans tape area us i (plan-among rules (definition-in tape area us d) (tokens-of tape area ws) j) p
         → Plans tape area (part-of tokens (getD lines i 0)) i used p
     unfolding if_then_else_ _||_ not
     used-among t eu h = plan-of (used-is ∙ rw (ta, ← ek, ← ex, not-false x t)) (rw eu at h)
 
 pub ruleset finding = (used-while, used-live, used-among)
 
-module _ (parts : Bool) (tape area : Text) (tokens lines : List ℕ) (i : ℕ) (d : J.Definition) (vs : List Text)
+module _ (rules : Rules) (tape area : Text) (tokens lines : List ℕ) (i : ℕ) (d : J.Definition) (vs : List Text)
     {q : Found} (eq : found q ≡ use-of (bare-listing tape area tokens lines) i d vs) where
   pub use-inside : {j : ℕ} → q ≡ At j → j < length lines
   unfolding use-of
@@ -208,28 +208,28 @@ module _ (parts : Bool) (tape area : Text) (tokens lines : List ℕ) (i : ℕ) (
       rw length-map at (use-found (bare-listing tape area tokens lines) _ (d .fam .name) vs (d .expr) (d .calls) (suc i) (drop (suc i) (bare-listing tape area tokens lines)) j refl (found-is eq e) .reached .0)
 
   module _ {ws : List ℕ} (labels : Labels) where
-    pub single-none : q ≡ Unfound → Plans tape area ws i (plan-single parts (bare-listing tape area tokens lines) i d labels vs) Nothing
+    pub single-none : q ≡ Unfound → Plans tape area ws i (plan-single rules (bare-listing tape area tokens lines) i d labels vs) Nothing
     unfolding plan-single let-some_else_then_
     single-none e = no-plan (rw (found-not eq e))
 
-    pub single-at : {j : ℕ} → q ≡ At j → {p : Plan} → Plans tape area ws i (plan-use parts (bare-listing tape area tokens lines) i d labels vs j) p
-        → Plans tape area ws i (plan-single parts (bare-listing tape area tokens lines) i d labels vs) p
+    pub single-at : {j : ℕ} → q ≡ At j → {p : Plan} → Plans tape area ws i (plan-use rules (bare-listing tape area tokens lines) i d labels vs j) p
+        → Plans tape area ws i (plan-single rules (bare-listing tape area tokens lines) i d labels vs) p
     unfolding plan-single let-some_else_then_
-    single-at {j} e h = plan-of {q = plan-use parts (bare-listing tape area tokens lines) i d labels vs j} (rw (found-is eq e)) h
+    single-at {j} e h = plan-of {q = plan-use rules (bare-listing tape area tokens lines) i d labels vs j} (rw (found-is eq e)) h
 
 -- ---- the definition's plan
 
 -- us are the words of the line that is joined, as they were read
-module _ (parts : Bool) (tape area : Text) (ws : List ℕ) (lines : Listing) (i : ℕ) (d : Definition) (labels : Labels) (vs : List Text) {us : List ℕ} (eu : us ≡ ws)
+module _ (rules : Rules) (tape area : Text) (ws : List ℕ) (lines : Listing) (i : ℕ) (d : Definition) (labels : Labels) (vs : List Text) {us : List ℕ} (eu : us ≡ ws)
     {a : Bool} (ea : (tape area : Text) → a ≡ lone-number (tokens-of tape area (expr-words us (d .expr)))) where
   -- the plan for the definition
   abbrev chosen : Option J.Plan
-  chosen = plan-for parts lines i (definition-in tape area ws d) labels vs
+  chosen = plan-for rules lines i (definition-in tape area ws d) labels vs
 
   lone : {b : Bool} → a ≡ b → lone-number (tokens-of tape area (expr-words ws (d .expr))) ≡ b
   lone e = rw (← eu) (sym (ea tape area) ∙ e)
 
-  pub for-other : flip a ≡ true → {p : Plan} → Plans tape area ws i (plan-single parts lines i (definition-in tape area ws d) labels vs) p → Plans tape area ws i chosen p
+  pub for-other : flip a ≡ true → {p : Plan} → Plans tape area ws i (plan-single rules lines i (definition-in tape area ws d) labels vs) p → Plans tape area ws i chosen p
   unfolding plan-for if_then_else_ let-some_else_then_
   for-other t h = plan-of (rw (lone (not-true a t))) h
 
@@ -238,7 +238,7 @@ module _ (parts : Bool) (tape area : Text) (ws : List ℕ) (lines : Listing) (i 
     unfolding plan-for if_then_else_ let-some_else_then_
     for-constant e = let h = rw e at hq in record { is = rw (lone (not-false a ta), ← h .is); sound = h .sound }
 
-    pub for-single : q ≡ Nothing → {p : Plan} → Plans tape area ws i (plan-single parts lines i (definition-in tape area ws d) labels vs) p → Plans tape area ws i chosen p
+    pub for-single : q ≡ Nothing → {p : Plan} → Plans tape area ws i (plan-single rules lines i (definition-in tape area ws d) labels vs) p → Plans tape area ws i chosen p
     unfolding plan-for if_then_else_ let-some_else_then_
     for-single e h = let g = rw e at hq in plan-of (rw (lone (not-false a ta), ← g .is)) h
 
@@ -258,7 +258,7 @@ module _ (tape area : Text) (tokens lines : List ℕ) (i : ℕ) (rules : Rules) 
     (hi : i < length lines) {ws : List ℕ} (ew : ws ≡ part-of tokens (getD lines i 0)) {r : Defined} (h : Defines tape area ws r) where
   decided : decide rules (bare-listing tape area tokens lines) i labels addressed
       ≡ (let-some (J.definition-of (tokens-of tape area ws)) else none then λ d.
-      if has addressed (d .fam .name) then none else plan-for (rules .parts) (bare-listing tape area tokens lines) i d labels (volatile rules))
+      if has addressed (d .fam .name) then none else plan-for rules (bare-listing tape area tokens lines) i d labels (volatile rules))
   unfolding decide
   decided = rw (line-at tape area tokens lines i hi, ← ew)
 
@@ -275,7 +275,7 @@ module _ (tape area : Text) (tokens lines : List ℕ) (i : ℕ) (rules : Rules) 
 
       pub decide-for : a ≡ false → {p : Plan}
           → Plans tape area (part-of tokens (getD lines i 0)) i
-          (plan-for (rules .parts) (bare-listing tape area tokens lines) i (definition-in tape area (part-of tokens (getD lines i 0)) d) labels (volatile rules)) p
+          (plan-for rules (bare-listing tape area tokens lines) i (definition-in tape area (part-of tokens (getD lines i 0)) d) labels (volatile rules)) p
           → Plans tape area (part-of tokens (getD lines i 0)) i (decide rules (bare-listing tape area tokens lines) i labels addressed) p
       unfolding let-some_else_then_ if_then_else_
       decide-for t g = plan-of (decided ∙ rw (← h .is, e, ← ea, t, ew)) g

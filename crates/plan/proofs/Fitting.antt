@@ -10,14 +10,15 @@ use mathlib.Core.List.{List}
 use lib.Dec.{eqb, ltb, leb}
 use lib.ListN.{length, getD, length-map, List·getD-map}
 use borrow.Author.Tests.{eq-eqb, ne-eqb, lt-ltb, le-ltb, le-leb, lt-leb, not-true, not-false}
-use Rattle.reference.specs.Control.{not, _&&_, _||_, let-some_else_then_}
+use Rattle.reference.specs.Control.{not, _&&_, _||_, if_then_else_, let-some_else_then_}
 use Rattle.reference.specs.Text.{Text, bytes, starts-with, ends-with, trim-start}
 use Rattle.reference.specs.Listing.{Token, is, Punct}
 use Rattle.reference.specs.Names.{family}
+use Rattle.reference.specs.Rules.{Rules}
 use Rattle.reference.specs.Shapes.{is-operator-expr}
-use Rattle.reference.specs.Join.{written-from, starts-with-operator, text-before, text-after, standalone, use-width, use-lowest, is-compound, replaceable}
+use Rattle.reference.specs.Join.{written-from, starts-with-operator, text-before, text-after, standalone, is-bracketed, use-width, use-lowest, is-compound, replaceable}
 use Rattle.reference.proofs.Parts.{without-parts, adds-lowest}
-use Rattle.laws.proofs.Scans.{and-here, and-second, and-true, and-false, and-not-here, and-not-second, not-same}
+use Rattle.laws.proofs.Scans.{if-true, if-false, and-here, and-second, and-true, and-false, and-not-here, and-not-second, not-same}
 use Rattle.joining.specs.Plan.{wants-brackets}
 use Rattle.joining.proofs.Fitting.{before-at, after-at, first-not-standalone, last-not-standalone}
 use Rattle.lines.specs.Words.{kind-of, text-of, token-of, tokens-of}
@@ -25,6 +26,9 @@ use Rattle.lines.specs.Fams.{Fam, Names}
 use Rattle.lines.specs.declared.fams.Named.{Named}
 use Rattle.lines.specs.declared.fams.Named.the-variants.{As as NamedAs, Nothing as Unnamed}
 use Rattle.lines.proofs.fams.Families.{named-as, named-not}
+use Rattle.lines.specs.Shapes.{expr-words, Expression}
+use Rattle.lines.specs.declared.shapes.Expr.{Expr}
+use Rattle.lines.proofs.shapes.Right.{expr-length}
 use Rattle.lines.proofs.shapes.Places.{get-at, get-past}
 use Rattle.lines.proofs.shapes.Tests.{kind-fails, kind-holds}
 
@@ -199,11 +203,22 @@ module _ (tape area : Text) (ws : List ℕ) (pos : ℕ) where
 
 pub ruleset standing = (alone-first, alone-last, alone-before, alone-after)
 
-module _ (expr toks : List Token) (pos : ℕ) {a : Bool} (ea : a ≡ is-operator-expr expr) where
-  pub brackets-not : flip a ≡ true → false ≡ wants-brackets expr toks pos
+-- whether an expression gets brackets, with the profile and without
+module _ (rules : Rules) (tape area : Text) (ws : List ℕ) (x : Expr) where
+  pub bracketed-counted : rules .profile ≡ true → Expression ws x → ltb 1 (x .count) ≡ is-bracketed rules (tokens-of tape area (expr-words ws x))
+  unfolding is-bracketed
+  bracketed-counted on h = sym (if-true _ _ on ∙ rw (length-map, expr-length h) refl)
+
+  pub bracketed-rust : rules .profile ≡ false → {a : Bool} → a ≡ is-operator-expr (tokens-of tape area (expr-words ws x))
+      → a ≡ is-bracketed rules (tokens-of tape area (expr-words ws x))
+  unfolding is-bracketed
+  bracketed-rust off e = e ∙ sym (if-false _ _ off)
+
+module _ (rules : Rules) (expr toks : List Token) (pos : ℕ) {a : Bool} (ea : a ≡ is-bracketed rules expr) where
+  pub brackets-not : flip a ≡ true → false ≡ wants-brackets rules expr toks pos
   unfolding wants-brackets
   brackets-not t = and-here _ ea (not-true a t)
 
-  pub brackets-by : flip a ≡ false → {x : Bool} → x ≡ standalone (text-before toks pos) (text-after toks pos) → flip x ≡ wants-brackets expr toks pos
+  pub brackets-by : flip a ≡ false → {x : Bool} → x ≡ standalone (text-before toks pos) (text-after toks pos) → flip x ≡ wants-brackets rules expr toks pos
   unfolding wants-brackets
   brackets-by t ex = and-second ea (not-false a t) (not-same ex)

@@ -12,6 +12,7 @@ use Rattle.reference.specs.Names.{of-family}
 use Rattle.reference.specs.Join.{replaceable}
 use Rattle.joining.specs.Plan as J
 use Rattle.lines.specs.Words.{tokens-of}
+use Rattle.reference.specs.Rules.{Rules}
 use Rattle.lines.specs.Shapes.{expr-words, Expression}
 use Rattle.lines.specs.Fams.{fam-text, Known}
 use Rattle.plan.specs.declared.plans.Join.{Join}
@@ -19,11 +20,11 @@ use Rattle.plan.specs.declared.plans.Plan.{Plan}
 use Rattle.plan.specs.declared.plans.Plan.the-variants.{Do, Nothing}
 
 -- `plan-use` of a line that is no loop's end and after which the value is not read: the plan for the use among its tokens, line j's
-unfoldable pub plan-among : Bool → J.Definition → List Token → ℕ → Option J.Plan
-plan-among parts d ts j =
+unfoldable pub plan-among : Rules → J.Definition → List Token → ℕ → Option J.Plan
+plan-among rules d ts j =
     let-some (position (of-family (d .fam .name)) ts) else none then λ pos.
-    if replaceable parts (d .fam) ts pos
-    then some (record { fam = d .fam .name; expr = d .expr; last = j; brackets = J.wants-brackets (d .expr) ts pos })
+    if replaceable (rules .parts) (d .fam) ts pos
+    then some (record { fam = d .fam .name; expr = d .expr; last = j; brackets = J.wants-brackets rules (d .expr) ts pos })
     else none
 
 -- ws are the words of the line that is joined

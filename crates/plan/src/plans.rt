@@ -17,6 +17,7 @@ ghost use mathlib.Core.Path.{_≡_};
 ghost use Prim.Native.Nat.{_<_};
 ghost use lib.ListN.{length, getD};
 ghost use Rattle.reference.specs.Rules.{volatile};
+ghost use Rattle.reference.specs.Join.{is-bracketed};
 ghost use Rattle.joining.specs.Places.{labels-at, Labelled};
 ghost use Rattle.joining.specs.Plan.{wants-brackets, plan-constant, plan-use, plan-single, plan-for, decide};
 ghost use Rattle.lines.specs.Words.{tokens-of, Holds};
@@ -86,6 +87,24 @@ fn propagate_constant<'a>(
     join_of(i, last, false, d)
 }
 
+// Whether the right side x of the line `source` gets brackets where no delimiters spare it.
+fn is_bracketed<'a>(
+    tape: &'a [u8],
+    area: &'a [u8],
+    source: &'a [u64],
+    x: Expr,
+    rules: Rules,
+) -> bool
+    requires { ⌜ Holds (now tape) (now area) (now source) × Expression (now source) x ⌝ }
+    ensures { λ r. ⌜ r ≡ is-bracketed (rules-of rules)
+        (tokens-of (now (tape .entry)) (now (area .entry)) (expr-words (now (source .entry)) x)) ⌝ }
+{
+    if rules.profile {
+        return 1 < x.count;
+    }
+    shapes::is_operator_expr(tape, area, source, x)
+}
+
 // Whether the right side x of the line `source` wants brackets at the token `pos` of a line.
 fn wants_brackets<'a>(
     tape: &'a [u8],
@@ -94,11 +113,14 @@ fn wants_brackets<'a>(
     x: Expr,
     line: &'a [u64],
     pos: usize,
+    rules: Rules,
 ) -> bool
     requires { ⌜ Holds (now tape) (now area) (now source) × Expression (now source) x × Holds (now tape) (now area) (now line) × (pos < length (now line)) ⌝ }
-    ensures { λ r. ⌜ r ≡ wants-brackets (tokens-of (now (tape .entry)) (now (area .entry)) (expr-words (now (source .entry)) x)) (tokens-of (now (tape .entry)) (now (area .entry)) (now (line .entry))) pos ⌝ }
+    ensures { λ r. ⌜ r ≡ wants-brackets (rules-of rules)
+        (tokens-of (now (tape .entry)) (now (area .entry)) (expr-words (now (source .entry)) x))
+        (tokens-of (now (tape .entry)) (now (area .entry)) (now (line .entry))) pos ⌝ }
 {
-    if !shapes::is_operator_expr(tape, area, source, x) {
+    if !is_bracketed(tape, area, source, x, rules) {
         return false;
     }
     !uses::is_standalone(tape, area, line, pos)
@@ -117,7 +139,7 @@ fn plan_among<'a>(
 ) -> Plan
     requires { ⌜ Holds (now tape) (now area) (now source) × Holds (now tape) (now area) (now line) × Sound (now tape) (now area) (now source) d ⌝ }
     ensures { λ r. ⌜ Plans (now (tape .entry)) (now (area .entry)) (now (source .entry)) i
-        (plan-among (rules .parts)
+        (plan-among (rules-of rules)
         (definition-in (now (tape .entry)) (now (area .entry)) (now (source .entry)) d)
         (tokens-of (now (tape .entry)) (now (area .entry)) (now (line .entry))) j) r ⌝ }
 {
@@ -129,7 +151,7 @@ fn plan_among<'a>(
         return Plan::Nothing;
     }
     let x = d.expr;
-    let brackets = wants_brackets(tape, area, source, x, line, pos);
+    let brackets = wants_brackets(tape, area, source, x, line, pos, rules);
     join_of(i, j, brackets, d)
 }
 
@@ -147,7 +169,7 @@ fn plan_use<'a>(
 ) -> Plan
     requires { ⌜ Listed (now tape) (now area) (now tokens) (now lines) × Labelled (bare-listing (now tape) (now area) (now tokens) (now lines)) (now labels) × Sound (now tape) (now area) (part-of (now tokens) (getD (now lines) i 0)) d × (i < length (now lines)) × (j < length (now lines)) ⌝ }
     ensures { λ r. ⌜ Plans (now (tape .entry)) (now (area .entry)) (part-of (now (tokens .entry)) (getD (now (lines .entry)) i 0)) i
-        (plan-use (rules .parts) (bare-listing (now (tape .entry)) (now (area .entry)) (now (tokens .entry)) (now (lines .entry))) i
+        (plan-use (rules-of rules) (bare-listing (now (tape .entry)) (now (area .entry)) (now (tokens .entry)) (now (lines .entry))) i
         (definition-in (now (tape .entry)) (now (area .entry)) (part-of (now (tokens .entry)) (getD (now (lines .entry)) i 0)) d)
         (labels-at (bare-listing (now (tape .entry)) (now (area .entry)) (now (tokens .entry)) (now (lines .entry)))
         (now (labels .entry))) (volatile (rules-of rules)) j) r ⌝ }
@@ -189,7 +211,7 @@ fn plan_single<'a>(
 ) -> Plan
     requires { ⌜ Listed (now tape) (now area) (now tokens) (now lines) × Labelled (bare-listing (now tape) (now area) (now tokens) (now lines)) (now labels) × Sound (now tape) (now area) (part-of (now tokens) (getD (now lines) i 0)) d × (i < length (now lines)) ⌝ }
     ensures { λ r. ⌜ Plans (now (tape .entry)) (now (area .entry)) (part-of (now (tokens .entry)) (getD (now (lines .entry)) i 0)) i
-        (plan-single (rules .parts) (bare-listing (now (tape .entry)) (now (area .entry)) (now (tokens .entry)) (now (lines .entry))) i
+        (plan-single (rules-of rules) (bare-listing (now (tape .entry)) (now (area .entry)) (now (tokens .entry)) (now (lines .entry))) i
         (definition-in (now (tape .entry)) (now (area .entry)) (part-of (now (tokens .entry)) (getD (now (lines .entry)) i 0)) d)
         (labels-at (bare-listing (now (tape .entry)) (now (area .entry)) (now (tokens .entry)) (now (lines .entry)))
         (now (labels .entry))) (volatile (rules-of rules))) r ⌝ }
@@ -213,7 +235,7 @@ fn plan_for<'a>(
 ) -> Plan
     requires { ⌜ Listed (now tape) (now area) (now tokens) (now lines) × Labelled (bare-listing (now tape) (now area) (now tokens) (now lines)) (now labels) × Sound (now tape) (now area) (part-of (now tokens) (getD (now lines) i 0)) d × (i < length (now lines)) ⌝ }
     ensures { λ r. ⌜ Plans (now (tape .entry)) (now (area .entry)) (part-of (now (tokens .entry)) (getD (now (lines .entry)) i 0)) i
-        (plan-for (rules .parts) (bare-listing (now (tape .entry)) (now (area .entry)) (now (tokens .entry)) (now (lines .entry))) i
+        (plan-for (rules-of rules) (bare-listing (now (tape .entry)) (now (area .entry)) (now (tokens .entry)) (now (lines .entry))) i
         (definition-in (now (tape .entry)) (now (area .entry)) (part-of (now (tokens .entry)) (getD (now (lines .entry)) i 0)) d)
         (labels-at (bare-listing (now (tape .entry)) (now (area .entry)) (now (tokens .entry)) (now (lines .entry)))
         (now (labels .entry))) (volatile (rules-of rules))) r ⌝ }

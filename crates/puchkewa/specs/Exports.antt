@@ -6,7 +6,7 @@ use Rattle.puchkewa.specs.declared.export.Report.{Report}
 
 -- the settings of a call
 abbrev pub settings-of : Settings → Rules
-settings-of s = record { convention = s .convention; settle = s .settle; edition = s .edition; parts = s .parts }
+settings-of s = record { convention = s .convention; settle = s .settle; edition = s .edition; parts = s .parts; profile = s .profile }
 
 -- the reply in numbers
 abbrev pub exported : Report → R.Report

@@ -13,6 +13,7 @@ pub struct Settings {
     pub settle: bool,
     pub edition: u8,
     pub parts: bool,
+    pub profile: bool,
 }
 
 // `refusal` is 0 when finished, else the number of the question that refused, at `place`; then all other numbers are 0.
@@ -48,6 +49,7 @@ pub extern "C" fn puchkewa_clean(
         settle: settings.settle,
         edition: settings.edition,
         parts: settings.parts,
+        profile: settings.profile,
     };
     match clean(rules, tape, work_a, work_b, out) {
         Reply::Refused { number, place } => Report {

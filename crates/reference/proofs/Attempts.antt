@@ -103,18 +103,18 @@ module _ (lines : Listing) (base-indent : ℕ) (fam : Text) (expr : List Token) 
 
 -- ---- the attempt
 
-module _ {lines : Listing} {i : ℕ} (s : Assigns lines i) (edition : ℕ) (labels : Labels) (volatile : List Text) {lines′ : Listing} where
+module _ {lines : Listing} {i : ℕ} (s : Assigns lines i) (rules : Rules) (labels : Labels) (volatile : List Text) {lines′ : Listing} where
   open Assigns s using (to, fam, assignment-is, family-is)
 
-  constant-removed : lone-number (to .expr) ≡ true → propagate-constant edition lines i (fam .name) (to .expr) labels volatile ≡ some lines′ → Removed lines i lines′
+  constant-removed : lone-number (to .expr) ≡ true → propagate-constant (rules .edition) lines i (fam .name) (to .expr) labels volatile ≡ some lines′ → Removed lines i lines′
   unfolding propagate-constant calls-in
   constant-removed lone e =
       let u = unless-some (unless-some e .1) in
       let found = gather ((lines at i) .indent) (fam .name) volatile (suc i) (drop (suc i) lines) i in
-      let r = uses-change edition (fam .name) (to .expr) lone (suc i) (found .uses) lines (gathered lines ((lines at i) .indent) (fam .name) volatile (suc i) (drop (suc i) lines) i refl) in
+      let r = uses-change (rules .edition) (fam .name) (to .expr) lone (suc i) (found .uses) lines (gathered lines ((lines at i) .indent) (fam .name) volatile (suc i) (drop (suc i) lines) i refl) in
       record {
         assigned = s;
-        between = rewrite-uses edition (fam .name) (to .expr) (found .uses) lines;
+        between = rewrite-uses (rules .edition) (fam .name) (to .expr) (found .uses) lines;
         changes =
             record {
               places-same = r .0 .places-same;
@@ -126,24 +126,24 @@ module _ {lines : Listing} {i : ℕ} (s : Assigns lines i) (edition : ℕ) (labe
         left = sym (some-inj (u .1));
       }
 
-  join-removed : (parts : Bool) → join-one edition parts lines i fam (to .expr) labels volatile ≡ some lines′ → Removed lines i lines′
+  join-removed : join-one rules lines i fam (to .expr) labels volatile ≡ some lines′ → Removed lines i lines′
   unfolding join-one join-at rewrite-one
-  join-removed parts e =
+  join-removed e =
       let u = bind-some e in
       let j : ℕ = u .0 in
       let place = used lines ((lines at i) .indent) (fam .name) (to .expr) (is-some (call-at (lines at i))) volatile (suc i) (drop (suc i) lines) j refl (u .1) in
       let p = bind-some (unless-some (u .2) .1) in
       let pos : ℕ = p .0 in
       let ts = (lines at j) .tokens in
-      let new = replace-at ts pos (to .expr) in
+      let new = replace-at rules ts pos (to .expr) in
       record {
         assigned = s;
-        between = modify j (rewrite-one edition pos (to .expr)) lines;
+        between = modify j (rewrite-one rules pos (to .expr)) lines;
         changes =
-            changes-line (rewrite-one edition pos (to .expr)) j lines (place .1) (place .2) refl
-            (λ w h. omega (arith, fold-merge-le w edition new, replaced-le w (fam .name) ts pos (assigns ((lines at i) .tokens) to assignment-is) (p .1)))
-            (λ c. omega (arith, fold-merge-keeps edition new .called c, replaced-keeps (fam .name) ts (to .expr) pos (p .1) .called c));
-        line-same = at-modify (rewrite-one edition pos (to .expr)) i j lines (λ e. omega (arith, place .0));
+            changes-line (rewrite-one rules pos (to .expr)) j lines (place .1) (place .2) refl
+            (λ w h. omega (arith, fold-merge-le w (rules .edition) new, replaced-le w rules (fam .name) ts pos (assigns ((lines at i) .tokens) to assignment-is) (p .1)))
+            (λ c. omega (arith, fold-merge-keeps (rules .edition) new .called c, replaced-keeps rules (fam .name) ts (to .expr) pos (p .1) .called c));
+        line-same = at-modify (rewrite-one rules pos (to .expr)) i j lines (λ e. omega (arith, place .0));
         left = sym (some-inj (if-some (p .2) .1));
       }
 
@@ -155,8 +155,8 @@ attempt-removed rules lines i labels addressed {lines′} e =
     let f = bind-some (a .2) in
     let s : Assigns lines i = record { to = a .0; fam = f .0; assignment-is = a .1; family-is = f .1 } in
     by-some (λ (o : Option Listing). o ≡ some lines′ → Removed lines i lines′)
-    (λ n u. join-removed s (rules .edition) labels (volatile rules) (rules .parts) u)
-    (λ l h u. (let c = if-some (h ∙ u) in constant-removed s (rules .edition) labels (volatile rules) (c .0) (c .1)))
+    (λ n u. join-removed s rules labels (volatile rules) u)
+    (λ l h u. (let c = if-some (h ∙ u) in constant-removed s rules labels (volatile rules) (c .0) (c .1)))
     (unless-some (f .2) .1)
 
 -- ---- the lines that it is joined into
@@ -186,8 +186,8 @@ abbrev pub one-use : Listing → ℕ → Fam → List Token → List Text → Li
 one-use lines i f expr volatile =
     let-some (use-from ((lines at i) .indent) (f .name) expr (is-some (call-at (lines at i))) volatile (suc i) (drop (suc i) lines)) else [] then λ j. j ∷ []
 
-module _ (edition : ℕ) (lines : Listing) (i : ℕ) (f : Fam) (expr : List Token) (labels : Labels) (volatile : List Text) {lines′ : Listing} where
-  constant-joined : propagate-constant edition lines i (f .name) expr labels volatile ≡ some lines′
+module _ (rules : Rules) (lines : Listing) (i : ℕ) (f : Fam) (expr : List Token) (labels : Labels) (volatile : List Text) {lines′ : Listing} where
+  constant-joined : propagate-constant (rules .edition) lines i (f .name) expr labels volatile ≡ some lines′
       → Joined i (length lines) (all-uses lines i f volatile)
   unfolding propagate-constant
   constant-joined e =
@@ -198,9 +198,9 @@ module _ (edition : ℕ) (lines : Listing) (i : ℕ) (f : Fam) (expr : List Toke
         each = found-all lines i (suc i) (found .uses) (le-refl _) (gathered lines indent (f .name) volatile (suc i) (drop (suc i) lines) i refl);
       }
 
-  one-joined : (parts : Bool) → join-one edition parts lines i f expr labels volatile ≡ some lines′ → Joined i (length lines) (one-use lines i f expr volatile)
+  one-joined : join-one rules lines i f expr labels volatile ≡ some lines′ → Joined i (length lines) (one-use lines i f expr volatile)
   unfolding join-one let-some_else_then_
-  one-joined parts e =
+  one-joined e =
       let u = bind-some e in
       let place = used lines ((lines at i) .indent) (f .name) expr (is-some (call-at (lines at i))) volatile (suc i) (drop (suc i) lines) (u .0) refl (u .1) in
       rw (u .1) (record { some-line = omega arith; each = ((place .0, place .1), tt) })
@@ -224,8 +224,8 @@ module _ (rules : Rules) (lines : Listing) (i : ℕ) (labels : Labels) where
       let expr : List Token = a .0 .expr in
       let constant : Option Listing = propagate-constant (rules .edition) lines i (f .0 .name) expr labels (volatile rules) in
       by-targets (λ js. Joined i (length lines) js) (a .0) (f .0) (a .1) (f .1)
-      (λ t. constant-joined (rules .edition) lines i (f .0) expr labels (volatile rules) (is-some-some constant (both t .1) .1))
+      (λ t. constant-joined rules lines i (f .0) expr labels (volatile rules) (is-some-some constant (both t .1) .1))
       (λ t. by-some (λ (o : Option Listing). o ≡ some lines′ → Joined i (length lines) (one-use lines i (f .0) expr (volatile rules)))
-      (λ n u. one-joined (rules .edition) lines i (f .0) expr labels (volatile rules) (rules .parts) u)
+      (λ n u. one-joined rules lines i (f .0) expr labels (volatile rules) u)
       (λ l h u. (let c = if-some h in absurd (true-false (pair (c .0) (ap is-some (c .1))) t)))
       (unless-some (f .2) .1))

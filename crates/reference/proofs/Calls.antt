@@ -15,6 +15,7 @@ use Rattle.reference.specs.Text.{Text, bytes, starts-with, ends-with}
 use Rattle.reference.specs.Listing.{Token, token, is, Register, Number, Keyword, Symbol, Punct}
 use Rattle.reference.specs.Names.{of-family}
 use Rattle.reference.specs.Numbers.{merge-into, merge, fold-at, fold}
+use Rattle.reference.specs.Rules.{Rules}
 use Rattle.reference.specs.Shapes.{Assignment, right-side}
 use Rattle.reference.specs.Join.{replacement, text-before, text-after, replace-at, substitute, lone-number}
 use Rattle.reference.specs.Claim.{Callee, one-if, opens, marks, calls-in}
@@ -229,20 +230,20 @@ number-silent c (x ∷ y ∷ ys) e = absurd (false≢true e)
 keeps-less : {es es′ xs ys : List Token} → ((c : Callee) → calls-in c es′ ≤ calls-in c es) → Keeps es xs ys → Keeps es′ xs ys
 keeps-less h k = record { opened = k .opened; called = λ c. omega (arith, h c, k .called c) }
 
-replacement-calls : (expr : List Token) (before after : Text) (c : Callee) → calls-in c expr ≤ calls-in c (replacement expr before after)
+replacement-calls : (rules : Rules) (expr : List Token) (before after : Text) (c : Callee) → calls-in c expr ≤ calls-in c (replacement rules expr before after)
 unfolding replacement
-replacement-calls expr before after c =
+replacement-calls rules expr before after c =
     by-if (λ (r : List Token). calls-in c expr ≤ calls-in c r)
     (λ e. omega (arith, more c (token Punct (bytes "(")) (expr ++ (token Punct (bytes ")") ∷ [])), append-calls c expr (token Punct (bytes ")") ∷ [])))
     (λ e. le-refl _)
 
 -- the line of the use keeps its marks and takes those of the expression
-pub replaced-keeps : (fam : Text) (toks expr : List Token) (pos : ℕ) → position (of-family fam) toks ≡ some pos → Keeps expr toks (replace-at toks pos expr)
+pub replaced-keeps : (rules : Rules) (fam : Text) (toks expr : List Token) (pos : ℕ) → position (of-family fam) toks ≡ some pos → Keeps expr toks (replace-at rules toks pos expr)
 unfolding replace-at
-replaced-keeps fam toks expr pos h =
+replaced-keeps rules fam toks expr pos h =
     let s = split-at (of-family fam) toks pos h in
-    let new : List Token = replacement expr (text-before toks pos) (text-after toks pos) in
-    keeps-less (replacement-calls expr (text-before toks pos) (text-after toks pos))
+    let new : List Token = replacement rules expr (text-before toks pos) (text-after toks pos) in
+    keeps-less (replacement-calls rules expr (text-before toks pos) (text-after toks pos))
     (subst⁻¹ (λ (l : List Token). Keeps new l (take pos toks ++ new ++ drop (suc pos) toks)) (s .2)
     (rw append-assoc (keeps-behind (take pos toks) (instead new (s .0) (drop (suc pos) toks) (family-register fam (s .0) (s .1))))))
 

@@ -41,7 +41,7 @@ abbrev made : ℕ → ℕ → ℕ → ℕ → ℕ → Counts
 made a b c r x = record { tally = three a b c; lines-removed = r; results-cut = x }
 
 abbrev convention-1 : Rules
-convention-1 = record { convention = 1; settle = false; edition = 0; parts = false }
+convention-1 = record { convention = 1; settle = false; edition = 0; parts = false; profile = false }
 
 -- the finished listing under convention 1, and the counts
 abbrev cleans : Listing → Listing → Counts → Type 0
@@ -157,7 +157,7 @@ telling = record { labels-frozen = (refl, refl); steps-back = (refl, refl); word
 -- ---- a fourth round (M-112)
 
 abbrev settling-1 : Rules
-settling-1 = record { convention = 1; settle = true; edition = 0; parts = false }
+settling-1 = record { convention = 1; settle = true; edition = 0; parts = false; profile = false }
 
 abbrev settles : Listing → Listing → Counts → Type 0
 settles before after c = (finished settling-1 before ≡ after) × (counts settling-1 (run settling-1 before) ≡ c)
@@ -208,7 +208,7 @@ fourth-round = record { three-rounds = (refl, refl); until-it-settles = (refl, r
 -- `rax = a;` and `rbx = rax + b;` become `rbx = ` and these tokens and `;`, in the edition
 abbrev joins-to : ℕ → String → String → List Token → Type 0
 joins-to edition a b made =
-    finished (record { convention = 1; settle = false; edition = edition; parts = false })
+    finished (record { convention = 1; settle = false; edition = edition; parts = false; profile = false })
     (line (R "rax" ∷ P " = " ∷ N a ∷ P ";" ∷ []) ∷ line (R "rbx" ∷ P " = " ∷ R "rax" ∷ P " + " ∷ N b ∷ P ";" ∷ []) ∷ [])
     ≡ line (R "rbx" ∷ P " = " ∷ (made ++ (P ";" ∷ []))) ∷ []
 
@@ -227,7 +227,7 @@ two-editions =
 
 -- M-104: high byte and low byte, with the setting (`under-parts`) and without it (`cleans`)
 abbrev parts-1 : Rules
-parts-1 = record { convention = 1; settle = false; edition = 0; parts = true }
+parts-1 = record { convention = 1; settle = false; edition = 0; parts = true; profile = false }
 
 abbrev under-parts : Listing → Listing → Counts → Type 0
 under-parts before after c = (finished parts-1 before ≡ after) × (counts parts-1 (run parts-1 before) ≡ c)

@@ -8,7 +8,8 @@ use Prim.Native.Nat.{ℕ, _≤_}
 use native.Mathlib.Omega.{arith}
 use native.Mathlib.Nat.{le-refl, le-trans}
 use mathlib.Core.Path.{_≡_, refl, sym}
-use mathlib.Core.Bool.{Bool, false}
+use mathlib.Core.Bool.{Bool, true, false}
+use mathlib.Core.Option.{none}
 use mathlib.Core.List.{List, [], _∷_, _++_, Sublistᴰ, Sublistᴰ·slnil, Sublistᴰ·cons, Sublistᴰ·cons-cons}
 use lib.Dec.{ltb}
 use lib.ListN.{length, drop, replicate, length-map, length-append, length-drop, length-replicate}
@@ -24,8 +25,9 @@ use Rattle.reference.specs.Spans.{Marks}
 use Rattle.reference.specs.Marks.{finished-marks}
 use Rattle.reference.specs.Tape.{write}
 use Rattle.reference.specs.Questions.{WORK, OUTPUT, has-room-by, Refused, Passed, read, marks-in}
-use Rattle.reference.specs.Reply.{Cleaned, Reply, reply-by, reply, output-after, work-after}
-use Rattle.reference.proofs.Cases.{both, fails}
+use Rattle.reference.specs.Straight.{breaks}
+use Rattle.reference.specs.Reply.{Cleaned, Reply, ask-profile, reply-by, reply, output-after, work-after}
+use Rattle.reference.proofs.Cases.{by-if, by-some, both, true-false, fails}
 use Rattle.reference.proofs.Rounds.{demand3}
 use Rattle.reference.proofs.Reading.{ask-passed, by-passed, refused-passed, passed-inj}
 use Rattle.reference.proofs.Writing.{write-length}
@@ -86,9 +88,21 @@ output-length rules tape input marks e =
 
 -- ---- a call that is not refused
 
+pub profile-passed : (rules : Rules) (lines : Listing) (r : Reply) (c : Cleaned) → ask-profile rules lines r ≡ Passed c
+    → (r ≡ Passed c) × (rules .profile ≡ true → breaks lines ≡ none)
+unfolding ask-profile
+profile-passed rules lines r c =
+    by-if (λ (x : Reply). x ≡ Passed c → (r ≡ Passed c) × (rules .profile ≡ true → breaks lines ≡ none))
+    (λ on. by-some (λ (x : Reply). x ≡ Passed c → (r ≡ Passed c) × (rules .profile ≡ true → breaks lines ≡ none))
+    (λ b e. (e, λ p. b))
+    (λ n b e. absurd (refused-passed e)))
+    (λ off e. (e, λ p. absurd (true-false p off)))
+
 pub record Answered (rules : Rules) (tape : List ℕ) (work-a work-b output : ℕ) (c : Cleaned) : Type 0 where
   pub input : Listing
   pub reads : read tape ≡ Passed input
+  -- M-106: with the profile, the listing is in it
+  pub in-profile : rules .profile ≡ true → breaks input ≡ none
   pub cleaned : c ≡ record { tape = write (finished rules input) (finished-marks rules input (marks-in tape)); counts = counts rules (run rules input) }
   pub room-a : WORK ≤ work-a
   pub room-b : WORK ≤ work-b
@@ -103,10 +117,12 @@ answered rules tape work-a work-b output c e =
     by-passed (λ (x : Reply). x ≡ Passed c → Answered rules tape work-a work-b output c)
     (λ number place u e. absurd (refused-passed e))
     (λ input reads e.
-    (let same = passed-inj e in
+    (let asked = profile-passed rules input _ c e in
+    let same = passed-inj (asked .0) in
     record {
       input = input;
       reads = reads;
+      in-profile = asked .1;
       cleaned = sym same;
       room-a = leb-true _ _ (room .0);
       room-b = leb-true _ _ (both (room .1) .0);

@@ -3,6 +3,7 @@
 pub mod Opened
 pub mod Examples
 pub mod TapeExamples
+pub mod StraightExamples
 pub mod Cases
 pub mod Numerals
 pub mod Printed

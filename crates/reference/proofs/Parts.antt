@@ -126,8 +126,8 @@ wide fam toks e k t g h eg n =
 
 -- ---- the attempt
 
-module _ (edition : ℕ) (lines : Listing) (i : ℕ) (f : Fam) (expr : List Token) (labels : Labels) (vs : List Text) {lines′ : Listing} where
-  several : propagate-constant edition lines i (f .name) expr labels vs ≡ some lines′ → Joins edition lines i f expr lines′
+module _ (rules : Rules) (lines : Listing) (i : ℕ) (f : Fam) (expr : List Token) (labels : Labels) (vs : List Text) {lines′ : Listing} where
+  several : propagate-constant (rules .edition) lines i (f .name) expr labels vs ≡ some lines′ → Joins rules lines i f expr lines′
   unfolding propagate-constant
   several e =
       let u = unless-some (unless-some e .1) in
@@ -135,56 +135,56 @@ module _ (edition : ℕ) (lines : Listing) (i : ℕ) (f : Fam) (expr : List Toke
       to-several (found .uses) (sym (some-inj (u .1)))
       (λ n j k t g hn hk eg en. wide (f .name) ((lines at j) .tokens) (none-at (λ j. bad-use (f .name) ((lines at j) .tokens)) (found .uses) (u .0) n hn) k t g hk eg en)
 
-  one : join-one edition true lines i f expr labels vs ≡ some lines′ → Joins edition lines i f expr lines′
+  one : rules .parts ≡ true → join-one rules lines i f expr labels vs ≡ some lines′ → Joins rules lines i f expr lines′
   unfolding join-one join-at
-  one e =
+  one on e =
       let u = bind-some e in
       let p = bind-some (unless-some (u .2) .1) in
       let r = if-some (p .2) in
       let t = found-at (of-family (f .name)) ((lines at (u .0)) .tokens) (p .0) (p .1) in
-      to-one (u .0) (p .0) (t .0) (t .1) (sym (some-inj (r .1))) (same-part f ((lines at (u .0)) .tokens) (p .0) (t .1) (r .0))
+      to-one (u .0) (p .0) (t .0) (t .1) (sym (some-inj (r .1))) (same-part f ((lines at (u .0)) .tokens) (p .0) (t .1)
+      (subst (λ (b : Bool). replaceable b f ((lines at (u .0)) .tokens) (p .0) ≡ true) on (r .0)))
 
 -- UNDER THE PARTS SETTING no attempt joins a use below 32 bits whose width or lowest bit is not the assigned register's
 pub parts-kept : (rules : Rules) (lines : Listing) (i : ℕ) (labels : Labels) (addressed : List Text) {lines′ : Listing} → rules .parts ≡ true
-    → try-at rules lines i labels addressed ≡ some lines′ → PartsKept (rules .edition) lines i lines′
+    → try-at rules lines i labels addressed ≡ some lines′ → PartsKept rules lines i lines′
 unfolding try-at
 parts-kept rules lines i labels addressed {lines′} on e =
     let a = bind-some e in
     let f = bind-some (a .2) in
-    let kept : Joins (rules .edition) lines i (f .0) (a .0 .expr) lines′ → PartsKept (rules .edition) lines i lines′ =
+    let kept : Joins rules lines i (f .0) (a .0 .expr) lines′ → PartsKept rules lines i lines′ =
     λ j. record { to = a .0; assigned = f .0; is-assignment = a .1; is-register = f .1; joined = j } in
-    by-some (λ (o : Option Listing). o ≡ some lines′ → PartsKept (rules .edition) lines i lines′)
-    (λ n u. kept (one (rules .edition) lines i (f .0) (a .0 .expr) labels (volatile rules)
-    (subst (λ (b : Bool). join-one (rules .edition) b lines i (f .0) (a .0 .expr) labels (volatile rules) ≡ some lines′) on u)))
-    (λ l h u. kept (several (rules .edition) lines i (f .0) (a .0 .expr) labels (volatile rules) (if-some (h ∙ u) .1)))
+    by-some (λ (o : Option Listing). o ≡ some lines′ → PartsKept rules lines i lines′)
+    (λ n u. kept (one rules lines i (f .0) (a .0 .expr) labels (volatile rules) on u))
+    (λ l h u. kept (several rules lines i (f .0) (a .0 .expr) labels (volatile rules) (if-some (h ∙ u) .1)))
     (unless-some (f .2) .1)
 
 -- ---- the run
 
-module _ (edition : ℕ) where
-  kept-append : (lines : Listing) (xs ys : List Attempt) → EachKept edition lines xs → EachKept edition (after-attempts lines xs) ys
-      → EachKept edition lines (xs ++ ys)
+module _ (rules : Rules) where
+  kept-append : (lines : Listing) (xs ys : List Attempt) → EachKept rules lines xs → EachKept rules (after-attempts lines xs) ys
+      → EachKept rules lines (xs ++ ys)
   unfolding after-attempts
   kept-append lines [] ys h k = k
   kept-append lines (x ∷ xs) ys h k = (h .0, kept-append (x .left) xs ys (h .1) k)
 
 module _ (rules : Rules) (on : rules .parts ≡ true) where
   round-kept : {addressed : List Text} {i : ℕ} {lines : Listing} {labels : Labels} {round : List Attempt}
-      → Attempts rules addressed i lines labels round → EachKept (rules .edition) lines round
+      → Attempts rules addressed i lines labels round → EachKept rules lines round
   round-kept (over e) = tt
   round-kept (failed lt e more) = (λ t. absurd (false≢true t), round-kept more)
   round-kept {addressed = addressed} {i = i} {lines = lines} {labels = labels} (succeeded lt e more) =
       (λ t. parts-kept rules lines i labels addressed on e, round-kept more)
 
   rounds-kept : {n : ℕ} {lines : Listing} {rounds : List (List Attempt)} → Rounds rules n lines rounds
-      → EachKept (rules .edition) lines (flatten rounds)
+      → EachKept rules lines (flatten rounds)
   unfolding flatten
   rounds-kept enough = tt
-  rounds-kept {lines = lines} (ended {round = round} r e) = kept-append (rules .edition) lines round [] (round-kept r) tt
+  rounds-kept {lines = lines} (ended {round = round} r e) = kept-append rules lines round [] (round-kept r) tt
   rounds-kept {lines = lines} (again {round = round} {more = more} r e rs) =
-      kept-append (rules .edition) lines round (flatten more) (round-kept r) (rounds-kept rs)
+      kept-append rules lines round (flatten more) (round-kept r) (rounds-kept rs)
 
   -- UNDER THE PARTS SETTING no attempt of any run joins a use below 32 bits whose width or lowest bit is not the assigned register's
-  pub run-keeps-parts : (lines : Listing) → EachKept (rules .edition) lines (attempts-of (run rules lines))
+  pub run-keeps-parts : (lines : Listing) → EachKept rules lines (attempts-of (run rules lines))
   unfolding run attempts-of
   run-keeps-parts lines = rounds-kept (rounds-taken rules (limit rules lines) lines)

@@ -9,8 +9,9 @@ use Rattle.reference.specs.Lists.{any}
 use Rattle.reference.specs.Listing.{Listing}
 use Rattle.reference.specs.Rules.{Rules}
 use Rattle.reference.specs.Questions.{numbers, Totals, Answer, Refused, Passed, ask, read-command, read-from, read-by, read-command-by, read-from-by}
-use Rattle.reference.specs.Reply.{Reply, reply-by, reply}
-use Rattle.reference.proofs.Cases.{by-if}
+use Rattle.reference.specs.Straight.{breaks}
+use Rattle.reference.specs.Reply.{Reply, ask-profile, reply-by, reply}
+use Rattle.reference.proofs.Cases.{by-if, by-some}
 use Rattle.reference.proofs.Limits.{All}
 use Rattle.reference.proofs.Reading.{refused-passed, by-passed}
 
@@ -42,6 +43,13 @@ read-number (suc fuel) tape at t lines {n} {p} =
     (λ number place u. same-number (command-number tape at t u))
     (λ a u. by-if (λ (x : Answer Listing). x ≡ Refused n p → Given n) (λ ends e. absurd (refused-passed (sym e))) (λ goes. read-number fuel tape _ _ _))
 
+profile-number : (rules : Rules) (lines : Listing) (r : Reply) {n p : ℕ} → (r ≡ Refused n p → Given n) → ask-profile rules lines r ≡ Refused n p → Given n
+unfolding ask-profile _||_
+profile-number rules lines r {n} {p} k =
+    by-if (λ (x : Reply). x ≡ Refused n p → Given n)
+    (λ on. by-some (λ (x : Reply). x ≡ Refused n p → Given n) (λ fits. k) (λ at b. same-number refl))
+    (λ off. k)
+
 -- THE NUMBER OF A REFUSED CALL IS ONE OF THE LIST
 pub refused-number : (rules : Rules) (tape : List ℕ) (work-a work-b output : ℕ) {n p : ℕ} → reply rules tape work-a work-b output ≡ Refused n p
     → any (eqb n) numbers ≡ true
@@ -50,4 +58,4 @@ refused-number rules tape work-a work-b output {n} {p} =
     asked-number _ _ _ (refl, (refl, (refl, tt)))
     (by-passed (λ (x : Reply). x ≡ Refused n p → Given n)
     (λ number place u. same-number (read-number _ tape _ _ _ u))
-    (λ lines u e. absurd (refused-passed (sym e))))
+    (λ lines u. profile-number rules lines _ (λ e. absurd (refused-passed (sym e)))))

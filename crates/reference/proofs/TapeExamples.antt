@@ -26,10 +26,10 @@ tape s = hex (bytes s)
 
 -- convention 1, and just enough room
 abbrev gives : List ℕ → List ℕ → Counts → Type 0
-gives before after c = reply (record { convention = 1; settle = false; edition = 0; parts = false }) before WORK WORK OUTPUT ≡ Passed (record { tape = after; counts = c })
+gives before after c = reply (record { convention = 1; settle = false; edition = 0; parts = false; profile = false }) before WORK WORK OUTPUT ≡ Passed (record { tape = after; counts = c })
 
 abbrev refuses : List ℕ → ℕ → ℕ → Type 0
-refuses t number place = reply (record { convention = 1; settle = false; edition = 0; parts = false }) t WORK WORK OUTPUT ≡ Refused number place
+refuses t number place = reply (record { convention = 1; settle = false; edition = 0; parts = false; profile = false }) t WORK WORK OUTPUT ≡ Refused number place
 
 abbrev blank-lines : ℕ → List ℕ
 blank-lines n = flatMap (λ b. 0x02 ∷ b ∷ []) (replicate n 0) ++ (0xFF ∷ [])
@@ -49,13 +49,13 @@ pub record TapeExamples : Type 0 where
       (record { tally = three 2 0 0; lines-removed = 0; results-cut = 1 })
   pub address :
       read (tape "01 01 02 00 00 00 00 00 80 3F FF") ≡ Passed (record { address = some 9223372036854776321; indent = 63; tokens = [] } ∷ [])
-  pub convention : reply (record { convention = 3; settle = false; edition = 0; parts = false }) [] 0 0 0 ≡ Refused 1 0
+  pub convention : reply (record { convention = 3; settle = false; edition = 0; parts = false; profile = false }) [] 0 0 0 ≡ Refused 1 0
   -- M-100: 9 after 1 and before 2
-  pub edition : reply (record { convention = 0; settle = false; edition = 2; parts = false }) [] 0 0 0 ≡ Refused 9 0
-  pub convention-first : reply (record { convention = 3; settle = false; edition = 2; parts = false }) [] 0 0 0 ≡ Refused 1 0
-  pub work-in-edition-1 : reply (record { convention = 0; settle = false; edition = 1; parts = false }) [] 0 0 0 ≡ Refused 2 0
-  pub work : reply (record { convention = 2; settle = false; edition = 0; parts = false }) [] 49152 49151 59137 ≡ Refused 2 0
-  pub output : reply (record { convention = 0; settle = false; edition = 0; parts = false }) [] 49152 49152 59136 ≡ Refused 2 0
+  pub edition : reply (record { convention = 0; settle = false; edition = 2; parts = false; profile = false }) [] 0 0 0 ≡ Refused 9 0
+  pub convention-first : reply (record { convention = 3; settle = false; edition = 2; parts = false; profile = false }) [] 0 0 0 ≡ Refused 1 0
+  pub work-in-edition-1 : reply (record { convention = 0; settle = false; edition = 1; parts = false; profile = false }) [] 0 0 0 ≡ Refused 2 0
+  pub work : reply (record { convention = 2; settle = false; edition = 0; parts = false; profile = false }) [] 49152 49151 59137 ≡ Refused 2 0
+  pub output : reply (record { convention = 0; settle = false; edition = 0; parts = false; profile = false }) [] 49152 49152 59136 ≡ Refused 2 0
   pub empty : refuses [] 3 0
   pub no-end : refuses (tape "02 00") 3 2
   pub no-command : refuses (tape "02 00 18 01 00 66 FF") 3 2

@@ -15,6 +15,7 @@ use Rattle.reference.specs.Text.{Text, bytes}
 use Rattle.reference.specs.Listing.{Token, token, is, Register, Number, Punct, Listing}
 use Rattle.reference.specs.Names.{of-family}
 use Rattle.reference.specs.Numbers.{merge-into, merge, fold-at, fold}
+use Rattle.reference.specs.Rules.{Rules}
 use Rattle.reference.specs.Shapes.{Assignment, right-side}
 use Rattle.reference.specs.Join.{substitute, replacement, text-before, text-after, replace-at, lone-number}
 use Rattle.reference.specs.Claim.{sum, size, text-in, text, token-count}
@@ -160,26 +161,26 @@ module _ (w : Weight) where
 
   -- ---- uses replaced
 
-  replacement-le : (expr : List Token) (before after : Text) → weight w (replacement expr before after) ≤ w .other 1 + w .other 1 + weight w expr
+  replacement-le : (rules : Rules) (expr : List Token) (before after : Text) → weight w (replacement rules expr before after) ≤ w .other 1 + w .other 1 + weight w expr
   unfolding replacement
-  replacement-le expr before after =
+  replacement-le rules expr before after =
       by-if (λ (r : List Token). weight w r ≤ w .other 1 + w .other 1 + weight w expr)
       (λ e. omega (arith, sum-append (weigh w) expr (token Punct (bytes ")") ∷ []), weigh-punct (bytes "("), weigh-punct (bytes ")")))
       (λ e. omega arith)
 
-  pub replaced-le : (fam : Text) (toks : List Token) (pos : ℕ) {ts : List Token} {a : Assignment} → Assigning ts a
-      → position (of-family fam) toks ≡ some pos → weight w (replace-at toks pos (a .expr)) ≤ weight w toks + weight w ts
+  pub replaced-le : (rules : Rules) (fam : Text) (toks : List Token) (pos : ℕ) {ts : List Token} {a : Assignment} → Assigning ts a
+      → position (of-family fam) toks ≡ some pos → weight w (replace-at rules toks pos (a .expr)) ≤ weight w toks + weight w ts
   unfolding replace-at
-  replaced-le fam toks pos {a = a} h at =
+  replaced-le rules fam toks pos {a = a} h at =
       let s = split-at (of-family fam) toks pos at in
       let old : weight w toks ≡ weight w (take pos toks) + (weigh w (s .0) + weight w (drop (suc pos) toks)) =
       ap (weight w) (s .2) ∙ sum-append (weigh w) (take pos toks) (s .0 ∷ drop (suc pos) toks) in
-      let new : List Token = replacement (a .expr) (text-before toks pos) (text-after toks pos) in
+      let new : List Token = replacement rules (a .expr) (text-before toks pos) (text-after toks pos) in
       omega (
         arith,
         sum-append (weigh w) (take pos toks ++ new) (drop (suc pos) toks),
         sum-append (weigh w) (take pos toks) new,
-        replacement-le (a .expr) (text-before toks pos) (text-after toks pos),
+        replacement-le rules (a .expr) (text-before toks pos) (text-after toks pos),
         assigned-le h (size (s .0)),
         weigh-register (s .0) (family-register fam (s .0) (s .1)),
       )

@@ -5,7 +5,7 @@ use mathlib.Core.Bool.{Bool, false}
 use mathlib.Core.List.{List, [], _∷_, _++_}
 use mathlib.Core.Option.{Option, none, some}
 use lib.Dec.{ltb, eqb}
-use lib.ListN.{drop, take}
+use lib.ListN.{length, drop, take}
 use Rattle.reference.specs.Control.{not, _&&_, _||_, if_then_else_, let-some_else_then_}
 use Rattle.reference.specs.Lists.{any, position, is-some, is-empty, get, remove, modify}
 use Rattle.reference.specs.Text.{Text, bytes, has, contains, _==_, starts-with, ends-with, trim-start}
@@ -144,19 +144,24 @@ standalone before after =
     (ends-with before (bytes "(") || ends-with before (bytes ", ") || ends-with before (bytes " = "))
     && (starts-with after (bytes ")") || starts-with after (bytes ",") || starts-with after (bytes ";"))
 
+-- whether a joined expression gets brackets where no delimiters spare it. M-106: "In this profile every joined expression of more than
+-- one token gets brackets"; "In a call without the profile the Rust's bracket rule remains."
+unfoldable pub is-bracketed : Rules → List Token → Bool
+is-bracketed rules expr = if rules .profile then ltb 1 (length expr) else is-operator-expr expr
+
 -- the expression, in brackets where it needs them
-unfoldable pub replacement : List Token → Text → Text → List Token
-replacement expr before after =
-    if is-operator-expr expr && not (standalone before after)
+unfoldable pub replacement : Rules → List Token → Text → Text → List Token
+replacement rules expr before after =
+    if is-bracketed rules expr && not (standalone before after)
     then token Punct (bytes "(") ∷ expr ++ (token Punct (bytes ")") ∷ [])
     else expr
 
 -- the use's tokens with the one at `pos` replaced
-unfoldable pub replace-at : List Token → ℕ → List Token → List Token
-replace-at toks pos expr = take pos toks ++ replacement expr (text-before toks pos) (text-after toks pos) ++ drop (suc pos) toks
+unfoldable pub replace-at : Rules → List Token → ℕ → List Token → List Token
+replace-at rules toks pos expr = take pos toks ++ replacement rules expr (text-before toks pos) (text-after toks pos) ++ drop (suc pos) toks
 
-unfoldable pub rewrite-one : ℕ → ℕ → List Token → Line → Line
-rewrite-one edition pos expr l = with-tokens (fold edition (merge (replace-at (l .tokens) pos expr))) l
+unfoldable pub rewrite-one : Rules → ℕ → List Token → Line → Line
+rewrite-one rules pos expr l = with-tokens (fold (rules .edition) (merge (replace-at rules (l .tokens) pos expr))) l
 
 unfoldable pub use-width : List Token → ℕ → ℕ
 use-width toks pos = let-some (get toks pos) else 64 then λ t. let-some (family (t .text)) else 64 then λ f. f .width
@@ -186,18 +191,18 @@ replaceable parts f toks pos =
     && not (written-from (f .name) toks)
 
 -- line i joined into the use on line j
-unfoldable pub join-at : ℕ → Bool → Listing → ℕ → Fam → List Token → Labels → List Text → ℕ → Option Listing
-join-at edition parts lines i f expr labels volatile j =
+unfoldable pub join-at : Rules → Listing → ℕ → Fam → List Token → Labels → List Text → ℕ → Option Listing
+join-at rules lines i f expr labels volatile j =
     if has-kw (lines at j) "while" || not (dead-after lines j (f .name) ((lines at i) .indent) labels i volatile) then none
     else let-some (position (of-family (f .name)) ((lines at j) .tokens)) else none then λ pos.
-    if replaceable parts f ((lines at j) .tokens) pos
-    then some (remove i (modify j (rewrite-one edition pos expr) lines))
+    if replaceable (rules .parts) f ((lines at j) .tokens) pos
+    then some (remove i (modify j (rewrite-one rules pos expr) lines))
     else none
 
-unfoldable pub join-one : ℕ → Bool → Listing → ℕ → Fam → List Token → Labels → List Text → Option Listing
-join-one edition parts lines i f expr labels volatile =
+unfoldable pub join-one : Rules → Listing → ℕ → Fam → List Token → Labels → List Text → Option Listing
+join-one rules lines i f expr labels volatile =
     let-some (use-from ((lines at i) .indent) (f .name) expr (is-some (call-at (lines at i))) volatile (suc i) (drop (suc i) lines)) else none then λ j.
-    join-at edition parts lines i f expr labels volatile j
+    join-at rules lines i f expr labels volatile j
 
 -- `if let [t] = expr.as_slice() { if t.k == TokenKind::Number`
 unfoldable pub lone-number : List Token → Bool
@@ -212,7 +217,7 @@ try-at rules lines i labels addressed =
     let-some (family (a .lhs .text)) else none then λ f.
     let constant : Option Listing =
     if lone-number (a .expr) then propagate-constant (rules .edition) lines i (f .name) (a .expr) labels (volatile rules) else none in
-    let joined : Option Listing = join-one (rules .edition) (rules .parts) lines i f (a .expr) labels (volatile rules) in
+    let joined : Option Listing = join-one rules lines i f (a .expr) labels (volatile rules) in
     if has addressed (f .name) || any (of-family (f .name)) (a .expr) then none
     else let-some constant else joined then λ lines′. some lines′
 

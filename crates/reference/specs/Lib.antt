@@ -10,6 +10,8 @@ pub mod Shapes
 pub mod Life
 pub mod Join
 pub mod Parts
+pub mod Evaluators
+pub mod Straight
 pub mod Run
 pub mod Marks
 pub mod Tape

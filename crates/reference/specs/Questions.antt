@@ -17,7 +17,7 @@ use Rattle.reference.specs.Tape.{Command, new-line, marked, new-token, e
 -- The numbers that a call can give, in the order in which they are asked: document 01's eight, and those of the requests after it.
 -- "Demand 1's eight and their order take in this number and each one below."
 abbrev pub numbers : List ℕ
-numbers = 1 ∷ 9 ∷ 2 ∷ 3 ∷ 4 ∷ 5 ∷ 6 ∷ 10 ∷ 11 ∷ 7 ∷ 8 ∷ []
+numbers = 1 ∷ 9 ∷ 2 ∷ 3 ∷ 4 ∷ 5 ∷ 6 ∷ 10 ∷ 11 ∷ 7 ∷ 8 ∷ 14 ∷ []
 
 -- what every work area has at least, and every output
 abbrev pub WORK : ℕ

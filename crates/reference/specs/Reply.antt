@@ -2,9 +2,12 @@
 use Prim.Native.Nat.{ℕ}
 use mathlib.Core.List.{List, [], _∷_, _++_}
 use lib.ListN.{length, drop, replicate}
+use Rattle.reference.specs.Control.{if_then_else_, let-some_else_then_}
+use Rattle.reference.specs.Listing.{Listing}
 use Rattle.reference.specs.Rules.{Rules}
 use Rattle.reference.specs.Run.{run, finished, Tally, three, settled, Counts, counts}
 use Rattle.reference.specs.Marks.{finished-marks}
+use Rattle.reference.specs.Straight.{breaks}
 use Rattle.reference.specs.Tape.{write}
 use Rattle.reference.specs.Questions.{WORK, is-convention, is-edition, has-room-by}
 use Rattle.reference.specs.Questions.{Answer, Refused, Passed, ask, let-passed_then_, read, marks-in}
@@ -17,12 +20,21 @@ pub record Cleaned : Type 0 where
 abbrev pub Reply : Type 0
 Reply = Answer Cleaned
 
+-- M-106: "14, the first line that breaks the profile, place its line number from 0 [..], asked once the tape is read", where the profile
+-- is asked for
+unfoldable pub ask-profile : Rules → Listing → Reply → Reply
+ask-profile rules lines r = if rules .profile then (let-some (breaks lines) else r then λ n. Refused 14 n) else r
+
 -- the settings, the tape, and how many bytes the two work areas and the output have; before them the figure that the work areas are asked for
 unfoldable pub reply-by : ℕ → Rules → List ℕ → ℕ → ℕ → ℕ → Reply
 reply-by figure rules tape work-a work-b output =
     ask (λ number. 0) ((1, is-convention rules) ∷ (9, is-edition rules) ∷ (2, has-room-by figure work-a work-b output) ∷ [])
     (let-passed (read tape) then λ lines.
-    Passed (record { tape = write (finished rules lines) (finished-marks rules lines (marks-in tape)); counts = counts rules (run rules lines) }))
+    ask-profile rules lines
+    (Passed (record {
+      tape = write (finished rules lines) (finished-marks rules lines (marks-in tape));
+      counts = counts rules (run rules lines);
+    })))
 
 abbrev pub reply : Rules → List ℕ → ℕ → ℕ → ℕ → Reply
 reply = reply-by WORK

@@ -14,6 +14,8 @@ pub record Rules : Type 0 where
   pub edition : ℕ
   -- M-104: whether a use below 32 bits must be the assigned part
   pub parts : Bool
+  -- M-106: whether the listing is asked to be a straight piece; "every joined expression of more than one token gets brackets" then
+  pub profile : Bool
 
 -- the families that a call overwrites
 abbrev pub volatile : Rules → List Text

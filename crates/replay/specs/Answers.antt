@@ -51,10 +51,17 @@ is-right list report work-a work-b out =
 
 -- ---- the call
 
--- settings as one number: the convention is its lowest byte; the two bits above it, whether to settle and
--- whether parts are told apart; the third byte, the number edition
+-- settings as one number: the convention is its lowest byte; the three bits above it, whether to settle,
+-- whether parts are told apart and whether the profile is asked for; the third byte, the number edition
 abbrev pub rules-as : ℕ → Rules
-rules-as n = record { convention = n % 256; settle = eqb (n / 256 % 2) 1; edition = n / 65536 % 256; parts = eqb (n / 512 % 2) 1 }
+rules-as n =
+    record {
+      convention = n % 256;
+      settle = eqb (n / 256 % 2) 1;
+      edition = n / 65536 % 256;
+      parts = eqb (n / 512 % 2) 1;
+      profile = eqb (n / 1024 % 2) 1;
+    }
 
 abbrev pub rules-in : List ℕ → Rules
 rules-in list = rules-as (number-in list 1)

@@ -203,6 +203,7 @@ fn settings(list: &[u8]) -> Rules
         settle: n / 256 % 2 == 1,
         edition: (n / 65536 % 256) as u8,
         parts: n / 512 % 2 == 1,
+        profile: n / 1024 % 2 == 1,
     }
 }
 

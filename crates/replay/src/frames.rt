@@ -1,8 +1,8 @@
 // The list that is replayed: frames one after the other. A frame is sixteen numbers of four bytes, the lowest first, then the tape of a
 // call, then the output that is wanted. The numbers: the class; the settings; the lengths of both work areas, of the output and of the
 // tape; and the ten numbers of the wanted report, of which the third is the length of the wanted output. Of the settings the lowest byte
-// is the convention, the two lowest bits of the next say whether to settle and whether parts are told apart, and the third byte is the
-// number edition.
+// is the convention, the three lowest bits of the next say whether to settle, whether parts are told apart and whether the profile is asked
+// for, and the third byte is the number edition.
 use tape::commands::text_of;
 use tape::little_endian::number_at;
 ghost use mathlib.Core.Path.{_≡_};

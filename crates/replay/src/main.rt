@@ -71,8 +71,11 @@ fn print_class(class: u64) {
         9 => {
             print(b"editions: ");
         }
-        _ => {
+        10 => {
             print(b"parts: ");
+        }
+        _ => {
+            print(b"straight pieces: ");
         }
     }
 }
@@ -131,7 +134,7 @@ fn run(list: &[u8]) {
         tapes: 0,
         differ: 0,
     };
-    while class < 11 {
+    while class < 12 {
         let counts = replayed(list, class);
         print_class(class);
         print_counts(counts);

@@ -81,6 +81,11 @@ fn print_meaning(number: u64) {
         11 => {
             print(b"with the text that stands here there are more than 24,576 bytes of text\n");
         }
+        14 => {
+            print(
+                b"the line of this number, from 0, is the first that is not as the profile of straight pieces wants it\n",
+            );
+        }
         _ => {}
     }
 }

@@ -5,10 +5,10 @@ use Rattle.replay.proofs.run.Statement.{statement}
 use Rattle.replay.proofs.run.Tie as tie
 
 abbrev Inv-loop : tie.InvT-loop
-Inv-loop list class₀ sum₀ class sum = (class ≤ 11) × (sum .tapes ≤ class * 650000) × (sum .differ ≤ sum .tapes)
+Inv-loop list class₀ sum₀ class sum = (class ≤ 12) × (sum .tapes ≤ class * 650000) × (sum .differ ≤ sum .tapes)
 
 abbrev μ-loop : tie.MeasureT-loop
-μ-loop list class₀ sum₀ class sum = 11 - class
+μ-loop list class₀ sum₀ class sum = 12 - class
 
 returns : tie.Need-returns Inv-loop μ-loop
 returns c = search needs

@@ -1,52 +1,66 @@
 -- `clean::entry::clean` meets its contract: no call is refused wrongly, and every lent byte is told. Assumes nothing.
 use mathlib.Core.Path.{sym, ap, _∙_}
+use borrow.Author.Needs.{needs}
 use Rattle.lines.specs.Rules.{rules-of}
 use Rattle.tape.specs.Questions.{checked}
-use Rattle.tape.proofs.questions.Reading.{refused-by, accepted-by}
-use Rattle.clean.proofs.Replying.{refused-at-door, refused-on-tape, cleanable, finished-call}
+use Rattle.tape.proofs.questions.Reading.{refused-by}
+use Rattle.clean.proofs.Replying.{refused-at-door, refused-on-tape, accepted-now, cleanable-now, refused-now, finished-now}
 use Rattle.clean.proofs.entry.clean.Statement.{statement}
 use Rattle.clean.proofs.entry.clean.Tie as tie
 
 asked-requires : tie.Need-asked-requires
-asked-requires c κs = tt
+asked-requires c κs = search needs
 
 returns : tie.Need-returns
 returns c = let a = c .before .before .before .before .before .before .args in
     refused-at-door (rules-of (a .rules)) (a .tape .now) (a .work-a .now) (a .work-b .now) (a .out .now) (c .before .asked .ensures) (c .if1 .taken)
 
 check-requires : tie.Need-check-requires
-check-requires c κs = tt
+check-requires c κs = search needs
 
 enum-known-number : tie.Need-enum-known-number
-enum-known-number c = c .match .keys1
+enum-known-number c = search needs
 
 enum-told : tie.Need-enum-told
-enum-told c = c .match .keys2
+enum-told c = search needs
+
+outside-profile-requires : tie.Need-outside-profile-requires
+outside-profile-requires c κs = search (needs, accepted-now)
+
+enum-known-line : tie.Need-enum-known-line
+enum-known-line c = search needs
+
+enum-told-2 : tie.Need-enum-told-2
+enum-told-2 c = search needs
 
 finish-requires : tie.Need-finish-requires
-finish-requires c κs = let a = c .before .before .before .before .before .before .before .before .before .before .before .before .args in
-    cleanable (rules-of (a .rules)) (a .tape .now) (a .work-a .now) (a .work-b .now) (a .out .now) (c .before .before .before .before .before .before .before .asked .ensures) (c .before .before .before .before .before .before .if1 .left)
-    (accepted-by (a .tape .now) (sym (ap checked (c .before .before .before .enum-told .given .1)) ∙ c .before .before .before .before .before .check .ensures))
+finish-requires c κs = search (needs, cleanable-now)
 
 returns-2 : tie.Need-returns-2
 returns-2 c = let a = c .before .before .before .before .before .before .before .before .before .before .args in
     refused-on-tape (rules-of (a .rules)) (a .tape .now) (a .work-a .now) (a .work-b .now) (a .out .now) (c .before .before .before .before .before .asked .ensures) (c .before .before .before .before .if1 .left)
     (refused-by (a .tape .now) (sym (ap checked (c .before .number .given .1)) ∙ c .before .before .before .check .ensures))
 
+returns-3 : tie.Need-returns-3
+returns-3 c =
+    let a = c .before .before .before .before .before .before .before .before .before .before .before .before .before .args in
+    refused-now (a .tape .now) (c .before .before .before .before .before .before .check .result) (c .before .before .before .before .before .before .check .ensures) _ (c .before .before .before .before .enum-told .given .1) (rules-of (a .rules)) (a .work-a .now) (a .work-b .now) (a .out .now)
+    (c .before .before .before .before .before .before .before .before .asked .ensures) (c .before .before .before .before .before .before .before .if1 .left) (c .before .before .before .outside-profile .result) (c .before .before .before .outside-profile .ensures) _ (c .before .line .given .1)
+
 same-length : tie.Need-same-length
-same-length c = c .before .before .before .before .before .before .finish .kept .1 .1 .0
+same-length c = search needs
 
 same-length-2 : tie.Need-same-length-2
-same-length-2 c = c .before .before .before .before .before .before .finish .kept .1 .1 .1 .0
+same-length-2 c = search needs
 
 same-length-3 : tie.Need-same-length-3
-same-length-3 c = c .before .before .before .before .before .before .finish .kept .1 .1 .1 .1 .0
+same-length-3 c = search needs
 
-returns-3 : tie.Need-returns-3
-returns-3 c = let a = c .before .before .before .before .before .before .before .before .before .before .before .before .before .before .before .before .before .before .before .args in
-    let accepted = accepted-by (a .tape .now) (sym (ap checked (c .before .before .before .before .before .before .before .before .before .before .enum-told .given .1)) ∙ c .before .before .before .before .before .before .before .before .before .before .before .before .check .ensures) in
-    finished-call (rules-of (a .rules)) (a .tape .now) (a .work-a .now) (a .work-b .now) (a .out .now) (c .before .before .before .before .before .before .before .before .before .before .before .before .before .before .asked .ensures) (c .before .before .before .before .before .before .before .before .before .before .before .before .before .if1 .left)
-    accepted (c .before .before .before .before .before .before .finish .ensures (accepted .listing) (accepted .reads))
+returns-4 : tie.Need-returns-4
+returns-4 c =
+    let a = c .before .before .before .before .before .before .before .before .before .before .before .before .before .before .before .before .before .before .before .before .before .before .args in
+    finished-now (a .tape .now) (c .before .before .before .before .before .before .before .before .before .before .before .before .before .before .before .check .result) (c .before .before .before .before .before .before .before .before .before .before .before .before .before .before .before .check .ensures) _ (c .before .before .before .before .before .before .before .before .before .before .before .before .before .enum-told .given .1) (rules-of (a .rules)) (a .work-a .now) (a .work-b .now) (a .out .now)
+    (c .before .before .before .before .before .before .before .before .before .before .before .before .before .before .before .before .before .asked .ensures) (c .before .before .before .before .before .before .before .before .before .before .before .before .before .before .before .before .if1 .left) (c .before .before .before .before .before .before .before .before .before .before .before .before .outside-profile .result) (c .before .before .before .before .before .before .before .before .before .before .before .before .outside-profile .ensures) (c .before .before .before .before .before .before .before .before .before .before .enum-told2 .given .1) _ _ _ _ (c .before .before .before .before .before .before .finish .ensures)
 
 pub clean-spec : {M : Type 1} → statement M
 clean-spec =
@@ -57,9 +71,13 @@ clean-spec =
     check-requires
     enum-known-number
     enum-told
+    outside-profile-requires
+    enum-known-line
+    enum-told-2
     finish-requires
     returns-2
+    returns-3
     same-length
     same-length-2
     same-length-3
-    returns-3)
+    returns-4)

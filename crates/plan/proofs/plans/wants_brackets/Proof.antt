@@ -4,8 +4,8 @@ use Rattle.plan.proofs.Fitting.{brackets-not, brackets-by}
 use Rattle.plan.proofs.plans.wants_brackets.Statement.{statement}
 use Rattle.plan.proofs.plans.wants_brackets.Tie as tie
 
-is-operator-expr-requires : tie.Need-is-operator-expr-requires
-is-operator-expr-requires c κs = search needs
+is-bracketed-requires : tie.Need-is-bracketed-requires
+is-bracketed-requires c κs = search needs
 
 returns : tie.Need-returns
 returns c = search (needs, brackets-not)
@@ -18,4 +18,4 @@ returns-2 c = search (needs, brackets-by)
 
 pub wants-brackets-spec : {M : Type 1} → statement M
 wants-brackets-spec =
-    tie.close (tie.spec is-operator-expr-requires returns is-standalone-requires returns-2)
+    tie.close (tie.spec is-bracketed-requires returns is-standalone-requires returns-2)

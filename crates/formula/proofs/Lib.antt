@@ -1,0 +1,7 @@
+-- Laws of the evaluators' places, answers and tests.
+pub mod Left
+pub mod Ahead
+pub mod Worthy
+pub mod Evaluating
+pub mod Whole
+pub mod Profiled

@@ -1,0 +1,4 @@
+pub mod Places
+pub mod Terms
+pub mod Values
+pub mod Profile

@@ -1,0 +1,92 @@
+// The tokens that an expression may have beside its Puncts: 64-bit registers, and numbers as the profile wants them.
+use lines::fams;
+use lines::fams::Named;
+use lines::words;
+use numbers::Number;
+use numbers::parse_c_number;
+ghost use mathlib.Core.Path.{_≡_};
+ghost use lib.Dec.{eqb};
+ghost use Rattle.reference.specs.Control.{_||_};
+ghost use Rattle.reference.specs.Lists.{count, is-some};
+ghost use Rattle.reference.specs.Evaluators.{wide, is-tidy, number-of};
+ghost use Rattle.lines.specs.Words.{token-of, Points};
+ghost use Rattle.formula.specs.Terms.{is-plain};
+
+// Whether a token is a 64-bit register and no stack slot.
+pub fn is_wide(tape: &[u8], w: u64) -> bool
+    requires { ⌜ Points (now tape) (now tape) w ⌝ }
+    ensures { λ r. ⌜ r ≡ is-some (wide (token-of (now (tape .entry)) (now (tape .entry)) w)) ⌝ }
+{
+    let Named::As(_, width, _) = fams::fam_of(tape, tape, w) else {
+        return false;
+    };
+    if width != 64 {
+        return false;
+    }
+    !text::begins_slot(words::text(tape, tape, w))
+}
+
+// How often a byte stands in a text.
+fn count_byte(s: &[u8], b: u8) -> usize
+    ensures { λ r. ⌜ r ≡ count (eqb b) (now (s .entry)) ⌝ }
+{
+    let mut n = 0;
+    let mut i = 0;
+    while i < s.len() {
+        if s[i] == b {
+            n += 1;
+        }
+        i += 1;
+    }
+    n
+}
+
+// Whether a number without its minus is hexadecimal, or has no zero in front, or is 0.
+fn is_plain(s: &[u8]) -> bool
+    ensures { λ r. ⌜ r ≡ is-plain (now (s .entry)) ⌝ }
+{
+    text::begins_hex(s) || (!text::starts(s, b"0") || text::same(s, b"0"))
+}
+
+// "no plus, at most one minus, no leading zero in decimal except `0`"
+fn is_tidy(s: &[u8]) -> bool
+    ensures { λ r. ⌜ r ≡ is-tidy (now (s .entry)) ⌝ }
+{
+    if text::has_byte(s, b'+') {
+        return false;
+    }
+    if 1 < count_byte(s, b'-') {
+        return false;
+    }
+    if text::begins_minus(s) {
+        return is_plain(&s[1..]);
+    }
+    is_plain(s)
+}
+
+// Whether a token is a number of the profile.
+pub fn is_number(tape: &[u8], w: u64) -> bool
+    requires { ⌜ Points (now tape) (now tape) w ⌝ }
+    ensures { λ r. ⌜ r ≡ is-some (number-of (token-of (now (tape .entry)) (now (tape .entry)) w)) ⌝ }
+{
+    if words::kind(w) != words::NUMBER {
+        return false;
+    }
+    let s = words::text(tape, tape, w);
+    if !is_tidy(s) {
+        return false;
+    }
+    match parse_c_number(s) {
+        Number::Read(_) => true,
+        Number::Unread => false,
+    }
+}
+
+// Whether a token is worth something by itself.
+pub fn is_term(tape: &[u8], w: u64) -> bool
+    requires { ⌜ Points (now tape) (now tape) w ⌝ }
+    ensures { λ r. ⌜ r ≡ (is-some (wide (token-of (now (tape .entry)) (now (tape .entry)) w)) || is-some
+        (number-of (token-of (now (tape .entry)) (now (tape .entry)) w))) ⌝ }
+{
+    is_wide(tape, w) || is_number(tape, w)
+}
