@@ -41,7 +41,8 @@ FromHere = FromHereBy old
 pub data ComesBy (form : TapeForm) (tape : List ℕ) : ℕ → Totals → List Command → Type 0 where
   begins : ComesBy form tape (header form) (no-commands) []
   goes-on : {at : ℕ} {t : Totals} {before : List Command} {a : Advance} → ComesBy form tape at t before
-      → read-command-by form tape at t ≡ Passed a → is-end (a .command) ≡ false → ComesBy form tape (a .next) (a .totals) (before ++ (a .command ∷ []))
+      → read-command-by form tape at t ≡ Passed a → is-end (a .command) ≡ false
+      → ComesBy form tape (a .next) (a .totals) (before ++ (a .command ∷ []))
 
 abbrev pub Comes : List ℕ → ℕ → Totals → List Command → Type 0
 Comes = ComesBy old

@@ -1,6 +1,6 @@
--- The tape of document 01, and its form by offset (M-110): a list of bytes that holds a listing, command after command, and marks of its lines.
--- How a listing is written, and what the command at the head of some bytes says. Which tapes are accepted is asked in Questions.antt. Assumes
--- nothing.
+-- The tape of document 01, and its form by offset (M-110): a list of bytes that holds a listing, command after command, and marks of its
+-- lines. How a listing is written, and what the command at the head of some bytes says. Which tapes are accepted is asked in
+-- Questions.antt. Assumes nothing.
 use Prim.Native.Nat.{ℕ, zero, suc, _+_, _*_, _-_, _/_, _%_}
 use mathlib.Core.List.{List, [], _∷_, _++_, flatMap}
 use mathlib.Core.Option.{Option, none, some}
