@@ -3,7 +3,7 @@
  *
  * Each function is proved to meet what is said here, for every input (crates/puchkewa/src; the promise of the cleaning is `Cleans` in
  * crates/clean/specs/Replies.antt, that of a call that writes a tape is `WritesTold` in crates/answers/specs/Answers.antt). They keep no state,
- * allocate nothing and call nothing of C but memset and memcpy. Not proved, but measured: the cleaning takes about 105,000 bytes of stack. Calls in several
+ * allocate nothing and call nothing of C but memset and memcpy. Not proved, but measured: the cleaning takes about 117,000 bytes of stack, without the profile. Calls in several
  * threads are safe where they share no memory that one of them writes.
  *
  * Link with target/staticlib/libpuchkewa.a, which `rt staticlib puchkewa` writes (x86-64 Linux). */
