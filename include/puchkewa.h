@@ -1,5 +1,5 @@
 /* Puchkewa: cleans a listing of pseudocode, a tape in, the cleaned tape out; brings one from one edition of C to the other; keeps named states
- * of one; writes the most laborious one. What a tape is: docs/TAPE.md.
+ * of one; writes the most laborious one; tells which start value makes a formula return a wanted value. What a tape is: docs/TAPE.md.
  *
  * Each function is proved to meet what is said here, for every input (crates/puchkewa/src; the promise of the cleaning is `Cleans` in
  * crates/clean/specs/Replies.antt, that of a call that writes a tape is `WritesTold` in crates/answers/specs/Answers.antt). They keep no state,
@@ -19,7 +19,7 @@ extern "C" {
 #endif
 
 /* The version of the interface and of what it does: a change of either changes it. */
-#define PUCHKEWA_VERSION "0.13.0"
+#define PUCHKEWA_VERSION "0.14.0"
 
 /* The least that each work area and the output must have, in bytes. 59,137 bytes are enough for the output of every tape. */
 #define PUCHKEWA_WORK 49152
@@ -52,12 +52,13 @@ struct puchkewa_settings {
     bool parts;         /* true: a value assigned to a part of a register is joined into a use below 32 bits only if that is the same part: ah is not al */
     bool profile;       /* true: the listing must be a straight piece: assignments to 64-bit registers, and a return, of sums and differences; each expression
                            of more than one token that is joined into another gets brackets, and what is returned is the same before and after. Such a
-                           call goes down into nested brackets, some 464 bytes of stack each: up to 11.5 MB for a tape that is nothing but brackets
+                           call goes down into nested brackets, 144 bytes of stack each: up to 3.6 MB for a tape that is nothing but brackets
                            (docs/TIMES.md) */
 };
 
 /* Why a call was refused: the first question that was answered "no". They are asked in the order 1, 9, 2; those from 3 on are asked of each command
- * of the tape from the left, in the order 3, 4, 5, 6, 10, 11, 7, 8; and 14 once the tape is read, where the profile is asked for. docs/TAPE.md has the table. */
+ * of the tape from the left, in the order 3, 4, 5, 6, 10, 11, 7, 8; and 14 once the tape is read, where the profile is asked for. docs/TAPE.md has the table,
+ * and the questions of the calls beside the cleaning. */
 enum puchkewa_refusal {
     PUCHKEWA_FINISHED = 0,           /* nothing was refused */
     PUCHKEWA_BAD_CONVENTION = 1,     /* the convention is not 0, 1 or 2 */
@@ -75,7 +76,11 @@ enum puchkewa_refusal {
     PUCHKEWA_NEW_KEYWORD = 12,       /* puchkewa_to_2024: a Symbol that is a keyword of C's edition of 2024 and was none in 2018 */
     PUCHKEWA_NEW_NUMBER = 13,        /* puchkewa_to_2018: a Number that begins 0b or 0B after at most one minus, or holds a ', and is not read by
                                         the 2024 edition */
-    PUCHKEWA_NOT_STRAIGHT = 14,      /* the profile was asked for, and a line breaks it: `place` is the number of the first such line, from 0 */
+    PUCHKEWA_NOT_STRAIGHT = 14,      /* the profile was asked for, or a start value, and a line breaks the profile: `place` is the number of the first
+                                        such line, from 0 */
+    PUCHKEWA_NO_START_VALUE = 15,    /* puchkewa_start_value: no start value makes the formula return the wanted value */
+    PUCHKEWA_BAD_NAMES = 16,         /* puchkewa_start_value: the chosen or a listed name is no 64-bit register or is a var_ name, or the list ends
+                                        inside an entry */
     PUCHKEWA_TOO_MANY_LINES = 17,    /* the most laborious listing: more than 256 lines were asked for */
     PUCHKEWA_OUT_OF_REACH = 18,      /* puchkewa_to_offsets: an address below the base, or 2^32 or more above it;
                                         puchkewa_from_offsets: base and offset together are above 2^64 - 1 */
@@ -121,7 +126,7 @@ struct puchkewa_report puchkewa_clean(struct puchkewa_settings settings,
 /* What a call beside the cleaning answers. */
 struct puchkewa_answer {
     uint64_t refusal; /* 0, or the number of the question that refused: enum puchkewa_refusal */
-    uint64_t place;   /* of a refusal: where, as in puchkewa_report; 0 for 2 */
+    uint64_t place;   /* of a refusal: where, as in puchkewa_report; 0 for 2, 15 and 16 */
     uint64_t value;   /* where nothing refused: what the call says of its answer; otherwise 0 */
 };
 
@@ -171,6 +176,25 @@ struct puchkewa_answer puchkewa_delete(uint8_t *store, size_t store_length, cons
  * `value` is the tape's length (6,131 for 256 lines); the output past it is as before. When refused, nothing is changed.
  * (crates/puchkewa/src/export_laborious.rt; the claim is `MostLaborious` in crates/laborious/specs/Listing.antt.) */
 struct puchkewa_answer puchkewa_laborious(uint64_t lines, uint8_t *out, size_t out_length);
+
+/* Which start value gives this output: the smallest value, 0 to 2^64 - 1, that the chosen register can start with so that a formula returns the wanted
+ * value, modulo 2^64.
+ *
+ * tape          the tape of the formula: a straight piece, as for `profile` above. Numbers in it are read by PUCHKEWA_C_2018.
+ * chosen        the name of the register: chosen_length bytes. Any 64-bit register, also r99, and also one that the formula lacks; no var_ name.
+ * values        what the other registers start with: a list of values_length bytes, entries one after the other. An entry is a byte with the length of the
+ *               name, the name, and the value in 8 bytes, the lowest first. A register that is not listed starts with 0; of equal names the first
+ *               decides; an entry for the chosen register is ignored. Names count by their text: r8 and r08 are two.
+ * wanted        the value that the formula is to return.
+ *
+ * The questions: the tape's (3 to 8, 10 and 11), then 14, 16, 15. 15 is answered exactly when no start value works. When not refused, `value` is the start
+ * value; the formula returns `wanted` for it and for no smaller one. All that is lent is only read. No pointer may be null (for an empty list pass any valid
+ * pointer and 0). As with `profile`, the call goes down into nested brackets (docs/TIMES.md has the stack that it takes).
+ * (crates/puchkewa/src/export_start.rt; the claim is `StartValue` in crates/start/specs/Smallest.antt.) */
+struct puchkewa_answer puchkewa_start_value(const uint8_t *tape, size_t tape_length,
+                                            const uint8_t *chosen, size_t chosen_length,
+                                            const uint8_t *values, size_t values_length,
+                                            uint64_t wanted);
 
 /* The least that the output of the two conversions must have, in bytes. */
 #define PUCHKEWA_OFFSETS_OUTPUT 59146

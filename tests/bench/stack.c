@@ -1,6 +1,8 @@
-/* How many bytes of stack a call of the static library takes: stack SAMPLE
+/* How many bytes of stack a call of the static library takes: stack SAMPLE, or stack brackets
  *
- * The call runs on a painted stack of its own; what is no longer the paint was used. SAMPLE is a file with a convention byte and a tape. */
+ * The call runs on a painted stack of its own; what is no longer the paint was used. SAMPLE is a file with a convention byte and a tape, which is
+ * cleaned. `brackets`: formulas that are one bracket inside the other, at the depths where something changes; each is cleaned with the profile, and its
+ * start value is asked for. 12,282 closed brackets are the most that pass, 24,569 that are not closed the most that a tape can hold (14). */
 #include <stdint.h>
 #include <stdio.h>
 #include <string.h>
@@ -8,12 +10,15 @@
 
 #include "puchkewa.h"
 
-enum { WORK = PUCHKEWA_WORK, OUTPUT = PUCHKEWA_OUTPUT, STACK = 4 << 20, PAINT = 0xA5 };
+enum { WORK = PUCHKEWA_WORK, OUTPUT = PUCHKEWA_OUTPUT, STACK = 16 << 20, PAINT = 0xA5 };
 static uint8_t input[65537], work_a[WORK], work_b[WORK], out[OUTPUT], stack[STACK];
 static size_t length;
+static struct puchkewa_settings settings;
+static uint64_t refusal;
 static ucontext_t here, there;
 
-static void call(void) { puchkewa_clean((struct puchkewa_settings){ .convention = input[0] }, input + 1, length - 1, work_a, WORK, work_b, WORK, out, OUTPUT); }
+static void clean(void) { refusal = puchkewa_clean(settings, input + 1, length - 1, work_a, WORK, work_b, WORK, out, OUTPUT).refusal; }
+static void start(void) { refusal = puchkewa_start_value(input + 1, length - 1, (const uint8_t *)"rax", 3, out, 0, 5).refusal; }
 static void nothing(void) {}
 
 static size_t used(void (*f)(void)) {
@@ -29,12 +34,49 @@ static size_t used(void (*f)(void)) {
     return STACK - n;
 }
 
+static void token(uint8_t kind, size_t n) {
+    uint8_t head[3] = { kind, n & 255, n >> 8 };
+    memcpy(input + length, head, 3);
+    length += 3 + n;
+}
+
+/* The tape of `return ((..rax..));` with so many brackets; of `return ((..`, where they are not closed. */
+static void brackets(size_t n, int closed) {
+    uint8_t front[] = { 1, 2, 0 };
+    memcpy(input, front, length = sizeof front);
+    token(0x13, 6), memcpy(input + length - 6, "return", 6);
+    token(0x16, n + 1), memset(input + length - n, '(', n), input[length - n - 1] = ' ';
+    if (closed) {
+        token(0x11, 3), memcpy(input + length - 3, "rax", 3);
+        token(0x16, n + 1), memset(input + length - n - 1, ')', n), input[length - 1] = ';';
+    }
+    input[length++] = 0xFF;
+}
+
+static void nested(size_t n, int closed) {
+    brackets(n, closed);
+    settings = (struct puchkewa_settings){ .convention = PUCHKEWA_SYSV_64, .profile = true };
+    size_t none = used(nothing), cleaning = used(clean) - none;
+    uint64_t cleaned = refusal;
+    size_t starting = used(start) - none;
+    printf("%zu brackets%s: cleaning answers %llu, %zu bytes of stack; start value answers %llu, %zu bytes\n", n, closed ? "" : ", not closed",
+           (unsigned long long)cleaned, cleaning, (unsigned long long)refusal, starting);
+}
+
 int main(int argc, char **argv) {
+    if (argc == 2 && strcmp(argv[1], "brackets") == 0) {
+        size_t depths[] = { 0, 1, 1000, 12282, 12283 };
+        for (size_t i = 0; i < sizeof depths / sizeof *depths; i++) nested(depths[i], 1);
+        nested(24569, 0);
+        nested(24570, 0);
+        return 0;
+    }
     FILE *f = argc == 2 ? fopen(argv[1], "rb") : NULL;
-    if (!f) return fputs("usage: stack SAMPLE\n", stderr), 2;
+    if (!f) return fputs("usage: stack SAMPLE, or stack brackets\n", stderr), 2;
     length = fread(input, 1, sizeof input, f);
     fclose(f);
     if (length == 0) return 2;
-    printf("%zu bytes of stack\n", used(call) - used(nothing));
+    settings = (struct puchkewa_settings){ .convention = input[0] };
+    printf("%zu bytes of stack\n", used(clean) - used(nothing));
     return 0;
 }

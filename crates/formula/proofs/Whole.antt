@@ -19,13 +19,14 @@ use Rattle.laws.proofs.Scans.{if-true, if-false}
 use Rattle.straight.proofs.Values.{read-alike}
 use Rattle.lines.specs.Words.{kind-of, token-of, tokens-of, Points}
 use Rattle.formula.specs.Places.{left, size-of, Placed, Readable, Leads}
-use Rattle.formula.specs.Values.{Pair, pairs, pair-at, Valued, worth-of, Expression, value-of, Evaluates}
+use Rattle.formula.specs.Values.{Pair, pairs, Valued, told, Expression, value-of, Evaluates}
 use Rattle.formula.specs.declared.places.Ahead.{Ahead}
 use Rattle.formula.specs.declared.places.Ahead.the-variants.{At, Nothing}
 use Rattle.formula.specs.declared.evaluators.Worth.{Worth}
 use Rattle.formula.specs.declared.evaluators.Worth.the-variants.{Is, Breaks}
 use Rattle.formula.proofs.Left.{left-end, left-whole, left-sign, size-punct, left-other, no-punct, One, a-register, a-number, a-junk, one-of, placed-whole}
 use Rattle.formula.proofs.Ahead.{leads-some, leads-none}
+use Rattle.formula.proofs.Evaluating.{worth-none, worth-some}
 
 -- a place before the end has a lexeme
 left-some : (tape : Text) (line : List ℕ) → Readable tape line → (k b : ℕ) → Placed line k b → k < length line
@@ -66,27 +67,26 @@ module _ (tape : Text) (line values before : List ℕ) (h : Readable tape line) 
   unfolding let-some_else_then_
   whole-unbegun e number σ v = sym (begun number σ ∙ rw (leads-none q e) refl)
 
-  module _ (i j : ℕ) (e : r ≡ At i j) {s : Worth} (w : Expression tape line values i j s) where
-    pub whole-broken : s ≡ Breaks → Evaluates tape line values before Breaks
+  module _ (i j : ℕ) (e : r ≡ At i j) {y : Bool} (out : List ℕ) (w : Expression tape line values i j (told y out)) where
+    pub whole-broken : y ≡ false → Evaluates tape line values before Breaks
     unfolding let-some_else_then_
-    whole-broken f number σ v = sym (begun number σ ∙ rw (leads-some i j q e, sym (w .is number σ v) ∙ ap (worth-of ts) f) refl)
+    whole-broken f number σ v = sym (begun number σ ∙ rw (leads-some i j q e, worth-none tape line values out w f number σ v) refl)
 
-    module _ (m c k b : ℕ) (f : s ≡ Is m c k b) {u : Ahead} (z : Leads tape line (behind (bytes ";") (left ts k b)) u) where
+    module _ (f : y ≡ true) {u : Ahead} (z : Leads tape line (behind (bytes ";") (left ts (getD out 2 0) (getD out 3 0))) u) where
       pub whole-unended : u ≡ Nothing → Evaluates tape line values before Breaks
       unfolding let-some_else_then_
-      whole-unended g number σ v =
-          sym (begun number σ ∙ rw (leads-some i j q e, sym (w .is number σ v) ∙ ap (worth-of ts) f, leads-none z g) refl)
+      whole-unended g number σ v = sym (begun number σ ∙ rw (leads-some i j q e, worth-some tape line values out w f number σ v, leads-none z g) refl)
 
       module _ (i′ j′ : ℕ) (g : u ≡ At i′ j′) where
         ended : (number : ℤ → Pair) (σ : Text → Pair) → Valued number σ ts values
-            → evaluate (pairs number) σ before (lexemes ts) ≡ (if is-empty (left ts i′ j′) then some (m, c) else none)
+            → evaluate (pairs number) σ before (lexemes ts) ≡ (if is-empty (left ts i′ j′) then some (getD out 0 0, getD out 1 0) else none)
         unfolding let-some_else_then_
-        ended number σ v = begun number σ ∙ rw (leads-some i j q e, sym (w .is number σ v) ∙ ap (worth-of ts) f, leads-some i′ j′ z g) refl
+        ended number σ v = begun number σ ∙ rw (leads-some i j q e, worth-some tape line values out w f number σ v, leads-some i′ j′ z g) refl
 
         pub whole-more : i′ < length line → Evaluates tape line values before Breaks
         whole-more l number σ v = sym (ended number σ v ∙ if-false _ _ (left-some tape line h i′ j′ (z .placed i′ j′ g) l))
 
-        pub whole-ended : length line ≤ i′ → Evaluates tape line values before (Is m c i′ j′)
+        pub whole-ended : length line ≤ i′ → Evaluates tape line values before (Is (getD out 0 0) (getD out 1 0) i′ j′)
         whole-ended l number σ v = sym (ended number σ v ∙ if-true _ _ (ap is-empty (left-end tape line i′ j′ l)))
 
 -- ---- whether a line is worth anything

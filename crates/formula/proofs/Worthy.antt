@@ -18,7 +18,7 @@ use Rattle.reference.specs.Listing.{Token, is, Number, Keyword, Punct}
 use Rattle.reference.specs.Shapes.{is-kw}
 use Rattle.reference.specs.Names.{fam-of}
 use Rattle.reference.specs.Numbers.{parse-c-number}
-use Rattle.reference.specs.Evaluators.{minus, wide, is-tidy, number-of}
+use Rattle.reference.specs.Evaluators.{plus, minus, wide, is-tidy, number-of}
 use Rattle.reference.specs.Straight.{puncts-apart}
 use Rattle.reference.proofs.Cases.{not-true}
 use Rattle.laws.proofs.Parts.{to-end}
@@ -31,6 +31,9 @@ use Rattle.lines.specs.Fams.{fam-text, named, Names}
 use Rattle.lines.specs.declared.fams.Named.{Named}
 use Rattle.lines.specs.declared.fams.Named.the-variants.{As, Nothing}
 use Rattle.formula.specs.Terms.{is-plain}
+use Rattle.formula.specs.Values.{joined}
+use Rattle.formula.specs.declared.evaluators.Joins.{Joins}
+use Rattle.formula.specs.declared.evaluators.Joins.the-variants.{Adds, Takes}
 use Rattle.formula.proofs.Left.{drop-past}
 
 -- ---- registers
@@ -116,6 +119,13 @@ module _ (tape : Text) (w : ℕ) {k : ℕ} (ek : k ≡ kind-of w) where
 pub minus-is : (r v w : ℕ) → r < 2 ^ 64 → v < 2 ^ 64 → w < 2 ^ 64 → (r + w) % 2 ^ 64 ≡ v → r ≡ minus v w
 unfolding minus
 minus-is r v w a b c e = omega arith
+
+module _ {how : Joins} (v w : ℕ) {r : ℕ} where
+  pub joined-adds : how ≡ Adds → r ≡ plus v w → r ≡ joined how v w
+  joined-adds e h = h ∙ rw e refl
+
+  pub joined-takes : how ≡ Takes → r ≡ minus v w → r ≡ joined how v w
+  joined-takes e h = h ∙ rw e refl
 
 pub past-zero : (values : List ℕ) (i : ℕ) → length values ≤ i → 0 ≡ getD values i 0
 past-zero [] i h = refl

@@ -1,6 +1,7 @@
 -- What the evaluators answer, in pairs of numbers modulo 2^64: a multiplier, and a constant. Assumes nothing.
 use Prim.Native.Nat.{ℕ, _+_, _*_, _<_}
 use mathlib.Core.Path.{_≡_}
+use mathlib.Core.Bool.{Bool, true, false}
 use mathlib.Core.List.{List, []}
 use mathlib.Core.Option.{Option, none, some}
 use lib.IntN.{ℤ}
@@ -12,6 +13,8 @@ use Rattle.lines.specs.Words.{tokens-of}
 use Rattle.formula.specs.Places.{left, Placed}
 use Rattle.formula.specs.declared.evaluators.Worth.{Worth}
 use Rattle.formula.specs.declared.evaluators.Worth.the-variants.{Is, Breaks}
+use Rattle.formula.specs.declared.evaluators.Joins.{Joins}
+use Rattle.formula.specs.declared.evaluators.Joins.the-variants.{Begins, Adds, Takes}
 
 abbrev pub Pair : Type 0
 Pair = ℕ × ℕ
@@ -25,6 +28,12 @@ pairs number =
       number = number;
     }
 
+-- a number of the sum so far, and the same number of the term that joins it
+abbrev pub joined : Joins → ℕ → ℕ → ℕ
+joined Begins v w = w
+joined Adds v w = plus v w
+joined Takes v w = minus v w
+
 -- the pair of the token k
 abbrev pub pair-at : List ℕ → ℕ → Pair
 pair-at values k = (getD values (2 * k) 0, getD values (2 * k + 1) 0)
@@ -36,6 +45,11 @@ no-token = token 0 []
 pub record Valued (number : ℤ → Pair) (σ : Text → Pair) (ts : List Token) (values : List ℕ) : Type 0 where
   pub register : (k : ℕ) (x : Text) → k < length ts → wide (getD ts k no-token) ≡ some x → pair-at values k ≡ σ x
   pub number-is : (k : ℕ) (z : ℤ) → k < length ts → number-of (getD ts k no-token) ≡ some z → pair-at values k ≡ number z
+
+-- the answer that an evaluator leaves: whether there is a value, and the numbers of a value and of the place behind it
+unfoldable pub told : Bool → List ℕ → Worth
+told true out = Is (getD out 0 0) (getD out 1 0) (getD out 2 0) (getD out 3 0)
+told false out = Breaks
 
 abbrev pub worth-of : List Token → Worth → Option (Pair × List Lexeme)
 worth-of ts (Is m c k b) = some ((m, c), left ts k b)

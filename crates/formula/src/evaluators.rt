@@ -4,18 +4,25 @@
 //
 // `values` has a pair for each token of the line, at twice the token's number: what a register is worth there, or a number. Past its end
 // all are 0, so an empty table serves to ask whether a line is read at all.
+//
+// Brackets nest as deep as a tape has bytes, so a level is kept small on the stack: an evaluator leaves its answer in `out`, which all
+// levels share; `term` is called at one place, so that the compiler lays both in one frame; and whether the tokens are registers and
+// numbers of the profile is asked before (`has_junk`), not on the way down.
 use crate::places;
 use crate::places::Ahead;
 use crate::places::Operated;
-use crate::terms::is_term;
+use crate::terms::has_junk;
 use lines::words;
 use std::num::wrapping_add_u64;
 use std::num::wrapping_sub_u64;
 ghost use mathlib.Core.Path.{_≡_};
+ghost use mathlib.Core.List.{_∷_, []};
+ghost use mathlib.Core.Bool.{false};
 ghost use lib.ListN.{getD};
 ghost use Rattle.reference.specs.Evaluators.{plus, minus};
 ghost use Rattle.formula.specs.Places.{Placed, Readable};
-ghost use Rattle.formula.specs.Values.{Term, Expression, Evaluates};
+ghost use Rattle.formula.specs.Terms.{has-junk};
+ghost use Rattle.formula.specs.Values.{joined, told, Term, Expression, Evaluates};
 
 // A value and the place behind it, or that the profile is broken.
 pub enum Worth {
@@ -49,121 +56,106 @@ fn minus(v: u64, w: u64) -> u64
     wrapping_sub_u64(v, w)
 }
 
-// A term from a place on.
+// How a term joins the sum before it.
+pub enum Joins {
+    Begins,
+    Adds,
+    Takes,
+}
+
+fn joined(how: Joins, v: u64, w: u64) -> u64
+    ensures { λ r. ⌜ r ≡ joined how v w ⌝ }
+{
+    match how {
+        Joins::Begins => w,
+        Joins::Adds => plus(v, w),
+        Joins::Takes => minus(v, w),
+    }
+}
+
+// An answer is left: a value and the place behind it.
+fn tell(out: &mut [u64; 4], multiplier: u64, constant: u64, token: usize, byte: usize)
+    ensures { λ _. ⌜ now (out .exit) ≡ multiplier ∷ constant ∷ token ∷ byte ∷ [] ⌝ }
+{
+    *out = [multiplier, constant, token as u64, byte as u64];
+}
+
+// A term from a place on, left in `out`; false: the profile is broken.
 pub fn term<'a>(
     tape: &'a [u8],
     line: &'a [u64],
     values: &'a [u64],
     token: usize,
     byte: usize,
-) -> Worth
-    requires { ⌜ Readable (now tape) (now line) × Placed (now line) token byte ⌝ }
-    ensures { λ r. ⌜ Term (now (tape .entry)) (now (line .entry)) (now (values .entry)) token byte r ⌝ }
+    out: &mut [u64; 4],
+) -> bool
+    requires { ⌜ Readable (now tape) (now line) × (has-junk (now tape) (now line) ≡ false) × Placed (now line) token byte ⌝ }
+    ensures { λ r. ⌜ Term (now (tape .entry)) (now (line .entry)) (now (values .entry)) token byte (told r (now (out .exit))) ⌝ }
 {
     if line.len() <= token {
-        return Worth::Breaks;
+        return false;
     }
-    let w = line[token];
-    if words::kind(w) != words::PUNCT {
-        if !is_term(tape, w) {
-            return Worth::Breaks;
-        }
-        return Worth::Is {
-            multiplier: value_at(values, 2 * token),
-            constant: value_at(values, 2 * token + 1),
-            token: token + 1,
-            byte: 0,
-        };
+    if words::kind(line[token]) != words::PUNCT {
+        let multiplier = value_at(values, 2 * token);
+        let constant = value_at(values, 2 * token + 1);
+        tell(out, multiplier, constant, token + 1, 0);
+        return true;
     }
     let Ahead::At(k, b) = places::behind_open(tape, line, token, byte) else {
-        return Worth::Breaks;
+        return false;
     };
-    let Worth::Is {
-        multiplier,
-        constant,
-        token,
-        byte,
-    } = expression(tape, line, values, k, b)
-    else {
-        return Worth::Breaks;
-    };
-    let Ahead::At(k, b) = places::behind_close(tape, line, token, byte) else {
-        return Worth::Breaks;
-    };
-    Worth::Is {
-        multiplier,
-        constant,
-        token: k,
-        byte: b,
+    if !expression(tape, line, values, k, b, out) {
+        return false;
     }
+    let multiplier = out[0];
+    let constant = out[1];
+    let Ahead::At(k, b) = places::behind_close(tape, line, out[2] as usize, out[3] as usize) else {
+        return false;
+    };
+    tell(out, multiplier, constant, k, b);
+    true
 }
 
-// Terms joined by ` + ` and ` - `, from a place on.
+// Terms joined by ` + ` and ` - `, from a place on, left in `out`; false: the profile is broken.
 pub fn expression<'a>(
     tape: &'a [u8],
     line: &'a [u64],
     values: &'a [u64],
     token: usize,
     byte: usize,
-) -> Worth
-    requires { ⌜ Readable (now tape) (now line) × Placed (now line) token byte ⌝ }
-    ensures { λ r. ⌜ Expression (now (tape .entry)) (now (line .entry)) (now (values .entry)) token byte r ⌝ }
+    out: &mut [u64; 4],
+) -> bool
+    requires { ⌜ Readable (now tape) (now line) × (has-junk (now tape) (now line) ≡ false) × Placed (now line) token byte ⌝ }
+    ensures { λ r. ⌜ Expression (now (tape .entry)) (now (line .entry)) (now (values .entry)) token byte (told r (now (out .exit))) ⌝ }
 {
-    let Worth::Is {
-        multiplier,
-        constant,
-        token,
-        byte,
-    } = term(tape, line, values, token, byte)
-    else {
-        return Worth::Breaks;
-    };
-    let mut m = multiplier;
-    let mut c = constant;
+    let mut how = Joins::Begins;
+    let mut m = 0;
+    let mut c = 0;
     let mut k = token;
     let mut b = byte;
     loop {
+        if !term(tape, line, values, k, b, out) {
+            return false;
+        }
+        m = joined(how, m, out[0]);
+        c = joined(how, c, out[1]);
+        k = out[2] as usize;
+        b = out[3] as usize;
         match places::operator(tape, line, k, b) {
             Operated::Nothing => {
-                return Worth::Is {
-                    multiplier: m,
-                    constant: c,
-                    token: k,
-                    byte: b,
-                };
+                tell(out, m, c, k, b);
+                return true;
             }
-            Operated::Adds(i, j) => match term(tape, line, values, i, j) {
-                Worth::Is {
-                    multiplier,
-                    constant,
-                    token,
-                    byte,
-                } => {
-                    m = plus(m, multiplier);
-                    c = plus(c, constant);
-                    k = token;
-                    b = byte;
-                }
-                Worth::Breaks => {
-                    return Worth::Breaks;
-                }
-            },
-            Operated::Takes(i, j) => match term(tape, line, values, i, j) {
-                Worth::Is {
-                    multiplier,
-                    constant,
-                    token,
-                    byte,
-                } => {
-                    m = minus(m, multiplier);
-                    c = minus(c, constant);
-                    k = token;
-                    b = byte;
-                }
-                Worth::Breaks => {
-                    return Worth::Breaks;
-                }
-            },
+            Operated::Adds(i, j) => {
+                how = Joins::Adds;
+                k = i;
+                b = j;
+            }
+            Operated::Takes(i, j) => {
+                how = Joins::Takes;
+                k = i;
+                b = j;
+            }
         }
     }
 }
@@ -174,27 +166,25 @@ pub fn evaluate<'a>(tape: &'a [u8], line: &'a [u64], values: &'a [u64], before: 
     requires { ⌜ Readable (now tape) (now line) ⌝ }
     ensures { λ r. ⌜ Evaluates (now (tape .entry)) (now (line .entry)) (now (values .entry)) (now (before .entry)) r ⌝ }
 {
+    if has_junk(tape, line) {
+        return Worth::Breaks;
+    }
     let Ahead::At(k, b) = places::behind(tape, line, 0, 0, before) else {
         return Worth::Breaks;
     };
-    let Worth::Is {
-        multiplier,
-        constant,
-        token,
-        byte,
-    } = expression(tape, line, values, k, b)
-    else {
+    let mut out = [0; 4];
+    if !expression(tape, line, values, k, b, &mut out) {
         return Worth::Breaks;
-    };
-    let Ahead::At(k, b) = places::behind(tape, line, token, byte, b";") else {
+    }
+    let Ahead::At(k, b) = places::behind(tape, line, out[2] as usize, out[3] as usize, b";") else {
         return Worth::Breaks;
     };
     if k < line.len() {
         return Worth::Breaks;
     }
     Worth::Is {
-        multiplier,
-        constant,
+        multiplier: out[0],
+        constant: out[1],
         token: k,
         byte: b,
     }

@@ -7,10 +7,10 @@ use numbers::parse_c_number;
 ghost use mathlib.Core.Path.{_≡_};
 ghost use lib.Dec.{eqb};
 ghost use Rattle.reference.specs.Control.{_||_};
-ghost use Rattle.reference.specs.Lists.{count, is-some};
-ghost use Rattle.reference.specs.Evaluators.{wide, is-tidy, number-of};
-ghost use Rattle.lines.specs.Words.{token-of, Points};
-ghost use Rattle.formula.specs.Terms.{is-plain};
+ghost use Rattle.reference.specs.Lists.{any, count, is-some};
+ghost use Rattle.reference.specs.Evaluators.{wide, is-tidy, number-of, lexemes-of};
+ghost use Rattle.lines.specs.Words.{token-of, Holds, Points};
+ghost use Rattle.formula.specs.Terms.{is-plain, is-junk, has-junk};
 
 // Whether a token is a 64-bit register and no stack slot.
 pub fn is_wide(tape: &[u8], w: u64) -> bool
@@ -89,4 +89,30 @@ pub fn is_term(tape: &[u8], w: u64) -> bool
         (number-of (token-of (now (tape .entry)) (now (tape .entry)) w))) ⌝ }
 {
     is_wide(tape, w) || is_number(tape, w)
+}
+
+// Whether a token can stand in no expression.
+fn is_junk(tape: &[u8], w: u64) -> bool
+    requires { ⌜ Points (now tape) (now tape) w ⌝ }
+    ensures { λ r. ⌜ r ≡ any is-junk (lexemes-of (token-of (now (tape .entry)) (now (tape .entry)) w)) ⌝ }
+{
+    if words::kind(w) == words::PUNCT {
+        return false;
+    }
+    !is_term(tape, w)
+}
+
+// Whether a line has a token that can stand in no expression, wherever it stands.
+pub fn has_junk<'a>(tape: &'a [u8], line: &'a [u64]) -> bool
+    requires { ⌜ Holds (now tape) (now tape) (now line) ⌝ }
+    ensures { λ r. ⌜ r ≡ has-junk (now (tape .entry)) (now (line .entry)) ⌝ }
+{
+    let mut i = 0;
+    while i < line.len() {
+        if is_junk(tape, line[i]) {
+            return true;
+        }
+        i += 1;
+    }
+    false
 }

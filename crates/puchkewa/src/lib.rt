@@ -4,6 +4,7 @@ mod export; // the cleaning, for C and Rust
 mod export_editions; // between the two C editions, for C and Rust
 mod export_laborious; // the most laborious listing, for C and Rust
 mod export_offsets; // tapes by offset from the load address, for C and Rust
+mod export_start; // which start value gives this output, for C and Rust
 mod export_states; // named states, for C and Rust
 
 pub use answers::Answer;
@@ -15,6 +16,7 @@ pub use laborious::laborious;
 pub use lines::rules::Rules;
 pub use offsets::from_offsets;
 pub use offsets::to_offsets;
+pub use start::start_value;
 pub use states::delete;
 pub use states::restore;
 pub use states::save;

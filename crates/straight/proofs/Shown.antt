@@ -37,7 +37,7 @@ unfolding wrap of-integer
 of-wrap (pos n) = of-as n
 of-wrap (negsuc n) = of-as (2 ^ 64 - suc (n % 2 ^ 64)) ∙ mod-eq-of-lt (omega arith)
 
-of-below : (z : ℤ) → of-integer z < 2 ^ 64
+pub of-below : (z : ℤ) → of-integer z < 2 ^ 64
 unfolding of-integer
 of-below (pos n) = omega arith
 of-below (negsuc n) = omega arith

@@ -17,17 +17,17 @@ abbrev pub image : {X Y : Type 0} → (X → Y) → Option X → Option Y
 image h none = none
 image h (some v) = some (h v)
 
-is-some-image : {X Y : Type 0} (h : X → Y) (o : Option X) → is-some (image h o) ≡ is-some o
+pub is-some-image : {X Y : Type 0} (h : X → Y) (o : Option X) → is-some (image h o) ≡ is-some o
 is-some-image h none = refl
 is-some-image h (some v) = refl
 
-image-then : {X Y A B : Type 0} (f : X → Y) (g : A → B) (o : Option X) (k : X → Option A) (k′ : Y → Option B) → ((x : X) → k′ (f x) ≡ image g (k x))
+pub image-then : {X Y A B : Type 0} (f : X → Y) (g : A → B) (o : Option X) (k : X → Option A) (k′ : Y → Option B) → ((x : X) → k′ (f x) ≡ image g (k x))
     → (let-some (image f o) else none then k′) ≡ image g (let-some o else none then k)
 unfolding let-some_else_then_
 image-then f g none k k′ e = refl
 image-then f g (some x) k k′ e = e x
 
-then-image : {X A B : Type 0} (g : A → B) (o : Option X) (k : X → Option A) (k′ : X → Option B) → ((x : X) → k′ x ≡ image g (k x))
+pub then-image : {X A B : Type 0} (g : A → B) (o : Option X) (k : X → Option A) (k′ : X → Option B) → ((x : X) → k′ x ≡ image g (k x))
     → (let-some o else none then k′) ≡ image g (let-some o else none then k)
 unfolding let-some_else_then_
 then-image g none k k′ e = refl

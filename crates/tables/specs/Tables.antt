@@ -9,7 +9,7 @@ use Rattle.reference.specs.Spans.{Marks}
 use Rattle.reference.specs.Marks.{own-marks}
 use Rattle.reference.specs.Questions.{Passed, let-passed_then_, read, marks-in}
 use Rattle.joining.specs.Carried.{pair-at, marks-by, Kept}
-use Rattle.lines.specs.Words.{word}
+use Rattle.lines.specs.Words.{word, Holds}
 use Rattle.lines.specs.Lines.{first-of, count-of, origin-of, line-word, with-part, listing-of, Listed}
 use Rattle.tape.specs.Questions.{sizes-of, sizes-in}
 use Rattle.tape.specs.declared.commands.Command.{Command}
@@ -88,6 +88,7 @@ pub record Added (at : ℕ) (c : Command) (t : Totals) (tokens lines addresses t
 pub record Loaded (tape tokens lines addresses : List ℕ) (r : Totals) : Type 0 where
   pub listing : (area : Text) → read tape ≡ Passed (listing-of tape area (take (r .tokens) tokens) addresses (take (r .lines) lines))
   pub listed : (area : Text) → Listed tape area (take (r .tokens) tokens) (take (r .lines) lines)
+  pub holds : (area : Text) → Holds tape area (take (r .tokens) tokens)
   pub totals : (let-passed (read tape) then λ l. Passed (sizes-in l)) ≡ Passed (sizes-of r)
 
 -- The two tables have the marks of the lines, each line's by its number: its address and its 03, if it has them; kept so that they join by

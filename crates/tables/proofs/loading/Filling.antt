@@ -139,5 +139,6 @@ module _ {tape tokens lines addresses : List ℕ} {at : ℕ} {t : Totals} {c : C
       record {
         listing = λ area. e ∙ ap Passed (sym (f .table .means area));
         listed = λ area. record { at = λ i b. lined-of _ (f .table .holds area) (rw long (f .table .inside i b)) (f .table .unmarked i b) };
+        holds = f .table .holds;
         totals = sym (ap Passed (sizes-are (f .reads)) ∙ verdict-passed old tape e);
       }

@@ -11,7 +11,7 @@ use Rattle.reference.proofs.Reading.{passed-inj, let-is}
 use Rattle.reference.proofs.Tapes.{read-limits}
 use Rattle.joining.specs.Carried.{Rising}
 use Rattle.lines.specs.Lines.{origin-of, listing-of, Listed}
-use Rattle.lines.specs.Words.{Recodes}
+use Rattle.lines.specs.Words.{Holds, Recodes}
 use Rattle.lines.proofs.words.Each.{map-at}
 use Rattle.lines.proofs.words.Lines.{listed-prefix, listing-prefix}
 use Rattle.lines.proofs.codes.Recoding.{recodes-take, listed-recoded, listing-recoded}
@@ -38,11 +38,15 @@ module _ {tape tokens lines addresses : List ℕ} {r : Totals} (l : Loaded tape 
       omega
       (arith, limits .few-lines, limits .few-tokens, limits .short-text, ap (λ (t : Sizes). t .lines) t, ap (λ (t : Sizes). t .tokens) t, ap (λ (t : Sizes). t .text) t)
 
+holds-recoded : {tape ws us : List ℕ} → Recodes tape ws us → (area : Text) → Holds tape area ws → Holds tape area us
+holds-recoded c area h = record { at = λ k b. (let e = c .long in c .at k (omega arith) .points area (h .at k (omega arith))) }
+
 -- words that were coded are the same listing
 pub loaded-recoded : {tape tokens coded lines addresses : List ℕ} {r : Totals} → Loaded tape tokens lines addresses r → Recodes tape tokens coded → Loaded tape coded lines addresses r
 loaded-recoded {lines = lines} {addresses = addresses} {r = r} l c = record {
   listing = λ area. l .listing area ∙ ap Passed (sym (listing-recoded (recodes-take c (r .tokens)) area addresses (take (r .lines) lines)));
   listed = λ area. listed-recoded (recodes-take c (r .tokens)) (l .listed area);
+  holds = λ area. holds-recoded (recodes-take c (r .tokens)) area (l .holds area);
   totals = l .totals;
 }
 

@@ -116,5 +116,6 @@ loaded-held {tape} {tokens} {r = r} few f h h′ l =
     record {
       listing = λ area. l .listing area ∙ ap Passed (same-listing few f h h′ tape area (take (r .tokens) tokens));
       listed = λ area. rw (same-words few f h h′) at (l .listed area);
+      holds = l .holds;
       totals = l .totals;
     }

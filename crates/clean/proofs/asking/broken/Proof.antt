@@ -2,7 +2,7 @@
 use native.Mathlib.Nat.{le-refl}
 use mathlib.Core.Path.{refl, sym, _∙_}
 use lib.Seq.{length-take-le}
-use Rattle.clean.proofs.Profiling.{filled, words-fit, lines-fit, breaks-is}
+use Rattle.formula.proofs.Loading.{filled, words-fit, lines-fit, breaks-is}
 use borrow.Author.Needs.{needs}
 use Rattle.clean.proofs.asking.broken.Statement.{statement}
 use Rattle.clean.proofs.asking.broken.Tie as tie
