@@ -2,7 +2,8 @@
  *
  * The call runs on a painted stack of its own; what is no longer the paint was used. SAMPLE is a file with a convention byte and a tape, which is
  * cleaned. `brackets`: formulas that are one bracket inside the other, at the depths where something changes; each is cleaned with the profile, and its
- * start value is asked for. 12,282 closed brackets are the most that pass, 24,569 that are not closed the most that a tape can hold (14). */
+ * start value is asked for. 12,282 closed brackets around rax are the most that pass; of those that are not closed (14) a tape can hold 24,569 behind
+ * `return`, and 24,571 behind `r8 = `, the deepest of all. One more is too much text (11). */
 #include <stdint.h>
 #include <stdio.h>
 #include <string.h>
@@ -40,35 +41,53 @@ static void token(uint8_t kind, size_t n) {
     length += 3 + n;
 }
 
-/* The tape of `return ((..rax..));` with so many brackets; of `return ((..`, where they are not closed. */
-static void brackets(size_t n, int closed) {
-    uint8_t front[] = { 1, 2, 0 };
+static void text(uint8_t kind, const char *s) {
+    size_t n = strlen(s);
+    token(kind, n);
+    memcpy(input + length - n, s, n);
+}
+
+/* A Punct of `before` and n brackets. */
+static void open(const char *before, size_t n) {
+    size_t k = strlen(before);
+    token(0x16, k + n);
+    memcpy(input + length - k - n, before, k);
+    memset(input + length - n, '(', n);
+}
+
+enum form { CLOSED, RETURNED, ASSIGNED };
+static const char *const forms[] = { "return ((..rax..));", "return ((..", "r8 = ((.." };
+
+/* The tape of a formula with so many brackets. The line that assigns has one behind it, since the last one must return. */
+static void brackets(size_t n, enum form form) {
+    static const uint8_t front[] = { 1, 2, 0 };
     memcpy(input, front, length = sizeof front);
-    token(0x13, 6), memcpy(input + length - 6, "return", 6);
-    token(0x16, n + 1), memset(input + length - n, '(', n), input[length - n - 1] = ' ';
-    if (closed) {
-        token(0x11, 3), memcpy(input + length - 3, "rax", 3);
+    text(form == ASSIGNED ? 0x11 : 0x13, form == ASSIGNED ? "r8" : "return");
+    open(form == ASSIGNED ? " = " : " ", n);
+    if (form == CLOSED) {
+        text(0x11, "rax");
         token(0x16, n + 1), memset(input + length - n - 1, ')', n), input[length - 1] = ';';
     }
+    if (form == ASSIGNED) input[length++] = 2, input[length++] = 0;
     input[length++] = 0xFF;
 }
 
-static void nested(size_t n, int closed) {
-    brackets(n, closed);
+static void nested(size_t n, enum form form) {
+    brackets(n, form);
     settings = (struct puchkewa_settings){ .convention = PUCHKEWA_SYSV_64, .profile = true };
     size_t none = used(nothing), cleaning = used(clean) - none;
     uint64_t cleaned = refusal;
     size_t starting = used(start) - none;
-    printf("%zu brackets%s: cleaning answers %llu, %zu bytes of stack; start value answers %llu, %zu bytes\n", n, closed ? "" : ", not closed",
+    printf("%s, %zu brackets: cleaning answers %llu, %zu bytes of stack; start value answers %llu, %zu bytes\n", forms[form], n,
            (unsigned long long)cleaned, cleaning, (unsigned long long)refusal, starting);
 }
 
 int main(int argc, char **argv) {
     if (argc == 2 && strcmp(argv[1], "brackets") == 0) {
         size_t depths[] = { 0, 1, 1000, 12282, 12283 };
-        for (size_t i = 0; i < sizeof depths / sizeof *depths; i++) nested(depths[i], 1);
-        nested(24569, 0);
-        nested(24570, 0);
+        for (size_t i = 0; i < sizeof depths / sizeof *depths; i++) nested(depths[i], CLOSED);
+        nested(24569, RETURNED), nested(24570, RETURNED);
+        nested(24571, ASSIGNED), nested(24572, ASSIGNED);
         return 0;
     }
     FILE *f = argc == 2 ? fopen(argv[1], "rb") : NULL;
