@@ -1,7 +1,7 @@
--- The integer constants of C, ISO/IEC 9899:2018, section 6.4.4.1: the syntax of paragraph 1, rule by rule, with the values of paragraph 4 ("the
--- value of a decimal constant is computed base 10; that of an octal constant, base 8; that of a hexadecimal constant, base 16. The lexically
--- first digit is the most significant"). `Decimal s n` says that the text s is a decimal-constant of value n, and so on. The types of
--- paragraph 5 are not here: the Rust has none. Assumes nothing.
+-- The integer constants of C, ISO/IEC 9899:2018, section 6.4.4.1: the syntax of paragraph 1, rule by rule, with the values of paragraph 4
+-- ("the value of a decimal constant is computed base 10; that of an octal constant, base 8; that of a hexadecimal constant, base 16. The
+-- lexically first digit is the most significant"). `Decimal s n` says that the text s is a decimal-constant of value n, and so on. The
+-- types of paragraph 5 are not here: the Rust has none. Assumes nothing.
 use Prim.Native.Nat.{ℕ, _+_, _*_, _^_}
 use mathlib.Core.Bool.{cond}
 use mathlib.Core.List.{List, [], _∷_, _++_, map}
@@ -40,7 +40,8 @@ pub data Octal : Text → ℕ → Type 0 where
 -- hexadecimal-constant: hexadecimal-prefix hexadecimal-digit, or hexadecimal-constant hexadecimal-digit; here for one prefix
 pub data Hexadecimal (prefix : Text) : Text → ℕ → Type 0 where
   prefix-then : {c d : ℕ} → (c, d) ∈ hexadecimal-digits → Hexadecimal prefix (prefix ++ (c ∷ [])) d
-  then-hexadecimal : {s : Text} {n c d : ℕ} → Hexadecimal prefix s n → (c, d) ∈ hexadecimal-digits → Hexadecimal prefix (s ++ (c ∷ [])) (n * 16 + d)
+  then-hexadecimal : {s : Text} {n c d : ℕ} → Hexadecimal prefix s n → (c, d) ∈ hexadecimal-digits
+      → Hexadecimal prefix (s ++ (c ∷ [])) (n * 16 + d)
 
 abbrev pub hexadecimal-prefixes : List Text
 hexadecimal-prefixes = words "0x 0X"

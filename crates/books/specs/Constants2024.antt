@@ -1,7 +1,7 @@
 -- The integer constants of C, ISO/IEC 9899:2024, section 6.4.4.2: its syntax, rule by rule, with the values of its semantics, beside the
 -- 2018 edition's of Constants.antt, whose digits and prefixes are the same. `Decimal s n` says that the text s is a decimal-constant of
--- value n, and so on. New are the single quote between two digits, which counts for nothing in the value, binary constants, and the suffix of
--- bit-precise integers. Assumes nothing.
+-- value n, and so on. New are the single quote between two digits, which counts for nothing in the value, binary constants, and the
+-- suffix of bit-precise integers. Assumes nothing.
 use Prim.Native.Nat.{ℕ, _+_, _*_, _^_, _<_}
 use mathlib.Core.List.{List, [], _∷_, _++_}
 use lib.IntN.{ℤ, pos, negℤ}

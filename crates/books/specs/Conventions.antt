@@ -12,7 +12,7 @@ system-v = words "rax rcx rdx rsi rdi r8 r9 r10 r11"
 abbrev pub microsoft : List Text
 microsoft = words "rax rcx rdx r8 r9 r10 r11"
 
--- 32-bit code: System V Application Binary Interface, Intel386 Architecture Processor Supplement, chapter 3, "Function Calling Sequence", and
--- Microsoft's __cdecl, __stdcall and __fastcall. They preserve ebx, esi, edi, ebp and esp.
+-- 32-bit code: System V Application Binary Interface, Intel386 Architecture Processor Supplement, chapter 3, "Function Calling Sequence",
+-- and Microsoft's __cdecl, __stdcall and __fastcall. They preserve ebx, esi, edi, ebp and esp.
 abbrev pub thirty-two-bit : List Text
 thirty-two-bit = words "eax ecx edx"

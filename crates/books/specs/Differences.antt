@@ -1,5 +1,5 @@
--- Where the reference, and so the Rust, differs from the books: a smallest example of each, or what holds at every length. docs/DIFFERENCES.md
--- cites the fields by name and says what follows for a reader. Assumes nothing.
+-- Where the reference, and so the Rust, differs from the books: a smallest example of each, or what holds at every length.
+-- docs/DIFFERENCES.md cites the fields by name and says what follows for a reader. Assumes nothing.
 use Prim.Native.Nat.{ℕ, _+_, _-_, _≤_, _^_}
 use Prim.Native.String.{String}
 use mathlib.Core.Path.{_≡_}

@@ -1,5 +1,5 @@
--- How the examples are written: a line as text, its tokens split at registers, numbers and names (document 01's sheet of examples), a space in
--- front for each step of indent. A minus directly before a digit belongs to the number. Assumes nothing.
+-- How the examples are written: a line as text, its tokens split at registers, numbers and names (document 01's sheet of examples), a
+-- space in front for each step of indent. A minus directly before a digit belongs to the number. Assumes nothing.
 use Prim.Native.Nat.{ℕ, suc}
 use Prim.Native.String.{String}
 use mathlib.Core.Path.{_≡_}

@@ -1,4 +1,5 @@
--- Where document 01 is silent or looser than the Rust: what the reference takes, which is what the Rust does, by a smallest example of each.
+-- Where document 01 is silent or looser than the Rust: what the reference takes, which is what the Rust does, by a smallest example of
+-- each.
 -- docs/DIFFERENCES.md cites the fields by name. Assumes nothing.
 use Prim.Native.String.{String}
 use mathlib.Core.Path.{_≡_}
@@ -62,8 +63,10 @@ pub record Readings : Type 0 where
   -- 5: `*(` in the Punct of the ` = ` reads no memory (`read-past-store` of Differences), a Keyword `*(` does
   pub keyword-reads-memory :
       turns
-      (line (R "rax" ∷ P " = " ∷ K "*(" ∷ R "rcx" ∷ P ");" ∷ []) ∷ line (R "var_8" ∷ P " = " ∷ N "5" ∷ P ";" ∷ []) ∷ line (R "rbx" ∷ P " = " ∷ R "rax" ∷ P ";" ∷ []) ∷ [])
-      (line (R "rax" ∷ P " = " ∷ K "*(" ∷ R "rcx" ∷ P ");" ∷ []) ∷ line (R "var_8" ∷ P " = " ∷ N "5" ∷ P ";" ∷ []) ∷ line (R "rbx" ∷ P " = " ∷ R "rax" ∷ P ";" ∷ []) ∷ [])
+      (line (R "rax" ∷ P " = " ∷ K "*(" ∷ R "rcx" ∷ P ");" ∷ []) ∷ line (R "var_8" ∷ P " = " ∷ N "5" ∷ P ";" ∷ [])
+      ∷ line (R "rbx" ∷ P " = " ∷ R "rax" ∷ P ";" ∷ []) ∷ [])
+      (line (R "rax" ∷ P " = " ∷ K "*(" ∷ R "rcx" ∷ P ");" ∷ []) ∷ line (R "var_8" ∷ P " = " ∷ N "5" ∷ P ";" ∷ [])
+      ∷ line (R "rbx" ∷ P " = " ∷ R "rax" ∷ P ";" ∷ []) ∷ [])
   -- 6: a lone number goes to one use, or to several, by different rules
   pub one-use-at-another-indent : gives ("rax = 5;" ∷ " rbx = rax;" ∷ []) (" rbx = 5;" ∷ [])
   pub two-uses-at-another-indent : stays ("rax = 5;" ∷ " rbx = rax + rax;" ∷ [])
@@ -72,8 +75,10 @@ pub record Readings : Type 0 where
   -- 7: addressed names, of any kinds, gathered when the round begins
   pub addressed-of-any-kind :
       turns
-      (line (S "&" ∷ S "var_8" ∷ []) ∷ line (R "var_8" ∷ P " = " ∷ N "5" ∷ P ";" ∷ []) ∷ line (R "rbx" ∷ P " = " ∷ R "var_8" ∷ P ";" ∷ []) ∷ [])
-      (line (S "&" ∷ S "var_8" ∷ []) ∷ line (R "var_8" ∷ P " = " ∷ N "5" ∷ P ";" ∷ []) ∷ line (R "rbx" ∷ P " = " ∷ R "var_8" ∷ P ";" ∷ []) ∷ [])
+      (line (S "&" ∷ S "var_8" ∷ []) ∷ line (R "var_8" ∷ P " = " ∷ N "5" ∷ P ";" ∷ []) ∷ line (R "rbx" ∷ P " = " ∷ R "var_8" ∷ P ";" ∷ [])
+      ∷ [])
+      (line (S "&" ∷ S "var_8" ∷ []) ∷ line (R "var_8" ∷ P " = " ∷ N "5" ∷ P ";" ∷ []) ∷ line (R "rbx" ∷ P " = " ∷ R "var_8" ∷ P ";" ∷ [])
+      ∷ [])
   pub addressed-later : gives ("rax = var_8;" ∷ "g(&rax);" ∷ "var_8 = 5;" ∷ "h(var_8);" ∷ []) ("g(&var_8);" ∷ "h(5);" ∷ [])
   -- 8: a join can make a label, which is no target in its round, and a call
   pub label-made : gives ("rbx = L;" ∷ "rbx:" ∷ []) ("L:" ∷ [])

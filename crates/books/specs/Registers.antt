@@ -30,8 +30,8 @@ row width lowest families [] = []
 row width lowest [] (n ∷ ns) = []
 row width lowest (f ∷ fs) (n ∷ ns) = record { name = n; family = f; width = width; lowest = lowest } ∷ row width lowest fs ns
 
--- Table 3-2 in 64-bit mode. It writes the low bytes of R8 to R15 as R8L to R15L; AMD's manual (volume 1, section 3.1.2) and assemblers write
--- R8B to R15B, so both stand here. AH, BH, CH and DH are bits 8 to 15.
+-- Table 3-2 in 64-bit mode. It writes the low bytes of R8 to R15 as R8L to R15L; AMD's manual (volume 1, section 3.1.2) and assemblers
+-- write R8B to R15B, so both stand here. AH, BH, CH and DH are bits 8 to 15.
 abbrev pub registers : List Register
 registers =
     row 64 0 quadwords quadwords

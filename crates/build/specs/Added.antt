@@ -21,11 +21,13 @@ use Rattle.build.specs.Substitution.{right-of, substituted, Substitutes}
 abbrev pub used-words : List ℕ → Size → List ℕ
 used-words tokens at = take (at .tokens) tokens
 
--- The line that was appended means `line`, whatever the addresses are; it takes at most n bytes and k words behind those that were in use, and
--- points into no other text of the area than its own. What was in use is as it was.
-pub record Added (tape area : Text) (tokens : List ℕ) (at : Size) (line : Reading → Line) (n k : ℕ) (area′ : Text) (tokens′ : List ℕ) (r : Appended) : Type 0 where
+-- The line that was appended means `line`, whatever the addresses are; it takes at most n bytes and k words behind those that were in
+-- use, and points into no other text of the area than its own. What was in use is as it was.
+pub record Added (tape area : Text) (tokens : List ℕ) (at : Size) (line : Reading → Line) (n k : ℕ) (area′ : Text) (tokens′ : List ℕ)
+    (r : Appended) : Type 0 where
   pub lined : Lined tape (used area′ (r .size)) (used-words tokens′ (r .size)) (r .line)
-  pub line-is : (addresses : Reading) → line-read tape (used area′ (r .size)) (used-words tokens′ (r .size)) addresses (r .line) ≡ line addresses
+  pub line-is : (addresses : Reading) → line-read tape (used area′ (r .size)) (used-words tokens′ (r .size)) addresses (r .line)
+      ≡ line addresses
   pub first-is : first-of (r .line) ≡ at .tokens
   pub end-is : at .tokens + count-of (r .line) ≡ r .size .tokens
   pub fresh : Fresh (at .text) (part-of (used-words tokens′ (r .size)) (r .line))
@@ -47,7 +49,8 @@ pub record Keepable (tape old : Text) (words : List ℕ) (l : ℕ) (area : Text)
 -- it means what it meant
 abbrev pub Kept : Text → Text → List ℕ → ℕ → Text → List ℕ → Size → Text → List ℕ → Appended → Type 0
 Kept tape old words l area tokens at =
-    Added tape area tokens at (λ addresses. line-read tape old words addresses l) (text-in (tokens-of tape old (part-of words l))) (count-of l)
+    Added tape area tokens at (λ addresses. line-read tape old words addresses l) (text-in (tokens-of tape old (part-of words l)))
+    (count-of l)
 
 -- ---- a line rewritten
 
@@ -56,7 +59,8 @@ abbrev pub unmerged : Text → Text → List ℕ → ℕ → Substitution → �
 unmerged tape old words source j l = substituted tape old (part-of words source) j (part-of words l)
 
 -- the line l of the old set can be rewritten with the right side of the line `source`
-pub record Rewritable (tape old : Text) (words : List ℕ) (source : ℕ) (j : Substitution) (l : ℕ) (area : Text) (tokens : List ℕ) (at : Size) : Type 0 where
+pub record Rewritable (tape old : Text) (words : List ℕ) (source : ℕ) (j : Substitution) (l : ℕ) (area : Text) (tokens : List ℕ) (at : Size)
+    : Type 0 where
   pub source-lined : Lined tape old words source
   pub substitutes : Substitutes tape old (part-of words source) j
   pub lined : Lined tape old words l
@@ -69,5 +73,6 @@ pub record Rewritable (tape old : Text) (words : List ℕ) (source : ℕ) (j : S
 abbrev pub Rewritten : ℕ → Text → Text → List ℕ → ℕ → Substitution → ℕ → Text → List ℕ → Size → Text → List ℕ → Appended → Type 0
 Rewritten edition tape old words source j l area tokens at =
     Added tape area tokens at
-    (λ addresses. rewrite-use edition (fam-text tape old (j .family)) (right-of tape old (part-of words source) j) (line-read tape old words addresses l))
+    (λ addresses. rewrite-use edition (fam-text tape old (j .family)) (right-of tape old (part-of words source) j)
+    (line-read tape old words addresses l))
     (sum room (unmerged tape old words source j l)) (length (unmerged tape old words source j l))

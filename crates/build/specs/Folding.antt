@@ -57,7 +57,8 @@ left-now tape area line f = tokens-of tape (take (f .text) area) (drop (f .next)
 
 -- what the line is in the end
 abbrev pub folds-to : ℕ → Text → Text → List ℕ → Folding → List Token
-folds-to edition tape area line f = done-now tape area line f ++ fold-behind edition (last-of (done-now tape area line f)) (left-now tape area line f)
+folds-to edition tape area line f = done-now tape area line f ++ fold-behind edition (last-of (done-now tape area line f))
+    (left-now tape area line f)
 
 -- how many bytes the folds of the tokens ts make at most: each makes at most 19, and takes away a sign behind the token at which it is made
 unfoldable pub signs-room : List Token → ℕ
@@ -76,15 +77,16 @@ pub record Foldable (tape area : Text) (line : List ℕ) (f : Folding) : Type 0 
   pub short : text-limit tape area line f < 65536
 
 -- what a step leaves
-pub record Stepped (edition : ℕ) (tape area : Text) (line : List ℕ) (f : Folding) (area′ : Text) (line′ : List ℕ) (f′ : Folding) : Type 0 where
-  pub foldable : Foldable tape area′ line′ f′
-  pub further : f .next < f′ .next
-  pub same : folds-to edition tape area′ line′ f′ ≡ folds-to edition tape area line f
-  pub text-grows : f .text ≤ f′ .text
-  pub text-below : take (f .text) area′ ≡ take (f .text) area
-  pub limit : text-limit tape area′ line′ f′ ≤ text-limit tape area line f
-  pub fresh : (m : ℕ) → m ≤ f .text → Fresh m (take (f .kept) line) → Fresh m (drop (f .next) line)
-      → Fresh m (take (f′ .kept) line′) × Fresh m (drop (f′ .next) line′)
+pub record Stepped (edition : ℕ) (tape area : Text) (line : List ℕ) (f : Folding) (area′ : Text) (line′ : List ℕ) (f′ : Folding) : Type 0
+  where
+    pub foldable : Foldable tape area′ line′ f′
+    pub further : f .next < f′ .next
+    pub same : folds-to edition tape area′ line′ f′ ≡ folds-to edition tape area line f
+    pub text-grows : f .text ≤ f′ .text
+    pub text-below : take (f .text) area′ ≡ take (f .text) area
+    pub limit : text-limit tape area′ line′ f′ ≤ text-limit tape area line f
+    pub fresh : (m : ℕ) → m ≤ f .text → Fresh m (take (f .kept) line) → Fresh m (drop (f .next) line)
+        → Fresh m (take (f′ .kept) line′) × Fresh m (drop (f′ .next) line′)
 
 -- what folding leaves of a line, with `n` bytes of text in use before it
 pub record Folded (edition : ℕ) (tape area : Text) (line : List ℕ) (n : ℕ) (area′ : Text) (line′ : List ℕ) (f : Folding) : Type 0 where
@@ -97,7 +99,8 @@ pub record Folded (edition : ℕ) (tape area : Text) (line : List ℕ) (n : ℕ)
   pub fresh : (m : ℕ) → m ≤ n → Fresh m line → Fresh m (take (f .kept) line′)
 
 -- what folding leaves of the line that began at `from`
-pub record FoldedLast (edition : ℕ) (tape area : Text) (tokens : List ℕ) (from : ℕ) (at : Size) (area′ : Text) (tokens′ : List ℕ) (at′ : Size) : Type 0 where
+pub record FoldedLast (edition : ℕ) (tape area : Text) (tokens : List ℕ) (from : ℕ) (at : Size) (area′ : Text) (tokens′ : List ℕ)
+    (at′ : Size) : Type 0 where
   pub built : Built tape area′ tokens′ from at′
   pub line-is : line-now tape area′ tokens′ from at′ ≡ fold edition (line-now tape area tokens from at)
   pub grows : Grows area tokens from at area′ tokens′ at′

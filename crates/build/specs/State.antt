@@ -63,7 +63,8 @@ last-word tokens at = getD tokens (at .tokens - 1) 0
 -- its last token can be joined to: what may be extended stands at the end of the text
 pub record Extendable (tokens : List ℕ) (from : ℕ) (at : Size) : Type 0 where
   pub in-area : from < at .tokens → joinable (kind-of (last-word tokens at)) ≡ true → place-of (last-word tokens at) ≡ 1
-  pub at-end : from < at .tokens → place-of (last-word tokens at) ≡ 1 → start-of (last-word tokens at) + len-of (last-word tokens at) ≡ at .text
+  pub at-end : from < at .tokens → place-of (last-word tokens at) ≡ 1 → start-of (last-word tokens at) + len-of (last-word tokens at)
+      ≡ at .text
 
 -- no word points into the area below m
 pub record Fresh (m : ℕ) (ws : List ℕ) : Type 0 where
@@ -82,7 +83,8 @@ extends kind tokens from at = ltb from (at .tokens) && eqb (kind-of (last-word t
 -- ---- what is left
 
 -- the words before `keep` are as they were, and after them stands one that means t, of at most n bytes more
-pub record Appends (tape area : Text) (tokens : List ℕ) (at : Size) (keep : ℕ) (t : Token) (n : ℕ) (area′ : Text) (tokens′ : List ℕ) (at′ : Size) : Type 0 where
+pub record Appends (tape area : Text) (tokens : List ℕ) (at : Size) (keep : ℕ) (t : Token) (n : ℕ) (area′ : Text) (tokens′ : List ℕ)
+    (at′ : Size) : Type 0 where
   pub lines-are : at′ .lines ≡ at .lines
   pub words-are : at′ .tokens ≡ keep + 1
   pub words-below : take keep tokens′ ≡ take keep tokens
@@ -104,7 +106,8 @@ pub record Grows (area : Text) (tokens : List ℕ) (from : ℕ) (at : Size) (are
   pub fresh : (m : ℕ) → m ≤ at .text → Fresh m (words-from from tokens at) → Fresh m (words-from from tokens′ at′)
 
 -- what pushing the tokens ts leaves of the line that began at `from`
-pub record Pushed (tape area : Text) (tokens : List ℕ) (from : ℕ) (at : Size) (ts : List Token) (area′ : Text) (tokens′ : List ℕ) (at′ : Size) : Type 0 where
+pub record Pushed (tape area : Text) (tokens : List ℕ) (from : ℕ) (at : Size) (ts : List Token) (area′ : Text) (tokens′ : List ℕ)
+    (at′ : Size) : Type 0 where
   pub built : Built tape area′ tokens′ from at′
   pub extendable : Extendable tokens′ from at′
   pub line-is : line-now tape area′ tokens′ from at′ ≡ pushes (line-now tape area tokens from at) ts
@@ -113,7 +116,8 @@ pub record Pushed (tape area : Text) (tokens : List ℕ) (from : ℕ) (at : Size
   pub words-most : at′ .tokens ≤ at .tokens + length ts
 
 -- what a new line leaves that means `out`, of at most n bytes and k words
-pub record Laid (tape area : Text) (tokens : List ℕ) (at : Size) (out : List Token) (n k : ℕ) (area′ : Text) (tokens′ : List ℕ) (at′ : Size) : Type 0 where
+pub record Laid (tape area : Text) (tokens : List ℕ) (at : Size) (out : List Token) (n k : ℕ) (area′ : Text) (tokens′ : List ℕ) (at′ : Size)
+    : Type 0 where
   pub built : Built tape area′ tokens′ (at .tokens) at′
   pub line-is : line-now tape area′ tokens′ (at .tokens) at′ ≡ out
   pub grows : Grows area tokens (at .tokens) at area′ tokens′ at′

@@ -14,7 +14,8 @@ ghost use Rattle.build.specs.State.{used, last-word, Room, Appends};
 // Appends a token whose text is in the tape.
 fn add_word(w: u64, tokens: &mut [u64], size: Size) -> Size
     requires { ⌜ (place-of w ≡ 0) × (size .tokens < length (now tokens)) ⌝ }
-    ensures { λ r. ⌜ ((tape old area : Text) → Points tape old w → Appends tape area (now (tokens .entry)) size (size .tokens) (token-of tape old w) 0 area (now (tokens .exit)) r) ⌝ }
+    ensures { λ r. ⌜ ((tape old area : Text) → Points tape old w → Appends tape area (now (tokens .entry)) size (size .tokens)
+        (token-of tape old w) 0 area (now (tokens .exit)) r) ⌝ }
 {
     let n = size.tokens;
     tokens[n] = w;
@@ -28,7 +29,9 @@ fn add_word(w: u64, tokens: &mut [u64], size: Size) -> Size
 // Appends a token with a copy of its text.
 pub fn add_text(kind: u64, s: &[u8], area: &mut [u8], tokens: &mut [u64], size: Size) -> Size
     requires { ⌜ (kind < 8) × Room (now area) (now tokens) size (length (now s)) 1 ⌝ }
-    ensures { λ r. ⌜ ((tape : Text) → Appends tape (now (area .entry)) (now (tokens .entry)) size (size .tokens) (token kind (now (s .entry))) (length (now (s .entry))) (now (area .exit)) (now (tokens .exit)) r) × (place-of (getD (now (tokens .exit)) (size .tokens) 0) ≡ 1) ⌝ }
+    ensures { λ r. ⌜ ((tape : Text) → Appends tape (now (area .entry)) (now (tokens .entry)) size (size .tokens)
+        (token kind (now (s .entry))) (length (now (s .entry))) (now (area .exit)) (now (tokens .exit)) r)
+        × (place-of (getD (now (tokens .exit)) (size .tokens) 0) ≡ 1) ⌝ }
 {
     let n = size.tokens;
     let at = size.text;
@@ -43,8 +46,12 @@ pub fn add_text(kind: u64, s: &[u8], area: &mut [u8], tokens: &mut [u64], size: 
 
 // Appends a text to that of the last token, which ends where the text in use ends.
 pub fn extend_last(s: &[u8], area: &mut [u8], tokens: &mut [u64], size: Size) -> Size
-    requires { ⌜ (0 < size .tokens) × Room (now area) (now tokens) size (length (now s)) 0 × (place-of (last-word (now tokens) size) ≡ 1) × (start-of (last-word (now tokens) size) + len-of (last-word (now tokens) size) ≡ size .text) ⌝ }
-    ensures { λ r. ⌜ ((tape : Text) → Appends tape (now (area .entry)) (now (tokens .entry)) size (size .tokens - 1) (token (kind-of (last-word (now (tokens .entry)) size)) (text-of tape (used (now (area .entry)) size) (last-word (now (tokens .entry)) size) ++ now (s .entry))) (length (now (s .entry))) (now (area .exit)) (now (tokens .exit)) r) × (place-of (getD (now (tokens .exit)) (size .tokens - 1) 0) ≡ 1) ⌝ }
+    requires { ⌜ (0 < size .tokens) × Room (now area) (now tokens) size (length (now s)) 0 × (place-of (last-word (now tokens) size) ≡ 1)
+        × (start-of (last-word (now tokens) size) + len-of (last-word (now tokens) size) ≡ size .text) ⌝ }
+    ensures { λ r. ⌜ ((tape : Text) → Appends tape (now (area .entry)) (now (tokens .entry)) size (size .tokens - 1)
+        (token (kind-of (last-word (now (tokens .entry)) size))
+        (text-of tape (used (now (area .entry)) size) (last-word (now (tokens .entry)) size) ++ now (s .entry))) (length (now (s .entry)))
+        (now (area .exit)) (now (tokens .exit)) r) × (place-of (getD (now (tokens .exit)) (size .tokens - 1) 0) ≡ 1) ⌝ }
 {
     let n = size.tokens - 1;
     let at = size.text;
@@ -73,7 +80,8 @@ pub fn keep<'a>(
     size: Size,
 ) -> Size
     requires { ⌜ Points (now tape) (now old) w × Room (now area) (now tokens) size (len-of w) 1 ⌝ }
-    ensures { λ r. ⌜ Appends (now (tape .entry)) (now (area .entry)) (now (tokens .entry)) size (size .tokens) (token-of (now (tape .entry)) (now (old .entry)) w) (len-of w) (now (area .exit)) (now (tokens .exit)) r ⌝ }
+    ensures { λ r. ⌜ Appends (now (tape .entry)) (now (area .entry)) (now (tokens .entry)) size (size .tokens)
+        (token-of (now (tape .entry)) (now (old .entry)) w) (len-of w) (now (area .exit)) (now (tokens .exit)) r ⌝ }
 {
     if words::place(w) == words::IN_TAPE {
         return add_word(w, tokens, size);

@@ -15,7 +15,8 @@ ghost use Rattle.reference.specs.Text.{bytes, _==_};
 ghost use Rattle.reference.specs.Numbers.{delim-before, delim-after};
 ghost use Rattle.lines.specs.Words.{token-of, tokens-of, Points, Holds};
 ghost use Rattle.numbers.specs.Reading.{meaning};
-ghost use Rattle.build.specs.Folding.{operated, sum-of, number-token, last-of, fold-next, Foldable, Stepped, Folded, signs-room, FoldedLast};
+ghost use Rattle.build.specs.Folding.{operated, sum-of, number-token, last-of, fold-next, Foldable, Stepped, Folded, signs-room};
+ghost use Rattle.build.specs.Folding.{FoldedLast};
 ghost use Rattle.build.specs.State.{line-now, Room, Built};
 
 // a + b or a - b, where both were read.
@@ -51,7 +52,8 @@ fn sum_of<'a>(
     edition: u8,
 ) -> Number
     requires { ⌜ Points (now tape) (now area) left × Points (now tape) (now area) operator × Points (now tape) (now area) right ⌝ }
-    ensures { λ r. ⌜ meaning r ≡ sum-of edition (token-of (now (tape .entry)) (now (area .entry)) left) (token-of (now (tape .entry)) (now (area .entry)) operator) (token-of (now (tape .entry)) (now (area .entry)) right) ⌝ }
+    ensures { λ r. ⌜ meaning r ≡ sum-of edition (token-of (now (tape .entry)) (now (area .entry)) left)
+        (token-of (now (tape .entry)) (now (area .entry)) operator) (token-of (now (tape .entry)) (now (area .entry)) right) ⌝ }
 {
     if words::kind(left) != words::NUMBER {
         return Number::Unread;
@@ -101,8 +103,11 @@ fn fold_value<'a>(
     next: usize,
     edition: u8,
 ) -> Number
-    requires { ⌜ (kept ≤ length (now line)) × (next ≤ length (now line)) × Holds (now tape) (now area) (take kept (now line)) × Holds (now tape) (now area) (drop next (now line)) ⌝ }
-    ensures { λ r. ⌜ number-token (meaning r) ≡ fold-next edition (last-of (tokens-of (now (tape .entry)) (now (area .entry)) (take kept (now (line .entry))))) (tokens-of (now (tape .entry)) (now (area .entry)) (drop next (now (line .entry)))) ⌝ }
+    requires { ⌜ (kept ≤ length (now line)) × (next ≤ length (now line)) × Holds (now tape) (now area) (take kept (now line))
+        × Holds (now tape) (now area) (drop next (now line)) ⌝ }
+    ensures { λ r. ⌜ number-token (meaning r)
+        ≡ fold-next edition (last-of (tokens-of (now (tape .entry)) (now (area .entry)) (take kept (now (line .entry)))))
+        (tokens-of (now (tape .entry)) (now (area .entry)) (drop next (now (line .entry)))) ⌝ }
 {
     if line.len() - next < 3 {
         return Number::Unread;
@@ -134,7 +139,8 @@ pub struct Folding {
 // One step: three tokens become a Number, which is looked at again, or a token is kept.
 fn fold_step(tape: &[u8], area: &mut [u8], line: &mut [u64], f: Folding, edition: u8) -> Folding
     requires { ⌜ Foldable (now tape) (now area) (now line) f × (f .next < length (now line)) ⌝ }
-    ensures { λ r. ⌜ Stepped edition (now (tape .entry)) (now (area .entry)) (now (line .entry)) f (now (area .exit)) (now (line .exit)) r ⌝ }
+    ensures { λ r. ⌜ Stepped edition (now (tape .entry)) (now (area .entry)) (now (line .entry)) f (now (area .exit)) (now (line .exit))
+        r ⌝ }
 {
     let kept = f.kept;
     let next = f.next;
@@ -164,7 +170,8 @@ fn fold_step(tape: &[u8], area: &mut [u8], line: &mut [u64], f: Folding, edition
 // Folds a line's words, with `text` bytes in use.
 fn fold(tape: &[u8], area: &mut [u8], line: &mut [u64], text: usize, edition: u8) -> Folding
     requires { ⌜ Foldable (now tape) (now area) (now line) (record { kept = 0; next = 0; text = text }) ⌝ }
-    ensures { λ r. ⌜ Folded edition (now (tape .entry)) (now (area .entry)) (now (line .entry)) text (now (area .exit)) (now (line .exit)) r ⌝ }
+    ensures { λ r. ⌜ Folded edition (now (tape .entry)) (now (area .entry)) (now (line .entry)) text (now (area .exit)) (now (line .exit))
+        r ⌝ }
 {
     let mut f = Folding {
         kept: 0,
@@ -186,8 +193,10 @@ pub fn fold_last(
     size: Size,
     edition: u8,
 ) -> Size
-    requires { ⌜ Built (now tape) (now area) (now tokens) from size × Room (now area) (now tokens) size (signs-room (line-now (now tape) (now area) (now tokens) from size)) 0 ⌝ }
-    ensures { λ r. ⌜ FoldedLast edition (now (tape .entry)) (now (area .entry)) (now (tokens .entry)) from size (now (area .exit)) (now (tokens .exit)) r ⌝ }
+    requires { ⌜ Built (now tape) (now area) (now tokens) from size
+        × Room (now area) (now tokens) size (signs-room (line-now (now tape) (now area) (now tokens) from size)) 0 ⌝ }
+    ensures { λ r. ⌜ FoldedLast edition (now (tape .entry)) (now (area .entry)) (now (tokens .entry)) from size (now (area .exit))
+        (now (tokens .exit)) r ⌝ }
 {
     let to = size.tokens;
     let f = fold(tape, area, &mut tokens[from..to], size.text, edition);

@@ -20,8 +20,12 @@ fn keep_tokens<'a>(
     tokens: &mut [u64],
     size: Size,
 ) -> Size
-    requires { ⌜ Holds (now tape) (now old) (now line) × Room (now area) (now tokens) size (text-in (tokens-of (now tape) (now old) (now line))) (length (now line)) ⌝ }
-    ensures { λ r. ⌜ Laid (now (tape .entry)) (now (area .entry)) (now (tokens .entry)) size (tokens-of (now (tape .entry)) (now (old .entry)) (now (line .entry))) (text-in (tokens-of (now (tape .entry)) (now (old .entry)) (now (line .entry)))) (length (now (line .entry))) (now (area .exit)) (now (tokens .exit)) r ⌝ }
+    requires { ⌜ Holds (now tape) (now old) (now line)
+        × Room (now area) (now tokens) size (text-in (tokens-of (now tape) (now old) (now line))) (length (now line)) ⌝ }
+    ensures { λ r. ⌜ Laid (now (tape .entry)) (now (area .entry)) (now (tokens .entry)) size
+        (tokens-of (now (tape .entry)) (now (old .entry)) (now (line .entry)))
+        (text-in (tokens-of (now (tape .entry)) (now (old .entry)) (now (line .entry)))) (length (now (line .entry))) (now (area .exit))
+        (now (tokens .exit)) r ⌝ }
 {
     let mut s = size;
     let mut k = 0;
@@ -49,7 +53,8 @@ pub fn keep_line<'a>(
     size: Size,
 ) -> Appended
     requires { ⌜ Keepable (now tape) (now old) (now «old_tokens») l (now area) (now tokens) size ⌝ }
-    ensures { λ r. ⌜ Kept (now (tape .entry)) (now (old .entry)) (now («old_tokens» .entry)) l (now (area .entry)) (now (tokens .entry)) size (now (area .exit)) (now (tokens .exit)) r ⌝ }
+    ensures { λ r. ⌜ Kept (now (tape .entry)) (now (old .entry)) (now («old_tokens» .entry)) l (now (area .entry)) (now (tokens .entry))
+        size (now (area .exit)) (now (tokens .exit)) r ⌝ }
 {
     let from = size.tokens;
     let s = keep_tokens(tape, old, words::line_of(old_tokens, l), area, tokens, size);
@@ -74,7 +79,8 @@ pub fn rewrite_line<'a>(
     edition: u8,
 ) -> Appended
     requires { ⌜ Rewritable (now tape) (now old) (now «old_tokens») source j l (now area) (now tokens) size ⌝ }
-    ensures { λ r. ⌜ Rewritten edition (now (tape .entry)) (now (old .entry)) (now («old_tokens» .entry)) source j l (now (area .entry)) (now (tokens .entry)) size (now (area .exit)) (now (tokens .exit)) r ⌝ }
+    ensures { λ r. ⌜ Rewritten edition (now (tape .entry)) (now (old .entry)) (now («old_tokens» .entry)) source j l (now (area .entry))
+        (now (tokens .entry)) size (now (area .exit)) (now (tokens .exit)) r ⌝ }
 {
     let from = size.tokens;
     let merged = merge(

@@ -54,8 +54,11 @@ fn push_text(
     from: usize,
     size: Size,
 ) -> Size
-    requires { ⌜ (joinable kind ≡ true) × (kind < 8) × Extendable (now tokens) from size × Room (now area) (now tokens) size (length (now s)) 1 ⌝ }
-    ensures { λ r. ⌜ ((tape : Text) → Built tape (now (area .entry)) (now (tokens .entry)) from size → Pushed tape (now (area .entry)) (now (tokens .entry)) from size (token kind (now (s .entry)) ∷ []) (now (area .exit)) (now (tokens .exit)) r) ⌝ }
+    requires { ⌜ (joinable kind ≡ true) × (kind < 8) × Extendable (now tokens) from size
+        × Room (now area) (now tokens) size (length (now s)) 1 ⌝ }
+    ensures { λ r. ⌜ ((tape : Text) → Built tape (now (area .entry)) (now (tokens .entry)) from size
+        → Pushed tape (now (area .entry)) (now (tokens .entry)) from size (token kind (now (s .entry)) ∷ []) (now (area .exit))
+        (now (tokens .exit)) r) ⌝ }
 {
     if extends(kind, tokens, from, size) {
         return extend_last(s, area, tokens, size);
@@ -73,8 +76,10 @@ fn push<'a>(
     from: usize,
     size: Size,
 ) -> Size
-    requires { ⌜ Points (now tape) (now old) w × Ready (now tape) (now area) (now tokens) from size (token-of (now tape) (now old) w ∷ []) ⌝ }
-    ensures { λ r. ⌜ Pushed (now (tape .entry)) (now (area .entry)) (now (tokens .entry)) from size (token-of (now (tape .entry)) (now (old .entry)) w ∷ []) (now (area .exit)) (now (tokens .exit)) r ⌝ }
+    requires { ⌜ Points (now tape) (now old) w × Ready (now tape) (now area) (now tokens) from size (token-of (now tape) (now old) w
+        ∷ []) ⌝ }
+    ensures { λ r. ⌜ Pushed (now (tape .entry)) (now (area .entry)) (now (tokens .entry)) from size
+        (token-of (now (tape .entry)) (now (old .entry)) w ∷ []) (now (area .exit)) (now (tokens .exit)) r ⌝ }
 {
     let kind = words::kind(w);
     if is_joined(kind) {
@@ -94,8 +99,11 @@ fn push_expr<'a>(
     from: usize,
     size: Size,
 ) -> Size
-    requires { ⌜ Holds (now tape) (now old) (now source) × Expression (now source) x × Ready (now tape) (now area) (now tokens) from size (tokens-of (now tape) (now old) (expr-words (now source) x)) ⌝ }
-    ensures { λ r. ⌜ Pushed (now (tape .entry)) (now (area .entry)) (now (tokens .entry)) from size (tokens-of (now (tape .entry)) (now (old .entry)) (expr-words (now (source .entry)) x)) (now (area .exit)) (now (tokens .exit)) r ⌝ }
+    requires { ⌜ Holds (now tape) (now old) (now source) × Expression (now source) x × Ready (now tape) (now area) (now tokens) from size
+        (tokens-of (now tape) (now old) (expr-words (now source) x)) ⌝ }
+    ensures { λ r. ⌜ Pushed (now (tape .entry)) (now (area .entry)) (now (tokens .entry)) from size
+        (tokens-of (now (tape .entry)) (now (old .entry)) (expr-words (now (source .entry)) x)) (now (area .exit)) (now (tokens .exit))
+        r ⌝ }
 {
     let n = x.count;
     let mut s = size;
@@ -118,8 +126,11 @@ fn push_bracketed<'a>(
     from: usize,
     size: Size,
 ) -> Size
-    requires { ⌜ Holds (now tape) (now old) (now source) × Expression (now source) x × Ready (now tape) (now area) (now tokens) from size (bracketed (tokens-of (now tape) (now old) (expr-words (now source) x))) ⌝ }
-    ensures { λ r. ⌜ Pushed (now (tape .entry)) (now (area .entry)) (now (tokens .entry)) from size (bracketed (tokens-of (now (tape .entry)) (now (old .entry)) (expr-words (now (source .entry)) x))) (now (area .exit)) (now (tokens .exit)) r ⌝ }
+    requires { ⌜ Holds (now tape) (now old) (now source) × Expression (now source) x × Ready (now tape) (now area) (now tokens) from size
+        (bracketed (tokens-of (now tape) (now old) (expr-words (now source) x))) ⌝ }
+    ensures { λ r. ⌜ Pushed (now (tape .entry)) (now (area .entry)) (now (tokens .entry)) from size
+        (bracketed (tokens-of (now (tape .entry)) (now (old .entry)) (expr-words (now (source .entry)) x))) (now (area .exit))
+        (now (tokens .exit)) r ⌝ }
 {
     let opened = push_text(words::PUNCT, b"(", area, tokens, from, size);
     let filled = push_expr(tape, old, source, x, area, tokens, from, opened);
@@ -145,8 +156,12 @@ fn push_used<'a>(
     from: usize,
     size: Size,
 ) -> Size
-    requires { ⌜ Substitutes (now tape) (now old) (now source) j × Points (now tape) (now old) w × Ready (now tape) (now area) (now tokens) from size (used-as (now tape) (now old) (now source) j (token-of (now tape) (now old) w)) ⌝ }
-    ensures { λ r. ⌜ Pushed (now (tape .entry)) (now (area .entry)) (now (tokens .entry)) from size (used-as (now (tape .entry)) (now (old .entry)) (now (source .entry)) j (token-of (now (tape .entry)) (now (old .entry)) w)) (now (area .exit)) (now (tokens .exit)) r ⌝ }
+    requires { ⌜ Substitutes (now tape) (now old) (now source) j × Points (now tape) (now old) w
+        × Ready (now tape) (now area) (now tokens) from size
+        (used-as (now tape) (now old) (now source) j (token-of (now tape) (now old) w)) ⌝ }
+    ensures { λ r. ⌜ Pushed (now (tape .entry)) (now (area .entry)) (now (tokens .entry)) from size
+        (used-as (now (tape .entry)) (now (old .entry)) (now (source .entry)) j (token-of (now (tape .entry)) (now (old .entry)) w))
+        (now (area .exit)) (now (tokens .exit)) r ⌝ }
 {
     let f = j.family;
     let x = j.expr;
@@ -171,8 +186,14 @@ pub fn merge<'a>(
     tokens: &mut [u64],
     size: Size,
 ) -> Size
-    requires { ⌜ Substitutes (now tape) (now old) (now source) j × Holds (now tape) (now old) (now line) × Room (now area) (now tokens) size (text-in (substituted (now tape) (now old) (now source) j (now line))) (length (substituted (now tape) (now old) (now source) j (now line))) ⌝ }
-    ensures { λ r. ⌜ Laid (now (tape .entry)) (now (area .entry)) (now (tokens .entry)) size (numbers.merge (substituted (now (tape .entry)) (now (old .entry)) (now (source .entry)) j (now (line .entry)))) (text-in (substituted (now (tape .entry)) (now (old .entry)) (now (source .entry)) j (now (line .entry)))) (length (substituted (now (tape .entry)) (now (old .entry)) (now (source .entry)) j (now (line .entry)))) (now (area .exit)) (now (tokens .exit)) r ⌝ }
+    requires { ⌜ Substitutes (now tape) (now old) (now source) j × Holds (now tape) (now old) (now line)
+        × Room (now area) (now tokens) size (text-in (substituted (now tape) (now old) (now source) j (now line)))
+        (length (substituted (now tape) (now old) (now source) j (now line))) ⌝ }
+    ensures { λ r. ⌜ Laid (now (tape .entry)) (now (area .entry)) (now (tokens .entry)) size
+        (numbers.merge (substituted (now (tape .entry)) (now (old .entry)) (now (source .entry)) j (now (line .entry))))
+        (text-in (substituted (now (tape .entry)) (now (old .entry)) (now (source .entry)) j (now (line .entry))))
+        (length (substituted (now (tape .entry)) (now (old .entry)) (now (source .entry)) j (now (line .entry)))) (now (area .exit))
+        (now (tokens .exit)) r ⌝ }
 {
     let from = size.tokens;
     let mut s = size;

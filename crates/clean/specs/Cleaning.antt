@@ -13,8 +13,8 @@ use Rattle.tape.specs.Questions.{Accepted}
 use Rattle.clean.specs.declared.cleaning.Finished.{Finished}
 use Rattle.clean.specs.Replies.{summary-of, summary}
 
--- A listing within the limits stands in the first set, and what is lent has room for its rounds; the table of token words is no larger than a
--- line word can name, and there is room for the marks of 256 lines.
+-- A listing within the limits stands in the first set, and what is lent has room for its rounds; the table of token words is no larger
+-- than a line word can name, and there is room for the marks of 256 lines.
 pub record Loadable (tape area : Text) (tokens lines : List ℕ) (area2 : Text) (lows highs : List ℕ) (at : Size) : Type 0 where
   pub current : Current tape area tokens lines at
   pub limits : Limits (bare-now tape area tokens lines at)

@@ -85,7 +85,11 @@ pub record Cleans (rules : Rules) (tape work-a work-b out : List ℕ) (work-a′
 -- the definition's reply to the tape of a listing
 abbrev pub cleaned : Rules → List ℕ → Listing → R.Reply
 cleaned rules tape input =
-    Passed (record { tape = write (finished rules input) (finished-marks rules input (marks-in tape)); counts = counts rules (run rules input) })
+    Passed (record {
+      tape = write (finished rules input) (finished-marks rules input (marks-in tape));
+      counts = counts rules
+          (run rules input);
+    })
 
 -- M-106: the first line that breaks the profile, where it is asked for
 abbrev pub outside : Rules → Listing → Option ℕ

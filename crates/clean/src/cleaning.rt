@@ -117,8 +117,8 @@ fn written(rules: Rules, tape: &[u8], area: &mut [u8], area2: &mut [u8], out: &m
     }
 }
 
-// How many bytes of each work area are used, and are zero afterwards. It is a function and no constant: a proof then has the number as an equation, and
-// no check counts up to it.
+// How many bytes of each work area are used, and are zero afterwards. It is a function and no constant: a proof then has the number as an
+// equation, and no check counts up to it.
 fn work_bytes() -> usize
     ensures { λ r. ⌜ r ≡ WORK ⌝ }
 {

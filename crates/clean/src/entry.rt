@@ -17,8 +17,8 @@ pub enum Reply {
     Finished(Finished),
 }
 
-// Cleans the listing of a tape under the settings: in at most three rounds or, where it is to settle, in as many as it takes. A refusal changes nothing
-// that was lent; otherwise the output is the new tape, and the first 49,152 bytes of both work areas are zero afterwards.
+// Cleans the listing of a tape under the settings: in at most three rounds or, where it is to settle, in as many as it takes. A refusal
+// changes nothing that was lent; otherwise the output is the new tape, and the first 49,152 bytes of both work areas are zero afterwards.
 pub fn clean(
     rules: Rules,
     tape: &[u8],

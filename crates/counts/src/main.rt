@@ -1,6 +1,6 @@
-// What a cleaning did, in numbers: a convention byte and a tape in, as the filter reads them; out comes one line with the length of the new tape, the
-// attempts of each of the three rounds, the lines removed and the results cut; or the refusal. A second line says the same of the call that is to
-// settle: the rounds that it made and the attempts in all in place of the three.
+// What a cleaning did, in numbers: a convention byte and a tape in, as the filter reads them; out comes one line with the length of the
+// new tape, the attempts of each of the three rounds, the lines removed and the results cut; or the refusal. A second line says the same
+// of the call that is to settle: the rounds that it made and the attempts in all in place of the three.
 use clean::Reply;
 use clean::Tally;
 use libc::STDIN_FILENO;

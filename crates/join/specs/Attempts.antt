@@ -41,9 +41,10 @@ abbrev pub targets-now : Rules → Text → Text → List ℕ → List ℕ → L
 targets-now rules tape area tokens lines labels i at =
     targets rules (bare-now tape area tokens lines at) i (labels-at (bare-now tape area tokens lines at) labels)
 
--- A failed attempt leaves what it found, a successful one the listing that `try-at` answers, whatever is read as an address, and the marks of the line that
--- is gone in those that it was joined into.
-pub record Attempted (rules : Rules) (tape area : Text) (tokens lines lows highs labels : List ℕ) (slots : Text) (slot-words : List ℕ) (i : ℕ) (at : Size)
+-- A failed attempt leaves what it found, a successful one the listing that `try-at` answers, whatever is read as an address, and the
+-- marks of the line that is gone in those that it was joined into.
+pub record Attempted (rules : Rules) (tape area : Text) (tokens lines lows highs labels : List ℕ) (slots : Text) (slot-words : List ℕ)
+    (i : ℕ) (at : Size)
     (area′ : Text) (tokens′ lines′ lows′ highs′ : List ℕ) (r : Tried) : Type 0 where
   pub failed : r .joined ≡ false
       → (r .size ≡ at) × (area′ ≡ area) × (tokens′ ≡ tokens) × (lines′ ≡ lines)

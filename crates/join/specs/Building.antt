@@ -1,4 +1,5 @@
--- The new listing of a plan, line after line: what a line becomes, what the loop that builds it has after k lines, and what is left in the end.
+-- The new listing of a plan, line after line: what a line becomes, what the loop that builds it has after k lines, and what is left in
+-- the end.
 -- Assumes nothing.
 use Prim.Native.Nat.{ℕ, _+_, _≤_, _<_}
 use mathlib.Core.Path.{_≡_}
@@ -39,12 +40,14 @@ new-tokens rules tape old words source j k l =
     unmerged-line (volatile rules) (j .line) (join-in tape old (part-of words source) j) k (bare-in tape old words l) .tokens
 
 -- the line can be appended
-pub record Placeable (rules : Rules) (tape old : Text) (words : List ℕ) (source : ℕ) (j : Join) (k l : ℕ) (area : Text) (tokens : List ℕ) (at : Size) : Type 0 where
+pub record Placeable (rules : Rules) (tape old : Text) (words : List ℕ) (source : ℕ) (j : Join) (k l : ℕ) (area : Text) (tokens : List ℕ)
+    (at : Size) : Type 0 where
   pub source-lined : Lined tape old words source
   pub joins : Joins tape old (part-of words source) (j .line) j
   pub lined : Lined tape old words l
   pub numbers-short : sum over (new-tokens rules tape old words source j k l) ≡ 0
-  pub has-room : Room area tokens at (sum room (new-tokens rules tape old words source j k l)) (length (new-tokens rules tape old words source j k l))
+  pub has-room : Room area tokens at (sum room (new-tokens rules tape old words source j k l))
+      (length (new-tokens rules tape old words source j k l))
   pub first-fits : at .tokens < 65536
   pub few : length (new-tokens rules tape old words source j k l) < 2048
 
@@ -88,7 +91,8 @@ abbrev pub nothing-used : Size
 nothing-used = record { lines = 0; tokens = 0; text = 0 }
 
 -- the first k lines are done: the words from there on are still the old ones
-pub record Upto (rules : Rules) (tape old : Text) (words lines : List ℕ) (j : Join) (k : ℕ) (area : Text) (tokens lines′ : List ℕ) (at : Size) : Type 0 where
+pub record Upto (rules : Rules) (tape old : Text) (words lines : List ℕ) (j : Join) (k : ℕ) (area : Text) (tokens lines′ : List ℕ)
+    (at : Size) : Type 0 where
   pub as-many : length lines′ ≡ length lines
   pub rest-is : drop k lines′ ≡ drop k lines
   pub behind : at .lines ≤ k
@@ -98,13 +102,15 @@ pub record Upto (rules : Rules) (tape old : Text) (words lines : List ℕ) (j : 
   pub within : Within rules tape old words lines j k at
 
 -- the new listing, whatever the addresses are
-pub record Acted (rules : Rules) (tape old : Text) (words lines : List ℕ) (j : Join) (area : Text) (tokens lines′ : List ℕ) (at : Size) : Type 0 where
+pub record Acted (rules : Rules) (tape old : Text) (words lines : List ℕ) (j : Join) (area : Text) (tokens lines′ : List ℕ) (at : Size) :
+    Type 0 where
   pub current : Current tape area tokens lines′ at
   pub means : (addresses : Reading) → listing-now tape area tokens lines′ at addresses
       ≡ act rules (listing-read tape old words addresses lines) (j .line) (plan-of tape old words lines j)
 
 -- it was built from nothing, within the limits
-pub record Rebuilt (rules : Rules) (tape old : Text) (words lines : List ℕ) (j : Join) (area : Text) (tokens lines′ : List ℕ) (at : Size) : Type 0 where
+pub record Rebuilt (rules : Rules) (tape old : Text) (words lines : List ℕ) (j : Join) (area : Text) (tokens lines′ : List ℕ) (at : Size) :
+    Type 0 where
   pub acted : Acted rules tape old words lines j area tokens lines′ at
   pub text-few : at .text ≤ 49152
   pub words-few : at .tokens ≤ 1024

@@ -1,4 +1,5 @@
--- The marks of lines in two tables, by the number of the input line that a line was (M-105): what is left of them when a line is joined into others.
+-- The marks of lines in two tables, by the number of the input line that a line was (M-105): what is left of them when a line is joined
+-- into others.
 -- Assumes nothing.
 use Prim.Native.Nat.{ℕ, suc, min, max}
 use mathlib.Core.Path.{_≡_}
@@ -36,7 +37,8 @@ picked p k (l ∷ ls) = let r = picked p (suc k) ls in if p k l then k ∷ r els
 -- the places of the lines that the plan changes
 abbrev pub changed-by : Rules → Text → Text → List ℕ → List ℕ → Join → List ℕ
 changed-by rules tape old words lines j =
-    picked (changes (volatile rules) (j .line) (plan-of tape old words lines j)) (suc (j .line)) (drop (suc (j .line)) (bare-listing tape old words lines))
+    picked (changes (volatile rules) (j .line) (plan-of tape old words lines j)) (suc (j .line))
+    (drop (suc (j .line)) (bare-listing tape old words lines))
 
 -- the lines at these places have taken in the marks of line i
 pub record Handed (lines : List ℕ) (i : ℕ) (places lows highs lows′ highs′ : List ℕ) : Type 0 where

@@ -1,5 +1,5 @@
--- A listing changed in place: the lines that change are written in the second set, behind the used marks, so that what is read is the first set
--- with what the second has behind the marks. Assumes nothing.
+-- A listing changed in place: the lines that change are written in the second set, behind the used marks, so that what is read is the
+-- first set with what the second has behind the marks. Assumes nothing.
 use Prim.Native.Nat.{ℕ, _+_, _-_, _*_, _≤_, _<_, min}
 use mathlib.Core.Path.{_≡_}
 use mathlib.Core.List.{List, _++_}
@@ -63,7 +63,8 @@ abbrev pub changed-upto : (ℕ → Line → Line) → Listing → ℕ → Listin
 changed-upto f lines k = map-from f 0 (take k lines) ++ drop k lines
 
 -- the first k lines are done
-pub record Patching (rules : Rules) (tape old : Text) (words lines : List ℕ) (j : Join) (from : Size) (k : ℕ) (area : Text) (tokens lines′ : List ℕ) (at : Size) : Type 0 where
+pub record Patching (rules : Rules) (tape old : Text) (words lines : List ℕ) (j : Join) (from : Size) (k : ℕ) (area : Text)
+    (tokens lines′ : List ℕ) (at : Size) : Type 0 where
   pub as-many : length lines′ ≡ length lines
   pub rest-is : drop k lines′ ≡ drop k lines
   pub text-from : from .text ≤ at .text
@@ -75,12 +76,14 @@ pub record Patching (rules : Rules) (tape old : Text) (words lines : List ℕ) (
   pub words-left : 24 * at .tokens + need-from words lines j k ≤ 24 * from .tokens + need-from words lines j (j .line + 1)
 
 -- all lines are done, and the line that was joined is gone
-pub record Patched (rules : Rules) (tape old : Text) (words lines : List ℕ) (j : Join) (from : Size) (area : Text) (tokens lines′ : List ℕ) (at : Size) : Type 0 where
+pub record Patched (rules : Rules) (tape old : Text) (words lines : List ℕ) (j : Join) (from : Size) (area : Text) (tokens lines′ : List ℕ)
+    (at : Size) : Type 0 where
   pub lines-fit : at .lines ≤ length lines′
   pub text-from : from .text ≤ at .text
   pub words-from : from .tokens ≤ at .tokens
   pub text-few : at .text ≤ from .text + need-from words lines j (j .line + 1)
   pub words-few : 24 * at .tokens ≤ 24 * from .tokens + need-from words lines j (j .line + 1)
-  pub listed : Listed tape (mixed old (from .text) (at .text) area) (mixed words (from .tokens) (at .tokens) tokens) (take (at .lines) lines′)
+  pub listed : Listed tape (mixed old (from .text) (at .text) area) (mixed words (from .tokens) (at .tokens) tokens)
+      (take (at .lines) lines′)
   pub means : (addresses : Reading) → mixed-listing tape old words from area tokens (take (at .lines) lines′) at addresses
       ≡ act rules (listing-read tape old words addresses lines) (j .line) (plan-of tape old words lines j)

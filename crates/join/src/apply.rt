@@ -25,8 +25,10 @@ pub fn apply(
     rules: Rules,
     size: Size,
 ) -> Size
-    requires { ⌜ Plannable (rules-of rules) (now tape) (used (now area) size) (used-words (now tokens) size) (used-lines (now lines) size) j × Current (now tape) (now area) (now tokens) (now lines) size × Lent (now area) (now tokens) (now area2) (now tokens2) ⌝ }
-    ensures { λ r. ⌜ Acted (rules-of rules) (now (tape .entry)) (used (now (area .entry)) size) (used-words (now (tokens .entry)) size) (used-lines (now (lines .entry)) size) j (now (area .exit)) (now (tokens .exit)) (now (lines .exit)) r ⌝ }
+    requires { ⌜ Plannable (rules-of rules) (now tape) (used (now area) size) (used-words (now tokens) size) (used-lines (now lines) size) j
+        × Current (now tape) (now area) (now tokens) (now lines) size × Lent (now area) (now tokens) (now area2) (now tokens2) ⌝ }
+    ensures { λ r. ⌜ Acted (rules-of rules) (now (tape .entry)) (used (now (area .entry)) size) (used-words (now (tokens .entry)) size)
+        (used-lines (now (lines .entry)) size) j (now (area .exit)) (now (tokens .exit)) (now (lines .exit)) r ⌝ }
 {
     let n = size.lines;
     let words = size.tokens;

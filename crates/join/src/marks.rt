@@ -1,5 +1,5 @@
-// The marks of lines, kept by the number of the input line that a line was: the lowest and the highest address of the line and of all that was joined into
-// it. A line that is joined into others hands its own on to each; a removal moves none.
+// The marks of lines, kept by the number of the input line that a line was: the lowest and the highest address of the line and of all
+// that was joined into it. A line that is joined into others hands its own on to each; a removal moves none.
 use crate::changing::is_changed;
 use lines::rules::Rules;
 use lines::spans::higher;

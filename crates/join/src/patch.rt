@@ -17,8 +17,8 @@ ghost use Rattle.join.specs.Current.{used-lines, Current};
 ghost use Rattle.join.specs.Building.{Plannable, Acted};
 ghost use Rattle.join.specs.Patching.{need-from, Spare, Patched};
 
-// Writes the lines that change behind the used marks, but in the second set; their words take the places of the old ones, and the word of the line
-// that is joined goes.
+// Writes the lines that change behind the used marks, but in the second set; their words take the places of the old ones, and the word of
+// the line that is joined goes.
 fn patch_lines<'a>(
     tape: &'a [u8],
     area: &'a [u8],
@@ -30,8 +30,11 @@ fn patch_lines<'a>(
     tokens2: &mut [u64],
     size: Size,
 ) -> Size
-    requires { ⌜ Plannable (rules-of rules) (now tape) (now area) (now tokens) (now lines) j × (length (now area) ≡ size .text) × (length (now tokens) ≡ size .tokens) × Spare (now area2) (now tokens2) size (need-from (now tokens) (now lines) j (j .line + 1)) ⌝ }
-    ensures { λ r. ⌜ Patched (rules-of rules) (now (tape .entry)) (now (area .entry)) (now (tokens .entry)) (now (lines .entry)) j size (now (area2 .exit)) (now (tokens2 .exit)) (now (lines .exit)) r ⌝ }
+    requires { ⌜ Plannable (rules-of rules) (now tape) (now area) (now tokens) (now lines) j × (length (now area) ≡ size .text)
+        × (length (now tokens) ≡ size .tokens)
+        × Spare (now area2) (now tokens2) size (need-from (now tokens) (now lines) j (j .line + 1)) ⌝ }
+    ensures { λ r. ⌜ Patched (rules-of rules) (now (tape .entry)) (now (area .entry)) (now (tokens .entry)) (now (lines .entry)) j size
+        (now (area2 .exit)) (now (tokens2 .exit)) (now (lines .exit)) r ⌝ }
 {
     let gone = j.line;
     let last = j.last;
@@ -79,8 +82,12 @@ pub fn patch(
     rules: Rules,
     size: Size,
 ) -> Size
-    requires { ⌜ Plannable (rules-of rules) (now tape) (used (now area) size) (used-words (now tokens) size) (used-lines (now lines) size) j × Current (now tape) (now area) (now tokens) (now lines) size × Spare (now area) (now tokens) size (need-from (used-words (now tokens) size) (used-lines (now lines) size) j (j .line + 1)) × Spare (now area2) (now tokens2) size (need-from (used-words (now tokens) size) (used-lines (now lines) size) j (j .line + 1)) ⌝ }
-    ensures { λ r. ⌜ Acted (rules-of rules) (now (tape .entry)) (used (now (area .entry)) size) (used-words (now (tokens .entry)) size) (used-lines (now (lines .entry)) size) j (now (area .exit)) (now (tokens .exit)) (now (lines .exit)) r ⌝ }
+    requires { ⌜ Plannable (rules-of rules) (now tape) (used (now area) size) (used-words (now tokens) size) (used-lines (now lines) size) j
+        × Current (now tape) (now area) (now tokens) (now lines) size
+        × Spare (now area) (now tokens) size (need-from (used-words (now tokens) size) (used-lines (now lines) size) j (j .line + 1))
+        × Spare (now area2) (now tokens2) size (need-from (used-words (now tokens) size) (used-lines (now lines) size) j (j .line + 1)) ⌝ }
+    ensures { λ r. ⌜ Acted (rules-of rules) (now (tape .entry)) (used (now (area .entry)) size) (used-words (now (tokens .entry)) size)
+        (used-lines (now (lines .entry)) size) j (now (area .exit)) (now (tokens .exit)) (now (lines .exit)) r ⌝ }
 {
     let n = size.lines;
     let words = size.tokens;

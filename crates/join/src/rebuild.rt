@@ -31,7 +31,8 @@ fn build_line<'a>(
     size: Size,
 ) -> Appended
     requires { ⌜ Placeable (rules-of rules) (now tape) (now area) (now tokens) source j k l (now area2) (now tokens2) size ⌝ }
-    ensures { λ r. ⌜ Placed (rules-of rules) (now (tape .entry)) (now (area .entry)) (now (tokens .entry)) source j k l (now (area2 .entry)) (now (tokens2 .entry)) size (now (area2 .exit)) (now (tokens2 .exit)) r ⌝ }
+    ensures { λ r. ⌜ Placed (rules-of rules) (now (tape .entry)) (now (area .entry)) (now (tokens .entry)) source j k l (now (area2 .entry))
+        (now (tokens2 .entry)) size (now (area2 .exit)) (now (tokens2 .exit)) r ⌝ }
 {
     if is_changed(tape, area, tokens, l, k, j, rules) {
         return rewrite(
@@ -76,8 +77,10 @@ fn build<'a>(
     area2: &mut [u8],
     tokens2: &mut [u64],
 ) -> Size
-    requires { ⌜ Plannable (rules-of rules) (now tape) (now area) (now tokens) (now lines) j × (49152 ≤ length (now area2)) × (1024 ≤ length (now tokens2)) ⌝ }
-    ensures { λ r. ⌜ Rebuilt (rules-of rules) (now (tape .entry)) (now (area .entry)) (now (tokens .entry)) (now (lines .entry)) j (now (area2 .exit)) (now (tokens2 .exit)) (now (lines .exit)) r ⌝ }
+    requires { ⌜ Plannable (rules-of rules) (now tape) (now area) (now tokens) (now lines) j × (49152 ≤ length (now area2))
+        × (1024 ≤ length (now tokens2)) ⌝ }
+    ensures { λ r. ⌜ Rebuilt (rules-of rules) (now (tape .entry)) (now (area .entry)) (now (tokens .entry)) (now (lines .entry)) j
+        (now (area2 .exit)) (now (tokens2 .exit)) (now (lines .exit)) r ⌝ }
 {
     let gone = j.line;
     let source = lines[gone];
@@ -123,8 +126,10 @@ pub fn rebuild(
     rules: Rules,
     size: Size,
 ) -> Size
-    requires { ⌜ Plannable (rules-of rules) (now tape) (used (now area) size) (used-words (now tokens) size) (used-lines (now lines) size) j × Current (now tape) (now area) (now tokens) (now lines) size × Lent (now area) (now tokens) (now area2) (now tokens2) ⌝ }
-    ensures { λ r. ⌜ Acted (rules-of rules) (now (tape .entry)) (used (now (area .entry)) size) (used-words (now (tokens .entry)) size) (used-lines (now (lines .entry)) size) j (now (area .exit)) (now (tokens .exit)) (now (lines .exit)) r ⌝ }
+    requires { ⌜ Plannable (rules-of rules) (now tape) (used (now area) size) (used-words (now tokens) size) (used-lines (now lines) size) j
+        × Current (now tape) (now area) (now tokens) (now lines) size × Lent (now area) (now tokens) (now area2) (now tokens2) ⌝ }
+    ensures { λ r. ⌜ Acted (rules-of rules) (now (tape .entry)) (used (now (area .entry)) size) (used-words (now (tokens .entry)) size)
+        (used-lines (now (lines .entry)) size) j (now (area .exit)) (now (tokens .exit)) (now (lines .exit)) r ⌝ }
 {
     let n = size.lines;
     let words = size.tokens;

@@ -62,7 +62,8 @@ fn line_room(tokens: &[u64], l: u64) -> usize
 
 // Whether the need of the lines, with the right side of the line `source` in each, is below n.
 pub fn is_enough<'a>(tokens: &'a [u64], lines: &'a [u64], source: u64, n: usize) -> bool
-    requires { ⌜ (first-of source + count-of source ≤ length (now tokens)) × ((k : ℕ) → k < length (now lines) → first-of (getD (now lines) k 0) + count-of (getD (now lines) k 0) ≤ length (now tokens)) ⌝ }
+    requires { ⌜ (first-of source + count-of source ≤ length (now tokens))
+        × ((k : ℕ) → k < length (now lines) → first-of (getD (now lines) k 0) + count-of (getD (now lines) k 0) ≤ length (now tokens)) ⌝ }
     ensures { λ r. ⌜ r ≡ ltb (needs (now (tokens .entry)) source (now (lines .entry))) n ⌝ }
 {
     let base = line_room(tokens, source);
@@ -81,8 +82,10 @@ pub fn is_enough<'a>(tokens: &'a [u64], lines: &'a [u64], source: u64, n: usize)
 
 // Whether the need of the lines after line `gone` up to line `last`, with the right side of line `gone` in each, is below n.
 pub fn is_short<'a>(tokens: &'a [u64], lines: &'a [u64], gone: usize, last: usize, n: usize) -> bool
-    requires { ⌜ (gone < length (now lines)) × (last < length (now lines)) × ((k : ℕ) → k < length (now lines) → first-of (getD (now lines) k 0) + count-of (getD (now lines) k 0) ≤ length (now tokens)) ⌝ }
-    ensures { λ r. ⌜ r ≡ ltb (needs (now (tokens .entry)) (getD (now (lines .entry)) gone 0) (slice (gone + 1) (last + 1) (now (lines .entry)))) n ⌝ }
+    requires { ⌜ (gone < length (now lines)) × (last < length (now lines))
+        × ((k : ℕ) → k < length (now lines) → first-of (getD (now lines) k 0) + count-of (getD (now lines) k 0) ≤ length (now tokens)) ⌝ }
+    ensures { λ r. ⌜ r ≡ ltb
+        (needs (now (tokens .entry)) (getD (now (lines .entry)) gone 0) (slice (gone + 1) (last + 1) (now (lines .entry)))) n ⌝ }
 {
     let from = gone + 1;
     let end = last + 1;

@@ -1,5 +1,6 @@
--- Marks in tables, as code keeps them (M-105): two numbers for each line of the input, and a list of the lines' numbers in the input ("origins"), which
--- a line word holds. No marks are the two numbers that join nothing: the highest there is as lowest, and 0 as highest. Assumes nothing.
+-- Marks in tables, as code keeps them (M-105): two numbers for each line of the input, and a list of the lines' numbers in the input
+-- ("origins"), which a line word holds. No marks are the two numbers that join nothing: the highest there is as lowest, and 0 as highest.
+-- Assumes nothing.
 use Prim.Native.Nat.{ℕ, suc, _≤_, _<_, min, max}
 use mathlib.Core.Path.{_≡_}
 use mathlib.Core.Logic.{_⊎_}

@@ -1,5 +1,5 @@
--- The limits that every listing of an accepted run keeps, and the room in an area that the texts of a listing's tokens have: 24 bytes a token, and
--- what a text other than a number's has beside them. Assumes nothing.
+-- The limits that every listing of an accepted run keeps, and the room in an area that the texts of a listing's tokens have: 24 bytes a
+-- token, and what a text other than a number's has beside them. Assumes nothing.
 use Prim.Native.Nat.{ℕ, _+_, _-_, _≤_}
 use lib.ListN.{length}
 use Rattle.reference.specs.Control.{if_then_else_}

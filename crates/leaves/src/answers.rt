@@ -22,7 +22,8 @@ ghost use Rattle.reference.specs.Text.{bytes};
 ghost use Rattle.names.specs.Families.{row-name};
 ghost use Rattle.numbers.specs.Reading.{meaning};
 ghost use Rattle.numbers.specs.Writing.{Written};
-ghost use Rattle.leaves.specs.Answers.{register, family-answer, value, combined, convention, overwrites, yes-no, answer-to, answer, expected};
+ghost use Rattle.leaves.specs.Answers.{register, family-answer, value, combined, convention, overwrites, yes-no, answer-to, answer};
+ghost use Rattle.leaves.specs.Answers.{expected};
 
 // The families of the table of `names`, by row.
 const ROWS: [[u8; 3]; 8] = [
@@ -126,7 +127,8 @@ fn put_yes_no(b: bool, out: &mut [u8]) -> usize
 // The answer to a question with the operands a and b.
 fn put_answer_to(question: &[u8], a: &[u8], b: &[u8], out: &mut [u8]) -> usize
     requires { ⌜ length (now a) + 24 ≤ length (now out) ⌝ }
-    ensures { λ r. ⌜ Written (now (out .entry)) 0 (answer-to (now (question .entry)) (now (a .entry)) (now (b .entry))) (now (out .exit)) r ⌝ }
+    ensures { λ r. ⌜ Written (now (out .entry)) 0 (answer-to (now (question .entry)) (now (a .entry)) (now (b .entry))) (now (out .exit))
+        r ⌝ }
 {
     if same(question, b"family") {
         return put_family(a, out);

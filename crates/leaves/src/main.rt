@@ -1,5 +1,6 @@
-// Asks the crates `names` and `numbers` the questions of standard input, one a line, each with the Rust's answer behind it (tests/leaves). Prints each
-// line whose answer is another here, with that answer, and last how many lines there were and how many differ. Input past 65,536 bytes is not read.
+// Asks the crates `names` and `numbers` the questions of standard input, one a line, each with the Rust's answer behind it
+// (tests/leaves). Prints each line whose answer is another here, with that answer, and last how many lines there were and how many
+// differ. Input past 65,536 bytes is not read.
 mod answers; // the questions, and what this repository answers
 mod fields; // parts of a text between separators
 

@@ -32,7 +32,8 @@ pub fn fate_at<'a>(
     rules: Rules,
 ) -> Fate
     requires { ⌜ Lined (now tape) (now area) (now tokens) l × Known (now tape) (now area) f ⌝ }
-    ensures { λ r. ⌜ r ≡ line-fate (fam-text (now (tape .entry)) (now (area .entry)) f) deep (volatile (rules-of rules)) (bare-in (now (tape .entry)) (now (area .entry)) (now (tokens .entry)) l) ⌝ }
+    ensures { λ r. ⌜ r ≡ line-fate (fam-text (now (tape .entry)) (now (area .entry)) f) deep (volatile (rules-of rules))
+        (bare-in (now (tape .entry)) (now (area .entry)) (now (tokens .entry)) l) ⌝ }
 {
     match touches::touch(tape, area, words::line_of(tokens, l), f, rules) {
         Touched::Use(_) => Fate::Live,
@@ -57,7 +58,8 @@ pub fn killed_first<'a>(
     rules: Rules,
 ) -> bool
     requires { ⌜ Listed (now tape) (now area) (now tokens) (now lines) × Known (now tape) (now area) f ⌝ }
-    ensures { λ r. ⌜ r ≡ killed-first (bare-listing (now (tape .entry)) (now (area .entry)) (now (tokens .entry)) (now (lines .entry))) (fam-text (now (tape .entry)) (now (area .entry)) f) deep (volatile (rules-of rules)) ⌝ }
+    ensures { λ r. ⌜ r ≡ killed-first (bare-listing (now (tape .entry)) (now (area .entry)) (now (tokens .entry)) (now (lines .entry)))
+        (fam-text (now (tape .entry)) (now (area .entry)) f) deep (volatile (rules-of rules)) ⌝ }
 {
     let mut k = 0;
     while k < lines.len() {
@@ -88,8 +90,10 @@ pub fn rerun_kills<'a>(
     start: usize,
     rules: Rules,
 ) -> bool
-    requires { ⌜ Listed (now tape) (now area) (now tokens) (now lines) × Known (now tape) (now area) f × (to ≤ start) × (start < length (now lines)) × (indent < 64) ⌝ }
-    ensures { λ r. ⌜ r ≡ rerun-kills (bare-listing (now (tape .entry)) (now (area .entry)) (now (tokens .entry)) (now (lines .entry))) (fam-text (now (tape .entry)) (now (area .entry)) f) start (volatile (rules-of rules)) to indent ⌝ }
+    requires { ⌜ Listed (now tape) (now area) (now tokens) (now lines) × Known (now tape) (now area) f × (to ≤ start)
+        × (start < length (now lines)) × (indent < 64) ⌝ }
+    ensures { λ r. ⌜ r ≡ rerun-kills (bare-listing (now (tape .entry)) (now (area .entry)) (now (tokens .entry)) (now (lines .entry)))
+        (fam-text (now (tape .entry)) (now (area .entry)) f) start (volatile (rules-of rules)) to indent ⌝ }
 {
     let from = to + 1;
     let end = start + 1;

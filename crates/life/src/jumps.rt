@@ -44,7 +44,8 @@ fn do_before<'a>(
     indent: u64,
 ) -> Found
     requires { ⌜ Listed (now tape) (now area) (now tokens) (now lines) ⌝ }
-    ensures { λ r. ⌜ found r ≡ last-position (is-do indent) (bare-listing (now (tape .entry)) (now (area .entry)) (now (tokens .entry)) (now (lines .entry))) ⌝ }
+    ensures { λ r. ⌜ found r
+        ≡ last-position (is-do indent) (bare-listing (now (tape .entry)) (now (area .entry)) (now (tokens .entry)) (now (lines .entry))) ⌝ }
 {
     let mut n = lines.len();
     while 0 < n {
@@ -67,8 +68,11 @@ pub fn while_passes<'a>(
     start: usize,
     rules: Rules,
 ) -> bool
-    requires { ⌜ Listed (now tape) (now area) (now tokens) (now lines) × Known (now tape) (now area) f × (w < length (now lines)) × (start < length (now lines)) ⌝ }
-    ensures { λ r. ⌜ r ≡ while-passes (bare-listing (now (tape .entry)) (now (area .entry)) (now (tokens .entry)) (now (lines .entry))) (fam-text (now (tape .entry)) (now (area .entry)) f) start (volatile (rules-of rules)) w (bare-in (now (tape .entry)) (now (area .entry)) (now (tokens .entry)) (getD (now (lines .entry)) w 0)) ⌝ }
+    requires { ⌜ Listed (now tape) (now area) (now tokens) (now lines) × Known (now tape) (now area) f × (w < length (now lines))
+        × (start < length (now lines)) ⌝ }
+    ensures { λ r. ⌜ r ≡ while-passes (bare-listing (now (tape .entry)) (now (area .entry)) (now (tokens .entry)) (now (lines .entry)))
+        (fam-text (now (tape .entry)) (now (area .entry)) f) start (volatile (rules-of rules)) w
+        (bare-in (now (tape .entry)) (now (area .entry)) (now (tokens .entry)) (getD (now (lines .entry)) w 0)) ⌝ }
 {
     let l = lines[w];
     if touches::uses(tape, area, words::line_of(tokens, l), f, rules) {
@@ -89,7 +93,8 @@ pub fn while_passes<'a>(
 // Whether the label line l has the name that the token word w has for its text.
 fn is_named<'a>(tape: &'a [u8], area: &'a [u8], tokens: &'a [u64], l: u64, w: u64) -> bool
     requires { ⌜ Lined (now tape) (now area) (now tokens) l × Points (now tape) (now area) w × (0 < length (part-of (now tokens) l)) ⌝ }
-    ensures { λ r. ⌜ r ≡ (text-of (now (tape .entry)) (now (area .entry)) (getD (part-of (now (tokens .entry)) l) 0 0) == text-of (now (tape .entry)) (now (area .entry)) w) ⌝ }
+    ensures { λ r. ⌜ r ≡ (text-of (now (tape .entry)) (now (area .entry)) (getD (part-of (now (tokens .entry)) l) 0 0) == text-of
+        (now (tape .entry)) (now (area .entry)) w) ⌝ }
 {
     let line = words::line_of(tokens, l);
     text::same(words::text(tape, area, line[0]), words::text(tape, area, w))
@@ -112,8 +117,11 @@ fn label_named<'a>(
     labels: &'a [u64],
     w: u64,
 ) -> Found
-    requires { ⌜ Listed (now tape) (now area) (now tokens) (now lines) × Labelled (bare-listing (now tape) (now area) (now tokens) (now lines)) (now labels) × Points (now tape) (now area) w ⌝ }
-    ensures { λ r. ⌜ found r ≡ lookup (labels-at (bare-listing (now (tape .entry)) (now (area .entry)) (now (tokens .entry)) (now (lines .entry))) (now (labels .entry))) (text-of (now (tape .entry)) (now (area .entry)) w) ⌝ }
+    requires { ⌜ Listed (now tape) (now area) (now tokens) (now lines)
+        × Labelled (bare-listing (now tape) (now area) (now tokens) (now lines)) (now labels) × Points (now tape) (now area) w ⌝ }
+    ensures { λ r. ⌜ found r
+        ≡ lookup (labels-at (bare-listing (now (tape .entry)) (now (area .entry)) (now (tokens .entry)) (now (lines .entry)))
+        (now (labels .entry))) (text-of (now (tape .entry)) (now (area .entry)) w) ⌝ }
 {
     let mut n = labels.len();
     while 0 < n {
@@ -141,8 +149,12 @@ fn goto_target<'a>(
     labels: &'a [u64],
     l: u64,
 ) -> Jump
-    requires { ⌜ Listed (now tape) (now area) (now tokens) (now lines) × Labelled (bare-listing (now tape) (now area) (now tokens) (now lines)) (now labels) × Lined (now tape) (now area) (now tokens) l ⌝ }
-    ensures { λ r. ⌜ jump r ≡ goto-target (tokens-of (now (tape .entry)) (now (area .entry)) (part-of (now (tokens .entry)) l)) (labels-at (bare-listing (now (tape .entry)) (now (area .entry)) (now (tokens .entry)) (now (lines .entry))) (now (labels .entry))) ⌝ }
+    requires { ⌜ Listed (now tape) (now area) (now tokens) (now lines)
+        × Labelled (bare-listing (now tape) (now area) (now tokens) (now lines)) (now labels)
+        × Lined (now tape) (now area) (now tokens) l ⌝ }
+    ensures { λ r. ⌜ jump r ≡ goto-target (tokens-of (now (tape .entry)) (now (area .entry)) (part-of (now (tokens .entry)) l))
+        (labels-at (bare-listing (now (tape .entry)) (now (area .entry)) (now (tokens .entry)) (now (lines .entry)))
+        (now (labels .entry))) ⌝ }
 {
     let line = words::line_of(tokens, l);
     let Found::At(g) = shapes::goto_at(tape, area, line) else {
@@ -169,8 +181,13 @@ pub fn goto_passes<'a>(
     start: usize,
     rules: Rules,
 ) -> bool
-    requires { ⌜ Listed (now tape) (now area) (now tokens) (now lines) × Labelled (bare-listing (now tape) (now area) (now tokens) (now lines)) (now labels) × Lined (now tape) (now area) (now tokens) l × Known (now tape) (now area) f × (start < length (now lines)) ⌝ }
-    ensures { λ r. ⌜ r ≡ goto-passes (bare-listing (now (tape .entry)) (now (area .entry)) (now (tokens .entry)) (now (lines .entry))) (fam-text (now (tape .entry)) (now (area .entry)) f) start (volatile (rules-of rules)) (labels-at (bare-listing (now (tape .entry)) (now (area .entry)) (now (tokens .entry)) (now (lines .entry))) (now (labels .entry))) (bare-in (now (tape .entry)) (now (area .entry)) (now (tokens .entry)) l) ⌝ }
+    requires { ⌜ Listed (now tape) (now area) (now tokens) (now lines)
+        × Labelled (bare-listing (now tape) (now area) (now tokens) (now lines)) (now labels) × Lined (now tape) (now area) (now tokens) l
+        × Known (now tape) (now area) f × (start < length (now lines)) ⌝ }
+    ensures { λ r. ⌜ r ≡ goto-passes (bare-listing (now (tape .entry)) (now (area .entry)) (now (tokens .entry)) (now (lines .entry)))
+        (fam-text (now (tape .entry)) (now (area .entry)) f) start (volatile (rules-of rules))
+        (labels-at (bare-listing (now (tape .entry)) (now (area .entry)) (now (tokens .entry)) (now (lines .entry))) (now (labels .entry)))
+        (bare-in (now (tape .entry)) (now (area .entry)) (now (tokens .entry)) l) ⌝ }
 {
     match goto_target(tape, area, tokens, lines, labels, l) {
         Jump::Nothing => true,

@@ -82,7 +82,8 @@ fn bits_of<'a>(tape: &'a [u8], area: &'a [u8], line: &'a [u64]) -> u64
 
 // The bits of whether a line calls, from the bits of what it has. Where a token turns, no scan asks.
 fn call_bits<'a>(tape: &'a [u8], area: &'a [u8], line: &'a [u64], has: u64) -> u64
-    requires { ⌜ Holds (now tape) (now area) (now line) × Bits has (λ (i : ℕ). any (seen-by i) (tokens-of (now tape) (now area) (now line))) ⌝ }
+    requires { ⌜ Holds (now tape) (now area) (now line)
+        × Bits has (λ (i : ℕ). any (seen-by i) (tokens-of (now tape) (now area) (now line))) ⌝ }
     ensures { λ r. ⌜ CallBits r (is-some (call-in (tokens-of (now (tape .entry)) (now (area .entry)) (now (line .entry))))) ⌝ }
 {
     if TURNS <= has % 65536 {

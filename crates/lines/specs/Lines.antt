@@ -54,8 +54,8 @@ part-of tokens l = take (count-of l) (drop (first-of l) tokens)
 unfoldable pub address-in : List ℕ → ℕ → Option ℕ
 address-in addresses l = if eqb (addressed-of l) 1 then some (getD addresses (origin-of l) 0) else none
 
--- What is read as a line's address: its own, if it has one; or, of every line, the number of the input line that it was. What is said of every reading
--- says therefore which lines stand where.
+-- What is read as a line's address: its own, if it has one; or, of every line, the number of the input line that it was. What is said of
+-- every reading says therefore which lines stand where.
 pub data Reading : Type 0 where
   own : List ℕ → Reading
   numbered : Reading

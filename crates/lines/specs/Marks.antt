@@ -1,4 +1,5 @@
--- Marks: what a line is known to lack, and whether it calls, which its word keeps so that it is found once. A bit that is not set says nothing.
+-- Marks: what a line is known to lack, and whether it calls, which its word keeps so that it is found once. A bit that is not set says
+-- nothing.
 -- Assumes nothing.
 use Prim.Native.Nat.{ℕ, _/_, _%_, _^_, _<_}
 use mathlib.Core.Path.{_≡_}
@@ -29,8 +30,8 @@ turns t = is Keyword t || has-brace t || (t .text == bytes ":")
 unfoldable pub marked-by : ℕ → Token → Bool
 marked-by i t = if eqb i 15 then turns t else of-number i t
 
--- what a bit of m with the value v tells of the tokens: below 16 that they lack what its mark is about, at 16 that they have no call mark, at 17
--- that they have one
+-- what a bit of m with the value v tells of the tokens: below 16 that they lack what its mark is about, at 16 that they have no call
+-- mark, at 17 that they have one
 pub record Tells (v m : ℕ) (ts : List Token) : Type 0 where
   pub lacks : (i : ℕ) → i < 16 → bit m i ≡ v → any (marked-by i) ts ≡ false
   pub callless : bit m 16 ≡ v → is-some (call-in ts) ≡ false

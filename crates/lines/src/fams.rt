@@ -80,7 +80,8 @@ pub fn same_family<'a>(tape: &'a [u8], area: &'a [u8], f: Fam, g: Fam) -> bool
 // Whether a token is a Register of the family. A code tells a row at once.
 pub fn is_of<'a>(tape: &'a [u8], area: &'a [u8], w: u64, f: Fam) -> bool
     requires { ⌜ Points (now tape) (now area) w × Known (now tape) (now area) f ⌝ }
-    ensures { λ r. ⌜ r ≡ of-family (fam-text (now (tape .entry)) (now (area .entry)) f) (token-of (now (tape .entry)) (now (area .entry)) w) ⌝ }
+    ensures { λ r. ⌜ r ≡ of-family (fam-text (now (tape .entry)) (now (area .entry)) f)
+        (token-of (now (tape .entry)) (now (area .entry)) w) ⌝ }
 {
     if words::kind(w) != words::REGISTER {
         return false;
@@ -100,7 +101,8 @@ pub fn is_of<'a>(tape: &'a [u8], area: &'a [u8], w: u64, f: Fam) -> bool
 // Whether a token is a Register of the family, of less than 32 bits.
 pub fn is_narrow_of<'a>(tape: &'a [u8], area: &'a [u8], w: u64, f: Fam) -> bool
     requires { ⌜ Points (now tape) (now area) w × Known (now tape) (now area) f ⌝ }
-    ensures { λ r. ⌜ r ≡ is-narrow (fam-text (now (tape .entry)) (now (area .entry)) f) (token-of (now (tape .entry)) (now (area .entry)) w) ⌝ }
+    ensures { λ r. ⌜ r ≡ is-narrow (fam-text (now (tape .entry)) (now (area .entry)) f)
+        (token-of (now (tape .entry)) (now (area .entry)) w) ⌝ }
 {
     match fam_of(tape, area, w) {
         Named::As(g, width, _) => {
@@ -138,7 +140,8 @@ pub fn is_volatile<'a>(tape: &'a [u8], area: &'a [u8], f: Fam, rules: Rules) -> 
 // Whether the right side x of a line has a token of the family.
 pub fn mentions<'a>(tape: &'a [u8], area: &'a [u8], line: &'a [u64], x: Expr, f: Fam) -> bool
     requires { ⌜ Holds (now tape) (now area) (now line) × Expression (now line) x × Known (now tape) (now area) f ⌝ }
-    ensures { λ r. ⌜ r ≡ any (of-family (fam-text (now (tape .entry)) (now (area .entry)) f)) (tokens-of (now (tape .entry)) (now (area .entry)) (expr-words (now (line .entry)) x)) ⌝ }
+    ensures { λ r. ⌜ r ≡ any (of-family (fam-text (now (tape .entry)) (now (area .entry)) f))
+        (tokens-of (now (tape .entry)) (now (area .entry)) (expr-words (now (line .entry)) x)) ⌝ }
 {
     let n = x.count;
     let mut k = 0;
@@ -154,7 +157,8 @@ pub fn mentions<'a>(tape: &'a [u8], area: &'a [u8], line: &'a [u64], x: Expr, f:
 // How many tokens of the family a line has.
 pub fn count_of<'a>(tape: &'a [u8], area: &'a [u8], line: &'a [u64], f: Fam) -> usize
     requires { ⌜ Holds (now tape) (now area) (now line) × Known (now tape) (now area) f ⌝ }
-    ensures { λ r. ⌜ r ≡ count (of-family (fam-text (now (tape .entry)) (now (area .entry)) f)) (tokens-of (now (tape .entry)) (now (area .entry)) (now (line .entry))) ⌝ }
+    ensures { λ r. ⌜ r ≡ count (of-family (fam-text (now (tape .entry)) (now (area .entry)) f))
+        (tokens-of (now (tape .entry)) (now (area .entry)) (now (line .entry))) ⌝ }
 {
     let mut n = 0;
     let mut k = 0;
@@ -170,7 +174,8 @@ pub fn count_of<'a>(tape: &'a [u8], area: &'a [u8], line: &'a [u64], f: Fam) -> 
 // The place of the first token of the family.
 pub fn first_of<'a>(tape: &'a [u8], area: &'a [u8], line: &'a [u64], f: Fam) -> Found
     requires { ⌜ Holds (now tape) (now area) (now line) × Known (now tape) (now area) f ⌝ }
-    ensures { λ r. ⌜ found r ≡ position (of-family (fam-text (now (tape .entry)) (now (area .entry)) f)) (tokens-of (now (tape .entry)) (now (area .entry)) (now (line .entry))) ⌝ }
+    ensures { λ r. ⌜ found r ≡ position (of-family (fam-text (now (tape .entry)) (now (area .entry)) f))
+        (tokens-of (now (tape .entry)) (now (area .entry)) (now (line .entry))) ⌝ }
 {
     let mut k = 0;
     while k < line.len() {
@@ -185,7 +190,8 @@ pub fn first_of<'a>(tape: &'a [u8], area: &'a [u8], line: &'a [u64], f: Fam) -> 
 // Whether a token of the family has less than 32 bits.
 pub fn has_narrow<'a>(tape: &'a [u8], area: &'a [u8], line: &'a [u64], f: Fam) -> bool
     requires { ⌜ Holds (now tape) (now area) (now line) × Known (now tape) (now area) f ⌝ }
-    ensures { λ r. ⌜ r ≡ any (is-narrow (fam-text (now (tape .entry)) (now (area .entry)) f)) (tokens-of (now (tape .entry)) (now (area .entry)) (now (line .entry))) ⌝ }
+    ensures { λ r. ⌜ r ≡ any (is-narrow (fam-text (now (tape .entry)) (now (area .entry)) f))
+        (tokens-of (now (tape .entry)) (now (area .entry)) (now (line .entry))) ⌝ }
 {
     let mut k = 0;
     while k < line.len() {
@@ -199,7 +205,9 @@ pub fn has_narrow<'a>(tape: &'a [u8], area: &'a [u8], line: &'a [u64], f: Fam) -
 
 fn writes_at<'a>(tape: &'a [u8], area: &'a [u8], line: &'a [u64], k: usize, f: Fam) -> bool
     requires { ⌜ Holds (now tape) (now area) (now line) × Known (now tape) (now area) f × (k < length (now line)) ⌝ }
-    ensures { λ r. ⌜ r ≡ (of-family (fam-text (now (tape .entry)) (now (area .entry)) f) (token-of (now (tape .entry)) (now (area .entry)) (getD (now (line .entry)) k 0)) && is-written (tokens-of (now (tape .entry)) (now (area .entry)) (now (line .entry))) k) ⌝ }
+    ensures { λ r. ⌜ r ≡ (of-family (fam-text (now (tape .entry)) (now (area .entry)) f)
+        (token-of (now (tape .entry)) (now (area .entry)) (getD (now (line .entry)) k 0)) && is-written
+        (tokens-of (now (tape .entry)) (now (area .entry)) (now (line .entry))) k) ⌝ }
 {
     if !is_of(tape, area, line[k], f) {
         return false;
@@ -210,7 +218,8 @@ fn writes_at<'a>(tape: &'a [u8], area: &'a [u8], line: &'a [u64], k: usize, f: F
 // Whether a token of the family is the target of an assignment.
 pub fn writes<'a>(tape: &'a [u8], area: &'a [u8], line: &'a [u64], f: Fam) -> bool
     requires { ⌜ Holds (now tape) (now area) (now line) × Known (now tape) (now area) f ⌝ }
-    ensures { λ r. ⌜ r ≡ written-from (fam-text (now (tape .entry)) (now (area .entry)) f) (tokens-of (now (tape .entry)) (now (area .entry)) (now (line .entry))) ⌝ }
+    ensures { λ r. ⌜ r ≡ written-from (fam-text (now (tape .entry)) (now (area .entry)) f)
+        (tokens-of (now (tape .entry)) (now (area .entry)) (now (line .entry))) ⌝ }
 {
     let mut k = 0;
     while k < line.len() {

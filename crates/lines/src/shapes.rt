@@ -7,7 +7,8 @@ ghost use Prim.Native.Nat.{_+_, _≤_, _<_};
 ghost use lib.ListN.{length, getD};
 ghost use Rattle.reference.specs.Lists.{position, is-some};
 ghost use Rattle.reference.specs.Text.{Text, bytes};
-ghost use Rattle.reference.specs.Shapes.{label-tokens, is-kw, kw-in, has-brace, braces-in, calls-here, call-in, begins-assignment, is-written, is-operator, is-operator-expr};
+ghost use Rattle.reference.specs.Shapes.{label-tokens, is-kw, kw-in, has-brace, braces-in, calls-here, call-in, begins-assignment};
+ghost use Rattle.reference.specs.Shapes.{is-written, is-operator, is-operator-expr};
 ghost use Rattle.reference.specs.Join.{lone-number};
 ghost use Rattle.lines.specs.Words.{start-of, len-of, token-of, tokens-of, Points, Holds};
 ghost use Rattle.lines.specs.Shapes.{found, symbol-from, is-called, opened, expr-words, Opens, Expression, Sides, Assigns};
@@ -47,7 +48,8 @@ fn is_kw<'a>(tape: &'a [u8], area: &'a [u8], w: u64, kw: &'a [u8]) -> bool
 // The place of the first Keyword with that text.
 fn kw_at<'a>(tape: &'a [u8], area: &'a [u8], line: &'a [u64], kw: &'a [u8]) -> Found
     requires { ⌜ Holds (now tape) (now area) (now line) ⌝ }
-    ensures { λ r. ⌜ found r ≡ position (is-kw (now (kw .entry))) (tokens-of (now (tape .entry)) (now (area .entry)) (now (line .entry))) ⌝ }
+    ensures { λ r. ⌜ found r
+        ≡ position (is-kw (now (kw .entry))) (tokens-of (now (tape .entry)) (now (area .entry)) (now (line .entry))) ⌝ }
 {
     let mut k = 0;
     while k < line.len() {
@@ -147,7 +149,8 @@ pub fn opens_or_closes<'a>(tape: &'a [u8], area: &'a [u8], line: &'a [u64]) -> b
 // Whether a token is a Symbol with a bracket after it.
 fn is_called<'a>(tape: &'a [u8], area: &'a [u8], w: u64, next: u64) -> bool
     requires { ⌜ Points (now tape) (now area) next ⌝ }
-    ensures { λ r. ⌜ r ≡ is-called (token-of (now (tape .entry)) (now (area .entry)) w) (token-of (now (tape .entry)) (now (area .entry)) next) ⌝ }
+    ensures { λ r. ⌜ r ≡ is-called (token-of (now (tape .entry)) (now (area .entry)) w)
+        (token-of (now (tape .entry)) (now (area .entry)) next) ⌝ }
 {
     if words::kind(w) != words::SYMBOL {
         return false;
@@ -161,7 +164,11 @@ fn is_called<'a>(tape: &'a [u8], area: &'a [u8], w: u64, next: u64) -> bool
 // Whether a token, with the one after it, is a call mark.
 fn is_call_mark<'a>(tape: &'a [u8], area: &'a [u8], w: u64, next: u64) -> bool
     requires { ⌜ Points (now tape) (now area) w × Points (now tape) (now area) next ⌝ }
-    ensures { λ r. ⌜ r ≡ calls-here (token-of (now (tape .entry)) (now (area .entry)) w, token-of (now (tape .entry)) (now (area .entry)) next) ⌝ }
+    ensures { λ r. ⌜ r ≡ calls-here (
+      token-of (now (tape .entry)) (now (area .entry)) w,
+      token-of (now (tape .entry)) (now (area .entry))
+          next,
+    ) ⌝ }
 {
     if is_called(tape, area, w, next) {
         return true;
@@ -215,7 +222,8 @@ pub enum Assigned {
 
 // The token at `at` of a line, without the ` = ` of token 1.
 fn right_word(line: &[u64], at: usize) -> u64
-    requires { ⌜ (at < length (now line)) × (3 ≤ len-of (getD (now line) 1 0)) × (start-of (getD (now line) 1 0) + len-of (getD (now line) 1 0) < 65536) ⌝ }
+    requires { ⌜ (at < length (now line)) × (3 ≤ len-of (getD (now line) 1 0))
+        × (start-of (getD (now line) 1 0) + len-of (getD (now line) 1 0) < 65536) ⌝ }
     ensures { λ r. ⌜ r ≡ getD (opened (now (line .entry))) at 0 ⌝ }
 {
     let w = line[at];
@@ -242,7 +250,8 @@ pub fn expr_word(line: &[u64], x: Expr, k: usize) -> u64
 // Whether two tokens are a Register and a Punct that begins with ` = `.
 fn begins_assignment<'a>(tape: &'a [u8], area: &'a [u8], lhs: u64, eq: u64) -> bool
     requires { ⌜ Points (now tape) (now area) eq ⌝ }
-    ensures { λ r. ⌜ r ≡ begins-assignment (token-of (now (tape .entry)) (now (area .entry)) lhs) (token-of (now (tape .entry)) (now (area .entry)) eq) ⌝ }
+    ensures { λ r. ⌜ r ≡ begins-assignment (token-of (now (tape .entry)) (now (area .entry)) lhs)
+        (token-of (now (tape .entry)) (now (area .entry)) eq) ⌝ }
 {
     if words::kind(lhs) != words::REGISTER {
         return false;

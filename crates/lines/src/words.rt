@@ -9,8 +9,10 @@
 ghost use mathlib.Core.Path.{_≡_};
 ghost use Prim.Native.Nat.{_+_, _≤_, _<_};
 ghost use lib.ListN.{length};
-ghost use Rattle.lines.specs.Words.{kind-of, place-of, start-of, len-of, code-of, word, with-code, without-first, first-bytes, without-last, text-of, Points};
-ghost use Rattle.lines.specs.Lines.{first-of, count-of, indent-of, addressed-of, origin-of, marks-of, with-marks, line-word, with-part, part-of};
+ghost use Rattle.lines.specs.Words.{kind-of, place-of, start-of, len-of, code-of, word, with-code, without-first, first-bytes};
+ghost use Rattle.lines.specs.Words.{without-last, text-of, Points};
+ghost use Rattle.lines.specs.Lines.{first-of, count-of, indent-of, addressed-of, origin-of, marks-of, with-marks, line-word};
+ghost use Rattle.lines.specs.Lines.{with-part, part-of};
 
 // The kinds that the cleaner asks about. (Address is 5 and Prefix is 7.)
 pub const PLAIN: u64 = 0;

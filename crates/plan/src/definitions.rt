@@ -33,7 +33,8 @@ pub enum Defined {
 // Whether token k of the right side x of a line reads memory: `*(`, a stack slot, or a Symbol that is not behind `&`.
 fn reads_at<'a>(tape: &'a [u8], area: &'a [u8], line: &'a [u64], x: Expr, k: usize) -> bool
     requires { ⌜ Holds (now tape) (now area) (now line) × Expression (now line) x × (k < x .count) ⌝ }
-    ensures { λ r. ⌜ r ≡ reads-here (before-at (tokens-of (now (tape .entry)) (now (area .entry)) (expr-words (now (line .entry)) x)) k) (token-of (now (tape .entry)) (now (area .entry)) (getD (expr-words (now (line .entry)) x) k 0)) ⌝ }
+    ensures { λ r. ⌜ r ≡ reads-here (before-at (tokens-of (now (tape .entry)) (now (area .entry)) (expr-words (now (line .entry)) x)) k)
+        (token-of (now (tape .entry)) (now (area .entry)) (getD (expr-words (now (line .entry)) x) k 0)) ⌝ }
 {
     let w = shapes::expr_word(line, x, k);
     let kind = words::kind(w);

@@ -69,8 +69,14 @@ fn propagate_constant<'a>(
     d: Definition,
     rules: Rules,
 ) -> Plan
-    requires { ⌜ Listed (now tape) (now area) (now tokens) (now lines) × Labelled (bare-listing (now tape) (now area) (now tokens) (now lines)) (now labels) × Sound (now tape) (now area) (part-of (now tokens) (getD (now lines) i 0)) d × (i < length (now lines)) ⌝ }
-    ensures { λ r. ⌜ Plans (now (tape .entry)) (now (area .entry)) (part-of (now (tokens .entry)) (getD (now (lines .entry)) i 0)) i (plan-constant (bare-listing (now (tape .entry)) (now (area .entry)) (now (tokens .entry)) (now (lines .entry))) i (definition-in (now (tape .entry)) (now (area .entry)) (part-of (now (tokens .entry)) (getD (now (lines .entry)) i 0)) d) (labels-at (bare-listing (now (tape .entry)) (now (area .entry)) (now (tokens .entry)) (now (lines .entry))) (now (labels .entry))) (volatile (rules-of rules))) r ⌝ }
+    requires { ⌜ Listed (now tape) (now area) (now tokens) (now lines)
+        × Labelled (bare-listing (now tape) (now area) (now tokens) (now lines)) (now labels)
+        × Sound (now tape) (now area) (part-of (now tokens) (getD (now lines) i 0)) d × (i < length (now lines)) ⌝ }
+    ensures { λ r. ⌜ Plans (now (tape .entry)) (now (area .entry)) (part-of (now (tokens .entry)) (getD (now (lines .entry)) i 0)) i
+        (plan-constant (bare-listing (now (tape .entry)) (now (area .entry)) (now (tokens .entry)) (now (lines .entry))) i
+        (definition-in (now (tape .entry)) (now (area .entry)) (part-of (now (tokens .entry)) (getD (now (lines .entry)) i 0)) d)
+        (labels-at (bare-listing (now (tape .entry)) (now (area .entry)) (now (tokens .entry)) (now (lines .entry))) (now (labels .entry)))
+        (volatile (rules-of rules))) r ⌝ }
 {
     let f = d.family;
     let r = reaches::reach_of(tape, area, tokens, lines, i, f, rules);
@@ -115,7 +121,8 @@ fn wants_brackets<'a>(
     pos: usize,
     rules: Rules,
 ) -> bool
-    requires { ⌜ Holds (now tape) (now area) (now source) × Expression (now source) x × Holds (now tape) (now area) (now line) × (pos < length (now line)) ⌝ }
+    requires { ⌜ Holds (now tape) (now area) (now source) × Expression (now source) x × Holds (now tape) (now area) (now line)
+        × (pos < length (now line)) ⌝ }
     ensures { λ r. ⌜ r ≡ wants-brackets (rules-of rules)
         (tokens-of (now (tape .entry)) (now (area .entry)) (expr-words (now (source .entry)) x))
         (tokens-of (now (tape .entry)) (now (area .entry)) (now (line .entry))) pos ⌝ }
@@ -137,7 +144,8 @@ fn plan_among<'a>(
     d: Definition,
     rules: Rules,
 ) -> Plan
-    requires { ⌜ Holds (now tape) (now area) (now source) × Holds (now tape) (now area) (now line) × Sound (now tape) (now area) (now source) d ⌝ }
+    requires { ⌜ Holds (now tape) (now area) (now source) × Holds (now tape) (now area) (now line)
+        × Sound (now tape) (now area) (now source) d ⌝ }
     ensures { λ r. ⌜ Plans (now (tape .entry)) (now (area .entry)) (now (source .entry)) i
         (plan-among (rules-of rules)
         (definition-in (now (tape .entry)) (now (area .entry)) (now (source .entry)) d)
@@ -167,7 +175,10 @@ fn plan_use<'a>(
     d: Definition,
     rules: Rules,
 ) -> Plan
-    requires { ⌜ Listed (now tape) (now area) (now tokens) (now lines) × Labelled (bare-listing (now tape) (now area) (now tokens) (now lines)) (now labels) × Sound (now tape) (now area) (part-of (now tokens) (getD (now lines) i 0)) d × (i < length (now lines)) × (j < length (now lines)) ⌝ }
+    requires { ⌜ Listed (now tape) (now area) (now tokens) (now lines)
+        × Labelled (bare-listing (now tape) (now area) (now tokens) (now lines)) (now labels)
+        × Sound (now tape) (now area) (part-of (now tokens) (getD (now lines) i 0)) d × (i < length (now lines))
+        × (j < length (now lines)) ⌝ }
     ensures { λ r. ⌜ Plans (now (tape .entry)) (now (area .entry)) (part-of (now (tokens .entry)) (getD (now (lines .entry)) i 0)) i
         (plan-use (rules-of rules) (bare-listing (now (tape .entry)) (now (area .entry)) (now (tokens .entry)) (now (lines .entry))) i
         (definition-in (now (tape .entry)) (now (area .entry)) (part-of (now (tokens .entry)) (getD (now (lines .entry)) i 0)) d)
@@ -209,7 +220,9 @@ fn plan_single<'a>(
     d: Definition,
     rules: Rules,
 ) -> Plan
-    requires { ⌜ Listed (now tape) (now area) (now tokens) (now lines) × Labelled (bare-listing (now tape) (now area) (now tokens) (now lines)) (now labels) × Sound (now tape) (now area) (part-of (now tokens) (getD (now lines) i 0)) d × (i < length (now lines)) ⌝ }
+    requires { ⌜ Listed (now tape) (now area) (now tokens) (now lines)
+        × Labelled (bare-listing (now tape) (now area) (now tokens) (now lines)) (now labels)
+        × Sound (now tape) (now area) (part-of (now tokens) (getD (now lines) i 0)) d × (i < length (now lines)) ⌝ }
     ensures { λ r. ⌜ Plans (now (tape .entry)) (now (area .entry)) (part-of (now (tokens .entry)) (getD (now (lines .entry)) i 0)) i
         (plan-single (rules-of rules) (bare-listing (now (tape .entry)) (now (area .entry)) (now (tokens .entry)) (now (lines .entry))) i
         (definition-in (now (tape .entry)) (now (area .entry)) (part-of (now (tokens .entry)) (getD (now (lines .entry)) i 0)) d)
@@ -233,7 +246,9 @@ fn plan_for<'a>(
     d: Definition,
     rules: Rules,
 ) -> Plan
-    requires { ⌜ Listed (now tape) (now area) (now tokens) (now lines) × Labelled (bare-listing (now tape) (now area) (now tokens) (now lines)) (now labels) × Sound (now tape) (now area) (part-of (now tokens) (getD (now lines) i 0)) d × (i < length (now lines)) ⌝ }
+    requires { ⌜ Listed (now tape) (now area) (now tokens) (now lines)
+        × Labelled (bare-listing (now tape) (now area) (now tokens) (now lines)) (now labels)
+        × Sound (now tape) (now area) (part-of (now tokens) (getD (now lines) i 0)) d × (i < length (now lines)) ⌝ }
     ensures { λ r. ⌜ Plans (now (tape .entry)) (now (area .entry)) (part-of (now (tokens .entry)) (getD (now (lines .entry)) i 0)) i
         (plan-for (rules-of rules) (bare-listing (now (tape .entry)) (now (area .entry)) (now (tokens .entry)) (now (lines .entry))) i
         (definition-in (now (tape .entry)) (now (area .entry)) (part-of (now (tokens .entry)) (getD (now (lines .entry)) i 0)) d)
@@ -262,8 +277,13 @@ pub fn decide<'a>(
     i: usize,
     rules: Rules,
 ) -> Plan
-    requires { ⌜ Listed (now tape) (now area) (now tokens) (now lines) × Labelled (bare-listing (now tape) (now area) (now tokens) (now lines)) (now labels) × Slotted (now slots) (now «slot_words») × (i < length (now lines)) ⌝ }
-    ensures { λ r. ⌜ Plans (now (tape .entry)) (now (area .entry)) (part-of (now (tokens .entry)) (getD (now (lines .entry)) i 0)) i (decide (rules-of rules) (bare-listing (now (tape .entry)) (now (area .entry)) (now (tokens .entry)) (now (lines .entry))) i (labels-at (bare-listing (now (tape .entry)) (now (area .entry)) (now (tokens .entry)) (now (lines .entry))) (now (labels .entry))) (slot-names (now (slots .entry)) (now («slot_words» .entry)))) r ⌝ }
+    requires { ⌜ Listed (now tape) (now area) (now tokens) (now lines)
+        × Labelled (bare-listing (now tape) (now area) (now tokens) (now lines)) (now labels) × Slotted (now slots) (now «slot_words»)
+        × (i < length (now lines)) ⌝ }
+    ensures { λ r. ⌜ Plans (now (tape .entry)) (now (area .entry)) (part-of (now (tokens .entry)) (getD (now (lines .entry)) i 0)) i
+        (decide (rules-of rules) (bare-listing (now (tape .entry)) (now (area .entry)) (now (tokens .entry)) (now (lines .entry))) i
+        (labels-at (bare-listing (now (tape .entry)) (now (area .entry)) (now (tokens .entry)) (now (lines .entry))) (now (labels .entry)))
+        (slot-names (now (slots .entry)) (now («slot_words» .entry)))) r ⌝ }
 {
     let Defined::As(d) = definition_of(tape, area, words::line_of(tokens, lines[i])) else {
         return Plan::Nothing;

@@ -62,7 +62,8 @@ fn reach_at<'a>(
     rules: Rules,
 ) -> Reach
     requires { ⌜ Lined (now tape) (now area) (now tokens) l × Known (now tape) (now area) f ⌝ }
-    ensures { λ n. ⌜ reach n ≡ reach-at «base_indent» (fam-text (now (tape .entry)) (now (area .entry)) f) (volatile (rules-of rules)) j (bare-in (now (tape .entry)) (now (area .entry)) (now (tokens .entry)) l) (reach r) ⌝ }
+    ensures { λ n. ⌜ reach n ≡ reach-at «base_indent» (fam-text (now (tape .entry)) (now (area .entry)) f) (volatile (rules-of rules)) j
+        (bare-in (now (tape .entry)) (now (area .entry)) (now (tokens .entry)) l) (reach r) ⌝ }
 {
     if ends_run(tape, area, tokens, l, base_indent) {
         return Reach {
@@ -92,7 +93,8 @@ fn reach_at<'a>(
     }
 }
 
-// The same, where n is the number of the family: at the same indent a quiet line changes nothing, and a calling one only what calls overwrite.
+// The same, where n is the number of the family: at the same indent a quiet line changes nothing, and a calling one only what calls
+// overwrite.
 fn reach_by_marks<'a>(
     tape: &'a [u8],
     area: &'a [u8],
@@ -105,8 +107,10 @@ fn reach_by_marks<'a>(
     r: Reach,
     rules: Rules,
 ) -> Reach
-    requires { ⌜ Lined (now tape) (now area) (now tokens) l × Known (now tape) (now area) f × (n ≡ family-number (fam-text (now tape) (now area) f)) ⌝ }
-    ensures { λ q. ⌜ reach q ≡ reach-at «base_indent» (fam-text (now (tape .entry)) (now (area .entry)) f) (volatile (rules-of rules)) j (bare-in (now (tape .entry)) (now (area .entry)) (now (tokens .entry)) l) (reach r) ⌝ }
+    requires { ⌜ Lined (now tape) (now area) (now tokens) l × Known (now tape) (now area) f
+        × (n ≡ family-number (fam-text (now tape) (now area) f)) ⌝ }
+    ensures { λ q. ⌜ reach q ≡ reach-at «base_indent» (fam-text (now (tape .entry)) (now (area .entry)) f) (volatile (rules-of rules)) j
+        (bare-in (now (tape .entry)) (now (area .entry)) (now (tokens .entry)) l) (reach r) ⌝ }
 {
     if words::indent(l) == base_indent {
         if is_quiet(l, n) {
@@ -145,7 +149,8 @@ pub fn reach_of<'a>(
     rules: Rules,
 ) -> Reach
     requires { ⌜ Listed (now tape) (now area) (now tokens) (now lines) × Known (now tape) (now area) f × (i < length (now lines)) ⌝ }
-    ensures { λ r. ⌜ reach r ≡ reach-of (bare-listing (now (tape .entry)) (now (area .entry)) (now (tokens .entry)) (now (lines .entry))) i (fam-text (now (tape .entry)) (now (area .entry)) f) (volatile (rules-of rules)) ⌝ }
+    ensures { λ r. ⌜ reach r ≡ reach-of (bare-listing (now (tape .entry)) (now (area .entry)) (now (tokens .entry)) (now (lines .entry))) i
+        (fam-text (now (tape .entry)) (now (area .entry)) f) (volatile (rules-of rules)) ⌝ }
 {
     let base_indent = words::indent(lines[i]);
     let n = number_of(tape, area, f);
@@ -168,7 +173,8 @@ pub fn reach_of<'a>(
 // Whether the first token of a line is of the family, and a Punct after it is neither ` = ` nor ` ==`.
 fn updates_first<'a>(tape: &'a [u8], area: &'a [u8], line: &'a [u64], f: Fam) -> bool
     requires { ⌜ Holds (now tape) (now area) (now line) × Known (now tape) (now area) f ⌝ }
-    ensures { λ r. ⌜ r ≡ updates-first (fam-text (now (tape .entry)) (now (area .entry)) f) (tokens-of (now (tape .entry)) (now (area .entry)) (now (line .entry))) ⌝ }
+    ensures { λ r. ⌜ r ≡ updates-first (fam-text (now (tape .entry)) (now (area .entry)) f)
+        (tokens-of (now (tape .entry)) (now (area .entry)) (now (line .entry))) ⌝ }
 {
     if line.len() < 2 {
         return false;
@@ -190,7 +196,8 @@ fn updates_first<'a>(tape: &'a [u8], area: &'a [u8], line: &'a [u64], f: Fam) ->
 // Whether a line that uses the family does not only read it, or reads less than 32 bits of it.
 fn bad_use<'a>(tape: &'a [u8], area: &'a [u8], line: &'a [u64], f: Fam) -> bool
     requires { ⌜ Holds (now tape) (now area) (now line) × Known (now tape) (now area) f ⌝ }
-    ensures { λ r. ⌜ r ≡ bad-use (fam-text (now (tape .entry)) (now (area .entry)) f) (tokens-of (now (tape .entry)) (now (area .entry)) (now (line .entry))) ⌝ }
+    ensures { λ r. ⌜ r ≡ bad-use (fam-text (now (tape .entry)) (now (area .entry)) f)
+        (tokens-of (now (tape .entry)) (now (area .entry)) (now (line .entry))) ⌝ }
 {
     if fams::writes(tape, area, line, f) {
         return true;
@@ -211,7 +218,8 @@ fn refuses_constant<'a>(
     rules: Rules,
 ) -> bool
     requires { ⌜ Lined (now tape) (now area) (now tokens) l × Known (now tape) (now area) f ⌝ }
-    ensures { λ r. ⌜ r ≡ refuses (fam-text (now (tape .entry)) (now (area .entry)) f) (volatile (rules-of rules)) (bare-in (now (tape .entry)) (now (area .entry)) (now (tokens .entry)) l) ⌝ }
+    ensures { λ r. ⌜ r ≡ refuses (fam-text (now (tape .entry)) (now (area .entry)) f) (volatile (rules-of rules))
+        (bare-in (now (tape .entry)) (now (area .entry)) (now (tokens .entry)) l) ⌝ }
 {
     let line = words::line_of(tokens, l);
     if !life::uses(tape, area, line, f, rules) {
@@ -231,8 +239,10 @@ pub fn all_take<'a>(
     f: Fam,
     rules: Rules,
 ) -> bool
-    requires { ⌜ Listed (now tape) (now area) (now tokens) (now lines) × Known (now tape) (now area) f × (i < length (now lines)) × (last < length (now lines)) ⌝ }
-    ensures { λ r. ⌜ r ≡ all-take (fam-text (now (tape .entry)) (now (area .entry)) f) (volatile (rules-of rules)) (slice (suc i) (suc last) (bare-listing (now (tape .entry)) (now (area .entry)) (now (tokens .entry)) (now (lines .entry)))) ⌝ }
+    requires { ⌜ Listed (now tape) (now area) (now tokens) (now lines) × Known (now tape) (now area) f × (i < length (now lines))
+        × (last < length (now lines)) ⌝ }
+    ensures { λ r. ⌜ r ≡ all-take (fam-text (now (tape .entry)) (now (area .entry)) f) (volatile (rules-of rules))
+        (slice (suc i) (suc last) (bare-listing (now (tape .entry)) (now (area .entry)) (now (tokens .entry)) (now (lines .entry)))) ⌝ }
 {
     let mut j = i + 1;
     while j <= last {
@@ -256,8 +266,13 @@ pub fn ends_at<'a>(
     f: Fam,
     rules: Rules,
 ) -> bool
-    requires { ⌜ Listed (now tape) (now area) (now tokens) (now lines) × Labelled (bare-listing (now tape) (now area) (now tokens) (now lines)) (now labels) × Known (now tape) (now area) f × (i < length (now lines)) × (last < length (now lines)) ⌝ }
-    ensures { λ r. ⌜ r ≡ ends-at (bare-listing (now (tape .entry)) (now (area .entry)) (now (tokens .entry)) (now (lines .entry))) i (fam-text (now (tape .entry)) (now (area .entry)) f) (labels-at (bare-listing (now (tape .entry)) (now (area .entry)) (now (tokens .entry)) (now (lines .entry))) (now (labels .entry))) (volatile (rules-of rules)) last ⌝ }
+    requires { ⌜ Listed (now tape) (now area) (now tokens) (now lines)
+        × Labelled (bare-listing (now tape) (now area) (now tokens) (now lines)) (now labels) × Known (now tape) (now area) f
+        × (i < length (now lines)) × (last < length (now lines)) ⌝ }
+    ensures { λ r. ⌜ r ≡ ends-at (bare-listing (now (tape .entry)) (now (area .entry)) (now (tokens .entry)) (now (lines .entry))) i
+        (fam-text (now (tape .entry)) (now (area .entry)) f)
+        (labels-at (bare-listing (now (tape .entry)) (now (area .entry)) (now (tokens .entry)) (now (lines .entry))) (now (labels .entry)))
+        (volatile (rules-of rules)) last ⌝ }
 {
     let base_indent = words::indent(lines[i]);
     if dead_after(

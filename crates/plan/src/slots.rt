@@ -30,7 +30,8 @@ pub fn is_addressed<'a>(
     f: Fam,
 ) -> bool
     requires { ⌜ Slotted (now slots) (now «slot_words») × Known (now tape) (now area) f ⌝ }
-    ensures { λ r. ⌜ r ≡ has (slot-names (now (slots .entry)) (now («slot_words» .entry))) (fam-text (now (tape .entry)) (now (area .entry)) f) ⌝ }
+    ensures { λ r. ⌜ r ≡ has (slot-names (now (slots .entry)) (now («slot_words» .entry)))
+        (fam-text (now (tape .entry)) (now (area .entry)) f) ⌝ }
 {
     if f < 8 {
         return false;

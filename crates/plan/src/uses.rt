@@ -37,7 +37,8 @@ pub enum Look {
     Stops,
 }
 
-// Whether a line is in one run with a definition at this indent: no call, no brace, the same indent. `calls` says that the definition calls.
+// Whether a line is in one run with a definition at this indent: no call, no brace, the same indent. `calls` says that the definition
+// calls.
 fn same_run<'a>(
     tape: &'a [u8],
     area: &'a [u8],
@@ -70,8 +71,10 @@ fn leaves_inputs<'a>(
     line: &'a [u64],
     d: Definition,
 ) -> bool
-    requires { ⌜ Holds (now tape) (now area) (now source) × Holds (now tape) (now area) (now line) × Sound (now tape) (now area) (now source) d ⌝ }
-    ensures { λ r. ⌜ r ≡ leaves-inputs (definition-in (now (tape .entry)) (now (area .entry)) (now (source .entry)) d .expr) (tokens-of (now (tape .entry)) (now (area .entry)) (now (line .entry))) ⌝ }
+    requires { ⌜ Holds (now tape) (now area) (now source) × Holds (now tape) (now area) (now line)
+        × Sound (now tape) (now area) (now source) d ⌝ }
+    ensures { λ r. ⌜ r ≡ leaves-inputs (definition-in (now (tape .entry)) (now (area .entry)) (now (source .entry)) d .expr)
+        (tokens-of (now (tape .entry)) (now (area .entry)) (now (line .entry))) ⌝ }
 {
     let Assigned::To(_) = shapes::assignment(tape, area, line) else {
         return false;
@@ -99,8 +102,11 @@ fn look_at<'a>(
     d: Definition,
     rules: Rules,
 ) -> Look
-    requires { ⌜ Lined (now tape) (now area) (now tokens) s × Lined (now tape) (now area) (now tokens) l × Sound (now tape) (now area) (part-of (now tokens) s) d ⌝ }
-    ensures { λ r. ⌜ looked r ≡ look (indent-of s) (definition-in (now (tape .entry)) (now (area .entry)) (part-of (now (tokens .entry)) s) d) (volatile (rules-of rules)) (bare-in (now (tape .entry)) (now (area .entry)) (now (tokens .entry)) l) ⌝ }
+    requires { ⌜ Lined (now tape) (now area) (now tokens) s × Lined (now tape) (now area) (now tokens) l
+        × Sound (now tape) (now area) (part-of (now tokens) s) d ⌝ }
+    ensures { λ r. ⌜ looked r
+        ≡ look (indent-of s) (definition-in (now (tape .entry)) (now (area .entry)) (part-of (now (tokens .entry)) s) d)
+        (volatile (rules-of rules)) (bare-in (now (tape .entry)) (now (area .entry)) (now (tokens .entry)) l) ⌝ }
 {
     let line = words::line_of(tokens, l);
     if shapes::is_label(tape, area, line) {
@@ -127,7 +133,8 @@ fn look_at<'a>(
     }
 }
 
-// The same, where n is the number of the family: a calling line ends the run, and a quiet line of the same run is only asked what it leaves alone.
+// The same, where n is the number of the family: a calling line ends the run, and a quiet line of the same run is only asked what it
+// leaves alone.
 fn look_by_marks<'a>(
     tape: &'a [u8],
     area: &'a [u8],
@@ -138,8 +145,11 @@ fn look_by_marks<'a>(
     n: u64,
     rules: Rules,
 ) -> Look
-    requires { ⌜ Lined (now tape) (now area) (now tokens) s × Lined (now tape) (now area) (now tokens) l × Sound (now tape) (now area) (part-of (now tokens) s) d × (n ≡ family-number (fam-text (now tape) (now area) (d .family))) ⌝ }
-    ensures { λ r. ⌜ looked r ≡ look (indent-of s) (definition-in (now (tape .entry)) (now (area .entry)) (part-of (now (tokens .entry)) s) d) (volatile (rules-of rules)) (bare-in (now (tape .entry)) (now (area .entry)) (now (tokens .entry)) l) ⌝ }
+    requires { ⌜ Lined (now tape) (now area) (now tokens) s × Lined (now tape) (now area) (now tokens) l
+        × Sound (now tape) (now area) (part-of (now tokens) s) d × (n ≡ family-number (fam-text (now tape) (now area) (d .family))) ⌝ }
+    ensures { λ r. ⌜ looked r
+        ≡ look (indent-of s) (definition-in (now (tape .entry)) (now (area .entry)) (part-of (now (tokens .entry)) s) d)
+        (volatile (rules-of rules)) (bare-in (now (tape .entry)) (now (area .entry)) (now (tokens .entry)) l) ⌝ }
 {
     if is_calling(l, n) {
         return Look::Stops;
@@ -175,8 +185,11 @@ pub fn use_of<'a>(
     d: Definition,
     rules: Rules,
 ) -> Found
-    requires { ⌜ Listed (now tape) (now area) (now tokens) (now lines) × Sound (now tape) (now area) (part-of (now tokens) (getD (now lines) i 0)) d × (i < length (now lines)) ⌝ }
-    ensures { λ r. ⌜ found r ≡ use-of (bare-listing (now (tape .entry)) (now (area .entry)) (now (tokens .entry)) (now (lines .entry))) i (definition-in (now (tape .entry)) (now (area .entry)) (part-of (now (tokens .entry)) (getD (now (lines .entry)) i 0)) d) (volatile (rules-of rules)) ⌝ }
+    requires { ⌜ Listed (now tape) (now area) (now tokens) (now lines)
+        × Sound (now tape) (now area) (part-of (now tokens) (getD (now lines) i 0)) d × (i < length (now lines)) ⌝ }
+    ensures { λ r. ⌜ found r ≡ use-of (bare-listing (now (tape .entry)) (now (area .entry)) (now (tokens .entry)) (now (lines .entry))) i
+        (definition-in (now (tape .entry)) (now (area .entry)) (part-of (now (tokens .entry)) (getD (now (lines .entry)) i 0)) d)
+        (volatile (rules-of rules)) ⌝ }
 {
     let s = lines[i];
     let f = d.family;
@@ -313,7 +326,8 @@ pub fn use_fits<'a>(
 // Whether the token at `pos` stands between delimiters.
 pub fn is_standalone<'a>(tape: &'a [u8], area: &'a [u8], line: &'a [u64], pos: usize) -> bool
     requires { ⌜ Holds (now tape) (now area) (now line) × (pos < length (now line)) ⌝ }
-    ensures { λ r. ⌜ r ≡ standalone (text-before (tokens-of (now (tape .entry)) (now (area .entry)) (now (line .entry))) pos) (text-after (tokens-of (now (tape .entry)) (now (area .entry)) (now (line .entry))) pos) ⌝ }
+    ensures { λ r. ⌜ r ≡ standalone (text-before (tokens-of (now (tape .entry)) (now (area .entry)) (now (line .entry))) pos)
+        (text-after (tokens-of (now (tape .entry)) (now (area .entry)) (now (line .entry))) pos) ⌝ }
 {
     if pos == 0 {
         return false;

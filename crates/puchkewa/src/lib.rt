@@ -1,5 +1,5 @@
-// The library: every entry, for Rattle by `use`, for C and Rust in the archive (include/puchkewa.h). An archive holds only the exports of the crate that
-// it is made of, so all of them are declared here; the work is done in the crates below.
+// The library: every entry, for Rattle by `use`, for C and Rust in the archive (include/puchkewa.h). An archive holds only the exports of
+// the crate that it is made of, so all of them are declared here; the work is done in the crates below.
 mod export; // the cleaning, for C and Rust
 mod export_editions; // between the two C editions, for C and Rust
 mod export_laborious; // the most laborious listing, for C and Rust

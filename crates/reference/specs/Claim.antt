@@ -44,8 +44,8 @@ unfoldable pub opens : List Token → Bool
 opens [] = false
 opens (t ∷ ts) = is Punct t && starts-with (t .text) (bytes "(")
 
--- Whether the token is a call mark of the callee; `o` says whether the token after it opens a bracket. "Call mark: S before P beginning `(`, or K
--- beginning `((void`"; for demand 3 the K counts "followed or not".
+-- Whether the token is a call mark of the callee; `o` says whether the token after it opens a bracket. "Call mark: S before P beginning
+-- `(`, or K beginning `((void`"; for demand 3 the K counts "followed or not".
 unfoldable pub marks : Callee → Token → Bool → Bool
 marks none t o = is Keyword t && starts-with (t .text) (bytes "((void")
 marks (some name) t o = is Symbol t && (t .text == name) && o

@@ -1,5 +1,5 @@
--- Rust's `!`, `&&`, `||`, `if` and `let .. else`, in which the definitions are written. Each is shut (`unfoldable`, no `abbrev`): a proof takes
--- a goal over one apart by a law that keeps the equation (proofs/Cases.antt) and finds its arguments there. Assumes nothing.
+-- Rust's `!`, `&&`, `||`, `if` and `let .. else`, in which the definitions are written. Each is shut (`unfoldable`, no `abbrev`): a proof
+-- takes a goal over one apart by a law that keeps the equation (proofs/Cases.antt) and finds its arguments there. Assumes nothing.
 use mathlib.Core.Bool.{Bool, true, false}
 use mathlib.Core.Option.{Option, none, some}
 

@@ -26,21 +26,22 @@ use Rattle.reference.specs.Rules.{Rules}
 use Rattle.reference.specs.Shapes.{Assignment, assignment}
 use Rattle.reference.specs.Life.{Labels}
 use Rattle.reference.specs.Join.{try-at, targets}
-use Rattle.reference.specs.Run.{labels-from, addressed-in, shift, Attempt, failure, success, after-attempts, removals, changed, limit, after-rounds, dead-result, Run, run, steps, listings, finished}
+use Rattle.reference.specs.Run.{labels-from, addressed-in, shift, Attempt, failure, success, after-attempts, removals, changed, limit}
+use Rattle.reference.specs.Run.{after-rounds, dead-result, Run, run, steps, listings, finished}
 use Rattle.reference.specs.Claim.{size, Callee, calls, token-count, text, places, label-lines}
 
--- "An accepted listing is one whose tape no question below refuses": those questions bound lines, indents and bytes too. The claim needs these three
--- limits alone, and so it holds of more listings.
+-- "An accepted listing is one whose tape no question below refuses": those questions bound lines, indents and bytes too. The claim needs
+-- these three limits alone, and so it holds of more listings.
 pub record Accepted (lines : Listing) : Type 0 where
   pub tokens-fit : token-count lines ≤ 1024
   pub text-fits : text lines ≤ 24576
   pub numbers-fit : any (λ l. any (λ t. is Number t && ltb 24 (size t)) (l .tokens)) lines ≡ false
 
--- ---- (1) the run: "the input, then the one after each attempt of every round in turn, failed attempts included, then the one after each cut". The
--- definitions make it (`run`, `listings`); here it is said of what they make, with no bound on the attempts.
+-- ---- (1) the run: "the input, then the one after each attempt of every round in turn, failed attempts included, then the one after each
+-- cut". The definitions make it (`run`, `listings`); here it is said of what they make, with no bound on the attempts.
 
--- The attempts of a round that stands at line i, up to its end. "An attempt is one call of `try_at` at line i. Success removes line i and steps back
--- one, not below 0; failure steps on"; "label places shift with removals".
+-- The attempts of a round that stands at line i, up to its end. "An attempt is one call of `try_at` at line i. Success removes line i and
+-- steps back one, not below 0; failure steps on"; "label places shift with removals".
 pub data Attempts (rules : Rules) (addressed : List Text) : ℕ → Listing → Labels → List Attempt → Type 0 where
   over : {i : ℕ} {lines : Listing} {labels : Labels} → length lines ≤ i → Attempts rules addressed i lines labels []
   failed : {i : ℕ} {lines : Listing} {labels : Labels} {more : List Attempt} → i < length lines
@@ -56,8 +57,8 @@ pub data Attempts (rules : Rules) (addressed : List Text) : ℕ → Listing → 
 abbrev pub Round : Rules → Listing → List Attempt → Type 0
 Round rules lines round = Attempts rules (addressed-in lines) 0 lines (labels-from 0 lines) round
 
--- The rounds from a listing on, each with what the one before it left: "At most three rounds, ending after one that changed nothing"; three, or
--- whatever the limit is.
+-- The rounds from a listing on, each with what the one before it left: "At most three rounds, ending after one that changed nothing";
+-- three, or whatever the limit is.
 pub data Rounds (rules : Rules) : ℕ → Listing → List (List Attempt) → Type 0 where
   enough : {lines : Listing} → Rounds rules 0 lines []
   ended : {limit : ℕ} {lines : Listing} {round : List Attempt} → Round rules lines round → changed round ≡ false
@@ -75,7 +76,8 @@ abbrev pub Settled : List (List Attempt) → Type 0
 Settled [] = ⊥
 Settled (round ∷ more) = LastIdle round more
 
--- the listings after each cut, from line i on. "A cut is demand 3's dropped result, one line changed at a time": `rax = ` or `eax = ` goes, two tokens
+-- the listings after each cut, from line i on. "A cut is demand 3's dropped result, one line changed at a time": `rax = ` or `eax = `
+-- goes, two tokens
 pub data Cuts (rules : Rules) (labels : Labels) : ℕ → Listing → List Listing → Type 0 where
   done : {i : ℕ} {lines : Listing} → length lines ≤ i → Cuts rules labels i lines []
   kept : {i : ℕ} {lines : Listing} {more : List Listing} → i < length lines → dead-result rules labels lines i ≡ false

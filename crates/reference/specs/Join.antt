@@ -201,7 +201,8 @@ join-at rules lines i f expr labels volatile j =
 
 unfoldable pub join-one : Rules → Listing → ℕ → Fam → List Token → Labels → List Text → Option Listing
 join-one rules lines i f expr labels volatile =
-    let-some (use-from ((lines at i) .indent) (f .name) expr (is-some (call-at (lines at i))) volatile (suc i) (drop (suc i) lines)) else none then λ j.
+    let-some (use-from ((lines at i) .indent) (f .name) expr (is-some (call-at (lines at i))) volatile (suc i) (drop (suc i) lines)) else
+    none then λ j.
     join-at rules lines i f expr labels volatile j
 
 -- `if let [t] = expr.as_slice() { if t.k == TokenKind::Number`
@@ -223,13 +224,16 @@ try-at rules lines i labels addressed =
 
 -- ---- the lines that it is joined into (M-105)
 
--- of a lone number every use, of an expression the one: the lines that an attempt at line i changes, if it succeeds, by their places before it
+-- of a lone number every use, of an expression the one: the lines that an attempt at line i changes, if it succeeds, by their places
+-- before it
 unfoldable pub targets : Rules → Listing → ℕ → Labels → List ℕ
 targets rules lines i labels =
     let-some (assignment (lines at i)) else [] then λ a.
     let-some (family (a .lhs .text)) else [] then λ f.
     let uses : List ℕ = gather ((lines at i) .indent) (f .name) (volatile rules) (suc i) (drop (suc i) lines) i .uses in
     let one : List ℕ =
-    let-some (use-from ((lines at i) .indent) (f .name) (a .expr) (is-some (call-at (lines at i))) (volatile rules) (suc i) (drop (suc i) lines))
+    let-some (use-from ((lines at i) .indent) (f .name) (a .expr) (is-some (call-at (lines at i))) (volatile rules) (suc i)
+    (drop (suc i) lines))
     else [] then λ j. j ∷ [] in
-    if lone-number (a .expr) && is-some (propagate-constant (rules .edition) lines i (f .name) (a .expr) labels (volatile rules)) then uses else one
+    if lone-number (a .expr) && is-some (propagate-constant (rules .edition) lines i (f .name) (a .expr) labels (volatile rules))
+    then uses else one

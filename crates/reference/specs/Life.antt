@@ -83,7 +83,8 @@ unfoldable pub is-do : ℕ → Line → Bool
 is-do indent d = eqb (d .indent) indent && has-kw d "do"
 
 module _ (lines : Listing) (fam : Text) (start : ℕ) (volatile : List Text) where
-  -- a jump back to behind line `to`, at this indent, re-runs the lines up to `start`: whether the value is overwritten there before any read
+  -- a jump back to behind line `to`, at this indent, re-runs the lines up to `start`: whether the value is overwritten there before any
+  -- read
   unfoldable pub rerun-kills : ℕ → ℕ → Bool
   rerun-kills to indent = killed-first (slice (suc to) (suc start) lines) fam (indent + 1) volatile
 

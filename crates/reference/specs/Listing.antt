@@ -1,4 +1,5 @@
--- A listing is lines, a line has an optional address, an indent and tokens, a token a kind and a text (document 01's terms). Assumes nothing.
+-- A listing is lines, a line has an optional address, an indent and tokens, a token a kind and a text (document 01's terms). Assumes
+-- nothing.
 use Prim.Native.Nat.{ℕ}
 use mathlib.Core.Bool.{Bool}
 use mathlib.Core.List.{List, []}

@@ -1,6 +1,6 @@
--- The marks of a finished line (M-105): which lines of the input come into it, and the lowest and highest of their addresses. The listings of the run
--- know nothing of them: "equality with the Rust leaves these marks out". Then the same marks as a program keeps them, step by step: proofs/Marks.antt
--- shows that the two are one. Assumes nothing.
+-- The marks of a finished line (M-105): which lines of the input come into it, and the lowest and highest of their addresses. The
+-- listings of the run know nothing of them: "equality with the Rust leaves these marks out". Then the same marks as a program keeps them,
+-- step by step: proofs/Marks.antt shows that the two are one. Assumes nothing.
 use Prim.Native.Nat.{ℕ, suc, pred}
 use mathlib.Core.Bool.{Bool}
 use mathlib.Core.List.{List, [], _∷_, _++_}
@@ -20,8 +20,9 @@ use Rattle.reference.specs.Run.{Attempt, run, attempts-of, finished}
 unfoldable pub moved : ℕ → ℕ → ℕ
 moved i p = if ltb i p then pred p else p
 
--- Whether line p, before these attempts, comes into line q after them: "of itself and of every line joined into it, directly or through others". A line that
--- is removed goes on in each line that it is joined into ("A constant copied to four uses counts in all four"), any other line in itself.
+-- Whether line p, before these attempts, comes into line q after them: "of itself and of every line joined into it, directly or through
+-- others". A line that is removed goes on in each line that it is joined into ("A constant copied to four uses counts in all four"), any
+-- other line in itself.
 unfoldable pub comes-to : List Attempt → ℕ → ℕ → Bool
 comes-to [] p q = eqb p q
 comes-to (a ∷ more) p q =

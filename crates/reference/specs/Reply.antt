@@ -25,7 +25,8 @@ Reply = Answer Cleaned
 unfoldable pub ask-profile : Rules → Listing → Reply → Reply
 ask-profile rules lines r = if rules .profile then (let-some (breaks lines) else r then λ n. Refused 14 n) else r
 
--- the settings, the tape, and how many bytes the two work areas and the output have; before them the figure that the work areas are asked for
+-- the settings, the tape, and how many bytes the two work areas and the output have; before them the figure that the work areas are asked
+-- for
 unfoldable pub reply-by : ℕ → Rules → List ℕ → ℕ → ℕ → ℕ → Reply
 reply-by figure rules tape work-a work-b output =
     ask (λ number. 0) ((1, is-convention rules) ∷ (9, is-edition rules) ∷ (2, has-room-by figure work-a work-b output) ∷ [])
@@ -49,8 +50,8 @@ unfoldable pub work-after : Reply → List ℕ → List ℕ
 work-after (Refused number place) work = work
 work-after (Passed c) work = replicate WORK 0 ++ drop WORK work
 
--- What is told of the rounds, in numbers: the attempts of each of three rounds; or, where the run was to settle, the number of rounds and the attempts
--- in all. The numbers of the other setting are 0.
+-- What is told of the rounds, in numbers: the attempts of each of three rounds; or, where the run was to settle, the number of rounds and
+-- the attempts in all. The numbers of the other setting are 0.
 pub record Told : Type 0 where
   pub first : ℕ
   pub second : ℕ

@@ -35,7 +35,8 @@ unfoldable pub shift : ℕ → Labels → Labels
 shift i [] = []
 shift i (l ∷ ls) = (if ltb i (l .place) then record { name = l .name; place = pred (l .place) } else l) ∷ shift i ls
 
--- One attempt: its line, whether it removed that line, and the listing that it left; and the lines that it was joined into, by their places before.
+-- One attempt: its line, whether it removed that line, and the listing that it left; and the lines that it was joined into, by their
+-- places before.
 pub record Attempt : Type 0 where
   pub line : ℕ
   pub removed : Bool

@@ -16,10 +16,12 @@ abbrev pub is-number : List ℕ → ℕ → ℕ → Bool
 is-number list k n = eqb (number-in list k) n
 
 abbrev pub is-report : List ℕ → ℕ → ℕ → ℕ → ℕ → Bool
-is-report list refusal place length cut = is-number list 6 refusal && is-number list 7 place && is-number list 8 length && is-number list 13 cut
+is-report list refusal place length cut = is-number list 6 refusal && is-number list 7 place && is-number list 8 length && is-number list 13
+    cut
 
 abbrev pub are-counts : List ℕ → ℕ → ℕ → ℕ → ℕ → Bool
-are-counts list first second third removed = is-number list 9 first && is-number list 10 second && is-number list 11 third && is-number list 12 removed
+are-counts list first second third removed = is-number list 9 first && is-number list 10 second && is-number list 11 third && is-number list
+    12 removed
 
 abbrev pub are-rounds : List ℕ → ℕ → ℕ → Bool
 are-rounds list rounds attempts = is-number list 14 rounds && is-number list 15 attempts
@@ -76,12 +78,13 @@ called list a more-a b more-b o more-o =
     let r = reply-to list a b o in
     is-right list (report r) (work-after r a ++ more-a) (work-after r b ++ more-b) (output-after r o ++ more-o)
 
--- The call does what the frame wants, the fronts of these parts being lent as far as the frame says. The answer is the definition's: the code of the
--- cleaner has no part in it.
+-- The call does what the frame wants, the fronts of these parts being lent as far as the frame says. The answer is the definition's: the
+-- code of the cleaner has no part in it.
 unfoldable pub agrees : List ℕ → List ℕ → List ℕ → List ℕ → Bool
 agrees list work-a work-b out =
     leb (number-in list 2) (length work-a)
     && leb (number-in list 3) (length work-b)
     && leb (number-in list 4) (length out)
-    && called list (take (number-in list 2) work-a) (drop (number-in list 2) work-a) (take (number-in list 3) work-b) (drop (number-in list 3) work-b)
+    && called list (take (number-in list 2) work-a) (drop (number-in list 2) work-a) (take (number-in list 3) work-b)
+    (drop (number-in list 3) work-b)
     (take (number-in list 4) out) (drop (number-in list 4) out)

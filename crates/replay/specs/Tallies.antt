@@ -17,7 +17,8 @@ agrees-marked list = agrees list (replicate 65600 170) (replicate 65600 170) (re
 unfoldable pub counted : List ℕ → ℕ → Counts → Counts
 counted list class n =
     if eqb (number-in list 0) class then
-    (if agrees-marked list then record { tapes = n .tapes + 1; differ = n .differ } else record { tapes = n .tapes + 1; differ = n .differ + 1 })
+    (if agrees-marked list then record { tapes = n .tapes + 1; differ = n .differ } else record
+    { tapes = n .tapes + 1; differ = n .differ + 1 })
     else n
 
 -- the counts with all frames of the list. `fuel` bounds them: a frame has a byte or more.

@@ -32,7 +32,8 @@ ghost use Rattle.reference.specs.Text.{_==_};
 ghost use Rattle.lines.specs.Rules.{rules-of};
 ghost use Rattle.clean.specs.Replies.{told-of, report-of};
 ghost use Rattle.replay.specs.Frames.{Whole};
-ghost use Rattle.replay.specs.Answers.{is-number, is-report, are-counts, are-rounds, are-told, is-wanted, work-wanted, out-wanted, all-right, is-right, rules-in, agrees};
+ghost use Rattle.replay.specs.Answers.{is-number, is-report, are-counts, are-rounds, are-told, is-wanted, work-wanted, out-wanted};
+ghost use Rattle.replay.specs.Answers.{all-right, is-right, rules-in, agrees};
 
 // What is lent is longer than a call asks for, and every byte of it has this value before the call.
 const MARK: u8 = 170;
@@ -172,7 +173,8 @@ fn all_right<'a>(
     written: &'a [u8],
 ) -> bool
     requires { ⌜ Whole (now list) ⌝ }
-    ensures { λ b. ⌜ b ≡ all-right (now (list .entry)) (report-of r) (now («work_a» .entry)) (now («work_b» .entry)) (now (out .entry)) (now (work .entry)) (now (written .entry)) ⌝ }
+    ensures { λ b. ⌜ b ≡ all-right (now (list .entry)) (report-of r) (now («work_a» .entry)) (now («work_b» .entry)) (now (out .entry))
+        (now (work .entry)) (now (written .entry)) ⌝ }
 {
     reply_right(list, r)
         && (part_right(work_a, work, b"another first work area\n")

@@ -1,6 +1,6 @@
-// Replays a list of calls with the answers of the Rust (tests/replay), from standard input. Prints for each class of calls how many there are and how
-// many differ, what differs, and the sum. A call's reply is compared and every byte that it was lent: the output and what lies past it, both work
-// areas, and that a refused call changed nothing.
+// Replays a list of calls with the answers of the Rust (tests/replay), from standard input. Prints for each class of calls how many there
+// are and how many differ, what differs, and the sum. A call's reply is compared and every byte that it was lent: the output and what
+// lies past it, both work areas, and that a refused call changed nothing.
 mod calls; // one call
 mod frames; // the list
 

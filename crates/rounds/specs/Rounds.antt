@@ -27,7 +27,8 @@ use Rattle.rounds.specs.Carries.{Carries}
 -- what `try-at` answers at line i, with these addresses
 abbrev pub answer : Rules → Text → Text → List ℕ → List ℕ → List ℕ → Text → List ℕ → ℕ → Size → Reading → Option Listing
 answer rules tape area tokens lines labels slots words i at addresses =
-    try-at rules (listing-now tape area tokens lines at addresses) i (labels-at (listing-now tape area tokens lines at addresses) labels) (slot-names slots words)
+    try-at rules (listing-now tape area tokens lines at addresses) i (labels-at (listing-now tape area tokens lines at addresses) labels)
+    (slot-names slots words)
 
 -- the attempt failed: the next line is to be tried, and nothing else is changed
 pub record Failed (rules : Rules) (tape area : Text) (tokens lines lows highs labels : List ℕ) (slots : Text) (words : List ℕ) (r : Round)
@@ -41,9 +42,10 @@ pub record Failed (rules : Rules) (tape area : Text) (tokens lines lows highs la
   pub labels-are : labels′ ≡ labels
   pub tried : (addresses : Reading) → answer rules tape area tokens lines labels slots words (r .next) (r .size) addresses ≡ none
 
--- the attempt succeeded: its line is gone, its marks are in those of the lines that it was joined into, the label places are shifted, and the line
--- before is to be tried
-pub record Succeeded (rules : Rules) (tape area : Text) (tokens lines lows highs labels : List ℕ) (slots : Text) (words : List ℕ) (r : Round)
+-- the attempt succeeded: its line is gone, its marks are in those of the lines that it was joined into, the label places are shifted, and
+-- the line before is to be tried
+pub record Succeeded (rules : Rules) (tape area : Text) (tokens lines lows highs labels : List ℕ) (slots : Text) (words : List ℕ)
+    (r : Round)
     (area′ : Text) (tokens′ lines′ lows′ highs′ labels′ : List ℕ) (r′ : Round) : Type 0 where
   pub next-is : r′ .next ≡ pred (r .next)
   pub attempts-are : r′ .attempts ≡ r .attempts + 1
@@ -52,7 +54,8 @@ pub record Succeeded (rules : Rules) (tape area : Text) (tokens lines lows highs
   pub current : Current tape area′ tokens′ lines′ (r′ .size)
   pub tried : (addresses : Reading) → answer rules tape area tokens lines labels slots words (r .next) (r .size) addresses
       ≡ some (listing-now tape area′ tokens′ lines′ (r′ .size) addresses)
-  pub handed : Handed (used-lines lines (r .size)) (r .next) (targets-now rules tape area tokens lines labels (r .next) (r .size)) lows highs lows′ highs′
+  pub handed : Handed (used-lines lines (r .size)) (r .next) (targets-now rules tape area tokens lines labels (r .next) (r .size)) lows
+      highs lows′ highs′
 
 abbrev pub Turned : Rules → Text → Text → List ℕ → List ℕ → List ℕ → List ℕ → List ℕ → Text → List ℕ → Round
     → Text → List ℕ → List ℕ → List ℕ → List ℕ → List ℕ → Round → Type 0
@@ -67,7 +70,8 @@ Countable r = (r .attempts ≤ 512) × (r .removed ≤ 512)
 -- ---- a round
 
 -- a listing within the limits, the places of its labels, the names that are addressed, and tables for the marks of 256 lines
-pub record Roundable (tape area : Text) (tokens lines : List ℕ) (area2 : Text) (tokens2 lows highs labels : List ℕ) (slots : Text) (words : List ℕ)
+pub record Roundable (tape area : Text) (tokens lines : List ℕ) (area2 : Text) (tokens2 lows highs labels : List ℕ) (slots : Text)
+    (words : List ℕ)
     (at : Size) : Type 0 where
   pub current : Current tape area tokens lines at
   pub limits : Limits (bare-now tape area tokens lines at)
@@ -77,8 +81,8 @@ pub record Roundable (tape area : Text) (tokens lines : List ℕ) (area2 : Text)
   pub for-lows : 256 ≤ length lows
   pub for-highs : 256 ≤ length highs
 
--- The attempts `round` were made, one after the other: what they leave, how many they are and how many of them succeeded, and the marks that they carry
--- on; whatever the addresses are.
+-- The attempts `round` were made, one after the other: what they leave, how many they are and how many of them succeeded, and the marks
+-- that they carry on; whatever the addresses are.
 pub record Made (round : Listing → List Attempt) (tape area : Text) (tokens lines lows highs : List ℕ) (at : Size)
     (area′ : Text) (tokens′ lines′ lows′ highs′ : List ℕ) (r : Round) : Type 0 where
   pub current : Current tape area′ tokens′ lines′ (r .size)
@@ -89,7 +93,8 @@ pub record Made (round : Listing → List Attempt) (tape area : Text) (tokens li
   pub attempts-are : (addresses : Reading) → r .attempts ≡ length (round (listing-now tape area tokens lines at addresses))
   pub removed-is : (addresses : Reading) → r .removed ≡ removals (round (listing-now tape area tokens lines at addresses))
   pub marks : (addresses : Reading)
-      → Carries (round (listing-now tape area tokens lines at addresses)) (used-lines lines at) lows highs (used-lines lines′ (r .size)) lows′ highs′
+      → Carries (round (listing-now tape area tokens lines at addresses)) (used-lines lines at) lows highs (used-lines lines′ (r .size))
+      lows′ highs′
 
 -- the attempts from line 0 on, with the labels at these places of the listing and these addressed names
 abbrev pub attempts-with : Rules → Text → Text → List ℕ → List ℕ → Size → List ℕ → Text → List ℕ → Listing → List Attempt

@@ -26,7 +26,8 @@ pub record SameListing (tape area : Text) (tokens lines : List ℕ) (at : Size) 
   pub means : (addresses : Reading) → listing-now tape area tokens lines′ at addresses ≡ listing-now tape area tokens lines at addresses
 
 -- a listing within the limits, and tables large enough for its rounds; the table of token words is no larger than a line word can name
-pub record Runnable (tape area : Text) (tokens lines : List ℕ) (area2 : Text) (tokens2 lows highs labels : List ℕ) (slots : Text) (slot-words : List ℕ)
+pub record Runnable (tape area : Text) (tokens lines : List ℕ) (area2 : Text) (tokens2 lows highs labels : List ℕ) (slots : Text)
+    (slot-words : List ℕ)
     (at : Size) : Type 0 where
   pub current : Current tape area tokens lines at
   pub limits : Limits (bare-now tape area tokens lines at)

@@ -25,7 +25,8 @@ pub record Roomy (slots : Text) (words : List ℕ) (g : Slots) (n k : ℕ) : Typ
   pub words-fit : g .count + k ≤ length words
 
 -- `names` stand behind the names before, in at most n bytes and k words
-pub record Noted (names : List Text) (n k : ℕ) (slots : Text) (words : List ℕ) (g : Slots) (slots′ : Text) (words′ : List ℕ) (g′ : Slots) : Type 0 where
+pub record Noted (names : List Text) (n k : ℕ) (slots : Text) (words : List ℕ) (g : Slots) (slots′ : Text) (words′ : List ℕ) (g′ : Slots) :
+    Type 0 where
   pub slotting : Slotting slots′ words′ g′
   pub names-are : names-now slots′ words′ g′ ≡ names-now slots words g ++ names
   pub text-most : g′ .text ≤ g .text + n

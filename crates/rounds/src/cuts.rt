@@ -48,7 +48,8 @@ fn is_dead_result<'a>(
     rules: Rules,
 ) -> bool
     requires { ⌜ Cuttable (now tape) (now area) (now tokens) (now lines) (now labels) × (i < length (now lines)) ⌝ }
-    ensures { λ r. ⌜ r ≡ dead-at (rules-of rules) (now (tape .entry)) (now (area .entry)) (now (tokens .entry)) (now (lines .entry)) (now (labels .entry)) i ⌝ }
+    ensures { λ r. ⌜ r ≡ dead-at (rules-of rules) (now (tape .entry)) (now (area .entry)) (now (tokens .entry)) (now (lines .entry))
+        (now (labels .entry)) i ⌝ }
 {
     let l = lines[i];
     if !keeps_result(tape, area, words::line_of(tokens, l)) {
@@ -79,7 +80,8 @@ fn drop_at<'a>(
     rules: Rules,
 ) -> u64
     requires { ⌜ Cuttable (now tape) (now area) (now tokens) (now lines) (now labels) × (i < length (now lines)) ⌝ }
-    ensures { λ r. ⌜ Dropped (rules-of rules) (now (tape .entry)) (now (area .entry)) (now (tokens .entry)) (now (lines .entry)) (now (labels .entry)) i (now (lines .exit)) r ⌝ }
+    ensures { λ r. ⌜ Dropped (rules-of rules) (now (tape .entry)) (now (area .entry)) (now (tokens .entry)) (now (lines .entry))
+        (now (labels .entry)) i (now (lines .exit)) r ⌝ }
 {
     if !is_dead_result(tape, area, tokens, lines, labels, i, rules) {
         return 0;
@@ -99,7 +101,9 @@ fn drop_results<'a>(
     rules: Rules,
 ) -> u64
     requires { ⌜ Cuttable (now tape) (now area) (now tokens) (now lines) (now labels) ⌝ }
-    ensures { λ r. ⌜ Cut (cuts (rules-of rules) (labels-now (now (tape .entry)) (now (area .entry)) (now (tokens .entry)) (now (lines .entry)) (now (labels .entry))) 0) (now (tape .entry)) (now (area .entry)) (now (tokens .entry)) (now (lines .entry)) (now (lines .exit)) r ⌝ }
+    ensures { λ r. ⌜ Cut (cuts (rules-of rules) (labels-now (now (tape .entry)) (now (area .entry)) (now (tokens .entry))
+        (now (lines .entry)) (now (labels .entry))) 0) (now (tape .entry)) (now (area .entry)) (now (tokens .entry)) (now (lines .entry))
+        (now (lines .exit)) r ⌝ }
 {
     let mut cut = 0;
     let mut i = 0;
@@ -119,8 +123,10 @@ pub fn drop_dead_results<'a>(
     labels: &mut [u64],
     rules: Rules,
 ) -> u64
-    requires { ⌜ Listed (now tape) (now area) (now tokens) (now lines) × (length (now tokens) ≤ 65536) × (length (now lines) ≤ length (now labels)) ⌝ }
-    ensures { λ r. ⌜ Cut (drop-dead-results (rules-of rules)) (now (tape .entry)) (now (area .entry)) (now (tokens .entry)) (now (lines .entry)) (now (lines .exit)) r ⌝ }
+    requires { ⌜ Listed (now tape) (now area) (now tokens) (now lines) × (length (now tokens) ≤ 65536)
+        × (length (now lines) ≤ length (now labels)) ⌝ }
+    ensures { λ r. ⌜ Cut (drop-dead-results (rules-of rules)) (now (tape .entry)) (now (area .entry)) (now (tokens .entry))
+        (now (lines .entry)) (now (lines .exit)) r ⌝ }
 {
     let known = gather_labels(tape, area, tokens, lines, labels);
     drop_results(tape, area, tokens, lines, &labels[..known], rules)

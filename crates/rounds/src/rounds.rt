@@ -157,7 +157,8 @@ pub fn propagate_once(
 ) -> Round
     requires { ⌜ Runnable (now tape) (now area) (now tokens) (now lines) (now area2) (now tokens2) (now lows) (now highs)
         (now labels) (now slots) (now «slot_words») size ⌝ }
-    ensures { λ r. ⌜ Made (propagate-once (rules-of rules)) (now (tape .entry)) (now (area .entry)) (now (tokens .entry)) (now (lines .entry))
+    ensures { λ r. ⌜ Made (propagate-once (rules-of rules)) (now (tape .entry)) (now (area .entry)) (now (tokens .entry))
+        (now (lines .entry))
         (now (lows .entry)) (now (highs .entry)) size
         (now (area .exit)) (now (tokens .exit)) (now (lines .exit)) (now (lows .exit)) (now (highs .exit)) r ⌝ }
 {

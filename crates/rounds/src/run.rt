@@ -1,6 +1,8 @@
-// The whole run: `optimize` of the Rust. Rounds, ending after one that changed nothing: at most three, or as many as it takes where the run is to settle.
-// Then the cuts. Before the rounds each line is given its marks (what it lacks), which are no part of the listing. The other marks, the lowest and the
-// highest address of each line and of all that was joined into it, are in `lows` and `highs`, by the number of the input line.
+// The whole run: `optimize` of the Rust. Rounds, ending after one that changed nothing: at most three, or as many as it takes where the
+// run is to settle.
+// Then the cuts. Before the rounds each line is given its marks (what it lacks), which are no part of the listing. The other marks, the
+// lowest and the highest address of each line and of all that was joined into it, are in `lows` and `highs`, by the number of the input
+// line.
 use crate::cuts::drop_dead_results;
 use crate::rounds::Round;
 use crate::rounds::propagate_once;
@@ -15,8 +17,8 @@ ghost use Rattle.rounds.specs.Rounds.{Countable};
 ghost use Rattle.rounds.specs.Runs.{SameListing, Runnable, Ran};
 ghost use Rattle.rounds.specs.Runs.{most-rounds, rounds-left, count-after, after-round, Few, tally-of, told-of, Rounded};
 
-// What is told of the rounds: the attempts of each of three, 0 for one that was not made; or, of a run that settled, how many rounds it made, the last
-// included, and the attempts of them all.
+// What is told of the rounds: the attempts of each of three, 0 for one that was not made; or, of a run that settled, how many rounds it
+// made, the last included, and the attempts of them all.
 pub enum Tally {
     Three { first: u64, second: u64, third: u64 },
     Settled { rounds: u64, attempts: u64 },
@@ -30,8 +32,8 @@ pub struct Outcome {
     pub size: Size,
 }
 
-// How far the rounds have come: how many more may be made, how many were, the attempts of each of the first three and of all, the lines removed, and
-// the listing's size.
+// How far the rounds have come: how many more may be made, how many were, the attempts of each of the first three and of all, the lines
+// removed, and the listing's size.
 pub struct Progress {
     pub left: usize,
     pub made: u64,
@@ -167,7 +169,8 @@ fn make_rounds(
 // Gives each line of the listing its marks.
 fn mark<'a>(tape: &'a [u8], area: &'a [u8], tokens: &'a [u64], lines: &mut [u64], size: Size)
     requires { ⌜ Current (now tape) (now area) (now tokens) (now lines) size ⌝ }
-    ensures { λ r. ⌜ SameListing (now (tape .entry)) (now (area .entry)) (now (tokens .entry)) (now (lines .entry)) size (now (lines .exit)) ⌝ }
+    ensures { λ r. ⌜ SameListing (now (tape .entry)) (now (area .entry)) (now (tokens .entry)) (now (lines .entry)) size
+        (now (lines .exit)) ⌝ }
 {
     let n = size.lines;
     let used = size.tokens;

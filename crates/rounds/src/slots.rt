@@ -28,8 +28,11 @@ fn gather_slot<'a>(
     slot_words: &mut [u64],
     g: Slots,
 ) -> Slots
-    requires { ⌜ Points (now tape) (now area) before × Points (now tape) (now area) w × Slotting (now slots) (now «slot_words») g × Roomy (now slots) (now «slot_words») g (len-of w) 1 ⌝ }
-    ensures { λ r. ⌜ Noted (addressed-here ((token-of (now (tape .entry)) (now (area .entry)) before, token-of (now (tape .entry)) (now (area .entry)) w) ∷ [])) (len-of w) 1 (now (slots .entry)) (now («slot_words» .entry)) g (now (slots .exit)) (now («slot_words» .exit)) r ⌝ }
+    requires { ⌜ Points (now tape) (now area) before × Points (now tape) (now area) w × Slotting (now slots) (now «slot_words») g
+        × Roomy (now slots) (now «slot_words») g (len-of w) 1 ⌝ }
+    ensures { λ r. ⌜ Noted
+        (addressed-here ((token-of (now (tape .entry)) (now (area .entry)) before, token-of (now (tape .entry)) (now (area .entry)) w)
+        ∷ [])) (len-of w) 1 (now (slots .entry)) (now («slot_words» .entry)) g (now (slots .exit)) (now («slot_words» .exit)) r ⌝ }
 {
     let s = words::text(tape, area, w);
     if !ends_ampersand(words::text(tape, area, before)) {
@@ -57,8 +60,11 @@ fn gather_line<'a>(
     slot_words: &mut [u64],
     g: Slots,
 ) -> Slots
-    requires { ⌜ Holds (now tape) (now area) (now line) × Slotting (now slots) (now «slot_words») g × Roomy (now slots) (now «slot_words») g (text-in (tokens-of (now tape) (now area) (now line))) (length (now line)) ⌝ }
-    ensures { λ r. ⌜ Noted (addressed-here (windows (tokens-of (now (tape .entry)) (now (area .entry)) (now (line .entry))))) (text-in (tokens-of (now (tape .entry)) (now (area .entry)) (now (line .entry)))) (length (now (line .entry))) (now (slots .entry)) (now («slot_words» .entry)) g (now (slots .exit)) (now («slot_words» .exit)) r ⌝ }
+    requires { ⌜ Holds (now tape) (now area) (now line) × Slotting (now slots) (now «slot_words») g
+        × Roomy (now slots) (now «slot_words») g (text-in (tokens-of (now tape) (now area) (now line))) (length (now line)) ⌝ }
+    ensures { λ r. ⌜ Noted (addressed-here (windows (tokens-of (now (tape .entry)) (now (area .entry)) (now (line .entry)))))
+        (text-in (tokens-of (now (tape .entry)) (now (area .entry)) (now (line .entry)))) (length (now (line .entry))) (now (slots .entry))
+        (now («slot_words» .entry)) g (now (slots .exit)) (now («slot_words» .exit)) r ⌝ }
 {
     let mut all = g;
     let mut k = 0;
@@ -78,8 +84,13 @@ pub fn gather_slots<'a>(
     slots: &mut [u8],
     slot_words: &mut [u64],
 ) -> Slots
-    requires { ⌜ Listed (now tape) (now area) (now tokens) (now lines) × Roomy (now slots) (now «slot_words») (record { count = 0; text = 0 }) (text-of-all (bare-listing (now tape) (now area) (now tokens) (now lines))) (token-count (bare-listing (now tape) (now area) (now tokens) (now lines))) ⌝ }
-    ensures { λ r. ⌜ Gathers (addressed-in (bare-listing (now (tape .entry)) (now (area .entry)) (now (tokens .entry)) (now (lines .entry)))) (now (slots .exit)) (now («slot_words» .exit)) r ⌝ }
+    requires { ⌜ Listed (now tape) (now area) (now tokens) (now lines)
+        × Roomy (now slots) (now «slot_words») (record { count = 0; text = 0 })
+        (text-of-all (bare-listing (now tape) (now area) (now tokens) (now lines)))
+        (token-count (bare-listing (now tape) (now area) (now tokens) (now lines))) ⌝ }
+    ensures { λ r. ⌜ Gathers
+        (addressed-in (bare-listing (now (tape .entry)) (now (area .entry)) (now (tokens .entry)) (now (lines .entry)))) (now (slots .exit))
+        (now («slot_words» .exit)) r ⌝ }
 {
     let mut all = Slots { count: 0, text: 0 };
     let mut k = 0;

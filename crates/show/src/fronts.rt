@@ -1,4 +1,5 @@
-// The front of a printed line: the address in hexadecimal, eight digits at least, or eight blanks; two blanks, and two more for each indent.
+// The front of a printed line: the address in hexadecimal, eight digits at least, or eight blanks; two blanks, and two more for each
+// indent.
 use text::copy_bytes;
 ghost use mathlib.Core.Path.{_≡_};
 ghost use Prim.Native.Nat.{_≤_};

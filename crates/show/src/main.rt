@@ -1,11 +1,13 @@
-// Prints a tape as text, a line for each line of the listing: the address in hexadecimal or blanks, two spaces an indent, the texts of the tokens.
+// Prints a tape as text, a line for each line of the listing: the address in hexadecimal or blanks, two spaces an indent, the texts of
+// the tokens.
 // In front stand the line's marks, as `0040106f..00401086`, where they say more than its address.
 //
 //     show          standard input is a bare tape, as the filter writes it
 //     show input    standard input is a convention byte and a tape, as the filter reads them
 //
-// Wrong input gives `refused`, the number of the question, `at`, its place, and what that means. The filter's input is asked all questions before a
-// line is printed. A bare tape is printed up to the command that is wrong, and the totals of a listing are not asked: cleaning may lengthen a text.
+// Wrong input gives `refused`, the number of the question, `at`, its place, and what that means. The filter's input is asked all
+// questions before a line is printed. A bare tape is printed up to the command that is wrong, and the totals of a listing are not asked:
+// cleaning may lengthen a text.
 // The filter's own refusal is printed again, with its meaning.
 mod fronts; // address and indent of a line
 
@@ -55,8 +57,9 @@ fn print_meaning(number: u64) {
             print(b"the command that begins here runs past the end of the tape\n");
         }
         5 => {
+            print(b"a token stands here before any line has begun, ");
             print(
-                b"a token stands here before any line has begun, or marks that do not follow a line's command or have their lowest above their highest\n",
+                b"or marks that do not follow a line's command or have their lowest above their highest\n",
             );
         }
         6 => {

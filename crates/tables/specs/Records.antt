@@ -119,7 +119,16 @@ pub record Recorded (tape tokens : List ℕ) (records : List LineRecord) (r : To
 
 -- the record that the command at hand is about, `line` being the record of the last line
 abbrev pub line-after : Command → Totals → LineRecord → LineRecord
-line-after (Addressed address indent) t line = record { address = address; addressed = 1; indent = indent; first = t .tokens; count = 0; low = address; high = address }
+line-after (Addressed address indent) t line = record {
+  address = address;
+  addressed = 1;
+  indent = indent;
+  first = t .tokens;
+  count = 0;
+  low
+      = address;
+  high = address;
+}
 line-after (Plain indent) t line = record { address = 0; addressed = 0; indent = indent; first = t .tokens; count = 0; low = TOP; high = 0 }
 line-after (Marked low high) t line =
     record {

@@ -21,11 +21,12 @@ ghost use Prim.Native.Nat.{_≤_};
 ghost use lib.ListN.{length};
 ghost use Rattle.lines.specs.Words.{Recodes};
 ghost use Rattle.tape.specs.Questions.{Accepted};
-ghost use Rattle.tables.specs.Records.{Fitting, Holding, Marking, Recorded, line-after, place-after, start-of, TakesToken, Grows, Ready, Lays};
+ghost use Rattle.tables.specs.Records.{Fitting, Holding, Marking, Recorded, line-after, place-after, start-of, TakesToken, Grows};
+ghost use Rattle.tables.specs.Records.{Ready, Lays};
 ghost use Rattle.tables.specs.Tables.{tokens-after, Loaded, LoadedMarks};
 
-// Where the laying of the lines stands: the offset in the tape, the place of the last line's record, what was read so far, and whether FF is
-// still to come.
+// Where the laying of the lines stands: the offset in the tape, the place of the last line's record, what was read so far, and whether FF
+// is still to come.
 pub struct Laying {
     pub at: usize,
     pub line: usize,
@@ -204,8 +205,8 @@ fn spread(
     }
 }
 
-// Fills the tables with the listing of a tape that passed the questions, and says how many lines, tokens and bytes of text it has. The lines go
-// through an array of records of the call's own. Proved by hand.
+// Fills the tables with the listing of a tape that passed the questions, and says how many lines, tokens and bytes of text it has. The
+// lines go through an array of records of the call's own. Proved by hand.
 fn tabled(
     tape: &[u8],
     tokens: &mut [u64],

@@ -99,7 +99,8 @@ fn put_token(kind: u64, s: &[u8], out: &mut [u8], at: usize) -> usize
 fn put_tokens<'a>(tape: &'a [u8], area: &'a [u8], ws: &'a [u64], out: &mut [u8], at: usize) -> usize
     requires { ⌜ Holds (now tape) (now area) (now ws) ⌝ }
     requires { ⌜ at + length (tokens-bytes (tokens-of (now tape) (now area) (now ws))) ≤ length (now out) ⌝ }
-    ensures { λ r. ⌜ Puts (now (out .entry)) at (tokens-bytes (tokens-of (now (tape .entry)) (now (area .entry)) (now (ws .entry)))) (now (out .exit)) r ⌝ }
+    ensures { λ r. ⌜ Puts (now (out .entry)) at (tokens-bytes (tokens-of (now (tape .entry)) (now (area .entry)) (now (ws .entry))))
+        (now (out .exit)) r ⌝ }
 {
     let mut to = at;
     let mut k = 0;

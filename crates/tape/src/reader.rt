@@ -1,6 +1,6 @@
-// A tape reader holds the tape and its offset. The functions over it are few and thin, and proved by hand: each hands its parts to a function on a
-// plain slice and numbers. The questions, and the loading in crate tables, read a tape through `command_from`, `known_command` and `token_text`,
-// which make a reader.
+// A tape reader holds the tape and its offset. The functions over it are few and thin, and proved by hand: each hands its parts to a
+// function on a plain slice and numbers. The questions, and the loading in crate tables, read a tape through `command_from`,
+// `known_command` and `token_text`, which make a reader.
 use crate::commands::Command;
 use crate::commands::Found;
 use crate::commands::found_at;
@@ -37,7 +37,8 @@ pub fn moved<'a>(reader: TapeReader<'a>, at: usize) -> TapeReader<'a>
 
 // What stands at the reader's offset.
 pub fn next<'a>(reader: TapeReader<'a>) -> Found
-    ensures { λ r. ⌜ found-in (now (reader .entry .tape)) (reader .entry .at) r ≡ standing (now (reader .entry .tape)) (reader .entry .at) ⌝ }
+    ensures { λ r. ⌜ found-in (now (reader .entry .tape)) (reader .entry .at) r
+        ≡ standing (now (reader .entry .tape)) (reader .entry .at) ⌝ }
 {
     found_at(reader.tape, reader.at)
 }

@@ -155,7 +155,8 @@ pub fn begins_operator(s: &[u8]) -> bool
 
 // Whether a value that stands before this text has a delimiter after it.
 pub fn delimits_after(s: &[u8]) -> bool
-    ensures { λ r. ⌜ r ≡ (starts-with (now (s .entry)) (bytes ")") || starts-with (now (s .entry)) (bytes ",") || starts-with (now (s .entry)) (bytes ";")) ⌝ }
+    ensures { λ r. ⌜ r ≡ (starts-with (now (s .entry)) (bytes ")") || starts-with (now (s .entry)) (bytes ",") || starts-with
+        (now (s .entry)) (bytes ";")) ⌝ }
 {
     starts(s, b")") || (starts(s, b",") || starts(s, b";"))
 }
@@ -176,7 +177,8 @@ pub fn ends_ampersand(s: &[u8]) -> bool
 
 // Whether a value that stands after this text has a delimiter before it.
 pub fn delimits_before(s: &[u8]) -> bool
-    ensures { λ r. ⌜ r ≡ (ends-with (now (s .entry)) (bytes "(") || ends-with (now (s .entry)) (bytes ", ") || ends-with (now (s .entry)) (bytes " = ")) ⌝ }
+    ensures { λ r. ⌜ r ≡ (ends-with (now (s .entry)) (bytes "(") || ends-with (now (s .entry)) (bytes ", ") || ends-with (now (s .entry))
+        (bytes " = ")) ⌝ }
 {
     ends(s, b"(") || (ends(s, b", ") || ends(s, b" = "))
 }
