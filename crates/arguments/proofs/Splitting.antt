@@ -1,9 +1,8 @@
 -- The first word of a slice, and what is left: each turn of a loop over words. Assumes nothing.
-use Prim.Native.Nat.{ℕ, suc, _+_, _-_, _≤_, _<_}
+use Prim.Native.Nat.{ℕ, zero, suc, _+_, _-_, _≤_, _<_}
 use native.Mathlib.Omega.{arith}
 use native.Mathlib.Decide.{decLt}
 use native.Mathlib.Numerals.{add-one}
-use native.Mathlib.Nat.{add-assoc, add-comm}
 use mathlib.Core.Path.{_≡_, refl, sym, ap, _∙_}
 use mathlib.Core.Logic.{by-cases}
 use mathlib.Core.Bool.{Bool, true, false}
@@ -38,6 +37,12 @@ word-last b (x ∷ w) n = rw (ne-eqb b 0 (n 0 (omega arith)), word-last x w (tai
 word-only : (w : List ℕ) → 0 < length w → NoZero w → split w ≡ w ∷ []
 word-only [] h n = absurd (omega arith)
 word-only (b ∷ w) h n = word-last b w n
+
+past-first : (w : Text) (ws : List Text) (n : ℕ) → (n ≡ 0 → ⊥) → getD (w ∷ ws) n [] ≡ getD ws (n - 1) []
+past-first w ws zero z = absurd (z refl)
+past-first w ws (suc n) z =
+    let e : suc n - 1 ≡ n = omega arith in
+    rw e refl
 
 module _ (words : List ℕ) {at e : ℕ} (h : at < length words) (ends : EndsAt words at e) where
   word : List ℕ
@@ -81,6 +86,13 @@ module _ (words : List ℕ) {at e : ℕ} (h : at < length words) (ends : EndsAt 
       → number-of (split (drop at words)) w ≡ suc (number-of (split (drop (e + 1) words)) w)
   unfolding number-of
   next-word w f = ap (λ (ws : List Text). number-of ws w) first-word ∙ if-false _ _ f
+
+  -- a turn of the way to a word by its number
+  pub here-word : (n : ℕ) → n ≡ 0 → take (e - at) (drop at words) ≡ getD (split (drop at words)) n []
+  here-word n z = rw (z, first-word)
+
+  pub later-word : (n : ℕ) → (n ≡ 0 → ⊥) → getD (split (drop at words)) n [] ≡ getD (split (drop (e + 1) words)) (n - 1) []
+  later-word n z = rw first-word (past-first (take (e - at) (drop at words)) (split (drop (e + 1) words)) n z)
 
   -- a turn of the reading
   pub next-step : (s : Request) (k : ℕ)

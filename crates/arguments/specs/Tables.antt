@@ -29,8 +29,8 @@ actions = bytes "list" ∷ bytes "save" ∷ bytes "get" ∷ bytes "delete" ∷ [
 
 -- ---- tables: a row for each verb, the first for none
 
--- what its operands are, the first to the fourth and the others: f a file or a store, e an edition, b a base, n a number, a an action, m a name,
--- v a verb; - none
+-- what its operands are, the first to the fourth and the others: f a file or a store, e an edition, b a base, n a number, a an action,
+-- m a name, v a verb; - none
 unfoldable pub kinds : Text
 kinds =
     bytes "-----"

@@ -1,7 +1,8 @@
 // What is known of a request so far. Words are told by their number, the first one being 1; 0 is no word.
 ghost use mathlib.Core.Path.{_≡_};
 ghost use Rattle.arguments.specs.Request.{with-help, with-fault, with-verb, with-pending, with-convention, with-edition};
-ghost use Rattle.arguments.specs.Request.{with-parts, with-profile, with-settle, with-exact, with-goal, with-operand, with-value, one-more, at-first};
+ghost use Rattle.arguments.specs.Request.{with-parts, with-profile, with-settle, with-exact, with-goal, with-operand, with-value};
+ghost use Rattle.arguments.specs.Request.{one-more, at-first};
 
 pub struct Request {
     pub verb: u64, // what is to be done, by its place in the row of verbs, from 1

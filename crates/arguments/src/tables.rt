@@ -69,7 +69,20 @@ pub fn kind_of(verb: u64, operands: u64) -> u8
         return 0;
     }
     entry(
-        b"-----ffffffffffffffff----f----f----ef---bf---n----famf-v--------------",
+        b"-----\
+          fffff\
+          fffff\
+          fffff\
+          f----\
+          f----\
+          f----\
+          ef---\
+          bf---\
+          n----\
+          famf-\
+          v----\
+          -----\
+          -----",
         verb * 5 + least_of(operands, 4),
     )
 }
@@ -82,7 +95,20 @@ pub fn taking(verb: u64, option: u64) -> u8
         return 0;
     }
     entry(
-        b"---------yyyyyyy--yyyyy--------------------y------y--------y--------y--------y--------y--------y------------------------------",
+        b"---------\
+          yyyyyyy--\
+          yyyyy----\
+          ---------\
+          -------y-\
+          -----y---\
+          -----y---\
+          -----y---\
+          -----y---\
+          -----y---\
+          -----y---\
+          ---------\
+          ---------\
+          ---------",
         verb * 9 + least_of(option, 8),
     )
 }

@@ -2,7 +2,8 @@
 use text::same;
 ghost use mathlib.Core.Path.{_≡_};
 ghost use Prim.Native.Nat.{_+_, _≤_};
-ghost use lib.ListN.{length};
+ghost use mathlib.Core.List.{[]};
+ghost use lib.ListN.{length, getD};
 ghost use Rattle.arguments.specs.Words.{split, number-of, EndsAt};
 
 // Where the word that begins at `at` ends: at the first 0 from there on, or with the slice.
@@ -35,4 +36,21 @@ pub fn number_of(row: &[u8], word: &[u8]) -> u64
         at = e + 1;
     }
     n
+}
+
+// The word of a row that has a number, from 0; nothing past the last one.
+pub fn nth_word(row: &[u8], n: u64) -> &[u8]
+    ensures { λ r. ⌜ now r ≡ getD (split (now (row .entry))) n [] ⌝ }
+{
+    let mut left = n;
+    let mut at = 0;
+    while at < row.len() {
+        let e = word_end(row, at);
+        if left == 0 {
+            return &row[at..e];
+        }
+        left -= 1;
+        at = e + 1;
+    }
+    &row[..0]
 }
