@@ -1,3 +1,4 @@
--- The run of a listing without its addresses (Bared), the law (Told).
+-- The run of a listing without its addresses (Bared), the law (Told), the copy (Copied).
 pub mod Bared
 pub mod Told
+pub mod Copied
