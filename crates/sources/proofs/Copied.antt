@@ -28,7 +28,7 @@ use Rattle.sources.specs.Only.{with-address, only, only-tape}
 abbrev pub nones : Listing → List Marks
 nones lines = map (λ l. none) lines
 
-lines-none : (lines : Listing) → write-lines lines (nones lines) ≡ write-lines lines []
+pub lines-none : (lines : Listing) → write-lines lines (nones lines) ≡ write-lines lines []
 unfolding write-lines-by
 lines-none [] = refl
 lines-none (l ∷ ls) = rw (lines-none ls)

@@ -2,3 +2,6 @@
 pub mod Bared
 pub mod Told
 pub mod Copied
+pub mod Stepwise
+pub mod Putting
+pub mod Answering

@@ -4,7 +4,7 @@ use Prim.Native.Nat.{ℕ, zero, suc}
 use mathlib.Core.Bool.{Bool}
 use mathlib.Core.List.{List, [], _∷_}
 use mathlib.Core.Option.{some}
-use lib.Dec.{ltb}
+use lib.Dec.{leb, ltb}
 use lib.ListN.{length}
 use Rattle.reference.specs.Control.{_&&_, if_then_else_}
 use Rattle.reference.specs.Listing.{Line, Listing}
@@ -12,6 +12,7 @@ use Rattle.reference.specs.Rules.{Rules}
 use Rattle.reference.specs.Run.{run, attempts-of, finished}
 use Rattle.reference.specs.Marks.{comes-to}
 use Rattle.reference.specs.Tape.{write}
+use Rattle.reference.specs.Questions.{Answer, Passed, ask, let-passed_then_, read}
 use Rattle.joining.specs.Bare.{bare, bare-lines}
 
 -- ---- the copy
@@ -29,6 +30,15 @@ only (suc k) (l ∷ ls) = bare l ∷ only k ls
 -- its tape; no 03 stands there
 unfoldable pub only-tape : ℕ → Listing → List ℕ
 only-tape k lines = write (only k lines) []
+
+-- what its output has at least: the bytes of the longest tape that is accepted
+abbrev pub COPY : ℕ
+COPY = 34561
+
+-- the number of a line, a tape, and how many bytes the output has: a refusal, or the copy's tape
+unfoldable pub only-reply : ℕ → List ℕ → ℕ → Answer (List ℕ)
+only-reply k tape output =
+    ask (λ number. 0) ((2, leb COPY output) ∷ []) (let-passed (read tape) then λ lines. Passed (only-tape k lines))
 
 -- ---- what it tells
 

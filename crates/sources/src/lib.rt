@@ -1,1 +1,6 @@
-// The raw lines that came into a finished line (request M-105), asked of the cleaning itself.
+// The raw lines that came into a finished line (request M-105), asked of the cleaning itself: a copy of the tape in which one line alone
+// has an address is cleaned, and the finished lines that have marks are those that this line came into.
+mod calls; // the copy
+mod copying; // its commands
+
+pub use calls::only;
