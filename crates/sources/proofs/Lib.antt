@@ -2,6 +2,7 @@
 pub mod Bared
 pub mod Told
 pub mod Copied
+pub mod Held
 pub mod Stepwise
 pub mod Putting
 pub mod Answering
