@@ -5,4 +5,5 @@ pub mod Copied
 pub mod Held
 pub mod Stepwise
 pub mod Putting
+pub mod Walked
 pub mod Answering

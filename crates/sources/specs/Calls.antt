@@ -1,19 +1,25 @@
 -- What the code's values mean. Assumes nothing.
-use Prim.Native.Nat.{ℕ, _+_, _≤_}
+use Prim.Native.Nat.{ℕ, _+_, _-_, _≤_, _<_}
 use mathlib.Core.Path.{_≡_}
-use mathlib.Core.Bool.{Bool}
-use mathlib.Core.List.{List, []}
+use mathlib.Core.Bool.{Bool, true, false}
+use mathlib.Core.List.{List, [], _++_, flatMap}
 use mathlib.Core.Option.{Option, none, some}
-use lib.ListN.{length}
+use lib.Dec.{eqb}
+use lib.ListN.{length, set}
 use Rattle.reference.specs.Control.{if_then_else_}
+use Rattle.reference.specs.Lists.{is-some, count}
 use Rattle.reference.specs.Listing.{Listing}
+use Rattle.reference.specs.Spans.{Marks}
 use Rattle.reference.specs.Tape as Tape
 use Rattle.reference.specs.Tape.{write-command}
 use Rattle.reference.specs.Questions as Q
-use Rattle.reference.specs.Questions.{read-command, read}
+use Rattle.reference.specs.Questions.{read-command, is-end, read}
+use Rattle.reference.proofs.Commands.{Writable}
+use Rattle.reference.proofs.Limits.{All}
 use Rattle.tape.specs.Bytes.{Puts}
 use Rattle.tape.specs.Commands.{command-in}
 use Rattle.tape.specs.declared.commands.Command.{Command}
+use Rattle.tape.specs.declared.commands.Command.the-variants.{Addressed, Plain, Marked, Token, End}
 use Rattle.sources.specs.Only.{only-tape}
 
 -- ---- one command of the copy
@@ -39,3 +45,58 @@ pub record Copies (picked : Bool) (tape : List ℕ) (at next : ℕ) (c : Command
 -- what is written of an accepted tape
 abbrev pub CopyOf : ℕ → List ℕ → List ℕ → List ℕ → ℕ → Type 0
 CopyOf k tape out out′ end = (lines : Listing) → read tape ≡ Q.Passed lines → Puts out 0 (only-tape k lines) out′ end
+
+-- ---- the walk over a cleaned tape
+
+-- 1 where a line has marks, else 0
+unfoldable pub flag-of : Marks → ℕ
+flag-of m = if is-some m then 1 else 0
+
+abbrev pub begins : Tape.Command → Bool
+begins (Tape.new-line address indent) = true
+begins (Tape.marked s) = false
+begins (Tape.new-token t) = false
+begins Tape.end = false
+
+-- a command that is read back from its bytes, and is not the last
+abbrev pub Inner : Tape.Command → Type 0
+Inner c = Writable c × (is-end c ≡ false)
+
+-- the bytes of some commands, FF, and anything behind it; there is room for a flag of each line
+pub record Walkable (tape : List ℕ) (room : ℕ) : Type 0 where
+  pub commands : List Tape.Command
+  pub behind : List ℕ
+  pub tape-is : tape ≡ flatMap write-command commands ++ (write-command Tape.end ++ behind)
+  pub inner : All Inner commands
+  pub enough : count begins commands ≤ room
+
+-- the flag of the last of n lines set
+unfoldable pub marked-last : ℕ → List ℕ → List ℕ
+marked-last n flags = if eqb n 0 then flags else set flags (n - 1) 1
+
+-- the flags with one command more, n lines having begun before it: a line begins without marks
+abbrev pub flags-after : Command → ℕ → List ℕ → List ℕ
+flags-after (Addressed address indent) n flags = set flags n 0
+flags-after (Plain indent) n flags = set flags n 0
+flags-after (Marked low high) n flags = marked-last n flags
+flags-after (Token kind count) n flags = flags
+flags-after End n flags = flags
+
+abbrev pub lines-after : Command → ℕ → ℕ
+lines-after (Addressed address indent) n = n + 1
+lines-after (Plain indent) n = n + 1
+lines-after (Marked low high) n = n
+lines-after (Token kind count) n = n
+lines-after End n = n
+
+-- there is room for them
+abbrev pub FlagFits : Command → ℕ → List ℕ → Type 0
+FlagFits (Addressed address indent) n flags = n < length flags
+FlagFits (Plain indent) n flags = n < length flags
+FlagFits (Marked low high) n flags = n ≤ length flags
+FlagFits (Token kind count) n flags = Unit {0}
+FlagFits End n flags = Unit {0}
+
+pub record Flags (c : Command) (n : ℕ) (flags flags′ : List ℕ) (r : ℕ) : Type 0 where
+  pub flags-are : flags′ ≡ flags-after c n flags
+  pub lines-are : r ≡ lines-after c n

@@ -2,5 +2,6 @@
 // has an address is cleaned, and the finished lines that have marks are those that this line came into.
 mod calls; // the copy
 mod copying; // its commands
+mod walking; // the marks of a cleaned tape, as flags
 
 pub use calls::only;
