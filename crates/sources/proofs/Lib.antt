@@ -6,4 +6,5 @@ pub mod Held
 pub mod Stepwise
 pub mod Putting
 pub mod Walked
+pub mod Cleaned
 pub mod Answering

@@ -67,6 +67,13 @@ marks-left (suc fuel) (c ∷ cs) behind ms h l =
     let less : length (rest cs behind) ≤ fuel = omega (arith, length-append (write-command c) (rest cs behind), some-bytes c) in
     rw (b .same, b .size, h .0 .1, drop-append-seam (write-command c) (rest cs behind)) (marks-left fuel cs behind (add-marks c ms) (h .1) less)
 
+pub walk-told : (tape : List ℕ) (cs : List Tape.Command) (behind : List ℕ) → tape ≡ flatMap write-command cs ++ (write-command Tape.end ++ behind) → All Inner cs
+    → marks-in tape ≡ final cs []
+unfolding marks-in-by
+walk-told tape cs behind e h =
+    let tape-is : tape ≡ rest cs behind = e ∙ rest-is cs behind in
+    ap (λ (t : List ℕ). marks-from (length tape) t []) tape-is ∙ marks-left (length tape) cs behind [] h (omega (arith, ap length tape-is))
+
 -- ---- one command more
 
 modified-flags : (s : Span) (i : ℕ) (ms : List Marks) → map flag-of (modify i (λ m. some s) ms) ≡ set (map flag-of ms) i 1
@@ -143,16 +150,14 @@ pub record Walking (tape flags₀ : List ℕ) (at n : ℕ) (flags : List ℕ) : 
   pub room : length marks + count begins commands ≤ length flags₀
 
 pub walk-begins : (tape flags : List ℕ) → Walkable tape (length flags) → Walking tape flags 0 0 flags
-unfolding marks-in-by
 walk-begins tape flags w =
-    let tape-is : tape ≡ rest (w .commands) (w .behind) = w .tape-is ∙ rest-is (w .commands) (w .behind) in
     record {
       commands = w .commands;
       behind = w .behind;
-      left = tape-is;
+      left = w .tape-is ∙ rest-is (w .commands) (w .behind);
       inner = w .inner;
       marks = [];
-      told = sym (ap (λ (t : List ℕ). marks-from (length tape) t []) tape-is ∙ marks-left (length tape) (w .commands) (w .behind) [] (w .inner) (omega (arith, ap length tape-is)));
+      told = sym (walk-told tape (w .commands) (w .behind) (w .tape-is) (w .inner));
       puts = record { holds = sym (put-none flags 0); ends = refl };
       long = refl;
       room = omega (arith, w .enough);
