@@ -2,25 +2,32 @@
 use Prim.Native.Nat.{ℕ, _+_, _-_, _≤_, _<_}
 use mathlib.Core.Path.{_≡_}
 use mathlib.Core.Bool.{Bool, true, false}
-use mathlib.Core.List.{List, [], _++_, flatMap}
+use mathlib.Core.List.{List, [], _++_, map, flatMap}
 use mathlib.Core.Option.{Option, none, some}
 use lib.Dec.{eqb}
-use lib.ListN.{length, set}
+use lib.ListN.{length, getD, set}
 use Rattle.reference.specs.Control.{if_then_else_}
 use Rattle.reference.specs.Lists.{is-some, count}
 use Rattle.reference.specs.Listing.{Listing}
+use Rattle.reference.specs.Rules.{Rules}
 use Rattle.reference.specs.Spans.{Marks}
+use Rattle.reference.specs.Claim.{one-if}
+use Rattle.reference.specs.Run.{run, attempts-of, finished}
+use Rattle.reference.specs.Marks.{comes-to, finished-marks}
 use Rattle.reference.specs.Tape as Tape
 use Rattle.reference.specs.Tape.{write-command}
 use Rattle.reference.specs.Questions as Q
-use Rattle.reference.specs.Questions.{read-command, is-end, read}
+use Rattle.reference.specs.Questions.{read-command, is-end, read, marks-in}
+use Rattle.reference.specs.Reply as R
+use Rattle.reference.specs.Reply.{reply}
 use Rattle.reference.proofs.Commands.{Writable}
 use Rattle.reference.proofs.Limits.{All}
+use Rattle.answers.specs.Answers.{measured, output-after, Writes}
 use Rattle.tape.specs.Bytes.{Puts}
 use Rattle.tape.specs.Commands.{command-in}
 use Rattle.tape.specs.declared.commands.Command.{Command}
 use Rattle.tape.specs.declared.commands.Command.the-variants.{Addressed, Plain, Marked, Token, End}
-use Rattle.sources.specs.Only.{only-tape}
+use Rattle.sources.specs.Only.{only-tape, Lent, came-copy, came-cleaning, came-reply}
 
 -- ---- one command of the copy
 
@@ -100,3 +107,44 @@ FlagFits End n flags = Unit {0}
 pub record Flags (c : Command) (n : ℕ) (flags flags′ : List ℕ) (r : ℕ) : Type 0 where
   pub flags-are : flags′ ≡ flags-after c n flags
   pub lines-are : r ≡ lines-after c n
+
+-- ---- the cleaning of the copy, and its flags
+
+-- a refusal of the cleaning, or some bytes
+abbrev pub in-place-of : R.Reply → List ℕ → Q.Answer (List ℕ)
+in-place-of (Q.Refused number place) bytes = Q.Refused number place
+in-place-of (Q.Passed c) bytes = Q.Passed bytes
+
+-- Every lent byte after the cleaning of an accepted tape, and the flags of the finished lines: 1 where a line has marks, else 0.
+pub record FlagsCleaned (rules : Rules) (tape work-a work-b out flags : List ℕ) (work-a′ work-b′ out′ flags′ : List ℕ) (r : Q.Answer ℕ)
+    : Type 0 where
+  pub output-is : out′ ≡ R.output-after (reply rules tape (length work-a) (length work-b) (length out)) out
+  pub work-a-is : work-a′ ≡ R.work-after (reply rules tape (length work-a) (length work-b) (length out)) work-a
+  pub work-b-is : work-b′ ≡ R.work-after (reply rules tape (length work-a) (length work-b) (length out)) work-b
+  pub writes : (lines : Listing) → read tape ≡ Q.Passed lines
+      → Writes (in-place-of (reply rules tape (length work-a) (length work-b) (length out))
+      (map flag-of (finished-marks rules lines (marks-in tape))))
+      flags
+      flags′
+      r
+
+-- ---- the call
+
+-- what it leaves: a refusal changes nothing lent, but that of 14, which leaves the copy
+unfoldable pub lent-after : Rules → ℕ → List ℕ → Lent → Lent
+lent-after rules k tape lent =
+    record {
+      copy = output-after (came-copy rules k tape lent) (lent .copy);
+      work-a = R.work-after (came-cleaning rules k tape lent) (lent .work-a);
+      work-b = R.work-after (came-cleaning rules k tape lent) (lent .work-b);
+      output = R.output-after (came-cleaning rules k tape lent) (lent .output);
+      flags = output-after (came-reply rules k tape lent) (lent .flags);
+    }
+
+-- Its answer, and every lent byte afterwards. Where it is not refused, the flag of the finished line q is 1 exactly if line k comes into it.
+pub record CameInto (rules : Rules) (k : ℕ) (tape : List ℕ) (lent lent′ : Lent) (r : Q.Answer ℕ) : Type 0 where
+  pub reply-is : r ≡ measured (came-reply rules k tape lent)
+  pub lent-is : lent′ ≡ lent-after rules k tape lent
+  pub told : (n : ℕ) → r ≡ Q.Passed n → (input : Listing) → read tape ≡ Q.Passed input
+      → (n ≡ length (finished rules input))
+      × ((q : ℕ) → k < length input → q < n → getD (lent′ .flags) q 0 ≡ one-if (comes-to (attempts-of (run rules input)) k q))

@@ -1,14 +1,24 @@
-// The copy. Every question is asked before a byte is written: a refusal changes nothing.
+// The copy, and the call that cleans it and tells what its one line came into.
 use crate::copying::put_commands;
+use crate::walking::walk;
 use answers::Answer;
+use clean::Reply;
+use clean::clean;
+use lines::rules::Rules;
+use tape::commands::text_of;
 use tape::questions::Checked;
+use tape::questions::asked;
 use tape::questions::check;
+ghost use Prim.Native.Nat.{_≤_};
 ghost use lib.ListN.{length};
 ghost use Rattle.answers.specs.Answers.{answer-of, Writes};
+ghost use Rattle.lines.specs.Rules.{rules-of};
+ghost use Rattle.tape.specs.Questions.{Accepted};
 ghost use Rattle.sources.specs.Only.{only-reply};
+ghost use Rattle.sources.specs.Calls.{FlagsCleaned, CameInto};
 
 // The copy of a tape in which line k alone has an address, and no 03 stands: it stands at the front of `out`, and its length is answered.
-// Where there is no line k, no line has an address.
+// Where there is no line k, no line has an address. A refusal changes nothing.
 pub fn only(k: usize, tape: &[u8], out: &mut [u8]) -> Answer
     ensures { λ r. ⌜ Writes (only-reply k (now (tape .entry)) (length (now (out .entry)))) (now (out .entry)) (now (out .exit))
         (answer-of r) ⌝ }
@@ -24,6 +34,29 @@ pub fn only(k: usize, tape: &[u8], out: &mut [u8]) -> Answer
         Checked::Passed(_) => {
             let end = put_commands(tape, k, out);
             Answer::Passed(end as u64)
+        }
+    }
+}
+
+// Cleans an accepted tape, and writes a flag for each finished line to the front of `flags`: 1 where it has marks, else 0.
+fn flags_of(
+    rules: Rules,
+    tape: &[u8],
+    work_a: &mut [u8],
+    work_b: &mut [u8],
+    out: &mut [u8],
+    flags: &mut [u8],
+) -> Answer
+    requires { ⌜ Accepted (now tape) × (256 ≤ length (now flags)) ⌝ }
+    ensures { λ r. ⌜ FlagsCleaned (rules-of rules)
+        (now (tape .entry)) (now («work_a» .entry)) (now («work_b» .entry)) (now (out .entry)) (now (flags .entry))
+        (now («work_a» .exit)) (now («work_b» .exit)) (now (out .exit)) (now (flags .exit)) (answer-of r) ⌝ }
+{
+    match clean(rules, tape, work_a, work_b, out) {
+        Reply::Refused { number, place } => Answer::Refused { number, place },
+        Reply::Finished(_) => {
+            let n = walk(out, flags);
+            Answer::Passed(n as u64)
         }
     }
 }
