@@ -1,22 +1,21 @@
 -- No step of a run looks at an address: without addresses the run of a listing is its run, with every listing in it without addresses. So two listings
 -- that differ in addresses alone have runs of the same attempts, into the same lines, and of the same counts (`same-run`). Assumes nothing.
 use Prim.Native.Nat.{ℕ, zero, suc, pred, _+_}
-use native.Mathlib.Omega.{arith}
 use mathlib.Core.Path.{_≡_, refl, sym, ap, _∙_}
 use mathlib.Core.Bool.{Bool, true, false}
-use mathlib.Core.List.{List, [], _∷_, _++_, map, map-append, flatten}
+use mathlib.Core.List.{List, [], _∷_, map, map-append, flatten}
 use mathlib.Core.Option.{Option, none, some}
-use lib.Dec.{ltb, eqb}
-use lib.ListN.{length, getD, length-map}
-use Rattle.reference.specs.Control.{_&&_, _||_, if_then_else_, let-some_else_then_}
-use Rattle.reference.specs.Lists.{any, count}
+use lib.Dec.{ltb}
+use lib.ListN.{length, length-map}
+use Rattle.reference.specs.Control.{if_then_else_, let-some_else_then_}
+use Rattle.reference.specs.Lists.{any}
 use Rattle.reference.specs.Text.{Text}
-use Rattle.reference.specs.Listing.{Line, Listing}
+use Rattle.reference.specs.Listing.{Listing}
 use Rattle.reference.specs.Rules.{Rules}
 use Rattle.reference.specs.Life.{Labels}
 use Rattle.reference.specs.Join.{try-at, targets}
 use Rattle.reference.specs.Straight.{breaks, breaks-from}
-use Rattle.reference.specs.Run.{labels-from, addressed-in, shift, Attempt, failure, success, attempts-from, propagate-once, after-attempts, removals, changed, rounds-from, limit, after-rounds, dead-result, cuts-from, drop-dead-results, last-of, Run, run, attempts-of, steps, finished, Tally, three, settled, Counts, attempts-in, counts}
+use Rattle.reference.specs.Run.{labels-from, addressed-in, shift, Attempt, failure, success, attempts-from, propagate-once, after-attempts, removals, changed, rounds-from, limit, after-rounds, dead-result, cuts-from, drop-dead-results, last-of, Run, run, attempts-of, finished, attempts-in, counts}
 use Rattle.reference.specs.Marks.{moved, comes-to}
 use Rattle.reference.proofs.Marks.{finished-is}
 use Rattle.laws.proofs.Scans.{any-map, count-map}

@@ -1,23 +1,22 @@
 -- The tape that a cleaning leaves can be walked (`cleaned-walkable`), and the walk finds the marks of the finished lines (`cleaned-marks`). Assumes nothing.
-use Prim.Native.Nat.{ℕ, zero, suc, pred, _+_, _≤_, _<_, _^_}
+use Prim.Native.Nat.{ℕ, _+_, _≤_}
 use native.Mathlib.Omega.{arith}
 use native.Mathlib.Nat.{le-trans}
 use mathlib.Core.Path.{_≡_, refl, sym, ap, _∙_}
-use mathlib.Core.Bool.{Bool, true, false}
 use mathlib.Core.List.{List, [], _∷_, _++_, map, flatMap, append-assoc, append-nil}
 use mathlib.Core.Option.{none, some}
 use lib.ListN.{length, getD, drop}
 use lib.Seq.{append-snoc}
 use Rattle.reference.specs.Control.{if_then_else_}
-use Rattle.reference.specs.Lists.{count, modify}
+use Rattle.reference.specs.Lists.{count}
 use Rattle.reference.specs.Listing.{Token, Line, Listing}
 use Rattle.reference.specs.Rules.{Rules}
-use Rattle.reference.specs.Spans.{Span, Marks}
-use Rattle.reference.specs.Claim.{size, text-in, text}
+use Rattle.reference.specs.Spans.{Marks}
+use Rattle.reference.specs.Claim.{text-in, text}
 use Rattle.reference.specs.Run.{finished}
 use Rattle.reference.specs.Marks.{finished-marks}
 use Rattle.reference.specs.Tape as Tape
-use Rattle.reference.specs.Tape.{old, write-command, write-marks-by, write-line, write-line-by, write-lines, write-lines-by, write, write-by}
+use Rattle.reference.specs.Tape.{write-command, write-marks-by, write-line, write-line-by, write-lines, write-lines-by, write, write-by}
 use Rattle.reference.specs.Questions.{Passed, read, add-marks, marks-in}
 use Rattle.reference.proofs.LittleEndian.{Bytes}
 use Rattle.reference.proofs.Commands.{AddressFits}
@@ -25,7 +24,7 @@ use Rattle.reference.proofs.Writing.{flat-append, mark-last}
 use Rattle.reference.proofs.Limits.{All, all-append, TokenFits, LineFits, MarksFit, Fits}
 use Rattle.reference.proofs.Tapes.{read-fits, read-marks-fit}
 use Rattle.reference.proofs.Marks.{marks-length, finished-marks-fit}
-use Rattle.sources.specs.Calls.{flag-of, begins, Inner, Walkable}
+use Rattle.sources.specs.Calls.{begins, Inner, Walkable}
 use Rattle.sources.proofs.Held.{Kind, Held, finished-held, finished-text, finished-few}
 use Rattle.sources.proofs.Walked.{final, walk-told}
 

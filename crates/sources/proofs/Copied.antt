@@ -1,13 +1,13 @@
 -- The copy's tape: it is accepted wherever the listing's was (`copy-reads`), no 03 is read there (`copy-marks`), and a buffer of 34,561 bytes holds it
 -- (`copy-length`). Assumes nothing.
-use Prim.Native.Nat.{ℕ, zero, suc, _+_, _≤_}
+use Prim.Native.Nat.{ℕ, zero, suc, _≤_}
 use native.Mathlib.Omega.{arith}
-use mathlib.Core.Path.{_≡_, refl, sym, ap, _∙_}
+use mathlib.Core.Path.{_≡_, refl, ap, _∙_}
 use mathlib.Core.Bool.{Bool}
-use mathlib.Core.List.{List, [], _∷_, _++_, map}
-use mathlib.Core.Option.{none, some}
+use mathlib.Core.List.{List, [], _∷_, map}
+use mathlib.Core.Option.{none}
 use lib.ListN.{length, length-map}
-use Rattle.reference.specs.Listing.{Line, Listing}
+use Rattle.reference.specs.Listing.{Listing}
 use Rattle.reference.specs.Rules.{Rules}
 use Rattle.reference.specs.Spans.{Marks, span-of}
 use Rattle.reference.specs.Claim.{token-count, text}
@@ -21,7 +21,7 @@ use Rattle.reference.proofs.Writing.{write-length}
 use Rattle.reference.proofs.Tapes.{read-limits}
 use Rattle.reference.proofs.Written.{read-write}
 use Rattle.joining.specs.Bare.{bare, bare-lines}
-use Rattle.sources.specs.Only.{with-address, only, only-tape}
+use Rattle.sources.specs.Only.{only, only-tape}
 
 -- ---- no marks, and no marks for each line
 

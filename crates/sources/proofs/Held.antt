@@ -1,9 +1,9 @@
 -- No step of a run makes a token of another kind or gives a line another address: what bytes can hold of the input, they can hold of the finished
 -- listing (`finished-held`). So the finished tape can be walked, also where it is too long to be accepted. Assumes nothing.
-use Prim.Native.Nat.{ℕ, zero, suc, _+_, _≤_, _<_, _^_}
+use Prim.Native.Nat.{ℕ, zero, suc, _≤_, _<_}
 use native.Mathlib.Omega.{arith}
-use mathlib.Core.Path.{_≡_, refl, sym, ap, _∙_}
-use mathlib.Core.Bool.{Bool, true, false}
+use mathlib.Core.Path.{_≡_}
+use mathlib.Core.Bool.{true}
 use mathlib.Core.List.{List, [], _∷_, _++_, Sublistᴰ, Sublistᴰ·slnil, Sublistᴰ·cons, Sublistᴰ·cons-cons}
 use mathlib.Core.Option.{Option, none, some}
 use lib.ListN.{length, drop, length-map}
@@ -12,19 +12,19 @@ use Rattle.reference.specs.Control.{if_then_else_}
 use Rattle.reference.specs.Lists.{is-empty, remove, modify}
 use Rattle.reference.specs.Text.{Text}
 use Rattle.reference.specs.Listing.{Token, token, is, Number, Punct, Line, Listing, _at_, with-tokens}
-use Rattle.reference.specs.Numbers.{folded, fold-at, fold, merge-into, merge}
-use Rattle.reference.specs.Rules.{Rules, volatile}
+use Rattle.reference.specs.Numbers.{fold-at, fold, merge-into, merge}
+use Rattle.reference.specs.Rules.{Rules}
 use Rattle.reference.specs.Shapes.{Assignment, right-side}
 use Rattle.reference.specs.Life.{Labels}
 use Rattle.reference.specs.Join.{substitute, rewrite-use, try-at}
-use Rattle.reference.specs.Claim.{sum, size, text-in, text}
+use Rattle.reference.specs.Claim.{text}
 use Rattle.reference.specs.Run.{Attempt, after-attempts, after-rounds, last-of, run, steps, listings, finished}
 use Rattle.reference.specs.Questions.{Passed, read}
 use Rattle.reference.specs.Demand.{Attempts, over, failed, succeeded, Rounds, enough, ended, again, Cuts, done, kept, dropped, Within, Each}
 use Rattle.reference.proofs.Cases.{by-if, by-some}
-use Rattle.reference.proofs.Shapes.{Folds, folds, Cut, gone, short, later, Assigning, assigning, assigns}
+use Rattle.reference.proofs.Shapes.{folds, Cut, gone, short, later, Assigning, assigning, assigns}
 use Rattle.reference.proofs.Commands.{AddressFits}
-use Rattle.reference.proofs.Limits.{All, all-append, LineFits, Limits}
+use Rattle.reference.proofs.Limits.{All, all-append}
 use Rattle.reference.proofs.Marks.{finished-is}
 use Rattle.reference.proofs.Rounds.{run-taken}
 use Rattle.reference.proofs.Guarantee.{demand3-tape}

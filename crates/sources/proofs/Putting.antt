@@ -9,7 +9,6 @@ use lib.Dec.{eqb}
 use lib.ListN.{length, take, drop, length-append, length-drop}
 use lib.Seq.{length-take-le}
 use borrow.Author.Tests.{leb-true}
-use Rattle.reference.specs.Control.{if_then_else_}
 use Rattle.reference.specs.Listing.{Listing}
 use Rattle.reference.specs.Tape as Tape
 use Rattle.reference.specs.Tape.{old, write-command, write-command-by, write-lines-by, write-by, command-size, command-of}
@@ -20,9 +19,8 @@ use Rattle.reference.proofs.Reading.{PassesBy, command-passed-by, passed-inj, r
 use Rattle.reference.proofs.Limits.{Limits}
 use Rattle.reference.proofs.Tapes.{kept}
 use Rattle.laws.proofs.Scans.{if-true, if-false}
-use Rattle.tape.specs.Bytes.{put, Puts}
+use Rattle.tape.specs.Bytes.{Puts}
 use Rattle.tape.specs.Commands.{command-in}
-use Rattle.tape.specs.Questions.{Accepted}
 use Rattle.tape.specs.declared.commands.Command.{Command}
 use Rattle.tape.specs.declared.commands.Command.the-variants.{Addressed, Plain, Marked, Token, End}
 use Rattle.tape.proofs.little_endian.Bytes.{put-none, puts-append, puts-length}

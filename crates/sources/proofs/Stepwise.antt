@@ -4,8 +4,8 @@ use Prim.Native.Nat.{ℕ, zero, suc, pred, _≤_}
 use native.Mathlib.Omega.{arith}
 use mathlib.Core.Path.{_≡_, refl, sym, ap, _∙_}
 use mathlib.Core.Bool.{Bool, true, false, true≢false}
-use mathlib.Core.List.{List, [], _∷_, _++_, map, map-append, append-nil}
-use mathlib.Core.Option.{Option, none, some}
+use mathlib.Core.List.{List, [], _∷_, _++_, map-append, append-nil}
+use mathlib.Core.Option.{Option, none}
 use lib.Dec.{eqb}
 use lib.ListN.{length, length-map}
 use borrow.Author.Tests.{eq-eqb, ne-eqb, eqb-true, eqb-false, leb-true}
@@ -13,7 +13,7 @@ use Rattle.reference.specs.Control.{if_then_else_}
 use Rattle.reference.specs.Lists.{modify}
 use Rattle.reference.specs.Listing.{Token, Line, Listing}
 use Rattle.reference.specs.Spans.{Marks}
-use Rattle.reference.specs.Tape.{old, Command, new-line, marked, new-token, end, write-command, write-lines, command-of, command-by}
+use Rattle.reference.specs.Tape.{old, Command, new-line, marked, new-token, end, write-command, write-lines, command-of}
 use Rattle.reference.specs.Questions.{has-line, is-end, add, add-marks}
 use Rattle.reference.proofs.Reading.{PassesBy, State, left, ReachedBy}
 use Rattle.reference.proofs.Writing.{with-token, write-new-line, write-new-token}

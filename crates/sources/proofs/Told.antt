@@ -1,17 +1,17 @@
 -- THE LAW (`told`): a copy of the listing in which line k alone has an address, and no 03 stands, tells by its marks the finished lines that line k comes
 -- into. With it `same-attempts` and so on: the run of the copy is the run of the listing, but for addresses. Assumes nothing.
-use Prim.Native.Nat.{ℕ, zero, suc, _≤_, _<_}
+use Prim.Native.Nat.{ℕ, zero, suc, _<_}
 use native.Mathlib.Omega.{arith}
 use mathlib.Core.Path.{_≡_, refl, sym, ap, _∙_}
 use mathlib.Core.Bool.{Bool, true, false}
 use mathlib.Core.List.{List, [], _∷_, _++_, map}
-use mathlib.Core.Option.{none, some}
+use mathlib.Core.Option.{none}
 use lib.Dec.{ltb}
-use lib.ListN.{length, getD, drop}
+use lib.ListN.{length, getD}
 use borrow.Author.Tests.{ltb-true, ltb-false, lt-ltb, le-ltb}
 use Rattle.reference.specs.Control.{_&&_, if_then_else_, let-some_else_then_}
 use Rattle.reference.specs.Lists.{is-some}
-use Rattle.reference.specs.Listing.{Line, Listing}
+use Rattle.reference.specs.Listing.{Listing}
 use Rattle.reference.specs.Rules.{Rules}
 use Rattle.reference.specs.Spans.{Marks, span-of, hull}
 use Rattle.reference.specs.Straight.{breaks}
@@ -19,7 +19,7 @@ use Rattle.reference.specs.Run.{run, attempts-of, finished, counts}
 use Rattle.reference.specs.Marks.{comes-to, adds, added, of-each, finished-marks}
 use Rattle.laws.proofs.Scans.{and-true, and-false}
 use Rattle.joining.specs.Bare.{bare, bare-lines}
-use Rattle.sources.specs.Only.{with-address, only, came, flags, came-flags}
+use Rattle.sources.specs.Only.{only, came}
 use Rattle.sources.proofs.Bared.{did, attempts-same, counts-same, finished-same, finished-length, comes-same, breaks-same}
 
 -- ---- the copy is the listing, but for addresses

@@ -3,26 +3,26 @@
 use Prim.Native.Nat.{ℕ, zero, suc, pred, _+_, _-_, _≤_, _<_}
 use native.Mathlib.Omega.{arith}
 use mathlib.Core.Path.{_≡_, refl, sym, ap, _∙_}
-use mathlib.Core.Bool.{Bool, true, false, true≢false, false≢true}
+use mathlib.Core.Bool.{Bool, true, false, true≢false}
 use mathlib.Core.List.{List, [], _∷_, _++_, map, map-append, flatMap, append-assoc}
 use mathlib.Core.Option.{none, some}
 use lib.Dec.{eqb}
-use lib.ListN.{length, take, drop, set, length-append, length-drop, length-map, length-set}
+use lib.ListN.{length, drop, set, length-append, length-drop, length-map, length-set}
 use lib.Seq.{drop-drop, drop-append-seam, set-append-left}
 use borrow.Author.Tests.{eq-eqb, ne-eqb, le-leb}
 use Rattle.reference.specs.Control.{if_then_else_}
-use Rattle.reference.specs.Lists.{is-some, count, modify}
+use Rattle.reference.specs.Lists.{count, modify}
 use Rattle.reference.specs.Spans.{Span, Marks}
 use Rattle.reference.specs.Tape as Tape
-use Rattle.reference.specs.Tape.{old, write-command, write-command-by, command-size, command-of}
-use Rattle.reference.specs.Questions.{is-end, ask, Passed, add-marks, marks-from, marks-from-by, marks-in, marks-in-by, is-command, ends-inside-by}
+use Rattle.reference.specs.Tape.{old, write-command, write-command-by}
+use Rattle.reference.specs.Questions.{is-end, Passed, add-marks, marks-from, marks-from-by, marks-in, marks-in-by, ends-inside-by}
 use Rattle.reference.proofs.Cases.{true-false}
 use Rattle.reference.proofs.Lines.{length-modify}
 use Rattle.reference.proofs.Commands.{Writable, read-of-write}
 use Rattle.reference.proofs.Reading.{ask-yes, passed-inj}
 use Rattle.reference.proofs.Limits.{All}
 use Rattle.laws.proofs.Scans.{if-true, if-false}
-use Rattle.tape.specs.Bytes.{put, Puts}
+use Rattle.tape.specs.Bytes.{Puts}
 use Rattle.tape.specs.Commands.{command-in, size-of, Sized, standing, standing-by, Stood}
 use Rattle.tape.specs.declared.commands.Command.{Command}
 use Rattle.tape.specs.declared.commands.Command.the-variants.{Addressed, Plain, Marked, Token, End}

@@ -130,6 +130,9 @@ pub record FlagsCleaned (rules : Rules) (tape work-a work-b out flags : List ℕ
 
 -- ---- the call
 
+abbrev pub lent-as : List ℕ → List ℕ → List ℕ → List ℕ → List ℕ → Lent
+lent-as copy work-a work-b out flags = record { copy = copy; work-a = work-a; work-b = work-b; output = out; flags = flags }
+
 -- what it leaves: a refusal changes nothing lent, but that of 14, which leaves the copy
 unfoldable pub lent-after : Rules → ℕ → List ℕ → Lent → Lent
 lent-after rules k tape lent =
@@ -141,7 +144,8 @@ lent-after rules k tape lent =
       flags = output-after (came-reply rules k tape lent) (lent .flags);
     }
 
--- Its answer, and every lent byte afterwards. Where it is not refused, the flag of the finished line q is 1 exactly if line k comes into it.
+-- Its answer, and every lent byte afterwards. Where it is not refused, it answers how many lines are finished, and the flag of the finished
+-- line q is 1 exactly if line k comes into it.
 pub record CameInto (rules : Rules) (k : ℕ) (tape : List ℕ) (lent lent′ : Lent) (r : Q.Answer ℕ) : Type 0 where
   pub reply-is : r ≡ measured (came-reply rules k tape lent)
   pub lent-is : lent′ ≡ lent-after rules k tape lent

@@ -71,17 +71,15 @@ pub record Lent : Type 0 where
 abbrev pub FLAGS : ℕ
 FLAGS = 256
 
--- what is asked before the tape is read: what the cleaning asks of the settings, and the lengths of all that is lent
+-- what is asked before the tape is read: what the cleaning asks, and the two lengths more
 unfoldable pub ask-lent : {A : Type 0} → Rules → Lent → Answer A → Answer A
 ask-lent rules lent a =
     ask (λ number. 0)
     ((1, is-convention rules)
     ∷ (9, is-edition rules)
     ∷ (2, has-room (length (lent .work-a)) (length (lent .work-b)) (length (lent .output)))
-    ∷ (2, leb FLAGS (length (lent .flags)))
-    ∷ (2, leb COPY (length (lent .copy)))
     ∷ [])
-    a
+    (ask (λ number. 0) ((2, leb FLAGS (length (lent .flags))) ∷ (2, leb COPY (length (lent .copy))) ∷ []) a)
 
 -- the first line that breaks the profile, where it is asked for, as the cleaning asks
 unfoldable pub in-profile : {A : Type 0} → Rules → Listing → Answer A → Answer A

@@ -1,5 +1,5 @@
-// The walk over a cleaned tape: which of its lines have marks. A cleaned tape may be longer than an accepted one, so no question is asked of it but
-// what stands at an offset.
+// The walk over a cleaned tape: which of its lines have marks. A cleaned tape may be longer than an accepted one, so no question is asked
+// of it but what stands at an offset.
 use tape::commands::Command;
 use tape::commands::size_of;
 use tape::questions::is_end;

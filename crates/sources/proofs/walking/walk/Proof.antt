@@ -5,7 +5,7 @@ use Rattle.reference.specs.Tape.{old}
 use Rattle.tape.proofs.questions.Asking.{ends-same}
 use Prim.Native.Nat.{_-_}
 use lib.ListN.{length}
-use Rattle.sources.proofs.Walked.{Walking, walk-begins, walk-stands, walk-inside, walk-ends, walk-fits, walk-long, walk-on}
+use Rattle.sources.proofs.Walked.{Walking, walk-begins, walk-stands, walk-inside, walk-ends, walk-fits, walk-on}
 use borrow.Author.Needs.{needs}
 use Rattle.sources.proofs.walking.walk.Statement.{statement}
 use Rattle.sources.proofs.walking.walk.Tie as tie
