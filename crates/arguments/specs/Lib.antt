@@ -1,0 +1,5 @@
+pub mod Words
+pub mod Tables
+pub mod Request
+pub mod Values
+pub mod Requests

@@ -1,0 +1,51 @@
+-- Operands that stand for a number. Assumes nothing.
+use Prim.Native.Nat.{ℕ, _+_, _-_, _*_}
+use mathlib.Core.Bool.{Bool, false}
+use mathlib.Core.List.{List, [], _∷_}
+use mathlib.Core.Option.{Option, none, some}
+use lib.Dec.{eqb, ltb, leb}
+use lib.ListN.{length, drop}
+use Rattle.reference.specs.Control.{if_then_else_}
+use Rattle.reference.specs.Text.{Text, bytes, starts-with}
+use Rattle.arguments.specs.Words.{number-of}
+use Rattle.arguments.specs.Tables.{verbs, editions, actions}
+use Rattle.arguments.specs.declared.values.Value.{Value}
+use Rattle.arguments.specs.declared.values.Value.the-variants.{Is, Not}
+
+abbrev pub option-of : Value → Option ℕ
+option-of (Is v) = some v
+option-of Not = none
+
+-- 0 to 9, A to F, a to f; 16 for another byte
+unfoldable pub digit : ℕ → ℕ
+digit b =
+    if ltb b 48 then 16 else if ltb b 58 then b - 48 else if ltb b 65 then 16 else if ltb b 71 then b - 55 else if ltb b 97 then 16
+    else if ltb b 103 then b - 87 else 16
+
+-- the number that digits stand for, behind a number v
+unfoldable pub digits-from : ℕ → ℕ → Text → Option ℕ
+digits-from base v [] = some v
+digits-from base v (b ∷ bs) = let rest = digits-from base (v * base + digit b) bs in if leb base (digit b) then none else rest
+
+-- 1 to 16 digits
+unfoldable pub number-in : ℕ → Text → Option ℕ
+number-in base w = if eqb (length w) 0 then none else if ltb 16 (length w) then none else digits-from base 0 w
+
+-- a place in a row
+unfoldable pub below : ℕ → ℕ → Option ℕ
+below n count = if ltb n count then some n else none
+
+-- hexadecimal, with 0x in front or without
+unfoldable pub base-in : Text → Option ℕ
+base-in w = if starts-with w (bytes "0x") then number-in 16 (drop 2 w) else number-in 16 w
+
+-- a name has 1 to 8 bytes
+unfoldable pub is-name : Text → Bool
+is-name w = if eqb (length w) 0 then false else ltb (length w) 9
+
+-- by the kinds of `kinds`: e, a, v, b, n
+unfoldable pub value-of : ℕ → Text → Option ℕ
+value-of kind w =
+    if eqb kind 101 then below (number-of editions w) 2 else if eqb kind 97 then below (number-of actions w) 4
+    else if eqb kind 118 then below (number-of verbs w) 13 else if eqb kind 98 then base-in w else if eqb kind 110 then number-in 10 w
+    else none

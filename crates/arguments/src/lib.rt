@@ -1,0 +1,17 @@
+// The words that the program `puchkewa` was started with, read as a request. What is right stands in specs/Requests.antt, written from the
+// help's grammar: `parse` answers that, for all bytes.
+mod reading; // one word more, and all of them
+mod request; // what is known of a request so far
+mod tables; // which words, options and operands there are
+mod values; // operands that stand for a number
+mod words; // the words of a slice
+
+pub use reading::begin;
+pub use reading::parse;
+pub use reading::step;
+pub use request::Request;
+pub use values::Value;
+pub use values::number_in;
+pub use words::nth_word;
+pub use words::number_of;
+pub use words::word_end;

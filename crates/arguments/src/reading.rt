@@ -1,0 +1,304 @@
+// The words of a request, one after the other.
+use crate::request::Request;
+use crate::tables::convention_number;
+use crate::tables::edition_number;
+use crate::tables::fewest;
+use crate::tables::help_number;
+use crate::tables::kind_of;
+use crate::tables::most;
+use crate::tables::option_number;
+use crate::tables::taking;
+use crate::tables::verb_number;
+use crate::values::Value;
+use crate::values::is_name;
+use crate::values::value_of;
+use crate::words::word_end;
+ghost use mathlib.Core.Path.{_≡_};
+ghost use Rattle.arguments.specs.Words.{split, number-of};
+ghost use Rattle.arguments.specs.Tables.{verbs, options, conventions, editions, kind-of};
+ghost use Rattle.arguments.specs.Requests.{none-yet, is-option, put-verb, take-goal, put-convention, put-edition, take-value};
+ghost use Rattle.arguments.specs.Requests.{set-option, put-option, take-number, take-name, put-operand, step-of};
+ghost use Rattle.arguments.specs.Requests.{judge-files, judge-goal, judge-operands, judged, request-of};
+
+// Before the first word: nothing is asked for; the settings are System V and the edition of 2018.
+pub fn begin() -> Request
+    ensures { λ r. ⌜ r ≡ none-yet ⌝ }
+{
+    Request {
+        verb: 0,
+        help: false,
+        fault: 0,
+        fault_at: 0,
+        pending: 0,
+        convention: 1,
+        edition: 0,
+        parts: false,
+        profile: false,
+        settle: false,
+        exact: false,
+        goal: 0,
+        goal_at: 0,
+        operands: 0,
+        first: 0,
+        third: 0,
+        last: 0,
+        value: 0,
+    }
+}
+
+// Word k is the verb at place n.
+fn put_verb(s: Request, k: u64, n: u64) -> Request
+    ensures { λ r. ⌜ r ≡ put-verb s k n ⌝ }
+{
+    if n < 13 {
+        return s.with_verb(n + 1);
+    }
+    s.with_fault(1, k)
+}
+
+fn take_verb(s: Request, k: u64, word: &[u8]) -> Request
+    ensures { λ r. ⌜ r ≡ put-verb s k (number-of verbs (now (word .entry))) ⌝ }
+{
+    put_verb(s, k, verb_number(word))
+}
+
+// Word k names a file or a folder for the result: only one is taken.
+fn take_goal(s: Request, goal: u64, k: u64) -> Request
+    ensures { λ r. ⌜ r ≡ take-goal s goal k ⌝ }
+{
+    if s.goal == 0 {
+        return s.with_goal(goal, k);
+    }
+    s.with_fault(4, k)
+}
+
+fn put_convention(s: Request, k: u64, n: u64) -> Request
+    ensures { λ r. ⌜ r ≡ put-convention s k n ⌝ }
+{
+    if n < 3 {
+        return s.with_convention(n);
+    }
+    s.with_fault(3, k)
+}
+
+fn take_convention(s: Request, k: u64, word: &[u8]) -> Request
+    ensures { λ r. ⌜ r ≡ put-convention s k (number-of conventions (now (word .entry))) ⌝ }
+{
+    put_convention(s, k, convention_number(word))
+}
+
+fn put_edition(s: Request, k: u64, n: u64) -> Request
+    ensures { λ r. ⌜ r ≡ put-edition s k n ⌝ }
+{
+    if n < 2 {
+        return s.with_edition(n);
+    }
+    s.with_fault(3, k)
+}
+
+fn take_edition(s: Request, k: u64, word: &[u8]) -> Request
+    ensures { λ r. ⌜ r ≡ put-edition s k (number-of editions (now (word .entry))) ⌝ }
+{
+    put_edition(s, k, edition_number(word))
+}
+
+// Word k is the value of the option before it: -c, -e, -o or -d.
+fn take_value(s: Request, k: u64, word: &[u8]) -> Request
+    ensures { λ r. ⌜ r ≡ take-value s k (now (word .entry)) ⌝ }
+{
+    if s.pending == 1 {
+        return take_convention(s, k, word);
+    }
+    if s.pending == 2 {
+        return take_edition(s, k, word);
+    }
+    if s.pending == 6 {
+        return take_goal(s, 1, k);
+    }
+    take_goal(s, 2, k)
+}
+
+// What an option that the verb takes asks for: a setting, or that its value comes next.
+fn set_option(s: Request, n: u64) -> Request
+    ensures { λ r. ⌜ r ≡ set-option s n ⌝ }
+{
+    if n == 2 {
+        return s.with_parts();
+    }
+    if n == 3 {
+        return s.with_profile();
+    }
+    if n == 4 {
+        return s.with_settle();
+    }
+    if n == 7 {
+        return s.with_exact();
+    }
+    if n < 9 {
+        return s.with_pending(n + 1);
+    }
+    s
+}
+
+// Word k is the option at place n.
+fn put_option(s: Request, k: u64, n: u64) -> Request
+    ensures { λ r. ⌜ r ≡ put-option s k n ⌝ }
+{
+    if taking(s.verb, n) == b'y' {
+        return set_option(s, n);
+    }
+    s.with_fault(2, k)
+}
+
+fn take_option(s: Request, k: u64, word: &[u8]) -> Request
+    ensures { λ r. ⌜ r ≡ put-option s k (number-of options (now (word .entry))) ⌝ }
+{
+    put_option(s, k, option_number(word))
+}
+
+// Word k is an operand that stands for a number.
+fn take_number(s: Request, k: u64, kind: u8, word: &[u8]) -> Request
+    ensures { λ r. ⌜ r ≡ take-number s k kind (now (word .entry)) ⌝ }
+{
+    match value_of(kind, word) {
+        Value::Is(v) => s.with_operand(k).with_value(v),
+        Value::Not => s.with_fault(6, k),
+    }
+}
+
+// Word k is the name of a state.
+fn take_name(s: Request, k: u64, word: &[u8]) -> Request
+    ensures { λ r. ⌜ r ≡ take-name s k (now (word .entry)) ⌝ }
+{
+    if is_name(word) {
+        return s.with_operand(k);
+    }
+    s.with_fault(6, k)
+}
+
+// Word k is an operand of a kind.
+fn put_operand(s: Request, k: u64, kind: u8, word: &[u8]) -> Request
+    ensures { λ r. ⌜ r ≡ put-operand s k kind (now (word .entry)) ⌝ }
+{
+    if kind == b'f' {
+        return s.with_operand(k);
+    }
+    if kind == b'-' {
+        return s.with_fault(5, k);
+    }
+    if kind == b'm' {
+        return take_name(s, k, word);
+    }
+    take_number(s, k, kind, word)
+}
+
+fn take_operand(s: Request, k: u64, word: &[u8]) -> Request
+    ensures { λ r. ⌜ r ≡ put-operand s k (kind-of (s .verb) (s .operands)) (now (word .entry)) ⌝ }
+{
+    put_operand(s, k, kind_of(s.verb, s.operands), word)
+}
+
+// An option begins with a -; a - alone is standard input.
+fn is_option(word: &[u8]) -> bool
+    ensures { λ r. ⌜ r ≡ is-option (now (word .entry)) ⌝ }
+{
+    if word.len() < 2 {
+        return false;
+    }
+    text::begins_minus(word)
+}
+
+// Takes word k. Help is asked for by -h or --help wherever it stands, and what comes behind a fault is not looked at.
+pub fn step(s: Request, k: u64, word: &[u8]) -> Request
+    ensures { λ r. ⌜ r ≡ step-of s k (now (word .entry)) ⌝ }
+{
+    if help_number(word) < 2 {
+        return s.with_help();
+    }
+    if s.fault != 0 {
+        return s;
+    }
+    if s.verb == 0 {
+        return take_verb(s, k, word);
+    }
+    if s.pending != 0 {
+        return take_value(s, k, word);
+    }
+    if is_option(word) {
+        return take_option(s, k, word);
+    }
+    take_operand(s, k, word)
+}
+
+fn judge_files(s: Request) -> Request
+    ensures { λ r. ⌜ r ≡ judge-files s ⌝ }
+{
+    if 1 < s.operands {
+        return s.with_fault(9, s.goal_at);
+    }
+    s
+}
+
+// -o takes the result of one file; of `state` only `get` has a result.
+fn judge_goal(s: Request) -> Request
+    ensures { λ r. ⌜ r ≡ judge-goal s ⌝ }
+{
+    if s.verb == 1 {
+        return judge_files(s);
+    }
+    if s.verb != 10 {
+        return s;
+    }
+    if s.value == 2 {
+        return s;
+    }
+    s.with_fault(2, s.goal_at)
+}
+
+// How many operands there are, and what -o stands beside.
+fn judge_operands(s: Request) -> Request
+    ensures { λ r. ⌜ r ≡ judge-operands s ⌝ }
+{
+    if s.operands < fewest(s.verb, s.value) {
+        return s.with_fault(7, 0);
+    }
+    if most(s.verb, s.value) < s.operands {
+        return s.with_fault(5, s.last);
+    }
+    if s.goal == 1 {
+        return judge_goal(s);
+    }
+    s
+}
+
+// What is wrong with all the words together, where none is wrong by itself.
+fn judge(s: Request) -> Request
+    ensures { λ r. ⌜ r ≡ judged s ⌝ }
+{
+    if s.fault != 0 {
+        return s;
+    }
+    if s.verb == 0 {
+        return s.with_fault(1, 0);
+    }
+    if s.pending != 0 {
+        return s.with_fault(8, 0);
+    }
+    judge_operands(s)
+}
+
+// What a slice of words asks for.
+pub fn parse(words: &[u8]) -> Request
+    ensures { λ r. ⌜ r ≡ request-of (split (now (words .entry))) ⌝ }
+{
+    let mut s = begin();
+    let mut k: u64 = 1;
+    let mut at = 0;
+    while at < words.len() {
+        let e = word_end(words, at);
+        s = step(s, k, &words[at..e]);
+        k += 1;
+        at = e + 1;
+    }
+    judge(s)
+}

@@ -1,0 +1,116 @@
+// What the command `puchkewa` writes of a reply: the bytes are those of the definitions in specs/Reports.antt.
+use arguments::nth_word;
+use printing::put;
+use printing::put_decimal;
+use rounds::Tally;
+ghost use mathlib.Core.List.{_++_};
+ghost use Prim.Native.Nat.{_+_, _≤_};
+ghost use lib.ListN.{length};
+ghost use Rattle.numbers.specs.Writing.{Written};
+ghost use Rattle.rounds.specs.Runs.{tally-of};
+ghost use Rattle.printing.specs.Decimals.{decimal};
+ghost use Rattle.reports.specs.Reports.{meaning, refusal, three, settled, tallied, counts};
+
+// Puts what a refusal by a number means; nothing for a number that no question has. (Numbers 15 and 16 are kept for start values.)
+fn put_meaning(number: u64, out: &mut [u8], at: usize) -> usize
+    requires { ⌜ at + 200 ≤ length (now out) ⌝ }
+    ensures { λ r. ⌜ Written (now (out .entry)) at (meaning number) (now (out .exit)) r ⌝ }
+{
+    put(
+        nth_word(
+            b"\0\
+          the convention is not 0, 1 or 2\0\
+          a buffer that was lent is too short\0\
+          no command begins at this offset: the tape has no more bytes, or the byte there begins none\0\
+          the command that begins at this offset runs past the end of the tape\0\
+          at this offset stands a token before any line, or marks that follow no line or have their lowest above their highest\0\
+          at this offset stands an indent above 63, a text with no byte, or a number of more than 24 bytes\0\
+          the byte at this offset, in a text, is not printable (20 to 7E)\0\
+          the tape goes on behind the end that stands at this offset\0\
+          the number edition is not 0 or 1\0\
+          with the command at this offset there are more than 256 lines or 1,024 tokens\0\
+          with the text at this offset there are more than 24,576 bytes of text\0\
+          the Symbol at this offset is a keyword of C's edition of 2024\0\
+          the Number at this offset is binary or has quotes, and the edition of 2024 does not read it\0\
+          the line of this number, counted from 0, is the first that is not as the profile of straight pieces wants it\0\
+          \0\
+          \0\
+          more than 256 lines are asked for\0\
+          the command at this offset has an address below the base, too far above it, or past the last address\0\
+          the tape does not begin with its base (06)\0\
+          no state is held under this name\0\
+          eight states are held, and this name is new\0\
+          the cell of this number, counted from 0, is damaged\0",
+            number,
+        ),
+        out,
+        at,
+    )
+}
+
+// Puts the line of a refusal at the front, and says how long it is.
+pub fn put_refusal(number: u64, place: u64, out: &mut [u8]) -> usize
+    requires { ⌜ 256 ≤ length (now out) ⌝ }
+    ensures { λ r. ⌜ Written (now (out .entry)) 0 (refusal number place) (now (out .exit)) r ⌝ }
+{
+    let a = put_named(b"refused ", number, out, 0);
+    let b = put_named(b" at ", place, out, a);
+    let c = put(b": ", out, b);
+    let d = put_meaning(number, out, c);
+    put(b"\n", out, d)
+}
+
+// Puts a text and a number.
+fn put_named(name: &[u8], n: u64, out: &mut [u8], at: usize) -> usize
+    requires { ⌜ at + length (now name) + 20 ≤ length (now out) ⌝ }
+    ensures { λ r. ⌜ Written (now (out .entry)) at (now (name .entry) ++ decimal n) (now (out .exit)) r ⌝ }
+{
+    let a = put(name, out, at);
+    put_decimal(n, out, a)
+}
+
+// Puts what is told of three rounds.
+fn put_three(first: u64, second: u64, third: u64, out: &mut [u8], at: usize) -> usize
+    requires { ⌜ at + 73 ≤ length (now out) ⌝ }
+    ensures { λ r. ⌜ Written (now (out .entry)) at (three first second third) (now (out .exit)) r ⌝ }
+{
+    let a = put_named(b", attempts ", first, out, at);
+    let b = put_named(b" ", second, out, a);
+    put_named(b" ", third, out, b)
+}
+
+// Puts what is told of rounds that settled.
+fn put_settled(rounds: u64, attempts: u64, out: &mut [u8], at: usize) -> usize
+    requires { ⌜ at + 73 ≤ length (now out) ⌝ }
+    ensures { λ r. ⌜ Written (now (out .entry)) at (settled rounds attempts) (now (out .exit)) r ⌝ }
+{
+    let a = put_named(b", rounds ", rounds, out, at);
+    put_named(b", attempts ", attempts, out, a)
+}
+
+// Puts what is told of the rounds.
+fn put_tally(tally: Tally, out: &mut [u8], at: usize) -> usize
+    requires { ⌜ at + 73 ≤ length (now out) ⌝ }
+    ensures { λ r. ⌜ Written (now (out .entry)) at (tallied (tally-of tally)) (now (out .exit)) r ⌝ }
+{
+    match tally {
+        Tally::Three {
+            first,
+            second,
+            third,
+        } => put_three(first, second, third, out, at),
+        Tally::Settled { rounds, attempts } => put_settled(rounds, attempts, out, at),
+    }
+}
+
+// Puts the line of what a cleaning did at the front, and says how long it is.
+pub fn put_counts(size: u64, tally: Tally, removed: u64, cut: u64, out: &mut [u8]) -> usize
+    requires { ⌜ 256 ≤ length (now out) ⌝ }
+    ensures { λ r. ⌜ Written (now (out .entry)) 0 (counts size (tally-of tally) removed cut) (now (out .exit)) r ⌝ }
+{
+    let a = put_named(b"length ", size, out, 0);
+    let b = put_tally(tally, out, a);
+    let c = put_named(b", lines removed ", removed, out, b);
+    let d = put_named(b", results cut ", cut, out, c);
+    put(b"\n", out, d)
+}
