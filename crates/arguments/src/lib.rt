@@ -10,6 +10,8 @@ pub use reading::begin;
 pub use reading::parse;
 pub use reading::step;
 pub use request::Request;
+pub use values::Value;
+pub use values::number_in;
 pub use words::nth_word;
 pub use words::number_of;
 pub use words::word_end;

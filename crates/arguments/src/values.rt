@@ -42,7 +42,7 @@ fn digit(b: u64) -> u64
 }
 
 // The number that a word of 1 to 16 digits stands for.
-fn number_in(word: &[u8], base: u64) -> Value
+pub fn number_in(word: &[u8], base: u64) -> Value
     requires { ⌜ base ≤ 16 ⌝ }
     ensures { λ r. ⌜ option-of r ≡ number-in base (now (word .entry)) ⌝ }
 {

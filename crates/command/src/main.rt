@@ -26,6 +26,8 @@ use files::write_output;
 use libc::STDERR_FILENO;
 use libc::STDOUT_FILENO;
 use lines::rules::Rules;
+use listing::put_listing;
+use listing::put_tape;
 use rounds::Tally;
 use tape::questions::Checked;
 use text::same;
@@ -117,11 +119,15 @@ fn deliver(words: &[u8], s: Request, name: &[u8], bytes: &[u8]) {
 
 // ---- what is told of a reply
 
-fn tell_refusal(name: &[u8], number: u64, place: u64) {
-    tell_name(name);
+fn tell_refusal_line(number: u64, place: u64) {
     let mut line = [0u8; 256];
     let n = reports::put_refusal(number, place, &mut line);
     tell(front(&line, n));
+}
+
+fn tell_refusal(name: &[u8], number: u64, place: u64) {
+    tell_name(name);
+    tell_refusal_line(number, place);
 }
 
 // The answer of a call beside the cleaning: the front of its output, or a refusal.
@@ -234,8 +240,37 @@ fn addresses_one(words: &[u8], s: Request, name: &[u8], tape: &[u8]) {
     tell_answer(words, s, name, &out, answer);
 }
 
+// A bare tape is shown up to the command that is wrong.
 fn show_one(s: Request, name: &[u8], tape: &[u8]) {
-    listing::print_listing(name, tape);
+    let mut out = [0u8; 262144];
+    let shown = put_listing(tape, s.exact, &mut out);
+    write_output(front(&out, shown.length));
+    if shown.number != 0 {
+        tell_refusal(name, shown.number, shown.place as u64);
+    }
+}
+
+// The tape of a text in the exact form; what is no tape is refused as one.
+fn tape_one(words: &[u8], s: Request, name: &[u8], text: &[u8]) {
+    let mut out = [0u8; 131072];
+    let made = put_tape(text, &mut out);
+    if made.length == NOTHING {
+        tell_name(name);
+        tell(b"line ");
+        io::print_decimal(STDERR_FILENO, made.line);
+        tell(b", counted from 0, is not as show --exact prints it\n");
+        return;
+    }
+    let tape = front(&out, made.length);
+    let mut again = [0u8; 262144];
+    let shown = put_listing(tape, true, &mut again);
+    if shown.number != 0 {
+        tell_name(name);
+        tell(b"the tape of this text is ");
+        tell_refusal_line(shown.number, shown.place as u64);
+        return;
+    }
+    deliver(words, s, name, tape);
 }
 
 // What is done with the bytes of a file.
@@ -246,6 +281,7 @@ fn work(words: &[u8], s: Request, name: &[u8], tape: &[u8]) {
         2 => count_one(s, name, tape),
         3 => check_one(s, name, tape),
         4 => show_one(s, name, tape),
+        5 => tape_one(words, s, name, tape),
         6 => addresses_one(words, s, name, tape),
         7 => edition_one(words, s, name, tape),
         8 => offsets_one(words, s, name, tape),
