@@ -2,8 +2,8 @@
 --
 --     VERB [OPTION [VALUE] | OPERAND]..
 --
--- One word after the other is taken (`step-of`), and then all of them are judged together (`judged`). Faults: 1 no verb, 2 no option of this
--- verb, 3 a value that the option does not have, 4 a second -o or -d, 5 one operand too many, 6 an operand that is not what stands there,
+-- One word after the other is taken (`step-of`), and then all of them are judged together (`judged`). Faults: 1 no verb, 2 no option of
+-- this verb, 3 a value that the option does not have, 4 a second -o or -d, 5 one operand too many, 6 an operand that is not what stands there,
 -- 7 one too few, 8 the value of an option is missing, 9 -o with several files. Assumes nothing.
 use Prim.Native.Nat.{ℕ, _+_}
 use mathlib.Core.Bool.{Bool, false}
@@ -15,7 +15,7 @@ use Rattle.reference.specs.Control.{if_then_else_, let-some_else_then_}
 use Rattle.reference.specs.Text.{Text, bytes, starts-with}
 use Rattle.arguments.specs.Words.{number-of}
 use Rattle.arguments.specs.Tables.{verbs, options, helps, conventions, editions, kind-of, taking, fewest, most}
-use Rattle.arguments.specs.Values.{value-of}
+use Rattle.arguments.specs.Values.{is-name, value-of}
 use Rattle.arguments.specs.declared.request.Request.{Request}
 use Rattle.arguments.specs.Request.{with-help, with-fault, with-verb, with-pending, with-convention, with-edition}
 use Rattle.arguments.specs.Request.{with-parts, with-profile, with-settle, with-exact, with-goal, with-operand, with-value}
@@ -62,7 +62,8 @@ put-edition s k n = if ltb n 2 then with-edition n s else with-fault 3 k s
 
 unfoldable pub take-value : Request → ℕ → Text → Request
 take-value s k w =
-    if eqb (s .pending) 1 then put-convention s k (number-of conventions w) else if eqb (s .pending) 2 then put-edition s k (number-of editions w)
+    if eqb (s .pending) 1 then put-convention s k (number-of conventions w)
+    else if eqb (s .pending) 2 then put-edition s k (number-of editions w)
     else if eqb (s .pending) 6 then take-goal s 1 k else take-goal s 2 k
 
 -- an option that the verb takes, by its place in the row
@@ -77,8 +78,13 @@ put-option s k n = if eqb (taking (s .verb) n) 121 then set-option s n else with
 unfoldable pub take-number : Request → ℕ → ℕ → Text → Request
 take-number s k kind w = let-some value-of kind w else with-fault 6 k s then λ v. with-value v (with-operand k s)
 
+unfoldable pub take-name : Request → ℕ → Text → Request
+take-name s k w = if is-name w then with-operand k s else with-fault 6 k s
+
 unfoldable pub put-operand : Request → ℕ → ℕ → Text → Request
-put-operand s k kind w = if eqb kind 102 then with-operand k s else if eqb kind 45 then with-fault 5 k s else take-number s k kind w
+put-operand s k kind w =
+    if eqb kind 102 then with-operand k s else if eqb kind 45 then with-fault 5 k s else if eqb kind 109 then take-name s k w
+    else take-number s k kind w
 
 -- begins with a -, and is longer
 unfoldable pub is-option : Text → Bool
@@ -99,16 +105,22 @@ judge-files s = if ltb 1 (s .operands) then with-fault 9 (s .«goal_at») s else
 
 -- -o stands beside one file; of `state` only `get` has a result
 unfoldable pub judge-goal : Request → Request
-judge-goal s = if eqb (s .verb) 1 then judge-files s else if eqb (s .verb) 10 then (if eqb (s .value) 2 then s else with-fault 2 (s .«goal_at») s) else s
+judge-goal s =
+    if eqb (s .verb) 1 then judge-files s
+    else if eqb (s .verb) 10 then (if eqb (s .value) 2 then s else with-fault 2 (s .«goal_at») s)
+    else s
 
 unfoldable pub judge-operands : Request → Request
 judge-operands s =
-    if ltb (s .operands) (fewest (s .verb) (s .value)) then with-fault 7 0 s else if ltb (most (s .verb) (s .value)) (s .operands) then with-fault 5 (s .last) s
+    if ltb (s .operands) (fewest (s .verb) (s .value)) then with-fault 7 0 s
+    else if ltb (most (s .verb) (s .value)) (s .operands) then with-fault 5 (s .last) s
     else if eqb (s .goal) 1 then judge-goal s else s
 
 unfoldable pub judged : Request → Request
 judged s =
-    if eqb (s .fault) 0 then (if eqb (s .verb) 0 then with-fault 1 0 s else if eqb (s .pending) 0 then judge-operands s else with-fault 8 0 s) else s
+    if eqb (s .fault) 0
+    then (if eqb (s .verb) 0 then with-fault 1 0 s else if eqb (s .pending) 0 then judge-operands s else with-fault 8 0 s)
+    else s
 
 -- the words from number k on
 unfoldable pub steps-from : Request → ℕ → List Text → Request

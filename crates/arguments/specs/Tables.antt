@@ -10,7 +10,9 @@ use Rattle.reference.specs.Text.{Text, bytes}
 
 -- what is to be done; the place counts from 1 in a request
 unfoldable pub verbs : List Text
-verbs = bytes "clean" ∷ bytes "counts" ∷ bytes "check" ∷ bytes "show" ∷ bytes "tape" ∷ bytes "addresses" ∷ bytes "edition" ∷ bytes "offsets" ∷ bytes "laborious" ∷ bytes "state" ∷ bytes "help" ∷ bytes "version" ∷ bytes "--version" ∷ []
+verbs =
+    bytes "clean" ∷ bytes "counts" ∷ bytes "check" ∷ bytes "show" ∷ bytes "tape" ∷ bytes "addresses" ∷ bytes "edition" ∷ bytes "offsets"
+    ∷ bytes "laborious" ∷ bytes "state" ∷ bytes "help" ∷ bytes "version" ∷ bytes "--version" ∷ []
 
 unfoldable pub options : List Text
 options = bytes "-c" ∷ bytes "-e" ∷ bytes "--parts" ∷ bytes "--profile" ∷ bytes "--settle" ∷ bytes "-o" ∷ bytes "-d" ∷ bytes "--exact" ∷ []

@@ -1,6 +1,6 @@
 -- Operands that stand for a number. Assumes nothing.
 use Prim.Native.Nat.{ℕ, _+_, _-_, _*_}
-use mathlib.Core.Bool.{Bool}
+use mathlib.Core.Bool.{Bool, false}
 use mathlib.Core.List.{List, [], _∷_}
 use mathlib.Core.Option.{Option, none, some}
 use lib.Dec.{eqb, ltb, leb}
@@ -39,13 +39,13 @@ below n count = if ltb n count then some n else none
 unfoldable pub base-in : Text → Option ℕ
 base-in w = if starts-with w (bytes "0x") then number-in 16 (drop 2 w) else number-in 16 w
 
--- a name has 1 to 8 bytes; it stands for how many
-unfoldable pub name-in : Text → Option ℕ
-name-in w = if eqb (length w) 0 then none else below (length w) 9
+-- a name has 1 to 8 bytes
+unfoldable pub is-name : Text → Bool
+is-name w = if eqb (length w) 0 then false else ltb (length w) 9
 
--- by the kinds of `kinds`: e, a, v, b, n, m
+-- by the kinds of `kinds`: e, a, v, b, n
 unfoldable pub value-of : ℕ → Text → Option ℕ
 value-of kind w =
     if eqb kind 101 then below (number-of editions w) 2 else if eqb kind 97 then below (number-of actions w) 4
     else if eqb kind 118 then below (number-of verbs w) 13 else if eqb kind 98 then base-in w else if eqb kind 110 then number-in 10 w
-    else if eqb kind 109 then name-in w else none
+    else none

@@ -10,13 +10,14 @@ use crate::tables::option_number;
 use crate::tables::taking;
 use crate::tables::verb_number;
 use crate::values::Value;
+use crate::values::is_name;
 use crate::values::value_of;
 use crate::words::word_end;
 ghost use mathlib.Core.Path.{_≡_};
 ghost use Rattle.arguments.specs.Words.{split, number-of};
 ghost use Rattle.arguments.specs.Tables.{verbs, options, conventions, editions, kind-of};
 ghost use Rattle.arguments.specs.Requests.{none-yet, is-option, put-verb, take-goal, put-convention, put-edition, take-value};
-ghost use Rattle.arguments.specs.Requests.{set-option, put-option, take-number, put-operand, step-of, judge-files, judge-goal};
+ghost use Rattle.arguments.specs.Requests.{set-option, put-option, take-number, take-name, put-operand, step-of, judge-files, judge-goal};
 ghost use Rattle.arguments.specs.Requests.{judge-operands, judged, request-of};
 
 // Before the first word: nothing is asked for; the settings are System V and the edition of 2018.
@@ -165,6 +166,16 @@ fn take_number(s: Request, k: u64, kind: u8, word: &[u8]) -> Request
     }
 }
 
+// Word k is the name of a state.
+fn take_name(s: Request, k: u64, word: &[u8]) -> Request
+    ensures { λ r. ⌜ r ≡ take-name s k (now (word .entry)) ⌝ }
+{
+    if is_name(word) {
+        return s.with_operand(k);
+    }
+    s.with_fault(6, k)
+}
+
 // Word k is an operand of a kind.
 fn put_operand(s: Request, k: u64, kind: u8, word: &[u8]) -> Request
     ensures { λ r. ⌜ r ≡ put-operand s k kind (now (word .entry)) ⌝ }
@@ -174,6 +185,9 @@ fn put_operand(s: Request, k: u64, kind: u8, word: &[u8]) -> Request
     }
     if kind == b'-' {
         return s.with_fault(5, k);
+    }
+    if kind == b'm' {
+        return take_name(s, k, word);
     }
     take_number(s, k, kind, word)
 }

@@ -8,7 +8,7 @@ ghost use Prim.Native.Nat.{_+_, _*_, _≤_};
 ghost use lib.ListN.{length};
 ghost use Rattle.arguments.specs.Words.{number-of};
 ghost use Rattle.arguments.specs.Tables.{verbs, editions, actions};
-ghost use Rattle.arguments.specs.Values.{option-of, digit, number-in, below, base-in, name-in, value-of};
+ghost use Rattle.arguments.specs.Values.{option-of, digit, number-in, below, base-in, is-name, value-of};
 
 // What an operand stands for, if it is as it should be.
 pub enum Value {
@@ -85,14 +85,14 @@ fn base_in(word: &[u8]) -> Value
     number_in(word, 16)
 }
 
-// A name has 1 to 8 bytes; what it stands for is how many.
-fn name_in(word: &[u8]) -> Value
-    ensures { λ r. ⌜ option-of r ≡ name-in (now (word .entry)) ⌝ }
+// A name has 1 to 8 bytes.
+pub fn is_name(word: &[u8]) -> bool
+    ensures { λ r. ⌜ r ≡ is-name (now (word .entry)) ⌝ }
 {
     if word.len() == 0 {
-        return Value::Not;
+        return false;
     }
-    below(word.len() as u64, 9)
+    word.len() < 9
 }
 
 fn edition_in(word: &[u8]) -> Value
@@ -131,9 +131,6 @@ pub fn value_of(kind: u8, word: &[u8]) -> Value
     }
     if kind == b'n' {
         return number_in(word, 10);
-    }
-    if kind == b'm' {
-        return name_in(word);
     }
     Value::Not
 }

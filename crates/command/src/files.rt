@@ -227,8 +227,8 @@ fn replace(path: &[u8], bytes: &[u8]) {
     replace_by(front(&name, n), path, bytes);
 }
 
-// Writes a file: whole, or not at all. What is no regular file (a device, a pipe) is written to as it is; one that may not be written is not
-// replaced.
+// Writes a file: whole, or not at all. What is no regular file (a device, a pipe) is written to as it is; one that may not be written is
+// not replaced.
 pub(crate) fn write_file(path: &[u8], bytes: &[u8]) {
     let fd = os::open_update(path);
     if fd < 0 {

@@ -1,15 +1,15 @@
 // A tape as text, in two forms, and back from the second. All is put into a buffer first; where it does not fit, the answer is NOTHING.
 //
-// To read: a line for each line of the listing, as the program `show` prints it: marks where they say more than the address, the address in hexadecimal
-// or blanks, two blanks an indent, the texts of the tokens.
+// To read: a line for each line of the listing, as the program `show` prints it: marks where they say more than the address, the address
+// in hexadecimal or blanks, two blanks an indent, the texts of the tokens.
 //
 // Exact: what `tape` reads. A line for each line of the listing, its fields apart by a tab, which no text has:
 //
 //     ADDRESS  INDENT  [m:LOWEST..HIGHEST]  [KIND:TEXT]..
 //
-// ADDRESS, LOWEST and HIGHEST have 16 hexadecimal digits, and ADDRESS is - where the line has none; INDENT is decimal; KIND is one of t (Text), r (Register),
-// n (Number), k (Keyword), s (Symbol), a (Address), p (Punct), x (Prefix). It says all that a tape says, so that show --exact and then tape give the same
-// tape.
+// ADDRESS, LOWEST and HIGHEST have 16 hexadecimal digits, and ADDRESS is - where the line has none; INDENT is decimal; KIND is one of
+// t (Text), r (Register), n (Number), k (Keyword), s (Symbol), a (Address), p (Punct), x (Prefix). It says all that a tape says. That
+// show --exact and then tape give the same tape is tested (tests/command), not proved.
 use crate::files::NOTHING;
 use crate::files::append;
 use crate::files::front;
@@ -201,8 +201,8 @@ fn put_command(
 
 // ---- a whole tape
 
-// Whether a line has begun before an offset, and whether its command stands just before. The totals of a listing are not asked: cleaning may
-// lengthen a text.
+// Whether a line has begun before an offset, and whether its command stands just before. The totals of a listing are not asked: cleaning
+// may lengthen a text.
 fn begun(at: usize, fresh: bool) -> Totals {
     if at == 0 {
         return Totals {
@@ -264,7 +264,8 @@ pub(crate) fn put_listing(tape: &[u8], exact: bool, out: &mut [u8]) -> Shown {
 
 // ---- back: a field of a line
 
-// What was read so far: the place in the output, NOTHING where a field is wrong; which field comes next (0 address, 1 indent, 2 others); the address.
+// What was read so far: the place in the output, NOTHING where a field is wrong; which field comes next (0 address, 1 indent, 2 others); the
+// address.
 struct Cursor {
     to: usize,
     next: u64,

@@ -19,12 +19,19 @@ returns-2 : tie.Need-returns-2
 unfolding put-operand
 returns-2 c = search (needs, branches) depth 12
 
-take-number-requires : tie.Need-take-number-requires
-take-number-requires c κs = search needs
+take-name-requires : tie.Need-take-name-requires
+take-name-requires c κs = search needs
 
 returns-3 : tie.Need-returns-3
 unfolding put-operand
 returns-3 c = search (needs, branches) depth 12
+
+take-number-requires : tie.Need-take-number-requires
+take-number-requires c κs = search needs
+
+returns-4 : tie.Need-returns-4
+unfolding put-operand
+returns-4 c = search (needs, branches) depth 12
 
 pub put-operand-spec : {M : Type 1} → statement M
 put-operand-spec =
@@ -34,5 +41,7 @@ put-operand-spec =
     returns
     with-fault-requires
     returns-2
+    take-name-requires
+    returns-3
     take-number-requires
-    returns-3)
+    returns-4)

@@ -40,16 +40,9 @@ returns-5 : tie.Need-returns-5
 unfolding value-of
 returns-5 c = search (needs, branches) depth 16
 
-name-in-requires : tie.Need-name-in-requires
-name-in-requires c κs = search needs
-
 returns-6 : tie.Need-returns-6
 unfolding value-of
 returns-6 c = search (needs, branches) depth 16
-
-returns-7 : tie.Need-returns-7
-unfolding value-of
-returns-7 c = search (needs, branches) depth 16
 
 pub value-of-spec : {M : Type 1} → statement M
 value-of-spec =
@@ -65,6 +58,4 @@ value-of-spec =
     returns-4
     number-in-requires
     returns-5
-    name-in-requires
-    returns-6
-    returns-7)
+    returns-6)
