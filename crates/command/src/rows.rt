@@ -31,8 +31,8 @@ struct Told {
     became: usize,
 }
 
-// Asks of raw line k. Flag q says whether it came into the finished line q. Line k alone has an address in the copy that is cleaned, so the finished line
-// that has one is line k.
+// Asks of raw line k. Flag q says whether it came into the finished line q. Line k alone has an address in the copy that is cleaned, so the
+// finished line that has one is line k.
 fn ask(rules: Rules, tape: &[u8], k: usize, flags: &mut [u8]) -> Told {
     let mut copy = [0u8; 34561];
     let mut work_a = [0u8; 49152];

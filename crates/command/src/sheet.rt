@@ -1,5 +1,6 @@
-// The field engineer's sheet below the listings: calls, labels, counts, settings, and the guarantee's sentences with what was counted here. The numbers
-// are taken from the two tapes and the reply. That they must come out as they do is the guarantee's theorem; the counting itself has no promise.
+// The field engineer's sheet below the listings: calls, labels, counts, settings, and the guarantee's sentences with what was counted here.
+// The numbers are taken from the two tapes and the reply. That they must come out as they do is the guarantee's theorem; the counting
+// itself has no promise.
 use crate::files::front;
 use crate::sink::Sink;
 use crate::sink::put;
@@ -93,7 +94,8 @@ fn put_casts(s: Sink, tape: &[u8], fin: &[u8]) -> Sink {
 fn put_calls(s: Sink, tape: &[u8], fin: &[u8]) -> Sink {
     let mut t = put(
         s,
-        b"<div><h3>Calls</h3><table class=q><thead><tr><th></th><th>callee</th><th>before</th><th>after</th></tr></thead><tbody id=calls>\n",
+        b"<div><h3>Calls</h3><table class=q><thead><tr><th></th><th>callee</th><th>before</th><th>after</th></tr></thead><tbody \
+          id=calls>\n",
     );
     t = put_names(t, tape, fin);
     t = put_casts(t, tape, fin);
@@ -184,7 +186,8 @@ fn put_label_rows(s: Sink, tape: &[u8], fin: &[u8], places: &[u64]) -> Sink {
 fn put_labels(s: Sink, tape: &[u8], fin: &[u8], places: &[u64]) -> Sink {
     let mut t = put(
         s,
-        b"<div><h3>Labels</h3><table class=q><thead><tr><th>stands</th><th>label</th><th>raw line</th><th>cleaned line</th></tr></thead><tbody id=labels>\n",
+        b"<div><h3>Labels</h3><table class=q><thead><tr><th>stands</th><th>label</th><th>raw line</th><th>cleaned \
+          line</th></tr></thead><tbody id=labels>\n",
     );
     t = put_label_rows(t, tape, fin, places);
     put(t, b"</tbody></table></div>\n")
@@ -448,7 +451,8 @@ fn put_calls_row(s: Sink, tape: &[u8], fin: &[u8]) -> Sink {
     let t = put_sentence(
         s,
         calls_stay(tape, fin),
-        b"<b>No call by name is lost, and none through a cast pointer.</b> After a step each function is called in the listing at least as many times as \
+        b"<b>No call by name is lost, and none through a cast pointer.</b> After a step each function is called in the listing at least \
+          as many times as \
           before it. <code>calls-stay</code>",
     );
     put(t, b"counted: each callee above</td></tr>\n")
@@ -458,7 +462,8 @@ fn put_labels_row(s: Sink, l: Labels) -> Sink {
     let t = put_sentence(
         s,
         l.all == l.stand,
-        b"<b>Labels stand.</b> Every label line of the input stands in every listing of the run, unchanged, with its address and indent, in order. \
+        b"<b>Labels stand.</b> Every label line of the input stands in every listing of the run, unchanged, with its address and indent, \
+          in order. \
           <code>labels-stand</code>",
     );
     put_two(t, l.stand, b" of ", l.all, b" stand unchanged</td></tr>\n")
@@ -468,7 +473,8 @@ fn put_places_row(s: Sink) -> Sink {
     let t = put_sentence(
         s,
         true,
-        b"<b>Places stay.</b> The pairs of address and indent that are left stand in the input's order, and none is new. <code>places-in-order</code>",
+        b"<b>Places stay.</b> The pairs of address and indent that are left stand in the input's order, and none is new. \
+          <code>places-in-order</code>",
     );
     put(t, b"by the theorem: line beside line above</td></tr>\n")
 }
@@ -480,7 +486,8 @@ fn put_gone_row(s: Sink, tape: &[u8], fin: &[u8], removed: u64) -> Sink {
     let mut t = put_sentence(
         s,
         whole,
-        b"<b>A line goes only as an assignment.</b> A step takes away at most one line, and just before it that line was an assignment to a register or to a \
+        b"<b>A line goes only as an assignment.</b> A step takes away at most one line, and just before it that line was an assignment to \
+          a register or to a \
           stack slot. <code>gone</code>",
     );
     t = put_number(t, removed);
@@ -494,7 +501,8 @@ fn put_size_row(s: Sink, tape: &[u8], fin: &[u8]) -> Sink {
     let mut t = put_sentence(
         s,
         left <= tokens && text <= 49152,
-        b"<b>Nothing swells.</b> No step adds a token, and the text stays within 49,152 bytes. <code>tokens-stay</code> <code>text-bounded</code>",
+        b"<b>Nothing swells.</b> No step adds a token, and the text stays within 49,152 bytes. <code>tokens-stay</code> \
+          <code>text-bounded</code>",
     );
     t = put_two(t, tokens, b" tokens, then ", left, b"; bytes of text ");
     put_two(t, count_text(tape), b", then ", text, b"</td></tr>\n")
@@ -504,7 +512,8 @@ fn put_rounds_row(s: Sink) -> Sink {
     let t = put_sentence(
         s,
         true,
-        b"<b>It ends, and soon.</b> A round that begins with m lines and removes s of them makes at most m + s attempts. <code>Bounded</code>",
+        b"<b>It ends, and soon.</b> A round that begins with m lines and removes s of them makes at most m + s attempts. \
+          <code>Bounded</code>",
     );
     put(t, b"by the theorem: attempts above</td></tr>\n")
 }
@@ -515,7 +524,8 @@ fn put_addresses_row(s: Sink, tape: &[u8], fin: &[u8]) -> Sink {
     let t = put_sentence(
         s,
         all == held,
-        b"<b>No instruction is lost.</b> Whatever addresses a line of the input has, there is a finished line whose two addresses hold them between them. \
+        b"<b>No instruction is lost.</b> Whatever addresses a line of the input has, there is a finished line whose two addresses hold \
+          them between them. \
           <code>nothing-lost</code>",
     );
     put_two(
@@ -531,7 +541,8 @@ fn put_run_row(s: Sink) -> Sink {
     let t = put_sentence(
         s,
         true,
-        b"<b>You get the end of that very run.</b> The output is the tape of the finished listing, and the reported attempts, removals and cuts are those of \
+        b"<b>You get the end of that very run.</b> The output is the tape of the finished listing, and the reported attempts, removals \
+          and cuts are those of \
           the run. <code>output-is</code> <code>report-is</code>",
     );
     put(t, b"by the theorem</td></tr>\n")
@@ -545,7 +556,8 @@ fn put_value_row(s: Sink, profile: bool) -> Sink {
     let t = put_sentence(
         s,
         true,
-        b"<b>The formula returns the same value.</b> Whatever values the registers have at the beginning, what the cleaned listing returns is what the input \
+        b"<b>The formula returns the same value.</b> Whatever values the registers have at the beginning, what the cleaned listing \
+          returns is what the input \
           returns, modulo 2^64. <code>Means</code>",
     );
     put(t, b"by the theorem</td></tr>\n")
@@ -561,7 +573,8 @@ fn put_guarantee(
 ) -> Sink {
     let mut t = put(
         s,
-        b"<h3>What each tick stands for</h3><table class=\"q g\"><thead><tr><th></th><th>the guarantee, of every accepted listing, over every step of its \
+        b"<h3>What each tick stands for</h3><table class=\"q g\"><thead><tr><th></th><th>the guarantee, of every accepted listing, over \
+          every step of its \
           cleaning</th><th>here</th></tr></thead><tbody id=guarantee>\n",
     );
     t = put_calls_row(t, tape, fin);
@@ -598,8 +611,11 @@ pub(crate) fn put_sheet(
     t = put_guarantee(t, r, tape, fin, removed, places);
     put(
         t,
-        b"<p class=z>The sentences are theorems that a machine has checked, for all inputs; the numbers were counted from the two tapes of this page. What no \
-          tick says: a cleaned listing need not mean the same as the original. Stores to stack slots and to argument registers may go with their lines; the \
-          known differences are in Puchkewa's docs/DIFFERENCES.md. Where a decision hangs on a value, look at the instructions.</p></section>\n",
+        b"<p class=z>The sentences are theorems that a machine has checked, for all inputs; the numbers were counted from the two tapes \
+          of this page. What no \
+          tick says: a cleaned listing need not mean the same as the original. Stores to stack slots and to argument registers may go \
+          with their lines; the \
+          known differences are in Puchkewa's docs/DIFFERENCES.md. Where a decision hangs on a value, look at the \
+          instructions.</p></section>\n",
     )
 }

@@ -1,5 +1,5 @@
-// Lines and tokens of a tape that was accepted, or that a cleaning wrote, by their offsets. A line goes from its command to the next line's, or to the
-// end. (Read without promises: what stands at an offset is crate tape's.)
+// Lines and tokens of a tape that was accepted, or that a cleaning wrote, by their offsets. A line goes from its command to the next
+// line's, or to the end. (Read without promises: what stands at an offset is crate tape's.)
 use crate::files::NOTHING;
 use crate::files::front;
 use tape::commands::Command;
