@@ -3,8 +3,8 @@
 --     VERB [OPTION [VALUE] | OPERAND]..
 --
 -- One word after the other is taken (`step-of`), and then all of them are judged together (`judged`). Faults: 1 no verb, 2 no option of
--- this verb, 3 a value that the option does not have, 4 a second -o or -d, 5 one operand too many, 6 an operand that is not what stands there,
--- 7 one too few, 8 the value of an option is missing, 9 -o with several files. Assumes nothing.
+-- this verb, 3 a value that the option does not have, 4 a second -o or -d, 5 one operand too many, 6 an operand that is not what stands
+-- there, 7 one too few, 8 the value of an option is missing, 9 -o with several files. Assumes nothing.
 use Prim.Native.Nat.{ℕ, _+_}
 use mathlib.Core.Bool.{Bool, false}
 use mathlib.Core.List.{List, [], _∷_}

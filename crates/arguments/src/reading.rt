@@ -17,8 +17,8 @@ ghost use mathlib.Core.Path.{_≡_};
 ghost use Rattle.arguments.specs.Words.{split, number-of};
 ghost use Rattle.arguments.specs.Tables.{verbs, options, conventions, editions, kind-of};
 ghost use Rattle.arguments.specs.Requests.{none-yet, is-option, put-verb, take-goal, put-convention, put-edition, take-value};
-ghost use Rattle.arguments.specs.Requests.{set-option, put-option, take-number, take-name, put-operand, step-of, judge-files, judge-goal};
-ghost use Rattle.arguments.specs.Requests.{judge-operands, judged, request-of};
+ghost use Rattle.arguments.specs.Requests.{set-option, put-option, take-number, take-name, put-operand, step-of};
+ghost use Rattle.arguments.specs.Requests.{judge-files, judge-goal, judge-operands, judged, request-of};
 
 // Before the first word: nothing is asked for; the settings are System V and the edition of 2018.
 pub fn begin() -> Request

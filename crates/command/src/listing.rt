@@ -264,8 +264,8 @@ pub(crate) fn put_listing(tape: &[u8], exact: bool, out: &mut [u8]) -> Shown {
 
 // ---- back: a field of a line
 
-// What was read so far: the place in the output, NOTHING where a field is wrong; which field comes next (0 address, 1 indent, 2 others); the
-// address.
+// What was read so far: the place in the output, NOTHING where a field is wrong; which field comes next (0 address, 1 indent, 2 others);
+// the address.
 struct Cursor {
     to: usize,
     next: u64,

@@ -1,7 +1,7 @@
 // The command `puchkewa`: cleans tapes in files, and the other calls of the library. bin/puchkewa runs it.
 //
-// What the words ask for is read by crate arguments, and what is written of a reply is made by crate reports; the work is the library's. Here
-// stands only what reads, writes and prints. A program has no exit status: whatever is written to standard error is an error, and the
+// What the words ask for is read by crate arguments, and what is written of a reply is made by crate reports; the work is the library's.
+// Here stands only what reads, writes and prints. A program has no exit status: whatever is written to standard error is an error, and the
 // wrapper says 1 then.
 //
 // One verb is still to come, `start`: a word more in crate arguments (tables), a line in help.rt and a case in `work`.
@@ -415,9 +415,9 @@ fn work(words: &[u8], s: Request, name: &[u8], tape: &[u8]) {
     }
 }
 
-// Reads a file and does what is asked with it. At most 131,072 bytes are read: an accepted tape has at most 34,561 bytes and no command more
-// than 65,538, so a longer tape is refused at a command that ends before that, and whatever follows, the refusal is the whole file's. (`show`,
-// which does not ask the totals, shows of a longer file the front.)
+// Reads a file and does what is asked with it. At most 131,072 bytes are read: an accepted tape has at most 34,561 bytes and no command
+// more than 65,538, so a longer tape is refused at a command that ends before that, and whatever follows, the refusal is the whole file's.
+// (`show`, which does not ask the totals, shows of a longer file the front.)
 fn one_file(words: &[u8], s: Request, name: &[u8]) {
     let mut input = [0u8; 131072];
     let n = read_file(name, &mut input);
