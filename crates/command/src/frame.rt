@@ -44,8 +44,7 @@ fn put_style(s: Sink) -> Sink {
           #t td.o.on{background:var(--src);box-shadow:inset 4px 0 0 var(--srci)}\n\
           .four{display:grid;grid-template-columns:repeat(auto-fit,minmax(270px,1fr));gap:0 32px;align-items:start}\n\
           table.q{border-collapse:collapse;width:100%;font-size:13px}.q th{text-align:left;vertical-align:top;font-weight:500;\
-          color:var(--soft);padding:3px \
-          8px 3px 0}\n\
+          color:var(--soft);padding:3px 8px 3px 0}\n\
           .q thead th{border-bottom:1px solid var(--ink);font-size:12px}.q td{padding:3px 8px 3px 0;border-top:1px solid #eef1f5;\
           overflow-wrap:anywhere;vertical-align:top}\n\
           .q td.d{text-align:right;font-variant-numeric:tabular-nums;white-space:nowrap}.q thead th:nth-child(n+3){text-align:right}.g \
@@ -53,11 +52,13 @@ fn put_style(s: Sink) -> Sink {
           td.y{color:#1c7a3d;font-weight:700;width:2.6em}td.x{color:#b00020;font-weight:700;width:2.6em}.g td.h{width:24em;\
           color:var(--soft)}.q td{min-width:2em}\n\
           code{font-size:12px;color:var(--soft)}.z{margin-top:16px;max-width:100ch}\n\
-          @media print{@page{margin:12mm}body{padding:0;font-size:11px}#b.idle,.screen{display:none}#b{position:static}#t{font-size:8.5px}\
-          #t td.a,#t td.p,#t td.i{font-size:7.5px;line-height:13px}\
-          col.n{width:28px}col.a{width:58px}col.s{width:16px}col.i{width:56px}col.p{width:104px}thead{display:table-header-group}tr{\
-          break-inside:avoid}\
-          *{print-color-adjust:exact;-webkit-print-color-adjust:exact}td.o:focus{outline:none}}\n\
+          @media print{@page{size:A4 landscape;margin:10mm}body{padding:0;font-size:10px}#b.idle{display:none}#b{position:static}\n\
+          h1{font-size:14px}h2{font-size:13px;margin-top:0}h3{font-size:11px;margin:10px 0 3px}section{break-before:page}\n\
+          #t{font-size:8.5px}#t th{font-size:9px}#t td.a,#t td.p,#t td.i{font-size:7.5px;line-height:13px}\n\
+          col.n{width:28px}col.a{width:60px}col.s{width:16px}col.i{width:56px}col.p{width:108px}\n\
+          .four{grid-template-columns:repeat(4,1fr);gap:0 20px}table.q,.q thead th{font-size:9.5px}code{font-size:9px}\n\
+          thead{display:table-header-group}tr{break-inside:avoid}td.o:focus{outline:none}\n\
+          *{print-color-adjust:exact;-webkit-print-color-adjust:exact}}\n\
           </style>\n",
     )
 }

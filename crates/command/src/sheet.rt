@@ -94,7 +94,8 @@ fn put_casts(s: Sink, tape: &[u8], fin: &[u8]) -> Sink {
 fn put_calls(s: Sink, tape: &[u8], fin: &[u8]) -> Sink {
     let mut t = put(
         s,
-        b"<div><h3>Calls</h3><table class=q><thead><tr><th></th><th>callee</th><th>before</th><th>after</th></tr></thead><tbody \
+        b"<div><h3>Calls <code>calls-stay</code></h3><table class=q><thead><tr><th></th><th>callee</th><th>before</th><th>after</th></tr><\
+          /thead><tbody \
           id=calls>\n",
     );
     t = put_names(t, tape, fin);
@@ -186,7 +187,8 @@ fn put_label_rows(s: Sink, tape: &[u8], fin: &[u8], places: &[u64]) -> Sink {
 fn put_labels(s: Sink, tape: &[u8], fin: &[u8], places: &[u64]) -> Sink {
     let mut t = put(
         s,
-        b"<div><h3>Labels</h3><table class=q><thead><tr><th>stands</th><th>label</th><th>raw line</th><th>cleaned \
+        b"<div><h3>Labels <code>labels-stand</code></h3><table class=q><thead><tr><th>stands</th><th>label</th><th>raw \
+          line</th><th>cleaned \
           line</th></tr></thead><tbody id=labels>\n",
     );
     t = put_label_rows(t, tape, fin, places);
