@@ -48,7 +48,7 @@ none-yet =
 
 -- the verb at place n of its row
 unfoldable pub put-verb : Request → ℕ → ℕ → Request
-put-verb s k n = if ltb n 13 then with-verb (n + 1) s else with-fault 1 k s
+put-verb s k n = if ltb n 14 then with-verb (n + 1) s else with-fault 1 k s
 
 -- the values of -o, -d; -c; -e
 unfoldable pub take-goal : Request → ℕ → ℕ → Request

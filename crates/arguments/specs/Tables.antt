@@ -12,7 +12,7 @@ use Rattle.reference.specs.Text.{Text, bytes}
 unfoldable pub verbs : List Text
 verbs =
     bytes "clean" ∷ bytes "counts" ∷ bytes "check" ∷ bytes "show" ∷ bytes "tape" ∷ bytes "addresses" ∷ bytes "edition" ∷ bytes "offsets"
-    ∷ bytes "laborious" ∷ bytes "state" ∷ bytes "help" ∷ bytes "version" ∷ bytes "--version" ∷ []
+    ∷ bytes "laborious" ∷ bytes "state" ∷ bytes "help" ∷ bytes "version" ∷ bytes "--version" ∷ bytes "page" ∷ []
 
 unfoldable pub options : List Text
 options = bytes "-c" ∷ bytes "-e" ∷ bytes "--parts" ∷ bytes "--profile" ∷ bytes "--settle" ∷ bytes "-o" ∷ bytes "-d" ∷ bytes "--exact" ∷ []
@@ -49,6 +49,7 @@ kinds =
     ++ bytes "v----"
     ++ bytes "-----"
     ++ bytes "-----"
+    ++ bytes "f----"
 
 unfoldable pub kind-of : ℕ → ℕ → ℕ
 kind-of verb operands = getD kinds (verb * 5 + min operands 4) 0
@@ -70,16 +71,17 @@ takings =
     ++ bytes "---------"
     ++ bytes "---------"
     ++ bytes "---------"
+    ++ bytes "yyyyyy---"
 
 unfoldable pub taking : ℕ → ℕ → ℕ
 taking verb option = getD takings (verb * 9 + min option 8) 0
 
 -- how many operands it needs and takes; 9 as many as `kinds` has. The last four rows are those of `state`, by its action
 abbrev pub row-of : ℕ → ℕ → ℕ
-row-of verb value = if eqb verb 10 then 14 + min value 3 else verb
+row-of verb value = if eqb verb 10 then 15 + min value 3 else verb
 
 unfoldable pub fewest : ℕ → ℕ → ℕ
-fewest verb value = getD (0 ∷ 0 ∷ 0 ∷ 0 ∷ 0 ∷ 0 ∷ 0 ∷ 1 ∷ 1 ∷ 1 ∷ 0 ∷ 0 ∷ 0 ∷ 0 ∷ 2 ∷ 3 ∷ 3 ∷ 3 ∷ []) (row-of verb value) 0
+fewest verb value = getD (0 ∷ 0 ∷ 0 ∷ 0 ∷ 0 ∷ 0 ∷ 0 ∷ 1 ∷ 1 ∷ 1 ∷ 0 ∷ 0 ∷ 0 ∷ 0 ∷ 0 ∷ 2 ∷ 3 ∷ 3 ∷ 3 ∷ []) (row-of verb value) 0
 
 unfoldable pub most : ℕ → ℕ → ℕ
-most verb value = getD (9 ∷ 9 ∷ 9 ∷ 9 ∷ 9 ∷ 9 ∷ 9 ∷ 9 ∷ 9 ∷ 9 ∷ 9 ∷ 9 ∷ 9 ∷ 9 ∷ 2 ∷ 4 ∷ 3 ∷ 3 ∷ []) (row-of verb value) 0
+most verb value = getD (9 ∷ 9 ∷ 9 ∷ 9 ∷ 9 ∷ 9 ∷ 9 ∷ 9 ∷ 9 ∷ 9 ∷ 9 ∷ 9 ∷ 9 ∷ 9 ∷ 9 ∷ 2 ∷ 4 ∷ 3 ∷ 3 ∷ []) (row-of verb value) 0

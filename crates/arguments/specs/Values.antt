@@ -47,5 +47,5 @@ is-name w = if eqb (length w) 0 then false else ltb (length w) 9
 unfoldable pub value-of : ℕ → Text → Option ℕ
 value-of kind w =
     if eqb kind 101 then below (number-of editions w) 2 else if eqb kind 97 then below (number-of actions w) 4
-    else if eqb kind 118 then below (number-of verbs w) 13 else if eqb kind 98 then base-in w else if eqb kind 110 then number-in 10 w
+    else if eqb kind 118 then below (number-of verbs w) 14 else if eqb kind 98 then base-in w else if eqb kind 110 then number-in 10 w
     else none

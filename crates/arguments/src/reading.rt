@@ -50,7 +50,7 @@ pub fn begin() -> Request
 fn put_verb(s: Request, k: u64, n: u64) -> Request
     ensures { λ r. ⌜ r ≡ put-verb s k n ⌝ }
 {
-    if n < 13 {
+    if n < 14 {
         return s.with_verb(n + 1);
     }
     s.with_fault(1, k)

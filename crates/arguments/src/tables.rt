@@ -12,7 +12,7 @@ pub fn verb_number(word: &[u8]) -> u64
     ensures { λ r. ⌜ r ≡ number-of verbs (now (word .entry)) ⌝ }
 {
     number_of(
-        b"clean\0counts\0check\0show\0tape\0addresses\0edition\0offsets\0laborious\0state\0help\0version\0--version\0",
+        b"clean\0counts\0check\0show\0tape\0addresses\0edition\0offsets\0laborious\0state\0help\0version\0--version\0page\0",
         word,
     )
 }
@@ -65,7 +65,7 @@ fn entry(table: &[u8], i: u64) -> u8
 pub fn kind_of(verb: u64, operands: u64) -> u8
     ensures { λ r. ⌜ r ≡ kind-of verb operands ⌝ }
 {
-    if 13 < verb {
+    if 14 < verb {
         return 0;
     }
     entry(
@@ -82,7 +82,8 @@ pub fn kind_of(verb: u64, operands: u64) -> u8
           famf-\
           v----\
           -----\
-          -----",
+          -----\
+          f----",
         verb * 5 + least_of(operands, 4),
     )
 }
@@ -91,7 +92,7 @@ pub fn kind_of(verb: u64, operands: u64) -> u8
 pub fn taking(verb: u64, option: u64) -> u8
     ensures { λ r. ⌜ r ≡ taking verb option ⌝ }
 {
-    if 13 < verb {
+    if 14 < verb {
         return 0;
     }
     entry(
@@ -108,18 +109,19 @@ pub fn taking(verb: u64, option: u64) -> u8
           -----y---\
           ---------\
           ---------\
-          ---------",
+          ---------\
+          yyyyyy---",
         verb * 9 + least_of(option, 8),
     )
 }
 
 fn action_row(value: u64) -> u64
-    ensures { λ r. ⌜ r ≡ 14 + min value 3 ⌝ }
+    ensures { λ r. ⌜ r ≡ 15 + min value 3 ⌝ }
 {
     if value < 3 {
-        return 14 + value;
+        return 15 + value;
     }
-    17
+    18
 }
 
 // The row of a verb and, for `state`, of its action, in the two tables below.
@@ -137,7 +139,7 @@ pub fn fewest(verb: u64, value: u64) -> u64
     ensures { λ r. ⌜ r ≡ fewest verb value ⌝ }
 {
     wide(entry(
-        b"\x00\x00\x00\x00\x00\x00\x00\x01\x01\x01\x00\x00\x00\x00\x02\x03\x03\x03",
+        b"\x00\x00\x00\x00\x00\x00\x00\x01\x01\x01\x00\x00\x00\x00\x00\x02\x03\x03\x03",
         row_of(verb, value),
     ))
 }
@@ -147,7 +149,7 @@ pub fn most(verb: u64, value: u64) -> u64
     ensures { λ r. ⌜ r ≡ most verb value ⌝ }
 {
     wide(entry(
-        b"\x09\x09\x09\x09\x09\x09\x09\x09\x09\x09\x09\x09\x09\x09\x02\x04\x03\x03",
+        b"\x09\x09\x09\x09\x09\x09\x09\x09\x09\x09\x09\x09\x09\x09\x09\x02\x04\x03\x03",
         row_of(verb, value),
     ))
 }

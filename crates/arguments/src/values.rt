@@ -108,9 +108,9 @@ fn action_in(word: &[u8]) -> Value
 }
 
 fn verb_in(word: &[u8]) -> Value
-    ensures { λ r. ⌜ option-of r ≡ below (number-of verbs (now (word .entry))) 13 ⌝ }
+    ensures { λ r. ⌜ option-of r ≡ below (number-of verbs (now (word .entry))) 14 ⌝ }
 {
-    below(verb_number(word), 13)
+    below(verb_number(word), 14)
 }
 
 // What an operand of a kind stands for (the kinds of `kind_of`).

@@ -159,7 +159,7 @@ fn chance() -> u64 {
 }
 
 // The name beside a path under which its new bytes are written first: the path, .part and a number.
-fn put_part_name(path: &[u8], buffer: &mut [u8]) -> usize {
+pub(crate) fn put_part_name(path: &[u8], buffer: &mut [u8]) -> usize {
     let a = append(path, buffer, 0);
     let b = append(b".part", buffer, a);
     append_number(chance(), buffer, b)

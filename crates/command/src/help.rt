@@ -33,7 +33,9 @@ fn put_verb(fd: i32, verb: u64) {
           \x20 state STORE get NAME [-o OUT]\n\
           \x20 state STORE delete NAME\n\0\
           \x20 help [WORD]                                  this, or what is told of one word\n\0\
-          \x20 version                                      the version\n\0",
+          \x20 version                                      the version\n\0\
+          \0\
+          \x20 page [SETTINGS] [FILE] [-o OUT]              before and after side by side, one HTML page\n\0",
         verb,
     );
     io::write_all(fd, lines);
@@ -58,7 +60,10 @@ fn put_rest() {
 // The whole help.
 fn help_all() {
     put_front(STDOUT_FILENO);
-    let mut verb = 1;
+    put_verb(STDOUT_FILENO, 1);
+    put_verb(STDOUT_FILENO, 2);
+    put_verb(STDOUT_FILENO, 14);
+    let mut verb = 3;
     while verb < 13 {
         put_verb(STDOUT_FILENO, verb);
         verb += 1;
@@ -72,7 +77,11 @@ pub(crate) fn help(verb: u64) {
         help_all();
         return;
     }
-    if 12 < verb {
+    if verb == 13 {
+        help_all();
+        return;
+    }
+    if 14 < verb {
         help_all();
         return;
     }

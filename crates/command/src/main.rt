@@ -4,10 +4,15 @@
 // Here stands only what reads, writes and prints. A program has no exit status: whatever is written to standard error is an error, and the
 // wrapper says 1 then.
 //
-// Two verbs are still to come, `page` and `start`: each is a word more in crate arguments (tables), a line in help.rt and a case in `work`.
+// One verb is still to come, `start`: a word more in crate arguments (tables), a line in help.rt and a case in `work`.
 mod files; // reading and writing files
+mod frame; // the page: its constant parts
 mod help; // the help, and wrong use
 mod listing; // a tape as text
+mod rows; // the page: the two listings
+mod sheet; // the page: the field engineer's sheet
+mod sink; // where the page goes
+mod walk; // lines and tokens by their offsets
 
 use answers::Answer;
 use arguments::Request;
@@ -30,6 +35,9 @@ use lines::rules::Rules;
 use listing::put_listing;
 use listing::put_tape;
 use rounds::Tally;
+use sink::Sink;
+use sink::close_goal;
+use sink::open_goal;
 use tape::questions::Checked;
 use text::same;
 
@@ -279,6 +287,117 @@ fn tape_one(words: &[u8], s: Request, name: &[u8], text: &[u8]) {
     deliver(words, s, name, tape);
 }
 
+// The page of a cleaning, piece by piece.
+fn put_page(
+    sink: Sink,
+    s: Request,
+    name: &[u8],
+    tape: &[u8],
+    fin: &[u8],
+    tally: Tally,
+    removed: u64,
+    cut: u64,
+) -> Sink {
+    let mut places = [0u64; 256];
+    let mut t = frame::put_head(sink, name);
+    t = rows::put_rows(t, rules_of(s), tape, fin, &mut places);
+    t = frame::put_middle(t);
+    t = sheet::put_sheet(t, s, tape, fin, tally, removed, cut, &places);
+    frame::put_foot(t)
+}
+
+// The same to standard output.
+fn print_page(
+    s: Request,
+    name: &[u8],
+    tape: &[u8],
+    fin: &[u8],
+    tally: Tally,
+    removed: u64,
+    cut: u64,
+) {
+    let sink = Sink {
+        fd: STDOUT_FILENO,
+        done: true,
+    };
+    let after = put_page(sink, s, name, tape, fin, tally, removed, cut);
+    if !after.done {
+        os::fail(b"standard output");
+    }
+}
+
+// The same to a file, which is there whole or not at all.
+fn write_page(
+    path: &[u8],
+    s: Request,
+    name: &[u8],
+    tape: &[u8],
+    fin: &[u8],
+    tally: Tally,
+    removed: u64,
+    cut: u64,
+) {
+    let mut beside = [0u8; 4200];
+    let goal = open_goal(path, &mut beside);
+    if goal.fd < 0 {
+        return;
+    }
+    let sink = Sink {
+        fd: goal.fd,
+        done: true,
+    };
+    let after = put_page(sink, s, name, tape, fin, tally, removed, cut);
+    close_goal(goal, path, &beside, after.done);
+}
+
+fn page_of(
+    words: &[u8],
+    s: Request,
+    name: &[u8],
+    tape: &[u8],
+    fin: &[u8],
+    tally: Tally,
+    removed: u64,
+    cut: u64,
+) {
+    if s.goal == 0 {
+        print_page(s, name, tape, fin, tally, removed, cut);
+    } else {
+        write_page(
+            word(words, s.goal_at),
+            s,
+            name,
+            tape,
+            fin,
+            tally,
+            removed,
+            cut,
+        );
+    }
+}
+
+fn page_one(words: &[u8], s: Request, name: &[u8], tape: &[u8]) {
+    let mut work_a = [0u8; 49152];
+    let mut work_b = [0u8; 49152];
+    let mut out = [0u8; 59137];
+    match clean::clean(rules_of(s), tape, &mut work_a, &mut work_b, &mut out) {
+        Reply::Refused { number, place } => tell_refusal(name, number, place as u64),
+        Reply::Finished(f) => {
+            let tally = f.tally;
+            page_of(
+                words,
+                s,
+                name,
+                tape,
+                front(&out, f.length),
+                tally,
+                f.removed,
+                f.cut,
+            );
+        }
+    }
+}
+
 // What is done with the bytes of a file.
 fn work(words: &[u8], s: Request, name: &[u8], tape: &[u8]) {
     let verb = s.verb;
@@ -291,6 +410,7 @@ fn work(words: &[u8], s: Request, name: &[u8], tape: &[u8]) {
         6 => addresses_one(words, s, name, tape),
         7 => edition_one(words, s, name, tape),
         8 => offsets_one(words, s, name, tape),
+        14 => page_one(words, s, name, tape),
         _ => {}
     }
 }
@@ -515,14 +635,14 @@ fn run(words: &[u8], s: Request) {
     let verb = s.verb;
     match verb {
         1 | 2 | 3 => all_files(words, s),
-        4 | 5 | 6 => only_file(words, s, 0),
+        4 | 5 | 6 | 14 => only_file(words, s, 0),
         7 | 8 => only_file(words, s, 1),
         9 => laborious(words, s),
         10 => state(words, s),
         11 => {
             if s.operands == 0 {
                 help::help(0);
-            } else if s.value < 13 {
+            } else if s.value < 14 {
                 help::help(s.value + 1);
             }
         }

@@ -1,11 +1,11 @@
 -- `command::help::help_all` meets its contract. Assumes nothing.
+use Prim.Native.Nat.{_-_}
 use borrow.Author.Needs.{needs}
-use Prim.Native.Nat.{_≤_, _-_}
 use Rattle.command.proofs.help.help_all.Statement.{statement}
 use Rattle.command.proofs.help.help_all.Tie as tie
 
 abbrev Inv-loop : tie.InvT-loop
-Inv-loop verb₀ verb = verb ≤ 13
+Inv-loop verb₀ verb = Unit {0}
 
 abbrev μ-loop : tie.MeasureT-loop
 μ-loop verb₀ verb = 13 - verb
@@ -13,11 +13,20 @@ abbrev μ-loop : tie.MeasureT-loop
 put-front-requires : tie.Need-put-front-requires Inv-loop μ-loop
 put-front-requires c κs = search needs
 
+put-verb-requires : tie.Need-put-verb-requires Inv-loop μ-loop
+put-verb-requires c κs = search needs
+
+put-verb-requires-2 : tie.Need-put-verb-requires-2 Inv-loop μ-loop
+put-verb-requires-2 c κs = search needs
+
+put-verb-requires-3 : tie.Need-put-verb-requires-3 Inv-loop μ-loop
+put-verb-requires-3 c κs = search needs
+
 loop-holds : tie.Need-loop-holds Inv-loop μ-loop
 loop-holds c = search needs
 
-put-verb-requires : tie.Need-put-verb-requires Inv-loop μ-loop
-put-verb-requires c κs = search needs
+put-verb-requires-4 : tie.Need-put-verb-requires-4 Inv-loop μ-loop
+put-verb-requires-4 c κs = search needs
 
 add-verb : tie.Need-add-verb Inv-loop μ-loop
 add-verb c = search needs
@@ -41,8 +50,11 @@ help-all-spec =
     Inv-loop
     μ-loop
     put-front-requires
-    loop-holds
     put-verb-requires
+    put-verb-requires-2
+    put-verb-requires-3
+    loop-holds
+    put-verb-requires-4
     add-verb
     loop-less
     loop-again

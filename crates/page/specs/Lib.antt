@@ -1,0 +1,2 @@
+pub mod Escaping
+pub mod Cells
