@@ -8,7 +8,6 @@
 mod files; // reading and writing files
 mod frame; // the page: its constant parts
 mod help; // the help, and wrong use
-mod listing; // a tape as text
 mod rows; // the page: the two listings
 mod sheet; // the page: the field engineer's sheet
 mod sink; // where the page goes
@@ -32,8 +31,9 @@ use files::write_output;
 use libc::STDERR_FILENO;
 use libc::STDOUT_FILENO;
 use lines::rules::Rules;
-use listing::put_listing;
-use listing::put_tape;
+use listing_text::Made;
+use listing_text::put_listing;
+use listing_text::put_tape;
 use rounds::Tally;
 use sink::Sink;
 use sink::close_goal;
@@ -253,29 +253,16 @@ fn addresses_one(words: &[u8], s: Request, name: &[u8], tape: &[u8]) {
 fn show_one(s: Request, name: &[u8], tape: &[u8]) {
     let mut out = [0u8; 262144];
     let shown = put_listing(tape, s.exact, &mut out);
-    write_output(front(&out, shown.length));
+    if shown.whole {
+        write_output(front(&out, shown.length));
+    }
     if shown.number != 0 {
         tell_refusal(name, shown.number, shown.place as u64);
     }
 }
 
-// The tape of a text in the exact form; what is no tape is refused as one.
-fn tape_one(words: &[u8], s: Request, name: &[u8], text: &[u8]) {
-    if 131072 <= text.len() {
-        tell_name(name);
-        tell(b"the text is too long\n");
-        return;
-    }
-    let mut out = [0u8; 131072];
-    let made = put_tape(text, &mut out);
-    if made.length == NOTHING {
-        tell_name(name);
-        tell(b"line ");
-        io::print_decimal(STDERR_FILENO, made.line);
-        tell(b", counted from 0, is not as show --exact prints it\n");
-        return;
-    }
-    let tape = front(&out, made.length);
+// A tape that was made of a text; what is no tape is refused as one.
+fn deliver_made(words: &[u8], s: Request, name: &[u8], tape: &[u8]) {
     let mut again = [0u8; 262144];
     let shown = put_listing(tape, true, &mut again);
     if shown.number != 0 {
@@ -285,6 +272,29 @@ fn tape_one(words: &[u8], s: Request, name: &[u8], text: &[u8]) {
         return;
     }
     deliver(words, s, name, tape);
+}
+
+// The tape of a text in the exact form.
+fn tape_one(words: &[u8], s: Request, name: &[u8], text: &[u8]) {
+    if 131072 <= text.len() {
+        tell_name(name);
+        tell(b"the text is too long\n");
+        return;
+    }
+    let mut out = [0u8; 131072];
+    match put_tape(text, &mut out) {
+        Made::Whole(length) => deliver_made(words, s, name, front(&out, length)),
+        Made::Full => {
+            tell_name(name);
+            tell(b"the tape of this text is too long\n");
+        }
+        Made::Wrong(line) => {
+            tell_name(name);
+            tell(b"line ");
+            io::print_decimal(STDERR_FILENO, line);
+            tell(b", counted from 0, is not as show --exact prints it\n");
+        }
+    }
 }
 
 // The page of a cleaning, piece by piece.

@@ -1,5 +1,5 @@
 -- What a field, a line and a text in the exact form read as: each turn of the code. Assumes nothing.
-use Prim.Native.Nat.{ℕ, zero, suc, _+_, _-_, _≤_, _<_}
+use Prim.Native.Nat.{ℕ, suc, _+_, _-_, _≤_, _<_}
 use native.Mathlib.Omega.{arith}
 use native.Mathlib.Numerals.{add-one}
 use mathlib.Core.Path.{_≡_, refl, sym, ap, _∙_}
@@ -21,7 +21,7 @@ use Rattle.arguments.specs.Values.{number-in}
 use Rattle.listing_text.specs.Room.{laid, Page, put-one, puts, Adds, empty}
 use Rattle.listing_text.specs.Forms.{letters}
 use Rattle.listing_text.specs.Exact.{ended, apart, address-in, indent-in, line-command, span-command, token-command, field-command}
-use Rattle.listing_text.specs.Exact.{Read, nothing, then-read, fields-read, line-read, Tape, then-lines, lines-read, tape-of, made-of, Makes}
+use Rattle.listing_text.specs.Exact.{Read, nothing, then-read, fields-read, line-read, Tape, then-lines, lines-read, made-of, Makes}
 use Rattle.listing_text.specs.Parsed.{read-of, line-with, Lies, onto-page, Lays, made-on, EndsAt, fields-behind}
 use Rattle.listing_text.specs.declared.reading.Made.{Made}
 use Rattle.listing_text.specs.declared.reading.Made.the-variants.{Whole, Full, Wrong}

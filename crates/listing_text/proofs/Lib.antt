@@ -4,3 +4,6 @@ pub mod Spelling
 pub mod Parts
 pub mod Fielding
 pub mod Telling
+pub mod Numerals
+pub mod Written
+pub mod ReadBack

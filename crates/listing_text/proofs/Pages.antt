@@ -5,19 +5,17 @@ use native.Mathlib.Nat.{add-zero, zero-add}
 use native.Mathlib.Decide.{decLt}
 use native.Mathlib.Numerals.{add-one}
 use mathlib.Core.Path.{_≡_, refl, sym, ap, _∙_}
-use mathlib.Core.Bool.{Bool, true, false}
+use mathlib.Core.Bool.{true, false}
 use mathlib.Core.Logic.{by-cases}
 use mathlib.Core.List.{List, [], _∷_, _++_, append-nil}
 use lib.Dec.{ltb}
 use lib.ListN.{length, take, drop, set, getD, length-append, drop-of-length-le}
 use lib.Seq.{drop-cons, drop-nil, append-snoc}
 use borrow.Author.Tests.{lt-ltb, le-ltb}
-use Rattle.reference.specs.Control.{if_then_else_}
 use Rattle.reference.specs.Text.{Text}
 use Rattle.reference.specs.Tape.{to-le-bytes}
 use Rattle.laws.proofs.Scans.{if-true, if-false}
-use Rattle.listing_text.specs.Room.{laid, Page, page, put-one, puts, Adds, empty}
-use Rattle.listing_text.specs.declared.room.Place.{Place}
+use Rattle.listing_text.specs.Room.{laid, Page, put-one, puts, Adds, empty}
 
 -- ---- one byte
 

@@ -1,21 +1,21 @@
 -- A whole tape as text: each turn of the loop over its commands, and what is told at the end. Assumes nothing.
-use Prim.Native.Nat.{ℕ, zero, suc, _+_, _-_, _≤_, _<_}
+use Prim.Native.Nat.{ℕ, zero, suc, _+_, _-_, _<_}
 use native.Mathlib.Omega.{arith}
 use native.Mathlib.Decide.{decLt}
 use mathlib.Core.Path.{_≡_, refl, sym, ap, _∙_, subst}
 use mathlib.Core.Logic.{by-cases}
 use mathlib.Core.Bool.{Bool, true, false, not}
 use mathlib.Core.List.{List, [], _∷_, _++_, append-nil}
-use mathlib.Core.Option.{Option, none, some}
+use mathlib.Core.Option.{some}
 use lib.Dec.{eqb, leb, ltb}
 use lib.ListN.{length, take, drop, length-drop}
-use borrow.Author.Tests.{eq-eqb, ne-eqb, lt-ltb, le-ltb, le-leb, lt-leb}
+use borrow.Author.Tests.{ne-eqb, lt-ltb, le-ltb, le-leb, lt-leb}
 use Rattle.reference.specs.Control.{if_then_else_, _&&_}
 use Rattle.reference.specs.Text.{Text}
 use Rattle.reference.specs.Spans.{Span}
 use Rattle.reference.specs.Listing.{token}
 use Rattle.reference.specs.Tape as Tape
-use Rattle.reference.specs.Tape.{old, command-of, command-size, new-token}
+use Rattle.reference.specs.Tape.{command-of, command-size, new-token}
 use Rattle.reference.specs.Questions.{Totals, Answer, Refused, Passed, Advance, read-command, is-end}
 use Rattle.reference.proofs.Commands.{Sized, sized}
 use Rattle.reference.proofs.Reading.{command-passed}
@@ -25,8 +25,8 @@ use Rattle.tape.specs.declared.commands.Found.the-variants.{Whole}
 use Rattle.tape.specs.declared.commands.Command.{Command}
 use Rattle.tape.specs.declared.commands.Command.the-variants.{Addressed, Plain, Marked, Token, End}
 use Rattle.listing_text.specs.Room.{laid, Page, puts, Adds, empty}
-use Rattle.listing_text.specs.Forms.{line-end, own-span, short-hex, span-text, span-in, marks-found, marks-at, command-text, TokenEnds}
-use Rattle.listing_text.specs.Showing.{Shown, in-front, begun, shown-at, shown-from, shown, Shows}
+use Rattle.listing_text.specs.Forms.{line-end, short-hex, span-text, span-in, marks-found, marks-at, command-text, TokenEnds}
+use Rattle.listing_text.specs.Showing.{Shown, begun, shown-at, shown-from, Shows}
 use Rattle.listing_text.proofs.Pages.{puts-append, all-put, adds-none}
 
 -- ---- marks to read

@@ -8,7 +8,7 @@ use mathlib.Core.List.{List, [], _∷_, _++_}
 use mathlib.Core.Option.{Option, none, some}
 use lib.Dec.{eqb, ltb}
 use lib.ListN.{length, take, drop, getD}
-use Rattle.reference.specs.Control.{_&&_, if_then_else_, let-some_else_then_}
+use Rattle.reference.specs.Control.{_&&_, if_then_else_}
 use Rattle.reference.specs.Text.{Text, bytes}
 use Rattle.reference.specs.Spans.{Span}
 use Rattle.reference.specs.Tape.{Command, new-line, marked, new-token, end}

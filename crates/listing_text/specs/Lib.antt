@@ -4,3 +4,4 @@ pub mod Forms
 pub mod Showing
 pub mod Exact
 pub mod Parsed
+pub mod RoundTrip

@@ -2,14 +2,14 @@
 -- not asked, since cleaning may lengthen a text. Assumes nothing.
 use Prim.Native.Nat.{ℕ, zero, suc}
 use mathlib.Core.Path.{_≡_}
-use mathlib.Core.Bool.{Bool, true, false}
+use mathlib.Core.Bool.{Bool, false}
 use mathlib.Core.List.{List, [], _++_}
 use lib.Dec.{eqb, leb}
 use lib.ListN.{length, take}
 use Rattle.reference.specs.Control.{if_then_else_}
 use Rattle.reference.specs.Text.{Text}
 use Rattle.reference.specs.Questions.{Totals, Answer, Refused, Passed, Advance, read-command, is-end}
-use Rattle.listing_text.specs.Room.{laid, Page, page, puts}
+use Rattle.listing_text.specs.Room.{laid}
 use Rattle.listing_text.specs.Forms.{line-end, command-text}
 use Rattle.listing_text.specs.declared.showing.Shown as Code
 

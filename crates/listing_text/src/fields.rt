@@ -11,7 +11,6 @@ ghost use mathlib.Core.List.{[]};
 ghost use mathlib.Core.Option.{none, some};
 ghost use Prim.Native.Nat.{_+_};
 ghost use lib.Dec.{eqb};
-ghost use lib.ListN.{drop};
 ghost use Rattle.reference.specs.Control.{let-some_else_then_};
 ghost use Rattle.reference.specs.Lists.{position};
 ghost use Rattle.reference.specs.Tape.{write-command, new-line, marked};
