@@ -1,4 +1,4 @@
--- Laws: pages of bytes, digits and letters, fields, parts of a text, a whole tape as text.
+-- Laws: pages of bytes, digits and letters, parts of a text, fields, a whole tape as text; the theorem ReadBack, and examples.
 pub mod Pages
 pub mod Spelling
 pub mod Parts
@@ -7,3 +7,4 @@ pub mod Telling
 pub mod Numerals
 pub mod Written
 pub mod ReadBack
+pub mod Examples
