@@ -1,3 +1,5 @@
 pub mod Branches
 pub mod Splitting
 pub mod Digits
+pub mod Naming
+pub mod Gathering
