@@ -3,3 +3,5 @@ pub mod Splitting
 pub mod Digits
 pub mod Naming
 pub mod Gathering
+pub mod Bases
+pub mod ReadBack

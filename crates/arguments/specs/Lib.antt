@@ -4,3 +4,5 @@ pub mod Request
 pub mod Values
 pub mod Entries
 pub mod Requests
+pub mod Names
+pub mod Given
