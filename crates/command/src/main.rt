@@ -3,8 +3,6 @@
 // What the words ask for is read by crate arguments, and what is written of a reply is made by crate reports; the work is the library's.
 // Here stands only what reads, writes and prints. A program has no exit status: whatever is written to standard error is an error, and the
 // wrapper says 1 then.
-//
-// One verb is still to come, `start`: a word more in crate arguments (tables), a line in help.rt and a case in `work`.
 mod files; // reading and writing files
 mod frame; // the page: its constant parts
 mod help; // the help, and wrong use
@@ -408,8 +406,45 @@ fn page_one(words: &[u8], s: Request, name: &[u8], tape: &[u8]) {
     }
 }
 
+// The line of a start value.
+fn print_start(chosen: &[u8], v: u64) {
+    let mut line = [0u8; 65581];
+    if 65536 < chosen.len() {
+        return;
+    }
+    let n = reports::put_start(chosen, v, &mut line);
+    write_output(front(&line, n));
+}
+
+// Puts the list of the words' entries, and answers how long it is; NOTHING where there is no room for those of so many words.
+fn put_list(words: &[u8], list: &mut [u8]) -> usize {
+    let room = list.len();
+    if room < 9 {
+        return NOTHING;
+    }
+    if room / 9 - 1 < words.len() {
+        return NOTHING;
+    }
+    arguments::put_entries(words, list)
+}
+
+// The smallest start value of the chosen register.
+fn start_one<'a>(words: &'a [u8], s: Request, name: &[u8], tape: &'a [u8]) {
+    let mut list = [0u8; 589833];
+    let n = put_list(words, &mut list);
+    if n == NOTHING {
+        tell(b"puchkewa: the words of start have more than 65,536 bytes\n");
+        return;
+    }
+    let chosen = word(words, s.chosen_at);
+    match start::start_value(tape, chosen, front(&list, n), s.wanted) {
+        Answer::Refused { number, place } => tell_refusal(name, number, place as u64),
+        Answer::Passed(v) => print_start(chosen, v),
+    }
+}
+
 // What is done with the bytes of a file.
-fn work(words: &[u8], s: Request, name: &[u8], tape: &[u8]) {
+fn work<'a>(words: &'a [u8], s: Request, name: &[u8], tape: &'a [u8]) {
     let verb = s.verb;
     match verb {
         1 => clean_one(words, s, name, tape),
@@ -421,6 +456,7 @@ fn work(words: &[u8], s: Request, name: &[u8], tape: &[u8]) {
         7 => edition_one(words, s, name, tape),
         8 => offsets_one(words, s, name, tape),
         14 => page_one(words, s, name, tape),
+        15 => start_one(words, s, name, tape),
         _ => {}
     }
 }
@@ -462,10 +498,27 @@ fn each_file(words: &[u8], s: Request) {
     }
 }
 
+// Whether each result has a file of its own: with -d two files of one base name would be written to one, which is told.
+fn go_apart(words: &[u8], s: Request) -> bool {
+    if s.goal != 2 {
+        return true;
+    }
+    let k = arguments::clash(words);
+    if k == 0 {
+        return true;
+    }
+    tell(b"puchkewa: ");
+    tell(word(words, k));
+    tell(b" has the base name of another file, and -d would write both to one; nothing was done\n");
+    false
+}
+
 fn all_files(words: &[u8], s: Request) {
     if s.operands == 0 {
         one_file(words, s, b"-");
-    } else {
+        return;
+    }
+    if go_apart(words, s) {
         each_file(words, s);
     }
 }
@@ -496,9 +549,15 @@ fn name_of(word: &[u8]) -> [u8; 8] {
     name
 }
 
-// The bytes of a name before its first 0.
+// The bytes of a name before its first 0; those that cannot be printed as \xHH.
 fn print_state_name(name: &[u8]) {
-    write_output(front(name, word_end(name, 0)));
+    let bytes = front(name, word_end(name, 0));
+    if 8 < bytes.len() {
+        return;
+    }
+    let mut shown = [0u8; 32];
+    let n = reports::put_visible(bytes, &mut shown);
+    write_output(front(&shown, n));
 }
 
 // One cell, if it is held: its name and the length of its tape.
@@ -645,14 +704,14 @@ fn run(words: &[u8], s: Request) {
     let verb = s.verb;
     match verb {
         1 | 2 | 3 => all_files(words, s),
-        4 | 5 | 6 | 14 => only_file(words, s, 0),
+        4 | 5 | 6 | 14 | 15 => only_file(words, s, 0),
         7 | 8 => only_file(words, s, 1),
         9 => laborious(words, s),
         10 => state(words, s),
         11 => {
             if s.operands == 0 {
                 help::help(0);
-            } else if s.value < 14 {
+            } else if s.value < 15 {
                 help::help(s.value + 1);
             }
         }
