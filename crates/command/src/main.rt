@@ -4,12 +4,8 @@
 // Here stands only what reads, writes and prints. A program has no exit status: whatever is written to standard error is an error, and the
 // wrapper says 1 then.
 mod files; // reading and writing files
-mod frame; // the page: its constant parts
 mod help; // the help, and wrong use
-mod rows; // the page: the two listings
-mod sheet; // the page: the field engineer's sheet
-mod sink; // where the page goes
-mod walk; // lines and tokens by their offsets
+mod sink; // the file that the page goes to
 
 use answers::Answer;
 use arguments::Request;
@@ -32,8 +28,9 @@ use lines::rules::Rules;
 use listing_text::Made;
 use listing_text::put_listing;
 use listing_text::put_tape;
+use render::Sink;
+use render::put_page;
 use rounds::Tally;
-use sink::Sink;
 use sink::close_goal;
 use sink::open_goal;
 use tape::questions::Checked;
@@ -295,26 +292,7 @@ fn tape_one(words: &[u8], s: Request, name: &[u8], text: &[u8]) {
     }
 }
 
-// The page of a cleaning, piece by piece.
-fn put_page(
-    sink: Sink,
-    s: Request,
-    name: &[u8],
-    tape: &[u8],
-    fin: &[u8],
-    tally: Tally,
-    removed: u64,
-    cut: u64,
-) -> Sink {
-    let mut places = [0u64; 256];
-    let mut t = frame::put_head(sink, name);
-    t = rows::put_rows(t, rules_of(s), tape, fin, &mut places);
-    t = frame::put_middle(t);
-    t = sheet::put_sheet(t, s, tape, fin, tally, removed, cut, &places);
-    frame::put_foot(t)
-}
-
-// The same to standard output.
+// The page of a cleaning, to standard output.
 fn print_page(
     s: Request,
     name: &[u8],
@@ -328,7 +306,7 @@ fn print_page(
         fd: STDOUT_FILENO,
         done: true,
     };
-    let after = put_page(sink, s, name, tape, fin, tally, removed, cut);
+    let after = put_page(sink, s, rules_of(s), name, tape, fin, tally, removed, cut);
     if !after.done {
         os::fail(b"standard output");
     }
@@ -354,7 +332,7 @@ fn write_page(
         fd: goal.fd,
         done: true,
     };
-    let after = put_page(sink, s, name, tape, fin, tally, removed, cut);
+    let after = put_page(sink, s, rules_of(s), name, tape, fin, tally, removed, cut);
     close_goal(goal, path, &beside, after.done);
 }
 
