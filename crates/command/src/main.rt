@@ -510,7 +510,7 @@ fn laborious(words: &[u8], s: Request) {
 }
 
 fn version() {
-    write_output(b"puchkewa 0.14.0\n");
+    write_output(b"puchkewa 0.15.0\n");
 }
 
 // ---- named states

@@ -412,7 +412,7 @@ fn put_settings(s: Sink, r: Request) -> Sink {
     t = put_yes(t, b"parts told apart", yes_no(r.parts));
     t = put_yes(t, b"profile of straight pieces", yes_no(r.profile));
     t = put_yes(t, b"until it settles", yes_no(r.settle));
-    t = put_said(t, b"version", b"puchkewa 0.14.0");
+    t = put_said(t, b"version", b"puchkewa 0.15.0");
     put(t, b"</tbody></table></div>\n")
 }
 
