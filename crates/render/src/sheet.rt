@@ -1,6 +1,7 @@
 // The field engineer's sheet below the listings: calls, labels, counts, settings, and the guarantee's sentences with what was counted here.
-// The numbers are the reply's, and those that crate tallies counts from the two tapes: of the listings that they hold, as the reference counts
-// (its theorem `ticks` says how they must come out). Which labels stand, and which addresses are held, is counted here without a promise.
+// The numbers are the reply's, and those that crate tallies counts from the two tapes: of the listings that they hold, as the reference
+// counts (its theorem `ticks` says how they must come out). Which labels stand, and which addresses are held, is counted here without a
+// promise.
 use crate::sink::Sink;
 use crate::sink::put;
 use crate::sink::put_number;

@@ -87,8 +87,8 @@ fn with_line(s: Calls, name: &[u8]) -> Calls
 
 fn with_command(tape: &[u8], at: usize, command: Command, name: &[u8], s: Calls) -> Calls
     requires { ⌜ (at + size-of command ≤ length (now tape)) × (s .count + 1 < 2 ^ 64) ⌝ }
-    ensures { λ r. ⌜ Takes (calls-with (now (name .entry))) (calls-in (some (now (name .entry)))) (command-in (now (tape .entry)) at command) s r
-        × (r .count ≤ s .count + 1) ⌝ }
+    ensures { λ r. ⌜ Takes (calls-with (now (name .entry))) (calls-in (some (now (name .entry))))
+        (command-in (now (tape .entry)) at command) s r × (r .count ≤ s .count + 1) ⌝ }
 {
     match command {
         Command::Addressed {
