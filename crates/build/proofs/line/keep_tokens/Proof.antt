@@ -19,6 +19,10 @@ Inv-loop tape old line area₀ tokens₀ s₀ k₀ area tokens s k = (k ≤ leng
 abbrev μ-loop : tie.MeasureT-loop
 μ-loop tape old line area₀ tokens₀ s₀ k₀ area tokens s k = length line - k
 
+-- Steps back to an earlier point of the function, each counted once.
+abbrev before-loop : tie.At-loop Inv-loop μ-loop → tie.Start Inv-loop μ-loop
+before-loop c = c .before .before .before .before .before .before
+
 loop-holds : tie.Need-loop-holds Inv-loop μ-loop
 loop-holds c =
     let a = c .before .before .before .before .before .args in
@@ -33,9 +37,9 @@ shared-slice-read-keep c = search needs
 
 keep-requires : tie.Need-keep-requires Inv-loop μ-loop
 keep-requires c κs =
-    let a = c .before .before .before .before .before .before .before .before .before .before .args in
+    let a = before-loop (c .before .before .before .before) .args in
     let l = c .before .before .before .before .loop in
-    let pre = c .before .before .before .before .before .before .before .before .before .before .pre in
+    let pre = before-loop (c .before .before .before .before) .pre in
     let loop-test = c .before .before .before .loop-test in
     let i = l .inv in
     let p = pre .0 .at (l .k) (loop-test .taken) in
@@ -49,9 +53,9 @@ loop-less c = search needs
 
 loop-again : tie.Need-loop-again Inv-loop μ-loop
 loop-again c =
-    let a = c .before .before .before .before .before .before .before .before .before .before .before .before .before .before .before .args in
+    let a = before-loop (c .before .before .before .before .before .before .before .before .before) .args in
     let l = c .before .before .before .before .before .before .before .before .before .loop in
-    let pre = c .before .before .before .before .before .before .before .before .before .before .before .before .before .before .before .pre in
+    let pre = before-loop (c .before .before .before .before .before .before .before .before .before) .pre in
     let loop-test = c .before .before .before .before .before .before .before .before .loop-test in
     let keep = c .before .before .before .before .keep in
     let i = l .inv in
@@ -71,7 +75,7 @@ same-length-2 c = c .before .loop .inv .2
 
 returns : tie.Need-returns Inv-loop μ-loop
 returns c =
-    let a = c .before .before .before .before .before .before .before .args in
+    let a = before-loop (c .before) .args in
     let loop = c .before .loop in
     let l = a .line .now in
     let e : loop .k ≡ length l = omega arith in

@@ -9,6 +9,22 @@ use borrow.Author.Needs.{needs}
 use Rattle.build.proofs.line.rewrite_line.Statement.{statement}
 use Rattle.build.proofs.line.rewrite_line.Tie as tie
 
+-- Steps back to an earlier point of the function, each counted once.
+abbrev before-line-of : tie.After-line-of → tie.Start
+before-line-of c = c .before .before .before .before .before .before
+
+abbrev before-line-of2 : tie.After-line-of2 → tie.After-line-of
+before-line-of2 c = c .before
+
+abbrev before-merge : tie.After-merge → tie.After-line-of2
+before-merge c = c .before .before .before
+
+abbrev before-tokens : tie.After-tokens → tie.After-merge
+before-tokens c = c .before .before .before
+
+abbrev before-fold-last : tie.After-fold-last → tie.After-tokens
+before-fold-last c = c .before .before .before .before
+
 line-of-requires : tie.Need-line-of-requires
 line-of-requires c κs = search needs
 
@@ -17,19 +33,19 @@ line-of-requires-2 c κs = search needs
 
 merge-requires : tie.Need-merge-requires
 merge-requires c κs =
-    let a = c .before .before .before .before .before .before .before .before .before .args in
+    let a = before-line-of (before-line-of2 (c .before .before)) .args in
     let line-of = c .before .before .before .line-of in
-    let p = c .before .before .before .before .before .before .before .before .before .pre in
+    let p = before-line-of (before-line-of2 (c .before .before)) .pre in
     rw (line-of .ensures, c .before .before .line-of2 .ensures)
     (p .substitutes, p .lined .holds, room-merge (unmerged (a .tape .now) (a .old .now) (a .old-tokens .now) (a .source) (a .j) (a .l)) (p .numbers-short) (p .has-room))
 
 fold-last-requires : tie.Need-fold-last-requires
 fold-last-requires c κs =
-    let a = c .before .before .before .before .before .before .before .before .before .before .before .before .before .before .before .before .args in
-    let line-of = c .before .before .before .before .before .before .before .before .before .before .line-of in
-    let line-of2 = c .before .before .before .before .before .before .before .before .before .line-of2 in
-    let merge = c .before .before .before .before .before .before .merge in
-    let p = c .before .before .before .before .before .before .before .before .before .before .before .before .before .before .before .before .pre in
+    let a = before-line-of (before-line-of2 (before-merge (before-tokens (c .before .before .before)))) .args in
+    let line-of = before-line-of2 (before-merge (before-tokens (c .before .before .before))) .line-of in
+    let line-of2 = before-merge (before-tokens (c .before .before .before)) .line-of2 in
+    let merge = before-tokens (c .before .before .before) .merge in
+    let p = before-line-of (before-line-of2 (before-merge (before-tokens (c .before .before .before)))) .pre in
     let l = rw (line-of .ensures, line-of2 .ensures) at (merge .ensures) in
     (l .built, room-fold (unmerged (a .tape .now) (a .old .now) (a .old-tokens .now) (a .source) (a .j) (a .l)) (p .numbers-short) (p .has-room) l (merge .kept .1 .1 .1 .1 .1 .0) (merge .kept .1 .1 .1 .1 .1 .1 .0))
 
@@ -38,11 +54,11 @@ sub-count c = search needs
 
 with-tokens-requires : tie.Need-with-tokens-requires
 with-tokens-requires c κs =
-    let a = c .before .before .before .before .before .before .before .before .before .before .before .before .before .before .before .before .before .before .before .before .before .before .args in
-    let line-of = c .before .before .before .before .before .before .before .before .before .before .before .before .before .before .before .before .line-of in
-    let line-of2 = c .before .before .before .before .before .before .before .before .before .before .before .before .before .before .before .line-of2 in
-    let merge = c .before .before .before .before .before .before .before .before .before .before .before .before .merge in
-    let p = c .before .before .before .before .before .before .before .before .before .before .before .before .before .before .before .before .before .before .before .before .before .before .pre in
+    let a = before-line-of (before-line-of2 (before-merge (before-tokens (before-fold-last (c .before .before .before .before .before))))) .args in
+    let line-of = before-line-of2 (before-merge (before-tokens (before-fold-last (c .before .before .before .before .before)))) .line-of in
+    let line-of2 = before-merge (before-tokens (before-fold-last (c .before .before .before .before .before))) .line-of2 in
+    let merge = before-tokens (before-fold-last (c .before .before .before .before .before)) .merge in
+    let p = before-line-of (before-line-of2 (before-merge (before-tokens (before-fold-last (c .before .before .before .before .before))))) .pre in
     let fold-last = c .before .before .before .before .before .fold-last in
     let l = rw (line-of .ensures, line-of2 .ensures) at (merge .ensures) in
     let f = laid-folded (unmerged (a .tape .now) (a .old .now) (a .old-tokens .now) (a .source) (a .j) (a .l)) (p .numbers-short) (p .has-room) l (fold-last .ensures) in
@@ -56,11 +72,11 @@ same-length-2 c = search needs
 
 returns : tie.Need-returns
 returns c =
-    let a = c .before .before .before .before .before .before .before .before .before .before .before .before .before .before .before .before .before .before .before .before .before .before .before .args in
-    let line-of = c .before .before .before .before .before .before .before .before .before .before .before .before .before .before .before .before .before .line-of in
-    let line-of2 = c .before .before .before .before .before .before .before .before .before .before .before .before .before .before .before .before .line-of2 in
-    let merge = c .before .before .before .before .before .before .before .before .before .before .before .before .before .merge in
-    let p = c .before .before .before .before .before .before .before .before .before .before .before .before .before .before .before .before .before .before .before .before .before .before .before .pre in
+    let a = before-line-of (before-line-of2 (before-merge (before-tokens (before-fold-last (c .before .before .before .before .before .before))))) .args in
+    let line-of = before-line-of2 (before-merge (before-tokens (before-fold-last (c .before .before .before .before .before .before)))) .line-of in
+    let line-of2 = before-merge (before-tokens (before-fold-last (c .before .before .before .before .before .before))) .line-of2 in
+    let merge = before-tokens (before-fold-last (c .before .before .before .before .before .before)) .merge in
+    let p = before-line-of (before-line-of2 (before-merge (before-tokens (before-fold-last (c .before .before .before .before .before .before))))) .pre in
     let fold-last = c .before .before .before .before .before .before .fold-last in
     let l = rw (line-of .ensures, line-of2 .ensures) at (merge .ensures) in
     let ts = unmerged (a .tape .now) (a .old .now) (a .old-tokens .now) (a .source) (a .j) (a .l) in

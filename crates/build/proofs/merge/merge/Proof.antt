@@ -19,6 +19,10 @@ Inv-loop tape old source line j area₀ tokens₀ from s₀ k₀ area tokens s k
 abbrev μ-loop : tie.MeasureT-loop
 μ-loop tape old source line j area₀ tokens₀ from s₀ k₀ area tokens s k = length line - k
 
+-- Steps back to an earlier point of the function, each counted once.
+abbrev before-loop : tie.At-loop Inv-loop μ-loop → tie.Start Inv-loop μ-loop
+before-loop c = c .before .before .before .before .before .before .before
+
 loop-holds : tie.Need-loop-holds Inv-loop μ-loop
 loop-holds c =
     let a = c .before .before .before .before .before .before .args in
@@ -33,9 +37,9 @@ shared-slice-read-push-used c = search needs
 
 push-used-requires : tie.Need-push-used-requires Inv-loop μ-loop
 push-used-requires c κs =
-    let a = c .before .before .before .before .before .before .before .before .before .before .before .args in
+    let a = before-loop (c .before .before .before .before) .args in
     let l = c .before .before .before .before .loop in
-    let p = c .before .before .before .before .before .before .before .before .before .before .before .pre in
+    let p = before-loop (c .before .before .before .before) .pre in
     let loop-test = c .before .before .before .loop-test in
     let i = l .inv in (
       p .0,
@@ -52,7 +56,7 @@ loop-less c = search needs
 
 loop-again : tie.Need-loop-again Inv-loop μ-loop
 loop-again c =
-    let a = c .before .before .before .before .before .before .before .before .before .before .before .before .before .before .before .before .args in
+    let a = before-loop (c .before .before .before .before .before .before .before .before .before) .args in
     let l = c .before .before .before .before .before .before .before .before .before .loop in
     let push-used = c .before .before .before .before .push-used in
     let loop-test = c .before .before .before .before .before .before .before .before .loop-test in
@@ -72,7 +76,7 @@ same-length-2 c = c .before .loop .inv .3
 
 returns : tie.Need-returns Inv-loop μ-loop
 returns c =
-    let a = c .before .before .before .before .before .before .before .before .args in
+    let a = before-loop (c .before) .args in
     laid-merged (rw (take-all (c .before .loop .k) (a .line .now) (c .loop-test .left)) at (c .before .loop .inv .4))
 
 pub merge-spec : {M : Type 1} → statement M

@@ -6,6 +6,10 @@ use Rattle.life.proofs.Scanning.{after-quiet, after-keeping, after-call
 use Rattle.life.proofs.dead.fate_by_marks.Statement.{statement}
 use Rattle.life.proofs.dead.fate_by_marks.Tie as tie
 
+-- Steps back to an earlier point of the function, each counted once.
+abbrev before-is-quiet : tie.After-is-quiet → tie.Start
+before-is-quiet c = c .before .before .before .before .before .before .before
+
 mul-l : tie.Need-mul-l
 mul-l c = search needs
 
@@ -17,7 +21,7 @@ is-quiet-requires c κs = search (needs, number-fits)
 
 returns : tie.Need-returns
 returns c =
-    let s = c .before .before .before .before .before .before .before .before in
+    let s = before-is-quiet (c .before) in
     after-quiet (s .args .lines .now) _ _ _ _ _ _ _ _ (s .args .w) _ (s .pre .0 .at (s .args .w) (search needs)) (s .pre .5) (c .before .is-quiet .ensures) (c .if1 .taken)
 
 is-calling-requires : tie.Need-is-calling-requires
@@ -25,7 +29,7 @@ is-calling-requires c κs = search (needs, number-fits)
 
 returns-2 : tie.Need-returns-2
 returns-2 c =
-    let s = c .before .before .before .before .before .before .before .before .before .before .before in
+    let s = before-is-quiet (c .before .before .before .before) in
     after-keeping (s .args .lines .now) _ _ _ _ _ _ _ _ (s .args .w) _ (s .pre .0 .at (s .args .w) (search needs)) (s .pre .5) (c .before .before .is-calling .ensures) (c .before .if2 .taken) (s .pre .6) (search (needs, not-true))
 
 indent-requires : tie.Need-indent-requires
@@ -33,12 +37,12 @@ indent-requires c κs = search needs
 
 returns-3 : tie.Need-returns-3
 returns-3 c =
-    let s = c .before .before .before .before .before .before .before .before .before .before .before .before .before in
+    let s = before-is-quiet (c .before .before .before .before .before .before) in
     after-calling (s .args .lines .now) _ _ _ _ _ _ _ _ (s .args .w) _ (s .pre .0 .at (s .args .w) (search needs)) (s .pre .5) (c .before .before .before .before .is-calling .ensures) (c .before .before .before .if2 .taken) (s .pre .6) (search (needs, not-false)) (c .before .indent .ensures) (c .if4 .taken)
 
 returns-4 : tie.Need-returns-4
 returns-4 c =
-    let s = c .before .before .before .before .before .before .before .before .before .before .before .before .before in
+    let s = before-is-quiet (c .before .before .before .before .before .before) in
     after-deep (s .args .lines .now) _ _ _ _ _ _ _ _ (s .args .w) _ (s .pre .0 .at (s .args .w) (search needs)) (s .pre .5) (c .before .before .before .before .is-calling .ensures) (c .before .before .before .if2 .taken) (s .pre .6) (search (needs, not-false)) (c .before .indent .ensures) (c .if4 .left)
 
 fate-after-requires : tie.Need-fate-after-requires
