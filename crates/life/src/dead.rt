@@ -1,11 +1,11 @@
 // Whether a family's value is never read again: `dead_after` of the Rust.
-use crate::fates::Fate;
-use crate::fates::fate_at;
 use crate::jumps::goto_passes;
 use crate::jumps::while_passes;
-use linemarks::is_calling;
-use linemarks::is_quiet;
-use linemarks::number_of;
+use crate::liveness::Liveness;
+use crate::liveness::liveness_at;
+use linefacts::is_calling;
+use linefacts::is_transparent;
+use linefacts::number_of;
 use lines::fams;
 use lines::fams::Fam;
 use lines::rules::Rules;
@@ -14,6 +14,7 @@ use lines::words;
 ghost use mathlib.Core.Path.{_≡_};
 ghost use Prim.Native.Nat.{_<_};
 ghost use lib.ListN.{length, getD};
+ghost use Rattle.reference.specs.Contract.{was};
 ghost use Rattle.reference.specs.Text.{has};
 ghost use Rattle.reference.specs.Rules.{volatile};
 ghost use Rattle.reference.specs.Life.{dead-after};
@@ -22,7 +23,7 @@ ghost use Rattle.lines.specs.Rules.{rules-of};
 ghost use Rattle.lines.specs.Codes.{family-number};
 ghost use Rattle.lines.specs.Lines.{bare-in, bare-listing, Lined, Listed};
 ghost use Rattle.lines.specs.Fams.{fam-text, Known};
-ghost use Rattle.life.specs.Fates.{returns-at, scan-fate, fate-after};
+ghost use Rattle.life.specs.Liveness.{returns-at, scan-liveness, liveness-after};
 
 // Whether a line, at most `base_indent` deep, has the Keyword `return`.
 fn returns_at<'a>(
@@ -33,7 +34,7 @@ fn returns_at<'a>(
     base_indent: u64,
 ) -> bool
     requires { ⌜ Lined (now tape) (now area) (now tokens) l ⌝ }
-    ensures { λ r. ⌜ r ≡ returns-at «base_indent» (bare-in (now (tape .entry)) (now (area .entry)) (now (tokens .entry)) l) ⌝ }
+    ensures { λ r. ⌜ r ≡ returns-at «base_indent» (bare-in (was tape) (was area) (was tokens) l) ⌝ }
 {
     if base_indent < words::indent(l) {
         return false;
@@ -50,25 +51,25 @@ fn scan<'a>(
     f: Fam,
     base_indent: u64,
     rules: Rules,
-) -> Fate
+) -> Liveness
     requires { ⌜ Lined (now tape) (now area) (now tokens) l × Known (now tape) (now area) f ⌝ }
-    ensures { λ r. ⌜ r ≡ scan-fate (fam-text (now (tape .entry)) (now (area .entry)) f) «base_indent» (volatile (rules-of rules))
-        (bare-in (now (tape .entry)) (now (area .entry)) (now (tokens .entry)) l) ⌝ }
+    ensures { λ r. ⌜ r ≡ scan-liveness (fam-text (was tape) (was area) f) «base_indent» (volatile (rules-of rules))
+        (bare-in (was tape) (was area) (was tokens) l) ⌝ }
 {
-    match fate_at(tape, area, tokens, l, f, base_indent, rules) {
-        Fate::Dead => Fate::Dead,
-        Fate::Live => Fate::Live,
-        Fate::Open => {
+    match liveness_at(tape, area, tokens, l, f, base_indent, rules) {
+        Liveness::Dead => Liveness::Dead,
+        Liveness::Live => Liveness::Live,
+        Liveness::Open => {
             if returns_at(tape, area, tokens, l, base_indent) {
-                return Fate::Dead;
+                return Liveness::Dead;
             }
-            Fate::Open
+            Liveness::Open
         }
     }
 }
 
 // What line w, after a definition on line `start`, does to the value.
-fn fate_after<'a>(
+fn liveness_after<'a>(
     tape: &'a [u8],
     area: &'a [u8],
     tokens: &'a [u64],
@@ -79,31 +80,31 @@ fn fate_after<'a>(
     base_indent: u64,
     start: usize,
     rules: Rules,
-) -> Fate
+) -> Liveness
     requires { ⌜ Listed (now tape) (now area) (now tokens) (now lines)
         × Labelled (bare-listing (now tape) (now area) (now tokens) (now lines)) (now labels) × Known (now tape) (now area) f
         × (w < length (now lines)) × (start < length (now lines)) ⌝ }
-    ensures { λ r. ⌜ r ≡ fate-after (bare-listing (now (tape .entry)) (now (area .entry)) (now (tokens .entry)) (now (lines .entry)))
-        (fam-text (now (tape .entry)) (now (area .entry)) f) «base_indent»
-        (labels-at (bare-listing (now (tape .entry)) (now (area .entry)) (now (tokens .entry)) (now (lines .entry))) (now (labels .entry)))
-        start (volatile (rules-of rules)) w (bare-in (now (tape .entry)) (now (area .entry)) (now (tokens .entry))
-        (getD (now (lines .entry)) w 0)) ⌝ }
+    ensures { λ r. ⌜ r ≡ liveness-after (bare-listing (was tape) (was area) (was tokens) (was lines))
+        (fam-text (was tape) (was area) f) «base_indent»
+        (labels-at (bare-listing (was tape) (was area) (was tokens) (was lines)) (was labels))
+        start (volatile (rules-of rules)) w (bare-in (was tape) (was area) (was tokens)
+        (getD (was lines) w 0)) ⌝ }
 {
     let l = lines[w];
     if shapes::has_while(tape, area, words::line_of(tokens, l)) {
         if while_passes(tape, area, tokens, lines, w, f, start, rules) {
-            return Fate::Open;
+            return Liveness::Open;
         }
-        return Fate::Live;
+        return Liveness::Live;
     }
     if !goto_passes(tape, area, tokens, lines, labels, l, f, start, rules) {
-        return Fate::Live;
+        return Liveness::Live;
     }
     scan(tape, area, tokens, l, f, base_indent, rules)
 }
 
-// The same, where n is the number of the family, and calls overwrite it or not: a quiet line does nothing, and a calling one what calls do.
-fn fate_by_marks<'a>(
+// The same, where n is the number of the family, and calls overwrite it or not: a transparent line does nothing, and a calling one what calls do.
+fn liveness_by_facts<'a>(
     tape: &'a [u8],
     area: &'a [u8],
     tokens: &'a [u64],
@@ -116,31 +117,31 @@ fn fate_by_marks<'a>(
     base_indent: u64,
     start: usize,
     rules: Rules,
-) -> Fate
+) -> Liveness
     requires { ⌜ Listed (now tape) (now area) (now tokens) (now lines)
         × Labelled (bare-listing (now tape) (now area) (now tokens) (now lines)) (now labels) × Known (now tape) (now area) f
         × (w < length (now lines)) × (start < length (now lines)) × (n ≡ family-number (fam-text (now tape) (now area) f))
         × (overwritten ≡ has (volatile (rules-of rules)) (fam-text (now tape) (now area) f)) ⌝ }
-    ensures { λ r. ⌜ r ≡ fate-after (bare-listing (now (tape .entry)) (now (area .entry)) (now (tokens .entry)) (now (lines .entry)))
-        (fam-text (now (tape .entry)) (now (area .entry)) f) «base_indent»
-        (labels-at (bare-listing (now (tape .entry)) (now (area .entry)) (now (tokens .entry)) (now (lines .entry))) (now (labels .entry)))
-        start (volatile (rules-of rules)) w (bare-in (now (tape .entry)) (now (area .entry)) (now (tokens .entry))
-        (getD (now (lines .entry)) w 0)) ⌝ }
+    ensures { λ r. ⌜ r ≡ liveness-after (bare-listing (was tape) (was area) (was tokens) (was lines))
+        (fam-text (was tape) (was area) f) «base_indent»
+        (labels-at (bare-listing (was tape) (was area) (was tokens) (was lines)) (was labels))
+        start (volatile (rules-of rules)) w (bare-in (was tape) (was area) (was tokens)
+        (getD (was lines) w 0)) ⌝ }
 {
     let l = lines[w];
-    if is_quiet(l, n) {
-        return Fate::Open;
+    if is_transparent(l, n) {
+        return Liveness::Open;
     }
     if is_calling(l, n) {
         if !overwritten {
-            return Fate::Open;
+            return Liveness::Open;
         }
         if words::indent(l) <= base_indent {
-            return Fate::Dead; // by the call
+            return Liveness::Dead; // by the call
         }
-        return Fate::Open;
+        return Liveness::Open;
     }
-    fate_after(
+    liveness_after(
         tape,
         area,
         tokens,
@@ -170,16 +171,16 @@ pub fn dead_after<'a>(
     requires { ⌜ Listed (now tape) (now area) (now tokens) (now lines)
         × Labelled (bare-listing (now tape) (now area) (now tokens) (now lines)) (now labels) × Known (now tape) (now area) f
         × (from < length (now lines)) × (start < length (now lines)) ⌝ }
-    ensures { λ r. ⌜ r ≡ dead-after (bare-listing (now (tape .entry)) (now (area .entry)) (now (tokens .entry)) (now (lines .entry))) from
-        (fam-text (now (tape .entry)) (now (area .entry)) f) «base_indent»
-        (labels-at (bare-listing (now (tape .entry)) (now (area .entry)) (now (tokens .entry)) (now (lines .entry))) (now (labels .entry)))
+    ensures { λ r. ⌜ r ≡ dead-after (bare-listing (was tape) (was area) (was tokens) (was lines)) from
+        (fam-text (was tape) (was area) f) «base_indent»
+        (labels-at (bare-listing (was tape) (was area) (was tokens) (was lines)) (was labels))
         start (volatile (rules-of rules)) ⌝ }
 {
     let n = number_of(tape, area, f);
     let overwritten = fams::is_volatile(tape, area, f, rules);
     let mut w = from + 1;
     while w < lines.len() {
-        match fate_by_marks(
+        match liveness_by_facts(
             tape,
             area,
             tokens,
@@ -193,13 +194,13 @@ pub fn dead_after<'a>(
             start,
             rules,
         ) {
-            Fate::Dead => {
+            Liveness::Dead => {
                 return true;
             }
-            Fate::Live => {
+            Liveness::Live => {
                 return false;
             }
-            Fate::Open => {}
+            Liveness::Open => {}
         }
         w += 1;
     }

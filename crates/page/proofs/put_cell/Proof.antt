@@ -6,19 +6,6 @@ use borrow.Author.Needs.{needs}
 use Rattle.page.proofs.put_cell.Statement.{statement}
 use Rattle.page.proofs.put_cell.Tie as tie
 
--- Steps back to an earlier point of the function, each counted once.
-abbrev before-put : tie.After-put → tie.Start
-before-put c = c .before .before .before .before .before
-
-abbrev before-put-decimal : tie.After-put-decimal → tie.After-put
-before-put-decimal c = c .before .before .before .before
-
-abbrev before-put2 : tie.After-put2 → tie.After-put-decimal
-before-put2 c = c .before .before .before .before .before
-
-abbrev before-put-escaped : tie.After-put-escaped → tie.After-put2
-before-put-escaped c = c .before .before .before .before
-
 slice-aggregate-put : tie.Need-slice-aggregate-put
 slice-aggregate-put c = search needs
 
@@ -32,26 +19,26 @@ slice-aggregate-put-2 : tie.Need-slice-aggregate-put-2
 slice-aggregate-put-2 c = search needs
 
 put-requires-2 : tie.Need-put-requires-2
-put-requires-2 c κs = search (needs, decimal-length (before-put (before-put-decimal (c .before .before .before .before)) .args .kind))
+put-requires-2 c κs = search (needs, decimal-length (c .before .before .before .before .before .before .before .before .before .before .before .before .before .args .kind))
 
 put-escaped-requires : tie.Need-put-escaped-requires
-put-escaped-requires c κs = search (needs, decimal-length (before-put (before-put-decimal (before-put2 (c .before .before .before))) .args .kind))
+put-escaped-requires c κs = search (needs, decimal-length (c .before .before .before .before .before .before .before .before .before .before .before .before .before .before .before .before .before .args .kind))
 
 slice-aggregate-put-3 : tie.Need-slice-aggregate-put-3
 slice-aggregate-put-3 c = search needs
 
 put-requires-3 : tie.Need-put-requires-3
 put-requires-3 c κs =
-    let s = before-put (before-put-decimal (before-put2 (before-put-escaped (c .before .before .before .before)))) .args in search (needs, decimal-length (s .kind), escaped-length (s .text .now))
+    let s = c .before .before .before .before .before .before .before .before .before .before .before .before .before .before .before .before .before .before .before .before .before .before .args in search (needs, decimal-length (s .kind), escaped-length (s .text .now))
 
 same-length : tie.Need-same-length
 same-length c = search needs
 
 returns : tie.Need-returns
-returns c = let s = before-put (before-put-decimal (before-put2 (before-put-escaped (c .before .before .before .before .before .before .before)))) in
+returns c = let s = c .before .before .before .before .before .before .before .before .before .before .before .before .before .before .before .before .before .before .before .before .before .before .before .before .before in
     let a = s .args in
-    cell-put (a .kind) (a .text .now) (s .pre) (before-put-decimal (before-put2 (before-put-escaped (c .before .before .before .before .before .before .before))) .put .ensures) (before-put2 (before-put-escaped (c .before .before .before .before .before .before .before)) .put-decimal .ensures)
-    (before-put-escaped (c .before .before .before .before .before .before .before) .put2 .ensures) (c .before .before .before .before .before .before .before .put-escaped .ensures) (c .before .before .put3 .ensures)
+    cell-put (a .kind) (a .text .now) (s .pre) (c .before .before .before .before .before .before .before .before .before .before .before .before .before .before .before .before .before .before .before .before .put .ensures) (c .before .before .before .before .before .before .before .before .before .before .before .before .before .before .before .before .put-decimal .ensures)
+    (c .before .before .before .before .before .before .before .before .before .before .before .put2 .ensures) (c .before .before .before .before .before .before .before .put-escaped .ensures) (c .before .before .put3 .ensures)
 
 pub put-cell-spec : {M : Type 1} → statement M
 put-cell-spec =

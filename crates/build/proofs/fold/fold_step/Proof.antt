@@ -9,8 +9,8 @@ use Rattle.build.proofs.fold.fold_step.Statement.{statement}
 use Rattle.build.proofs.fold.fold_step.Tie as tie
 
 -- Steps back to an earlier point of the function, each counted once.
-abbrev before-fold-value : tie.After-fold-value → tie.Start
-before-fold-value c = c .before .before .before .before .before .before
+abbrev before-known-told : tie.After-known-told → tie.Start
+before-known-told c = c .before .before .before .before .before .before .before .before .before
 
 fold-value-requires : tie.Need-fold-value-requires
 fold-value-requires c κs =
@@ -22,8 +22,8 @@ enum-known-v c = search needs
 
 put-number-requires : tie.Need-put-number-requires
 put-number-requires c κs =
-    let p = before-fold-value (c .before .before .before .before) .pre in
-    let n = before-fold-value (c .before .before .before .before) .args .edition in
+    let p = before-known-told (c .before) .pre in
+    let n = before-known-told (c .before) .args .edition in
     let v = c .before .before .v in
     let fold-value = c .before .before .before .before .fold-value in
     fold-room (p .0) n (next-some (p .0) n (ap meaning (v .given .1)) (read-back (v .given .0 .0) (c .before .known-told .given .0 .1)) (fold-value .ensures))
@@ -36,8 +36,8 @@ sub-token-word c = search needs
 
 token-word-requires : tie.Need-token-word-requires
 token-word-requires c κs =
-    let p = before-fold-value (c .before .before .before .before .before .before .before) .pre in
-    let n = before-fold-value (c .before .before .before .before .before .before .before) .args .edition in
+    let p = before-known-told (c .before .before .before .before) .pre in
+    let n = before-known-told (c .before .before .before .before) .args .edition in
     let v = c .before .before .before .before .before .v in
     let known-told = c .before .before .before .before .known-told in
     let fold-value = c .before .before .before .before .before .before .before .fold-value in
@@ -50,8 +50,8 @@ mul-line c = search needs
 
 slice-write-line : tie.Need-slice-write-line
 slice-write-line c =
-    let p = before-fold-value (c .before .before .before .before .before .before .before .before) .pre in
-    let n = before-fold-value (c .before .before .before .before .before .before .before .before) .args .edition in
+    let p = before-known-told (c .before .before .before .before .before) .pre in
+    let n = before-known-told (c .before .before .before .before .before) .args .edition in
     let v = c .before .before .before .before .before .before .v in
     let known-told = c .before .before .before .before .before .known-told in
     let fold-value = c .before .before .before .before .before .before .before .before .fold-value in
@@ -86,8 +86,8 @@ same-length-2 c = search needs
 
 returns : tie.Need-returns
 returns c =
-    let p = before-fold-value (c .before .before .before .before .before .before .before .before) .pre in
-    let n = before-fold-value (c .before .before .before .before .before .before .before .before) .args .edition in
+    let p = before-known-told (c .before .before .before .before .before) .pre in
+    let n = before-known-told (c .before .before .before .before .before) .args .edition in
     let v = c .before .before .before .before .before .before .v in
     let known-told = c .before .before .before .before .before .known-told in
     let fold-value = c .before .before .before .before .before .before .before .before .fold-value in
@@ -103,8 +103,8 @@ same-length-4 c = search needs
 
 returns-2 : tie.Need-returns-2
 returns-2 c =
-    let p = before-fold-value (c .before .before .before) .pre in
-    let n = before-fold-value (c .before .before .before) .args .edition in
+    let p = c .before .before .before .before .before .before .before .before .before .pre in
+    let n = c .before .before .before .before .before .before .before .before .before .args .edition in
     let fold-value = c .before .before .before .fold-value in
     stepped-kept (p .0) n (p .1) (next-none (p .0) n (ap meaning (c .before .enum-told .given .1)) (fold-value .ensures))
 

@@ -10,8 +10,8 @@ use Rattle.build.proofs.fold.fold_value.Statement.{statement}
 use Rattle.build.proofs.fold.fold_value.Tie as tie
 
 -- Steps back to an earlier point of the function, each counted once.
-abbrev before-else1 : tie.Else1 → tie.Start
-before-else1 c = c .before .before .before .before
+abbrev before-shared-slice-known4 : tie.After-shared-slice-known4 → tie.Start
+before-shared-slice-known4 c = c .before .before .before .before .before .before .before .before .before
 
 sub-if1 : tie.Need-sub-if1
 sub-if1 c = search needs
@@ -26,7 +26,7 @@ delimited-before-requires c κs = search needs
 
 returns-2 : tie.Need-returns-2
 returns-2 c =
-    let a = before-else1 (c .before .before) .args in
+    let a = c .before .before .before .before .before .before .args in
     next-open (a .tape .now) (a .area .now) (a .line .now) (a .edition) _ (a .next) (omega arith) (c .before .delimited-before .ensures) (not-true _ (c .if2 .taken))
 
 add-delimited-after : tie.Need-add-delimited-after
@@ -34,13 +34,13 @@ add-delimited-after c = search needs
 
 delimited-after-requires : tie.Need-delimited-after-requires
 delimited-after-requires c κs =
-    let a = before-else1 (c .before .before) .args in
-    let p = before-else1 (c .before .before) .pre in
+    let a = c .before .before .before .before .before .before .args in
+    let p = c .before .before .before .before .before .before .pre in
     rw (← drop-drop 3 (a .next) (a .line .now)) (holds-drop (p .3) 3)
 
 returns-3 : tie.Need-returns-3
 returns-3 c =
-    let a = before-else1 (c .before .before .before .before) .args in
+    let a = c .before .before .before .before .before .before .before .before .args in
     let delimited-before = c .before .before .before .delimited-before in
     next-shut (a .tape .now) (a .area .now) (a .line .now) (a .edition) _ (a .next) (omega arith) (delimited-before .ensures) (not-false _ (c .before .before .if2 .left)) (c .before .delimited-after .ensures) (not-true _ (c .if3 .taken))
 
@@ -70,8 +70,8 @@ shared-slice-read-sum-of-3 c = search needs
 
 sum-of-requires : tie.Need-sum-of-requires
 sum-of-requires c κs =
-    let pre = before-else1 (c .before .before .before .before .before .before .before) .pre in
-    let a = before-else1 (c .before .before .before .before .before .before .before) .args in
+    let pre = before-shared-slice-known4 (c .before .before) .pre in
+    let a = before-shared-slice-known4 (c .before .before) .args in
     let p = pre .3 in
     let n = a .next in
     let l = a .line .now in
@@ -79,7 +79,7 @@ sum-of-requires c κs =
 
 returns-4 : tie.Need-returns-4
 returns-4 c =
-    let a = before-else1 (c .before .before .before .before .before .before .before .before) .args in
+    let a = before-shared-slice-known4 (c .before .before .before) .args in
     let delimited-before = c .before .before .before .before .before .before .before .delimited-before in
     let if2 = c .before .before .before .before .before .before .if2 in
     let delimited-after = c .before .before .before .before .before .delimited-after in

@@ -19,8 +19,8 @@ before-else1 c = c .before
 abbrev before-kind2 : tie.After-kind2 → tie.Else1
 before-kind2 c = c .before
 
-abbrev before-else2 : tie.Else2 → tie.After-kind2
-before-else2 c = c .before
+abbrev before-read-number2 : tie.After-read-number2 → tie.After-kind2
+before-read-number2 c = c .before .before .before .before .before .before .before .before .before
 
 kind-requires : tie.Need-kind-requires
 kind-requires c κs = search needs
@@ -49,8 +49,8 @@ is-sign-requires c κs = search needs
 
 returns-3 : tie.Need-returns-3
 returns-3 c =
-    let args = before-kind (before-else1 (before-kind2 (before-else2 (c .before .before .before)))) .args in
-    let kind = before-else1 (before-kind2 (before-else2 (c .before .before .before))) .kind in
+    let args = before-kind (before-else1 (before-kind2 (c .before .before .before .before))) .args in
+    let kind = before-else1 (before-kind2 (c .before .before .before .before)) .kind in
     let if1 = c .before .before .before .before .before .if1 in
     let kind2 = c .before .before .before .before .kind2 in
     let if2 = c .before .before .before .if2 in
@@ -78,14 +78,14 @@ operate-requires c κs = search needs
 
 returns-4 : tie.Need-returns-4
 returns-4 c =
-    let args = before-kind (before-else1 (before-kind2 (before-else2 (c .before .before .before .before .before .before .before .before .before)))) .args in
+    let args = before-kind (before-else1 (before-kind2 (before-read-number2 (c .before)))) .args in
     let is-plus = c .before .before .before .before .before .is-plus in
     let read-number = c .before .before .before .read-number in
     let text = c .before .before .before .before .before .before .before .before .text in
     let text2 = c .before .before .before .before .text2 in
-    let kind = before-else1 (before-kind2 (before-else2 (c .before .before .before .before .before .before .before .before .before))) .kind in
-    let if1 = before-kind2 (before-else2 (c .before .before .before .before .before .before .before .before .before)) .if1 in
-    let kind2 = before-else2 (c .before .before .before .before .before .before .before .before .before) .kind2 in
+    let kind = before-else1 (before-kind2 (before-read-number2 (c .before))) .kind in
+    let if1 = before-kind2 (before-read-number2 (c .before)) .if1 in
+    let kind2 = before-read-number2 (c .before) .kind2 in
     let if2 = c .before .before .before .before .before .before .before .before .before .if2 in
     let is-sign = c .before .before .before .before .before .before .before .is-sign in
     let if3 = c .before .before .before .before .before .before .if3 in

@@ -3,7 +3,7 @@ use Rattle.lines.specs.Fams.{fam-text}
 use Rattle.lines.specs.Lines.{part-of}
 use Rattle.build.specs.Substitution.{right-of}
 use Rattle.build.specs.Added.{unmerged}
-use Rattle.build.proofs.Laying.{room-merge, room-fold, laid-folded}
+use Rattle.build.proofs.LineAdding.{room-merge, room-fold, line-added-folded}
 use Rattle.build.proofs.Adding.{count-fits, added-rewritten}
 use borrow.Author.Needs.{needs}
 use Rattle.build.proofs.line.rewrite_line.Statement.{statement}
@@ -19,11 +19,8 @@ before-line-of2 c = c .before
 abbrev before-merge : tie.After-merge → tie.After-line-of2
 before-merge c = c .before .before .before
 
-abbrev before-tokens : tie.After-tokens → tie.After-merge
-before-tokens c = c .before .before .before
-
-abbrev before-fold-last : tie.After-fold-last → tie.After-tokens
-before-fold-last c = c .before .before .before .before
+abbrev before-slice-known5 : tie.After-slice-known5 → tie.After-merge
+before-slice-known5 c = c .before .before .before .before .before .before .before .before .before
 
 line-of-requires : tie.Need-line-of-requires
 line-of-requires c κs = search needs
@@ -41,11 +38,11 @@ merge-requires c κs =
 
 fold-last-requires : tie.Need-fold-last-requires
 fold-last-requires c κs =
-    let a = before-line-of (before-line-of2 (before-merge (before-tokens (c .before .before .before)))) .args in
-    let line-of = before-line-of2 (before-merge (before-tokens (c .before .before .before))) .line-of in
-    let line-of2 = before-merge (before-tokens (c .before .before .before)) .line-of2 in
-    let merge = before-tokens (c .before .before .before) .merge in
-    let p = before-line-of (before-line-of2 (before-merge (before-tokens (c .before .before .before)))) .pre in
+    let a = before-line-of (before-line-of2 (before-merge (c .before .before .before .before .before .before))) .args in
+    let line-of = before-line-of2 (before-merge (c .before .before .before .before .before .before)) .line-of in
+    let line-of2 = before-merge (c .before .before .before .before .before .before) .line-of2 in
+    let merge = c .before .before .before .before .before .before .merge in
+    let p = before-line-of (before-line-of2 (before-merge (c .before .before .before .before .before .before))) .pre in
     let l = rw (line-of .ensures, line-of2 .ensures) at (merge .ensures) in
     (l .built, room-fold (unmerged (a .tape .now) (a .old .now) (a .old-tokens .now) (a .source) (a .j) (a .l)) (p .numbers-short) (p .has-room) l (merge .kept .1 .1 .1 .1 .1 .0) (merge .kept .1 .1 .1 .1 .1 .1 .0))
 
@@ -54,14 +51,14 @@ sub-count c = search needs
 
 with-tokens-requires : tie.Need-with-tokens-requires
 with-tokens-requires c κs =
-    let a = before-line-of (before-line-of2 (before-merge (before-tokens (before-fold-last (c .before .before .before .before .before))))) .args in
-    let line-of = before-line-of2 (before-merge (before-tokens (before-fold-last (c .before .before .before .before .before)))) .line-of in
-    let line-of2 = before-merge (before-tokens (before-fold-last (c .before .before .before .before .before))) .line-of2 in
-    let merge = before-tokens (before-fold-last (c .before .before .before .before .before)) .merge in
-    let p = before-line-of (before-line-of2 (before-merge (before-tokens (before-fold-last (c .before .before .before .before .before))))) .pre in
+    let a = before-line-of (before-line-of2 (before-merge (before-slice-known5 (c .before .before .before)))) .args in
+    let line-of = before-line-of2 (before-merge (before-slice-known5 (c .before .before .before))) .line-of in
+    let line-of2 = before-merge (before-slice-known5 (c .before .before .before)) .line-of2 in
+    let merge = before-slice-known5 (c .before .before .before) .merge in
+    let p = before-line-of (before-line-of2 (before-merge (before-slice-known5 (c .before .before .before)))) .pre in
     let fold-last = c .before .before .before .before .before .fold-last in
     let l = rw (line-of .ensures, line-of2 .ensures) at (merge .ensures) in
-    let f = laid-folded (unmerged (a .tape .now) (a .old .now) (a .old-tokens .now) (a .source) (a .j) (a .l)) (p .numbers-short) (p .has-room) l (fold-last .ensures) in
+    let f = line-added-folded (unmerged (a .tape .now) (a .old .now) (a .old-tokens .now) (a .source) (a .j) (a .l)) (p .numbers-short) (p .has-room) l (fold-last .ensures) in
     (p .first-fits, count-fits f (a .l) (p .first-fits) (p .few))
 
 same-length : tie.Need-same-length
@@ -72,16 +69,16 @@ same-length-2 c = search needs
 
 returns : tie.Need-returns
 returns c =
-    let a = before-line-of (before-line-of2 (before-merge (before-tokens (before-fold-last (c .before .before .before .before .before .before))))) .args in
-    let line-of = before-line-of2 (before-merge (before-tokens (before-fold-last (c .before .before .before .before .before .before)))) .line-of in
-    let line-of2 = before-merge (before-tokens (before-fold-last (c .before .before .before .before .before .before))) .line-of2 in
-    let merge = before-tokens (before-fold-last (c .before .before .before .before .before .before)) .merge in
-    let p = before-line-of (before-line-of2 (before-merge (before-tokens (before-fold-last (c .before .before .before .before .before .before))))) .pre in
+    let a = before-line-of (before-line-of2 (before-merge (before-slice-known5 (c .before .before .before .before)))) .args in
+    let line-of = before-line-of2 (before-merge (before-slice-known5 (c .before .before .before .before))) .line-of in
+    let line-of2 = before-merge (before-slice-known5 (c .before .before .before .before)) .line-of2 in
+    let merge = before-slice-known5 (c .before .before .before .before) .merge in
+    let p = before-line-of (before-line-of2 (before-merge (before-slice-known5 (c .before .before .before .before)))) .pre in
     let fold-last = c .before .before .before .before .before .before .fold-last in
     let l = rw (line-of .ensures, line-of2 .ensures) at (merge .ensures) in
     let ts = unmerged (a .tape .now) (a .old .now) (a .old-tokens .now) (a .source) (a .j) (a .l) in
     added-rewritten (p .lined) (p .first-fits) (c .with-tokens .ensures) (a .edition) (fam-text (a .tape .now) (a .old .now) (a .j .family)) (right-of (a .tape .now) (a .old .now) (part-of (a .old-tokens .now) (a .source)) (a .j)) (p .few)
-    (laid-folded ts (p .numbers-short) (p .has-room) l (fold-last .ensures))
+    (line-added-folded ts (p .numbers-short) (p .has-room) l (fold-last .ensures))
 
 pub rewrite-line-spec : {M : Type 1} → statement M
 rewrite-line-spec =

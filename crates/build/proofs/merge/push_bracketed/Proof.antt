@@ -19,8 +19,8 @@ before-push-text c = c .before .before .before .before .before .before .before .
 abbrev before-push-expr : tie.After-push-expr → tie.After-push-text
 before-push-expr c = c .before .before .before .before .before .before .before
 
-abbrev before-tokens2 : tie.After-tokens2 → tie.After-push-expr
-before-tokens2 c = c .before .before .before
+abbrev before-area3 : tie.After-area3 → tie.After-push-expr
+before-area3 c = c .before .before .before .before .before .before .before .before .before
 
 slice-aggregate-push-text : tie.Need-slice-aggregate-push-text
 slice-aggregate-push-text c = search needs
@@ -47,10 +47,10 @@ slice-aggregate-push-text-2 c = search needs
 
 push-text-requires-2 : tie.Need-push-text-requires-2
 push-text-requires-2 c κs =
-    let a = before-push-text (before-push-expr (before-tokens2 (c .before .before .before .before))) .args in
-    let p = before-push-text (before-push-expr (before-tokens2 (c .before .before .before .before))) .pre in
-    let push-text = before-push-expr (before-tokens2 (c .before .before .before .before)) .push-text in
-    let push-expr = before-tokens2 (c .before .before .before .before) .push-expr in
+    let a = before-push-text (before-push-expr (c .before .before .before .before .before .before .before)) .args in
+    let p = before-push-text (before-push-expr (c .before .before .before .before .before .before .before)) .pre in
+    let push-text = before-push-expr (c .before .before .before .before .before .before .before) .push-text in
+    let push-expr = c .before .before .before .before .before .before .before .push-expr in
     let r = p .2 in
     let q = ready-then (pushed-then (push-text .ensures (a .tape .now) (r .built)) (push-expr .ensures)) (token Punct (bytes ")") ∷ []) [] (r .room) refl
     (push-expr .kept .1 .1 .1 .1 .0 ∙ push-text .kept .1 .1 .0) (push-expr .kept .1 .1 .1 .1 .1 .0 ∙ push-text .kept .1 .1 .1 .0) in
@@ -64,10 +64,10 @@ same-length-2 c = search needs
 
 returns : tie.Need-returns
 returns c =
-    let a = before-push-text (before-push-expr (before-tokens2 (c .before .before .before .before .before .before .before .before .before))) .args in
-    let push-text = before-push-expr (before-tokens2 (c .before .before .before .before .before .before .before .before .before)) .push-text in
-    let p = before-push-text (before-push-expr (before-tokens2 (c .before .before .before .before .before .before .before .before .before))) .pre in
-    let push-expr = before-tokens2 (c .before .before .before .before .before .before .before .before .before) .push-expr in
+    let a = before-push-text (before-push-expr (before-area3 (c .before .before .before))) .args in
+    let push-text = before-push-expr (before-area3 (c .before .before .before)) .push-text in
+    let p = before-push-text (before-push-expr (before-area3 (c .before .before .before))) .pre in
+    let push-expr = before-area3 (c .before .before .before) .push-expr in
     let push-text2 = c .before .before .before .before .push-text2 in
     pushed-then (pushed-then (push-text .ensures (a .tape .now) (p .2 .built)) (push-expr .ensures)) (push-text2 .ensures (a .tape .now) (push-expr .ensures .built))
 

@@ -21,8 +21,8 @@ abbrev μ-loop : tie.MeasureT-loop
 μ-loop tape old source x area₀ tokens₀ from n s₀ k₀ area tokens s k = n - k
 
 -- Steps back to an earlier point of the function, each counted once.
-abbrev before-loop : tie.At-loop Inv-loop μ-loop → tie.Start Inv-loop μ-loop
-before-loop c = c .before .before .before .before .before .before
+abbrev before-push-arg : tie.After-push-arg Inv-loop μ-loop → tie.Start Inv-loop μ-loop
+before-push-arg c = c .before .before .before .before .before .before .before .before .before
 
 loop-holds : tie.Need-loop-holds Inv-loop μ-loop
 loop-holds c =
@@ -34,9 +34,9 @@ expr-word-requires c κs = search needs
 
 push-requires : tie.Need-push-requires Inv-loop μ-loop
 push-requires c κs =
-    let a = before-loop (c .before .before .before .before) .args in
+    let a = before-push-arg (c .before) .args in
     let l = c .before .before .before .before .loop in
-    let p = before-loop (c .before .before .before .before) .pre in
+    let p = before-push-arg (c .before) .pre in
     let expr-word = c .before .before .expr-word in
     let i = l .inv in
     let ws = expr-words (a .source .now) (a .x) in
@@ -53,9 +53,9 @@ loop-less c = search needs
 
 loop-again : tie.Need-loop-again Inv-loop μ-loop
 loop-again c =
-    let a = before-loop (c .before .before .before .before .before .before .before .before .before) .args in
+    let a = before-push-arg (c .before .before .before .before .before .before) .args in
     let l = c .before .before .before .before .before .before .before .before .before .loop in
-    let p = before-loop (c .before .before .before .before .before .before .before .before .before) .pre in
+    let p = before-push-arg (c .before .before .before .before .before .before) .pre in
     let push = c .before .before .before .before .push in
     let expr-word = c .before .before .before .before .before .before .before .expr-word in
     let i = l .inv in
@@ -76,8 +76,8 @@ same-length-2 c = c .before .loop .inv .3
 
 returns : tie.Need-returns Inv-loop μ-loop
 returns c =
-    let a = before-loop (c .before) .args in
-    let p = before-loop (c .before) .pre in
+    let a = c .before .before .before .before .before .before .before .args in
+    let p = c .before .before .before .before .before .before .before .pre in
     let ws = expr-words (a .source .now) (a .x) in
     rw (take-all (c .before .loop .k) ws (omega (arith, expr-length (p .1)))) at (c .before .loop .inv .4)
 

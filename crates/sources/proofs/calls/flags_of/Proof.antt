@@ -7,6 +7,10 @@ use borrow.Author.Needs.{needs}
 use Rattle.sources.proofs.calls.flags_of.Statement.{statement}
 use Rattle.sources.proofs.calls.flags_of.Tie as tie
 
+-- Steps back to an earlier point of the function, each counted once.
+abbrev before-walk-arg : tie.After-walk-arg → tie.After-clean
+before-walk-arg c = c .before .before .before .before .before .before .before .before .before
+
 bytes : (c : tie.After-shared-slice-known) → Bytes (c .before .args .tape .now)
 bytes c i = omega (arith, c .shared-slice-known .given i)
 
@@ -20,7 +24,7 @@ enum-told : tie.Need-enum-told
 enum-told c = search needs
 
 walk-requires : tie.Need-walk-requires
-walk-requires c κs = let k = c .before .before .before .before .before .before .before .before .before .before in
+walk-requires c κs = let k = before-walk-arg (c .before) in
     let b = k .before .before .before .before .before .before .before .before in
     let s = b .before in
     let a = s .args in
@@ -56,7 +60,7 @@ same-length-7 c = search needs
 
 returns-2 : tie.Need-returns-2
 returns-2 c = let w = c .before .before in
-    let k = w .before .before .before .before .before .before .before .before .before .before .before in
+    let k = before-walk-arg (w .before .before) in
     let b = k .before .before .before .before .before .before .before .before in
     let s = b .before in
     let a = s .args in
