@@ -46,7 +46,7 @@ module _ {tape area : Text} {tokens : List ℕ} {at : Size} {out : List Token} {
           lined = record {
             inside = rw (first-is, count-is, length-take-le (at′ .tokens) tokens′ (l .built .words-fit)) (omega (arith, l .built .after));
             holds = rw part-is (l .built .holds);
-            marks = no-facts _ (ap facts-of ev ∙ with-factless w (at .tokens) (at′ .tokens - at .tokens) hf count-fits);
+            facts = no-facts _ (ap facts-of ev ∙ with-factless w (at .tokens) (at′ .tokens - at .tokens) hf count-fits);
           };
           line-is = λ addresses.
               ap (line-read tape (used area′ at′) (used-words tokens′ at′) addresses) ev

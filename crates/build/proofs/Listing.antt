@@ -107,7 +107,7 @@ module _ {tape area : Text} {tokens : List ℕ} {at : Size} {line : Reading → 
     lined-elsewhere = record {
       inside = rw (a .first-is, a .end-is, length-take-le (r .size .tokens) tokens″ lw) (le-refl _);
       holds = rw same-part (record { at = λ i h. same-points (a .lined .holds .at i h) (a .fresh .from-m i h) });
-      marks = rw same-tokens (a .lined .marks);
+      facts = rw same-tokens (a .lined .facts);
     }
 
     pub line-elsewhere : (addresses : Reading) → line-read tape (used area″ (r .size)) (used-words tokens″ (r .size)) addresses (r .line) ≡ line addresses

@@ -30,9 +30,8 @@ fn add_word(w: u64, tokens: &mut [u64], size: Size) -> Size
 // Appends a token with a copy of its text.
 pub fn add_text(kind: u64, s: &[u8], area: &mut [u8], tokens: &mut [u64], size: Size) -> Size
     requires { ⌜ (kind < 8) × Room (now area) (now tokens) size (length (now s)) 1 ⌝ }
-    ensures { λ r. ⌜ ((tape : Text) → Appends tape (was area) (was tokens) size (size .tokens)
-        (token kind (was s)) (length (was s)) (now (area .exit)) (now (tokens .exit)) r)
-        × (buffer-of (getD (now (tokens .exit)) (size .tokens) 0) ≡ 1) ⌝ }
+    ensures { λ r. ⌜ ((tape : Text) → Appends tape (was area) (was tokens) size (size .tokens) (token kind (was s)) (length (was s))
+        (now (area .exit)) (now (tokens .exit)) r) × (buffer-of (getD (now (tokens .exit)) (size .tokens) 0) ≡ 1) ⌝ }
 {
     let n = size.tokens;
     let at = size.text;
@@ -50,9 +49,8 @@ pub fn extend_last(s: &[u8], area: &mut [u8], tokens: &mut [u64], size: Size) ->
     requires { ⌜ (0 < size .tokens) × Room (now area) (now tokens) size (length (now s)) 0 × (buffer-of (last-word (now tokens) size) ≡ 1)
         × (start-of (last-word (now tokens) size) + len-of (last-word (now tokens) size) ≡ size .text) ⌝ }
     ensures { λ r. ⌜ ((tape : Text) → Appends tape (was area) (was tokens) size (size .tokens - 1)
-        (token (kind-of (last-word (was tokens) size))
-        (text-of tape (used (was area) size) (last-word (was tokens) size) ++ was s)) (length (was s))
-        (now (area .exit)) (now (tokens .exit)) r) × (buffer-of (getD (now (tokens .exit)) (size .tokens - 1) 0) ≡ 1) ⌝ }
+        (token (kind-of (last-word (was tokens) size)) (text-of tape (used (was area) size) (last-word (was tokens) size) ++ was s))
+        (length (was s)) (now (area .exit)) (now (tokens .exit)) r) × (buffer-of (getD (now (tokens .exit)) (size .tokens - 1) 0) ≡ 1) ⌝ }
 {
     let n = size.tokens - 1;
     let at = size.text;
@@ -84,7 +82,7 @@ pub fn keep<'a>(
     ensures { λ r. ⌜ Appends (was tape) (was area) (was tokens) size (size .tokens)
         (token-of (was tape) (was old) w) (len-of w) (now (area .exit)) (now (tokens .exit)) r ⌝ }
 {
-    if words::place(w) == words::IN_TAPE {
+    if words::buffer(w) == words::IN_TAPE {
         return add_word(w, tokens, size);
     }
     add_text(

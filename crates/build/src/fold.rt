@@ -106,8 +106,7 @@ fn fold_value<'a>(
 ) -> Number
     requires { ⌜ (kept ≤ length (now line)) × (next ≤ length (now line)) × Holds (now tape) (now area) (take kept (now line))
         × Holds (now tape) (now area) (drop next (now line)) ⌝ }
-    ensures { λ r. ⌜ number-token (meaning r)
-        ≡ fold-next edition (last-of (tokens-of (was tape) (was area) (take kept (was line))))
+    ensures { λ r. ⌜ number-token (meaning r) ≡ fold-next edition (last-of (tokens-of (was tape) (was area) (take kept (was line))))
         (tokens-of (was tape) (was area) (drop next (was line))) ⌝ }
 {
     if line.len() - next < 3 {
@@ -140,8 +139,7 @@ pub struct Folding {
 // One step: three tokens become a Number, which is looked at again, or a token is kept.
 fn fold_step(tape: &[u8], area: &mut [u8], line: &mut [u64], f: Folding, edition: u8) -> Folding
     requires { ⌜ Foldable (now tape) (now area) (now line) f × (f .next < length (now line)) ⌝ }
-    ensures { λ r. ⌜ Stepped edition (was tape) (was area) (was line) f (now (area .exit)) (now (line .exit))
-        r ⌝ }
+    ensures { λ r. ⌜ Stepped edition (was tape) (was area) (was line) f (now (area .exit)) (now (line .exit)) r ⌝ }
 {
     let kept = f.kept;
     let next = f.next;
@@ -171,8 +169,7 @@ fn fold_step(tape: &[u8], area: &mut [u8], line: &mut [u64], f: Folding, edition
 // Folds a line's words, with `text` bytes in use.
 fn fold(tape: &[u8], area: &mut [u8], line: &mut [u64], text: usize, edition: u8) -> Folding
     requires { ⌜ Foldable (now tape) (now area) (now line) (record { kept = 0; next = 0; text = text }) ⌝ }
-    ensures { λ r. ⌜ Folded edition (was tape) (was area) (was line) text (now (area .exit)) (now (line .exit))
-        r ⌝ }
+    ensures { λ r. ⌜ Folded edition (was tape) (was area) (was line) text (now (area .exit)) (now (line .exit)) r ⌝ }
 {
     let mut f = Folding {
         kept: 0,
@@ -196,8 +193,7 @@ pub fn fold_last(
 ) -> Size
     requires { ⌜ Built (now tape) (now area) (now tokens) from size
         × Room (now area) (now tokens) size (signs-room (line-now (now tape) (now area) (now tokens) from size)) 0 ⌝ }
-    ensures { λ r. ⌜ FoldedLast edition (was tape) (was area) (was tokens) from size (now (area .exit))
-        (now (tokens .exit)) r ⌝ }
+    ensures { λ r. ⌜ FoldedLast edition (was tape) (was area) (was tokens) from size (now (area .exit)) (now (tokens .exit)) r ⌝ }
 {
     let to = size.tokens;
     let f = fold(tape, area, &mut tokens[from..to], size.text, edition);

@@ -23,10 +23,8 @@ fn keep_tokens<'a>(
 ) -> Size
     requires { ⌜ Holds (now tape) (now old) (now line)
         × Room (now area) (now tokens) size (text-in (tokens-of (now tape) (now old) (now line))) (length (now line)) ⌝ }
-    ensures { λ r. ⌜ LineAdded (was tape) (was area) (was tokens) size
-        (tokens-of (was tape) (was old) (was line))
-        (text-in (tokens-of (was tape) (was old) (was line))) (length (was line)) (now (area .exit))
-        (now (tokens .exit)) r ⌝ }
+    ensures { λ r. ⌜ LineAdded (was tape) (was area) (was tokens) size (tokens-of (was tape) (was old) (was line))
+        (text-in (tokens-of (was tape) (was old) (was line))) (length (was line)) (now (area .exit)) (now (tokens .exit)) r ⌝ }
 {
     let mut s = size;
     let mut k = 0;

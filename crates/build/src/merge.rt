@@ -57,9 +57,8 @@ fn push_text(
 ) -> Size
     requires { ⌜ (joinable kind ≡ true) × (kind < 8) × Extendable (now tokens) from size
         × Room (now area) (now tokens) size (length (now s)) 1 ⌝ }
-    ensures { λ r. ⌜ ((tape : Text) → Built tape (was area) (was tokens) from size
-        → Pushed tape (was area) (was tokens) from size (token kind (was s) ∷ []) (now (area .exit))
-        (now (tokens .exit)) r) ⌝ }
+    ensures { λ r. ⌜ ((tape : Text) → Built tape (was area) (was tokens) from size → Pushed tape (was area) (was tokens) from size
+        (token kind (was s) ∷ []) (now (area .exit)) (now (tokens .exit)) r) ⌝ }
 {
     if extends(kind, tokens, from, size) {
         return extend_last(s, area, tokens, size);
@@ -102,9 +101,8 @@ fn push_expr<'a>(
 ) -> Size
     requires { ⌜ Holds (now tape) (now old) (now source) × Expression (now source) x × Ready (now tape) (now area) (now tokens) from size
         (tokens-of (now tape) (now old) (expr-words (now source) x)) ⌝ }
-    ensures { λ r. ⌜ Pushed (was tape) (was area) (was tokens) from size
-        (tokens-of (was tape) (was old) (expr-words (was source) x)) (now (area .exit)) (now (tokens .exit))
-        r ⌝ }
+    ensures { λ r. ⌜ Pushed (was tape) (was area) (was tokens) from size (tokens-of (was tape) (was old) (expr-words (was source) x))
+        (now (area .exit)) (now (tokens .exit)) r ⌝ }
 {
     let n = x.count;
     let mut s = size;
@@ -130,8 +128,7 @@ fn push_bracketed<'a>(
     requires { ⌜ Holds (now tape) (now old) (now source) × Expression (now source) x × Ready (now tape) (now area) (now tokens) from size
         (bracketed (tokens-of (now tape) (now old) (expr-words (now source) x))) ⌝ }
     ensures { λ r. ⌜ Pushed (was tape) (was area) (was tokens) from size
-        (bracketed (tokens-of (was tape) (was old) (expr-words (was source) x))) (now (area .exit))
-        (now (tokens .exit)) r ⌝ }
+        (bracketed (tokens-of (was tape) (was old) (expr-words (was source) x))) (now (area .exit)) (now (tokens .exit)) r ⌝ }
 {
     let opened = push_text(words::PUNCT, b"(", area, tokens, from, size);
     let filled = push_expr(tape, old, source, x, area, tokens, from, opened);
@@ -160,9 +157,8 @@ fn push_used<'a>(
     requires { ⌜ Substitutes (now tape) (now old) (now source) j × Points (now tape) (now old) w
         × Ready (now tape) (now area) (now tokens) from size
         (used-as (now tape) (now old) (now source) j (token-of (now tape) (now old) w)) ⌝ }
-    ensures { λ r. ⌜ Pushed (was tape) (was area) (was tokens) from size
-        (used-as (was tape) (was old) (was source) j (token-of (was tape) (was old) w))
-        (now (area .exit)) (now (tokens .exit)) r ⌝ }
+    ensures { λ r. ⌜ Pushed (was tape) (was area) (was tokens) from size (used-as (was tape) (was old) (was source) j
+        (token-of (was tape) (was old) w)) (now (area .exit)) (now (tokens .exit)) r ⌝ }
 {
     let f = j.family;
     let x = j.expr;
@@ -193,8 +189,7 @@ pub fn merge<'a>(
     ensures { λ r. ⌜ LineAdded (was tape) (was area) (was tokens) size
         (numbers.merge (substituted (was tape) (was old) (was source) j (was line)))
         (text-in (substituted (was tape) (was old) (was source) j (was line)))
-        (length (substituted (was tape) (was old) (was source) j (was line))) (now (area .exit))
-        (now (tokens .exit)) r ⌝ }
+        (length (substituted (was tape) (was old) (was source) j (was line))) (now (area .exit)) (now (tokens .exit)) r ⌝ }
 {
     let from = size.tokens;
     let mut s = size;

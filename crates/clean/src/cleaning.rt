@@ -35,9 +35,8 @@ fn optimized(
     rules: Rules,
 ) -> Outcome
     requires { ⌜ Loadable (now tape) (now area) (now tokens) (now lines) (now area2) (now lows) (now highs) size ⌝ }
-    ensures { λ r. ⌜ Ran (rules-of rules) (was tape) (was area) (was tokens) (was lines)
-        (was lows) (was highs) size
-        (now (area .exit)) (now (tokens .exit)) (now (lines .exit)) (now (lows .exit)) (now (highs .exit)) r ⌝ }
+    ensures { λ r. ⌜ Ran (rules-of rules) (was tape) (was area) (was tokens) (was lines) (was lows) (was highs) size (now (area .exit))
+        (now (tokens .exit)) (now (lines .exit)) (now (lows .exit)) (now (highs .exit)) r ⌝ }
 {
     let mut tokens2 = [0u64; 2048];
     let mut labels = [0u64; 256];
@@ -135,9 +134,8 @@ pub fn finish(
     out: &mut [u8],
 ) -> Finished
     requires { ⌜ Cleanable (now tape) (now «work_a») (now «work_b») (now out) ⌝ }
-    ensures { λ r. ⌜ ((input : Listing) → read (was tape) ≡ Passed input
-        → Finishes (cleaned (rules-of rules) (was tape) input) (was «work_a») (was «work_b») (was out)
-        (now («work_a» .exit)) (now («work_b» .exit)) (now (out .exit)) r) ⌝ }
+    ensures { λ r. ⌜ ((input : Listing) → read (was tape) ≡ Passed input → Finishes (cleaned (rules-of rules) (was tape) input)
+        (was «work_a») (was «work_b») (was out) (now («work_a» .exit)) (now («work_b» .exit)) (now (out .exit)) r) ⌝ }
 {
     let size = work_bytes();
     let r = written(rules, tape, &mut work_a[..size], &mut work_b[..size], out);

@@ -27,9 +27,8 @@ pub fn clean(
     work_b: &mut [u8],
     out: &mut [u8],
 ) -> Reply
-    ensures { λ r. ⌜ Cleans (rules-of rules)
-        (was tape) (was «work_a») (was «work_b») (was out)
-        (now («work_a» .exit)) (now («work_b» .exit)) (now (out .exit)) (report-of r) ⌝ }
+    ensures { λ r. ⌜ Cleans (rules-of rules) (was tape) (was «work_a») (was «work_b») (was out) (now («work_a» .exit))
+        (now («work_b» .exit)) (now (out .exit)) (report-of r) ⌝ }
     ensures { λ r. ⌜ answer-of r ≡ summary (reply (rules-of rules) (was tape)
         (length (was «work_a»)) (length (was «work_b»)) (length (was out))) ⌝ }
 {

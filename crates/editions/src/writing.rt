@@ -47,8 +47,7 @@ fn put_number(s: &[u8], out: &mut [u8], at: usize) -> usize
 // Writes the command at an offset of the tape, gone down.
 fn put_command(tape: &[u8], at: usize, command: Command, out: &mut [u8], to: usize) -> usize
     requires { ⌜ Lowers (now tape) at command (now out) to ⌝ }
-    ensures { λ r. ⌜ Puts (was out) to (write-command (down-command (command-in (was tape) at command)))
-        (now (out .exit)) r ⌝ }
+    ensures { λ r. ⌜ Puts (was out) to (write-command (down-command (command-in (was tape) at command))) (now (out .exit)) r ⌝ }
 {
     match command {
         Command::Addressed {

@@ -28,8 +28,7 @@ fn put_refusal(number: u64, place: u64, out: &mut [u8]) -> usize
 // Cleans a tape, every setting off, and says how long the answer is.
 fn answer(convention: u8, tape: &[u8], out: &mut [u8]) -> usize
     requires { ⌜ length (now out) ≡ OUTPUT ⌝ }
-    ensures { λ r. ⌜ Shows (shown (reply (settings convention) (was tape) WORK WORK OUTPUT))
-        (was out) (now (out .exit)) r ⌝ }
+    ensures { λ r. ⌜ Shows (shown (reply (settings convention) (was tape) WORK WORK OUTPUT)) (was out) (now (out .exit)) r ⌝ }
 {
     let mut work_a = [0u8; 49152];
     let mut work_b = [0u8; 49152];

@@ -121,8 +121,7 @@ fn returns_value<'a>(tape: &'a [u8], line: &'a [u64]) -> bool
 // Whether a line but the last is in the profile; `indent` is the first line's.
 fn assigns_here<'a>(tape: &'a [u8], tokens: &'a [u64], l: u64, indent: u64) -> bool
     requires { ⌜ (first-of l + count-of l ≤ length (now tokens)) × Readable (now tape) (part-of (now tokens) l) ⌝ }
-    ensures { λ r. ⌜ r ≡ (eqb (indent-of l) indent && assigns-wide
-        (tokens-of (was tape) (was tape) (part-of (was tokens) l))) ⌝ }
+    ensures { λ r. ⌜ r ≡ (eqb (indent-of l) indent && assigns-wide (tokens-of (was tape) (was tape) (part-of (was tokens) l))) ⌝ }
 {
     if words::indent(l) != indent {
         return false;
@@ -132,8 +131,7 @@ fn assigns_here<'a>(tape: &'a [u8], tokens: &'a [u64], l: u64, indent: u64) -> b
 
 fn returns_here<'a>(tape: &'a [u8], tokens: &'a [u64], l: u64, indent: u64) -> bool
     requires { ⌜ (first-of l + count-of l ≤ length (now tokens)) × Readable (now tape) (part-of (now tokens) l) ⌝ }
-    ensures { λ r. ⌜ r ≡ (eqb (indent-of l) indent && returns-value
-        (tokens-of (was tape) (was tape) (part-of (was tokens) l))) ⌝ }
+    ensures { λ r. ⌜ r ≡ (eqb (indent-of l) indent && returns-value (tokens-of (was tape) (was tape) (part-of (was tokens) l))) ⌝ }
 {
     if words::indent(l) != indent {
         return false;
@@ -144,8 +142,7 @@ fn returns_here<'a>(tape: &'a [u8], tokens: &'a [u64], l: u64, indent: u64) -> b
 // The first line that breaks the profile; the lines' texts are all in the tape.
 pub fn breaks<'a>(tape: &'a [u8], tokens: &'a [u64], lines: &'a [u64]) -> Position
     requires { ⌜ Filled (now tape) (now tokens) (now lines) ⌝ }
-    ensures { λ r. ⌜ ((reading : Reading) → found r ≡ breaks
-        (listing-read (was tape) (was tape) (was tokens) reading (was lines))) ⌝ }
+    ensures { λ r. ⌜ ((reading : Reading) → found r ≡ breaks (listing-read (was tape) (was tape) (was tokens) reading (was lines))) ⌝ }
 {
     if lines.len() == 0 {
         return Position::At(0);

@@ -86,8 +86,7 @@ pub fn is_number(tape: &[u8], w: u64) -> bool
 // Whether a token is worth something by itself.
 pub fn is_term(tape: &[u8], w: u64) -> bool
     requires { ⌜ Points (now tape) (now tape) w ⌝ }
-    ensures { λ r. ⌜ r ≡ (is-some (wide (token-of (was tape) (was tape) w)) || is-some
-        (number-of (token-of (was tape) (was tape) w))) ⌝ }
+    ensures { λ r. ⌜ r ≡ (is-some (wide (token-of (was tape) (was tape) w)) || is-some (number-of (token-of (was tape) (was tape) w))) ⌝ }
 {
     is_wide(tape, w) || is_number(tape, w)
 }

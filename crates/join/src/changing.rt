@@ -30,8 +30,7 @@ pub fn is_changed<'a>(
     rules: Rules,
 ) -> bool
     requires { ⌜ Lined (now tape) (now area) (now tokens) l × Known (now tape) (now area) (j .family) ⌝ }
-    ensures { λ r. ⌜ ((source : List ℕ) → r
-        ≡ changes (volatile (rules-of rules)) (j .line) (join-in (was tape) (was area) source j) k
+    ensures { λ r. ⌜ ((source : List ℕ) → r ≡ changes (volatile (rules-of rules)) (j .line) (join-in (was tape) (was area) source j) k
         (bare-in (was tape) (was area) (was tokens) l)) ⌝ }
 {
     if k <= j.line {

@@ -85,8 +85,7 @@ pub fn is_enough<'a>(tokens: &'a [u64], lines: &'a [u64], source: u64, n: usize)
 pub fn is_short<'a>(tokens: &'a [u64], lines: &'a [u64], gone: usize, last: usize, n: usize) -> bool
     requires { ⌜ (gone < length (now lines)) × (last < length (now lines))
         × ((k : ℕ) → k < length (now lines) → first-of (getD (now lines) k 0) + count-of (getD (now lines) k 0) ≤ length (now tokens)) ⌝ }
-    ensures { λ r. ⌜ r ≡ ltb
-        (needs (was tokens) (getD (was lines) gone 0) (slice (gone + 1) (last + 1) (was lines))) n ⌝ }
+    ensures { λ r. ⌜ r ≡ ltb (needs (was tokens) (getD (was lines) gone 0) (slice (gone + 1) (last + 1) (was lines))) n ⌝ }
 {
     let from = gone + 1;
     let end = last + 1;

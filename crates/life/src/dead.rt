@@ -84,11 +84,9 @@ fn liveness_after<'a>(
     requires { ⌜ Listed (now tape) (now area) (now tokens) (now lines)
         × Labelled (bare-listing (now tape) (now area) (now tokens) (now lines)) (now labels) × Known (now tape) (now area) f
         × (w < length (now lines)) × (start < length (now lines)) ⌝ }
-    ensures { λ r. ⌜ r ≡ liveness-after (bare-listing (was tape) (was area) (was tokens) (was lines))
-        (fam-text (was tape) (was area) f) «base_indent»
-        (labels-at (bare-listing (was tape) (was area) (was tokens) (was lines)) (was labels))
-        start (volatile (rules-of rules)) w (bare-in (was tape) (was area) (was tokens)
-        (getD (was lines) w 0)) ⌝ }
+    ensures { λ r. ⌜ r ≡ liveness-after (bare-listing (was tape) (was area) (was tokens) (was lines)) (fam-text (was tape) (was area) f)
+        «base_indent» (labels-at (bare-listing (was tape) (was area) (was tokens) (was lines)) (was labels)) start
+        (volatile (rules-of rules)) w (bare-in (was tape) (was area) (was tokens) (getD (was lines) w 0)) ⌝ }
 {
     let l = lines[w];
     if shapes::has_while(tape, area, words::line_of(tokens, l)) {
@@ -122,11 +120,9 @@ fn liveness_by_facts<'a>(
         × Labelled (bare-listing (now tape) (now area) (now tokens) (now lines)) (now labels) × Known (now tape) (now area) f
         × (w < length (now lines)) × (start < length (now lines)) × (n ≡ family-number (fam-text (now tape) (now area) f))
         × (overwritten ≡ has (volatile (rules-of rules)) (fam-text (now tape) (now area) f)) ⌝ }
-    ensures { λ r. ⌜ r ≡ liveness-after (bare-listing (was tape) (was area) (was tokens) (was lines))
-        (fam-text (was tape) (was area) f) «base_indent»
-        (labels-at (bare-listing (was tape) (was area) (was tokens) (was lines)) (was labels))
-        start (volatile (rules-of rules)) w (bare-in (was tape) (was area) (was tokens)
-        (getD (was lines) w 0)) ⌝ }
+    ensures { λ r. ⌜ r ≡ liveness-after (bare-listing (was tape) (was area) (was tokens) (was lines)) (fam-text (was tape) (was area) f)
+        «base_indent» (labels-at (bare-listing (was tape) (was area) (was tokens) (was lines)) (was labels)) start
+        (volatile (rules-of rules)) w (bare-in (was tape) (was area) (was tokens) (getD (was lines) w 0)) ⌝ }
 {
     let l = lines[w];
     if is_transparent(l, n) {
@@ -171,10 +167,9 @@ pub fn dead_after<'a>(
     requires { ⌜ Listed (now tape) (now area) (now tokens) (now lines)
         × Labelled (bare-listing (now tape) (now area) (now tokens) (now lines)) (now labels) × Known (now tape) (now area) f
         × (from < length (now lines)) × (start < length (now lines)) ⌝ }
-    ensures { λ r. ⌜ r ≡ dead-after (bare-listing (was tape) (was area) (was tokens) (was lines)) from
-        (fam-text (was tape) (was area) f) «base_indent»
-        (labels-at (bare-listing (was tape) (was area) (was tokens) (was lines)) (was labels))
-        start (volatile (rules-of rules)) ⌝ }
+    ensures { λ r. ⌜ r ≡ dead-after (bare-listing (was tape) (was area) (was tokens) (was lines)) from (fam-text (was tape) (was area) f)
+        «base_indent» (labels-at (bare-listing (was tape) (was area) (was tokens) (was lines)) (was labels)) start
+        (volatile (rules-of rules)) ⌝ }
 {
     let n = number_of(tape, area, f);
     let overwritten = fams::is_volatile(tape, area, f, rules);

@@ -45,8 +45,7 @@ fn do_before<'a>(
     indent: u64,
 ) -> Position
     requires { ⌜ Listed (now tape) (now area) (now tokens) (now lines) ⌝ }
-    ensures { λ r. ⌜ found r
-        ≡ last-position (is-do indent) (bare-listing (was tape) (was area) (was tokens) (was lines)) ⌝ }
+    ensures { λ r. ⌜ found r ≡ last-position (is-do indent) (bare-listing (was tape) (was area) (was tokens) (was lines)) ⌝ }
 {
     let mut n = lines.len();
     while 0 < n {
@@ -71,9 +70,8 @@ pub fn while_passes<'a>(
 ) -> bool
     requires { ⌜ Listed (now tape) (now area) (now tokens) (now lines) × Known (now tape) (now area) f × (w < length (now lines))
         × (start < length (now lines)) ⌝ }
-    ensures { λ r. ⌜ r ≡ while-passes (bare-listing (was tape) (was area) (was tokens) (was lines))
-        (fam-text (was tape) (was area) f) start (volatile (rules-of rules)) w
-        (bare-in (was tape) (was area) (was tokens) (getD (was lines) w 0)) ⌝ }
+    ensures { λ r. ⌜ r ≡ while-passes (bare-listing (was tape) (was area) (was tokens) (was lines)) (fam-text (was tape) (was area) f)
+        start (volatile (rules-of rules)) w (bare-in (was tape) (was area) (was tokens) (getD (was lines) w 0)) ⌝ }
 {
     let l = lines[w];
     if touches::uses(tape, area, words::line_of(tokens, l), f, rules) {
@@ -94,8 +92,7 @@ pub fn while_passes<'a>(
 // Whether the label line l has the name that the token word w has for its text.
 fn is_named<'a>(tape: &'a [u8], area: &'a [u8], tokens: &'a [u64], l: u64, w: u64) -> bool
     requires { ⌜ Lined (now tape) (now area) (now tokens) l × Points (now tape) (now area) w × (0 < length (part-of (now tokens) l)) ⌝ }
-    ensures { λ r. ⌜ r ≡ (text-of (was tape) (was area) (getD (part-of (was tokens) l) 0 0) == text-of
-        (was tape) (was area) w) ⌝ }
+    ensures { λ r. ⌜ r ≡ (text-of (was tape) (was area) (getD (part-of (was tokens) l) 0 0) == text-of (was tape) (was area) w) ⌝ }
 {
     let line = words::line_of(tokens, l);
     text::same(words::text(tape, area, line[0]), words::text(tape, area, w))
@@ -120,9 +117,8 @@ fn label_named<'a>(
 ) -> Position
     requires { ⌜ Listed (now tape) (now area) (now tokens) (now lines)
         × Labelled (bare-listing (now tape) (now area) (now tokens) (now lines)) (now labels) × Points (now tape) (now area) w ⌝ }
-    ensures { λ r. ⌜ found r
-        ≡ lookup (labels-at (bare-listing (was tape) (was area) (was tokens) (was lines))
-        (was labels)) (text-of (was tape) (was area) w) ⌝ }
+    ensures { λ r. ⌜ found r ≡ lookup (labels-at (bare-listing (was tape) (was area) (was tokens) (was lines)) (was labels))
+        (text-of (was tape) (was area) w) ⌝ }
 {
     let mut n = labels.len();
     while 0 < n {
@@ -154,8 +150,7 @@ fn goto_target<'a>(
         × Labelled (bare-listing (now tape) (now area) (now tokens) (now lines)) (now labels)
         × Lined (now tape) (now area) (now tokens) l ⌝ }
     ensures { λ r. ⌜ jump r ≡ goto-target (tokens-of (was tape) (was area) (part-of (was tokens) l))
-        (labels-at (bare-listing (was tape) (was area) (was tokens) (was lines))
-        (was labels)) ⌝ }
+        (labels-at (bare-listing (was tape) (was area) (was tokens) (was lines)) (was labels)) ⌝ }
 {
     let line = words::line_of(tokens, l);
     let Position::At(g) = shapes::goto_at(tape, area, line) else {
@@ -185,9 +180,8 @@ pub fn goto_passes<'a>(
     requires { ⌜ Listed (now tape) (now area) (now tokens) (now lines)
         × Labelled (bare-listing (now tape) (now area) (now tokens) (now lines)) (now labels) × Lined (now tape) (now area) (now tokens) l
         × Known (now tape) (now area) f × (start < length (now lines)) ⌝ }
-    ensures { λ r. ⌜ r ≡ goto-passes (bare-listing (was tape) (was area) (was tokens) (was lines))
-        (fam-text (was tape) (was area) f) start (volatile (rules-of rules))
-        (labels-at (bare-listing (was tape) (was area) (was tokens) (was lines)) (was labels))
+    ensures { λ r. ⌜ r ≡ goto-passes (bare-listing (was tape) (was area) (was tokens) (was lines)) (fam-text (was tape) (was area) f)
+        start (volatile (rules-of rules)) (labels-at (bare-listing (was tape) (was area) (was tokens) (was lines)) (was labels))
         (bare-in (was tape) (was area) (was tokens) l) ⌝ }
 {
     match goto_target(tape, area, tokens, lines, labels, l) {

@@ -18,9 +18,8 @@ pub fn gather_labels<'a>(
     labels: &mut [u64],
 ) -> usize
     requires { ⌜ Listed (now tape) (now area) (now tokens) (now lines) × (length (now lines) ≤ length (now labels)) ⌝ }
-    ensures { λ r. ⌜ Gathered
-        (label-places 0 (bare-listing (was tape) (was area) (was tokens) (was lines)))
-        (was labels) (now (labels .exit)) r ⌝ }
+    ensures { λ r. ⌜ Gathered (label-places 0 (bare-listing (was tape) (was area) (was tokens) (was lines))) (was labels)
+        (now (labels .exit)) r ⌝ }
 {
     let mut n = 0;
     let mut k = 0;

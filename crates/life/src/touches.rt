@@ -26,8 +26,7 @@ pub enum Touched {
 // Whether a line that assigns the right side x to its first token overwrites the family.
 fn overwrites_by<'a>(tape: &'a [u8], area: &'a [u8], line: &'a [u64], x: Expr, f: Fam) -> bool
     requires { ⌜ Holds (now tape) (now area) (now line) × Expression (now line) x × Known (now tape) (now area) f ⌝ }
-    ensures { λ r. ⌜ r ≡ kills-by (was tape) (was area) (was line) x
-        (fam-text (was tape) (was area) f) ⌝ }
+    ensures { λ r. ⌜ r ≡ kills-by (was tape) (was area) (was line) x (fam-text (was tape) (was area) f) ⌝ }
 {
     let Named::As(g, width, _) = fams::name_of(tape, area, line[0]) else {
         return false;
@@ -44,8 +43,7 @@ fn overwrites_by<'a>(tape: &'a [u8], area: &'a [u8], line: &'a [u64], x: Expr, f
 // Whether a line is an assignment to the family, at width 32 or more, whose right side lacks it.
 fn is_overwriting<'a>(tape: &'a [u8], area: &'a [u8], line: &'a [u64], f: Fam) -> bool
     requires { ⌜ Holds (now tape) (now area) (now line) × Known (now tape) (now area) f ⌝ }
-    ensures { λ r. ⌜ r ≡ kills (tokens-of (was tape) (was area) (was line))
-        (fam-text (was tape) (was area) f) ⌝ }
+    ensures { λ r. ⌜ r ≡ kills (tokens-of (was tape) (was area) (was line)) (fam-text (was tape) (was area) f) ⌝ }
 {
     let Assigned::To(x) = shapes::assignment(tape, area, line) else {
         return false;
@@ -56,8 +54,7 @@ fn is_overwriting<'a>(tape: &'a [u8], area: &'a [u8], line: &'a [u64], f: Fam) -
 // The same: the first token tells most lines apart.
 fn overwrites<'a>(tape: &'a [u8], area: &'a [u8], line: &'a [u64], f: Fam) -> bool
     requires { ⌜ Holds (now tape) (now area) (now line) × Known (now tape) (now area) f ⌝ }
-    ensures { λ r. ⌜ r ≡ kills (tokens-of (was tape) (was area) (was line))
-        (fam-text (was tape) (was area) f) ⌝ }
+    ensures { λ r. ⌜ r ≡ kills (tokens-of (was tape) (was area) (was line)) (fam-text (was tape) (was area) f) ⌝ }
 {
     if line.len() == 0 {
         return false;

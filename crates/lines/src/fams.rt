@@ -81,8 +81,7 @@ pub fn same_family<'a>(tape: &'a [u8], area: &'a [u8], f: Fam, g: Fam) -> bool
 // Whether a token is a Register of the family. A code tells a row at once.
 pub fn is_of<'a>(tape: &'a [u8], area: &'a [u8], w: u64, f: Fam) -> bool
     requires { ⌜ Points (now tape) (now area) w × Known (now tape) (now area) f ⌝ }
-    ensures { λ r. ⌜ r ≡ of-family (fam-text (was tape) (was area) f)
-        (token-of (was tape) (was area) w) ⌝ }
+    ensures { λ r. ⌜ r ≡ of-family (fam-text (was tape) (was area) f) (token-of (was tape) (was area) w) ⌝ }
 {
     if words::kind(w) != words::REGISTER {
         return false;
@@ -102,8 +101,7 @@ pub fn is_of<'a>(tape: &'a [u8], area: &'a [u8], w: u64, f: Fam) -> bool
 // Whether a token is a Register of the family, of less than 32 bits.
 pub fn is_narrow_of<'a>(tape: &'a [u8], area: &'a [u8], w: u64, f: Fam) -> bool
     requires { ⌜ Points (now tape) (now area) w × Known (now tape) (now area) f ⌝ }
-    ensures { λ r. ⌜ r ≡ is-narrow (fam-text (was tape) (was area) f)
-        (token-of (was tape) (was area) w) ⌝ }
+    ensures { λ r. ⌜ r ≡ is-narrow (fam-text (was tape) (was area) f) (token-of (was tape) (was area) w) ⌝ }
 {
     match fam_of(tape, area, w) {
         Named::As(g, width, _) => {
@@ -158,8 +156,7 @@ pub fn mentions<'a>(tape: &'a [u8], area: &'a [u8], line: &'a [u64], x: Expr, f:
 // How many tokens of the family a line has.
 pub fn count_of<'a>(tape: &'a [u8], area: &'a [u8], line: &'a [u64], f: Fam) -> usize
     requires { ⌜ Holds (now tape) (now area) (now line) × Known (now tape) (now area) f ⌝ }
-    ensures { λ r. ⌜ r ≡ count (of-family (fam-text (was tape) (was area) f))
-        (tokens-of (was tape) (was area) (was line)) ⌝ }
+    ensures { λ r. ⌜ r ≡ count (of-family (fam-text (was tape) (was area) f)) (tokens-of (was tape) (was area) (was line)) ⌝ }
 {
     let mut n = 0;
     let mut k = 0;
@@ -175,8 +172,7 @@ pub fn count_of<'a>(tape: &'a [u8], area: &'a [u8], line: &'a [u64], f: Fam) -> 
 // The place of the first token of the family.
 pub fn first_of<'a>(tape: &'a [u8], area: &'a [u8], line: &'a [u64], f: Fam) -> Position
     requires { ⌜ Holds (now tape) (now area) (now line) × Known (now tape) (now area) f ⌝ }
-    ensures { λ r. ⌜ found r ≡ position (of-family (fam-text (was tape) (was area) f))
-        (tokens-of (was tape) (was area) (was line)) ⌝ }
+    ensures { λ r. ⌜ found r ≡ position (of-family (fam-text (was tape) (was area) f)) (tokens-of (was tape) (was area) (was line)) ⌝ }
 {
     let mut k = 0;
     while k < line.len() {
@@ -191,8 +187,7 @@ pub fn first_of<'a>(tape: &'a [u8], area: &'a [u8], line: &'a [u64], f: Fam) -> 
 // Whether a token of the family has less than 32 bits.
 pub fn has_narrow<'a>(tape: &'a [u8], area: &'a [u8], line: &'a [u64], f: Fam) -> bool
     requires { ⌜ Holds (now tape) (now area) (now line) × Known (now tape) (now area) f ⌝ }
-    ensures { λ r. ⌜ r ≡ any (is-narrow (fam-text (was tape) (was area) f))
-        (tokens-of (was tape) (was area) (was line)) ⌝ }
+    ensures { λ r. ⌜ r ≡ any (is-narrow (fam-text (was tape) (was area) f)) (tokens-of (was tape) (was area) (was line)) ⌝ }
 {
     let mut k = 0;
     while k < line.len() {
@@ -206,9 +201,8 @@ pub fn has_narrow<'a>(tape: &'a [u8], area: &'a [u8], line: &'a [u64], f: Fam) -
 
 fn writes_at<'a>(tape: &'a [u8], area: &'a [u8], line: &'a [u64], k: usize, f: Fam) -> bool
     requires { ⌜ Holds (now tape) (now area) (now line) × Known (now tape) (now area) f × (k < length (now line)) ⌝ }
-    ensures { λ r. ⌜ r ≡ (of-family (fam-text (was tape) (was area) f)
-        (token-of (was tape) (was area) (getD (was line) k 0)) && is-written
-        (tokens-of (was tape) (was area) (was line)) k) ⌝ }
+    ensures { λ r. ⌜ r ≡ (of-family (fam-text (was tape) (was area) f) (token-of (was tape) (was area) (getD (was line) k 0)) &&
+        is-written (tokens-of (was tape) (was area) (was line)) k) ⌝ }
 {
     if !is_of(tape, area, line[k], f) {
         return false;
@@ -219,8 +213,7 @@ fn writes_at<'a>(tape: &'a [u8], area: &'a [u8], line: &'a [u64], k: usize, f: F
 // Whether a token of the family is the target of an assignment.
 pub fn writes<'a>(tape: &'a [u8], area: &'a [u8], line: &'a [u64], f: Fam) -> bool
     requires { ⌜ Holds (now tape) (now area) (now line) × Known (now tape) (now area) f ⌝ }
-    ensures { λ r. ⌜ r ≡ written-from (fam-text (was tape) (was area) f)
-        (tokens-of (was tape) (was area) (was line)) ⌝ }
+    ensures { λ r. ⌜ r ≡ written-from (fam-text (was tape) (was area) f) (tokens-of (was tape) (was area) (was line)) ⌝ }
 {
     let mut k = 0;
     while k < line.len() {

@@ -49,8 +49,7 @@ fn is_kw<'a>(tape: &'a [u8], area: &'a [u8], w: u64, kw: &'a [u8]) -> bool
 // The place of the first Keyword with that text.
 fn kw_at<'a>(tape: &'a [u8], area: &'a [u8], line: &'a [u64], kw: &'a [u8]) -> Position
     requires { ⌜ Holds (now tape) (now area) (now line) ⌝ }
-    ensures { λ r. ⌜ found r
-        ≡ position (is-kw (was kw)) (tokens-of (was tape) (was area) (was line)) ⌝ }
+    ensures { λ r. ⌜ found r ≡ position (is-kw (was kw)) (tokens-of (was tape) (was area) (was line)) ⌝ }
 {
     let mut k = 0;
     while k < line.len() {
@@ -150,8 +149,7 @@ pub fn opens_or_closes<'a>(tape: &'a [u8], area: &'a [u8], line: &'a [u64]) -> b
 // Whether a token is a Symbol with a bracket after it.
 fn is_called<'a>(tape: &'a [u8], area: &'a [u8], w: u64, next: u64) -> bool
     requires { ⌜ Points (now tape) (now area) next ⌝ }
-    ensures { λ r. ⌜ r ≡ is-called (token-of (was tape) (was area) w)
-        (token-of (was tape) (was area) next) ⌝ }
+    ensures { λ r. ⌜ r ≡ is-called (token-of (was tape) (was area) w) (token-of (was tape) (was area) next) ⌝ }
 {
     if words::kind(w) != words::SYMBOL {
         return false;
@@ -165,11 +163,7 @@ fn is_called<'a>(tape: &'a [u8], area: &'a [u8], w: u64, next: u64) -> bool
 // Whether a token, with the one after it, is a call mark.
 fn is_call_mark<'a>(tape: &'a [u8], area: &'a [u8], w: u64, next: u64) -> bool
     requires { ⌜ Points (now tape) (now area) w × Points (now tape) (now area) next ⌝ }
-    ensures { λ r. ⌜ r ≡ calls-here (
-      token-of (was tape) (was area) w,
-      token-of (was tape) (was area)
-          next,
-    ) ⌝ }
+    ensures { λ r. ⌜ r ≡ calls-here (token-of (was tape) (was area) w, token-of (was tape) (was area) next) ⌝ }
 {
     if is_called(tape, area, w, next) {
         return true;
@@ -251,8 +245,7 @@ pub fn expr_word(line: &[u64], x: Expr, k: usize) -> u64
 // Whether two tokens are a Register and a Punct that begins with ` = `.
 fn begins_assignment<'a>(tape: &'a [u8], area: &'a [u8], lhs: u64, eq: u64) -> bool
     requires { ⌜ Points (now tape) (now area) eq ⌝ }
-    ensures { λ r. ⌜ r ≡ begins-assignment (token-of (was tape) (was area) lhs)
-        (token-of (was tape) (was area) eq) ⌝ }
+    ensures { λ r. ⌜ r ≡ begins-assignment (token-of (was tape) (was area) lhs) (token-of (was tape) (was area) eq) ⌝ }
 {
     if words::kind(lhs) != words::REGISTER {
         return false;

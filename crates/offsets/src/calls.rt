@@ -41,8 +41,7 @@ fn ready(tape: &[u8], base: u64, based: bool) -> Answer
 // Writes the tape by offset.
 fn lower(base: u64, tape: &[u8], out: &mut [u8]) -> Answer
     requires { ⌜ Ready false base (now tape) × (59146 ≤ length (now out)) ⌝ }
-    ensures { λ r. ⌜ Writes (to-offsets base (was tape) (length (was out))) (was out) (now (out .exit))
-        (answer-of r) ⌝ }
+    ensures { λ r. ⌜ Writes (to-offsets base (was tape) (length (was out))) (was out) (now (out .exit)) (answer-of r) ⌝ }
 {
     let from = put_front(base, out);
     let end = put_commands(tape, base, false, out, from);
@@ -52,8 +51,7 @@ fn lower(base: u64, tape: &[u8], out: &mut [u8]) -> Answer
 // A tape of document 01's form brought to the form by offset from `base`: the new tape stands at the front of `out`, and its length is
 // answered.
 pub fn to_offsets(base: u64, tape: &[u8], out: &mut [u8]) -> Answer
-    ensures { λ r. ⌜ Writes (to-offsets base (was tape) (length (was out))) (was out) (now (out .exit))
-        (answer-of r) ⌝ }
+    ensures { λ r. ⌜ Writes (to-offsets base (was tape) (length (was out))) (was out) (now (out .exit)) (answer-of r) ⌝ }
 {
     if out.len() < 59146 {
         return Answer::Refused {
@@ -70,8 +68,7 @@ pub fn to_offsets(base: u64, tape: &[u8], out: &mut [u8]) -> Answer
 // The way back of a tape whose front passed.
 fn raise(tape: &[u8], out: &mut [u8]) -> Answer
     requires { ⌜ Fronted (now tape) × (59146 ≤ length (now out)) ⌝ }
-    ensures { λ r. ⌜ Writes (from-offsets (was tape) (length (was out))) (was out) (now (out .exit))
-        (answer-of r) ⌝ }
+    ensures { λ r. ⌜ Writes (from-offsets (was tape) (length (was out))) (was out) (now (out .exit)) (answer-of r) ⌝ }
 {
     let base = base_of(tape);
     match ready(tape, base, true) {
@@ -85,8 +82,7 @@ fn raise(tape: &[u8], out: &mut [u8]) -> Answer
 
 // A tape by offset brought back to document 01's form: the new tape stands at the front of `out`, and its length is answered.
 pub fn from_offsets(tape: &[u8], out: &mut [u8]) -> Answer
-    ensures { λ r. ⌜ Writes (from-offsets (was tape) (length (was out))) (was out) (now (out .exit))
-        (answer-of r) ⌝ }
+    ensures { λ r. ⌜ Writes (from-offsets (was tape) (length (was out))) (was out) (now (out .exit)) (answer-of r) ⌝ }
 {
     if out.len() < 59146 {
         return Answer::Refused {

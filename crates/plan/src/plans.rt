@@ -76,8 +76,7 @@ fn propagate_constant<'a>(
     ensures { λ r. ⌜ Plans (was tape) (was area) (part-of (was tokens) (getD (was lines) i 0)) i
         (plan-constant (bare-listing (was tape) (was area) (was tokens) (was lines)) i
         (definition-in (was tape) (was area) (part-of (was tokens) (getD (was lines) i 0)) d)
-        (labels-at (bare-listing (was tape) (was area) (was tokens) (was lines)) (was labels))
-        (volatile (rules-of rules))) r ⌝ }
+        (labels-at (bare-listing (was tape) (was area) (was tokens) (was lines)) (was labels)) (volatile (rules-of rules))) r ⌝ }
 {
     let f = d.family;
     let r = reaches::reach_of(tape, area, tokens, lines, i, f, rules);
@@ -103,8 +102,7 @@ fn is_bracketed<'a>(
     rules: Rules,
 ) -> bool
     requires { ⌜ Holds (now tape) (now area) (now source) × Expression (now source) x ⌝ }
-    ensures { λ r. ⌜ r ≡ is-bracketed (rules-of rules)
-        (tokens-of (was tape) (was area) (expr-words (was source) x)) ⌝ }
+    ensures { λ r. ⌜ r ≡ is-bracketed (rules-of rules) (tokens-of (was tape) (was area) (expr-words (was source) x)) ⌝ }
 {
     if rules.profile {
         return 1 < x.count;
@@ -124,8 +122,7 @@ fn wants_brackets<'a>(
 ) -> bool
     requires { ⌜ Holds (now tape) (now area) (now source) × Expression (now source) x × Holds (now tape) (now area) (now line)
         × (pos < length (now line)) ⌝ }
-    ensures { λ r. ⌜ r ≡ wants-brackets (rules-of rules)
-        (tokens-of (was tape) (was area) (expr-words (was source) x))
+    ensures { λ r. ⌜ r ≡ wants-brackets (rules-of rules) (tokens-of (was tape) (was area) (expr-words (was source) x))
         (tokens-of (was tape) (was area) (was line)) pos ⌝ }
 {
     if !is_bracketed(tape, area, source, x, rules) {
@@ -148,9 +145,8 @@ fn plan_among<'a>(
     requires { ⌜ Holds (now tape) (now area) (now source) × Holds (now tape) (now area) (now line)
         × Sound (now tape) (now area) (now source) d ⌝ }
     ensures { λ r. ⌜ Plans (was tape) (was area) (was source) i
-        (plan-among (rules-of rules)
-        (definition-in (was tape) (was area) (was source) d)
-        (tokens-of (was tape) (was area) (was line)) j) r ⌝ }
+        (plan-among (rules-of rules) (definition-in (was tape) (was area) (was source) d) (tokens-of (was tape) (was area) (was line)) j)
+        r ⌝ }
 {
     let f = d.family;
     let Position::At(pos) = fams::first_of(tape, area, line, f) else {
@@ -183,8 +179,7 @@ fn plan_use<'a>(
     ensures { λ r. ⌜ Plans (was tape) (was area) (part-of (was tokens) (getD (was lines) i 0)) i
         (plan-use (rules-of rules) (bare-listing (was tape) (was area) (was tokens) (was lines)) i
         (definition-in (was tape) (was area) (part-of (was tokens) (getD (was lines) i 0)) d)
-        (labels-at (bare-listing (was tape) (was area) (was tokens) (was lines))
-        (was labels)) (volatile (rules-of rules)) j) r ⌝ }
+        (labels-at (bare-listing (was tape) (was area) (was tokens) (was lines)) (was labels)) (volatile (rules-of rules)) j) r ⌝ }
 {
     let s = lines[i];
     let line = words::line_of(tokens, lines[j]);
@@ -227,8 +222,7 @@ fn plan_single<'a>(
     ensures { λ r. ⌜ Plans (was tape) (was area) (part-of (was tokens) (getD (was lines) i 0)) i
         (plan-single (rules-of rules) (bare-listing (was tape) (was area) (was tokens) (was lines)) i
         (definition-in (was tape) (was area) (part-of (was tokens) (getD (was lines) i 0)) d)
-        (labels-at (bare-listing (was tape) (was area) (was tokens) (was lines))
-        (was labels)) (volatile (rules-of rules))) r ⌝ }
+        (labels-at (bare-listing (was tape) (was area) (was tokens) (was lines)) (was labels)) (volatile (rules-of rules))) r ⌝ }
 {
     let Position::At(j) = uses::use_of(tape, area, tokens, lines, i, d, rules) else {
         return Plan::Nothing;
@@ -253,8 +247,7 @@ fn plan_for<'a>(
     ensures { λ r. ⌜ Plans (was tape) (was area) (part-of (was tokens) (getD (was lines) i 0)) i
         (plan-for (rules-of rules) (bare-listing (was tape) (was area) (was tokens) (was lines)) i
         (definition-in (was tape) (was area) (part-of (was tokens) (getD (was lines) i 0)) d)
-        (labels-at (bare-listing (was tape) (was area) (was tokens) (was lines))
-        (was labels)) (volatile (rules-of rules))) r ⌝ }
+        (labels-at (bare-listing (was tape) (was area) (was tokens) (was lines)) (was labels)) (volatile (rules-of rules))) r ⌝ }
 {
     let x = d.expr;
     if !shapes::is_lone_number(words::line_of(tokens, lines[i]), x) {

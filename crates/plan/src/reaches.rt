@@ -174,8 +174,7 @@ pub fn reach_of<'a>(
 // Whether the first token of a line is of the family, and a Punct after it is neither ` = ` nor ` ==`.
 fn updates_first<'a>(tape: &'a [u8], area: &'a [u8], line: &'a [u64], f: Fam) -> bool
     requires { ⌜ Holds (now tape) (now area) (now line) × Known (now tape) (now area) f ⌝ }
-    ensures { λ r. ⌜ r ≡ updates-first (fam-text (was tape) (was area) f)
-        (tokens-of (was tape) (was area) (was line)) ⌝ }
+    ensures { λ r. ⌜ r ≡ updates-first (fam-text (was tape) (was area) f) (tokens-of (was tape) (was area) (was line)) ⌝ }
 {
     if line.len() < 2 {
         return false;
@@ -197,8 +196,7 @@ fn updates_first<'a>(tape: &'a [u8], area: &'a [u8], line: &'a [u64], f: Fam) ->
 // Whether a line that uses the family does not only read it, or reads less than 32 bits of it.
 fn bad_use<'a>(tape: &'a [u8], area: &'a [u8], line: &'a [u64], f: Fam) -> bool
     requires { ⌜ Holds (now tape) (now area) (now line) × Known (now tape) (now area) f ⌝ }
-    ensures { λ r. ⌜ r ≡ bad-use (fam-text (was tape) (was area) f)
-        (tokens-of (was tape) (was area) (was line)) ⌝ }
+    ensures { λ r. ⌜ r ≡ bad-use (fam-text (was tape) (was area) f) (tokens-of (was tape) (was area) (was line)) ⌝ }
 {
     if fams::writes(tape, area, line, f) {
         return true;
@@ -270,10 +268,8 @@ pub fn ends_at<'a>(
     requires { ⌜ Listed (now tape) (now area) (now tokens) (now lines)
         × Labelled (bare-listing (now tape) (now area) (now tokens) (now lines)) (now labels) × Known (now tape) (now area) f
         × (i < length (now lines)) × (last < length (now lines)) ⌝ }
-    ensures { λ r. ⌜ r ≡ ends-at (bare-listing (was tape) (was area) (was tokens) (was lines)) i
-        (fam-text (was tape) (was area) f)
-        (labels-at (bare-listing (was tape) (was area) (was tokens) (was lines)) (was labels))
-        (volatile (rules-of rules)) last ⌝ }
+    ensures { λ r. ⌜ r ≡ ends-at (bare-listing (was tape) (was area) (was tokens) (was lines)) i (fam-text (was tape) (was area) f)
+        (labels-at (bare-listing (was tape) (was area) (was tokens) (was lines)) (was labels)) (volatile (rules-of rules)) last ⌝ }
 {
     let base_indent = words::indent(lines[i]);
     if dead_after(

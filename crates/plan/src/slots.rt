@@ -31,8 +31,7 @@ pub fn is_addressed<'a>(
     f: Fam,
 ) -> bool
     requires { ⌜ Slotted (now slots) (now «slot_words») × Known (now tape) (now area) f ⌝ }
-    ensures { λ r. ⌜ r ≡ has (slot-names (was slots) (was «slot_words»))
-        (fam-text (was tape) (was area) f) ⌝ }
+    ensures { λ r. ⌜ r ≡ has (slot-names (was slots) (was «slot_words»)) (fam-text (was tape) (was area) f) ⌝ }
 {
     if f < 8 {
         return false;

@@ -105,8 +105,7 @@ fn look_at<'a>(
 ) -> Look
     requires { ⌜ Lined (now tape) (now area) (now tokens) s × Lined (now tape) (now area) (now tokens) l
         × Sound (now tape) (now area) (part-of (now tokens) s) d ⌝ }
-    ensures { λ r. ⌜ looked r
-        ≡ look (indent-of s) (definition-in (was tape) (was area) (part-of (was tokens) s) d)
+    ensures { λ r. ⌜ looked r ≡ look (indent-of s) (definition-in (was tape) (was area) (part-of (was tokens) s) d)
         (volatile (rules-of rules)) (bare-in (was tape) (was area) (was tokens) l) ⌝ }
 {
     let line = words::line_of(tokens, l);
@@ -148,8 +147,7 @@ fn look_by_facts<'a>(
 ) -> Look
     requires { ⌜ Lined (now tape) (now area) (now tokens) s × Lined (now tape) (now area) (now tokens) l
         × Sound (now tape) (now area) (part-of (now tokens) s) d × (n ≡ family-number (fam-text (now tape) (now area) (d .family))) ⌝ }
-    ensures { λ r. ⌜ looked r
-        ≡ look (indent-of s) (definition-in (was tape) (was area) (part-of (was tokens) s) d)
+    ensures { λ r. ⌜ looked r ≡ look (indent-of s) (definition-in (was tape) (was area) (part-of (was tokens) s) d)
         (volatile (rules-of rules)) (bare-in (was tape) (was area) (was tokens) l) ⌝ }
 {
     if is_calling(l, n) {
@@ -189,8 +187,7 @@ pub fn use_of<'a>(
     requires { ⌜ Listed (now tape) (now area) (now tokens) (now lines)
         × Sound (now tape) (now area) (part-of (now tokens) (getD (now lines) i 0)) d × (i < length (now lines)) ⌝ }
     ensures { λ r. ⌜ found r ≡ use-of (bare-listing (was tape) (was area) (was tokens) (was lines)) i
-        (definition-in (was tape) (was area) (part-of (was tokens) (getD (was lines) i 0)) d)
-        (volatile (rules-of rules)) ⌝ }
+        (definition-in (was tape) (was area) (part-of (was tokens) (getD (was lines) i 0)) d) (volatile (rules-of rules)) ⌝ }
 {
     let s = lines[i];
     let f = d.family;
@@ -262,8 +259,7 @@ fn is_compound<'a>(tape: &'a [u8], area: &'a [u8], line: &'a [u64], pos: usize) 
 // Whether the use at `pos` may be replaced by an expression of this width, whatever its part.
 fn fits<'a>(tape: &'a [u8], area: &'a [u8], line: &'a [u64], pos: usize, f: Fam, width: u64) -> bool
     requires { ⌜ Holds (now tape) (now area) (now line) × (pos < length (now line)) × Known (now tape) (now area) f ⌝ }
-    ensures { λ r. ⌜ r ≡ replaceable false
-        (record { name = fam-text (was tape) (was area) f; width = width; lowest = 0 })
+    ensures { λ r. ⌜ r ≡ replaceable false (record { name = fam-text (was tape) (was area) f; width = width; lowest = 0 })
         (tokens-of (was tape) (was area) (was line)) pos ⌝ }
 {
     if !widths_fit(width, use_width(tape, area, line, pos)) {
@@ -311,8 +307,7 @@ pub fn use_fits<'a>(
     parts: bool,
 ) -> bool
     requires { ⌜ Holds (now tape) (now area) (now line) × (pos < length (now line)) × Known (now tape) (now area) f ⌝ }
-    ensures { λ r. ⌜ r ≡ replaceable parts
-        (record { name = fam-text (was tape) (was area) f; width = width; lowest = lowest })
+    ensures { λ r. ⌜ r ≡ replaceable parts (record { name = fam-text (was tape) (was area) f; width = width; lowest = lowest })
         (tokens-of (was tape) (was area) (was line)) pos ⌝ }
 {
     if !fits(tape, area, line, pos, f, width) {

@@ -41,9 +41,8 @@ pub extern "C" fn puchkewa_clean(
     work_b: &mut [u8],
     out: &mut [u8],
 ) -> Report
-    ensures { λ r. ⌜ Cleans (settings-of settings)
-        (was tape) (was «work_a») (was «work_b») (was out)
-        (now («work_a» .exit)) (now («work_b» .exit)) (now (out .exit)) (exported r) ⌝ }
+    ensures { λ r. ⌜ Cleans (settings-of settings) (was tape) (was «work_a») (was «work_b») (was out) (now («work_a» .exit))
+        (now («work_b» .exit)) (now (out .exit)) (exported r) ⌝ }
 {
     let rules = Rules {
         convention: settings.convention,

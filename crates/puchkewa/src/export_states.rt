@@ -12,8 +12,7 @@ ghost use Rattle.states.specs.Calls.{save-reply, after-save, delete-reply, afte
 #[no_mangle]
 pub extern "C" fn puchkewa_save(store: &mut [u8], name: &[u8; 8], tape: &[u8]) -> Told
     ensures { λ r. ⌜ numbers-of r ≡ in-numbers (plain (save-reply (was store) (was name) (was tape))) ⌝ }
-    ensures { λ _. ⌜ now (store .exit) ≡ after-save (save-reply (was store) (was name) (was tape))
-        (was store) (was name) (was tape) ⌝ }
+    ensures { λ _. ⌜ now (store .exit) ≡ after-save (save-reply (was store) (was name) (was tape)) (was store) (was name) (was tape) ⌝ }
 {
     tell(states::save(store, name, tape))
 }
@@ -21,8 +20,7 @@ pub extern "C" fn puchkewa_save(store: &mut [u8], name: &[u8; 8], tape: &[u8]) -
 // Comes back to the state of a name, as `restore` does.
 #[no_mangle]
 pub extern "C" fn puchkewa_restore(store: &[u8], name: &[u8; 8], out: &mut [u8]) -> Told
-    ensures { λ r. ⌜ WritesTold (restore-reply (was store) (was name) (length (was out)))
-        (was out) (now (out .exit)) (numbers-of r) ⌝ }
+    ensures { λ r. ⌜ WritesTold (restore-reply (was store) (was name) (length (was out))) (was out) (now (out .exit)) (numbers-of r) ⌝ }
 {
     tell(states::restore(store, name, out))
 }

@@ -145,7 +145,7 @@ module _ (tape area : Text) (tokens : List ℕ) (l : ℕ) (h : Lined tape area t
       record {
         inside = rw (first, count) (omega (arith, h .inside));
         holds = rw (first, count, part) (holds-drop (h .holds) 2);
-        marks = no-facts _ (with-factless l (first-of l + 2) (count-of l - 2) low (cut-fewer l));
+        facts = no-facts _ (with-factless l (first-of l + 2) (count-of l - 2) low (cut-fewer l));
       }
 
   cut-means : (addresses : Reading)

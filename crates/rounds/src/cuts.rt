@@ -49,8 +49,7 @@ fn is_dead_result<'a>(
     rules: Rules,
 ) -> bool
     requires { ⌜ Cuttable (now tape) (now area) (now tokens) (now lines) (now labels) × (i < length (now lines)) ⌝ }
-    ensures { λ r. ⌜ r ≡ dead-at (rules-of rules) (was tape) (was area) (was tokens) (was lines)
-        (was labels) i ⌝ }
+    ensures { λ r. ⌜ r ≡ dead-at (rules-of rules) (was tape) (was area) (was tokens) (was lines) (was labels) i ⌝ }
 {
     let l = lines[i];
     if !keeps_result(tape, area, words::line_of(tokens, l)) {
@@ -81,8 +80,7 @@ fn drop_at<'a>(
     rules: Rules,
 ) -> u64
     requires { ⌜ Cuttable (now tape) (now area) (now tokens) (now lines) (now labels) × (i < length (now lines)) ⌝ }
-    ensures { λ r. ⌜ Dropped (rules-of rules) (was tape) (was area) (was tokens) (was lines)
-        (was labels) i (now (lines .exit)) r ⌝ }
+    ensures { λ r. ⌜ Dropped (rules-of rules) (was tape) (was area) (was tokens) (was lines) (was labels) i (now (lines .exit)) r ⌝ }
 {
     if !is_dead_result(tape, area, tokens, lines, labels, i, rules) {
         return 0;
@@ -102,9 +100,8 @@ fn drop_results<'a>(
     rules: Rules,
 ) -> u64
     requires { ⌜ Cuttable (now tape) (now area) (now tokens) (now lines) (now labels) ⌝ }
-    ensures { λ r. ⌜ Cut (cuts (rules-of rules) (labels-now (was tape) (was area) (was tokens)
-        (was lines) (was labels)) 0) (was tape) (was area) (was tokens) (was lines)
-        (now (lines .exit)) r ⌝ }
+    ensures { λ r. ⌜ Cut (cuts (rules-of rules) (labels-now (was tape) (was area) (was tokens) (was lines) (was labels)) 0) (was tape)
+        (was area) (was tokens) (was lines) (now (lines .exit)) r ⌝ }
 {
     let mut cut = 0;
     let mut i = 0;
@@ -126,8 +123,7 @@ pub fn drop_dead_results<'a>(
 ) -> u64
     requires { ⌜ Listed (now tape) (now area) (now tokens) (now lines) × (length (now tokens) ≤ 65536)
         × (length (now lines) ≤ length (now labels)) ⌝ }
-    ensures { λ r. ⌜ Cut (drop-dead-results (rules-of rules)) (was tape) (was area) (was tokens)
-        (was lines) (now (lines .exit)) r ⌝ }
+    ensures { λ r. ⌜ Cut (drop-dead-results (rules-of rules)) (was tape) (was area) (was tokens) (was lines) (now (lines .exit)) r ⌝ }
 {
     let known = gather_labels(tape, area, tokens, lines, labels);
     drop_results(tape, area, tokens, lines, &labels[..known], rules)

@@ -108,11 +108,9 @@ fn turns<'a>(
 ) -> Round
     requires { ⌜ Roundable (now tape) (now area) (now tokens) (now lines) (now area2) (now tokens2) (now lows) (now highs)
         (now labels) (now slots) (now «slot_words») size ⌝ }
-    ensures { λ r. ⌜ Made
-        (attempts-with (rules-of rules) (was tape) (was area) (was tokens) (was lines) size
-        (was labels) (was slots) (was «slot_words»))
-        (was tape) (was area) (was tokens) (was lines) (was lows) (was highs) size
-        (now (area .exit)) (now (tokens .exit)) (now (lines .exit)) (now (lows .exit)) (now (highs .exit)) r ⌝ }
+    ensures { λ r. ⌜ Made (attempts-with (rules-of rules) (was tape) (was area) (was tokens) (was lines) size (was labels) (was slots)
+        (was «slot_words»)) (was tape) (was area) (was tokens) (was lines) (was lows) (was highs) size (now (area .exit))
+        (now (tokens .exit)) (now (lines .exit)) (now (lows .exit)) (now (highs .exit)) r ⌝ }
 {
     let mut r = Round {
         next: 0,
@@ -158,9 +156,7 @@ pub fn propagate_once(
 ) -> Round
     requires { ⌜ Runnable (now tape) (now area) (now tokens) (now lines) (now area2) (now tokens2) (now lows) (now highs)
         (now labels) (now slots) (now «slot_words») size ⌝ }
-    ensures { λ r. ⌜ Made (propagate-once (rules-of rules)) (was tape) (was area) (was tokens)
-        (was lines)
-        (was lows) (was highs) size
+    ensures { λ r. ⌜ Made (propagate-once (rules-of rules)) (was tape) (was area) (was tokens) (was lines) (was lows) (was highs) size
         (now (area .exit)) (now (tokens .exit)) (now (lines .exit)) (now (lows .exit)) (now (highs .exit)) r ⌝ }
 {
     let n = size.lines;

@@ -131,8 +131,7 @@ fn make_rounds(
 ) -> Progress
     requires { ⌜ Runnable (now tape) (now area) (now tokens) (now lines) (now area2) (now tokens2)
         (now lows) (now highs) (now labels) (now slots) (now «slot_words») size ⌝ }
-    ensures { λ s. ⌜ Rounded (rules-of rules) (was tape) (was area) (was tokens) (was lines)
-        (was lows) (was highs) size
+    ensures { λ s. ⌜ Rounded (rules-of rules) (was tape) (was area) (was tokens) (was lines) (was lows) (was highs) size
         (now (area .exit)) (now (tokens .exit)) (now (lines .exit)) (now (lows .exit)) (now (highs .exit)) s ⌝ }
 {
     let mut s = Progress {
@@ -170,8 +169,7 @@ fn make_rounds(
 // Gives each line of the listing its marks.
 fn mark<'a>(tape: &'a [u8], area: &'a [u8], tokens: &'a [u64], lines: &mut [u64], size: Size)
     requires { ⌜ Current (now tape) (now area) (now tokens) (now lines) size ⌝ }
-    ensures { λ r. ⌜ SameListing (was tape) (was area) (was tokens) (was lines) size
-        (now (lines .exit)) ⌝ }
+    ensures { λ r. ⌜ SameListing (was tape) (was area) (was tokens) (was lines) size (now (lines .exit)) ⌝ }
 {
     let n = size.lines;
     let used = size.tokens;
@@ -197,9 +195,8 @@ pub fn optimize(
 ) -> Outcome
     requires { ⌜ Runnable (now tape) (now area) (now tokens) (now lines) (now area2) (now tokens2)
         (now lows) (now highs) (now labels) (now slots) (now «slot_words») size ⌝ }
-    ensures { λ r. ⌜ Ran (rules-of rules) (was tape) (was area) (was tokens) (was lines)
-        (was lows) (was highs) size
-        (now (area .exit)) (now (tokens .exit)) (now (lines .exit)) (now (lows .exit)) (now (highs .exit)) r ⌝ }
+    ensures { λ r. ⌜ Ran (rules-of rules) (was tape) (was area) (was tokens) (was lines) (was lows) (was highs) size (now (area .exit))
+        (now (tokens .exit)) (now (lines .exit)) (now (lows .exit)) (now (highs .exit)) r ⌝ }
 {
     mark(tape, area, tokens, lines, size);
     let s = make_rounds(

@@ -31,9 +31,8 @@ fn gather_slot<'a>(
 ) -> Slots
     requires { ⌜ Points (now tape) (now area) before × Points (now tape) (now area) w × Slotting (now slots) (now «slot_words») g
         × Roomy (now slots) (now «slot_words») g (len-of w) 1 ⌝ }
-    ensures { λ r. ⌜ Noted
-        (addressed-here ((token-of (was tape) (was area) before, token-of (was tape) (was area) w)
-        ∷ [])) (len-of w) 1 (was slots) (was «slot_words») g (now (slots .exit)) (now («slot_words» .exit)) r ⌝ }
+    ensures { λ r. ⌜ Noted (addressed-here ((token-of (was tape) (was area) before, token-of (was tape) (was area) w) ∷ [])) (len-of w) 1
+        (was slots) (was «slot_words») g (now (slots .exit)) (now («slot_words» .exit)) r ⌝ }
 {
     let s = words::text(tape, area, w);
     if !ends_ampersand(words::text(tape, area, before)) {
@@ -85,12 +84,10 @@ pub fn gather_slots<'a>(
     slots: &mut [u8],
     slot_words: &mut [u64],
 ) -> Slots
-    requires { ⌜ Listed (now tape) (now area) (now tokens) (now lines)
-        × Roomy (now slots) (now «slot_words») (record { count = 0; text = 0 })
-        (text-of-all (bare-listing (now tape) (now area) (now tokens) (now lines)))
+    requires { ⌜ Listed (now tape) (now area) (now tokens) (now lines) × Roomy (now slots) (now «slot_words»)
+        (record { count = 0; text = 0 }) (text-of-all (bare-listing (now tape) (now area) (now tokens) (now lines)))
         (token-count (bare-listing (now tape) (now area) (now tokens) (now lines))) ⌝ }
-    ensures { λ r. ⌜ Gathers
-        (addressed-in (bare-listing (was tape) (was area) (was tokens) (was lines))) (now (slots .exit))
+    ensures { λ r. ⌜ Gathers (addressed-in (bare-listing (was tape) (was area) (was tokens) (was lines))) (now (slots .exit))
         (now («slot_words» .exit)) r ⌝ }
 {
     let mut all = Slots { count: 0, text: 0 };

@@ -29,8 +29,7 @@ fn solved<'a>(
     wanted: u64,
 ) -> Answer
     requires { ⌜ Profiled (now tape) (now tokens) (now lines) × (length (now tokens) ≤ 1024) ⌝ }
-    ensures { λ r. ⌜ ((reading : Reading) → answer-of r ≡ ask-names
-        (listing-read (was tape) (was tape) (was tokens) reading (was lines))
+    ensures { λ r. ⌜ ((reading : Reading) → answer-of r ≡ ask-names (listing-read (was tape) (was tape) (was tokens) reading (was lines))
         (was chosen) (was list) wanted) ⌝ }
 {
     if !is_register(chosen) {

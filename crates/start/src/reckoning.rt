@@ -47,8 +47,7 @@ fn store_pair(values: &mut [u64], k: usize, p: Pair)
 
 // What a register starts with: the chosen one with 1 · v + 0, any other with its listed value.
 fn start_pair<'a>(chosen: &'a [u8], list: &'a [u8], name: &'a [u8]) -> Pair
-    ensures { λ r. ⌜ ((es : List Entry) → entries (was list) ≡ some es
-        → pair-of r ≡ start-pairs (was chosen) es (was name)) ⌝ }
+    ensures { λ r. ⌜ ((es : List Entry) → entries (was list) ≡ some es → pair-of r ≡ start-pairs (was chosen) es (was name)) ⌝ }
 {
     if text::same(name, chosen) {
         return Pair {
@@ -107,9 +106,8 @@ pub fn fill<'a>(
     values: &mut [u64],
 )
     requires { ⌜ Holds (now tape) (now tape) (now tokens) × (2 * length (now tokens) ≤ length (now values)) ⌝ }
-    ensures { λ _. ⌜ ((es : List Entry) → entries (was list) ≡ some es
-        → Priced (start-pairs (was chosen) es) (tokens-of (was tape) (was tape) (was tokens))
-        (now (values .exit))) ⌝ }
+    ensures { λ _. ⌜ ((es : List Entry) → entries (was list) ≡ some es → Priced (start-pairs (was chosen) es)
+        (tokens-of (was tape) (was tape) (was tokens)) (now (values .exit))) ⌝ }
 {
     let mut k = 0;
     while k < tokens.len() {
@@ -124,8 +122,7 @@ pub fn fill<'a>(
 // Whether a token is the register that another one is.
 fn is_same<'a>(tape: &'a [u8], w: u64, target: u64) -> bool
     requires { ⌜ Points (now tape) (now tape) w × Points (now tape) (now tape) target ⌝ }
-    ensures { λ r. ⌜ r ≡ same-register (token-of (was tape) (was tape) target)
-        (token-of (was tape) (was tape) w) ⌝ }
+    ensures { λ r. ⌜ r ≡ same-register (token-of (was tape) (was tape) target) (token-of (was tape) (was tape) w) ⌝ }
 {
     if words::kind(w) != words::REGISTER {
         return false;
@@ -160,10 +157,8 @@ fn behind_first<'a>(
     before: &'a [u8],
 ) -> Worth
     requires { ⌜ Begun (now tape) (now tokens) l × (2 * length (now tokens) ≤ length (now values)) ⌝ }
-    ensures { λ r. ⌜ ((σ : Text → Values.Pair)
-        → Priced σ (tokens-of (was tape) (was tape) (was tokens)) (was values)
-        → value-of r ≡ evaluate affine σ (was before)
-        (lexemes (drop 1 (tokens-of (was tape) (was tape) (part-of (was tokens) l))))) ⌝ }
+    ensures { λ r. ⌜ ((σ : Text → Values.Pair) → Priced σ (tokens-of (was tape) (was tape) (was tokens)) (was values) → value-of r
+        ≡ evaluate affine σ (was before) (lexemes (drop 1 (tokens-of (was tape) (was tape) (part-of (was tokens) l))))) ⌝ }
 {
     let first = words::first(l);
     let from = first + 1;
@@ -226,10 +221,8 @@ fn returned<'a>(tape: &'a [u8], tokens: &'a [u64], values: &'a [u64], l: u64) ->
 // What a listing in the profile returns, the table having what each token is worth at the start.
 fn run<'a>(tape: &'a [u8], tokens: &'a [u64], lines: &'a [u64], values: &mut [u64]) -> Pair
     requires { ⌜ Profiled (now tape) (now tokens) (now lines) × (2 * length (now tokens) ≤ length (now values)) ⌝ }
-    ensures { λ r. ⌜ ((reading : Reading) (σ : Text → Values.Pair)
-        → Priced σ (tokens-of (was tape) (was tape) (was tokens)) (was values)
-        → execute affine σ (listing-read (was tape) (was tape) (was tokens) reading (was lines))
-        ≡ some (pair-of r)) ⌝ }
+    ensures { λ r. ⌜ ((reading : Reading) (σ : Text → Values.Pair) → Priced σ (tokens-of (was tape) (was tape) (was tokens)) (was values)
+        → execute affine σ (listing-read (was tape) (was tape) (was tokens) reading (was lines)) ≡ some (pair-of r)) ⌝ }
 {
     let last = lines.len() - 1;
     let mut i = 0;
@@ -250,8 +243,7 @@ pub fn reckon<'a>(
 ) -> Pair
     requires { ⌜ Profiled (now tape) (now tokens) (now lines) × (length (now tokens) ≤ 1024) ⌝ }
     ensures { λ r. ⌜ ((reading : Reading) (es : List Entry) → entries (was list) ≡ some es
-        → returned-pair (was chosen) es
-        (listing-read (was tape) (was tape) (was tokens) reading (was lines)) ≡ some (pair-of r)) ⌝ }
+        → returned-pair (was chosen) es (listing-read (was tape) (was tape) (was tokens) reading (was lines)) ≡ some (pair-of r)) ⌝ }
 {
     let mut values = [0u64; 2048];
     fill(tape, tokens, chosen, list, &mut values);

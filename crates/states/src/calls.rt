@@ -206,8 +206,7 @@ fn copy_out(store: &[u8], i: usize, out: &mut [u8]) -> usize
 
 // Comes back to the state of a name: its tape, as it stands, at the front of the output; the answer is its length.
 pub fn restore(store: &[u8], name: &[u8; 8], out: &mut [u8]) -> Answer
-    ensures { λ r. ⌜ Writes (restore-reply (was store) (was name) (length (was out)))
-        (was out) (now (out .exit)) (answer-of r) ⌝ }
+    ensures { λ r. ⌜ Writes (restore-reply (was store) (was name) (length (was out))) (was out) (now (out .exit)) (answer-of r) ⌝ }
 {
     match held(store, has_room(store.len(), out.len()), name) {
         Located::Refused { number, place } => Answer::Refused { number, place },

@@ -100,8 +100,7 @@ fn put_token(kind: u64, s: &[u8], out: &mut [u8], at: usize) -> usize
 fn put_tokens<'a>(tape: &'a [u8], area: &'a [u8], ws: &'a [u64], out: &mut [u8], at: usize) -> usize
     requires { ⌜ Holds (now tape) (now area) (now ws) ⌝ }
     requires { ⌜ at + length (tokens-bytes (tokens-of (now tape) (now area) (now ws))) ≤ length (now out) ⌝ }
-    ensures { λ r. ⌜ Puts (was out) at (tokens-bytes (tokens-of (was tape) (was area) (was ws)))
-        (now (out .exit)) r ⌝ }
+    ensures { λ r. ⌜ Puts (was out) at (tokens-bytes (tokens-of (was tape) (was area) (was ws))) (now (out .exit)) r ⌝ }
 {
     let mut to = at;
     let mut k = 0;
@@ -124,8 +123,7 @@ fn put_whole_line<'a>(
 ) -> usize
     requires { ⌜ Sound (now tape) (now area) (now tokens) line
         × (at + length (Tape.write-line (line-of (now tape) (now area) (now tokens) line) (marks-of (pair-of line))) ≤ length (now out)) ⌝ }
-    ensures { λ r. ⌜ Puts (was out) at
-        (Tape.write-line (line-of (was tape) (was area) (was tokens) line) (marks-of (pair-of line)))
+    ensures { λ r. ⌜ Puts (was out) at (Tape.write-line (line-of (was tape) (was area) (was tokens) line) (marks-of (pair-of line)))
         (now (out .exit)) r ⌝ }
 {
     let marks = put_line(line, out, at);
@@ -174,8 +172,7 @@ fn gather<'a>(
 )
     requires { ⌜ (length (now lines) ≤ length (now records)) × (256 ≤ length (now addresses)) × (256 ≤ length (now lows))
         × (256 ≤ length (now highs)) ⌝ }
-    ensures { λ _. ⌜ now (records .exit) ≡ paste (was records) 0
-        (records-of (was addresses) (was lows) (was highs) (was lines))
+    ensures { λ _. ⌜ now (records .exit) ≡ paste (was records) 0 (records-of (was addresses) (was lows) (was highs) (was lines))
         (length (was lines)) ⌝ }
 {
     let n = lines.len();
@@ -198,9 +195,7 @@ fn put_records<'a>(
     at: usize,
 ) -> usize
     requires { ⌜ Writes (now tape) (now area) (now tokens) (now records) n (now out) at ⌝ }
-    ensures { λ r. ⌜ Puts (was out) at
-        (lines-bytes (recorded (was tape) (was area) (was tokens) (was records) n))
-        (now (out .exit)) r ⌝ }
+    ensures { λ r. ⌜ Puts (was out) at (lines-bytes (recorded (was tape) (was area) (was tokens) (was records) n)) (now (out .exit)) r ⌝ }
 {
     let mut to = at;
     let mut k = 0;
@@ -228,10 +223,8 @@ fn put_lines<'a>(
         × (256 ≤ length (now addresses)) × (256 ≤ length (now lows)) × (256 ≤ length (now highs))
         × (at + length (lines-bytes (paged (now tape) (now area) (now tokens) (now addresses) (now lows) (now highs) (now lines)))
         ≤ length (now out)) ⌝ }
-    ensures { λ r. ⌜ Puts (was out) at
-        (lines-bytes (paged (was tape) (was area) (was tokens) (was addresses) (was lows)
-        (was highs) (was lines)))
-        (now (out .exit)) r ⌝ }
+    ensures { λ r. ⌜ Puts (was out) at (lines-bytes (paged (was tape) (was area) (was tokens) (was addresses) (was lows) (was highs)
+        (was lines))) (now (out .exit)) r ⌝ }
 {
     let blank = LineRecord {
         address: 0,
@@ -264,10 +257,8 @@ pub fn write<'a>(
     requires { ⌜ (256 ≤ length (now addresses)) × (256 ≤ length (now lows)) × (256 ≤ length (now highs)) ⌝ }
     requires { ⌜ length (Tape.write (listing-of (now tape) (now area) (now tokens) (now addresses) (now lines))
         (marks-for (now lows) (now highs) (now lines))) ≤ length (now out) ⌝ }
-    ensures { λ r. ⌜ Wrote (Tape.write
-        (listing-of (was tape) (was area) (was tokens) (was addresses) (was lines))
-        (marks-for (was lows) (was highs) (was lines)))
-        (was out) (now (out .exit)) r ⌝ }
+    ensures { λ r. ⌜ Wrote (Tape.write (listing-of (was tape) (was area) (was tokens) (was addresses) (was lines))
+        (marks-for (was lows) (was highs) (was lines))) (was out) (now (out .exit)) r ⌝ }
 {
     let at = put_lines(tape, area, tokens, lines, addresses, lows, highs, out, 0);
     out[at] = 255;

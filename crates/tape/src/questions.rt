@@ -169,8 +169,7 @@ fn token_refusal(kind: u64, text: &[u8], totals: Totals) -> u64
 // The number of the question after 4 that refuses a command, or 0.
 fn refusal(tape: &[u8], at: usize, command: Command, totals: Totals) -> u64
     requires { ⌜ at + looked-at command ≤ length (now tape) ⌝ }
-    ensures { λ r. ⌜ r ≡ first-no
-        (questions (drop at (was tape)) (totals-of totals) (command-in (was tape) at command)) ⌝ }
+    ensures { λ r. ⌜ r ≡ first-no (questions (drop at (was tape)) (totals-of totals) (command-in (was tape) at command)) ⌝ }
 {
     match command {
         Command::Addressed { address: _, indent } => line_refusal(indent, totals),

@@ -128,8 +128,7 @@ fn put_yes_no(b: bool, out: &mut [u8]) -> usize
 // The answer to a question with the operands a and b.
 fn put_answer_to(question: &[u8], a: &[u8], b: &[u8], out: &mut [u8]) -> usize
     requires { ⌜ length (now a) + 24 ≤ length (now out) ⌝ }
-    ensures { λ r. ⌜ Written (was out) 0 (answer-to (was question) (was a) (was b)) (now (out .exit))
-        r ⌝ }
+    ensures { λ r. ⌜ Written (was out) 0 (answer-to (was question) (was a) (was b)) (now (out .exit)) r ⌝ }
 {
     if same(question, b"family") {
         return put_family(a, out);

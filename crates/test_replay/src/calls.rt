@@ -174,8 +174,7 @@ fn all_right<'a>(
     written: &'a [u8],
 ) -> bool
     requires { ⌜ Whole (now list) ⌝ }
-    ensures { λ b. ⌜ b ≡ all-right (was list) (report-of r) (was «work_a») (was «work_b») (was out)
-        (was work) (was written) ⌝ }
+    ensures { λ b. ⌜ b ≡ all-right (was list) (report-of r) (was «work_a») (was «work_b») (was out) (was work) (was written) ⌝ }
 {
     reply_right(list, r)
         && (part_right(work_a, work, b"another first work area\n")

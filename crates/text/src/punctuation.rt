@@ -164,8 +164,7 @@ pub fn begins_operator(s: &[u8]) -> bool
 
 // Whether a value that stands before this text has a delimiter after it.
 pub fn delimits_after(s: &[u8]) -> bool
-    ensures { λ r. ⌜ r ≡ (starts-with (was s) (bytes ")") || starts-with (was s) (bytes ",") || starts-with
-        (was s) (bytes ";")) ⌝ }
+    ensures { λ r. ⌜ r ≡ (starts-with (was s) (bytes ")") || starts-with (was s) (bytes ",") || starts-with (was s) (bytes ";")) ⌝ }
 {
     starts(s, b")") || (starts(s, b",") || starts(s, b";"))
 }
@@ -186,8 +185,7 @@ pub fn ends_ampersand(s: &[u8]) -> bool
 
 // Whether a value that stands after this text has a delimiter before it.
 pub fn delimits_before(s: &[u8]) -> bool
-    ensures { λ r. ⌜ r ≡ (ends-with (was s) (bytes "(") || ends-with (was s) (bytes ", ") || ends-with (was s)
-        (bytes " = ")) ⌝ }
+    ensures { λ r. ⌜ r ≡ (ends-with (was s) (bytes "(") || ends-with (was s) (bytes ", ") || ends-with (was s) (bytes " = ")) ⌝ }
 {
     ends(s, b"(") || (ends(s, b", ") || ends(s, b" = "))
 }

@@ -18,8 +18,8 @@ before-tokens c = c .before .before .before .before .before .before .before .bef
 abbrev before-add-text-arg : tie.After-add-text-arg → tie.Start
 before-add-text-arg c = c .before .before .before .before .before .before .before .before .before
 
-place-requires : tie.Need-place-requires
-place-requires c κs = search needs
+buffer-requires : tie.Need-buffer-requires
+buffer-requires c κs = search needs
 
 add-word-requires : tie.Need-add-word-requires
 add-word-requires c κs = search needs
@@ -68,7 +68,7 @@ pub keep-spec : {M : Type 1} → statement M
 keep-spec =
     tie.close
     (tie.spec
-    place-requires
+    buffer-requires
     add-word-requires
     same-length
     returns

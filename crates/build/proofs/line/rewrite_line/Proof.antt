@@ -16,12 +16,6 @@ before-line-of c = c .before .before .before .before .before .before
 abbrev before-line-of2 : tie.After-line-of2 → tie.After-line-of
 before-line-of2 c = c .before
 
-abbrev before-merge : tie.After-merge → tie.After-line-of2
-before-merge c = c .before .before .before
-
-abbrev before-slice-known5 : tie.After-slice-known5 → tie.After-merge
-before-slice-known5 c = c .before .before .before .before .before .before .before .before .before
-
 line-of-requires : tie.Need-line-of-requires
 line-of-requires c κs = search needs
 
@@ -38,11 +32,15 @@ merge-requires c κs =
 
 fold-last-requires : tie.Need-fold-last-requires
 fold-last-requires c κs =
-    let a = before-line-of (before-line-of2 (before-merge (c .before .before .before .before .before .before))) .args in
-    let line-of = before-line-of2 (before-merge (c .before .before .before .before .before .before)) .line-of in
-    let line-of2 = before-merge (c .before .before .before .before .before .before) .line-of2 in
-    let merge = c .before .before .before .before .before .before .merge in
-    let p = before-line-of (before-line-of2 (before-merge (c .before .before .before .before .before .before))) .pre in
+    let m = c .before .before .before .before .before .before in
+    let l2 = m .before .before .before in
+    let l1 = l2 .before in
+    let s = l1 .before .before .before .before .before .before in
+    let a = s .args in
+    let line-of = l1 .line-of in
+    let line-of2 = l2 .line-of2 in
+    let merge = m .merge in
+    let p = s .pre in
     let l = rw (line-of .ensures, line-of2 .ensures) at (merge .ensures) in
     (l .built, room-fold (unmerged (a .tape .now) (a .old .now) (a .old-tokens .now) (a .source) (a .j) (a .l)) (p .numbers-short) (p .has-room) l (merge .kept .1 .1 .1 .1 .1 .0) (merge .kept .1 .1 .1 .1 .1 .1 .0))
 
@@ -51,11 +49,16 @@ sub-count c = search needs
 
 with-tokens-requires : tie.Need-with-tokens-requires
 with-tokens-requires c κs =
-    let a = before-line-of (before-line-of2 (before-merge (before-slice-known5 (c .before .before .before)))) .args in
-    let line-of = before-line-of2 (before-merge (before-slice-known5 (c .before .before .before))) .line-of in
-    let line-of2 = before-merge (before-slice-known5 (c .before .before .before)) .line-of2 in
-    let merge = before-slice-known5 (c .before .before .before) .merge in
-    let p = before-line-of (before-line-of2 (before-merge (before-slice-known5 (c .before .before .before)))) .pre in
+    let f0 = c .before .before .before in
+    let m = f0 .before .before .before .before .before .before .before .before .before in
+    let l2 = m .before .before .before in
+    let l1 = l2 .before in
+    let s = l1 .before .before .before .before .before .before in
+    let a = s .args in
+    let line-of = l1 .line-of in
+    let line-of2 = l2 .line-of2 in
+    let merge = m .merge in
+    let p = s .pre in
     let fold-last = c .before .before .before .before .before .fold-last in
     let l = rw (line-of .ensures, line-of2 .ensures) at (merge .ensures) in
     let f = line-added-folded (unmerged (a .tape .now) (a .old .now) (a .old-tokens .now) (a .source) (a .j) (a .l)) (p .numbers-short) (p .has-room) l (fold-last .ensures) in
@@ -69,11 +72,16 @@ same-length-2 c = search needs
 
 returns : tie.Need-returns
 returns c =
-    let a = before-line-of (before-line-of2 (before-merge (before-slice-known5 (c .before .before .before .before)))) .args in
-    let line-of = before-line-of2 (before-merge (before-slice-known5 (c .before .before .before .before))) .line-of in
-    let line-of2 = before-merge (before-slice-known5 (c .before .before .before .before)) .line-of2 in
-    let merge = before-slice-known5 (c .before .before .before .before) .merge in
-    let p = before-line-of (before-line-of2 (before-merge (before-slice-known5 (c .before .before .before .before)))) .pre in
+    let f0 = c .before .before .before .before in
+    let m = f0 .before .before .before .before .before .before .before .before .before in
+    let l2 = m .before .before .before in
+    let l1 = l2 .before in
+    let s = l1 .before .before .before .before .before .before in
+    let a = s .args in
+    let line-of = l1 .line-of in
+    let line-of2 = l2 .line-of2 in
+    let merge = m .merge in
+    let p = s .pre in
     let fold-last = c .before .before .before .before .before .before .fold-last in
     let l = rw (line-of .ensures, line-of2 .ensures) at (merge .ensures) in
     let ts = unmerged (a .tape .now) (a .old .now) (a .old-tokens .now) (a .source) (a .j) (a .l) in

@@ -52,11 +52,14 @@ same-length-2 c = search needs
 
 returns : tie.Need-returns
 returns c =
-    let kind = before-tokens (c .before) .kind in
+    let at-tokens = c .before in
+    let at-kind = at-tokens .before .before .before .before .before .before .before .before .before in
+    let s = at-kind .before .before .before .before .before in
+    let kind = at-kind .kind in
     let text = c .before .before .before .before .before .before .before .text in
     let push-text = c .before .before .before .before .push-text in
-    let a = before-kind (before-tokens (c .before)) .args in
-    let p = before-kind (before-tokens (c .before)) .pre in
+    let a = s .args in
+    let p = s .pre in
     rw (kind .ensures, text .ensures) at (push-text .ensures (a .tape .now) (p .1 .built))
 
 keep-requires : tie.Need-keep-requires

@@ -56,8 +56,11 @@ slice-read-l c = omega (arith, last-inside (before-loop (before-loop-body (c .be
 
 is-changed-requires : tie.Need-is-changed-requires Inv-loop μ-loop
 is-changed-requires c κs =
-    let a = before-loop (before-loop-body (c .before)) .args in
-    let p = before-loop (before-loop-body (c .before)) .pre in
+    let p0 = c .before in
+    let p1 = p0 .before in
+    let p2 = p1 .before .before .before .before .before .before .before .before in
+    let a = p2 .args in
+    let p = p2 .pre in
     let l = c .before .before .loop in
     let i = l .inv in
     let hl = c .before .loop-test .taken in

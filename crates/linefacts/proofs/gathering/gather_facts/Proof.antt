@@ -17,11 +17,11 @@ abbrev μ-loop : tie.MeasureT-loop
 loop-holds : tie.Need-loop-holds Inv-loop μ-loop
 loop-holds c = search (needs, all-noted-same)
 
-mul-noted : tie.Need-mul-noted Inv-loop μ-loop
-mul-noted c = search needs
+mul-with-its-facts : tie.Need-mul-with-its-facts Inv-loop μ-loop
+mul-with-its-facts c = search needs
 
-slice-read-noted : tie.Need-slice-read-noted Inv-loop μ-loop
-slice-read-noted c = search needs
+slice-read-with-its-facts : tie.Need-slice-read-with-its-facts Inv-loop μ-loop
+slice-read-with-its-facts c = search needs
 
 with-its-facts-requires : tie.Need-with-its-facts-requires Inv-loop μ-loop
 with-its-facts-requires c κs = search (needs, all-noted-lined)
@@ -54,8 +54,8 @@ gather-facts-spec =
     Inv-loop
     μ-loop
     loop-holds
-    mul-noted
-    slice-read-noted
+    mul-with-its-facts
+    slice-read-with-its-facts
     with-its-facts-requires
     mul-lines
     slice-write-lines

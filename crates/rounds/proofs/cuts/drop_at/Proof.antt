@@ -41,13 +41,17 @@ count-requires c κs = search needs
 
 sub-with-tokens : tie.Need-sub-with-tokens
 sub-with-tokens c =
-    let p = before-slice-known2 (c .before .before) .pre in
-    rw (c .count .ensures) (cut-count (p .0) _ (before-slice-known2 (c .before .before) .args .i) (p .1) (c .before .before .before .before .is-dead-result .ensures) (not-false _ (c .before .before .before .if1 .left)))
+    let p0 = c .before .before in
+    let p1 = p0 .before .before .before .before .before .before .before .before .before in
+    let p = p1 .pre in
+    rw (c .count .ensures) (cut-count (p .0) _ (p1 .args .i) (p .1) (c .before .before .before .before .is-dead-result .ensures) (not-false _ (c .before .before .before .if1 .left)))
 
 with-tokens-requires : tie.Need-with-tokens-requires
 with-tokens-requires c κs =
-    let p = before-slice-known2 (c .before .before) .pre in
-    let low = cut-first (p .0) _ (before-slice-known2 (c .before .before) .args .i) (p .1) (c .before .before .before .before .is-dead-result .ensures) (not-false _ (c .before .before .before .if1 .left)) in
+    let p0 = c .before .before in
+    let p1 = p0 .before .before .before .before .before .before .before .before .before in
+    let p = p1 .pre in
+    let low = cut-first (p .0) _ (p1 .args .i) (p .1) (c .before .before .before .before .is-dead-result .ensures) (not-false _ (c .before .before .before .if1 .left)) in
     (rw (c .before .first .ensures) low, rw (c .count .ensures) (cut-fewer _))
 
 mul-lines : tie.Need-mul-lines
@@ -61,8 +65,10 @@ same-length-2 c = search needs
 
 returns-2 : tie.Need-returns-2
 returns-2 c =
-    let p = before-slice-known2 (c .before .before .before) .pre in
-    dropped-cut (p .0) _ (before-slice-known2 (c .before .before .before) .args .i) (p .1) (c .before .before .before .before .before .is-dead-result .ensures) (not-false _ (c .before .before .before .before .if1 .left))
+    let p0 = c .before .before .before in
+    let p1 = p0 .before .before .before .before .before .before .before .before .before in
+    let p = p1 .pre in
+    dropped-cut (p .0) _ (p1 .args .i) (p .1) (c .before .before .before .before .before .is-dead-result .ensures) (not-false _ (c .before .before .before .before .if1 .left))
     (rw (c .before .before .first .ensures, c .before .count .ensures) at (c .with-tokens .ensures))
 
 pub drop-at-spec : {M : Type 1} → statement M

@@ -57,14 +57,26 @@ after-round-requires c κs = (before-then1 (before-propagate-once-arg8 (before-p
 
 loop-less : tie.Need-loop-less Inv-loop μ-loop
 loop-less c =
-    let left = before-propagate-once-arg8 (before-propagate-once (before-slice-known19 (c .before .before .before))) .if1 .taken in
-    rw (c .after-round .ensures) (going-less (before-then1 (before-propagate-once-arg8 (before-propagate-once (before-slice-known19 (c .before .before .before)))) .loop .inv .10) (omega arith) (before-slice-known19 (c .before .before .before) .propagate-once .ensures))
+    let p0 = c .before .before .before in
+    let p1 = p0 .before .before .before .before .before .before .before .before .before in
+    let p2 = p1 .before .before .before .before .before .before .before .before .before in
+    let p4 = p2 .before .before .before in
+    let p5 = p4 .before .before .before .before .before .before .before .before .before in
+    let p6 = p5 .before .before in
+    let left = p5 .if1 .taken in
+    rw (c .after-round .ensures) (going-less (p6 .loop .inv .10) (omega arith) (p2 .propagate-once .ensures))
 
 loop-again : tie.Need-loop-again Inv-loop μ-loop
 loop-again c =
-    let r = before-slice-known19 (c .before .before .before) .propagate-once in
-    let left = before-propagate-once-arg8 (before-propagate-once (before-slice-known19 (c .before .before .before))) .if1 .taken in
-    let i = before-then1 (before-propagate-once-arg8 (before-propagate-once (before-slice-known19 (c .before .before .before)))) .loop .inv in (
+    let p0 = c .before .before .before in
+    let p1 = p0 .before .before .before .before .before .before .before .before .before in
+    let p2 = p1 .before .before .before .before .before .before .before .before .before in
+    let p4 = p2 .before .before .before in
+    let p5 = p4 .before .before .before .before .before .before .before .before .before in
+    let p6 = p5 .before .before in
+    let r = p2 .propagate-once in
+    let left = p5 .if1 .taken in
+    let i = p6 .loop .inv in (
       r .kept .1 .0 ∙ i .0,
       r .kept .1 .1 .0 ∙ i .1,
       r .kept .1 .1 .1 .0 ∙ i .2,

@@ -36,9 +36,11 @@ line-of-requires c κs = before-loop (c .before .before) .pre .0 .at _ (c .befor
 
 gather-line-requires : tie.Need-gather-line-requires Inv-loop μ-loop
 gather-line-requires c κs =
-    let a = before-loop (c .before .before .before .before .before) .args in
+    let p0 = c .before .before .before .before .before in
+    let p1 = p0 .before .before .before .before .before .before .before in
+    let a = p1 .args in
     let i = c .before .before .before .before .before .loop .inv in
-    let p = before-loop (c .before .before .before .before .before) .pre in
+    let p = p1 .pre in
     let e = c .before .before .line-of .ensures in
     (rw e (p .0 .at _ (c .before .before .before .before .loop-test .taken) .holds), i .2 .slotting, lines-room (a .tape .now) (a .area .now) (a .tokens .now) (a .lines .now) (c .before .before .before .before .before .loop .k) (i .2) (c .before .before .before .before .loop-test .taken) e (p .1) (i .0) (i .1))
 

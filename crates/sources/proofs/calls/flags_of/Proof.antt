@@ -7,10 +7,6 @@ use borrow.Author.Needs.{needs}
 use Rattle.sources.proofs.calls.flags_of.Statement.{statement}
 use Rattle.sources.proofs.calls.flags_of.Tie as tie
 
--- Steps back to an earlier point of the function, each counted once.
-abbrev before-walk-arg : tie.After-walk-arg → tie.After-clean
-before-walk-arg c = c .before .before .before .before .before .before .before .before .before
-
 bytes : (c : tie.After-shared-slice-known) → Bytes (c .before .args .tape .now)
 bytes c i = omega (arith, c .shared-slice-known .given i)
 
@@ -24,7 +20,10 @@ enum-told : tie.Need-enum-told
 enum-told c = search needs
 
 walk-requires : tie.Need-walk-requires
-walk-requires c κs = let k = before-walk-arg (c .before) in
+walk-requires c κs =
+    let p0 = c .before in
+    let p1 = p0 .before .before .before .before .before .before .before .before .before in
+    let k = p1 in
     let b = k .before .before .before .before .before .before .before .before in
     let s = b .before in
     let a = s .args in
@@ -59,8 +58,11 @@ same-length-7 : tie.Need-same-length-7
 same-length-7 c = search needs
 
 returns-2 : tie.Need-returns-2
-returns-2 c = let w = c .before .before in
-    let k = before-walk-arg (w .before .before) in
+returns-2 c =
+    let p0 = w .before .before in
+    let p1 = p0 .before .before .before .before .before .before .before .before .before in
+    let w = c .before .before in
+    let k = p1 in
     let b = k .before .before .before .before .before .before .before .before in
     let s = b .before in
     let a = s .args in

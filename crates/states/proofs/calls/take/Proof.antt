@@ -65,7 +65,10 @@ same-length c =
     c .before .before .write-body .kept .0 ∙ c .before .before .before .before .before .before .copy-bytes .kept .1 .0 ∙ simp length-set
 
 returns : tie.Need-returns
-returns c = let s = before-write-body-arg (c .before .before .before) in
+returns c =
+    let p0 = c .before .before .before in
+    let p1 = p0 .before .before .before .before .before .before .before .before .before in
+    let s = p1 in
     let e = c .before .before .before .before .before .before .before .before .cell-start .ensures in
     cell-written (s .args .store .now) (c .before .before .before .before .before .before .before .before .cell-start .result)
     (s .args .name .now) (s .args .tape .now) (omega (arith, e, cell-ends (s .args .i) (s .pre .0 .below), s .pre .0 .whole, room-is))
