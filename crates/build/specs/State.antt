@@ -116,8 +116,8 @@ pub record Pushed (tape area : Text) (tokens : List ℕ) (from : ℕ) (at : Size
   pub words-most : at′ .tokens ≤ at .tokens + length ts
 
 -- what a new line leaves that means `out`, of at most n bytes and k words
-pub record LineAdded (tape area : Text) (tokens : List ℕ) (at : Size) (out : List Token) (n k : ℕ) (area′ : Text) (tokens′ : List ℕ) (at′ : Size)
-    : Type 0 where
+pub record LineAdded (tape area : Text) (tokens : List ℕ) (at : Size) (out : List Token) (n k : ℕ) (area′ : Text) (tokens′ : List ℕ)
+    (at′ : Size) : Type 0 where
   pub built : Built tape area′ tokens′ (at .tokens) at′
   pub line-is : line-now tape area′ tokens′ (at .tokens) at′ ≡ out
   pub grows : Grows area tokens (at .tokens) at area′ tokens′ at′

@@ -101,7 +101,8 @@ fn liveness_after<'a>(
     scan(tape, area, tokens, l, f, base_indent, rules)
 }
 
-// The same, where n is the number of the family, and calls overwrite it or not: a transparent line does nothing, and a calling one what calls do.
+// What line w does to the value, by its facts where they tell it: a transparent line does nothing, and a calling one what calls do to the
+// family. n is the family's number, and `overwritten` says whether calls overwrite it.
 fn liveness_by_facts<'a>(
     tape: &'a [u8],
     area: &'a [u8],

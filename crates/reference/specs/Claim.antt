@@ -1,4 +1,5 @@
--- What demand 3 counts and compares: the tokens, the text, the calls, the pairs of address and indent and the label lines of a listing. Assumes nothing.
+-- What demand 3 counts and compares: the tokens, the text, the calls, the pairs of address and indent and the label lines of a listing.
+-- Assumes nothing.
 use Prim.Native.Nat.{ℕ, _+_}
 use mathlib.Core.Bool.{Bool, false}
 use mathlib.Core.List.{List, [], _∷_, map}

@@ -23,7 +23,8 @@ ghost use Rattle.reference.specs.Text.{bytes};
 ghost use Rattle.names.specs.Families.{row-name};
 ghost use Rattle.numbers.specs.Reading.{meaning};
 ghost use Rattle.numbers.specs.Writing.{Written};
-ghost use Rattle.test_leaves.specs.Answers.{register, family-answer, value, combined, convention, overwrites, yes-no, answer-to, answer};
+ghost use Rattle.test_leaves.specs.Answers.{register, family-answer, value, combined, convention, overwrites, yes-no};
+ghost use Rattle.test_leaves.specs.Answers.{answer-to, answer};
 ghost use Rattle.test_leaves.specs.Answers.{expected};
 
 // The families of the table of `names`, by row.

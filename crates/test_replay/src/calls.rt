@@ -33,7 +33,8 @@ ghost use Rattle.reference.specs.Text.{_==_};
 ghost use Rattle.lines.specs.Rules.{rules-of};
 ghost use Rattle.clean.specs.Replies.{told-of, report-of};
 ghost use Rattle.test_replay.specs.Frames.{Whole};
-ghost use Rattle.test_replay.specs.Answers.{is-number, is-report, are-counts, are-rounds, are-told, is-wanted, work-wanted, out-wanted};
+ghost use Rattle.test_replay.specs.Answers.{is-number, is-report, are-counts, are-rounds, are-told, is-wanted};
+ghost use Rattle.test_replay.specs.Answers.{work-wanted, out-wanted};
 ghost use Rattle.test_replay.specs.Answers.{all-right, is-right, rules-in, agrees};
 
 // What is lent is longer than a call asks for, and every byte of it has this value before the call.
