@@ -6,13 +6,14 @@ use lib.Dec.{eqb, ltb}
 use mathlib.Core.List.{List}
 use lib.ListN.{length, getD, List·getD-eq-default}
 use borrow.Author.Tests.{eq-eqb, ne-eqb, lt-ltb, le-ltb}
-use mathlib.Core.Option.{none, some}
+use mathlib.Core.Option.{Option, none, some}
 use Rattle.reference.specs.Control.{if_then_else_, let-some_else_then_}
 use Rattle.reference.specs.Text.{Text}
 use Rattle.arguments.specs.declared.request.Request.{Request}
-use Rattle.arguments.specs.Values.{value-of}
-use Rattle.arguments.specs.Request.{with-fault, with-operand, with-value}
-use Rattle.arguments.specs.Requests.{take-number}
+use Rattle.arguments.specs.Values.{magnitude-in, negated, negative-in, integer-in, value-of}
+use Rattle.arguments.specs.Entries.{entry-value}
+use Rattle.arguments.specs.Request.{with-fault, with-operand, with-value, with-wanted, with-entry}
+use Rattle.arguments.specs.Requests.{take-number, put-wanted, take-entry}
 use Rattle.laws.proofs.Scans.{if-true, if-false}
 
 pub if-here {ℓ} : {A : Type ℓ} {a : Bool} {x r : A} (y : A) → a ≡ true → r ≡ x → r ≡ (if a then x else y)
@@ -49,6 +50,31 @@ number-taken s k kind w e f = rw e f
 pub number-refused : (s : Request) (k kind : ℕ) (w : Text) {r : Request} → value-of kind w ≡ none → r ≡ with-fault 6 k s → r ≡ take-number s k kind w
 unfolding take-number let-some_else_then_
 number-refused s k kind w e f = rw e f
+
+-- a value with a minus; the value of --return; REG=VALUE
+pub negative-some : (w : Text) {v : ℕ} {r : Option ℕ} → magnitude-in w ≡ some v → r ≡ negated v → r ≡ negative-in w
+unfolding negative-in let-some_else_then_
+negative-some w e f = rw e f
+
+pub negative-none : (w : Text) → magnitude-in w ≡ none → none ≡ negative-in w
+unfolding negative-in let-some_else_then_
+negative-none w e = rw e
+
+pub wanted-taken : (s : Request) (k : ℕ) (w : Text) {v : ℕ} {r : Request} → integer-in w ≡ some v → r ≡ with-wanted v k s → r ≡ put-wanted s k w
+unfolding put-wanted let-some_else_then_
+wanted-taken s k w e f = rw e f
+
+pub wanted-refused : (s : Request) (k : ℕ) (w : Text) {r : Request} → integer-in w ≡ none → r ≡ with-fault 3 k s → r ≡ put-wanted s k w
+unfolding put-wanted let-some_else_then_
+wanted-refused s k w e f = rw e f
+
+pub entry-taken : (s : Request) (k : ℕ) (w : Text) {v : ℕ} {r : Request} → entry-value w ≡ some v → r ≡ with-entry k s → r ≡ take-entry s k w
+unfolding take-entry let-some_else_then_
+entry-taken s k w e f = rw e f
+
+pub entry-refused : (s : Request) (k : ℕ) (w : Text) {r : Request} → entry-value w ≡ none → r ≡ with-fault 12 k s → r ≡ take-entry s k w
+unfolding take-entry let-some_else_then_
+entry-refused s k w e f = rw e f
 
 -- past the end of a table
 pub past : (l : List ℕ) (n : ℕ) → length l ≤ n → 0 ≡ getD l n 0

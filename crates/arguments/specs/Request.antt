@@ -34,6 +34,10 @@ with-help s =
       third = s .third;
       last = s .last;
       value = s .value;
+      wanted = s .wanted;
+      «wanted_at» = s .«wanted_at»;
+      «chosen_at» = s .«chosen_at»;
+      «entry_at» = s .«entry_at»;
     }
 
 abbrev pub with-fault : ℕ → ℕ → Request → Request
@@ -57,6 +61,10 @@ with-fault number k s =
       third = s .third;
       last = s .last;
       value = s .value;
+      wanted = s .wanted;
+      «wanted_at» = s .«wanted_at»;
+      «chosen_at» = s .«chosen_at»;
+      «entry_at» = s .«entry_at»;
     }
 
 abbrev pub with-verb : ℕ → Request → Request
@@ -80,6 +88,10 @@ with-verb verb s =
       third = s .third;
       last = s .last;
       value = s .value;
+      wanted = s .wanted;
+      «wanted_at» = s .«wanted_at»;
+      «chosen_at» = s .«chosen_at»;
+      «entry_at» = s .«entry_at»;
     }
 
 abbrev pub with-pending : ℕ → Request → Request
@@ -103,6 +115,10 @@ with-pending option s =
       third = s .third;
       last = s .last;
       value = s .value;
+      wanted = s .wanted;
+      «wanted_at» = s .«wanted_at»;
+      «chosen_at» = s .«chosen_at»;
+      «entry_at» = s .«entry_at»;
     }
 
 abbrev pub with-convention : ℕ → Request → Request
@@ -126,6 +142,10 @@ with-convention convention s =
       third = s .third;
       last = s .last;
       value = s .value;
+      wanted = s .wanted;
+      «wanted_at» = s .«wanted_at»;
+      «chosen_at» = s .«chosen_at»;
+      «entry_at» = s .«entry_at»;
     }
 
 abbrev pub with-edition : ℕ → Request → Request
@@ -149,6 +169,10 @@ with-edition edition s =
       third = s .third;
       last = s .last;
       value = s .value;
+      wanted = s .wanted;
+      «wanted_at» = s .«wanted_at»;
+      «chosen_at» = s .«chosen_at»;
+      «entry_at» = s .«entry_at»;
     }
 
 abbrev pub with-parts : Request → Request
@@ -172,6 +196,10 @@ with-parts s =
       third = s .third;
       last = s .last;
       value = s .value;
+      wanted = s .wanted;
+      «wanted_at» = s .«wanted_at»;
+      «chosen_at» = s .«chosen_at»;
+      «entry_at» = s .«entry_at»;
     }
 
 abbrev pub with-profile : Request → Request
@@ -195,6 +223,10 @@ with-profile s =
       third = s .third;
       last = s .last;
       value = s .value;
+      wanted = s .wanted;
+      «wanted_at» = s .«wanted_at»;
+      «chosen_at» = s .«chosen_at»;
+      «entry_at» = s .«entry_at»;
     }
 
 abbrev pub with-settle : Request → Request
@@ -218,6 +250,10 @@ with-settle s =
       third = s .third;
       last = s .last;
       value = s .value;
+      wanted = s .wanted;
+      «wanted_at» = s .«wanted_at»;
+      «chosen_at» = s .«chosen_at»;
+      «entry_at» = s .«entry_at»;
     }
 
 abbrev pub with-exact : Request → Request
@@ -241,6 +277,10 @@ with-exact s =
       third = s .third;
       last = s .last;
       value = s .value;
+      wanted = s .wanted;
+      «wanted_at» = s .«wanted_at»;
+      «chosen_at» = s .«chosen_at»;
+      «entry_at» = s .«entry_at»;
     }
 
 abbrev pub with-goal : ℕ → ℕ → Request → Request
@@ -264,6 +304,10 @@ with-goal goal k s =
       third = s .third;
       last = s .last;
       value = s .value;
+      wanted = s .wanted;
+      «wanted_at» = s .«wanted_at»;
+      «chosen_at» = s .«chosen_at»;
+      «entry_at» = s .«entry_at»;
     }
 
 abbrev pub with-value : ℕ → Request → Request
@@ -287,6 +331,10 @@ with-value value s =
       third = s .third;
       last = s .last;
       value = value;
+      wanted = s .wanted;
+      «wanted_at» = s .«wanted_at»;
+      «chosen_at» = s .«chosen_at»;
+      «entry_at» = s .«entry_at»;
     }
 
 abbrev pub with-operand : ℕ → Request → Request
@@ -310,4 +358,89 @@ with-operand k s =
       third = at-first (s .operands) 2 (s .third) k;
       last = k;
       value = s .value;
+      wanted = s .wanted;
+      «wanted_at» = s .«wanted_at»;
+      «chosen_at» = s .«chosen_at»;
+      «entry_at» = s .«entry_at»;
+    }
+
+abbrev pub with-wanted : ℕ → ℕ → Request → Request
+with-wanted wanted k s =
+    record {
+      verb = s .verb;
+      help = s .help;
+      fault = s .fault;
+      «fault_at» = s .«fault_at»;
+      pending = 0;
+      convention = s .convention;
+      edition = s .edition;
+      parts = s .parts;
+      profile = s .profile;
+      settle = s .settle;
+      exact = s .exact;
+      goal = s .goal;
+      «goal_at» = s .«goal_at»;
+      operands = s .operands;
+      first = s .first;
+      third = s .third;
+      last = s .last;
+      value = s .value;
+      wanted = wanted;
+      «wanted_at» = k;
+      «chosen_at» = s .«chosen_at»;
+      «entry_at» = s .«entry_at»;
+    }
+
+abbrev pub with-chosen : ℕ → Request → Request
+with-chosen k s =
+    record {
+      verb = s .verb;
+      help = s .help;
+      fault = s .fault;
+      «fault_at» = s .«fault_at»;
+      pending = 0;
+      convention = s .convention;
+      edition = s .edition;
+      parts = s .parts;
+      profile = s .profile;
+      settle = s .settle;
+      exact = s .exact;
+      goal = s .goal;
+      «goal_at» = s .«goal_at»;
+      operands = s .operands;
+      first = s .first;
+      third = s .third;
+      last = s .last;
+      value = s .value;
+      wanted = s .wanted;
+      «wanted_at» = s .«wanted_at»;
+      «chosen_at» = k;
+      «entry_at» = s .«entry_at»;
+    }
+
+abbrev pub with-entry : ℕ → Request → Request
+with-entry k s =
+    record {
+      verb = s .verb;
+      help = s .help;
+      fault = s .fault;
+      «fault_at» = s .«fault_at»;
+      pending = s .pending;
+      convention = s .convention;
+      edition = s .edition;
+      parts = s .parts;
+      profile = s .profile;
+      settle = s .settle;
+      exact = s .exact;
+      goal = s .goal;
+      «goal_at» = s .«goal_at»;
+      operands = s .operands;
+      first = s .first;
+      third = s .third;
+      last = s .last;
+      value = s .value;
+      wanted = s .wanted;
+      «wanted_at» = s .«wanted_at»;
+      «chosen_at» = s .«chosen_at»;
+      «entry_at» = k;
     }

@@ -12,10 +12,12 @@ use Rattle.reference.specs.Text.{Text, bytes}
 unfoldable pub verbs : List Text
 verbs =
     bytes "clean" ∷ bytes "counts" ∷ bytes "check" ∷ bytes "show" ∷ bytes "tape" ∷ bytes "addresses" ∷ bytes "edition" ∷ bytes "offsets"
-    ∷ bytes "laborious" ∷ bytes "state" ∷ bytes "help" ∷ bytes "version" ∷ bytes "--version" ∷ bytes "page" ∷ []
+    ∷ bytes "laborious" ∷ bytes "state" ∷ bytes "help" ∷ bytes "version" ∷ bytes "--version" ∷ bytes "page" ∷ bytes "start" ∷ []
 
 unfoldable pub options : List Text
-options = bytes "-c" ∷ bytes "-e" ∷ bytes "--parts" ∷ bytes "--profile" ∷ bytes "--settle" ∷ bytes "-o" ∷ bytes "-d" ∷ bytes "--exact" ∷ []
+options =
+    bytes "-c" ∷ bytes "-e" ∷ bytes "--parts" ∷ bytes "--profile" ∷ bytes "--settle" ∷ bytes "-o" ∷ bytes "-d" ∷ bytes "--exact"
+    ∷ bytes "--return" ∷ bytes "--choose" ∷ []
 
 unfoldable pub helps : List Text
 helps = bytes "-h" ∷ bytes "--help" ∷ []
@@ -50,6 +52,7 @@ kinds =
     ++ bytes "-----"
     ++ bytes "-----"
     ++ bytes "f----"
+    ++ bytes "f----"
 
 unfoldable pub kind-of : ℕ → ℕ → ℕ
 kind-of verb operands = getD kinds (verb * 5 + min operands 4) 0
@@ -57,31 +60,32 @@ kind-of verb operands = getD kinds (verb * 5 + min operands 4) 0
 -- which options it takes, by their place; the last column stands for a word that is none
 unfoldable pub takings : Text
 takings =
-    bytes "---------"
-    ++ bytes "yyyyyyy--"
-    ++ bytes "yyyyy----"
-    ++ bytes "---------"
-    ++ bytes "-------y-"
-    ++ bytes "-----y---"
-    ++ bytes "-----y---"
-    ++ bytes "-----y---"
-    ++ bytes "-----y---"
-    ++ bytes "-----y---"
-    ++ bytes "-----y---"
-    ++ bytes "---------"
-    ++ bytes "---------"
-    ++ bytes "---------"
-    ++ bytes "yyyyyy---"
+    bytes "-----------"
+    ++ bytes "yyyyyyy----"
+    ++ bytes "yyyyy------"
+    ++ bytes "-----------"
+    ++ bytes "-------y---"
+    ++ bytes "-----y-----"
+    ++ bytes "-----y-----"
+    ++ bytes "-----y-----"
+    ++ bytes "-----y-----"
+    ++ bytes "-----y-----"
+    ++ bytes "-----y-----"
+    ++ bytes "-----------"
+    ++ bytes "-----------"
+    ++ bytes "-----------"
+    ++ bytes "yyyyyy-----"
+    ++ bytes "--------yy-"
 
 unfoldable pub taking : ℕ → ℕ → ℕ
-taking verb option = getD takings (verb * 9 + min option 8) 0
+taking verb option = getD takings (verb * 11 + min option 10) 0
 
 -- how many operands it needs and takes; 9 as many as `kinds` has. The last four rows are those of `state`, by its action
 abbrev pub row-of : ℕ → ℕ → ℕ
-row-of verb value = if eqb verb 10 then 15 + min value 3 else verb
+row-of verb value = if eqb verb 10 then 16 + min value 3 else verb
 
 unfoldable pub fewest : ℕ → ℕ → ℕ
-fewest verb value = getD (0 ∷ 0 ∷ 0 ∷ 0 ∷ 0 ∷ 0 ∷ 0 ∷ 1 ∷ 1 ∷ 1 ∷ 0 ∷ 0 ∷ 0 ∷ 0 ∷ 0 ∷ 2 ∷ 3 ∷ 3 ∷ 3 ∷ []) (row-of verb value) 0
+fewest verb value = getD (0 ∷ 0 ∷ 0 ∷ 0 ∷ 0 ∷ 0 ∷ 0 ∷ 1 ∷ 1 ∷ 1 ∷ 0 ∷ 0 ∷ 0 ∷ 0 ∷ 0 ∷ 0 ∷ 2 ∷ 3 ∷ 3 ∷ 3 ∷ []) (row-of verb value) 0
 
 unfoldable pub most : ℕ → ℕ → ℕ
-most verb value = getD (9 ∷ 9 ∷ 9 ∷ 9 ∷ 9 ∷ 9 ∷ 9 ∷ 9 ∷ 9 ∷ 9 ∷ 9 ∷ 9 ∷ 9 ∷ 9 ∷ 9 ∷ 2 ∷ 4 ∷ 3 ∷ 3 ∷ []) (row-of verb value) 0
+most verb value = getD (9 ∷ 9 ∷ 9 ∷ 9 ∷ 9 ∷ 9 ∷ 9 ∷ 9 ∷ 9 ∷ 9 ∷ 9 ∷ 9 ∷ 9 ∷ 9 ∷ 9 ∷ 9 ∷ 2 ∷ 4 ∷ 3 ∷ 3 ∷ []) (row-of verb value) 0

@@ -1,11 +1,11 @@
 -- Operands that stand for a number. Assumes nothing.
-use Prim.Native.Nat.{ℕ, _+_, _-_, _*_}
+use Prim.Native.Nat.{ℕ, _+_, _-_, _*_, _^_}
 use mathlib.Core.Bool.{Bool, false}
 use mathlib.Core.List.{List, [], _∷_}
 use mathlib.Core.Option.{Option, none, some}
 use lib.Dec.{eqb, ltb, leb}
 use lib.ListN.{length, drop}
-use Rattle.reference.specs.Control.{if_then_else_}
+use Rattle.reference.specs.Control.{if_then_else_, let-some_else_then_}
 use Rattle.reference.specs.Text.{Text, bytes, starts-with}
 use Rattle.arguments.specs.Words.{number-of}
 use Rattle.arguments.specs.Tables.{verbs, editions, actions}
@@ -39,6 +39,31 @@ below n count = if ltb n count then some n else none
 unfoldable pub base-in : Text → Option ℕ
 base-in w = if starts-with w (bytes "0x") then number-in 16 (drop 2 w) else number-in 16 w
 
+-- ---- what a 64-bit register can hold
+
+unfoldable pub within-64 : Option ℕ → Option ℕ
+within-64 o = let-some o else none then λ v. if ltb v (2 ^ 64) then some v else none
+
+-- one digit or more
+unfoldable pub unsigned-in : ℕ → Text → Option ℕ
+unsigned-in base w = if eqb (length w) 0 then none else within-64 (digits-from base 0 w)
+
+-- decimal, or hexadecimal behind 0x
+unfoldable pub magnitude-in : Text → Option ℕ
+magnitude-in w = if starts-with w (bytes "0x") then unsigned-in 16 (drop 2 w) else unsigned-in 10 w
+
+-- a number behind a minus, down to -2^63, as two's complement has it
+unfoldable pub negated : ℕ → Option ℕ
+negated v = if eqb v 0 then some 0 else if ltb (2 ^ 63) v then none else some (2 ^ 64 - v)
+
+unfoldable pub negative-in : Text → Option ℕ
+negative-in w = let-some magnitude-in w else none then λ v. negated v
+
+unfoldable pub integer-in : Text → Option ℕ
+integer-in w = if starts-with w (bytes "-") then negative-in (drop 1 w) else magnitude-in w
+
+-- ----
+
 -- a name has 1 to 8 bytes
 unfoldable pub is-name : Text → Bool
 is-name w = if eqb (length w) 0 then false else ltb (length w) 9
@@ -47,5 +72,5 @@ is-name w = if eqb (length w) 0 then false else ltb (length w) 9
 unfoldable pub value-of : ℕ → Text → Option ℕ
 value-of kind w =
     if eqb kind 101 then below (number-of editions w) 2 else if eqb kind 97 then below (number-of actions w) 4
-    else if eqb kind 118 then below (number-of verbs w) 14 else if eqb kind 98 then base-in w else if eqb kind 110 then number-in 10 w
+    else if eqb kind 118 then below (number-of verbs w) 15 else if eqb kind 98 then base-in w else if eqb kind 110 then number-in 10 w
     else none

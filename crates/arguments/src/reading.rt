@@ -1,4 +1,7 @@
 // The words of a request, one after the other.
+use crate::entries::entry_value;
+use crate::entries::is_entry;
+use crate::entries::put_taken;
 use crate::request::Request;
 use crate::tables::convention_number;
 use crate::tables::edition_number;
@@ -10,15 +13,20 @@ use crate::tables::option_number;
 use crate::tables::taking;
 use crate::tables::verb_number;
 use crate::values::Value;
+use crate::values::integer_in;
 use crate::values::is_name;
 use crate::values::value_of;
 use crate::words::word_end;
 ghost use mathlib.Core.Path.{_≡_};
 ghost use Rattle.arguments.specs.Words.{split, number-of};
 ghost use Rattle.arguments.specs.Tables.{verbs, options, conventions, editions, kind-of};
-ghost use Rattle.arguments.specs.Requests.{none-yet, is-option, put-verb, take-goal, put-convention, put-edition, take-value};
-ghost use Rattle.arguments.specs.Requests.{set-option, put-option, take-number, take-name, put-operand, step-of};
-ghost use Rattle.arguments.specs.Requests.{judge-files, judge-goal, judge-operands, judged, request-of};
+ghost use Rattle.arguments.specs.Requests.{none-yet, is-option, put-verb, take-goal, put-convention, put-edition};
+ghost use Rattle.arguments.specs.Requests.{put-wanted, take-wanted, take-chosen, take-value};
+ghost use Rattle.arguments.specs.Requests.{set-option, put-option, take-number, take-name, put-operand, take-entry, take-operand};
+ghost use Rattle.arguments.specs.Requests.{step-of, judge-files, judge-goal, judge-start, judge-operands, judged, request-of, entries-of};
+ghost use Prim.Native.Nat.{_+_, _*_, _≤_};
+ghost use lib.ListN.{length};
+ghost use Rattle.numbers.specs.Writing.{Written};
 
 // Before the first word: nothing is asked for; the settings are System V and the edition of 2018.
 pub fn begin() -> Request
@@ -43,6 +51,10 @@ pub fn begin() -> Request
         third: 0,
         last: 0,
         value: 0,
+        wanted: 0,
+        wanted_at: 0,
+        chosen_at: 0,
+        entry_at: 0,
     }
 }
 
@@ -50,7 +62,7 @@ pub fn begin() -> Request
 fn put_verb(s: Request, k: u64, n: u64) -> Request
     ensures { λ r. ⌜ r ≡ put-verb s k n ⌝ }
 {
-    if n < 14 {
+    if n < 15 {
         return s.with_verb(n + 1);
     }
     s.with_fault(1, k)
@@ -102,7 +114,36 @@ fn take_edition(s: Request, k: u64, word: &[u8]) -> Request
     put_edition(s, k, edition_number(word))
 }
 
-// Word k is the value of the option before it: -c, -e, -o or -d.
+// Word k is the value that is to be returned.
+fn put_wanted(s: Request, k: u64, word: &[u8]) -> Request
+    ensures { λ r. ⌜ r ≡ put-wanted s k (now (word .entry)) ⌝ }
+{
+    match integer_in(word) {
+        Value::Is(v) => s.with_wanted(v, k),
+        Value::Not => s.with_fault(3, k),
+    }
+}
+
+fn take_wanted(s: Request, k: u64, word: &[u8]) -> Request
+    ensures { λ r. ⌜ r ≡ take-wanted s k (now (word .entry)) ⌝ }
+{
+    if s.wanted_at == 0 {
+        return put_wanted(s, k, word);
+    }
+    s.with_fault(10, k)
+}
+
+// Word k names the register whose start value is asked for.
+fn take_chosen(s: Request, k: u64) -> Request
+    ensures { λ r. ⌜ r ≡ take-chosen s k ⌝ }
+{
+    if s.chosen_at == 0 {
+        return s.with_chosen(k);
+    }
+    s.with_fault(10, k)
+}
+
+// Word k is the value of the option before it: -c, -e, -o, -d, --return or --choose.
 fn take_value(s: Request, k: u64, word: &[u8]) -> Request
     ensures { λ r. ⌜ r ≡ take-value s k (now (word .entry)) ⌝ }
 {
@@ -115,7 +156,13 @@ fn take_value(s: Request, k: u64, word: &[u8]) -> Request
     if s.pending == 6 {
         return take_goal(s, 1, k);
     }
-    take_goal(s, 2, k)
+    if s.pending == 7 {
+        return take_goal(s, 2, k);
+    }
+    if s.pending == 9 {
+        return take_wanted(s, k, word);
+    }
+    take_chosen(s, k)
 }
 
 // What an option that the verb takes asks for: a setting, or that its value comes next.
@@ -134,7 +181,7 @@ fn set_option(s: Request, n: u64) -> Request
     if n == 7 {
         return s.with_exact();
     }
-    if n < 9 {
+    if n < 10 {
         return s.with_pending(n + 1);
     }
     s
@@ -192,10 +239,33 @@ fn put_operand(s: Request, k: u64, kind: u8, word: &[u8]) -> Request
     take_number(s, k, kind, word)
 }
 
-fn take_operand(s: Request, k: u64, word: &[u8]) -> Request
+fn next_operand(s: Request, k: u64, word: &[u8]) -> Request
     ensures { λ r. ⌜ r ≡ put-operand s k (kind-of (s .verb) (s .operands)) (now (word .entry)) ⌝ }
 {
     put_operand(s, k, kind_of(s.verb, s.operands), word)
+}
+
+// Word k is REG=VALUE.
+fn take_entry(s: Request, k: u64, word: &[u8]) -> Request
+    ensures { λ r. ⌜ r ≡ take-entry s k (now (word .entry)) ⌝ }
+{
+    match entry_value(word) {
+        Value::Is(v) => s.with_entry(k),
+        Value::Not => s.with_fault(12, k),
+    }
+}
+
+// Word k is an operand; of `start` it may be an entry.
+fn take_operand(s: Request, k: u64, word: &[u8]) -> Request
+    ensures { λ r. ⌜ r ≡ take-operand s k (now (word .entry)) ⌝ }
+{
+    if s.verb != 15 {
+        return next_operand(s, k, word);
+    }
+    if is_entry(word) {
+        return take_entry(s, k, word);
+    }
+    next_operand(s, k, word)
 }
 
 // An option begins with a -; a - alone is standard input.
@@ -255,7 +325,23 @@ fn judge_goal(s: Request) -> Request
     s.with_fault(2, s.goal_at)
 }
 
-// How many operands there are, and what -o stands beside.
+// `start` needs --return and --choose.
+fn judge_start(s: Request) -> Request
+    ensures { λ r. ⌜ r ≡ judge-start s ⌝ }
+{
+    if s.verb != 15 {
+        return s;
+    }
+    if s.wanted_at == 0 {
+        return s.with_fault(11, 0);
+    }
+    if s.chosen_at == 0 {
+        return s.with_fault(11, 0);
+    }
+    s
+}
+
+// How many operands there are, what -o stands beside, and which options are needed.
 fn judge_operands(s: Request) -> Request
     ensures { λ r. ⌜ r ≡ judge-operands s ⌝ }
 {
@@ -268,7 +354,7 @@ fn judge_operands(s: Request) -> Request
     if s.goal == 1 {
         return judge_goal(s);
     }
-    s
+    judge_start(s)
 }
 
 // What is wrong with all the words together, where none is wrong by itself.
@@ -301,4 +387,23 @@ pub fn parse(words: &[u8]) -> Request
         at = e + 1;
     }
     judge(s)
+}
+
+// Puts the entries of a slice of words at the front, as the list that crate start takes, and says how long it is.
+pub fn put_entries(words: &[u8], out: &mut [u8]) -> usize
+    requires { ⌜ 9 * length (now words) + 9 ≤ length (now out) ⌝ }
+    ensures { λ r. ⌜ Written (now (out .entry)) 0 (entries-of (split (now (words .entry)))) (now (out .exit)) r ⌝ }
+{
+    let mut s = begin();
+    let mut k: u64 = 1;
+    let mut at = 0;
+    let mut end = 0;
+    while at < words.len() {
+        let e = word_end(words, at);
+        s = step(s, k, &words[at..e]);
+        end = put_taken(s.entry_at == k, &words[at..e], out, end);
+        k += 1;
+        at = e + 1;
+    }
+    end
 }

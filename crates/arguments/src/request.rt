@@ -2,7 +2,7 @@
 ghost use mathlib.Core.Path.{_≡_};
 ghost use Rattle.arguments.specs.Request.{with-help, with-fault, with-verb, with-pending, with-convention, with-edition};
 ghost use Rattle.arguments.specs.Request.{with-parts, with-profile, with-settle, with-exact, with-goal, with-operand, with-value};
-ghost use Rattle.arguments.specs.Request.{one-more, at-first};
+ghost use Rattle.arguments.specs.Request.{with-wanted, with-chosen, with-entry, one-more, at-first};
 
 pub struct Request {
     pub verb: u64, // what is to be done, by its place in the row of verbs, from 1
@@ -23,6 +23,10 @@ pub struct Request {
     pub third: u64,
     pub last: u64,
     pub value: u64, // of the operand that stands for a number
+    pub wanted: u64, // of --return, and the words that are its value and that of --choose
+    pub wanted_at: u64,
+    pub chosen_at: u64,
+    pub entry_at: u64, // the last operand that is an entry, REG=VALUE
 }
 
 impl Request {
@@ -115,6 +119,30 @@ impl Request {
         self
     }
 
+    pub fn with_wanted(mut self, wanted: u64, k: u64) -> Self
+        ensures { λ r. ⌜ r ≡ with-wanted wanted k self ⌝ }
+    {
+        self.pending = 0;
+        self.wanted = wanted;
+        self.wanted_at = k;
+        self
+    }
+
+    pub fn with_chosen(mut self, k: u64) -> Self
+        ensures { λ r. ⌜ r ≡ with-chosen k self ⌝ }
+    {
+        self.pending = 0;
+        self.chosen_at = k;
+        self
+    }
+
+    pub fn with_entry(mut self, k: u64) -> Self
+        ensures { λ r. ⌜ r ≡ with-entry k self ⌝ }
+    {
+        self.entry_at = k;
+        self
+    }
+
     // One operand more: word k.
     pub fn with_operand(self, k: u64) -> Self
         ensures { λ r. ⌜ r ≡ with-operand k self ⌝ }
@@ -138,6 +166,10 @@ impl Request {
             third: at_first(self.operands, 2, self.third, k),
             last: k,
             value: self.value,
+            wanted: self.wanted,
+            wanted_at: self.wanted_at,
+            chosen_at: self.chosen_at,
+            entry_at: self.entry_at,
         }
     }
 }

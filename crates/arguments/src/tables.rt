@@ -12,7 +12,7 @@ pub fn verb_number(word: &[u8]) -> u64
     ensures { λ r. ⌜ r ≡ number-of verbs (now (word .entry)) ⌝ }
 {
     number_of(
-        b"clean\0counts\0check\0show\0tape\0addresses\0edition\0offsets\0laborious\0state\0help\0version\0--version\0page\0",
+        b"clean\0counts\0check\0show\0tape\0addresses\0edition\0offsets\0laborious\0state\0help\0version\0--version\0page\0start\0",
         word,
     )
 }
@@ -21,7 +21,7 @@ pub fn option_number(word: &[u8]) -> u64
     ensures { λ r. ⌜ r ≡ number-of options (now (word .entry)) ⌝ }
 {
     number_of(
-        b"-c\0-e\0--parts\0--profile\0--settle\0-o\0-d\0--exact\0",
+        b"-c\0-e\0--parts\0--profile\0--settle\0-o\0-d\0--exact\0--return\0--choose\0",
         word,
     )
 }
@@ -65,7 +65,7 @@ fn entry(table: &[u8], i: u64) -> u8
 pub fn kind_of(verb: u64, operands: u64) -> u8
     ensures { λ r. ⌜ r ≡ kind-of verb operands ⌝ }
 {
-    if 14 < verb {
+    if 15 < verb {
         return 0;
     }
     entry(
@@ -83,6 +83,7 @@ pub fn kind_of(verb: u64, operands: u64) -> u8
           v----\
           -----\
           -----\
+          f----\
           f----",
         verb * 5 + least_of(operands, 4),
     )
@@ -92,36 +93,37 @@ pub fn kind_of(verb: u64, operands: u64) -> u8
 pub fn taking(verb: u64, option: u64) -> u8
     ensures { λ r. ⌜ r ≡ taking verb option ⌝ }
 {
-    if 14 < verb {
+    if 15 < verb {
         return 0;
     }
     entry(
-        b"---------\
-          yyyyyyy--\
-          yyyyy----\
-          ---------\
-          -------y-\
-          -----y---\
-          -----y---\
-          -----y---\
-          -----y---\
-          -----y---\
-          -----y---\
-          ---------\
-          ---------\
-          ---------\
-          yyyyyy---",
-        verb * 9 + least_of(option, 8),
+        b"-----------\
+          yyyyyyy----\
+          yyyyy------\
+          -----------\
+          -------y---\
+          -----y-----\
+          -----y-----\
+          -----y-----\
+          -----y-----\
+          -----y-----\
+          -----y-----\
+          -----------\
+          -----------\
+          -----------\
+          yyyyyy-----\
+          --------yy-",
+        verb * 11 + least_of(option, 10),
     )
 }
 
 fn action_row(value: u64) -> u64
-    ensures { λ r. ⌜ r ≡ 15 + min value 3 ⌝ }
+    ensures { λ r. ⌜ r ≡ 16 + min value 3 ⌝ }
 {
     if value < 3 {
-        return 15 + value;
+        return 16 + value;
     }
-    18
+    19
 }
 
 // The row of a verb and, for `state`, of its action, in the two tables below.
@@ -139,7 +141,7 @@ pub fn fewest(verb: u64, value: u64) -> u64
     ensures { λ r. ⌜ r ≡ fewest verb value ⌝ }
 {
     wide(entry(
-        b"\x00\x00\x00\x00\x00\x00\x00\x01\x01\x01\x00\x00\x00\x00\x00\x02\x03\x03\x03",
+        b"\x00\x00\x00\x00\x00\x00\x00\x01\x01\x01\x00\x00\x00\x00\x00\x00\x02\x03\x03\x03",
         row_of(verb, value),
     ))
 }
@@ -149,7 +151,7 @@ pub fn most(verb: u64, value: u64) -> u64
     ensures { λ r. ⌜ r ≡ most verb value ⌝ }
 {
     wide(entry(
-        b"\x09\x09\x09\x09\x09\x09\x09\x09\x09\x09\x09\x09\x09\x09\x09\x02\x04\x03\x03",
+        b"\x09\x09\x09\x09\x09\x09\x09\x09\x09\x09\x09\x09\x09\x09\x09\x09\x02\x04\x03\x03",
         row_of(verb, value),
     ))
 }

@@ -4,11 +4,12 @@ use crate::tables::edition_number;
 use crate::tables::verb_number;
 use tape::little_endian::wide;
 ghost use mathlib.Core.Path.{_≡_};
-ghost use Prim.Native.Nat.{_+_, _*_, _≤_};
+ghost use Prim.Native.Nat.{_+_, _*_, _≤_, _<_};
 ghost use lib.ListN.{length};
 ghost use Rattle.arguments.specs.Words.{number-of};
 ghost use Rattle.arguments.specs.Tables.{verbs, editions, actions};
 ghost use Rattle.arguments.specs.Values.{option-of, digit, number-in, below, base-in, is-name, value-of};
+ghost use Rattle.arguments.specs.Values.{unsigned-in, magnitude-in, negated, negative-in, integer-in};
 
 // What an operand stands for, if it is as it should be.
 pub enum Value {
@@ -85,6 +86,76 @@ fn base_in(word: &[u8]) -> Value
     number_in(word, 16)
 }
 
+// The largest number of 64 bits.
+const MOST: u64 = 18446744073709551615;
+
+// The number below 2^64 that a word of digits stands for.
+fn unsigned_in(word: &[u8], base: u64) -> Value
+    requires { ⌜ (0 < base) × (base ≤ 16) ⌝ }
+    ensures { λ r. ⌜ option-of r ≡ unsigned-in base (now (word .entry)) ⌝ }
+{
+    if word.len() == 0 {
+        return Value::Not;
+    }
+    let mut v: u64 = 0;
+    let mut i = 0;
+    while i < word.len() {
+        let d = digit(wide(word[i]));
+        if base <= d {
+            return Value::Not;
+        }
+        if (MOST - d) / base < v {
+            return Value::Not;
+        }
+        v = v * base + d;
+        i += 1;
+    }
+    Value::Is(v)
+}
+
+// The same, decimal, or hexadecimal behind 0x.
+fn magnitude_in(word: &[u8]) -> Value
+    ensures { λ r. ⌜ option-of r ≡ magnitude-in (now (word .entry)) ⌝ }
+{
+    if text::starts(word, b"0x") {
+        return unsigned_in(&word[2..], 16);
+    }
+    unsigned_in(word, 10)
+}
+
+// A number behind a minus, as two's complement has it.
+fn negated(v: u64) -> Value
+    ensures { λ r. ⌜ option-of r ≡ negated v ⌝ }
+{
+    if v == 0 {
+        return Value::Is(0);
+    }
+    if 9223372036854775808 < v {
+        return Value::Not;
+    }
+    Value::Is(MOST - v + 1)
+}
+
+// The same of a word.
+fn negative_in(word: &[u8]) -> Value
+    ensures { λ r. ⌜ option-of r ≡ negative-in (now (word .entry)) ⌝ }
+{
+    match magnitude_in(word) {
+        Value::Is(v) => negated(v),
+        Value::Not => Value::Not,
+    }
+}
+
+// What a 64-bit register can hold: 0 to 2^64 - 1, or -1 to -2^63.
+pub fn integer_in(word: &[u8]) -> Value
+    ensures { λ r. ⌜ option-of r ≡ integer-in (now (word .entry)) ⌝ }
+{
+    if text::starts(word, b"-") {
+        return negative_in(&word[1..]);
+    }
+    magnitude_in(word)
+}
+
 // A name has 1 to 8 bytes.
 pub fn is_name(word: &[u8]) -> bool
     ensures { λ r. ⌜ r ≡ is-name (now (word .entry)) ⌝ }
@@ -108,9 +179,9 @@ fn action_in(word: &[u8]) -> Value
 }
 
 fn verb_in(word: &[u8]) -> Value
-    ensures { λ r. ⌜ option-of r ≡ below (number-of verbs (now (word .entry))) 14 ⌝ }
+    ensures { λ r. ⌜ option-of r ≡ below (number-of verbs (now (word .entry))) 15 ⌝ }
 {
-    below(verb_number(word), 14)
+    below(verb_number(word), 15)
 }
 
 // What an operand of a kind stands for (the kinds of `kind_of`).

@@ -35,7 +35,9 @@ fn put_verb(fd: i32, verb: u64) {
           \x20 help [WORD]                                  this, or what is told of one word\n\0\
           \x20 version                                      the version\n\0\
           \0\
-          \x20 page [SETTINGS] [FILE] [-o OUT]              before and after side by side, one HTML page\n\0",
+          \x20 page [SETTINGS] [FILE] [-o OUT]              before and after side by side, one HTML page\n\0\
+          \x20 start --return V --choose REG [REG=V..] [FILE]\n\
+          \x20                                              the smallest start value of a register for which a formula returns V\n\0",
         verb,
     );
     io::write_all(fd, lines);
@@ -51,6 +53,9 @@ fn put_rest() {
           \x20 --parts             ah is not al: parts of a register are kept apart\n\
           \x20 --profile           only straight pieces, whose returned value is kept\n\
           \x20 --settle            rounds until one changes nothing\n\
+          V is a decimal number, or hexadecimal behind 0x, from 0 to 2^64-1; -1 to -2^63 are taken as a register holds them.\n\
+          An operand of start with a = in it gives a register its value, the others start with 0; a file that has a = in its\n\
+          name is given with its path, as ./a=b: what begins with . or / is always a file.\n\
           A FILE is a tape; - or none is standard input. Results go to standard output, or with -o to the file OUT,\n\
           with -d to files of the same names in the folder DIR; a file is written whole or not at all. What is refused is\n\
           told on standard error with the file's name, and the others are still done; the exit status is then 1.\n",
@@ -63,6 +68,7 @@ fn help_all() {
     put_verb(STDOUT_FILENO, 1);
     put_verb(STDOUT_FILENO, 2);
     put_verb(STDOUT_FILENO, 14);
+    put_verb(STDOUT_FILENO, 15);
     let mut verb = 3;
     while verb < 13 {
         put_verb(STDOUT_FILENO, verb);
@@ -81,7 +87,7 @@ pub(crate) fn help(verb: u64) {
         help_all();
         return;
     }
-    if 14 < verb {
+    if 15 < verb {
         help_all();
         return;
     }
@@ -101,7 +107,10 @@ fn tell_fault(fault: u64) {
           is not what must stand here\0\
           a word is missing at the end\0\
           the value of the last option is missing\0\
-          takes the result of one file only; -d takes several\0",
+          takes the result of one file only; -d takes several\0\
+          is a second value for the option before it\0\
+          --return and --choose must both be given\0\
+          is no REG=V with a value V of 64 bits\0",
         fault,
     );
     tell(words);

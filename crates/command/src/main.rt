@@ -3,16 +3,9 @@
 // What the words ask for is read by crate arguments, and what is written of a reply is made by crate reports; the work is the library's.
 // Here stands only what reads, writes and prints. A program has no exit status: whatever is written to standard error is an error, and the
 // wrapper says 1 then.
-//
-// One verb is still to come, `start`: a word more in crate arguments (tables), a line in help.rt and a case in `work`.
 mod files; // reading and writing files
-mod frame; // the page: its constant parts
 mod help; // the help, and wrong use
-mod listing; // a tape as text
-mod rows; // the page: the two listings
-mod sheet; // the page: the field engineer's sheet
-mod sink; // where the page goes
-mod walk; // lines and tokens by their offsets
+mod sink; // the file that the page goes to
 
 use answers::Answer;
 use arguments::Request;
@@ -32,10 +25,12 @@ use files::write_output;
 use libc::STDERR_FILENO;
 use libc::STDOUT_FILENO;
 use lines::rules::Rules;
-use listing::put_listing;
-use listing::put_tape;
+use listing_text::Made;
+use listing_text::put_listing;
+use listing_text::put_tape;
+use render::Sink;
+use render::put_page;
 use rounds::Tally;
-use sink::Sink;
 use sink::close_goal;
 use sink::open_goal;
 use tape::questions::Checked;
@@ -253,29 +248,16 @@ fn addresses_one(words: &[u8], s: Request, name: &[u8], tape: &[u8]) {
 fn show_one(s: Request, name: &[u8], tape: &[u8]) {
     let mut out = [0u8; 262144];
     let shown = put_listing(tape, s.exact, &mut out);
-    write_output(front(&out, shown.length));
+    if shown.whole {
+        write_output(front(&out, shown.length));
+    }
     if shown.number != 0 {
         tell_refusal(name, shown.number, shown.place as u64);
     }
 }
 
-// The tape of a text in the exact form; what is no tape is refused as one.
-fn tape_one(words: &[u8], s: Request, name: &[u8], text: &[u8]) {
-    if 131072 <= text.len() {
-        tell_name(name);
-        tell(b"the text is too long\n");
-        return;
-    }
-    let mut out = [0u8; 131072];
-    let made = put_tape(text, &mut out);
-    if made.length == NOTHING {
-        tell_name(name);
-        tell(b"line ");
-        io::print_decimal(STDERR_FILENO, made.line);
-        tell(b", counted from 0, is not as show --exact prints it\n");
-        return;
-    }
-    let tape = front(&out, made.length);
+// A tape that was made of a text; what is no tape is refused as one.
+fn deliver_made(words: &[u8], s: Request, name: &[u8], tape: &[u8]) {
     let mut again = [0u8; 262144];
     let shown = put_listing(tape, true, &mut again);
     if shown.number != 0 {
@@ -287,26 +269,30 @@ fn tape_one(words: &[u8], s: Request, name: &[u8], text: &[u8]) {
     deliver(words, s, name, tape);
 }
 
-// The page of a cleaning, piece by piece.
-fn put_page(
-    sink: Sink,
-    s: Request,
-    name: &[u8],
-    tape: &[u8],
-    fin: &[u8],
-    tally: Tally,
-    removed: u64,
-    cut: u64,
-) -> Sink {
-    let mut places = [0u64; 256];
-    let mut t = frame::put_head(sink, name);
-    t = rows::put_rows(t, rules_of(s), tape, fin, &mut places);
-    t = frame::put_middle(t);
-    t = sheet::put_sheet(t, s, tape, fin, tally, removed, cut, &places);
-    frame::put_foot(t)
+// The tape of a text in the exact form.
+fn tape_one(words: &[u8], s: Request, name: &[u8], text: &[u8]) {
+    if 131072 <= text.len() {
+        tell_name(name);
+        tell(b"the text is too long\n");
+        return;
+    }
+    let mut out = [0u8; 131072];
+    match put_tape(text, &mut out) {
+        Made::Whole(length) => deliver_made(words, s, name, front(&out, length)),
+        Made::Full => {
+            tell_name(name);
+            tell(b"the tape of this text is too long\n");
+        }
+        Made::Wrong(line) => {
+            tell_name(name);
+            tell(b"line ");
+            io::print_decimal(STDERR_FILENO, line);
+            tell(b", counted from 0, is not as show --exact prints it\n");
+        }
+    }
 }
 
-// The same to standard output.
+// The page of a cleaning, to standard output.
 fn print_page(
     s: Request,
     name: &[u8],
@@ -320,7 +306,7 @@ fn print_page(
         fd: STDOUT_FILENO,
         done: true,
     };
-    let after = put_page(sink, s, name, tape, fin, tally, removed, cut);
+    let after = put_page(sink, s, rules_of(s), name, tape, fin, tally, removed, cut);
     if !after.done {
         os::fail(b"standard output");
     }
@@ -346,7 +332,7 @@ fn write_page(
         fd: goal.fd,
         done: true,
     };
-    let after = put_page(sink, s, name, tape, fin, tally, removed, cut);
+    let after = put_page(sink, s, rules_of(s), name, tape, fin, tally, removed, cut);
     close_goal(goal, path, &beside, after.done);
 }
 
@@ -398,8 +384,45 @@ fn page_one(words: &[u8], s: Request, name: &[u8], tape: &[u8]) {
     }
 }
 
+// The line of a start value.
+fn print_start(chosen: &[u8], v: u64) {
+    let mut line = [0u8; 65581];
+    if 65536 < chosen.len() {
+        return;
+    }
+    let n = reports::put_start(chosen, v, &mut line);
+    write_output(front(&line, n));
+}
+
+// Puts the list of the words' entries, and answers how long it is; NOTHING where there is no room for those of so many words.
+fn put_list(words: &[u8], list: &mut [u8]) -> usize {
+    let room = list.len();
+    if room < 9 {
+        return NOTHING;
+    }
+    if room / 9 - 1 < words.len() {
+        return NOTHING;
+    }
+    arguments::put_entries(words, list)
+}
+
+// The smallest start value of the chosen register.
+fn start_one<'a>(words: &'a [u8], s: Request, name: &[u8], tape: &'a [u8]) {
+    let mut list = [0u8; 589833];
+    let n = put_list(words, &mut list);
+    if n == NOTHING {
+        tell(b"puchkewa: the words of start have more than 65,536 bytes\n");
+        return;
+    }
+    let chosen = word(words, s.chosen_at);
+    match start::start_value(tape, chosen, front(&list, n), s.wanted) {
+        Answer::Refused { number, place } => tell_refusal(name, number, place as u64),
+        Answer::Passed(v) => print_start(chosen, v),
+    }
+}
+
 // What is done with the bytes of a file.
-fn work(words: &[u8], s: Request, name: &[u8], tape: &[u8]) {
+fn work<'a>(words: &'a [u8], s: Request, name: &[u8], tape: &'a [u8]) {
     let verb = s.verb;
     match verb {
         1 => clean_one(words, s, name, tape),
@@ -411,6 +434,7 @@ fn work(words: &[u8], s: Request, name: &[u8], tape: &[u8]) {
         7 => edition_one(words, s, name, tape),
         8 => offsets_one(words, s, name, tape),
         14 => page_one(words, s, name, tape),
+        15 => start_one(words, s, name, tape),
         _ => {}
     }
 }
@@ -452,10 +476,27 @@ fn each_file(words: &[u8], s: Request) {
     }
 }
 
+// Whether each result has a file of its own: with -d two files of one base name would be written to one, which is told.
+fn go_apart(words: &[u8], s: Request) -> bool {
+    if s.goal != 2 {
+        return true;
+    }
+    let k = arguments::clash(words);
+    if k == 0 {
+        return true;
+    }
+    tell(b"puchkewa: ");
+    tell(word(words, k));
+    tell(b" has the base name of another file, and -d would write both to one; nothing was done\n");
+    false
+}
+
 fn all_files(words: &[u8], s: Request) {
     if s.operands == 0 {
         one_file(words, s, b"-");
-    } else {
+        return;
+    }
+    if go_apart(words, s) {
         each_file(words, s);
     }
 }
@@ -469,7 +510,7 @@ fn laborious(words: &[u8], s: Request) {
 }
 
 fn version() {
-    write_output(b"puchkewa 0.14.0\n");
+    write_output(b"puchkewa 0.15.0\n");
 }
 
 // ---- named states
@@ -486,9 +527,15 @@ fn name_of(word: &[u8]) -> [u8; 8] {
     name
 }
 
-// The bytes of a name before its first 0.
+// The bytes of a name before its first 0; those that cannot be printed as \xHH.
 fn print_state_name(name: &[u8]) {
-    write_output(front(name, word_end(name, 0)));
+    let bytes = front(name, word_end(name, 0));
+    if 8 < bytes.len() {
+        return;
+    }
+    let mut shown = [0u8; 32];
+    let n = reports::put_visible(bytes, &mut shown);
+    write_output(front(&shown, n));
 }
 
 // One cell, if it is held: its name and the length of its tape.
@@ -635,14 +682,14 @@ fn run(words: &[u8], s: Request) {
     let verb = s.verb;
     match verb {
         1 | 2 | 3 => all_files(words, s),
-        4 | 5 | 6 | 14 => only_file(words, s, 0),
+        4 | 5 | 6 | 14 | 15 => only_file(words, s, 0),
         7 | 8 => only_file(words, s, 1),
         9 => laborious(words, s),
         10 => state(words, s),
         11 => {
             if s.operands == 0 {
                 help::help(0);
-            } else if s.value < 14 {
+            } else if s.value < 15 {
                 help::help(s.value + 1);
             }
         }

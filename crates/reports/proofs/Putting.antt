@@ -1,5 +1,5 @@
 -- Texts put one behind the other are the report. Assumes nothing.
-use Prim.Native.Nat.{ℕ, zero, suc, _+_, _≤_}
+use Prim.Native.Nat.{ℕ, zero, suc, _+_, _/_, _%_, _≤_}
 use native.Mathlib.Omega.{arith}
 use mathlib.Core.Path.{_≡_, refl, sym, ap, _∙_}
 use mathlib.Core.Bool.{Bool, true, false}
@@ -9,13 +9,14 @@ use lib.ListN.{length, getD, length-append}
 use borrow.Author.Tests.{leb-true}
 use Rattle.reference.specs.Control.{_&&_}
 use Rattle.reference.specs.Text.{Text, bytes}
-use Rattle.reference.proofs.Cases.{both}
-use Rattle.numbers.specs.Writing.{Written}
+use Rattle.reference.specs.Numbers.{digit-byte, digits}
+use Rattle.reference.proofs.Cases.{both, by-if}
+use Rattle.numbers.specs.Writing.{hexadecimal, Written}
 use Rattle.numbers.proofs.Writing.{written-then}
 use Rattle.printing.specs.Decimals.{decimal}
 use Rattle.printing.proofs.Decimals.{decimal-length}
 use Rattle.reference.specs.Run as R
-use Rattle.reports.specs.Reports.{meanings, meaning, refusal, three, settled, tallied, counts}
+use Rattle.reports.specs.Reports.{meanings, meaning, refusal, three, settled, tallied, counts, started}
 
 -- ---- no meaning is longer than 200 bytes
 
@@ -126,4 +127,37 @@ counts-put out n t m l h w₁ w₂ w₃ w₄ w₅ =
     let z : Text = bytes ", results cut " ++ decimal l in
     let same : s₄ ++ (10 ∷ []) ≡ counts n t m l =
     append-assoc s₃ z (10 ∷ []) ∙ append-assoc s₂ y (z ++ (10 ∷ [])) ∙ append-assoc s₁ (tallied t) (y ++ (z ++ (10 ∷ []))) ∙ simp append-assoc in
+    rw same at x₅
+
+-- ---- a start value
+
+sixteen-length : (f n : ℕ) (rest : Text) → length (digits f 16 n rest) ≤ f + length rest
+unfolding digits
+sixteen-length zero n rest = omega arith
+sixteen-length (suc f) n rest =
+    by-if (λ (r : Text). length r ≤ suc f + length rest) (λ e. omega arith) (λ e. omega (arith, sixteen-length f (n / 16) (digit-byte (n % 16) ∷ rest)))
+
+pub hexadecimal-length : (n : ℕ) → length (hexadecimal n) ≤ 16
+unfolding hexadecimal
+hexadecimal-length n = sixteen-length 16 n []
+
+pub started-put : {out : Text} (chosen : Text) (v : ℕ) → length chosen + 45 ≤ length out → {o₁ o₂ o₃ o₄ o₅ : Text} {a b c d r : ℕ}
+    → Written out 0 chosen o₁ a → Written o₁ a (bytes " = 0x") o₂ b → Written o₂ b (hexadecimal v) o₃ c → Written o₃ c (bytes " (" ++ decimal v) o₄ d
+    → Written o₄ d (41 ∷ 10 ∷ []) o₅ r → Written out 0 (started chosen v) o₅ r
+unfolding started
+started-put {out} chosen v h w₁ w₂ w₃ w₄ w₅ =
+    let i : length (decimal v) ≤ 20 = decimal-length v in
+    let j : length (hexadecimal v) ≤ 16 = hexadecimal-length v in
+    let n : Text = bytes " (" ++ decimal v in
+    let s₂ : Text = chosen ++ bytes " = 0x" in
+    let s₃ : Text = s₂ ++ hexadecimal v in
+    let s₄ : Text = s₃ ++ n in
+    let e₂ : length s₂ ≡ length chosen + 5 = length-append chosen (bytes " = 0x") in
+    let e₃ : length s₃ ≡ length s₂ + length (hexadecimal v) = length-append s₂ (hexadecimal v) in
+    let e₄ : length s₄ ≡ length s₃ + length n = length-append s₃ n in
+    let x₂ : Written out 0 s₂ _ _ = written-then out 0 chosen (bytes " = 0x") (omega arith) w₁ w₂ in
+    let x₃ : Written out 0 s₃ _ _ = written-then out 0 s₂ (hexadecimal v) (omega arith) x₂ w₃ in
+    let x₄ : Written out 0 s₄ _ _ = written-then out 0 s₃ n (omega arith) x₃ w₄ in
+    let x₅ : Written out 0 (s₄ ++ (41 ∷ 10 ∷ [])) _ _ = written-then out 0 s₄ (41 ∷ 10 ∷ []) (omega arith) x₄ w₅ in
+    let same : s₄ ++ (41 ∷ 10 ∷ []) ≡ started chosen v = simp append-assoc in
     rw same at x₅

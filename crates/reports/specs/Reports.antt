@@ -1,12 +1,16 @@
 -- What the command writes of a reply. Assumes nothing.
-use Prim.Native.Nat.{ℕ}
-use mathlib.Core.List.{List, [], _∷_, _++_}
+use Prim.Native.Nat.{ℕ, _/_, _%_}
+use mathlib.Core.List.{List, [], _∷_, _++_, flatMap}
+use lib.Dec.{eqb, ltb}
 use lib.ListN.{getD}
+use Rattle.reference.specs.Control.{if_then_else_}
 use Rattle.reference.specs.Text.{Text, bytes}
+use Rattle.reference.specs.Numbers.{digit-byte}
 use Rattle.reference.specs.Run as R
+use Rattle.numbers.specs.Writing.{hexadecimal}
 use Rattle.printing.specs.Decimals.{decimal}
 
--- what each question's refusal means, by its number, from docs/TAPE.md; nothing for 0 and for 15 and 16, which start values will have
+-- what each question's refusal means, by its number, from docs/TAPE.md; nothing for 0
 unfoldable pub meanings : List Text
 meanings =
     bytes ""
@@ -24,8 +28,8 @@ meanings =
     ∷ bytes "the Symbol at this offset is a keyword of C's edition of 2024"
     ∷ bytes "the Number at this offset is binary or has quotes, and the edition of 2024 does not read it"
     ∷ bytes "the line of this number, counted from 0, is the first that is not as the profile of straight pieces wants it"
-    ∷ bytes ""
-    ∷ bytes ""
+    ∷ bytes "no start value of the chosen register makes the formula return this value"
+    ∷ bytes "the chosen register, or one that has a value, is no 64-bit register (as rax, r8)"
     ∷ bytes "more than 256 lines are asked for"
     ∷ bytes "the command at this offset has an address below the base, too far above it, or past the last address"
     ∷ bytes "the tape does not begin with its base (06)"
@@ -57,3 +61,22 @@ unfoldable pub counts : ℕ → R.Tally → ℕ → ℕ → Text
 counts size tally removed cut =
     bytes "length " ++ decimal size ++ tallied tally ++ bytes ", lines removed " ++ decimal removed ++ bytes ", results cut " ++ decimal cut
     ++ (10 ∷ [])
+
+-- ---- a start value (request M-107)
+
+-- REG = 0xHEX (DECIMAL)
+unfoldable pub started : Text → ℕ → Text
+started chosen v = chosen ++ bytes " = 0x" ++ hexadecimal v ++ bytes " (" ++ decimal v ++ bytes ")" ++ (10 ∷ [])
+
+-- ---- the name of a state
+
+-- \xHH
+unfoldable pub escape : ℕ → Text
+escape b = (92 ∷ 120 ∷ []) ++ (digit-byte (b / 16) ∷ []) ++ (digit-byte (b % 16) ∷ [])
+
+-- a byte that can be printed (20 to 7E) stands as it is, but for the backslash
+unfoldable pub visible-byte : ℕ → Text
+visible-byte b = if ltb b 32 then escape b else if ltb 126 b then escape b else if eqb b 92 then escape b else b ∷ []
+
+unfoldable pub visible : Text → Text
+visible t = flatMap visible-byte t

@@ -1,17 +1,20 @@
 // What the command `puchkewa` writes of a reply: the bytes are those of the definitions in specs/Reports.antt.
 use arguments::nth_word;
+use numbers::put_digits;
 use printing::put;
 use printing::put_decimal;
 use rounds::Tally;
-ghost use mathlib.Core.List.{_++_};
-ghost use Prim.Native.Nat.{_+_, _≤_};
+ghost use mathlib.Core.Path.{_≡_};
+ghost use mathlib.Core.List.{[], _∷_, _++_};
+ghost use Prim.Native.Nat.{_+_, _*_, _≤_, _<_};
 ghost use lib.ListN.{length};
-ghost use Rattle.numbers.specs.Writing.{Written};
+ghost use Rattle.reference.specs.Numbers.{digit-byte};
+ghost use Rattle.numbers.specs.Writing.{hexadecimal, Written};
 ghost use Rattle.rounds.specs.Runs.{tally-of};
 ghost use Rattle.printing.specs.Decimals.{decimal};
-ghost use Rattle.reports.specs.Reports.{meaning, refusal, three, settled, tallied, counts};
+ghost use Rattle.reports.specs.Reports.{meaning, refusal, three, settled, tallied, counts, started, escape, visible-byte, visible};
 
-// Puts what a refusal by a number means; nothing for a number that no question has. (Numbers 15 and 16 are kept for start values.)
+// Puts what a refusal by a number means; nothing for a number that no question has.
 fn put_meaning(number: u64, out: &mut [u8], at: usize) -> usize
     requires { ⌜ at + 200 ≤ length (now out) ⌝ }
     ensures { λ r. ⌜ Written (now (out .entry)) at (meaning number) (now (out .exit)) r ⌝ }
@@ -33,8 +36,8 @@ fn put_meaning(number: u64, out: &mut [u8], at: usize) -> usize
           the Symbol at this offset is a keyword of C's edition of 2024\0\
           the Number at this offset is binary or has quotes, and the edition of 2024 does not read it\0\
           the line of this number, counted from 0, is the first that is not as the profile of straight pieces wants it\0\
-          \0\
-          \0\
+          no start value of the chosen register makes the formula return this value\0\
+          the chosen register, or one that has a value, is no 64-bit register (as rax, r8)\0\
           more than 256 lines are asked for\0\
           the command at this offset has an address below the base, too far above it, or past the last address\0\
           the tape does not begin with its base (06)\0\
@@ -113,4 +116,82 @@ pub fn put_counts(size: u64, tally: Tally, removed: u64, cut: u64, out: &mut [u8
     let c = put_named(b", lines removed ", removed, out, b);
     let d = put_named(b", results cut ", cut, out, c);
     put(b"\n", out, d)
+}
+
+// Puts a number in hexadecimal.
+fn put_hexadecimal(v: u64, out: &mut [u8], at: usize) -> usize
+    requires { ⌜ at + 16 ≤ length (now out) ⌝ }
+    ensures { λ r. ⌜ Written (now (out .entry)) at (hexadecimal v) (now (out .exit)) r ⌝ }
+{
+    put_digits(v, out, at)
+}
+
+// Puts the line of a start value at the front, and says how long it is.
+pub fn put_start(chosen: &[u8], v: u64, out: &mut [u8]) -> usize
+    requires { ⌜ length (now chosen) + 45 ≤ length (now out) ⌝ }
+    ensures { λ r. ⌜ Written (now (out .entry)) 0 (started (now (chosen .entry)) v) (now (out .exit)) r ⌝ }
+{
+    let a = put(chosen, out, 0);
+    let b = put(b" = 0x", out, a);
+    let c = put_hexadecimal(v, out, b);
+    let d = put_named(b" (", v, out, c);
+    put(b")\n", out, d)
+}
+
+// Puts a byte.
+fn put_byte(b: u8, out: &mut [u8], at: usize) -> usize
+    requires { ⌜ at < length (now out) ⌝ }
+    ensures { λ r. ⌜ Written (now (out .entry)) at (b ∷ []) (now (out .exit)) r ⌝ }
+{
+    out[at] = b;
+    at + 1
+}
+
+// A hexadecimal digit.
+fn digit_byte(d: u8) -> u8
+    requires { ⌜ d < 16 ⌝ }
+    ensures { λ r. ⌜ r ≡ digit-byte d ⌝ }
+{
+    if d < 10 { 48 + d } else { 87 + d }
+}
+
+// Puts a byte as \xHH.
+fn put_escape(b: u8, out: &mut [u8], at: usize) -> usize
+    requires { ⌜ at + 4 ≤ length (now out) ⌝ }
+    ensures { λ r. ⌜ Written (now (out .entry)) at (escape b) (now (out .exit)) r ⌝ }
+{
+    let x = put(b"\\x", out, at);
+    let y = put_byte(digit_byte(b / 16), out, x);
+    put_byte(digit_byte(b % 16), out, y)
+}
+
+// Puts a byte as it is shown.
+fn put_visible_byte(b: u8, out: &mut [u8], at: usize) -> usize
+    requires { ⌜ at + 4 ≤ length (now out) ⌝ }
+    ensures { λ r. ⌜ Written (now (out .entry)) at (visible-byte b) (now (out .exit)) r ⌝ }
+{
+    if b < 32 {
+        return put_escape(b, out, at);
+    }
+    if 126 < b {
+        return put_escape(b, out, at);
+    }
+    if b == b'\\' {
+        return put_escape(b, out, at);
+    }
+    put_byte(b, out, at)
+}
+
+// Puts a name as it is shown at the front, and says how long it is.
+pub fn put_visible(name: &[u8], out: &mut [u8]) -> usize
+    requires { ⌜ 4 * length (now name) ≤ length (now out) ⌝ }
+    ensures { λ r. ⌜ Written (now (out .entry)) 0 (visible (now (name .entry))) (now (out .exit)) r ⌝ }
+{
+    let mut end = 0;
+    let mut i = 0;
+    while i < name.len() {
+        end = put_visible_byte(name[i], out, end);
+        i += 1;
+    }
+    end
 }

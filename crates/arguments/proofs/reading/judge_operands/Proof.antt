@@ -1,6 +1,5 @@
 -- `arguments::reading::judge_operands` meets its contract. Assumes nothing.
 use Rattle.arguments.proofs.Branches.{if-here, if-there, lt-at, le-at, lt-of, le-of}
-use mathlib.Core.Path.{refl}
 use borrow.Author.Tests.{eq-eqb, ne-eqb}
 use Rattle.arguments.proofs.Branches.{branches, called}
 use Rattle.arguments.specs.Requests.{judge-operands}
@@ -35,9 +34,14 @@ returns-3 : tie.Need-returns-3
 unfolding judge-operands
 returns-3 c = if-there _ (le-at _ (c .before .before .before .before .before .before .before .before .fewest .ensures) (c .before .before .before .before .before .before .if1 .left)) (if-there _ (le-of _ (c .before .before .before .before .before .most .ensures) (c .before .before .before .if2 .left)) (if-here _ (eq-eqb _ 1 (c .before .if3 .taken)) (c .judge-goal .ensures)))
 
+judge-start-requires : tie.Need-judge-start-requires
+judge-start-requires c κs = search needs
+
 returns-4 : tie.Need-returns-4
 unfolding judge-operands
-returns-4 c = if-there _ (le-at _ (c .before .before .before .before .before .before .before .fewest .ensures) (c .before .before .before .before .before .if1 .left)) (if-there _ (le-of _ (c .before .before .before .before .most .ensures) (c .before .before .if2 .left)) (if-there _ (ne-eqb _ 1 (c .if3 .left)) refl))
+returns-4 c = let m = c .before .before .before .before .before in
+    let f = m .before .before .before in
+    if-there _ (le-at _ (f .fewest .ensures) (m .before .if1 .left)) (if-there _ (le-of _ (m .most .ensures) (c .before .before .before .if2 .left)) (if-there _ (ne-eqb _ 1 (c .before .if3 .left)) (c .judge-start .ensures)))
 
 pub judge-operands-spec : {M : Type 1} → statement M
 judge-operands-spec =
@@ -51,4 +55,5 @@ judge-operands-spec =
     returns-2
     judge-goal-requires
     returns-3
+    judge-start-requires
     returns-4)

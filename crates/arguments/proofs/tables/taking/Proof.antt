@@ -11,7 +11,7 @@ use Rattle.arguments.proofs.tables.taking.Tie as tie
 
 returns : tie.Need-returns
 unfolding taking takings
-returns c = let a = c .before .args in past takings (a .verb * 9 + min (a .option) 8) (omega arith)
+returns c = let a = c .before .args in past takings (a .verb * 11 + min (a .option) 10) (omega arith)
 
 slice-aggregate-entry : tie.Need-slice-aggregate-entry
 slice-aggregate-entry c = search needs
@@ -30,7 +30,7 @@ entry-requires c κs = search needs
 
 returns-2 : tie.Need-returns-2
 unfolding taking takings
-returns-2 c = c .entry .ensures ∙ ap (λ (i : ℕ). getD takings (c .before .before .before .before .args .verb * 9 + i) 0) (c .before .least-of .ensures)
+returns-2 c = c .entry .ensures ∙ ap (λ (i : ℕ). getD takings (c .before .before .before .before .args .verb * 11 + i) 0) (c .before .least-of .ensures)
 
 pub taking-spec : {M : Type 1} → statement M
 taking-spec =

@@ -22,11 +22,14 @@ put-verb-requires-2 c κs = search needs
 put-verb-requires-3 : tie.Need-put-verb-requires-3 Inv-loop μ-loop
 put-verb-requires-3 c κs = search needs
 
+put-verb-requires-4 : tie.Need-put-verb-requires-4 Inv-loop μ-loop
+put-verb-requires-4 c κs = search needs
+
 loop-holds : tie.Need-loop-holds Inv-loop μ-loop
 loop-holds c = search needs
 
-put-verb-requires-4 : tie.Need-put-verb-requires-4 Inv-loop μ-loop
-put-verb-requires-4 c κs = search needs
+put-verb-requires-5 : tie.Need-put-verb-requires-5 Inv-loop μ-loop
+put-verb-requires-5 c κs = search needs
 
 add-verb : tie.Need-add-verb Inv-loop μ-loop
 add-verb c = search needs
@@ -53,8 +56,9 @@ help-all-spec =
     put-verb-requires
     put-verb-requires-2
     put-verb-requires-3
-    loop-holds
     put-verb-requires-4
+    loop-holds
+    put-verb-requires-5
     add-verb
     loop-less
     loop-again

@@ -1,0 +1,31 @@
+// The commands of a tape, one after the other: up to its end, or to the first place where none stands whole.
+use tape::commands::Command;
+use tape::commands::Found;
+use tape::commands::size_of;
+use tape::questions::is_end;
+use tape::reader::command_from;
+ghost use Rattle.tallies.specs.Counting.{Follows};
+
+// What stands at an offset: a command, and the offset after it; or there are no more.
+pub enum Next {
+    More { command: Command, next: usize },
+    Over,
+}
+
+pub fn next_at(tape: &[u8], at: usize) -> Next
+    ensures { λ r. ⌜ Follows (now (tape .entry)) at r ⌝ }
+{
+    match command_from(tape, at) {
+        Found::Unknown => Next::Over,
+        Found::CutOff => Next::Over,
+        Found::Whole(command) => {
+            if is_end(command) {
+                return Next::Over;
+            }
+            Next::More {
+                command,
+                next: at + size_of(command),
+            }
+        }
+    }
+}
