@@ -2,10 +2,10 @@
 -- the reply's; and a work area that was worked in and wiped. Assumes nothing.
 use Prim.Native.Nat.{ℕ, suc, _≤_, _<_, _+_, _-_, zero-le}
 use native.Mathlib.Omega.{arith}
-use native.Mathlib.Nat.{le-trans, le-of-eq}
+use native.Mathlib.Nat.{le-trans, le-of-eq, min-le-left}
 use mathlib.Core.Path.{_≡_, refl, sym, ap, _∙_}
 use mathlib.Core.List.{List, [], _∷_, _++_, map}
-use lib.ListN.{length, drop, take, getD, length-map, replicate}
+use lib.ListN.{length, drop, take, getD, length-map, length-take, replicate}
 use lib.Seq.{length-take-le, length-front, getD-take, drop-at}
 use Rattle.reference.specs.Text.{Text}
 use Rattle.reference.specs.Listing.{Token, Listing}
@@ -54,7 +54,7 @@ sum-bare : (f : List Token → ℕ) (ls : Listing) → sum (λ l. f (l .tokens))
 sum-bare f [] = refl
 sum-bare f (l ∷ ls) = ap (λ (n : ℕ). f (l .tokens) + n) (sum-bare f ls)
 
-bare-limits : {lines : Listing} → L.RunLimits lines → RunLimits (map bare lines)
+bare-limits : {lines : Listing} → L.Limits lines → RunLimits (map bare lines)
 bare-limits {lines} l =
     record {
       lines-fit = rw length-map (l .few-lines);
@@ -71,6 +71,10 @@ bare-limits {lines} l =
 all-mapped : (P : ℕ → Type 0) (f : ℕ → ℕ) (xs : List ℕ) → ((i : ℕ) → i < length xs → P (f (getD xs i 0))) → All P (map f xs)
 all-mapped P f [] h = tt
 all-mapped P f (x ∷ xs) h = (h 0 (omega arith), all-mapped P f xs (λ i b. h (suc i) (omega arith)))
+
+-- a front of at most k words
+pub take-few : {n k : ℕ} (xs : List ℕ) → n ≤ k → length (take n xs) ≤ k
+take-few {n} xs h = simp length-take (omega (arith, min-le-left n (length xs)))
 
 -- the code's table of 2048 token words
 pub enough-words : 1024 ≤ 2048

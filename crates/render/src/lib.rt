@@ -1,5 +1,5 @@
-// The page of a cleaning, before and after side by side, written piece by piece. What stands in its cells is crate page's, the numbers on its sheet
-// are crate tallies'.
+// The page of a cleaning, before and after side by side, written piece by piece. What stands in its cells is crate page's, the numbers on
+// its sheet are crate tallies'.
 mod frame; // its constant parts
 mod rows; // the two listings
 mod sheet; // the field engineer's sheet

@@ -1,6 +1,7 @@
 // The field engineer's sheet below the listings: calls, labels, counts, settings, and the guarantee's sentences with what was counted here.
-// The numbers are the reply's, and those that crate tallies counts from the two tapes: of the listings that they hold, as the reference counts
-// (its theorem `ticks` says how they must come out). Which labels stand, and which addresses are held, is counted here without a promise.
+// The numbers are the reply's, and those that crate tallies counts from the two tapes: of the listings that they hold, as the reference
+// counts (its theorem `ticks` says how they must come out). Which labels stand, and which addresses are held, is counted here without a
+// promise.
 use crate::sink::Sink;
 use crate::sink::put;
 use crate::sink::put_number;
@@ -461,7 +462,7 @@ fn put_places_row(s: Sink) -> Sink {
         s,
         true,
         b"<b>Places stay.</b> The pairs of address and indent that are left stand in the input's order, and none is new. \
-          <code>places-in-order</code>",
+          <code>pairs-in-order</code>",
     );
     put(t, b"by the theorem: line beside line above</td></tr>\n")
 }

@@ -52,7 +52,8 @@ abbrev pub sized : Command → Totals.Sizes → Totals.Sizes
 sized (Code.Addressed address indent) s = record { lines = s .lines + 1; tokens = s .tokens; text = s .text }
 sized (Code.Plain indent) s = record { lines = s .lines + 1; tokens = s .tokens; text = s .text }
 sized (Code.Marked low high) s = s
-sized (Code.Token kind count) s = if eqb (s .lines) 0 then s else record { lines = s .lines; tokens = s .tokens + 1; text = s .text + count }
+sized (Code.Token kind count) s =
+    if eqb (s .lines) 0 then s else record { lines = s .lines; tokens = s .tokens + 1; text = s .text + count }
 sized Code.End s = s
 
 -- ---- a number of each line's tokens, added up over the lines

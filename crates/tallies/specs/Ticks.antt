@@ -1,5 +1,5 @@
--- What the ticks of the page's sheet say, of the two tapes of a cleaning and of the number of lines that it removed. Proved of every cleaning
--- in proofs/Ticking.antt. Assumes nothing.
+-- What the ticks of the page's sheet say, of the two tapes of a cleaning and of the number of lines that it removed. Proved of every
+-- cleaning in proofs/Ticking.antt. Assumes nothing.
 use Prim.Native.Nat.{ℕ, _+_, _≤_}
 use mathlib.Core.Path.{_≡_}
 use mathlib.Core.List.{List, Sublistᴰ}

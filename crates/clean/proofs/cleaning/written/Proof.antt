@@ -4,7 +4,7 @@ use native.Mathlib.Omega.{arith}
 use mathlib.Core.Path.{refl, sym, _∙_}
 use lib.Seq.{length-take-le}
 use Rattle.lines.specs.Rules.{rules-of}
-use Rattle.clean.proofs.Running.{enough-words, loadable, fits-output, writes}
+use Rattle.clean.proofs.Running.{enough-words, take-few, loadable, fits-output, writes}
 use Rattle.clean.proofs.cleaning.written.Statement.{statement}
 use Rattle.clean.proofs.cleaning.written.Tie as tie
 
@@ -95,7 +95,7 @@ write-requires c κs =
     let a = before-load (before-optimized-arg2 (before-optimized (before-left (c .before .before .before .before .before .before .before)))) .args in
     let l = before-optimized-arg2 (before-optimized (before-left (c .before .before .before .before .before .before .before))) .load in
     let o = before-left (c .before .before .before .before .before .before .before) .optimized in (
-      (o .ensures .current .listed, omega (arith, length-take-le _ _ (o .ensures .current .lines-fit), o .ensures .current .lines-fit)),
+      (o .ensures .current .listed, take-few _ (omega (arith, o .ensures .current .lines-fit, o .kept .1 .1 .1 .0 ∙ l .kept .1 .1 .0))),
       (
         (le-of-eq (sym (l .kept .1 .1 .1 .0)), le-of-eq (sym (o .kept .1 .1 .1 .1 .1 .0 ∙ l .kept .1 .1 .1 .1 .0)), le-of-eq (sym (o .kept .1 .1 .1 .1 .1 .1 .0 ∙ l .kept .1 .1 .1 .1 .1 .0))),
         fits-output (l .ensures .0) (a .area .now) (l .ensures .1) (l .kept .1 .1 .0) (l .kept .1 .1 .1 .1 .0) (l .kept .1 .1 .1 .1 .1 .0) (rules-of (a .rules)) (o .ensures) (before-load (before-optimized-arg2 (before-optimized (before-left (c .before .before .before .before .before .before .before)))) .pre .room),
