@@ -1,2 +1,3 @@
 pub mod Escaping
 pub mod Cells
+pub mod Commands

@@ -1,5 +1,9 @@
 // The page that puts a listing before and after its cleaning side by side: what stands there of a listing's bytes. Each function says where
 // what it puts ends; all else stays as it was. (The page's constant parts stand in crate command.)
+mod cells; // the cells of a line, side by side
+
+pub use cells::put_cells;
+pub use cells::put_line;
 use printing::put;
 use printing::put_decimal;
 ghost use mathlib.Core.List.{[], _∷_};

@@ -3,24 +3,20 @@ use crate::sink::Sink;
 use crate::sink::put;
 use crate::sink::put_hex;
 use crate::sink::put_number;
-use crate::sink::put_text;
 use crate::walk::NOTHING;
 use crate::walk::after;
-use crate::walk::body;
-use crate::walk::byte_at;
 use crate::walk::first_addressed;
+use crate::walk::front;
 use crate::walk::is_end;
-use crate::walk::is_token;
 use crate::walk::line_end;
 use crate::walk::plus;
 use crate::walk::same_tokens;
-use crate::walk::token_at;
+use crate::walk::tokens_of;
 use answers::Answer;
 use lines::rules::Rules;
 use sources::came_into;
 use tape::commands::Command;
 use tape::commands::Found;
-use tape::little_endian::wide;
 use tape::reader::command_from;
 
 // ---- what a raw line came into
@@ -151,27 +147,19 @@ fn put_marks(s: Sink, tape: &[u8], at: usize) -> Sink {
     }
 }
 
-// The kind of the token at an offset.
-fn kind_at(tape: &[u8], at: usize) -> u64 {
-    wide(byte_at(tape, at)) % 16
+// The tokens of a line in their cells, by way of a buffer that has room for them.
+fn put_tokens_by(s: Sink, line: &[u8], out: &mut [u8]) -> Sink {
+    if out.len() / 12 < line.len() {
+        return s;
+    }
+    let n = page::put_line(line, out);
+    put(s, front(out, n))
 }
 
-// The tokens of the line at an offset.
-fn put_tokens(s: Sink, tape: &[u8], at: usize) -> Sink {
-    let mut t = s;
-    let mut from = body(tape, at);
-    while from < tape.len() {
-        if !is_token(tape, from) {
-            return t;
-        }
-        t = put_text(t, kind_at(tape, from), token_at(tape, from));
-        let next = after(tape, from);
-        if next <= from {
-            return t;
-        }
-        from = next;
-    }
-    t
+// The same: a line of an accepted or a cleaned tape has at most 59,137 bytes, and its cells at most twelve times so many.
+fn put_tokens(s: Sink, line: &[u8]) -> Sink {
+    let mut out = [0u8; 709644];
+    put_tokens_by(s, line, &mut out)
 }
 
 // ---- rows
@@ -223,7 +211,7 @@ fn put_raw(s: Sink, class: u64, tape: &[u8], at: usize, k: usize, flags: &[u8], 
     t = put(t, b"</td><td class=c style=\"--d:");
     t = put_number(t, indent_at(tape, at));
     t = put(t, b"\">");
-    t = put_tokens(t, tape, at);
+    t = put_tokens(t, tokens_of(tape, at));
     put(t, b"</td><td class=i>")
 }
 
@@ -248,7 +236,7 @@ fn put_cleaned(s: Sink, fin: &[u8], to: usize, q: usize) -> Sink {
     t = put(t, b"\" style=\"--d:");
     t = put_number(t, indent_at(fin, to));
     t = put(t, b"\">");
-    t = put_tokens(t, fin, to);
+    t = put_tokens(t, tokens_of(fin, to));
     t = put(t, b"</td><td class=p>");
     t = put_marks(t, fin, to);
     put(t, b"</td></tr>\n")

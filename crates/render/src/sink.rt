@@ -1,6 +1,5 @@
-// Where a page goes while it is written piece by piece. Texts of a listing reach it only through `put_text`, escaped.
+// Where a page goes while it is written piece by piece. Texts reach it in cells, escaped.
 use crate::walk::front;
-ghost use Prim.Native.Nat.{_≤_};
 
 // What is written to, and whether all pieces so far were written. After a failure nothing more is, so that the system's reason stays.
 pub struct Sink {
@@ -29,40 +28,22 @@ pub(crate) fn put_hex(s: Sink, n: u64) -> Sink {
     put(s, &digits[..k])
 }
 
-// ---- texts of a listing: they reach the page only here, escaped
+// ---- texts: they reach the page only here and as the tokens of a line (rows.rt), escaped
 
-// A text of at most 512 bytes in its cell.
-fn put_piece(s: Sink, kind: u64, text: &[u8]) -> Sink {
-    if 512 < text.len() {
+// A text in its cell, by way of a buffer that has room for it.
+fn put_text_by(s: Sink, kind: u64, text: &[u8], out: &mut [u8]) -> Sink {
+    if out.len() < 35 {
         return s;
     }
-    let mut out = [0u8; 3200];
-    let n = page::put_cell(kind, text, &mut out, 0);
-    put(s, front(&out, n))
-}
-
-// The smaller of two numbers.
-fn least(n: usize, m: usize) -> usize
-    ensures { λ r. ⌜ (r ≤ n) × (r ≤ m) ⌝ }
-{
-    if n < m {
-        return n;
+    if (out.len() - 35) / 7 < text.len() {
+        return s;
     }
-    m
+    let n = page::put_cells(kind, text, out, 0);
+    put(s, front(out, n))
 }
 
-// A text in its cell; a longer one in several, side by side.
+// The same: a text of a tape has at most 65,535 bytes, and so has a file's name.
 pub(crate) fn put_text(s: Sink, kind: u64, text: &[u8]) -> Sink {
-    let mut t = s;
-    let mut at = 0;
-    while at < text.len() {
-        let left = text.len() - at;
-        let e = at + least(left, 512);
-        t = put_piece(t, kind, &text[at..e]);
-        if e <= at {
-            return t;
-        }
-        at = e;
-    }
-    t
+    let mut out = [0u8; 458780];
+    put_text_by(s, kind, text, &mut out)
 }

@@ -148,7 +148,7 @@ pub(crate) fn body(tape: &[u8], at: usize) -> usize {
 }
 
 // The bytes of its tokens.
-fn tokens_of(tape: &[u8], at: usize) -> &[u8] {
+pub(crate) fn tokens_of(tape: &[u8], at: usize) -> &[u8] {
     let from = body(tape, at);
     let to = line_end(tape, at);
     if to < from {

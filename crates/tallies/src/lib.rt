@@ -11,3 +11,5 @@ pub use casts::count_casts;
 pub use labels::count_labels;
 pub use sizes::Sizes;
 pub use sizes::count_sizes;
+pub use walking::Next;
+pub use walking::next_at;

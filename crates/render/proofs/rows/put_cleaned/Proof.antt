@@ -51,6 +51,9 @@ slice-aggregate-put-5 c = search needs
 put-requires-5 : tie.Need-put-requires-5
 put-requires-5 c κs = search needs
 
+tokens-of-requires : tie.Need-tokens-of-requires
+tokens-of-requires c κs = search needs
+
 put-tokens-requires : tie.Need-put-tokens-requires
 put-tokens-requires c κs = search needs
 
@@ -92,6 +95,7 @@ put-cleaned-spec =
     put-number-requires-3
     slice-aggregate-put-5
     put-requires-5
+    tokens-of-requires
     put-tokens-requires
     slice-aggregate-put-6
     put-requires-6

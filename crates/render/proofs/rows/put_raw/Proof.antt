@@ -66,6 +66,9 @@ slice-aggregate-put-6 c = search needs
 put-requires-6 : tie.Need-put-requires-6
 put-requires-6 c κs = search needs
 
+tokens-of-requires : tie.Need-tokens-of-requires
+tokens-of-requires c κs = search needs
+
 put-tokens-requires : tie.Need-put-tokens-requires
 put-tokens-requires c κs = search needs
 
@@ -103,6 +106,7 @@ put-raw-spec =
     put-number-requires-3
     slice-aggregate-put-6
     put-requires-6
+    tokens-of-requires
     put-tokens-requires
     slice-aggregate-put-7
     put-requires-7
