@@ -114,7 +114,7 @@ fn push_expr<'a>(
     s
 }
 
-// The same in brackets.
+// Appends the right side x of the old line `source`, in brackets.
 fn push_bracketed<'a>(
     tape: &'a [u8],
     old: &'a [u8],

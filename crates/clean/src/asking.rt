@@ -34,7 +34,7 @@ fn broken(tape: &[u8]) -> Position
     formula::breaks(tape, &tokens[..used], &lines[..n])
 }
 
-// The same, where the profile is asked for.
+// The first line that breaks the profile, where the profile is asked for.
 pub fn outside_profile(rules: Rules, tape: &[u8]) -> Position
     requires { ⌜ AcceptedTape (now tape) ⌝ }
     ensures { λ r. ⌜ ((input : Listing) → read (was tape) ≡ Passed input → found r ≡ outside (rules-of rules) input) ⌝ }

@@ -53,7 +53,7 @@ fn room_of(line: &[u64]) -> usize
     sum
 }
 
-// The same of the line l.
+// A bound on the room of the tokens of the line l.
 fn line_room(tokens: &[u64], l: u64) -> usize
     requires { ⌜ first-of l + count-of l ≤ length (now tokens) ⌝ }
     ensures { λ r. ⌜ r ≡ words-room (part-of (was tokens) l) ⌝ }

@@ -51,7 +51,7 @@ fn is_overwriting<'a>(tape: &'a [u8], area: &'a [u8], line: &'a [u64], f: Fam) -
     overwrites_by(tape, area, line, x, f)
 }
 
-// The same: the first token tells most lines apart.
+// Whether a line overwrites the family whole (`is_overwriting`): the first token tells most lines apart.
 fn overwrites<'a>(tape: &'a [u8], area: &'a [u8], line: &'a [u64], f: Fam) -> bool
     requires { ⌜ Holds (now tape) (now area) (now line) × Known (now tape) (now area) f ⌝ }
     ensures { λ r. ⌜ r ≡ kills (tokens-of (was tape) (was area) (was line)) (fam-text (was tape) (was area) f) ⌝ }

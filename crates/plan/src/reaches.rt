@@ -94,8 +94,8 @@ fn reach_at<'a>(
     }
 }
 
-// The same, where n is the number of the family: at the same indent a transparent line changes nothing, and a calling one only what calls
-// overwrite.
+// How far a constant reaches with one line more, by the line's facts where they tell it: at the same indent a transparent line changes
+// nothing, and a calling one only what calls overwrite. n is the number of the family.
 fn reach_by_facts<'a>(
     tape: &'a [u8],
     area: &'a [u8],

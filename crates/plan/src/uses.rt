@@ -133,8 +133,8 @@ fn look_at<'a>(
     }
 }
 
-// The same, where n is the number of the family: a calling line ends the run, and a transparent line of the same run is only asked what it
-// leaves alone.
+// What the search for the single use makes of a line, by its facts where they tell it: a calling line ends the run, and a transparent line
+// of the same run is only asked what it leaves alone. n is the number of the family.
 fn look_by_facts<'a>(
     tape: &'a [u8],
     area: &'a [u8],

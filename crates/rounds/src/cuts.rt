@@ -90,7 +90,7 @@ fn drop_at<'a>(
     1
 }
 
-// The same for each line in turn, the labels standing at these places; says how many results that is.
+// Cuts the dead results of all lines, in turn, the labels standing at these places, and says how many results that is.
 fn drop_results<'a>(
     tape: &'a [u8],
     area: &'a [u8],

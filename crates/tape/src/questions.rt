@@ -281,7 +281,7 @@ pub fn step(tape: &[u8], at: usize, totals: Totals) -> Stepped
     }
 }
 
-// The same of a tape of either form. (The cleaning's step has a body of its own: shared with the conversions it was not inlined there.)
+// Reads the command at an offset of a tape of either form. (The cleaning's step has a body of its own: shared with the conversions it was not inlined there.)
 pub fn step_by(tape: &[u8], at: usize, totals: Totals, based: bool) -> Stepped
     ensures { λ r. ⌜ stepped (was tape) at r ≡ read-command-by (form-of based) (was tape) at (totals-of totals) ⌝ }
     ensures { λ r. ⌜ FromHereBy (form-of based) (was tape) at (totals-of totals) (stepped (was tape) at r) ⌝ }
@@ -361,7 +361,7 @@ pub fn check(tape: &[u8]) -> Checked
     }
 }
 
-// The same of a tape of either form, from its first command on.
+// Asks the questions of a tape of either form, from its first command on.
 pub fn check_by(tape: &[u8], based: bool) -> Checked
     ensures { λ r. ⌜ checked r ≡ (let-passed (read-by (form-of based) (was tape)) then λ lines. Passed (sizes-in lines)) ⌝ }
 {

@@ -323,7 +323,7 @@ fn marks_after(buffer: &mut [u8], tape: &[u8], n: usize) {
     answer_first(buffer, to);
 }
 
-// The same for every n.
+// A tape with a 03 put in, at every offset in turn.
 fn marks_everywhere(buffer: &mut [u8], tape: &[u8]) {
     let mut n = 0;
     while n <= tape.len() {

@@ -153,7 +153,7 @@ fn reply_right(list: &[u8], r: Reply) -> bool
     right
 }
 
-// Likewise for a lent part.
+// Whether a lent part is as wanted; what is not is named.
 fn part_right(part: &[u8], wanted: &[u8], what: &[u8]) -> bool
     ensures { λ b. ⌜ b ≡ (was part == was wanted) ⌝ }
 {
@@ -183,7 +183,7 @@ fn all_right<'a>(
                 && part_right(out, written, b"another output\n")))
 }
 
-// The same, what is wanted being made from parts that hold the mark everywhere.
+// Whether a reply and the lent parts are as wanted, what is wanted being made from parts that hold the mark everywhere.
 fn is_right<'a>(list: &'a [u8], r: Reply, work_a: &'a [u8], work_b: &'a [u8], out: &'a [u8]) -> bool
     requires { ⌜ Whole (now list) ⌝ }
     ensures { λ b. ⌜ b ≡ is-right (was list) (report-of r) (was «work_a») (was «work_b») (was out) ⌝ }
