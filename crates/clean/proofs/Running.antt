@@ -72,9 +72,9 @@ all-mapped : (P : ℕ → Type 0) (f : ℕ → ℕ) (xs : List ℕ) → ((i : �
 all-mapped P f [] h = tt
 all-mapped P f (x ∷ xs) h = (h 0 (omega arith), all-mapped P f xs (λ i b. h (suc i) (omega arith)))
 
--- a front of at most k words
-pub take-few : {n k : ℕ} (xs : List ℕ) → n ≤ k → length (take n xs) ≤ k
-take-few {n} xs h = simp length-take (omega (arith, min-le-left n (length xs)))
+-- a front of a table of 256 words
+pub take-few : {n : ℕ} (xs : List ℕ) → n ≤ length xs → length xs ≡ 256 → length (take n xs) ≤ 256
+take-few {n} xs h e = simp length-take (omega (arith, min-le-left n (length xs)))
 
 -- the code's table of 2048 token words
 pub enough-words : 1024 ≤ 2048

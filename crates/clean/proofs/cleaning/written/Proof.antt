@@ -95,7 +95,7 @@ write-requires c κs =
     let a = before-load (before-optimized-arg2 (before-optimized (before-left (c .before .before .before .before .before .before .before)))) .args in
     let l = before-optimized-arg2 (before-optimized (before-left (c .before .before .before .before .before .before .before))) .load in
     let o = before-left (c .before .before .before .before .before .before .before) .optimized in (
-      (o .ensures .current .listed, take-few _ (omega (arith, o .ensures .current .lines-fit, o .kept .1 .1 .1 .0 ∙ l .kept .1 .1 .0))),
+      (o .ensures .current .listed, take-few _ (o .ensures .current .lines-fit) (o .kept .1 .1 .1 .0 ∙ l .kept .1 .1 .0)),
       (
         (le-of-eq (sym (l .kept .1 .1 .1 .0)), le-of-eq (sym (o .kept .1 .1 .1 .1 .1 .0 ∙ l .kept .1 .1 .1 .1 .0)), le-of-eq (sym (o .kept .1 .1 .1 .1 .1 .1 .0 ∙ l .kept .1 .1 .1 .1 .1 .0))),
         fits-output (l .ensures .0) (a .area .now) (l .ensures .1) (l .kept .1 .1 .0) (l .kept .1 .1 .1 .1 .0) (l .kept .1 .1 .1 .1 .1 .0) (rules-of (a .rules)) (o .ensures) (before-load (before-optimized-arg2 (before-optimized (before-left (c .before .before .before .before .before .before .before)))) .pre .room),
