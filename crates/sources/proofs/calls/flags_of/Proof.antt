@@ -21,9 +21,8 @@ enum-told c = search needs
 
 walk-requires : tie.Need-walk-requires
 walk-requires c κs =
-    let p0 = c .before in
-    let p1 = p0 .before .before .before .before .before .before .before .before .before in
-    let k = p1 in
+    let w = c .before in
+    let k = w .before .before .before .before .before .before .before .before .before in
     let b = k .before .before .before .before .before .before .before .before in
     let s = b .before in
     let a = s .args in
@@ -59,10 +58,9 @@ same-length-7 c = search needs
 
 returns-2 : tie.Need-returns-2
 returns-2 c =
-    let p0 = w .before .before in
-    let p1 = p0 .before .before .before .before .before .before .before .before .before in
     let w = c .before .before in
-    let k = p1 in
+    let w2 = w .before .before in
+    let k = w2 .before .before .before .before .before .before .before .before .before in
     let b = k .before .before .before .before .before .before .before .before in
     let s = b .before in
     let a = s .args in
