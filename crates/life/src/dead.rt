@@ -1,6 +1,7 @@
 // Whether a family's value is never read again: `dead_after` of the Rust.
 use crate::jumps::goto_passes;
 use crate::jumps::while_passes;
+use crate::liveness::Followed;
 use crate::liveness::Liveness;
 use crate::liveness::liveness_at;
 use linefacts::is_calling;
@@ -68,7 +69,7 @@ fn scan<'a>(
     }
 }
 
-// What line w, after a definition on line `start`, does to the value.
+// What line w, after the definition, does to the value.
 fn liveness_after<'a>(
     tape: &'a [u8],
     area: &'a [u8],
@@ -76,29 +77,27 @@ fn liveness_after<'a>(
     lines: &'a [u64],
     labels: &'a [u64],
     w: usize,
-    f: Fam,
-    base_indent: u64,
-    start: usize,
-    rules: Rules,
+    v: Followed,
 ) -> Liveness
     requires { ⌜ Listed (now tape) (now area) (now tokens) (now lines)
-        × Labelled (bare-listing (now tape) (now area) (now tokens) (now lines)) (now labels) × Known (now tape) (now area) f
-        × (w < length (now lines)) × (start < length (now lines)) ⌝ }
-    ensures { λ r. ⌜ r ≡ liveness-after (bare-listing (was tape) (was area) (was tokens) (was lines)) (fam-text (was tape) (was area) f)
-        «base_indent» (labels-at (bare-listing (was tape) (was area) (was tokens) (was lines)) (was labels)) start
-        (volatile (rules-of rules)) w (bare-in (was tape) (was area) (was tokens) (getD (was lines) w 0)) ⌝ }
+        × Labelled (bare-listing (now tape) (now area) (now tokens) (now lines)) (now labels) × Known (now tape) (now area) (v .family)
+        × (w < length (now lines)) × (v .start < length (now lines)) ⌝ }
+    ensures { λ r. ⌜ r ≡ liveness-after (bare-listing (was tape) (was area) (was tokens) (was lines))
+        (fam-text (was tape) (was area) (v .family)) (v .indent)
+        (labels-at (bare-listing (was tape) (was area) (was tokens) (was lines)) (was labels)) (v .start)
+        (volatile (rules-of (v .rules))) w (bare-in (was tape) (was area) (was tokens) (getD (was lines) w 0)) ⌝ }
 {
     let l = lines[w];
     if shapes::has_while(tape, area, words::line_of(tokens, l)) {
-        if while_passes(tape, area, tokens, lines, w, f, start, rules) {
+        if while_passes(tape, area, tokens, lines, w, v) {
             return Liveness::Open;
         }
         return Liveness::Live;
     }
-    if !goto_passes(tape, area, tokens, lines, labels, l, f, start, rules) {
+    if !goto_passes(tape, area, tokens, lines, labels, l, v) {
         return Liveness::Live;
     }
-    scan(tape, area, tokens, l, f, base_indent, rules)
+    scan(tape, area, tokens, l, v.family, v.indent, v.rules)
 }
 
 // What line w does to the value, by its facts where they tell it: a transparent line does nothing, and a calling one what calls do to the
@@ -110,20 +109,18 @@ fn liveness_by_facts<'a>(
     lines: &'a [u64],
     labels: &'a [u64],
     w: usize,
-    f: Fam,
+    v: Followed,
     n: u64,
     overwritten: bool,
-    base_indent: u64,
-    start: usize,
-    rules: Rules,
 ) -> Liveness
     requires { ⌜ Listed (now tape) (now area) (now tokens) (now lines)
-        × Labelled (bare-listing (now tape) (now area) (now tokens) (now lines)) (now labels) × Known (now tape) (now area) f
-        × (w < length (now lines)) × (start < length (now lines)) × (n ≡ family-number (fam-text (now tape) (now area) f))
-        × (overwritten ≡ has (volatile (rules-of rules)) (fam-text (now tape) (now area) f)) ⌝ }
-    ensures { λ r. ⌜ r ≡ liveness-after (bare-listing (was tape) (was area) (was tokens) (was lines)) (fam-text (was tape) (was area) f)
-        «base_indent» (labels-at (bare-listing (was tape) (was area) (was tokens) (was lines)) (was labels)) start
-        (volatile (rules-of rules)) w (bare-in (was tape) (was area) (was tokens) (getD (was lines) w 0)) ⌝ }
+        × Labelled (bare-listing (now tape) (now area) (now tokens) (now lines)) (now labels) × Known (now tape) (now area) (v .family)
+        × (w < length (now lines)) × (v .start < length (now lines)) × (n ≡ family-number (fam-text (now tape) (now area) (v .family)))
+        × (overwritten ≡ has (volatile (rules-of (v .rules))) (fam-text (now tape) (now area) (v .family))) ⌝ }
+    ensures { λ r. ⌜ r ≡ liveness-after (bare-listing (was tape) (was area) (was tokens) (was lines))
+        (fam-text (was tape) (was area) (v .family)) (v .indent)
+        (labels-at (bare-listing (was tape) (was area) (was tokens) (was lines)) (was labels)) (v .start)
+        (volatile (rules-of (v .rules))) w (bare-in (was tape) (was area) (was tokens) (getD (was lines) w 0)) ⌝ }
 {
     let l = lines[w];
     if is_transparent(l, n) {
@@ -133,26 +130,15 @@ fn liveness_by_facts<'a>(
         if !overwritten {
             return Liveness::Open;
         }
-        if words::indent(l) <= base_indent {
+        if words::indent(l) <= v.indent {
             return Liveness::Dead; // by the call
         }
         return Liveness::Open;
     }
-    liveness_after(
-        tape,
-        area,
-        tokens,
-        lines,
-        labels,
-        w,
-        f,
-        base_indent,
-        start,
-        rules,
-    )
+    liveness_after(tape, area, tokens, lines, labels, w, v)
 }
 
-// Whether the family's value at the end of line `from`, defined on line `start`, is never read again.
+// Whether the family's value at the end of line `from` is never read again.
 pub fn dead_after<'a>(
     tape: &'a [u8],
     area: &'a [u8],
@@ -160,36 +146,21 @@ pub fn dead_after<'a>(
     lines: &'a [u64],
     labels: &'a [u64],
     from: usize,
-    f: Fam,
-    base_indent: u64,
-    start: usize,
-    rules: Rules,
+    v: Followed,
 ) -> bool
     requires { ⌜ Listed (now tape) (now area) (now tokens) (now lines)
-        × Labelled (bare-listing (now tape) (now area) (now tokens) (now lines)) (now labels) × Known (now tape) (now area) f
-        × (from < length (now lines)) × (start < length (now lines)) ⌝ }
-    ensures { λ r. ⌜ r ≡ dead-after (bare-listing (was tape) (was area) (was tokens) (was lines)) from (fam-text (was tape) (was area) f)
-        «base_indent» (labels-at (bare-listing (was tape) (was area) (was tokens) (was lines)) (was labels)) start
-        (volatile (rules-of rules)) ⌝ }
+        × Labelled (bare-listing (now tape) (now area) (now tokens) (now lines)) (now labels) × Known (now tape) (now area) (v .family)
+        × (from < length (now lines)) × (v .start < length (now lines)) ⌝ }
+    ensures { λ r. ⌜ r ≡ dead-after (bare-listing (was tape) (was area) (was tokens) (was lines)) from
+        (fam-text (was tape) (was area) (v .family)) (v .indent)
+        (labels-at (bare-listing (was tape) (was area) (was tokens) (was lines)) (was labels)) (v .start)
+        (volatile (rules-of (v .rules))) ⌝ }
 {
-    let n = number_of(tape, area, f);
-    let overwritten = fams::is_volatile(tape, area, f, rules);
+    let n = number_of(tape, area, v.family);
+    let overwritten = fams::is_volatile(tape, area, v.family, v.rules);
     let mut w = from + 1;
     while w < lines.len() {
-        match liveness_by_facts(
-            tape,
-            area,
-            tokens,
-            lines,
-            labels,
-            w,
-            f,
-            n,
-            overwritten,
-            base_indent,
-            start,
-            rules,
-        ) {
+        match liveness_by_facts(tape, area, tokens, lines, labels, w, v, n, overwritten) {
             Liveness::Dead => {
                 return true;
             }

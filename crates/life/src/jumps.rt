@@ -1,4 +1,5 @@
 // Jumps: what a `while` and a `goto` of a line after a definition let the value's scan do.
+use crate::liveness::Followed;
 use crate::liveness::rerun_kills;
 use crate::touches;
 use lines::fams::Fam;
@@ -64,27 +65,26 @@ pub fn while_passes<'a>(
     tokens: &'a [u64],
     lines: &'a [u64],
     w: usize,
-    f: Fam,
-    start: usize,
-    rules: Rules,
+    v: Followed,
 ) -> bool
-    requires { ⌜ Listed (now tape) (now area) (now tokens) (now lines) × Known (now tape) (now area) f × (w < length (now lines))
-        × (start < length (now lines)) ⌝ }
-    ensures { λ r. ⌜ r ≡ while-passes (bare-listing (was tape) (was area) (was tokens) (was lines)) (fam-text (was tape) (was area) f)
-        start (volatile (rules-of rules)) w (bare-in (was tape) (was area) (was tokens) (getD (was lines) w 0)) ⌝ }
+    requires { ⌜ Listed (now tape) (now area) (now tokens) (now lines) × Known (now tape) (now area) (v .family)
+        × (w < length (now lines)) × (v .start < length (now lines)) ⌝ }
+    ensures { λ r. ⌜ r ≡ while-passes (bare-listing (was tape) (was area) (was tokens) (was lines))
+        (fam-text (was tape) (was area) (v .family)) (v .start) (volatile (rules-of (v .rules))) w
+        (bare-in (was tape) (was area) (was tokens) (getD (was lines) w 0)) ⌝ }
 {
     let l = lines[w];
-    if touches::uses(tape, area, words::line_of(tokens, l), f, rules) {
+    if touches::uses(tape, area, words::line_of(tokens, l), v.family, v.rules) {
         return false;
     }
     let indent = words::indent(l);
     let Position::At(d) = do_before(tape, area, tokens, &lines[..w], indent) else {
         return false; // a loop whose head is not known
     };
-    if start <= d {
+    if v.start <= d {
         return true;
     }
-    rerun_kills(tape, area, tokens, lines, d, indent, f, start, rules)
+    rerun_kills(tape, area, tokens, lines, d, indent, v)
 }
 
 // ---- `goto`
@@ -165,7 +165,7 @@ fn goto_target<'a>(
     Jump::To(at)
 }
 
-// At a line with a `goto` or none: a jump back above the definition, on line `start`, runs it again.
+// At a line with a `goto` or none: a jump back above the definition runs it again.
 pub fn goto_passes<'a>(
     tape: &'a [u8],
     area: &'a [u8],
@@ -173,26 +173,25 @@ pub fn goto_passes<'a>(
     lines: &'a [u64],
     labels: &'a [u64],
     l: u64,
-    f: Fam,
-    start: usize,
-    rules: Rules,
+    v: Followed,
 ) -> bool
     requires { ⌜ Listed (now tape) (now area) (now tokens) (now lines)
         × Labelled (bare-listing (now tape) (now area) (now tokens) (now lines)) (now labels) × Lined (now tape) (now area) (now tokens) l
-        × Known (now tape) (now area) f × (start < length (now lines)) ⌝ }
-    ensures { λ r. ⌜ r ≡ goto-passes (bare-listing (was tape) (was area) (was tokens) (was lines)) (fam-text (was tape) (was area) f)
-        start (volatile (rules-of rules)) (labels-at (bare-listing (was tape) (was area) (was tokens) (was lines)) (was labels))
+        × Known (now tape) (now area) (v .family) × (v .start < length (now lines)) ⌝ }
+    ensures { λ r. ⌜ r ≡ goto-passes (bare-listing (was tape) (was area) (was tokens) (was lines))
+        (fam-text (was tape) (was area) (v .family)) (v .start) (volatile (rules-of (v .rules)))
+        (labels-at (bare-listing (was tape) (was area) (was tokens) (was lines)) (was labels))
         (bare-in (was tape) (was area) (was tokens) l) ⌝ }
 {
     match goto_target(tape, area, tokens, lines, labels, l) {
         Jump::Nothing => true,
         Jump::Unknown => false,
         Jump::To(at) => {
-            if start < at {
+            if v.start < at {
                 return true;
             }
             let indent = words::indent(lines[at]);
-            rerun_kills(tape, area, tokens, lines, at, indent, f, start, rules)
+            rerun_kills(tape, area, tokens, lines, at, indent, v)
         }
     }
 }

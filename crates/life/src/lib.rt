@@ -9,6 +9,7 @@ mod touches; // how a line touches a family
 pub use dead::dead_after;
 pub use labels::gather_labels;
 pub use labels::shift_labels;
+pub use liveness::Followed;
 pub use touches::Touched;
 pub use touches::kills;
 pub use touches::touch;

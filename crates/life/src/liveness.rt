@@ -22,6 +22,14 @@ pub enum Liveness {
     Open,
 }
 
+// A value that is followed through the lines: the family that holds it, the line that defines it and that line's indent; the settings.
+pub struct Followed {
+    pub family: Fam,
+    pub indent: u64,
+    pub start: usize,
+    pub rules: Rules,
+}
+
 // A line that reads the value makes it Live, one that overwrites it, at most `deep` deep, Dead.
 pub fn liveness_at<'a>(
     tape: &'a [u8],
@@ -78,7 +86,7 @@ pub fn killed_first<'a>(
     false
 }
 
-// A jump back to behind line `to`, at this indent, runs the lines up to the definition, on line `start`, again: whether the value is
+// A jump back to behind line `to`, at this indent, runs the lines up to the definition again: whether the value is
 // overwritten there before any read.
 pub fn rerun_kills<'a>(
     tape: &'a [u8],
@@ -87,16 +95,22 @@ pub fn rerun_kills<'a>(
     lines: &'a [u64],
     to: usize,
     indent: u64,
-    f: Fam,
-    start: usize,
-    rules: Rules,
+    v: Followed,
 ) -> bool
-    requires { ⌜ Listed (now tape) (now area) (now tokens) (now lines) × Known (now tape) (now area) f × (to ≤ start)
-        × (start < length (now lines)) × (indent < 64) ⌝ }
+    requires { ⌜ Listed (now tape) (now area) (now tokens) (now lines) × Known (now tape) (now area) (v .family) × (to ≤ v .start)
+        × (v .start < length (now lines)) × (indent < 64) ⌝ }
     ensures { λ r. ⌜ r ≡ rerun-kills (bare-listing (was tape) (was area) (was tokens) (was lines))
-        (fam-text (was tape) (was area) f) start (volatile (rules-of rules)) to indent ⌝ }
+        (fam-text (was tape) (was area) (v .family)) (v .start) (volatile (rules-of (v .rules))) to indent ⌝ }
 {
     let from = to + 1;
-    let end = start + 1;
-    killed_first(tape, area, tokens, &lines[from..end], f, indent + 1, rules)
+    let end = v.start + 1;
+    killed_first(
+        tape,
+        area,
+        tokens,
+        &lines[from..end],
+        v.family,
+        indent + 1,
+        v.rules,
+    )
 }

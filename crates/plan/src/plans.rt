@@ -5,6 +5,7 @@ use crate::definitions::definition_of;
 use crate::reaches;
 use crate::slots::is_addressed;
 use crate::uses;
+use life::Followed;
 use life::dead_after;
 use lines::fams;
 use lines::fams::Fam;
@@ -186,20 +187,13 @@ fn plan_use<'a>(
     if shapes::has_while(tape, area, line) {
         return Plan::Nothing;
     }
-    let f = d.family;
-    let base_indent = words::indent(s);
-    if !dead_after(
-        tape,
-        area,
-        tokens,
-        lines,
-        labels,
-        j,
-        f,
-        base_indent,
-        i,
+    let v = Followed {
+        family: d.family,
+        indent: words::indent(s),
+        start: i,
         rules,
-    ) {
+    };
+    if !dead_after(tape, area, tokens, lines, labels, j, v) {
         return Plan::Nothing;
     }
     plan_among(tape, area, words::line_of(tokens, s), line, i, j, d, rules)

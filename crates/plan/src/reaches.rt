@@ -1,4 +1,5 @@
 // How far a constant reaches, and whether every use takes it: the scan and the tests of `propagate_constant` of the Rust.
+use life::Followed;
 use life::Touched;
 use life::dead_after;
 use linefacts::is_calling;
@@ -271,19 +272,13 @@ pub fn ends_at<'a>(
     ensures { λ r. ⌜ r ≡ ends-at (bare-listing (was tape) (was area) (was tokens) (was lines)) i (fam-text (was tape) (was area) f)
         (labels-at (bare-listing (was tape) (was area) (was tokens) (was lines)) (was labels)) (volatile (rules-of rules)) last ⌝ }
 {
-    let base_indent = words::indent(lines[i]);
-    if dead_after(
-        tape,
-        area,
-        tokens,
-        lines,
-        labels,
-        last,
-        f,
-        base_indent,
-        i,
+    let v = Followed {
+        family: f,
+        indent: words::indent(lines[i]),
+        start: i,
         rules,
-    ) {
+    };
+    if dead_after(tape, area, tokens, lines, labels, last, v) {
         return true;
     }
     life::kills(tape, area, words::line_of(tokens, lines[last]), f, rules)

@@ -1,4 +1,5 @@
 // Dead results: `drop_dead_results` of the Rust.
+use life::Followed;
 use life::dead_after;
 use life::gather_labels;
 use lines::rules::Rules;
@@ -55,18 +56,13 @@ fn is_dead_result<'a>(
     if !keeps_result(tape, area, words::line_of(tokens, l)) {
         return false;
     }
-    dead_after(
-        tape,
-        area,
-        tokens,
-        lines,
-        labels,
-        i,
-        RAX,
-        words::indent(l),
-        i,
+    let v = Followed {
+        family: RAX,
+        indent: words::indent(l),
+        start: i,
         rules,
-    )
+    };
+    dead_after(tape, area, tokens, lines, labels, i, v)
 }
 
 // Cuts the result of line i off, if it is never read, and says how many results that is.

@@ -14,11 +14,11 @@ use Rattle.life.proofs.dead.dead_after.Statement.{statement}
 use Rattle.life.proofs.dead.dead_after.Tie as tie
 
 abbrev Inv-loop : tie.InvT-loop
-Inv-loop tape area tokens lines labels from f base-indent start rules n overwritten w₀ w = dead-after (bare-listing tape area tokens lines) from (fam-text tape area f) base-indent (labels-at (bare-listing tape area tokens lines) labels) start (volatile (rules-of rules))
-    ≡ dead-rest tape area tokens lines (fam-text tape area f) base-indent (labels-at (bare-listing tape area tokens lines) labels) start (volatile (rules-of rules)) w
+Inv-loop tape area tokens lines labels from v n overwritten w₀ w = dead-after (bare-listing tape area tokens lines) from (fam-text tape area (v .family)) (v .indent) (labels-at (bare-listing tape area tokens lines) labels) (v .start) (volatile (rules-of (v .rules)))
+    ≡ dead-rest tape area tokens lines (fam-text tape area (v .family)) (v .indent) (labels-at (bare-listing tape area tokens lines) labels) (v .start) (volatile (rules-of (v .rules))) w
 
 abbrev μ-loop : tie.MeasureT-loop
-μ-loop tape area tokens lines labels from f base-indent start rules n overwritten w₀ w = length lines - w
+μ-loop tape area tokens lines labels from v n overwritten w₀ w = length lines - w
 
 number-of-requires : tie.Need-number-of-requires Inv-loop μ-loop
 number-of-requires c κs = search needs

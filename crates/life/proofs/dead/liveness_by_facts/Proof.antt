@@ -37,13 +37,13 @@ indent-requires c κs = search needs
 
 returns-3 : tie.Need-returns-3
 returns-3 c =
-    let s = before-is-transparent (c .before .before .before .before .before .before) in
-    after-calling (s .args .lines .now) _ _ _ _ _ _ _ _ (s .args .w) _ (s .pre .0 .at (s .args .w) (search needs)) (s .pre .5) (c .before .before .before .before .is-calling .ensures) (c .before .before .before .if2 .taken) (s .pre .6) (search (needs, not-false)) (c .before .indent .ensures) (c .if4 .taken)
+    let s = before-is-transparent (c .before .before .before .before .before .before .before) in
+    after-calling (s .args .lines .now) _ _ _ _ _ _ _ _ (s .args .w) _ (s .pre .0 .at (s .args .w) (search needs)) (s .pre .5) (c .before .before .before .before .before .is-calling .ensures) (c .before .before .before .before .if2 .taken) (s .pre .6) (search (needs, not-false)) (c .before .before .indent .ensures) (c .if4 .taken)
 
 returns-4 : tie.Need-returns-4
 returns-4 c =
-    let s = before-is-transparent (c .before .before .before .before .before .before) in
-    after-deep (s .args .lines .now) _ _ _ _ _ _ _ _ (s .args .w) _ (s .pre .0 .at (s .args .w) (search needs)) (s .pre .5) (c .before .before .before .before .is-calling .ensures) (c .before .before .before .if2 .taken) (s .pre .6) (search (needs, not-false)) (c .before .indent .ensures) (c .if4 .left)
+    let s = before-is-transparent (c .before .before .before .before .before .before .before) in
+    after-deep (s .args .lines .now) _ _ _ _ _ _ _ _ (s .args .w) _ (s .pre .0 .at (s .args .w) (search needs)) (s .pre .5) (c .before .before .before .before .before .is-calling .ensures) (c .before .before .before .before .if2 .taken) (s .pre .6) (search (needs, not-false)) (c .before .before .indent .ensures) (c .if4 .left)
 
 liveness-after-requires : tie.Need-liveness-after-requires
 liveness-after-requires c κs = search needs

@@ -49,13 +49,13 @@ returns-2 : tie.Need-returns-2
 returns-2 c = search (needs, loop-none (before-line-of (before-uses (c .before .before .before .before .before .before)) .args .lines .now))
 
 returns-3 : tie.Need-returns-3
-returns-3 c = search (needs, loop-after (before-line-of (before-uses (c .before .before .before .before .before .before .before .before)) .args .lines .now))
+returns-3 c = search (needs, loop-after (before-line-of (before-uses (c .before .before .before .before .before .before .before .before .before)) .args .lines .now))
 
 rerun-kills-requires : tie.Need-rerun-kills-requires
-rerun-kills-requires c κs = let p = before-line-of (before-uses (c .before .before .before .before .before .before .before .before)) .pre in (p .0, p .1, search needs, p .3, rw (c .before .before .before .before .before .before .indent .ensures) (indent-below _))
+rerun-kills-requires c κs = let p = before-line-of (before-uses (c .before .before .before .before .before .before .before .before .before)) .pre in (p .0, p .1, search needs, p .3, rw (c .before .before .before .before .before .before .before .indent .ensures) (indent-below _))
 
 returns-4 : tie.Need-returns-4
-returns-4 c = search (needs, loop-around (before-line-of (before-uses (c .before .before .before .before .before .before .before .before .before)) .args .lines .now))
+returns-4 c = search (needs, loop-around (before-line-of (before-uses (c .before .before .before .before .before .before .before .before .before .before)) .args .lines .now))
 
 pub while-passes-spec : {M : Type 1} → statement M
 while-passes-spec =
