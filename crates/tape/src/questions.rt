@@ -281,7 +281,8 @@ pub fn step(tape: &[u8], at: usize, totals: Totals) -> Stepped
     }
 }
 
-// Reads the command at an offset of a tape of either form. (The cleaning's step has a body of its own: shared with the conversions it was not inlined there.)
+// Reads the command at an offset of a tape of either form. (The cleaning's step has a body of its own: shared with the conversions it was
+// not inlined there.)
 pub fn step_by(tape: &[u8], at: usize, totals: Totals, based: bool) -> Stepped
     ensures { λ r. ⌜ stepped (was tape) at r ≡ read-command-by (form-of based) (was tape) at (totals-of totals) ⌝ }
     ensures { λ r. ⌜ FromHereBy (form-of based) (was tape) at (totals-of totals) (stepped (was tape) at r) ⌝ }
