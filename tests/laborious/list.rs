@@ -1,10 +1,10 @@
-//! What the program `laborious_rounds` must print, by the test oracle and the real Rust: list > EXPECTED
+//! What the program `test_laborious` must print, by the test oracle and the real Rust: list > EXPECTED
 //!
 //! The tape is the oracle's own (M-108's hint, as the library's is); the attempts are those that the real Rust's first round makes on it, counted in
 //! the oracle's instrumented copy. Build it with the oracle at hand:
 //!
 //!     rustc --edition 2021 -O --extern oracle=ORACLE_BUILD/liboracle.rlib -o OUT/list tests/laborious/list.rs
-//!     OUT/list > crates/laborious_rounds/stdout
+//!     OUT/list > crates/test_laborious/stdout
 //!
 //! where ORACLE_BUILD is the folder that the oracle was built in.
 

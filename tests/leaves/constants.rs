@@ -2,7 +2,7 @@
 //! Build it with the oracle at hand, and append what it prints to the vectors of the Rust:
 //!
 //!     rustc --edition 2021 -O --extern oracle=ORACLE_BUILD/liboracle.rlib -o OUT/constants tests/leaves/constants.rs
-//!     OUT/constants >> crates/leaves/stdin
+//!     OUT/constants >> crates/test_leaves/stdin
 //!
 //! where ORACLE_BUILD is the folder that the oracle was built in.
 

@@ -1,8 +1,8 @@
-//! The list that the program `replay_offsets` replays, with the test oracle's answers: generate > crates/replay_offsets/stdin
+//! The list that the program `test_offsets` replays, with the test oracle's answers: generate > crates/test_offsets/stdin
 //!
 //! Of the oracle's generated calls, the first ones of each answer, each way, that are short: up to 60 that are not refused and 20 of each number, the
 //! tape at most 200 bytes, for 10 at most 5,000; of 11, whose tapes have more than 24,576 bytes, one each way. The form of a frame is in
-//! crates/replay_offsets/src/main.rt. Build it with the oracle at hand:
+//! crates/test_offsets/src/main.rt. Build it with the oracle at hand:
 //!
 //!     rustc --edition 2021 -O --extern oracle=ORACLE_BUILD/liboracle.rlib -o OUT/generate tests/offsets/generate.rs
 //!

@@ -1,7 +1,7 @@
 //! The answers of the test oracle to the calls that `generate` asks: answers LANDED < calls > answers
 //!
 //! LANDED is the oracle's list of requests that have landed (`none`, `109,112`, .., `all`). A call is five numbers of four bytes, the lowest first: the
-//! settings, as crates/replay/src/frames.rt has them; the lengths of both work areas and of the output; the length of the tape; then the tape. Its
+//! settings, as crates/test_replay/src/frames.rt has them; the lengths of both work areas and of the output; the length of the tape; then the tape. Its
 //! answer: the ten numbers of the report, four bytes each, then the output up to the report's length. Build it with the oracle at hand:
 //!
 //!     rustc --edition 2021 -O --extern oracle=ORACLE_BUILD/liboracle.rlib -o OUT/answers tests/replay/answers.rs

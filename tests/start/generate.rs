@@ -1,7 +1,7 @@
-//! The list that the program `replay_start` replays, with the test oracle's answers: generate > crates/replay_start/stdin
+//! The list that the program `test_start` replays, with the test oracle's answers: generate > crates/test_start/stdin
 //!
 //! What is asked is made here, and some of it by the oracle's generator; every answer is the oracle's. The form of a frame is in
-//! crates/replay_start/src/main.rt. Build it with the oracle at hand:
+//! crates/test_start/src/main.rt. Build it with the oracle at hand:
 //!
 //!     rustc --edition 2021 -O --extern oracle=ORACLE_BUILD/liboracle.rlib -o OUT/generate tests/start/generate.rs
 //!

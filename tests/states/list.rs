@@ -1,9 +1,9 @@
-//! The list of calls that the program `replay_states` makes, and what it must print, by the test oracle: list LIST EXPECTED
+//! The list of calls that the program `test_states` makes, and what it must print, by the test oracle: list LIST EXPECTED
 //!
-//! The form of a frame is in crates/replay_states/src/main.rt. Build it with the oracle at hand:
+//! The form of a frame is in crates/test_states/src/main.rt. Build it with the oracle at hand:
 //!
 //!     rustc --edition 2021 -O --extern oracle=ORACLE_BUILD/liboracle.rlib -o OUT/list tests/states/list.rs
-//!     OUT/list crates/replay_states/stdin crates/replay_states/stdout
+//!     OUT/list crates/test_states/stdin crates/test_states/stdout
 //!
 //! where ORACLE_BUILD is the folder that the oracle was built in.
 

@@ -8,6 +8,7 @@ ghost use mathlib.Core.Path.{_≡_};
 ghost use mathlib.Core.List.{[], _∷_};
 ghost use Prim.Native.Nat.{_+_, _≤_, _<_};
 ghost use lib.ListN.{length, take};
+ghost use Rattle.reference.specs.Contract.{was};
 ghost use Rattle.reference.specs.Control.{if_then_else_};
 ghost use Rattle.reference.specs.Tape.{to-le-bytes};
 ghost use Rattle.numbers.specs.Writing.{Written};
@@ -16,7 +17,7 @@ ghost use Rattle.arguments.specs.Entries.{equals-at, is-entry, entry-val
 
 // Where the first = stands; past the last byte, if there is none.
 fn equals_at(word: &[u8]) -> usize
-    ensures { λ r. ⌜ r ≡ equals-at (now (word .entry)) ⌝ }
+    ensures { λ r. ⌜ r ≡ equals-at (was word) ⌝ }
 {
     let mut i = 0;
     while i < word.len() {
@@ -30,7 +31,7 @@ fn equals_at(word: &[u8]) -> usize
 
 // Whether an operand has a =, and does not begin as the path of a file.
 pub fn is_entry(word: &[u8]) -> bool
-    ensures { λ r. ⌜ r ≡ is-entry (now (word .entry)) ⌝ }
+    ensures { λ r. ⌜ r ≡ is-entry (was word) ⌝ }
 {
     if starts(word, b".") {
         return false;
@@ -43,7 +44,7 @@ pub fn is_entry(word: &[u8]) -> bool
 
 // The value of an entry, if it has one and its name is not too long.
 pub fn entry_value(word: &[u8]) -> Value
-    ensures { λ r. ⌜ option-of r ≡ entry-value (now (word .entry)) ⌝ }
+    ensures { λ r. ⌜ option-of r ≡ entry-value (was word) ⌝ }
 {
     let n = equals_at(word);
     if 255 < n {
@@ -58,7 +59,7 @@ pub fn entry_value(word: &[u8]) -> Value
 // Puts a byte.
 fn put_byte(b: u8, out: &mut [u8], at: usize) -> usize
     requires { ⌜ at < length (now out) ⌝ }
-    ensures { λ r. ⌜ Written (now (out .entry)) at (b ∷ []) (now (out .exit)) r ⌝ }
+    ensures { λ r. ⌜ Written (was out) at (b ∷ []) (now (out .exit)) r ⌝ }
 {
     out[at] = b;
     at + 1
@@ -67,7 +68,7 @@ fn put_byte(b: u8, out: &mut [u8], at: usize) -> usize
 // Puts a text.
 fn put_text(s: &[u8], out: &mut [u8], at: usize) -> usize
     requires { ⌜ at + length (now s) ≤ length (now out) ⌝ }
-    ensures { λ r. ⌜ Written (now (out .entry)) at (now (s .entry)) (now (out .exit)) r ⌝ }
+    ensures { λ r. ⌜ Written (was out) at (was s) (now (out .exit)) r ⌝ }
 {
     copy_bytes(s, out, at);
     at + s.len()
@@ -76,7 +77,7 @@ fn put_text(s: &[u8], out: &mut [u8], at: usize) -> usize
 // Puts a value in 8 bytes.
 fn put_value(v: u64, out: &mut [u8], at: usize) -> usize
     requires { ⌜ at + 8 ≤ length (now out) ⌝ }
-    ensures { λ r. ⌜ Written (now (out .entry)) at (to-le-bytes 8 v) (now (out .exit)) r ⌝ }
+    ensures { λ r. ⌜ Written (was out) at (to-le-bytes 8 v) (now (out .exit)) r ⌝ }
 {
     put_number(v, 8, out, at);
     at + 8
@@ -85,7 +86,7 @@ fn put_value(v: u64, out: &mut [u8], at: usize) -> usize
 // Puts a name and its value.
 fn put_named(name: &[u8], v: u64, out: &mut [u8], at: usize) -> usize
     requires { ⌜ (length (now name) < 256) × (at + length (now name) + 9 ≤ length (now out)) ⌝ }
-    ensures { λ r. ⌜ Written (now (out .entry)) at (named-value (now (name .entry)) v) (now (out .exit)) r ⌝ }
+    ensures { λ r. ⌜ Written (was out) at (named-value (was name) v) (now (out .exit)) r ⌝ }
 {
     let a = put_byte((name.len() % 256) as u8, out, at);
     let b = put_text(name, out, a);
@@ -95,7 +96,7 @@ fn put_named(name: &[u8], v: u64, out: &mut [u8], at: usize) -> usize
 // Puts the first n bytes of a word as a name, and its value.
 fn put_front(word: &[u8], n: usize, v: u64, out: &mut [u8], at: usize) -> usize
     requires { ⌜ (n < 256) × (n ≤ length (now word)) × (at + length (now word) + 9 ≤ length (now out)) ⌝ }
-    ensures { λ r. ⌜ Written (now (out .entry)) at (named-value (take n (now (word .entry))) v) (now (out .exit)) r ⌝ }
+    ensures { λ r. ⌜ Written (was out) at (named-value (take n (was word)) v) (now (out .exit)) r ⌝ }
 {
     put_named(&word[..n], v, out, at)
 }
@@ -103,7 +104,7 @@ fn put_front(word: &[u8], n: usize, v: u64, out: &mut [u8], at: usize) -> usize
 // Puts the entry of a word; nothing of a word that is none.
 fn put_entry(word: &[u8], out: &mut [u8], at: usize) -> usize
     requires { ⌜ at + length (now word) + 9 ≤ length (now out) ⌝ }
-    ensures { λ r. ⌜ Written (now (out .entry)) at (entry-bytes (now (word .entry))) (now (out .exit)) r ⌝ }
+    ensures { λ r. ⌜ Written (was out) at (entry-bytes (was word)) (now (out .exit)) r ⌝ }
 {
     match entry_value(word) {
         Value::Is(v) => put_front(word, equals_at(word), v, out, at),
@@ -114,7 +115,7 @@ fn put_entry(word: &[u8], out: &mut [u8], at: usize) -> usize
 // The same, if the word was taken as an entry.
 pub fn put_taken(taken: bool, word: &[u8], out: &mut [u8], at: usize) -> usize
     requires { ⌜ at + length (now word) + 9 ≤ length (now out) ⌝ }
-    ensures { λ r. ⌜ Written (now (out .entry)) at (if taken then entry-bytes (now (word .entry)) else []) (now (out .exit)) r ⌝ }
+    ensures { λ r. ⌜ Written (was out) at (if taken then entry-bytes (was word) else []) (now (out .exit)) r ⌝ }
 {
     if taken {
         return put_entry(word, out, at);

@@ -7,6 +7,7 @@ use text::same;
 ghost use mathlib.Core.Path.{_≡_};
 ghost use Prim.Native.Nat.{_+_, _≤_};
 ghost use lib.ListN.{length, drop};
+ghost use Rattle.reference.specs.Contract.{was};
 ghost use Rattle.reference.specs.Control.{_&&_, if_then_else_};
 ghost use Rattle.reference.specs.Text.{_==_};
 ghost use lib.Dec.{eqb};
@@ -26,7 +27,7 @@ fn behind(b: u8, i: usize, last: usize) -> usize
 
 // Where the base name of a path begins: behind its last slash.
 fn base_at(path: &[u8]) -> usize
-    ensures { λ r. ⌜ (r ≤ length (now (path .entry))) × (drop r (now (path .entry)) ≡ base-name (now (path .entry))) ⌝ }
+    ensures { λ r. ⌜ (r ≤ length (was path)) × (drop r (was path) ≡ base-name (was path)) ⌝ }
 {
     let mut at = 0;
     let mut i = 0;
@@ -39,7 +40,7 @@ fn base_at(path: &[u8]) -> usize
 
 // Whether two paths have one base name.
 fn same_base(a: &[u8], b: &[u8]) -> bool
-    ensures { λ r. ⌜ r ≡ (base-name (now (a .entry)) == base-name (now (b .entry))) ⌝ }
+    ensures { λ r. ⌜ r ≡ (base-name (was a) == base-name (was b)) ⌝ }
 {
     let i = base_at(a);
     let j = base_at(b);
@@ -48,7 +49,7 @@ fn same_base(a: &[u8], b: &[u8]) -> bool
 
 // The same of a word that was taken as an operand.
 fn is_same(taken: bool, a: &[u8], b: &[u8]) -> bool
-    ensures { λ r. ⌜ r ≡ (taken && base-name (now (a .entry)) == base-name (now (b .entry))) ⌝ }
+    ensures { λ r. ⌜ r ≡ (taken && base-name (was a) == base-name (was b)) ⌝ }
 {
     if taken {
         return same_base(a, b);
@@ -60,7 +61,7 @@ fn is_same(taken: bool, a: &[u8], b: &[u8]) -> bool
 // none. s is what is known before it.
 fn same_later(path: &[u8], s: Request, k: u64, words: &[u8], from: usize) -> u64
     requires { ⌜ (k ≤ from + 1) × (from ≤ length (now words) + 1) ⌝ }
-    ensures { λ r. ⌜ r ≡ same-later (now (path .entry)) s k (split (drop from (now (words .entry)))) ⌝ }
+    ensures { λ r. ⌜ r ≡ same-later (was path) s k (split (drop from (was words))) ⌝ }
 {
     let mut t = s;
     let mut n = k;
@@ -80,7 +81,7 @@ fn same_later(path: &[u8], s: Request, k: u64, words: &[u8], from: usize) -> u64
 // The same, if the path was taken as an operand; otherwise 0.
 fn taken_later(taken: bool, path: &[u8], s: Request, k: u64, words: &[u8], from: usize) -> u64
     requires { ⌜ (k ≤ from + 1) × (from ≤ length (now words) + 1) ⌝ }
-    ensures { λ r. ⌜ r ≡ (if taken then same-later (now (path .entry)) s k (split (drop from (now (words .entry)))) else 0) ⌝ }
+    ensures { λ r. ⌜ r ≡ (if taken then same-later (was path) s k (split (drop from (was words))) else 0) ⌝ }
 {
     if taken {
         return same_later(path, s, k, words, from);
@@ -90,7 +91,7 @@ fn taken_later(taken: bool, path: &[u8], s: Request, k: u64, words: &[u8], from:
 
 // The number of an operand that has the base name of one before it; 0 if there is none.
 pub fn clash(words: &[u8]) -> u64
-    ensures { λ r. ⌜ r ≡ clash-of (split (now (words .entry))) ⌝ }
+    ensures { λ r. ⌜ r ≡ clash-of (split (was words)) ⌝ }
 {
     let mut s = begin();
     let mut k: u64 = 1;

@@ -18,12 +18,14 @@ use crate::values::is_name;
 use crate::values::value_of;
 use crate::words::word_end;
 ghost use mathlib.Core.Path.{_≡_};
+ghost use Rattle.reference.specs.Contract.{was};
 ghost use Rattle.arguments.specs.Words.{split, number-of};
 ghost use Rattle.arguments.specs.Tables.{verbs, options, conventions, editions, kind-of};
 ghost use Rattle.arguments.specs.Requests.{none-yet, is-option, put-verb, take-goal, put-convention, put-edition};
 ghost use Rattle.arguments.specs.Requests.{put-wanted, take-wanted, take-chosen, take-value};
 ghost use Rattle.arguments.specs.Requests.{set-option, put-option, take-number, take-name, put-operand, take-entry, take-operand};
-ghost use Rattle.arguments.specs.Requests.{step-of, judge-files, judge-goal, judge-start, judge-operands, judged, request-of, entries-of};
+ghost use Rattle.arguments.specs.Requests.{step-of, judge-files, judge-goal, judge-start, judge-operands, judged};
+ghost use Rattle.arguments.specs.Requests.{request-of, entries-of};
 ghost use Prim.Native.Nat.{_+_, _*_, _≤_};
 ghost use lib.ListN.{length};
 ghost use Rattle.numbers.specs.Writing.{Written};
@@ -69,7 +71,7 @@ fn put_verb(s: Request, k: u64, n: u64) -> Request
 }
 
 fn take_verb(s: Request, k: u64, word: &[u8]) -> Request
-    ensures { λ r. ⌜ r ≡ put-verb s k (number-of verbs (now (word .entry))) ⌝ }
+    ensures { λ r. ⌜ r ≡ put-verb s k (number-of verbs (was word)) ⌝ }
 {
     put_verb(s, k, verb_number(word))
 }
@@ -94,7 +96,7 @@ fn put_convention(s: Request, k: u64, n: u64) -> Request
 }
 
 fn take_convention(s: Request, k: u64, word: &[u8]) -> Request
-    ensures { λ r. ⌜ r ≡ put-convention s k (number-of conventions (now (word .entry))) ⌝ }
+    ensures { λ r. ⌜ r ≡ put-convention s k (number-of conventions (was word)) ⌝ }
 {
     put_convention(s, k, convention_number(word))
 }
@@ -109,14 +111,14 @@ fn put_edition(s: Request, k: u64, n: u64) -> Request
 }
 
 fn take_edition(s: Request, k: u64, word: &[u8]) -> Request
-    ensures { λ r. ⌜ r ≡ put-edition s k (number-of editions (now (word .entry))) ⌝ }
+    ensures { λ r. ⌜ r ≡ put-edition s k (number-of editions (was word)) ⌝ }
 {
     put_edition(s, k, edition_number(word))
 }
 
 // Word k is the value that is to be returned.
 fn put_wanted(s: Request, k: u64, word: &[u8]) -> Request
-    ensures { λ r. ⌜ r ≡ put-wanted s k (now (word .entry)) ⌝ }
+    ensures { λ r. ⌜ r ≡ put-wanted s k (was word) ⌝ }
 {
     match integer_in(word) {
         Value::Is(v) => s.with_wanted(v, k),
@@ -125,7 +127,7 @@ fn put_wanted(s: Request, k: u64, word: &[u8]) -> Request
 }
 
 fn take_wanted(s: Request, k: u64, word: &[u8]) -> Request
-    ensures { λ r. ⌜ r ≡ take-wanted s k (now (word .entry)) ⌝ }
+    ensures { λ r. ⌜ r ≡ take-wanted s k (was word) ⌝ }
 {
     if s.wanted_at == 0 {
         return put_wanted(s, k, word);
@@ -145,7 +147,7 @@ fn take_chosen(s: Request, k: u64) -> Request
 
 // Word k is the value of the option before it: -c, -e, -o, -d, --return or --choose.
 fn take_value(s: Request, k: u64, word: &[u8]) -> Request
-    ensures { λ r. ⌜ r ≡ take-value s k (now (word .entry)) ⌝ }
+    ensures { λ r. ⌜ r ≡ take-value s k (was word) ⌝ }
 {
     if s.pending == 1 {
         return take_convention(s, k, word);
@@ -198,14 +200,14 @@ fn put_option(s: Request, k: u64, n: u64) -> Request
 }
 
 fn take_option(s: Request, k: u64, word: &[u8]) -> Request
-    ensures { λ r. ⌜ r ≡ put-option s k (number-of options (now (word .entry))) ⌝ }
+    ensures { λ r. ⌜ r ≡ put-option s k (number-of options (was word)) ⌝ }
 {
     put_option(s, k, option_number(word))
 }
 
 // Word k is an operand that stands for a number.
 fn take_number(s: Request, k: u64, kind: u8, word: &[u8]) -> Request
-    ensures { λ r. ⌜ r ≡ take-number s k kind (now (word .entry)) ⌝ }
+    ensures { λ r. ⌜ r ≡ take-number s k kind (was word) ⌝ }
 {
     match value_of(kind, word) {
         Value::Is(v) => s.with_operand(k).with_value(v),
@@ -215,7 +217,7 @@ fn take_number(s: Request, k: u64, kind: u8, word: &[u8]) -> Request
 
 // Word k is the name of a state.
 fn take_name(s: Request, k: u64, word: &[u8]) -> Request
-    ensures { λ r. ⌜ r ≡ take-name s k (now (word .entry)) ⌝ }
+    ensures { λ r. ⌜ r ≡ take-name s k (was word) ⌝ }
 {
     if is_name(word) {
         return s.with_operand(k);
@@ -225,7 +227,7 @@ fn take_name(s: Request, k: u64, word: &[u8]) -> Request
 
 // Word k is an operand of a kind.
 fn put_operand(s: Request, k: u64, kind: u8, word: &[u8]) -> Request
-    ensures { λ r. ⌜ r ≡ put-operand s k kind (now (word .entry)) ⌝ }
+    ensures { λ r. ⌜ r ≡ put-operand s k kind (was word) ⌝ }
 {
     if kind == b'f' {
         return s.with_operand(k);
@@ -240,14 +242,14 @@ fn put_operand(s: Request, k: u64, kind: u8, word: &[u8]) -> Request
 }
 
 fn next_operand(s: Request, k: u64, word: &[u8]) -> Request
-    ensures { λ r. ⌜ r ≡ put-operand s k (kind-of (s .verb) (s .operands)) (now (word .entry)) ⌝ }
+    ensures { λ r. ⌜ r ≡ put-operand s k (kind-of (s .verb) (s .operands)) (was word) ⌝ }
 {
     put_operand(s, k, kind_of(s.verb, s.operands), word)
 }
 
 // Word k is REG=VALUE.
 fn take_entry(s: Request, k: u64, word: &[u8]) -> Request
-    ensures { λ r. ⌜ r ≡ take-entry s k (now (word .entry)) ⌝ }
+    ensures { λ r. ⌜ r ≡ take-entry s k (was word) ⌝ }
 {
     match entry_value(word) {
         Value::Is(v) => s.with_entry(k),
@@ -257,7 +259,7 @@ fn take_entry(s: Request, k: u64, word: &[u8]) -> Request
 
 // Word k is an operand; of `start` it may be an entry.
 fn take_operand(s: Request, k: u64, word: &[u8]) -> Request
-    ensures { λ r. ⌜ r ≡ take-operand s k (now (word .entry)) ⌝ }
+    ensures { λ r. ⌜ r ≡ take-operand s k (was word) ⌝ }
 {
     if s.verb != 15 {
         return next_operand(s, k, word);
@@ -270,7 +272,7 @@ fn take_operand(s: Request, k: u64, word: &[u8]) -> Request
 
 // An option begins with a -; a - alone is standard input.
 fn is_option(word: &[u8]) -> bool
-    ensures { λ r. ⌜ r ≡ is-option (now (word .entry)) ⌝ }
+    ensures { λ r. ⌜ r ≡ is-option (was word) ⌝ }
 {
     if word.len() < 2 {
         return false;
@@ -280,7 +282,7 @@ fn is_option(word: &[u8]) -> bool
 
 // Takes word k. Help is asked for by -h or --help wherever it stands, and what comes behind a fault is not looked at.
 pub fn step(s: Request, k: u64, word: &[u8]) -> Request
-    ensures { λ r. ⌜ r ≡ step-of s k (now (word .entry)) ⌝ }
+    ensures { λ r. ⌜ r ≡ step-of s k (was word) ⌝ }
 {
     if help_number(word) < 2 {
         return s.with_help();
@@ -375,7 +377,7 @@ fn judge(s: Request) -> Request
 
 // What a slice of words asks for.
 pub fn parse(words: &[u8]) -> Request
-    ensures { λ r. ⌜ r ≡ request-of (split (now (words .entry))) ⌝ }
+    ensures { λ r. ⌜ r ≡ request-of (split (was words)) ⌝ }
 {
     let mut s = begin();
     let mut k: u64 = 1;
@@ -392,7 +394,7 @@ pub fn parse(words: &[u8]) -> Request
 // Puts the entries of a slice of words at the front, as the list that crate start takes, and says how long it is.
 pub fn put_entries(words: &[u8], out: &mut [u8]) -> usize
     requires { ⌜ 9 * length (now words) + 9 ≤ length (now out) ⌝ }
-    ensures { λ r. ⌜ Written (now (out .entry)) 0 (entries-of (split (now (words .entry)))) (now (out .exit)) r ⌝ }
+    ensures { λ r. ⌜ Written (was out) 0 (entries-of (split (was words))) (now (out .exit)) r ⌝ }
 {
     let mut s = begin();
     let mut k: u64 = 1;

@@ -3,13 +3,14 @@ use crate::words::number_of;
 use tape::little_endian::wide;
 ghost use mathlib.Core.Path.{_≡_};
 ghost use lib.ListN.{length, getD};
+ghost use Rattle.reference.specs.Contract.{was};
 ghost use Rattle.arguments.specs.Words.{number-of};
 ghost use Prim.Native.Nat.{_+_, _*_, _≤_, min};
 ghost use Rattle.arguments.specs.Tables.{verbs, options, helps, conventions, editions, actions};
 ghost use Rattle.arguments.specs.Tables.{kind-of, taking, row-of, fewest, most};
 
 pub fn verb_number(word: &[u8]) -> u64
-    ensures { λ r. ⌜ r ≡ number-of verbs (now (word .entry)) ⌝ }
+    ensures { λ r. ⌜ r ≡ number-of verbs (was word) ⌝ }
 {
     number_of(
         b"clean\0counts\0check\0show\0tape\0addresses\0edition\0offsets\0laborious\0state\0help\0version\0--version\0page\0start\0",
@@ -18,7 +19,7 @@ pub fn verb_number(word: &[u8]) -> u64
 }
 
 pub fn option_number(word: &[u8]) -> u64
-    ensures { λ r. ⌜ r ≡ number-of options (now (word .entry)) ⌝ }
+    ensures { λ r. ⌜ r ≡ number-of options (was word) ⌝ }
 {
     number_of(
         b"-c\0-e\0--parts\0--profile\0--settle\0-o\0-d\0--exact\0--return\0--choose\0",
@@ -27,32 +28,32 @@ pub fn option_number(word: &[u8]) -> u64
 }
 
 pub fn help_number(word: &[u8]) -> u64
-    ensures { λ r. ⌜ r ≡ number-of helps (now (word .entry)) ⌝ }
+    ensures { λ r. ⌜ r ≡ number-of helps (was word) ⌝ }
 {
     number_of(b"-h\0--help\0", word)
 }
 
 pub fn convention_number(word: &[u8]) -> u64
-    ensures { λ r. ⌜ r ≡ number-of conventions (now (word .entry)) ⌝ }
+    ensures { λ r. ⌜ r ≡ number-of conventions (was word) ⌝ }
 {
     number_of(b"32\0sysv\0windows\0", word)
 }
 
 pub fn edition_number(word: &[u8]) -> u64
-    ensures { λ r. ⌜ r ≡ number-of editions (now (word .entry)) ⌝ }
+    ensures { λ r. ⌜ r ≡ number-of editions (was word) ⌝ }
 {
     number_of(b"2018\02024\0", word)
 }
 
 pub fn action_number(word: &[u8]) -> u64
-    ensures { λ r. ⌜ r ≡ number-of actions (now (word .entry)) ⌝ }
+    ensures { λ r. ⌜ r ≡ number-of actions (was word) ⌝ }
 {
     number_of(b"list\0save\0get\0delete\0", word)
 }
 
 // The byte of a table at a place; 0 past its end.
 fn entry(table: &[u8], i: u64) -> u8
-    ensures { λ r. ⌜ r ≡ getD (now (table .entry)) i 0 ⌝ }
+    ensures { λ r. ⌜ r ≡ getD (was table) i 0 ⌝ }
 {
     let at = i as usize;
     if at < table.len() {

@@ -6,6 +6,7 @@ use tape::little_endian::wide;
 ghost use mathlib.Core.Path.{_≡_};
 ghost use Prim.Native.Nat.{_+_, _*_, _≤_, _<_};
 ghost use lib.ListN.{length};
+ghost use Rattle.reference.specs.Contract.{was};
 ghost use Rattle.arguments.specs.Words.{number-of};
 ghost use Rattle.arguments.specs.Tables.{verbs, editions, actions};
 ghost use Rattle.arguments.specs.Values.{option-of, digit, number-in, below, base-in, is-name, value-of};
@@ -45,7 +46,7 @@ fn digit(b: u64) -> u64
 // The number that a word of 1 to 16 digits stands for.
 pub fn number_in(word: &[u8], base: u64) -> Value
     requires { ⌜ base ≤ 16 ⌝ }
-    ensures { λ r. ⌜ option-of r ≡ number-in base (now (word .entry)) ⌝ }
+    ensures { λ r. ⌜ option-of r ≡ number-in base (was word) ⌝ }
 {
     if word.len() == 0 {
         return Value::Not;
@@ -78,7 +79,7 @@ fn below(n: u64, count: u64) -> Value
 
 // A base: hexadecimal, with 0x in front or without.
 fn base_in(word: &[u8]) -> Value
-    ensures { λ r. ⌜ option-of r ≡ base-in (now (word .entry)) ⌝ }
+    ensures { λ r. ⌜ option-of r ≡ base-in (was word) ⌝ }
 {
     if text::starts(word, b"0x") {
         return number_in(&word[2..], 16);
@@ -92,7 +93,7 @@ const MOST: u64 = 18446744073709551615;
 // The number below 2^64 that a word of digits stands for.
 fn unsigned_in(word: &[u8], base: u64) -> Value
     requires { ⌜ (0 < base) × (base ≤ 16) ⌝ }
-    ensures { λ r. ⌜ option-of r ≡ unsigned-in base (now (word .entry)) ⌝ }
+    ensures { λ r. ⌜ option-of r ≡ unsigned-in base (was word) ⌝ }
 {
     if word.len() == 0 {
         return Value::Not;
@@ -115,7 +116,7 @@ fn unsigned_in(word: &[u8], base: u64) -> Value
 
 // The same, decimal, or hexadecimal behind 0x.
 fn magnitude_in(word: &[u8]) -> Value
-    ensures { λ r. ⌜ option-of r ≡ magnitude-in (now (word .entry)) ⌝ }
+    ensures { λ r. ⌜ option-of r ≡ magnitude-in (was word) ⌝ }
 {
     if text::starts(word, b"0x") {
         return unsigned_in(&word[2..], 16);
@@ -138,7 +139,7 @@ fn negated(v: u64) -> Value
 
 // The same of a word.
 fn negative_in(word: &[u8]) -> Value
-    ensures { λ r. ⌜ option-of r ≡ negative-in (now (word .entry)) ⌝ }
+    ensures { λ r. ⌜ option-of r ≡ negative-in (was word) ⌝ }
 {
     match magnitude_in(word) {
         Value::Is(v) => negated(v),
@@ -148,7 +149,7 @@ fn negative_in(word: &[u8]) -> Value
 
 // What a 64-bit register can hold: 0 to 2^64 - 1, or -1 to -2^63.
 pub fn integer_in(word: &[u8]) -> Value
-    ensures { λ r. ⌜ option-of r ≡ integer-in (now (word .entry)) ⌝ }
+    ensures { λ r. ⌜ option-of r ≡ integer-in (was word) ⌝ }
 {
     if text::starts(word, b"-") {
         return negative_in(&word[1..]);
@@ -158,7 +159,7 @@ pub fn integer_in(word: &[u8]) -> Value
 
 // A name has 1 to 8 bytes.
 pub fn is_name(word: &[u8]) -> bool
-    ensures { λ r. ⌜ r ≡ is-name (now (word .entry)) ⌝ }
+    ensures { λ r. ⌜ r ≡ is-name (was word) ⌝ }
 {
     if word.len() == 0 {
         return false;
@@ -167,26 +168,26 @@ pub fn is_name(word: &[u8]) -> bool
 }
 
 fn edition_in(word: &[u8]) -> Value
-    ensures { λ r. ⌜ option-of r ≡ below (number-of editions (now (word .entry))) 2 ⌝ }
+    ensures { λ r. ⌜ option-of r ≡ below (number-of editions (was word)) 2 ⌝ }
 {
     below(edition_number(word), 2)
 }
 
 fn action_in(word: &[u8]) -> Value
-    ensures { λ r. ⌜ option-of r ≡ below (number-of actions (now (word .entry))) 4 ⌝ }
+    ensures { λ r. ⌜ option-of r ≡ below (number-of actions (was word)) 4 ⌝ }
 {
     below(action_number(word), 4)
 }
 
 fn verb_in(word: &[u8]) -> Value
-    ensures { λ r. ⌜ option-of r ≡ below (number-of verbs (now (word .entry))) 15 ⌝ }
+    ensures { λ r. ⌜ option-of r ≡ below (number-of verbs (was word)) 15 ⌝ }
 {
     below(verb_number(word), 15)
 }
 
 // What an operand of a kind stands for (the kinds of `kind_of`).
 pub fn value_of(kind: u8, word: &[u8]) -> Value
-    ensures { λ r. ⌜ option-of r ≡ value-of kind (now (word .entry)) ⌝ }
+    ensures { λ r. ⌜ option-of r ≡ value-of kind (was word) ⌝ }
 {
     if kind == b'e' {
         return edition_in(word);

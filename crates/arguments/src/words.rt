@@ -4,12 +4,13 @@ ghost use mathlib.Core.Path.{_≡_};
 ghost use Prim.Native.Nat.{_+_, _≤_};
 ghost use mathlib.Core.List.{[]};
 ghost use lib.ListN.{length, getD};
+ghost use Rattle.reference.specs.Contract.{was};
 ghost use Rattle.arguments.specs.Words.{split, number-of, EndsAt};
 
 // Where the word that begins at `at` ends: at the first 0 from there on, or with the slice.
 pub fn word_end(words: &[u8], at: usize) -> usize
     requires { ⌜ at ≤ length (now words) ⌝ }
-    ensures { λ r. ⌜ EndsAt (now (words .entry)) at r ⌝ }
+    ensures { λ r. ⌜ EndsAt (was words) at r ⌝ }
 {
     let mut e = at;
     while e < words.len() {
@@ -23,7 +24,7 @@ pub fn word_end(words: &[u8], at: usize) -> usize
 
 // The number of a word in a row of words, from 0; how many there are, if it is none of them.
 pub fn number_of(row: &[u8], word: &[u8]) -> u64
-    ensures { λ r. ⌜ r ≡ number-of (split (now (row .entry))) (now (word .entry)) ⌝ }
+    ensures { λ r. ⌜ r ≡ number-of (split (was row)) (was word) ⌝ }
 {
     let mut n: u64 = 0;
     let mut at = 0;
@@ -40,7 +41,7 @@ pub fn number_of(row: &[u8], word: &[u8]) -> u64
 
 // The word of a row that has a number, from 0; nothing past the last one.
 pub fn nth_word(row: &[u8], n: u64) -> &[u8]
-    ensures { λ r. ⌜ now r ≡ getD (split (now (row .entry))) n [] ⌝ }
+    ensures { λ r. ⌜ now r ≡ getD (split (was row)) n [] ⌝ }
 {
     let mut left = n;
     let mut at = 0;

@@ -11,14 +11,14 @@ use Rattle.reference.specs.Listing.{Token, Line, with-tokens}
 use Rattle.reference.specs.Numbers.{merge, fold}
 use Rattle.reference.specs.Join.{substitute, rewrite-use}
 use Rattle.lines.specs.Words.{tokens-of}
-use Rattle.lines.specs.Lines.{Reading, first-of, count-of, marks-of, part-of, with-part, line-read, Lined}
-use Rattle.lines.proofs.words.Lines.{count-below, with-first, with-count, with-unmarked, with-read, no-marks}
+use Rattle.lines.specs.Lines.{Reading, first-of, count-of, facts-of, part-of, with-part, line-read, Lined}
+use Rattle.lines.proofs.words.Lines.{count-below, with-first, with-count, with-factless, with-read, no-facts}
 use Rattle.build.specs.declared.used.Size.{Size}
-use Rattle.build.specs.State.{used, words-from, Laid}
+use Rattle.build.specs.State.{used, words-from, LineAdded}
 use Rattle.build.specs.Added.{used-words, Added}
 
 module _ {tape area : Text} {tokens : List ℕ} {at : Size} {out : List Token} {n k : ℕ} {area′ : Text} {tokens′ : List ℕ} {at′ : Size}
-    (l : Laid tape area tokens at out n k area′ tokens′ at′) (w : ℕ) (hf : at .tokens < 65536) (hk : k < 2048) where
+    (l : LineAdded tape area tokens at out n k area′ tokens′ at′) (w : ℕ) (hf : at .tokens < 65536) (hk : k < 2048) where
   -- what its word asks
   pub count-fits : at′ .tokens - at .tokens < 2048
   count-fits = omega (arith, l .words-most)
@@ -46,7 +46,7 @@ module _ {tape area : Text} {tokens : List ℕ} {at : Size} {out : List Token} {
           lined = record {
             inside = rw (first-is, count-is, length-take-le (at′ .tokens) tokens′ (l .built .words-fit)) (omega (arith, l .built .after));
             holds = rw part-is (l .built .holds);
-            marks = no-marks _ (ap marks-of ev ∙ with-unmarked w (at .tokens) (at′ .tokens - at .tokens) hf count-fits);
+            facts = no-facts _ (ap facts-of ev ∙ with-factless w (at .tokens) (at′ .tokens - at .tokens) hf count-fits);
           };
           line-is = λ addresses.
               ap (line-read tape (used area′ at′) (used-words tokens′ at′) addresses) ev
@@ -69,13 +69,13 @@ part-length {words = words} {w} i = length-take-le (count-of w) (drop (first-of 
 -- a line kept, and a line rewritten: the address and the indent are the old line's
 module _ {tape old : Text} {words : List ℕ} {w : ℕ} (i : Lined tape old words w) {area : Text} {tokens : List ℕ} {at : Size} {area′ : Text} {tokens′ : List ℕ} {at′ : Size}
     (hf : at .tokens < 65536) {v : ℕ} (ev : v ≡ with-part w (at .tokens) (at′ .tokens - at .tokens)) where
-  pub added-kept : {n : ℕ} → Laid tape area tokens at (tokens-of tape old (part-of words w)) n (length (part-of words w)) area′ tokens′ at′
+  pub added-kept : {n : ℕ} → LineAdded tape area tokens at (tokens-of tape old (part-of words w)) n (length (part-of words w)) area′ tokens′ at′
       → Added tape area tokens at (λ addresses. line-read tape old words addresses w) n (count-of w) area′ tokens′ (record { line = v; size = at′ })
   added-kept l =
       rw (part-length i) at (added l w hf (omega (arith, part-length i, count-below w)) ev (λ addresses. line-read tape old words addresses w) (λ addresses. refl))
 
   pub added-rewritten : (edition : ℕ) (name : Text) (right : List Token) {n k : ℕ} → k < 2048
-      → Laid tape area tokens at (fold edition (merge (substitute name right (tokens-of tape old (part-of words w))))) n k area′ tokens′ at′
+      → LineAdded tape area tokens at (fold edition (merge (substitute name right (tokens-of tape old (part-of words w))))) n k area′ tokens′ at′
       → Added tape area tokens at (λ addresses. rewrite-use edition name right (line-read tape old words addresses w)) n k area′ tokens′ (record { line = v; size = at′ })
   unfolding rewrite-use
   added-rewritten edition name right hk l = added l w hf hk ev (λ addresses. rewrite-use edition name right (line-read tape old words addresses w)) (λ addresses. refl)

@@ -8,7 +8,7 @@ use lib.ListN.{length, getD, set, take, drop, length-append, length-drop}
 use lib.Seq.{paste, take-paste, take-length, take-take, take-all, take-at, take-set-le, drop-at, drop-append-le, getD-set-same, length-take-le}
 use Rattle.reference.specs.Text.{Text}
 use Rattle.reference.specs.Listing.{Token, token}
-use Rattle.lines.specs.Words.{kind-of, place-of, start-of, len-of, word, text-of, token-of, Points}
+use Rattle.lines.specs.Words.{kind-of, buffer-of, start-of, len-of, word, text-of, token-of, Points}
 use Rattle.lines.proofs.words.Tokens.{kind-below, start-below, word-place, word-start, word-len, word-means, word-points, in-tape, in-area}
 use Rattle.build.specs.declared.used.Size.{Size}
 use Rattle.build.specs.State.{used, Room, Appends}
@@ -29,8 +29,8 @@ module _ (tape area : Text) (tokens : List ℕ) (at : Size) (keep : ℕ) (s : Te
     used-length = length-take-le (at .text) area (omega arith)
 
     pub stored : {w v : ℕ} {t : Token} → v ≡ w → Points tape (used area at ++ s) w → token-of tape (used area at ++ s) w ≡ t
-        → (place-of w ≡ 1 → start-of w + len-of w ≡ at .text + length s)
-        → ((m : ℕ) → m ≤ at .text → (keep < at .tokens → place-of (getD tokens keep 0) ≡ 1 → m ≤ start-of (getD tokens keep 0)) → place-of w ≡ 1 → m ≤ start-of w)
+        → (buffer-of w ≡ 1 → start-of w + len-of w ≡ at .text + length s)
+        → ((m : ℕ) → m ≤ at .text → (keep < at .tokens → buffer-of (getD tokens keep 0) ≡ 1 → m ≤ start-of (getD tokens keep 0)) → buffer-of w ≡ 1 → m ≤ start-of w)
         → Appends tape area tokens at keep t (length s) area′ (set tokens keep v) (record { lines = at .lines; tokens = keep + 1; text = at .text + length s })
     stored {w} {v} ev p m x f =
         let here : getD (set tokens keep v) keep 0 ≡ w = getD-set-same tokens keep v 0 below ∙ ev in
@@ -50,8 +50,8 @@ module _ (tape area : Text) (tokens : List ℕ) (at : Size) (keep : ℕ) (s : Te
 -- ---- the words that are stored
 
 pub place-at : (tokens : List ℕ) (keep k start len : ℕ) {v : ℕ} → keep < length tokens → k < 8 → start < 65536 → v ≡ word k 1 start len
-    → place-of (getD (set tokens keep v) keep 0) ≡ 1
-place-at tokens keep k start len {v} below hk hs ev = ap place-of (getD-set-same tokens keep v 0 below ∙ ev) ∙ word-place k 1 start len hk (omega arith) hs
+    → buffer-of (getD (set tokens keep v) keep 0) ≡ 1
+place-at tokens keep k start len {v} below hk hs ev = ap buffer-of (getD-set-same tokens keep v 0 below ∙ ev) ∙ word-place k 1 start len hk (omega arith) hs
 
 -- a text behind the text in use, and its word
 module _ (tape front s : Text) (k at : ℕ) (hk : k < 8) (e : length front ≡ at) (short : at + length s < 65536) where
@@ -85,7 +85,7 @@ module _ (tape area : Text) (tokens : List ℕ) (at : Size) (k : ℕ) (s : Text)
 
 -- more text for the last token
 module _ (tape area : Text) (tokens : List ℕ) (at : Size) (n : ℕ) (s : Text) (r : Room area tokens at (length s) 0) (below : n < at .tokens)
-    (pl : place-of (getD tokens n 0) ≡ 1) (ends : start-of (getD tokens n 0) + len-of (getD tokens n 0) ≡ at .text) where
+    (pl : buffer-of (getD tokens n 0) ≡ 1) (ends : start-of (getD tokens n 0) + len-of (getD tokens n 0) ≡ at .text) where
   abbrev w : ℕ
   w = getD tokens n 0
 
@@ -115,7 +115,7 @@ module _ (tape area : Text) (tokens : List ℕ) (at : Size) (n : ℕ) (s : Text)
       (λ m h f _. rw st (f below pl))
 
 -- a token that stays in the tape
-module _ (tape old area : Text) (tokens : List ℕ) (at : Size) (w : ℕ) (pl : place-of w ≡ 0) (below : at .tokens < length tokens) where
+module _ (tape old area : Text) (tokens : List ℕ) (at : Size) (w : ℕ) (pl : buffer-of w ≡ 0) (below : at .tokens < length tokens) where
   pub unmoved : Points tape old w → Appends tape area tokens at (at .tokens) (token-of tape old w) 0 area (set tokens (at .tokens) w) (record { lines = at .lines; tokens = at .tokens + 1; text = at .text })
   unfolding text-of
   unmoved p =

@@ -9,7 +9,7 @@ use lib.Seq.{slice, take-take, take-add, take-suc, drop-append-le, getD-take, ge
 use Rattle.reference.specs.Text.{Text}
 use Rattle.reference.specs.Listing.{Token}
 use Rattle.laws.proofs.Parts.{drop-take}
-use Rattle.lines.specs.Words.{place-of, start-of, token-of, tokens-of, Holds}
+use Rattle.lines.specs.Words.{buffer-of, start-of, token-of, tokens-of, Holds}
 use Rattle.lines.proofs.words.Each.{each-one, each-take, each-append}
 use Rattle.lines.proofs.words.Tokens.{holds-take, holds-snoc, holds-grows, tokens-grow}
 use Rattle.build.specs.declared.used.Size.{Size}
@@ -71,7 +71,7 @@ module _ {tape area : Text} {tokens : List ℕ} {from : ℕ} {at : Size} (b : Bu
 
   fresh-appended : (m : ℕ) → m ≤ at .text → Fresh m (words-from from tokens at) → Fresh m (words-from from tokens′ at′)
   fresh-appended m h f =
-      let P : ℕ → Type 0 = λ w. place-of w ≡ 1 → m ≤ start-of w in
+      let P : ℕ → Type 0 = λ w. buffer-of w ≡ 1 → m ≤ start-of w in
       let last : keep < at .tokens → P (getD tokens keep 0) =
       λ i.
       let here : getD (words-from from tokens at) (keep - from) 0 ≡ getD tokens keep 0 =

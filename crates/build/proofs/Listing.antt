@@ -11,7 +11,7 @@ use lib.ListN.{length, getD, take, drop, length-take}
 use lib.Seq.{slice, drop-drop, length-take-le}
 use Rattle.reference.specs.Text.{Text}
 use Rattle.reference.specs.Listing.{Line, token}
-use Rattle.lines.specs.Words.{kind-of, place-of, start-of, len-of, text-of, token-of, tokens-of, Points}
+use Rattle.lines.specs.Words.{kind-of, buffer-of, start-of, len-of, text-of, token-of, tokens-of, Points}
 use Rattle.lines.specs.Lines.{Reading, part-of, line-read, listing-read, Lined, Listed}
 use Rattle.lines.proofs.words.Each.{map-same}
 use Rattle.lines.proofs.words.Tokens.{place-below, in-tape, in-area}
@@ -66,13 +66,13 @@ module _ {tape area : Text} {tokens : List ℕ} {at : Size} {line : Reading → 
       (ew : slice (at .tokens) (r .size .tokens) tokens″ ≡ slice (at .tokens) (r .size .tokens) tokens′)
       (la : r .size .text ≤ length area″) (lw : r .size .tokens ≤ length tokens″) where
     -- a word of the line
-    module _ {w : ℕ} (p : Points tape (used area′ (r .size)) w) (f : place-of w ≡ 1 → at .text ≤ start-of w) where
-      place-one : (place-of w ≡ 0 → ⊥) → place-of w ≡ 1
+    module _ {w : ℕ} (p : Points tape (used area′ (r .size)) w) (f : buffer-of w ≡ 1 → at .text ≤ start-of w) where
+      place-one : (buffer-of w ≡ 0 → ⊥) → buffer-of w ≡ 1
       place-one h = omega (arith, place-below w, h)
 
       same-text : text-of tape (used area″ (r .size)) w ≡ text-of tape (used area′ (r .size)) w
       unfolding text-of
-      same-text = by-cases (ℕ-discrete (place-of w) 0)
+      same-text = by-cases (ℕ-discrete (buffer-of w) 0)
           (λ e. rw (in-tape tape (used area″ (r .size)) e, in-tape tape (used area′ (r .size)) e))
           (λ e.
           let q : start-of w ≡ at .text + (start-of w - at .text) = omega (arith, f (place-one e)) in
@@ -87,7 +87,7 @@ module _ {tape area : Text} {tokens : List ℕ} {at : Size} {line : Reading → 
 
       same-points : Points tape (used area″ (r .size)) w
       same-points = record {
-        inside = by-cases (ℕ-discrete (place-of w) 0)
+        inside = by-cases (ℕ-discrete (buffer-of w) 0)
             (λ e. rw (in-tape tape (used area″ (r .size)) e) (rw (in-tape tape (used area′ (r .size)) e) at (p .inside)))
             (λ e. rw (in-area tape (used area″ (r .size)) e, used-long) (omega (arith, p .inside, ap length (in-area tape (used area′ (r .size)) e), length-take (r .size .text) area′)));
         short = p .short;
@@ -107,7 +107,7 @@ module _ {tape area : Text} {tokens : List ℕ} {at : Size} {line : Reading → 
     lined-elsewhere = record {
       inside = rw (a .first-is, a .end-is, length-take-le (r .size .tokens) tokens″ lw) (le-refl _);
       holds = rw same-part (record { at = λ i h. same-points (a .lined .holds .at i h) (a .fresh .from-m i h) });
-      marks = rw same-tokens (a .lined .marks);
+      facts = rw same-tokens (a .lined .facts);
     }
 
     pub line-elsewhere : (addresses : Reading) → line-read tape (used area″ (r .size)) (used-words tokens″ (r .size)) addresses (r .line) ≡ line addresses

@@ -17,7 +17,7 @@ use Rattle.reference.specs.Listing.{Token, token, Punct, Plain}
 use Rattle.reference.specs.Numbers.{joins}
 use Rattle.reference.specs.Claim.{size}
 use Rattle.reference.proofs.Cases.{both, true-false}
-use Rattle.lines.specs.Words.{kind-of, place-of, start-of, len-of, text-of, token-of, tokens-of}
+use Rattle.lines.specs.Words.{kind-of, buffer-of, start-of, len-of, text-of, token-of, tokens-of}
 use Rattle.build.specs.declared.used.Size.{Size}
 use Rattle.build.specs.State.{joinable, used, line-now, push-token, Built, Extendable, extends, Appends, Pushed}
 use Rattle.build.proofs.Growing.{built-appended, line-appended, grows-appended, line-last}
@@ -54,7 +54,7 @@ module _ (kind : ℕ) (tokens : List ℕ) (from : ℕ) (at : Size) where
 module _ {tape area : Text} {tokens : List ℕ} {from : ℕ} {at : Size} (b : Built tape area tokens from at)
     {keep : ℕ} {u : Token} {n : ℕ} {area′ : Text} {tokens′ : List ℕ} {at′ : Size} (a : Appends tape area tokens at keep u n area′ tokens′ at′)
     (low : from ≤ keep) (high : keep ≤ at .tokens) (la : length area′ ≡ length area) (lt : length tokens′ ≡ length tokens)
-    (more : at .text + n ≤ length area) (room : keep < length tokens) (j : joinable (u .kind) ≡ true → place-of (getD tokens′ keep 0) ≡ 1) where
+    (more : at .text + n ≤ length area) (room : keep < length tokens) (j : joinable (u .kind) ≡ true → buffer-of (getD tokens′ keep 0) ≡ 1) where
   extendable-appended : Extendable tokens′ from at′
   extendable-appended =
       let last : at′ .tokens - 1 ≡ keep = omega (arith, a .words-are) in
@@ -87,13 +87,13 @@ module _ {tape area : Text} {tokens : List ℕ} {from : ℕ} {at : Size} (b : Bu
     {t : Token} {n : ℕ} {area′ : Text} {tokens′ : List ℕ} {at′ : Size}
     (la : length area′ ≡ length area) (lt : length tokens′ ≡ length tokens) (more : at .text + n ≤ length area) (hn : n ≤ size t) where
   pub pushed-added : Appends tape area tokens at (at .tokens) t n area′ tokens′ at′ → at .tokens < length tokens
-      → (joinable (t .kind) ≡ true → place-of (getD tokens′ (at .tokens) 0) ≡ 1)
+      → (joinable (t .kind) ≡ true → buffer-of (getD tokens′ (at .tokens) 0) ≡ 1)
       → (from < at .tokens → joins (token-of tape (used area at) (getD tokens (at .tokens - 1) 0)) t ≡ false)
       → Pushed tape area tokens from at (t ∷ []) area′ tokens′ at′
   pushed-added a room p j = pushed b a (b .after) (le-refl _) la lt more room p hn (unjoined b t j)
 
   pub pushed-joined : Appends tape area tokens at (at .tokens - 1) (token (kind-of (getD tokens (at .tokens - 1) 0)) (text-of tape (used area at) (getD tokens (at .tokens - 1) 0) ++ t .text)) n area′ tokens′ at′
-      → from < at .tokens → place-of (getD tokens′ (at .tokens - 1) 0) ≡ 1
+      → from < at .tokens → buffer-of (getD tokens′ (at .tokens - 1) 0) ≡ 1
       → joins (token-of tape (used area at) (getD tokens (at .tokens - 1) 0)) t ≡ true
       → Pushed tape area tokens from at (t ∷ []) area′ tokens′ at′
   pushed-joined a h p j =
@@ -102,7 +102,7 @@ module _ {tape area : Text} {tokens : List ℕ} {from : ℕ} {at : Size} (b : Bu
 
 -- the last token can be extended
 pub extendable-last : {kind : ℕ} {tokens : List ℕ} {from : ℕ} {at : Size} → joinable kind ≡ true → Extendable tokens from at → extends kind tokens from at ≡ true
-    → (from < at .tokens) × (kind-of (getD tokens (at .tokens - 1) 0) ≡ kind) × (place-of (getD tokens (at .tokens - 1) 0) ≡ 1)
+    → (from < at .tokens) × (kind-of (getD tokens (at .tokens - 1) 0) ≡ kind) × (buffer-of (getD tokens (at .tokens - 1) 0) ≡ 1)
     × (start-of (getD tokens (at .tokens - 1) 0) + len-of (getD tokens (at .tokens - 1) 0) ≡ at .text)
 extendable-last {kind} {tokens} {from} {at} j x e =
     let l = extends-true kind tokens from at e in

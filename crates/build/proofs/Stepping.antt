@@ -14,7 +14,7 @@ use Rattle.reference.specs.Text.{Text}
 use Rattle.reference.specs.Listing.{Token, token, Number}
 use Rattle.reference.specs.Numbers.{show, fold}
 use Rattle.joining.proofs.Room.{signs}
-use Rattle.lines.specs.Words.{place-of, start-of, word, token-of, tokens-of, Points, Holds}
+use Rattle.lines.specs.Words.{buffer-of, start-of, word, token-of, tokens-of, Points, Holds}
 use Rattle.lines.proofs.words.Each.{each-one, each-drop, each-append, map-drop}
 use Rattle.lines.proofs.words.Tokens.{word-start, holds-drop, holds-append, holds-snoc, holds-prefix, holds-grows, tokens-prefix, tokens-grow}
 use Rattle.numbers.specs.Writing.{Written}
@@ -113,7 +113,7 @@ module _ {tape area : Text} {line : List ℕ} {f : Folding} (s : Foldable tape a
       text-below = refl;
       limit = limit-kept;
       fresh = λ m h d l.
-          let P : ℕ → Type 0 = λ v. place-of v ≡ 1 → m ≤ start-of v in
+          let P : ℕ → Type 0 = λ v. buffer-of v ≡ 1 → m ≤ start-of v in
           let first : P w = rw (getD-drop, add-zero) at (l .from-m 0 (rw length-drop (omega arith))) in (
             record { from-m = rw kept-words (each-append P (take (f .kept) line) (d .from-m) (w ∷ []) (each-one P first)) },
             record { from-m = rw (left-words, ← drop-drop 1 (f .next) line) (each-drop P (drop (f .next) line) (l .from-m) 1) },
@@ -209,7 +209,7 @@ module _ {tape area : Text} {line : List ℕ} {f : Folding} (s : Foldable tape a
               ∙ take-at (take (f .text) area) t (f .text) (length-take-le (f .text) area (text-inside s));
           limit = limit-made;
           fresh = λ m h d l.
-              let P : ℕ → Type 0 = λ x. place-of x ≡ 1 → m ≤ start-of x in
+              let P : ℕ → Type 0 = λ x. buffer-of x ≡ 1 → m ≤ start-of x in
               let start : start-of v ≡ f .text = ap start-of ev ∙ word-start Number 1 (f .text) (length t) (omega arith) (omega arith) (omega (arith, fold-short)) in (
                 record { from-m = rw word-front (d .from-m) },
                 record {

@@ -22,7 +22,7 @@ use Rattle.lines.specs.Fams.{fam-text}
 use Rattle.lines.proofs.words.Tokens.{holds-none}
 use Rattle.build.specs.declared.used.Size.{Size}
 use Rattle.build.specs.declared.merge.Substitution.{Substitution}
-use Rattle.build.specs.State.{used, Room, Ready, Pushed, Laid}
+use Rattle.build.specs.State.{used, Room, Ready, Pushed, LineAdded}
 use Rattle.build.specs.Substitution.{bracketed, right-of, used-as, substituted}
 use Rattle.build.proofs.Merging.{pushes-merge}
 use Rattle.build.proofs.Pushes.{pushed-none, tokens-more, tokens-split}
@@ -100,9 +100,9 @@ pub merge-begin : (tape old : Text) (source : List ℕ) (j : Substitution) (line
 unfolding substitute
 merge-begin tape old source j line r = pushed-none (ready-new tape (substituted tape old source j line) r)
 
-pub laid-merged : {tape area : Text} {tokens : List ℕ} {at : Size} {ts : List Token} {area′ : Text} {tokens′ : List ℕ} {at′ : Size}
-    → Pushed tape area tokens (at .tokens) at ts area′ tokens′ at′ → Laid tape area tokens at (merge ts) (text-in ts) (length ts) area′ tokens′ at′
-laid-merged {tokens = tokens} {at} {ts} p = record {
+pub line-added-merged : {tape area : Text} {tokens : List ℕ} {at : Size} {ts : List Token} {area′ : Text} {tokens′ : List ℕ} {at′ : Size}
+    → Pushed tape area tokens (at .tokens) at ts area′ tokens′ at′ → LineAdded tape area tokens at (merge ts) (text-in ts) (length ts) area′ tokens′ at′
+line-added-merged {tokens = tokens} {at} {ts} p = record {
   built = p .built;
   line-is = p .line-is ∙ rw (slice-empty (at .tokens) tokens) (pushes-merge ts);
   grows = p .grows;

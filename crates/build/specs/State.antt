@@ -12,7 +12,7 @@ use Rattle.reference.specs.Text.{Text}
 use Rattle.reference.specs.Listing.{Token, token, Plain, Punct}
 use Rattle.reference.specs.Numbers.{joins}
 use Rattle.reference.specs.Claim.{text-in}
-use Rattle.lines.specs.Words.{kind-of, place-of, start-of, len-of, token-of, tokens-of, Points, Holds}
+use Rattle.lines.specs.Words.{kind-of, buffer-of, start-of, len-of, token-of, tokens-of, Points, Holds}
 use Rattle.build.specs.declared.used.Size.{Size}
 
 -- ---- what a push does to the tokens of a line
@@ -62,13 +62,13 @@ last-word tokens at = getD tokens (at .tokens - 1) 0
 
 -- its last token can be joined to: what may be extended stands at the end of the text
 pub record Extendable (tokens : List ℕ) (from : ℕ) (at : Size) : Type 0 where
-  pub in-area : from < at .tokens → joinable (kind-of (last-word tokens at)) ≡ true → place-of (last-word tokens at) ≡ 1
-  pub at-end : from < at .tokens → place-of (last-word tokens at) ≡ 1 → start-of (last-word tokens at) + len-of (last-word tokens at)
+  pub in-area : from < at .tokens → joinable (kind-of (last-word tokens at)) ≡ true → buffer-of (last-word tokens at) ≡ 1
+  pub at-end : from < at .tokens → buffer-of (last-word tokens at) ≡ 1 → start-of (last-word tokens at) + len-of (last-word tokens at)
       ≡ at .text
 
 -- no word points into the area below m
 pub record Fresh (m : ℕ) (ws : List ℕ) : Type 0 where
-  pub from-m : (k : ℕ) → k < length ws → place-of (getD ws k 0) ≡ 1 → m ≤ start-of (getD ws k 0)
+  pub from-m : (k : ℕ) → k < length ws → buffer-of (getD ws k 0) ≡ 1 → m ≤ start-of (getD ws k 0)
 
 -- the tokens ts can be pushed
 pub record Ready (tape area : Text) (tokens : List ℕ) (from : ℕ) (at : Size) (ts : List Token) : Type 0 where
@@ -93,9 +93,9 @@ pub record Appends (tape area : Text) (tokens : List ℕ) (at : Size) (keep : �
   pub text-below : take (at .text) area′ ≡ take (at .text) area
   pub points : Points tape (used area′ at′) (getD tokens′ keep 0)
   pub means : token-of tape (used area′ at′) (getD tokens′ keep 0) ≡ t
-  pub at-end : place-of (getD tokens′ keep 0) ≡ 1 → start-of (getD tokens′ keep 0) + len-of (getD tokens′ keep 0) ≡ at′ .text
-  pub fresh : (m : ℕ) → m ≤ at .text → (keep < at .tokens → place-of (getD tokens keep 0) ≡ 1 → m ≤ start-of (getD tokens keep 0))
-      → place-of (getD tokens′ keep 0) ≡ 1 → m ≤ start-of (getD tokens′ keep 0)
+  pub at-end : buffer-of (getD tokens′ keep 0) ≡ 1 → start-of (getD tokens′ keep 0) + len-of (getD tokens′ keep 0) ≡ at′ .text
+  pub fresh : (m : ℕ) → m ≤ at .text → (keep < at .tokens → buffer-of (getD tokens keep 0) ≡ 1 → m ≤ start-of (getD tokens keep 0))
+      → buffer-of (getD tokens′ keep 0) ≡ 1 → m ≤ start-of (getD tokens′ keep 0)
 
 -- nothing below is disturbed: the words before `from`, and the text in use
 pub record Grows (area : Text) (tokens : List ℕ) (from : ℕ) (at : Size) (area′ : Text) (tokens′ : List ℕ) (at′ : Size) : Type 0 where
@@ -116,8 +116,8 @@ pub record Pushed (tape area : Text) (tokens : List ℕ) (from : ℕ) (at : Size
   pub words-most : at′ .tokens ≤ at .tokens + length ts
 
 -- what a new line leaves that means `out`, of at most n bytes and k words
-pub record Laid (tape area : Text) (tokens : List ℕ) (at : Size) (out : List Token) (n k : ℕ) (area′ : Text) (tokens′ : List ℕ) (at′ : Size)
-    : Type 0 where
+pub record LineAdded (tape area : Text) (tokens : List ℕ) (at : Size) (out : List Token) (n k : ℕ) (area′ : Text) (tokens′ : List ℕ)
+    (at′ : Size) : Type 0 where
   pub built : Built tape area′ tokens′ (at .tokens) at′
   pub line-is : line-now tape area′ tokens′ (at .tokens) at′ ≡ out
   pub grows : Grows area tokens (at .tokens) at area′ tokens′ at′

@@ -6,15 +6,16 @@ ghost use mathlib.Core.Path.{_≡_};
 ghost use mathlib.Core.List.{_++_};
 ghost use Prim.Native.Nat.{_+_, _-_, _<_};
 ghost use lib.ListN.{length, getD};
+ghost use Rattle.reference.specs.Contract.{was};
 ghost use Rattle.reference.specs.Text.{Text};
 ghost use Rattle.reference.specs.Listing.{token};
-ghost use Rattle.lines.specs.Words.{kind-of, place-of, start-of, len-of, text-of, token-of, Points};
+ghost use Rattle.lines.specs.Words.{kind-of, buffer-of, start-of, len-of, text-of, token-of, Points};
 ghost use Rattle.build.specs.State.{used, last-word, Room, Appends};
 
 // Appends a token whose text is in the tape.
 fn add_word(w: u64, tokens: &mut [u64], size: Size) -> Size
-    requires { ⌜ (place-of w ≡ 0) × (size .tokens < length (now tokens)) ⌝ }
-    ensures { λ r. ⌜ ((tape old area : Text) → Points tape old w → Appends tape area (now (tokens .entry)) size (size .tokens)
+    requires { ⌜ (buffer-of w ≡ 0) × (size .tokens < length (now tokens)) ⌝ }
+    ensures { λ r. ⌜ ((tape old area : Text) → Points tape old w → Appends tape area (was tokens) size (size .tokens)
         (token-of tape old w) 0 area (now (tokens .exit)) r) ⌝ }
 {
     let n = size.tokens;
@@ -29,9 +30,8 @@ fn add_word(w: u64, tokens: &mut [u64], size: Size) -> Size
 // Appends a token with a copy of its text.
 pub fn add_text(kind: u64, s: &[u8], area: &mut [u8], tokens: &mut [u64], size: Size) -> Size
     requires { ⌜ (kind < 8) × Room (now area) (now tokens) size (length (now s)) 1 ⌝ }
-    ensures { λ r. ⌜ ((tape : Text) → Appends tape (now (area .entry)) (now (tokens .entry)) size (size .tokens)
-        (token kind (now (s .entry))) (length (now (s .entry))) (now (area .exit)) (now (tokens .exit)) r)
-        × (place-of (getD (now (tokens .exit)) (size .tokens) 0) ≡ 1) ⌝ }
+    ensures { λ r. ⌜ ((tape : Text) → Appends tape (was area) (was tokens) size (size .tokens) (token kind (was s)) (length (was s))
+        (now (area .exit)) (now (tokens .exit)) r) × (buffer-of (getD (now (tokens .exit)) (size .tokens) 0) ≡ 1) ⌝ }
 {
     let n = size.tokens;
     let at = size.text;
@@ -46,12 +46,11 @@ pub fn add_text(kind: u64, s: &[u8], area: &mut [u8], tokens: &mut [u64], size: 
 
 // Appends a text to that of the last token, which ends where the text in use ends.
 pub fn extend_last(s: &[u8], area: &mut [u8], tokens: &mut [u64], size: Size) -> Size
-    requires { ⌜ (0 < size .tokens) × Room (now area) (now tokens) size (length (now s)) 0 × (place-of (last-word (now tokens) size) ≡ 1)
+    requires { ⌜ (0 < size .tokens) × Room (now area) (now tokens) size (length (now s)) 0 × (buffer-of (last-word (now tokens) size) ≡ 1)
         × (start-of (last-word (now tokens) size) + len-of (last-word (now tokens) size) ≡ size .text) ⌝ }
-    ensures { λ r. ⌜ ((tape : Text) → Appends tape (now (area .entry)) (now (tokens .entry)) size (size .tokens - 1)
-        (token (kind-of (last-word (now (tokens .entry)) size))
-        (text-of tape (used (now (area .entry)) size) (last-word (now (tokens .entry)) size) ++ now (s .entry))) (length (now (s .entry)))
-        (now (area .exit)) (now (tokens .exit)) r) × (place-of (getD (now (tokens .exit)) (size .tokens - 1) 0) ≡ 1) ⌝ }
+    ensures { λ r. ⌜ ((tape : Text) → Appends tape (was area) (was tokens) size (size .tokens - 1)
+        (token (kind-of (last-word (was tokens) size)) (text-of tape (used (was area) size) (last-word (was tokens) size) ++ was s))
+        (length (was s)) (now (area .exit)) (now (tokens .exit)) r) × (buffer-of (getD (now (tokens .exit)) (size .tokens - 1) 0) ≡ 1) ⌝ }
 {
     let n = size.tokens - 1;
     let at = size.text;
@@ -80,10 +79,10 @@ pub fn keep<'a>(
     size: Size,
 ) -> Size
     requires { ⌜ Points (now tape) (now old) w × Room (now area) (now tokens) size (len-of w) 1 ⌝ }
-    ensures { λ r. ⌜ Appends (now (tape .entry)) (now (area .entry)) (now (tokens .entry)) size (size .tokens)
-        (token-of (now (tape .entry)) (now (old .entry)) w) (len-of w) (now (area .exit)) (now (tokens .exit)) r ⌝ }
+    ensures { λ r. ⌜ Appends (was tape) (was area) (was tokens) size (size .tokens)
+        (token-of (was tape) (was old) w) (len-of w) (now (area .exit)) (now (tokens .exit)) r ⌝ }
 {
-    if words::place(w) == words::IN_TAPE {
+    if words::buffer(w) == words::IN_TAPE {
         return add_word(w, tokens, size);
     }
     add_text(

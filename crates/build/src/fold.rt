@@ -10,6 +10,7 @@ use numbers::wrapping_sub;
 ghost use mathlib.Core.Path.{_≡_};
 ghost use Prim.Native.Nat.{_+_, _≤_, _<_};
 ghost use lib.ListN.{length, take, drop};
+ghost use Rattle.reference.specs.Contract.{was};
 ghost use Rattle.reference.specs.Control.{_||_};
 ghost use Rattle.reference.specs.Text.{bytes, _==_};
 ghost use Rattle.reference.specs.Numbers.{delim-before, delim-after};
@@ -37,7 +38,7 @@ fn operate(plus: bool, a: Number, b: Number) -> Number
 
 // Whether a token between two numbers is an operator that folds.
 fn is_sign(s: &[u8]) -> bool
-    ensures { λ r. ⌜ r ≡ ((now (s .entry) == bytes " + ") || (now (s .entry) == bytes " - ")) ⌝ }
+    ensures { λ r. ⌜ r ≡ ((was s == bytes " + ") || (was s == bytes " - ")) ⌝ }
 {
     text::is_plus(s) || text::is_minus(s)
 }
@@ -52,8 +53,8 @@ fn sum_of<'a>(
     edition: u8,
 ) -> Number
     requires { ⌜ Points (now tape) (now area) left × Points (now tape) (now area) operator × Points (now tape) (now area) right ⌝ }
-    ensures { λ r. ⌜ meaning r ≡ sum-of edition (token-of (now (tape .entry)) (now (area .entry)) left)
-        (token-of (now (tape .entry)) (now (area .entry)) operator) (token-of (now (tape .entry)) (now (area .entry)) right) ⌝ }
+    ensures { λ r. ⌜ meaning r ≡ sum-of edition (token-of (was tape) (was area) left)
+        (token-of (was tape) (was area) operator) (token-of (was tape) (was area) right) ⌝ }
 {
     if words::kind(left) != words::NUMBER {
         return Number::Unread;
@@ -75,7 +76,7 @@ fn sum_of<'a>(
 // Whether the first `kept` tokens end with a delimiter, or are none.
 fn delimited_before<'a>(tape: &'a [u8], area: &'a [u8], line: &'a [u64], kept: usize) -> bool
     requires { ⌜ (kept ≤ length (now line)) × Holds (now tape) (now area) (take kept (now line)) ⌝ }
-    ensures { λ r. ⌜ r ≡ delim-before (last-of (tokens-of (now (tape .entry)) (now (area .entry)) (take kept (now (line .entry))))) ⌝ }
+    ensures { λ r. ⌜ r ≡ delim-before (last-of (tokens-of (was tape) (was area) (take kept (was line)))) ⌝ }
 {
     if kept == 0 {
         return true;
@@ -86,7 +87,7 @@ fn delimited_before<'a>(tape: &'a [u8], area: &'a [u8], line: &'a [u64], kept: u
 // Whether the tokens from `at` on begin with a delimiter, or are none.
 fn delimited_after<'a>(tape: &'a [u8], area: &'a [u8], line: &'a [u64], at: usize) -> bool
     requires { ⌜ Holds (now tape) (now area) (drop at (now line)) ⌝ }
-    ensures { λ r. ⌜ r ≡ delim-after (tokens-of (now (tape .entry)) (now (area .entry)) (drop at (now (line .entry)))) ⌝ }
+    ensures { λ r. ⌜ r ≡ delim-after (tokens-of (was tape) (was area) (drop at (was line))) ⌝ }
 {
     if line.len() <= at {
         return true;
@@ -105,9 +106,8 @@ fn fold_value<'a>(
 ) -> Number
     requires { ⌜ (kept ≤ length (now line)) × (next ≤ length (now line)) × Holds (now tape) (now area) (take kept (now line))
         × Holds (now tape) (now area) (drop next (now line)) ⌝ }
-    ensures { λ r. ⌜ number-token (meaning r)
-        ≡ fold-next edition (last-of (tokens-of (now (tape .entry)) (now (area .entry)) (take kept (now (line .entry)))))
-        (tokens-of (now (tape .entry)) (now (area .entry)) (drop next (now (line .entry)))) ⌝ }
+    ensures { λ r. ⌜ number-token (meaning r) ≡ fold-next edition (last-of (tokens-of (was tape) (was area) (take kept (was line))))
+        (tokens-of (was tape) (was area) (drop next (was line))) ⌝ }
 {
     if line.len() - next < 3 {
         return Number::Unread;
@@ -139,8 +139,7 @@ pub struct Folding {
 // One step: three tokens become a Number, which is looked at again, or a token is kept.
 fn fold_step(tape: &[u8], area: &mut [u8], line: &mut [u64], f: Folding, edition: u8) -> Folding
     requires { ⌜ Foldable (now tape) (now area) (now line) f × (f .next < length (now line)) ⌝ }
-    ensures { λ r. ⌜ Stepped edition (now (tape .entry)) (now (area .entry)) (now (line .entry)) f (now (area .exit)) (now (line .exit))
-        r ⌝ }
+    ensures { λ r. ⌜ Stepped edition (was tape) (was area) (was line) f (now (area .exit)) (now (line .exit)) r ⌝ }
 {
     let kept = f.kept;
     let next = f.next;
@@ -170,8 +169,7 @@ fn fold_step(tape: &[u8], area: &mut [u8], line: &mut [u64], f: Folding, edition
 // Folds a line's words, with `text` bytes in use.
 fn fold(tape: &[u8], area: &mut [u8], line: &mut [u64], text: usize, edition: u8) -> Folding
     requires { ⌜ Foldable (now tape) (now area) (now line) (record { kept = 0; next = 0; text = text }) ⌝ }
-    ensures { λ r. ⌜ Folded edition (now (tape .entry)) (now (area .entry)) (now (line .entry)) text (now (area .exit)) (now (line .exit))
-        r ⌝ }
+    ensures { λ r. ⌜ Folded edition (was tape) (was area) (was line) text (now (area .exit)) (now (line .exit)) r ⌝ }
 {
     let mut f = Folding {
         kept: 0,
@@ -195,8 +193,7 @@ pub fn fold_last(
 ) -> Size
     requires { ⌜ Built (now tape) (now area) (now tokens) from size
         × Room (now area) (now tokens) size (signs-room (line-now (now tape) (now area) (now tokens) from size)) 0 ⌝ }
-    ensures { λ r. ⌜ FoldedLast edition (now (tape .entry)) (now (area .entry)) (now (tokens .entry)) from size (now (area .exit))
-        (now (tokens .exit)) r ⌝ }
+    ensures { λ r. ⌜ FoldedLast edition (was tape) (was area) (was tokens) from size (now (area .exit)) (now (tokens .exit)) r ⌝ }
 {
     let to = size.tokens;
     let f = fold(tape, area, &mut tokens[from..to], size.text, edition);

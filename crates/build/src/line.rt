@@ -6,9 +6,10 @@ use crate::merge::merge;
 use crate::used::Size;
 use lines::words;
 ghost use lib.ListN.{length};
+ghost use Rattle.reference.specs.Contract.{was};
 ghost use Rattle.reference.specs.Claim.{text-in};
 ghost use Rattle.lines.specs.Words.{tokens-of, Holds};
-ghost use Rattle.build.specs.State.{Room, Laid};
+ghost use Rattle.build.specs.State.{Room, LineAdded};
 ghost use Rattle.build.specs.Added.{Keepable, Kept, Rewritable, Rewritten};
 
 // Appends the tokens of an old line as they are.
@@ -22,10 +23,8 @@ fn keep_tokens<'a>(
 ) -> Size
     requires { ⌜ Holds (now tape) (now old) (now line)
         × Room (now area) (now tokens) size (text-in (tokens-of (now tape) (now old) (now line))) (length (now line)) ⌝ }
-    ensures { λ r. ⌜ Laid (now (tape .entry)) (now (area .entry)) (now (tokens .entry)) size
-        (tokens-of (now (tape .entry)) (now (old .entry)) (now (line .entry)))
-        (text-in (tokens-of (now (tape .entry)) (now (old .entry)) (now (line .entry)))) (length (now (line .entry))) (now (area .exit))
-        (now (tokens .exit)) r ⌝ }
+    ensures { λ r. ⌜ LineAdded (was tape) (was area) (was tokens) size (tokens-of (was tape) (was old) (was line))
+        (text-in (tokens-of (was tape) (was old) (was line))) (length (was line)) (now (area .exit)) (now (tokens .exit)) r ⌝ }
 {
     let mut s = size;
     let mut k = 0;
@@ -53,7 +52,7 @@ pub fn keep_line<'a>(
     size: Size,
 ) -> Appended
     requires { ⌜ Keepable (now tape) (now old) (now «old_tokens») l (now area) (now tokens) size ⌝ }
-    ensures { λ r. ⌜ Kept (now (tape .entry)) (now (old .entry)) (now («old_tokens» .entry)) l (now (area .entry)) (now (tokens .entry))
+    ensures { λ r. ⌜ Kept (was tape) (was old) (was «old_tokens») l (was area) (was tokens)
         size (now (area .exit)) (now (tokens .exit)) r ⌝ }
 {
     let from = size.tokens;
@@ -79,8 +78,8 @@ pub fn rewrite_line<'a>(
     edition: u8,
 ) -> Appended
     requires { ⌜ Rewritable (now tape) (now old) (now «old_tokens») source j l (now area) (now tokens) size ⌝ }
-    ensures { λ r. ⌜ Rewritten edition (now (tape .entry)) (now (old .entry)) (now («old_tokens» .entry)) source j l (now (area .entry))
-        (now (tokens .entry)) size (now (area .exit)) (now (tokens .exit)) r ⌝ }
+    ensures { λ r. ⌜ Rewritten edition (was tape) (was old) (was «old_tokens») source j l (was area)
+        (was tokens) size (now (area .exit)) (now (tokens .exit)) r ⌝ }
 {
     let from = size.tokens;
     let merged = merge(

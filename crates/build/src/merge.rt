@@ -14,6 +14,7 @@ ghost use mathlib.Core.Bool.{true};
 ghost use mathlib.Core.List.{[], _∷_};
 ghost use Prim.Native.Nat.{_≤_, _<_};
 ghost use lib.ListN.{length};
+ghost use Rattle.reference.specs.Contract.{was};
 ghost use Rattle.reference.specs.Text.{Text};
 ghost use Rattle.reference.specs.Listing.{token};
 ghost use Rattle.reference.specs.Claim.{text-in};
@@ -21,7 +22,7 @@ ghost use Rattle.reference.specs.Numbers as numbers;
 ghost use Rattle.lines.specs.Words.{token-of, tokens-of, Points, Holds};
 ghost use Rattle.lines.specs.Shapes.{expr-words, Expression};
 ghost use Rattle.build.specs.State as state;
-ghost use Rattle.build.specs.State.{joinable, Room, Built, Extendable, Ready, Pushed, Laid};
+ghost use Rattle.build.specs.State.{joinable, Room, Built, Extendable, Ready, Pushed, LineAdded};
 ghost use Rattle.build.specs.Substitution.{bracketed, used-as, substituted, Substitutes};
 
 fn is_joined(kind: u64) -> bool
@@ -36,7 +37,7 @@ fn is_joined(kind: u64) -> bool
 // Whether a token of this kind is joined to the last token of the line that began at `from`.
 fn extends(kind: u64, tokens: &[u64], from: usize, size: Size) -> bool
     requires { ⌜ size .tokens ≤ length (now tokens) ⌝ }
-    ensures { λ r. ⌜ r ≡ state.extends kind (now (tokens .entry)) from size ⌝ }
+    ensures { λ r. ⌜ r ≡ state.extends kind (was tokens) from size ⌝ }
 {
     let n = size.tokens;
     if n <= from {
@@ -56,9 +57,8 @@ fn push_text(
 ) -> Size
     requires { ⌜ (joinable kind ≡ true) × (kind < 8) × Extendable (now tokens) from size
         × Room (now area) (now tokens) size (length (now s)) 1 ⌝ }
-    ensures { λ r. ⌜ ((tape : Text) → Built tape (now (area .entry)) (now (tokens .entry)) from size
-        → Pushed tape (now (area .entry)) (now (tokens .entry)) from size (token kind (now (s .entry)) ∷ []) (now (area .exit))
-        (now (tokens .exit)) r) ⌝ }
+    ensures { λ r. ⌜ ((tape : Text) → Built tape (was area) (was tokens) from size → Pushed tape (was area) (was tokens) from size
+        (token kind (was s) ∷ []) (now (area .exit)) (now (tokens .exit)) r) ⌝ }
 {
     if extends(kind, tokens, from, size) {
         return extend_last(s, area, tokens, size);
@@ -78,8 +78,8 @@ fn push<'a>(
 ) -> Size
     requires { ⌜ Points (now tape) (now old) w × Ready (now tape) (now area) (now tokens) from size (token-of (now tape) (now old) w
         ∷ []) ⌝ }
-    ensures { λ r. ⌜ Pushed (now (tape .entry)) (now (area .entry)) (now (tokens .entry)) from size
-        (token-of (now (tape .entry)) (now (old .entry)) w ∷ []) (now (area .exit)) (now (tokens .exit)) r ⌝ }
+    ensures { λ r. ⌜ Pushed (was tape) (was area) (was tokens) from size
+        (token-of (was tape) (was old) w ∷ []) (now (area .exit)) (now (tokens .exit)) r ⌝ }
 {
     let kind = words::kind(w);
     if is_joined(kind) {
@@ -101,9 +101,8 @@ fn push_expr<'a>(
 ) -> Size
     requires { ⌜ Holds (now tape) (now old) (now source) × Expression (now source) x × Ready (now tape) (now area) (now tokens) from size
         (tokens-of (now tape) (now old) (expr-words (now source) x)) ⌝ }
-    ensures { λ r. ⌜ Pushed (now (tape .entry)) (now (area .entry)) (now (tokens .entry)) from size
-        (tokens-of (now (tape .entry)) (now (old .entry)) (expr-words (now (source .entry)) x)) (now (area .exit)) (now (tokens .exit))
-        r ⌝ }
+    ensures { λ r. ⌜ Pushed (was tape) (was area) (was tokens) from size (tokens-of (was tape) (was old) (expr-words (was source) x))
+        (now (area .exit)) (now (tokens .exit)) r ⌝ }
 {
     let n = x.count;
     let mut s = size;
@@ -115,7 +114,7 @@ fn push_expr<'a>(
     s
 }
 
-// The same in brackets.
+// Appends the right side x of the old line `source`, in brackets.
 fn push_bracketed<'a>(
     tape: &'a [u8],
     old: &'a [u8],
@@ -128,9 +127,8 @@ fn push_bracketed<'a>(
 ) -> Size
     requires { ⌜ Holds (now tape) (now old) (now source) × Expression (now source) x × Ready (now tape) (now area) (now tokens) from size
         (bracketed (tokens-of (now tape) (now old) (expr-words (now source) x))) ⌝ }
-    ensures { λ r. ⌜ Pushed (now (tape .entry)) (now (area .entry)) (now (tokens .entry)) from size
-        (bracketed (tokens-of (now (tape .entry)) (now (old .entry)) (expr-words (now (source .entry)) x))) (now (area .exit))
-        (now (tokens .exit)) r ⌝ }
+    ensures { λ r. ⌜ Pushed (was tape) (was area) (was tokens) from size
+        (bracketed (tokens-of (was tape) (was old) (expr-words (was source) x))) (now (area .exit)) (now (tokens .exit)) r ⌝ }
 {
     let opened = push_text(words::PUNCT, b"(", area, tokens, from, size);
     let filled = push_expr(tape, old, source, x, area, tokens, from, opened);
@@ -159,9 +157,8 @@ fn push_used<'a>(
     requires { ⌜ Substitutes (now tape) (now old) (now source) j × Points (now tape) (now old) w
         × Ready (now tape) (now area) (now tokens) from size
         (used-as (now tape) (now old) (now source) j (token-of (now tape) (now old) w)) ⌝ }
-    ensures { λ r. ⌜ Pushed (now (tape .entry)) (now (area .entry)) (now (tokens .entry)) from size
-        (used-as (now (tape .entry)) (now (old .entry)) (now (source .entry)) j (token-of (now (tape .entry)) (now (old .entry)) w))
-        (now (area .exit)) (now (tokens .exit)) r ⌝ }
+    ensures { λ r. ⌜ Pushed (was tape) (was area) (was tokens) from size (used-as (was tape) (was old) (was source) j
+        (token-of (was tape) (was old) w)) (now (area .exit)) (now (tokens .exit)) r ⌝ }
 {
     let f = j.family;
     let x = j.expr;
@@ -189,11 +186,10 @@ pub fn merge<'a>(
     requires { ⌜ Substitutes (now tape) (now old) (now source) j × Holds (now tape) (now old) (now line)
         × Room (now area) (now tokens) size (text-in (substituted (now tape) (now old) (now source) j (now line)))
         (length (substituted (now tape) (now old) (now source) j (now line))) ⌝ }
-    ensures { λ r. ⌜ Laid (now (tape .entry)) (now (area .entry)) (now (tokens .entry)) size
-        (numbers.merge (substituted (now (tape .entry)) (now (old .entry)) (now (source .entry)) j (now (line .entry))))
-        (text-in (substituted (now (tape .entry)) (now (old .entry)) (now (source .entry)) j (now (line .entry))))
-        (length (substituted (now (tape .entry)) (now (old .entry)) (now (source .entry)) j (now (line .entry)))) (now (area .exit))
-        (now (tokens .exit)) r ⌝ }
+    ensures { λ r. ⌜ LineAdded (was tape) (was area) (was tokens) size
+        (numbers.merge (substituted (was tape) (was old) (was source) j (was line)))
+        (text-in (substituted (was tape) (was old) (was source) j (was line)))
+        (length (substituted (was tape) (was old) (was source) j (was line))) (now (area .exit)) (now (tokens .exit)) r ⌝ }
 {
     let from = size.tokens;
     let mut s = size;

@@ -11,12 +11,12 @@ use Rattle.reference.specs.Questions.{Passed, read}
 use Rattle.reference.specs.Straight.{breaks}
 use Rattle.laws.proofs.Scans.{if-true, if-false}
 use Rattle.lines.specs.Shapes.{found}
-use Rattle.lines.specs.declared.shapes.Found.{Found}
+use Rattle.lines.specs.declared.shapes.Position.{Position}
 use Rattle.clean.specs.Replies.{outside}
 
 pub not-outside : (rules : Rules) (tape : List ℕ) → flip (rules .profile) ≡ true → (input : Listing) → read tape ≡ Passed input → none ≡ outside rules input
 not-outside rules tape h input e = sym (if-false _ _ (not-true _ h))
 
-pub outside-is : (rules : Rules) (tape : List ℕ) (r : Found) → flip (rules .profile) ≡ false → ((input : Listing) → read tape ≡ Passed input → found r ≡ breaks input)
+pub outside-is : (rules : Rules) (tape : List ℕ) (r : Position) → flip (rules .profile) ≡ false → ((input : Listing) → read tape ≡ Passed input → found r ≡ breaks input)
     → (input : Listing) → read tape ≡ Passed input → found r ≡ outside rules input
 outside-is rules tape r h b input e = b input e ∙ sym (if-true _ _ (not-false _ h))

@@ -19,10 +19,10 @@ use Rattle.reference.proofs.Guarantee.{demand3-tape}
 use Rattle.straight.specs.Meaning.{Meaning}
 use Rattle.straight.proofs.Cleaning.{call-means}
 use Rattle.lines.specs.Shapes.{found}
-use Rattle.lines.specs.declared.shapes.Found.{Found}
-use Rattle.lines.specs.declared.shapes.Found.the-variants.{At, Nothing}
+use Rattle.lines.specs.declared.shapes.Position.{Position}
+use Rattle.lines.specs.declared.shapes.Position.the-variants.{At, Nothing}
 use Rattle.rounds.specs.Runs.{tally-of}
-use Rattle.tape.specs.Questions.{first-no, sizes-in, checked, Accepted}
+use Rattle.tape.specs.Questions.{first-no, sizes-in, checked, AcceptedTape}
 use Rattle.tape.specs.declared.questions.Totals.{Totals}
 use Rattle.tape.specs.declared.questions.Checked.{Checked}
 use Rattle.tape.specs.declared.questions.Checked.the-variants as Checks
@@ -116,7 +116,7 @@ module _ (rules : Rules) (tape work-a work-b out : List ℕ) where
       refused-on-tape r = refused (answer-is ∙ let-refused _ r)
 
       -- the profile does
-      asked : (r : Found) (input : Listing) → found r ≡ outside rules input → ask-profile rules input (cleaned rules tape input)
+      asked : (r : Position) (input : Listing) → found r ≡ outside rules input → ask-profile rules input (cleaned rules tape input)
           ≡ (let-some (found r) else cleaned rules tape input then λ n. Refused 14 n)
       unfolding ask-profile let-some_else_then_
       asked r input o = go (rules .profile) refl
@@ -127,14 +127,14 @@ module _ (rules : Rules) (tape work-a work-b out : List ℕ) where
           go true e = unfold if_then_else_ in rw (o, e) refl
           go false e = unfold if_then_else_ in rw (o, e) refl
 
-      pub refused-in-profile : (a : Accepted tape) (r : Found) → ((input : Listing) → read tape ≡ Passed input → found r ≡ outside rules input)
+      pub refused-in-profile : (a : AcceptedTape tape) (r : Position) → ((input : Listing) → read tape ≡ Passed input → found r ≡ outside rules input)
           → (n : ℕ) → r ≡ At n → Promise work-a work-b out (Said.Refused 14 n)
       unfolding let-some_else_then_
       refused-in-profile a r o n e =
           refused (answer-is ∙ let-is _ (a .reads) ∙ asked r (a .listing) (o (a .listing) (a .reads)) ∙ rw e refl)
 
       -- none does
-      pub cleanable : Accepted tape → Cleanable tape work-a work-b out
+      pub cleanable : AcceptedTape tape → Cleanable tape work-a work-b out
       unfolding has-room-by
       cleanable a =
           let room = both (open-door .1 .1 .0) in
@@ -145,7 +145,7 @@ module _ (rules : Rules) (tape work-a work-b out : List ℕ) where
             room = leb-true _ _ (both (room .1) .1);
           }
 
-      pub finished-call : (a : Accepted tape) (r : Found) → ((input : Listing) → read tape ≡ Passed input → found r ≡ outside rules input) → r ≡ Nothing
+      pub finished-call : (a : AcceptedTape tape) (r : Position) → ((input : Listing) → read tape ≡ Passed input → found r ≡ outside rules input) → r ≡ Nothing
           → {work-a′ work-b′ out′ : List ℕ} {f : Finished}
           → Finishes (cleaned rules tape (a .listing)) work-a work-b out work-a′ work-b′ out′ f
           → Promise work-a′ work-b′ out′ (Said.Finished f)
@@ -166,7 +166,7 @@ module _ (rules : Rules) (tape work-a work-b out : List ℕ) where
 -- ---- the same, from the answers of `check` and `outside_profile`
 
 module _ (tape : List ℕ) (k : Checked) (ek : checked k ≡ (let-passed (read tape) then λ lines. Passed (sizes-in lines))) where
-  pub accepted-now : (t : Totals) → k ≡ Checks.Passed t → Accepted tape
+  pub accepted-now : (t : Totals) → k ≡ Checks.Passed t → AcceptedTape tape
   accepted-now t e = accepted-by tape (sym (ap checked e) ∙ ek)
 
   module _ (t : Totals) (e : k ≡ Checks.Passed t) (rules : Rules) (work-a work-b out : List ℕ) {n : ℕ}
@@ -174,7 +174,7 @@ module _ (tape : List ℕ) (k : Checked) (ek : checked k ≡ (let-passed (read t
     pub cleanable-now : Cleanable tape work-a work-b out
     cleanable-now = cleanable rules tape work-a work-b out en z (accepted-now t e)
 
-    module _ (r : Found) (o : (input : Listing) → read tape ≡ Passed input → found r ≡ outside rules input) where
+    module _ (r : Position) (o : (input : Listing) → read tape ≡ Passed input → found r ≡ outside rules input) where
       pub refused-now : (line : ℕ) → r ≡ At line → Promise rules tape work-a work-b out work-a work-b out (Said.Refused 14 line)
       refused-now line er = refused-in-profile rules tape work-a work-b out en z (accepted-now t e) r o line er
 

@@ -2,10 +2,10 @@
 -- the reply's; and a work area that was worked in and wiped. Assumes nothing.
 use Prim.Native.Nat.{ℕ, suc, _≤_, _<_, _+_, _-_, zero-le}
 use native.Mathlib.Omega.{arith}
-use native.Mathlib.Nat.{le-trans, le-of-eq}
+use native.Mathlib.Nat.{le-trans, le-of-eq, min-le-left}
 use mathlib.Core.Path.{_≡_, refl, sym, ap, _∙_}
 use mathlib.Core.List.{List, [], _∷_, _++_, map}
-use lib.ListN.{length, drop, take, getD, length-map, replicate}
+use lib.ListN.{length, drop, take, getD, length-map, length-take, replicate}
 use lib.Seq.{length-take-le, length-front, getD-take, drop-at}
 use Rattle.reference.specs.Text.{Text}
 use Rattle.reference.specs.Listing.{Token, Listing}
@@ -25,7 +25,7 @@ use Rattle.reference.proofs.Reading.{passed-inj}
 use Rattle.reference.proofs.Tapes.{read-limits}
 use Rattle.reference.proofs.Marks.{carried}
 use Rattle.reference.proofs.Guarantee.{output-length}
-use Rattle.joining.specs.Limits.{Limits}
+use Rattle.joining.specs.Limits.{RunLimits}
 use Rattle.lines.specs.Lines.{own, origin-of, bare}
 use Rattle.lines.proofs.words.Lines.{bare-means}
 use Rattle.build.specs.declared.used.Size.{Size}
@@ -38,7 +38,7 @@ use Rattle.tables.specs.Tables.{marks-for, Loaded, LoadedMarks}
 use Rattle.tables.specs.Writing.{Wrote}
 use Rattle.tables.proofs.loading.Loaded.{loaded-limits, loaded-rising}
 use Rattle.clean.specs.Replies.{cleaned}
-use Rattle.clean.specs.Cleaning.{Loadable, Written}
+use Rattle.clean.specs.Cleaning.{Loadable, ReplyWritten}
 
 -- ---- the limits of a tape's listing, without its addresses
 
@@ -54,7 +54,7 @@ sum-bare : (f : List Token → ℕ) (ls : Listing) → sum (λ l. f (l .tokens))
 sum-bare f [] = refl
 sum-bare f (l ∷ ls) = ap (λ (n : ℕ). f (l .tokens) + n) (sum-bare f ls)
 
-bare-limits : {lines : Listing} → L.Limits lines → Limits (map bare lines)
+bare-limits : {lines : Listing} → L.Limits lines → RunLimits (map bare lines)
 bare-limits {lines} l =
     record {
       lines-fit = rw length-map (l .few-lines);
@@ -71,6 +71,10 @@ bare-limits {lines} l =
 all-mapped : (P : ℕ → Type 0) (f : ℕ → ℕ) (xs : List ℕ) → ((i : ℕ) → i < length xs → P (f (getD xs i 0))) → All P (map f xs)
 all-mapped P f [] h = tt
 all-mapped P f (x ∷ xs) h = (h 0 (omega arith), all-mapped P f xs (λ i b. h (suc i) (omega arith)))
+
+-- a front of a table of 256 words
+pub take-few : {n : ℕ} (xs : List ℕ) → n ≤ length xs → length xs ≡ 256 → length (take n xs) ≤ 256
+take-few {n} xs h e = simp length-take (omega (arith, min-le-left n (length xs)))
 
 -- the code's table of 2048 token words
 pub enough-words : 1024 ≤ 2048
@@ -146,7 +150,7 @@ module _ {tape tokens lines addresses : List ℕ} {t : Totals} (l : Loaded tape 
       fits-output h = rw (p .finished (own addresses)) (le-trans (output-length rules tape _ left-marks loaded-is) h)
 
       pub writes : {out out′ : List ℕ} {n : ℕ} → Wrote (Tape.write left-lines left-marks) out out′ n → (input : Listing) → read tape ≡ Passed input
-          → Written (cleaned rules tape input) out out′ (record { length = n; tally = r .tally; removed = r .removed; cut = r .cut })
+          → ReplyWritten (cleaned rules tape input) out out′ (record { length = n; tally = r .tally; removed = r .removed; cut = r .cut })
       unfolding output-after
       writes {out} w input e =
           let same : listing-now tape area tokens lines (start t) (own addresses) ≡ input = passed-inj (sym loaded-is ∙ e) in

@@ -6,12 +6,13 @@ use rounds::Tally;
 use rounds::optimize;
 use text::wipe;
 ghost use mathlib.Core.Path.{_≡_};
+ghost use Rattle.reference.specs.Contract.{was};
 ghost use Rattle.reference.specs.Listing.{Listing};
 ghost use Rattle.reference.specs.Questions.{WORK, Passed, read};
 ghost use Rattle.lines.specs.Rules.{rules-of};
 ghost use Rattle.rounds.specs.Runs.{Ran};
 ghost use Rattle.clean.specs.Replies.{cleaned};
-ghost use Rattle.clean.specs.Cleaning.{Loadable, Writable, Written, Cleanable, Finishes};
+ghost use Rattle.clean.specs.Cleaning.{Loadable, Writable, ReplyWritten, Cleanable, Finishes};
 
 // What a cleaning did: the output's length, what is told of the rounds, the lines removed and the results cut.
 pub struct Finished {
@@ -34,9 +35,8 @@ fn optimized(
     rules: Rules,
 ) -> Outcome
     requires { ⌜ Loadable (now tape) (now area) (now tokens) (now lines) (now area2) (now lows) (now highs) size ⌝ }
-    ensures { λ r. ⌜ Ran (rules-of rules) (now (tape .entry)) (now (area .entry)) (now (tokens .entry)) (now (lines .entry))
-        (now (lows .entry)) (now (highs .entry)) size
-        (now (area .exit)) (now (tokens .exit)) (now (lines .exit)) (now (lows .exit)) (now (highs .exit)) r ⌝ }
+    ensures { λ r. ⌜ Ran (rules-of rules) (was tape) (was area) (was tokens) (was lines) (was lows) (was highs) size (now (area .exit))
+        (now (tokens .exit)) (now (lines .exit)) (now (lows .exit)) (now (highs .exit)) r ⌝ }
 {
     let mut tokens2 = [0u64; 2048];
     let mut labels = [0u64; 256];
@@ -62,8 +62,8 @@ fn optimized(
 // Cleans a tape that passed all questions into the output. The areas are only worked in.
 fn written(rules: Rules, tape: &[u8], area: &mut [u8], area2: &mut [u8], out: &mut [u8]) -> Finished
     requires { ⌜ Writable (now tape) (now area) (now area2) (now out) ⌝ }
-    ensures { λ r. ⌜ ((input : Listing) → read (now (tape .entry)) ≡ Passed input
-        → Written (cleaned (rules-of rules) (now (tape .entry)) input) (now (out .entry)) (now (out .exit)) r) ⌝ }
+    ensures { λ r. ⌜ ((input : Listing) → read (was tape) ≡ Passed input
+        → ReplyWritten (cleaned (rules-of rules) (was tape) input) (was out) (now (out .exit)) r) ⌝ }
 {
     let mut tokens = [0u64; 2048];
     let mut lines = [0u64; 256];
@@ -134,9 +134,8 @@ pub fn finish(
     out: &mut [u8],
 ) -> Finished
     requires { ⌜ Cleanable (now tape) (now «work_a») (now «work_b») (now out) ⌝ }
-    ensures { λ r. ⌜ ((input : Listing) → read (now (tape .entry)) ≡ Passed input
-        → Finishes (cleaned (rules-of rules) (now (tape .entry)) input) (now («work_a» .entry)) (now («work_b» .entry)) (now (out .entry))
-        (now («work_a» .exit)) (now («work_b» .exit)) (now (out .exit)) r) ⌝ }
+    ensures { λ r. ⌜ ((input : Listing) → read (was tape) ≡ Passed input → Finishes (cleaned (rules-of rules) (was tape) input)
+        (was «work_a») (was «work_b») (was out) (now («work_a» .exit)) (now («work_b» .exit)) (now (out .exit)) r) ⌝ }
 {
     let size = work_bytes();
     let r = written(rules, tape, &mut work_a[..size], &mut work_b[..size], out);

@@ -3,10 +3,11 @@ use crate::asking::outside_profile;
 use crate::cleaning::Finished;
 use crate::cleaning::finish;
 use lines::rules::Rules;
-use lines::shapes::Found;
+use lines::shapes::Position;
 use tape::questions::Checked;
 ghost use mathlib.Core.Path.{_≡_};
 ghost use lib.ListN.{length};
+ghost use Rattle.reference.specs.Contract.{was};
 ghost use Rattle.reference.specs.Reply.{reply};
 ghost use Rattle.lines.specs.Rules.{rules-of};
 ghost use Rattle.clean.specs.Replies.{report-of, answer-of, summary, Cleans};
@@ -26,11 +27,10 @@ pub fn clean(
     work_b: &mut [u8],
     out: &mut [u8],
 ) -> Reply
-    ensures { λ r. ⌜ Cleans (rules-of rules)
-        (now (tape .entry)) (now («work_a» .entry)) (now («work_b» .entry)) (now (out .entry))
-        (now («work_a» .exit)) (now («work_b» .exit)) (now (out .exit)) (report-of r) ⌝ }
-    ensures { λ r. ⌜ answer-of r ≡ summary (reply (rules-of rules) (now (tape .entry))
-        (length (now («work_a» .entry))) (length (now («work_b» .entry))) (length (now (out .entry)))) ⌝ }
+    ensures { λ r. ⌜ Cleans (rules-of rules) (was tape) (was «work_a») (was «work_b») (was out) (now («work_a» .exit))
+        (now («work_b» .exit)) (now (out .exit)) (report-of r) ⌝ }
+    ensures { λ r. ⌜ answer-of r ≡ summary (reply (rules-of rules) (was tape)
+        (length (was «work_a»)) (length (was «work_b»)) (length (was out))) ⌝ }
 {
     let number = tape::asked(rules, work_a.len(), work_b.len(), out.len());
     if number != 0 {
@@ -39,11 +39,11 @@ pub fn clean(
     match tape::check(tape) {
         Checked::Refused { number, place } => Reply::Refused { number, place },
         Checked::Passed(_) => match outside_profile(rules, tape) {
-            Found::At(line) => Reply::Refused {
+            Position::At(line) => Reply::Refused {
                 number: 14,
                 place: line,
             },
-            Found::Nothing => Reply::Finished(finish(rules, tape, work_a, work_b, out)),
+            Position::Nothing => Reply::Finished(finish(rules, tape, work_a, work_b, out)),
         },
     }
 }

@@ -22,7 +22,7 @@ use Rattle.laws.proofs.Scans.{any-append, if-true, if-false}
 use Rattle.laws.proofs.Parts.{to-end}
 use Rattle.books.proofs.Grammar2024.{begins}
 use Rattle.tape.specs.Commands.{command-in, size-of, ends, Stood}
-use Rattle.tape.specs.Questions.{Accepted}
+use Rattle.tape.specs.Questions.{AcceptedTape}
 use Rattle.tape.specs.declared.commands.Command.{Command}
 use Rattle.tape.specs.declared.commands.Command.the-variants.{Token}
 use Rattle.tape.proofs.commands.Standing.{Stands, stands-inside, stood}
@@ -110,7 +110,7 @@ pub record Walk (tape : List ℕ) (at : ℕ) : Type 0 where
 abbrev pub walk-begin : (tape : List ℕ) → Walk tape 0
 walk-begin tape = record { totals = no-commands; reads = reads-begin Tape.old tape }
 
-module _ {tape : List ℕ} {at : ℕ} (w : Walk tape at) (k : Accepted tape) where
+module _ {tape : List ℕ} {at : ℕ} (w : Walk tape at) (k : AcceptedTape tape) where
   pub walk-passes : Passes (drop at tape) (w .totals)
   walk-passes = accepted-passes (w .reads) k
 
@@ -171,7 +171,7 @@ module _ {up : Bool} {tape : List ℕ} {at : ℕ} (u : Unearned up tape at) {c :
       pub none-earned : ends c ≡ true → none ≡ first-place (of-command (earns up)) (length tape) tape 0
       none-earned t = sym (unrolled ∙ if-false _ _ (sym e ∙ f) ∙ if-true _ _ (ends-same Tape.old tape at c ∙ t))
 
-      abbrev pub unearned-more : Accepted tape → ends c ≡ false → Unearned up tape (at + size-of c)
+      abbrev pub unearned-more : AcceptedTape tape → ends c ≡ false → Unearned up tape (at + size-of c)
       unearned-more k n =
           record {
             walk = walk-on (u .walk) k s n;

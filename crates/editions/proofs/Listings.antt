@@ -16,7 +16,7 @@ use Rattle.reference.specs.Claim.{size, token-count, text-in, text}
 use Rattle.reference.proofs.Cases.{by-if, neither, pair, fails, true-false, both}
 use Rattle.reference.proofs.Commands.{AddressFits}
 use Rattle.reference.proofs.LittleEndian.{to-length}
-use Rattle.reference.proofs.Limits.{All, TokenFits, LineFits, Fits}
+use Rattle.reference.proofs.Limits.{All, TokenFits, LineFits, TapeFits}
 use Rattle.editions.specs.Numbers.{is-newer, has-no-older}
 use Rattle.editions.specs.Conversion.{down-token, is-newer-number, earns-13, change, holds}
 use Rattle.editions.proofs.Lowering.{no-longer, kept, none-newer, still-printable, still-some}
@@ -80,7 +80,7 @@ module _ (f : Token → Token) where
       lines-fit [] h = tt
       lines-fit (l ∷ ls) h = (record { indent = h .0 .indent; tokens = tokens-fit (l .tokens) (h .0 .tokens) }, lines-fit ls (h .1))
 
-      pub change-fits : (lines : Listing) → Fits lines → Fits (change f lines)
+      pub change-fits : (lines : Listing) → TapeFits lines → TapeFits (change f lines)
       change-fits lines h =
           record {
             limits =

@@ -17,7 +17,7 @@ use Rattle.reference.proofs.Reading.{ask-yes, ask-no, let-refused, let-is}
 use Rattle.reference.proofs.Tapes.{write-read}
 use Rattle.answers.specs.Answers.{Writes}
 use Rattle.tape.specs.Bytes.{Puts}
-use Rattle.tape.specs.Questions.{Accepted}
+use Rattle.tape.specs.Questions.{AcceptedTape}
 use Rattle.tape.proofs.little_endian.Bytes.{put-front, put-pasted}
 use Rattle.editions.specs.Conversion.{up-token, earns-12, earns-13, change, of-command, first-place, converted}
 use Rattle.editions.specs.Lowering.{Lowerable}
@@ -41,7 +41,7 @@ module _ (number : ℕ) (refused : Token → Bool) (f : Token → Token) (tape o
     unfolding converted
     not-accepted e = refuses (ask-yes _ _ _ (le-leb _ _ h, tt) ∙ let-refused _ e)
 
-    module _ (k : Accepted tape) where
+    module _ (k : AcceptedTape tape) where
       pub earned-at : {at : ℕ} → some at ≡ first-place (of-command refused) (length tape) tape 0
           → Writes answer out out (Refused number at)
       unfolding converted let-some_else_then_
@@ -60,11 +60,11 @@ module _ (number : ℕ) (refused : Token → Bool) (f : Token → Token) (tape o
           (record { reply-is = ap Passed m; output-is = p .holds ∙ put-front out (write (change f (k .listing)) (marks-in tape)) })
 
 -- going down
-pub lowerable : (tape : List ℕ) → Accepted tape → none ≡ first-place (of-command earns-13) (length tape) tape 0 → Lowerable tape
+pub lowerable : (tape : List ℕ) → AcceptedTape tape → none ≡ first-place (of-command earns-13) (length tape) tape 0 → Lowerable tape
 lowerable tape k e = record { accepted = k; nowhere = sym e }
 
 -- going up: the tape itself
-pub copied-up : (tape out : List ℕ) {out′ : List ℕ} (k : Accepted tape) → Bytes tape
+pub copied-up : (tape out : List ℕ) {out′ : List ℕ} (k : AcceptedTape tape) → Bytes tape
     → none ≡ first-place (of-command earns-12) (length tape) tape 0
     → out′ ≡ paste out 0 tape (length tape) → Puts out 0 (write (change up-token (k .listing)) (marks-in tape)) out′ (length tape)
 copied-up tape out k b e p =

@@ -12,7 +12,7 @@ use Rattle.reference.specs.Numbers.{read-constant}
 use Rattle.reference.specs.Listing.{is, Number}
 use Rattle.reference.specs.Tape as Tape
 use Rattle.tape.specs.Commands.{command-in, size-of}
-use Rattle.tape.specs.Questions.{Accepted}
+use Rattle.tape.specs.Questions.{AcceptedTape}
 use Rattle.tape.specs.declared.commands.Command.{Command}
 use Rattle.editions.specs.Conversion.{down-token, earns-13, of-command, first-place}
 
@@ -44,5 +44,5 @@ pub record Lowers (tape : List ℕ) (at : ℕ) (c : Command) (out : List ℕ) (t
 
 -- an accepted tape of which no command earns 13
 pub record Lowerable (tape : List ℕ) : Type 0 where
-  pub accepted : Accepted tape
+  pub accepted : AcceptedTape tape
   pub nowhere : first-place (of-command earns-13) (length tape) tape 0 ≡ none

@@ -8,14 +8,15 @@ use tape::questions::Checked;
 use text::copy_bytes;
 ghost use Prim.Native.Nat.{_≤_};
 ghost use lib.ListN.{length};
+ghost use Rattle.reference.specs.Contract.{was};
 ghost use Rattle.answers.specs.Answers.{answer-of, Writes};
-ghost use Rattle.tape.specs.Questions.{Accepted};
+ghost use Rattle.tape.specs.Questions.{AcceptedTape};
 ghost use Rattle.editions.specs.Conversion.{to-2018, to-2024};
 
 // Once the tape is read.
 fn lowered(tape: &[u8], out: &mut [u8]) -> Answer
-    requires { ⌜ Accepted (now tape) × (length (now tape) ≤ length (now out)) ⌝ }
-    ensures { λ r. ⌜ Writes (to-2018 (now (tape .entry)) (length (now (out .entry)))) (now (out .entry)) (now (out .exit)) (answer-of r) ⌝ }
+    requires { ⌜ AcceptedTape (now tape) × (length (now tape) ≤ length (now out)) ⌝ }
+    ensures { λ r. ⌜ Writes (to-2018 (was tape) (length (was out))) (was out) (now (out .exit)) (answer-of r) ⌝ }
 {
     match first_place(false, tape) {
         Place::At(place) => Answer::Refused { number: 13, place },
@@ -24,8 +25,8 @@ fn lowered(tape: &[u8], out: &mut [u8]) -> Answer
 }
 
 fn raised(tape: &[u8], out: &mut [u8]) -> Answer
-    requires { ⌜ Accepted (now tape) × (length (now tape) ≤ length (now out)) ⌝ }
-    ensures { λ r. ⌜ Writes (to-2024 (now (tape .entry)) (length (now (out .entry)))) (now (out .entry)) (now (out .exit)) (answer-of r) ⌝ }
+    requires { ⌜ AcceptedTape (now tape) × (length (now tape) ≤ length (now out)) ⌝ }
+    ensures { λ r. ⌜ Writes (to-2024 (was tape) (length (was out))) (was out) (now (out .exit)) (answer-of r) ⌝ }
 {
     match first_place(true, tape) {
         Place::At(place) => Answer::Refused { number: 12, place },
@@ -38,7 +39,7 @@ fn raised(tape: &[u8], out: &mut [u8]) -> Answer
 
 // From the 2024 edition down to the 2018 edition.
 pub fn to_2018(tape: &[u8], out: &mut [u8]) -> Answer
-    ensures { λ r. ⌜ Writes (to-2018 (now (tape .entry)) (length (now (out .entry)))) (now (out .entry)) (now (out .exit)) (answer-of r) ⌝ }
+    ensures { λ r. ⌜ Writes (to-2018 (was tape) (length (was out))) (was out) (now (out .exit)) (answer-of r) ⌝ }
 {
     if out.len() < tape.len() {
         return Answer::Refused {
@@ -54,7 +55,7 @@ pub fn to_2018(tape: &[u8], out: &mut [u8]) -> Answer
 
 // From the 2018 edition up to the 2024 edition.
 pub fn to_2024(tape: &[u8], out: &mut [u8]) -> Answer
-    ensures { λ r. ⌜ Writes (to-2024 (now (tape .entry)) (length (now (out .entry)))) (now (out .entry)) (now (out .exit)) (answer-of r) ⌝ }
+    ensures { λ r. ⌜ Writes (to-2024 (was tape) (length (was out))) (was out) (now (out .exit)) (answer-of r) ⌝ }
 {
     if out.len() < tape.len() {
         return Answer::Refused {

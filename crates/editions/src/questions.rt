@@ -15,10 +15,11 @@ use text::same;
 ghost use mathlib.Core.Path.{_≡_};
 ghost use Prim.Native.Nat.{_+_, _≤_};
 ghost use lib.ListN.{length};
+ghost use Rattle.reference.specs.Contract.{was};
 ghost use Rattle.reference.specs.Text.{has};
 ghost use Rattle.reference.specs.Listing.{token};
 ghost use Rattle.tape.specs.Commands.{size-of, command-in};
-ghost use Rattle.tape.specs.Questions.{Accepted};
+ghost use Rattle.tape.specs.Questions.{AcceptedTape};
 ghost use Rattle.editions.specs.Numbers.{begins-binary, is-newer, has-no-older, new-keywords};
 ghost use Rattle.editions.specs.Conversion.{of-command};
 ghost use Rattle.editions.specs.Asking.{keywords-1, keywords-2, keywords-3, earns, leftmost, place-of};
@@ -35,7 +36,7 @@ pub enum Place {
 
 // Whether a Number begins as a binary constant, after at most one minus.
 fn is_binary(s: &[u8]) -> bool
-    ensures { λ r. ⌜ r ≡ begins-binary (now (s .entry)) ⌝ }
+    ensures { λ r. ⌜ r ≡ begins-binary (was s) ⌝ }
 {
     if !begins_minus(s) {
         return begins_binary(s);
@@ -44,14 +45,14 @@ fn is_binary(s: &[u8]) -> bool
 }
 
 fn is_newer(s: &[u8]) -> bool
-    ensures { λ r. ⌜ r ≡ is-newer (now (s .entry)) ⌝ }
+    ensures { λ r. ⌜ r ≡ is-newer (was s) ⌝ }
 {
     is_binary(s) || has_byte(s, QUOTE)
 }
 
 // Whether a Number earns 13.
 fn has_no_older(s: &[u8]) -> bool
-    ensures { λ r. ⌜ r ≡ has-no-older (now (s .entry)) ⌝ }
+    ensures { λ r. ⌜ r ≡ has-no-older (was s) ⌝ }
 {
     if !is_newer(s) {
         return false;
@@ -64,27 +65,27 @@ fn has_no_older(s: &[u8]) -> bool
 
 // The eleven words, a few at a time.
 fn is_first_keyword(s: &[u8]) -> bool
-    ensures { λ r. ⌜ r ≡ has keywords-1 (now (s .entry)) ⌝ }
+    ensures { λ r. ⌜ r ≡ has keywords-1 (was s) ⌝ }
 {
     same(b"alignas", s) || (same(b"alignof", s) || (same(b"bool", s) || same(b"constexpr", s)))
 }
 
 fn is_second_keyword(s: &[u8]) -> bool
-    ensures { λ r. ⌜ r ≡ has keywords-2 (now (s .entry)) ⌝ }
+    ensures { λ r. ⌜ r ≡ has keywords-2 (was s) ⌝ }
 {
     same(b"false", s)
         || (same(b"nullptr", s) || (same(b"static_assert", s) || same(b"thread_local", s)))
 }
 
 fn is_third_keyword(s: &[u8]) -> bool
-    ensures { λ r. ⌜ r ≡ has keywords-3 (now (s .entry)) ⌝ }
+    ensures { λ r. ⌜ r ≡ has keywords-3 (was s) ⌝ }
 {
     same(b"true", s) || (same(b"typeof", s) || same(b"typeof_unqual", s))
 }
 
 // Whether a Symbol earns 12.
 fn is_new_keyword(s: &[u8]) -> bool
-    ensures { λ r. ⌜ r ≡ has new-keywords (now (s .entry)) ⌝ }
+    ensures { λ r. ⌜ r ≡ has new-keywords (was s) ⌝ }
 {
     is_first_keyword(s) || (is_second_keyword(s) || is_third_keyword(s))
 }
@@ -92,7 +93,7 @@ fn is_new_keyword(s: &[u8]) -> bool
 // ---- one command
 
 fn token_earns(up: bool, kind: u64, s: &[u8]) -> bool
-    ensures { λ r. ⌜ r ≡ earns up (token kind (now (s .entry))) ⌝ }
+    ensures { λ r. ⌜ r ≡ earns up (token kind (was s)) ⌝ }
 {
     if up {
         if kind != SYMBOL {
@@ -108,7 +109,7 @@ fn token_earns(up: bool, kind: u64, s: &[u8]) -> bool
 
 fn command_earns(up: bool, tape: &[u8], at: usize, command: Command) -> bool
     requires { ⌜ at + size-of command ≤ length (now tape) ⌝ }
-    ensures { λ r. ⌜ r ≡ of-command (earns up) (command-in (now (tape .entry)) at command) ⌝ }
+    ensures { λ r. ⌜ r ≡ of-command (earns up) (command-in (was tape) at command) ⌝ }
 {
     match command {
         Command::Addressed {
@@ -126,8 +127,8 @@ fn command_earns(up: bool, tape: &[u8], at: usize, command: Command) -> bool
 
 // The leftmost command that earns 12 going up, or 13 going down.
 pub fn first_place(up: bool, tape: &[u8]) -> Place
-    requires { ⌜ Accepted (now tape) ⌝ }
-    ensures { λ r. ⌜ place-of r ≡ leftmost up (now (tape .entry)) ⌝ }
+    requires { ⌜ AcceptedTape (now tape) ⌝ }
+    ensures { λ r. ⌜ place-of r ≡ leftmost up (was tape) ⌝ }
 {
     let mut at = 0;
     loop {

@@ -13,6 +13,7 @@ ghost use mathlib.Core.Path.{_≡_};
 ghost use mathlib.Core.Bool.{false};
 ghost use Prim.Native.Nat.{_+_, _≤_};
 ghost use lib.ListN.{length, take, drop};
+ghost use Rattle.reference.specs.Contract.{was};
 ghost use Rattle.reference.specs.Listing.{token, Listing};
 ghost use Rattle.reference.specs.Tape.{new-token, write-command, write};
 ghost use Rattle.reference.specs.Questions.{Passed, read, marks-in};
@@ -25,7 +26,7 @@ ghost use Rattle.editions.specs.Lowering.{down-command, Lowers, Lowerabl
 // Copies a part of the tape.
 fn put_part(tape: &[u8], from: usize, size: usize, out: &mut [u8], at: usize) -> usize
     requires { ⌜ (from + size ≤ length (now tape)) × (at + size ≤ length (now out)) ⌝ }
-    ensures { λ r. ⌜ Puts (now (out .entry)) at (take size (drop from (now (tape .entry)))) (now (out .exit)) r ⌝ }
+    ensures { λ r. ⌜ Puts (was out) at (take size (drop from (was tape))) (now (out .exit)) r ⌝ }
 {
     copy_bytes(text_of(tape, from, size), out, at);
     at + size
@@ -34,7 +35,7 @@ fn put_part(tape: &[u8], from: usize, size: usize, out: &mut [u8], at: usize) ->
 // Writes the command of a Number gone down.
 fn put_number(s: &[u8], out: &mut [u8], at: usize) -> usize
     requires { ⌜ (has-no-older (now s) ≡ false) × (length (now s) ≤ 24) × (at + 3 + length (now s) ≤ length (now out)) ⌝ }
-    ensures { λ r. ⌜ Puts (now (out .entry)) at (write-command (new-token (token 2 (down-text (now (s .entry)))))) (now (out .exit)) r ⌝ }
+    ensures { λ r. ⌜ Puts (was out) at (write-command (new-token (token 2 (down-text (was s))))) (now (out .exit)) r ⌝ }
 {
     let end = put_down(s, out, at + 3);
     out[at] = 18;
@@ -46,8 +47,7 @@ fn put_number(s: &[u8], out: &mut [u8], at: usize) -> usize
 // Writes the command at an offset of the tape, gone down.
 fn put_command(tape: &[u8], at: usize, command: Command, out: &mut [u8], to: usize) -> usize
     requires { ⌜ Lowers (now tape) at command (now out) to ⌝ }
-    ensures { λ r. ⌜ Puts (now (out .entry)) to (write-command (down-command (command-in (now (tape .entry)) at command)))
-        (now (out .exit)) r ⌝ }
+    ensures { λ r. ⌜ Puts (was out) to (write-command (down-command (command-in (was tape) at command))) (now (out .exit)) r ⌝ }
 {
     match command {
         Command::Addressed {
@@ -69,8 +69,8 @@ fn put_command(tape: &[u8], at: usize, command: Command, out: &mut [u8], to: usi
 // Writes the tape gone down to the front of `out`, and says how long it is. No command of it earns 13.
 pub fn lower(tape: &[u8], out: &mut [u8]) -> usize
     requires { ⌜ Lowerable (now tape) × (length (now tape) ≤ length (now out)) ⌝ }
-    ensures { λ r. ⌜ ((lines : Listing) → read (now (tape .entry)) ≡ Passed lines
-        → Puts (now (out .entry)) 0 (write (change down-token lines) (marks-in (now (tape .entry)))) (now (out .exit)) r) ⌝ }
+    ensures { λ r. ⌜ ((lines : Listing) → read (was tape) ≡ Passed lines
+        → Puts (was out) 0 (write (change down-token lines) (marks-in (was tape))) (now (out .exit)) r) ⌝ }
 {
     let mut at = 0;
     let mut to = 0;

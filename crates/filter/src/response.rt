@@ -8,6 +8,7 @@ ghost use mathlib.Core.Path.{_≡_};
 ghost use mathlib.Core.Bool.{false};
 ghost use Prim.Native.Nat.{_≤_};
 ghost use lib.ListN.{length, take};
+ghost use Rattle.reference.specs.Contract.{was};
 ghost use Rattle.reference.specs.Questions.{WORK, OUTPUT};
 ghost use Rattle.reference.specs.Reply.{reply};
 ghost use Rattle.filter.specs.Response.{refusal, shown, settings, LONGEST, response, Shows};
@@ -15,7 +16,7 @@ ghost use Rattle.filter.specs.Response.{refusal, shown, settings, LONGES
 // Puts the line of a refusal, and says how long it is.
 fn put_refusal(number: u64, place: u64, out: &mut [u8]) -> usize
     requires { ⌜ 53 ≤ length (now out) ⌝ }
-    ensures { λ r. ⌜ Shows (refusal number place) (now (out .entry)) (now (out .exit)) r ⌝ }
+    ensures { λ r. ⌜ Shows (refusal number place) (was out) (now (out .exit)) r ⌝ }
 {
     let a = put(b"refused ", out, 0);
     let b = put_decimal(number, out, a);
@@ -27,8 +28,7 @@ fn put_refusal(number: u64, place: u64, out: &mut [u8]) -> usize
 // Cleans a tape, every setting off, and says how long the answer is.
 fn answer(convention: u8, tape: &[u8], out: &mut [u8]) -> usize
     requires { ⌜ length (now out) ≡ OUTPUT ⌝ }
-    ensures { λ r. ⌜ Shows (shown (reply (settings convention) (now (tape .entry)) WORK WORK OUTPUT))
-        (now (out .entry)) (now (out .exit)) r ⌝ }
+    ensures { λ r. ⌜ Shows (shown (reply (settings convention) (was tape) WORK WORK OUTPUT)) (was out) (now (out .exit)) r ⌝ }
 {
     let mut work_a = [0u8; 49152];
     let mut work_b = [0u8; 49152];
@@ -55,8 +55,8 @@ fn longest() -> usize
 // Cleans a tape, or the front of a longer one.
 fn answer_front(convention: u8, tape: &[u8], out: &mut [u8]) -> usize
     requires { ⌜ length (now out) ≡ OUTPUT ⌝ }
-    ensures { λ r. ⌜ Shows (shown (reply (settings convention) (take LONGEST (now (tape .entry))) WORK WORK OUTPUT))
-        (now (out .entry)) (now (out .exit)) r ⌝ }
+    ensures { λ r. ⌜ Shows (shown (reply (settings convention) (take LONGEST (was tape)) WORK WORK OUTPUT))
+        (was out) (now (out .exit)) r ⌝ }
 {
     let most = longest();
     if tape.len() <= most {
@@ -68,7 +68,7 @@ fn answer_front(convention: u8, tape: &[u8], out: &mut [u8]) -> usize
 // Answers an input of any length: a convention byte and a tape.
 pub fn respond(input: &[u8], out: &mut [u8]) -> usize
     requires { ⌜ length (now out) ≡ OUTPUT ⌝ }
-    ensures { λ r. ⌜ Shows (response (now (input .entry))) (now (out .entry)) (now (out .exit)) r ⌝ }
+    ensures { λ r. ⌜ Shows (response (was input)) (was out) (now (out .exit)) r ⌝ }
 {
     if input.len() == 0 {
         return put_refusal(1, 0, out);

@@ -13,7 +13,7 @@ use Rattle.reference.proofs.Tapes.{read-limits}
 use Rattle.lines.specs.Words.{len-of, token-of, Holds}
 use Rattle.lines.specs.Lines.{part-of, Reading, own, line-read, listing-read}
 use Rattle.lines.specs.Shapes.{found}
-use Rattle.lines.specs.declared.shapes.Found.{Found}
+use Rattle.lines.specs.declared.shapes.Position.{Position}
 use Rattle.lines.proofs.words.Tokens.{text-length}
 use Rattle.tape.specs.declared.questions.Totals.{Totals}
 use Rattle.tables.specs.Tables.{Loaded}
@@ -56,6 +56,6 @@ module _ (tape tokens lines addresses : List ℕ) (t : Totals) (l : Loaded tape 
   pub lines-fit : 256 ≡ length lines → t .lines ≤ length lines
   lines-fit e = omega (arith, loaded-limits l)
 
-  pub breaks-is : (r : Found) → ((reading : Reading) → found r ≡ breaks (listing-read tape tape (take (t .tokens) tokens) reading (take (t .lines) lines)))
+  pub breaks-is : (r : Position) → ((reading : Reading) → found r ≡ breaks (listing-read tape tape (take (t .tokens) tokens) reading (take (t .lines) lines)))
       → (input : Listing) → read tape ≡ Passed input → found r ≡ breaks input
   breaks-is r h input e = h (own addresses) ∙ ap breaks (passed-inj (sym (l .listing tape) ∙ e))

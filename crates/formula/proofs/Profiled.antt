@@ -23,7 +23,7 @@ use Rattle.laws.proofs.Scans.{if-true, if-false, and-true, and-false}
 use Rattle.lines.specs.Words.{token-of, tokens-of, Points}
 use Rattle.lines.specs.Lines.{first-of, count-of, indent-of, part-of, Reading, line-read, listing-read, Listed}
 use Rattle.lines.specs.Shapes.{found}
-use Rattle.lines.specs.declared.shapes.Found.the-variants.{At, Nothing}
+use Rattle.lines.specs.declared.shapes.Position.the-variants.{At, Nothing}
 use Rattle.formula.specs.Places.{Readable}
 use Rattle.formula.specs.Profile.{Filled}
 

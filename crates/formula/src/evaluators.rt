@@ -19,6 +19,7 @@ ghost use mathlib.Core.Path.{_≡_};
 ghost use mathlib.Core.List.{_∷_, []};
 ghost use mathlib.Core.Bool.{false};
 ghost use lib.ListN.{getD};
+ghost use Rattle.reference.specs.Contract.{was};
 ghost use Rattle.reference.specs.Evaluators.{plus, minus};
 ghost use Rattle.formula.specs.Places.{Placed, Readable};
 ghost use Rattle.formula.specs.Terms.{has-junk};
@@ -36,7 +37,7 @@ pub enum Worth {
 }
 
 fn value_at(values: &[u64], i: usize) -> u64
-    ensures { λ r. ⌜ r ≡ getD (now (values .entry)) i 0 ⌝ }
+    ensures { λ r. ⌜ r ≡ getD (was values) i 0 ⌝ }
 {
     if values.len() <= i {
         return 0;
@@ -90,7 +91,7 @@ pub fn term<'a>(
     out: &mut [u64; 4],
 ) -> bool
     requires { ⌜ Readable (now tape) (now line) × (has-junk (now tape) (now line) ≡ false) × Placed (now line) token byte ⌝ }
-    ensures { λ r. ⌜ Term (now (tape .entry)) (now (line .entry)) (now (values .entry)) token byte (told r (now (out .exit))) ⌝ }
+    ensures { λ r. ⌜ Term (was tape) (was line) (was values) token byte (told r (now (out .exit))) ⌝ }
 {
     if line.len() <= token {
         return false;
@@ -126,7 +127,7 @@ pub fn expression<'a>(
     out: &mut [u64; 4],
 ) -> bool
     requires { ⌜ Readable (now tape) (now line) × (has-junk (now tape) (now line) ≡ false) × Placed (now line) token byte ⌝ }
-    ensures { λ r. ⌜ Expression (now (tape .entry)) (now (line .entry)) (now (values .entry)) token byte (told r (now (out .exit))) ⌝ }
+    ensures { λ r. ⌜ Expression (was tape) (was line) (was values) token byte (told r (now (out .exit))) ⌝ }
 {
     let mut how = Joins::Begins;
     let mut m = 0;
@@ -164,7 +165,7 @@ pub fn expression<'a>(
 // end.
 pub fn evaluate<'a>(tape: &'a [u8], line: &'a [u64], values: &'a [u64], before: &'a [u8]) -> Worth
     requires { ⌜ Readable (now tape) (now line) ⌝ }
-    ensures { λ r. ⌜ Evaluates (now (tape .entry)) (now (line .entry)) (now (values .entry)) (now (before .entry)) r ⌝ }
+    ensures { λ r. ⌜ Evaluates (was tape) (was line) (was values) (was before) r ⌝ }
 {
     if has_junk(tape, line) {
         return Worth::Breaks;

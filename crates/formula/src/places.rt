@@ -1,6 +1,7 @@
 // Places in a line: a token's number and a byte of its text, which is 0 in a token that is no Punct. The tokens' texts are all in the tape.
 use lines::words;
 ghost use mathlib.Core.List.{_∷_, []};
+ghost use Rattle.reference.specs.Contract.{was};
 ghost use Rattle.reference.specs.Text.{bytes};
 ghost use Rattle.reference.specs.Evaluators.{behind, operator};
 ghost use Rattle.lines.specs.Words.{tokens-of};
@@ -14,8 +15,7 @@ pub enum Ahead {
 // The place behind the byte c of a Punct, if it stands here.
 fn behind_byte<'a>(tape: &'a [u8], line: &'a [u64], token: usize, byte: usize, c: u8) -> Ahead
     requires { ⌜ Readable (now tape) (now line) × Placed (now line) token byte ⌝ }
-    ensures { λ r. ⌜ Leads (now (tape .entry)) (now (line .entry))
-        (behind (c ∷ []) (left (tokens-of (now (tape .entry)) (now (tape .entry)) (now (line .entry))) token byte)) r ⌝ }
+    ensures { λ r. ⌜ Leads (was tape) (was line) (behind (c ∷ []) (left (tokens-of (was tape) (was tape) (was line)) token byte)) r ⌝ }
 {
     if line.len() <= token {
         return Ahead::Nothing;
@@ -37,8 +37,7 @@ fn behind_byte<'a>(tape: &'a [u8], line: &'a [u64], token: usize, byte: usize, c
 // The place behind a text of Puncts, if it stands here.
 pub fn behind<'a>(tape: &'a [u8], line: &'a [u64], token: usize, byte: usize, t: &'a [u8]) -> Ahead
     requires { ⌜ Readable (now tape) (now line) × Placed (now line) token byte ⌝ }
-    ensures { λ r. ⌜ Leads (now (tape .entry)) (now (line .entry))
-        (behind (now (t .entry)) (left (tokens-of (now (tape .entry)) (now (tape .entry)) (now (line .entry))) token byte)) r ⌝ }
+    ensures { λ r. ⌜ Leads (was tape) (was line) (behind (was t) (left (tokens-of (was tape) (was tape) (was line)) token byte)) r ⌝ }
 {
     let mut k = token;
     let mut b = byte;
@@ -67,8 +66,7 @@ pub enum Operated {
 
 pub fn operator<'a>(tape: &'a [u8], line: &'a [u64], token: usize, byte: usize) -> Operated
     requires { ⌜ Readable (now tape) (now line) × Placed (now line) token byte ⌝ }
-    ensures { λ r. ⌜ Operates (now (tape .entry)) (now (line .entry))
-        (operator (left (tokens-of (now (tape .entry)) (now (tape .entry)) (now (line .entry))) token byte)) r ⌝ }
+    ensures { λ r. ⌜ Operates (was tape) (was line) (operator (left (tokens-of (was tape) (was tape) (was line)) token byte)) r ⌝ }
 {
     if let Ahead::At(k, b) = behind(tape, line, token, byte, b" + ") {
         return Operated::Adds(k, b);
@@ -81,16 +79,14 @@ pub fn operator<'a>(tape: &'a [u8], line: &'a [u64], token: usize, byte: usize) 
 
 pub fn behind_open<'a>(tape: &'a [u8], line: &'a [u64], token: usize, byte: usize) -> Ahead
     requires { ⌜ Readable (now tape) (now line) × Placed (now line) token byte ⌝ }
-    ensures { λ r. ⌜ Leads (now (tape .entry)) (now (line .entry))
-        (behind (bytes "(") (left (tokens-of (now (tape .entry)) (now (tape .entry)) (now (line .entry))) token byte)) r ⌝ }
+    ensures { λ r. ⌜ Leads (was tape) (was line) (behind (bytes "(") (left (tokens-of (was tape) (was tape) (was line)) token byte)) r ⌝ }
 {
     behind(tape, line, token, byte, b"(")
 }
 
 pub fn behind_close<'a>(tape: &'a [u8], line: &'a [u64], token: usize, byte: usize) -> Ahead
     requires { ⌜ Readable (now tape) (now line) × Placed (now line) token byte ⌝ }
-    ensures { λ r. ⌜ Leads (now (tape .entry)) (now (line .entry)) (behind (bytes ")")
-        (left (tokens-of (now (tape .entry)) (now (tape .entry)) (now (line .entry))) token byte)) r ⌝ }
+    ensures { λ r. ⌜ Leads (was tape) (was line) (behind (bytes ")") (left (tokens-of (was tape) (was tape) (was line)) token byte)) r ⌝ }
 {
     behind(tape, line, token, byte, b")")
 }

@@ -2,13 +2,14 @@
 use crate::evaluators::Worth;
 use crate::evaluators::evaluate;
 use crate::terms::is_wide;
-use lines::shapes::Found;
+use lines::shapes::Position;
 use lines::words;
 ghost use mathlib.Core.Path.{_≡_};
 ghost use mathlib.Core.Bool.{false};
 ghost use Prim.Native.Nat.{_<_, _≤_, _+_};
 ghost use lib.Dec.{eqb};
 ghost use lib.ListN.{length};
+ghost use Rattle.reference.specs.Contract.{was};
 ghost use Rattle.reference.specs.Control.{_&&_};
 ghost use Rattle.reference.specs.Lists.{is-some};
 ghost use Rattle.reference.specs.Text.{Text, bytes};
@@ -39,7 +40,7 @@ fn is_worth(w: Worth) -> bool
 // Whether tokens are ` = `, an expression and `;`. An empty table of values serves.
 fn assigns<'a>(tape: &'a [u8], rest: &'a [u64]) -> bool
     requires { ⌜ Readable (now tape) (now rest) ⌝ }
-    ensures { λ r. ⌜ r ≡ is-some (assigned-value modulo zeros (tokens-of (now (tape .entry)) (now (tape .entry)) (now (rest .entry)))) ⌝ }
+    ensures { λ r. ⌜ r ≡ is-some (assigned-value modulo zeros (tokens-of (was tape) (was tape) (was rest))) ⌝ }
 {
     is_worth(evaluate(tape, rest, &rest[..0], b" = "))
 }
@@ -47,7 +48,7 @@ fn assigns<'a>(tape: &'a [u8], rest: &'a [u64]) -> bool
 // Whether they are a space, an expression and `;`.
 fn returns<'a>(tape: &'a [u8], rest: &'a [u64]) -> bool
     requires { ⌜ Readable (now tape) (now rest) ⌝ }
-    ensures { λ r. ⌜ r ≡ is-some (returned-value modulo zeros (tokens-of (now (tape .entry)) (now (tape .entry)) (now (rest .entry)))) ⌝ }
+    ensures { λ r. ⌜ r ≡ is-some (returned-value modulo zeros (tokens-of (was tape) (was tape) (was rest))) ⌝ }
 {
     is_worth(evaluate(tape, rest, &rest[..0], b" "))
 }
@@ -60,7 +61,7 @@ fn side_by_side(before: bool, here: bool) -> bool
 
 // Whether no two Puncts stand side by side.
 fn puncts_apart(line: &[u64]) -> bool
-    ensures { λ r. ⌜ ((tape area : Text) → r ≡ puncts-apart false (tokens-of tape area (now (line .entry)))) ⌝ }
+    ensures { λ r. ⌜ ((tape area : Text) → r ≡ puncts-apart false (tokens-of tape area (was line))) ⌝ }
 {
     let mut behind = false;
     let mut i = 0;
@@ -77,7 +78,7 @@ fn puncts_apart(line: &[u64]) -> bool
 
 fn is_return(tape: &[u8], w: u64) -> bool
     requires { ⌜ Points (now tape) (now tape) w ⌝ }
-    ensures { λ r. ⌜ r ≡ is-kw (bytes "return") (token-of (now (tape .entry)) (now (tape .entry)) w) ⌝ }
+    ensures { λ r. ⌜ r ≡ is-kw (bytes "return") (token-of (was tape) (was tape) w) ⌝ }
 {
     if words::kind(w) != words::KEYWORD {
         return false;
@@ -87,7 +88,7 @@ fn is_return(tape: &[u8], w: u64) -> bool
 
 fn assigns_wide<'a>(tape: &'a [u8], line: &'a [u64]) -> bool
     requires { ⌜ Readable (now tape) (now line) ⌝ }
-    ensures { λ r. ⌜ r ≡ assigns-wide (tokens-of (now (tape .entry)) (now (tape .entry)) (now (line .entry))) ⌝ }
+    ensures { λ r. ⌜ r ≡ assigns-wide (tokens-of (was tape) (was tape) (was line)) ⌝ }
 {
     if line.len() == 0 {
         return false;
@@ -103,7 +104,7 @@ fn assigns_wide<'a>(tape: &'a [u8], line: &'a [u64]) -> bool
 
 fn returns_value<'a>(tape: &'a [u8], line: &'a [u64]) -> bool
     requires { ⌜ Readable (now tape) (now line) ⌝ }
-    ensures { λ r. ⌜ r ≡ returns-value (tokens-of (now (tape .entry)) (now (tape .entry)) (now (line .entry))) ⌝ }
+    ensures { λ r. ⌜ r ≡ returns-value (tokens-of (was tape) (was tape) (was line)) ⌝ }
 {
     if line.len() == 0 {
         return false;
@@ -120,8 +121,7 @@ fn returns_value<'a>(tape: &'a [u8], line: &'a [u64]) -> bool
 // Whether a line but the last is in the profile; `indent` is the first line's.
 fn assigns_here<'a>(tape: &'a [u8], tokens: &'a [u64], l: u64, indent: u64) -> bool
     requires { ⌜ (first-of l + count-of l ≤ length (now tokens)) × Readable (now tape) (part-of (now tokens) l) ⌝ }
-    ensures { λ r. ⌜ r ≡ (eqb (indent-of l) indent && assigns-wide
-        (tokens-of (now (tape .entry)) (now (tape .entry)) (part-of (now (tokens .entry)) l))) ⌝ }
+    ensures { λ r. ⌜ r ≡ (eqb (indent-of l) indent && assigns-wide (tokens-of (was tape) (was tape) (part-of (was tokens) l))) ⌝ }
 {
     if words::indent(l) != indent {
         return false;
@@ -131,8 +131,7 @@ fn assigns_here<'a>(tape: &'a [u8], tokens: &'a [u64], l: u64, indent: u64) -> b
 
 fn returns_here<'a>(tape: &'a [u8], tokens: &'a [u64], l: u64, indent: u64) -> bool
     requires { ⌜ (first-of l + count-of l ≤ length (now tokens)) × Readable (now tape) (part-of (now tokens) l) ⌝ }
-    ensures { λ r. ⌜ r ≡ (eqb (indent-of l) indent && returns-value
-        (tokens-of (now (tape .entry)) (now (tape .entry)) (part-of (now (tokens .entry)) l))) ⌝ }
+    ensures { λ r. ⌜ r ≡ (eqb (indent-of l) indent && returns-value (tokens-of (was tape) (was tape) (part-of (was tokens) l))) ⌝ }
 {
     if words::indent(l) != indent {
         return false;
@@ -141,25 +140,24 @@ fn returns_here<'a>(tape: &'a [u8], tokens: &'a [u64], l: u64, indent: u64) -> b
 }
 
 // The first line that breaks the profile; the lines' texts are all in the tape.
-pub fn breaks<'a>(tape: &'a [u8], tokens: &'a [u64], lines: &'a [u64]) -> Found
+pub fn breaks<'a>(tape: &'a [u8], tokens: &'a [u64], lines: &'a [u64]) -> Position
     requires { ⌜ Filled (now tape) (now tokens) (now lines) ⌝ }
-    ensures { λ r. ⌜ ((reading : Reading) → found r ≡ breaks
-        (listing-read (now (tape .entry)) (now (tape .entry)) (now (tokens .entry)) reading (now (lines .entry)))) ⌝ }
+    ensures { λ r. ⌜ ((reading : Reading) → found r ≡ breaks (listing-read (was tape) (was tape) (was tokens) reading (was lines))) ⌝ }
 {
     if lines.len() == 0 {
-        return Found::At(0);
+        return Position::At(0);
     }
     let indent = words::indent(lines[0]);
     let last = lines.len() - 1;
     let mut i = 0;
     while i < last {
         if !assigns_here(tape, tokens, lines[i], indent) {
-            return Found::At(i);
+            return Position::At(i);
         }
         i += 1;
     }
     if !returns_here(tape, tokens, lines[last], indent) {
-        return Found::At(last);
+        return Position::At(last);
     }
-    Found::Nothing
+    Position::Nothing
 }

@@ -10,7 +10,7 @@ use Rattle.reference.specs.Listing.{Listing}
 use Rattle.reference.specs.Rules.{Rules}
 use Rattle.reference.specs.Join.{try-at, targets}
 use Rattle.joining.specs.Places.{labels-at, Labelled}
-use Rattle.joining.specs.Limits.{Limits}
+use Rattle.joining.specs.Limits.{RunLimits}
 use Rattle.lines.specs.Lines.{Reading}
 use Rattle.plan.specs.Slots.{slot-names, Slotted}
 use Rattle.build.specs.declared.used.Size.{Size}
@@ -22,7 +22,7 @@ use Rattle.join.specs.declared.attempt.Tried.{Tried}
 pub record Attemptable (tape area : Text) (tokens lines : List ℕ) (area2 : Text) (tokens2 lows highs labels : List ℕ) (slots : Text)
     (slot-words : List ℕ) (i : ℕ) (at : Size) : Type 0 where
   pub current : Current tape area tokens lines at
-  pub limits : Limits (bare-now tape area tokens lines at)
+  pub limits : RunLimits (bare-now tape area tokens lines at)
   pub lent : Lent area tokens area2 tokens2
   pub labelled : Labelled (bare-now tape area tokens lines at) labels
   pub slotted : Slotted slots slot-words

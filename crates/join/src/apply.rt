@@ -7,6 +7,7 @@ use crate::spare::lesser;
 use build::used::Size;
 use lines::rules::Rules;
 use plan::plans::Join;
+ghost use Rattle.reference.specs.Contract.{was};
 ghost use Rattle.lines.specs.Rules.{rules-of};
 ghost use Rattle.build.specs.State.{used};
 ghost use Rattle.build.specs.Added.{used-words};
@@ -27,8 +28,8 @@ pub fn apply(
 ) -> Size
     requires { ⌜ Plannable (rules-of rules) (now tape) (used (now area) size) (used-words (now tokens) size) (used-lines (now lines) size) j
         × Current (now tape) (now area) (now tokens) (now lines) size × Lent (now area) (now tokens) (now area2) (now tokens2) ⌝ }
-    ensures { λ r. ⌜ Acted (rules-of rules) (now (tape .entry)) (used (now (area .entry)) size) (used-words (now (tokens .entry)) size)
-        (used-lines (now (lines .entry)) size) j (now (area .exit)) (now (tokens .exit)) (now (lines .exit)) r ⌝ }
+    ensures { λ r. ⌜ Acted (rules-of rules) (was tape) (used (was area) size) (used-words (was tokens) size)
+        (used-lines (was lines) size) j (now (area .exit)) (now (tokens .exit)) (now (lines .exit)) r ⌝ }
 {
     let n = size.lines;
     let words = size.tokens;

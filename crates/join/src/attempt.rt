@@ -6,6 +6,7 @@ use build::used::Size;
 use lines::rules::Rules;
 use plan::plans::Plan;
 use plan::plans::decide;
+ghost use Rattle.reference.specs.Contract.{was};
 ghost use Rattle.lines.specs.Rules.{rules-of};
 ghost use Rattle.join.specs.Attempts.{Attemptable, Attempted};
 
@@ -35,8 +36,8 @@ pub fn try_at<'a>(
 ) -> Tried
     requires { ⌜ Attemptable (now tape) (now area) (now tokens) (now lines) (now area2) (now tokens2) (now lows) (now highs)
         (now labels) (now slots) (now «slot_words») i size ⌝ }
-    ensures { λ r. ⌜ Attempted (rules-of rules) (now (tape .entry)) (now (area .entry)) (now (tokens .entry)) (now (lines .entry))
-        (now (lows .entry)) (now (highs .entry)) (now (labels .entry)) (now (slots .entry)) (now («slot_words» .entry)) i size
+    ensures { λ r. ⌜ Attempted (rules-of rules) (was tape) (was area) (was tokens) (was lines)
+        (was lows) (was highs) (was labels) (was slots) (was «slot_words») i size
         (now (area .exit)) (now (tokens .exit)) (now (lines .exit)) (now (lows .exit)) (now (highs .exit)) r ⌝ }
 {
     let n = size.lines;

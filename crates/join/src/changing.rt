@@ -9,6 +9,7 @@ use plan::plans::Join;
 ghost use mathlib.Core.Path.{_≡_};
 ghost use mathlib.Core.List.{List};
 ghost use Prim.Native.Nat.{ℕ};
+ghost use Rattle.reference.specs.Contract.{was};
 ghost use Rattle.reference.specs.Rules.{volatile};
 ghost use Rattle.joining.specs.Plan.{changes};
 ghost use Rattle.lines.specs.Rules.{rules-of};
@@ -29,9 +30,8 @@ pub fn is_changed<'a>(
     rules: Rules,
 ) -> bool
     requires { ⌜ Lined (now tape) (now area) (now tokens) l × Known (now tape) (now area) (j .family) ⌝ }
-    ensures { λ r. ⌜ ((source : List ℕ) → r
-        ≡ changes (volatile (rules-of rules)) (j .line) (join-in (now (tape .entry)) (now (area .entry)) source j) k
-        (bare-in (now (tape .entry)) (now (area .entry)) (now (tokens .entry)) l)) ⌝ }
+    ensures { λ r. ⌜ ((source : List ℕ) → r ≡ changes (volatile (rules-of rules)) (j .line) (join-in (was tape) (was area) source j) k
+        (bare-in (was tape) (was area) (was tokens) l)) ⌝ }
 {
     if k <= j.line {
         return false;
@@ -57,8 +57,8 @@ pub fn rewrite<'a>(
     edition: u8,
 ) -> Appended
     requires { ⌜ Rewritable (now tape) (now area) (now tokens) source (substitution-of j) l (now area2) (now tokens2) size ⌝ }
-    ensures { λ r. ⌜ Rewritten edition (now (tape .entry)) (now (area .entry)) (now (tokens .entry)) source (substitution-of j) l
-        (now (area2 .entry)) (now (tokens2 .entry)) size (now (area2 .exit)) (now (tokens2 .exit)) r ⌝ }
+    ensures { λ r. ⌜ Rewritten edition (was tape) (was area) (was tokens) source (substitution-of j) l
+        (was area2) (was tokens2) size (now (area2 .exit)) (now (tokens2 .exit)) r ⌝ }
 {
     let family = j.family;
     let expr = j.expr;

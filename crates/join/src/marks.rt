@@ -9,6 +9,7 @@ use plan::plans::Join;
 ghost use mathlib.Core.Path.{_≡_};
 ghost use Prim.Native.Nat.{_≤_, _<_, min, max};
 ghost use lib.ListN.{length, getD, set};
+ghost use Rattle.reference.specs.Contract.{was};
 ghost use Rattle.lines.specs.Rules.{rules-of};
 ghost use Rattle.join.specs.Building.{Plannable};
 ghost use Rattle.join.specs.Carrying.{Carried};
@@ -16,8 +17,8 @@ ghost use Rattle.join.specs.Carrying.{Carried};
 // Line `at` of the input takes in the addresses from `low` to `high`.
 fn take_in(at: usize, low: u64, high: u64, lows: &mut [u64], highs: &mut [u64])
     requires { ⌜ (at < length (now lows)) × (at < length (now highs)) ⌝ }
-    ensures { λ _. ⌜ now (lows .exit) ≡ set (now (lows .entry)) at (min (getD (now (lows .entry)) at 0) low) ⌝ }
-    ensures { λ _. ⌜ now (highs .exit) ≡ set (now (highs .entry)) at (max (getD (now (highs .entry)) at 0) high) ⌝ }
+    ensures { λ _. ⌜ now (lows .exit) ≡ set (was lows) at (min (getD (was lows) at 0) low) ⌝ }
+    ensures { λ _. ⌜ now (highs .exit) ≡ set (was highs) at (max (getD (was highs) at 0) high) ⌝ }
 {
     lows[at] = lower(lows[at], low);
     highs[at] = higher(highs[at], high);
@@ -36,8 +37,8 @@ pub fn carry_marks<'a>(
 )
     requires { ⌜ Plannable (rules-of rules) (now tape) (now area) (now tokens) (now lines) j
         × (256 ≤ length (now lows)) × (256 ≤ length (now highs)) ⌝ }
-    ensures { λ _. ⌜ Carried (rules-of rules) (now (tape .entry)) (now (area .entry)) (now (tokens .entry)) (now (lines .entry)) j
-        (now (lows .entry)) (now (highs .entry)) (now (lows .exit)) (now (highs .exit)) ⌝ }
+    ensures { λ _. ⌜ Carried (rules-of rules) (was tape) (was area) (was tokens) (was lines) j
+        (was lows) (was highs) (now (lows .exit)) (now (highs .exit)) ⌝ }
 {
     let gone = j.line;
     let last = j.last;

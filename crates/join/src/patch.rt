@@ -10,6 +10,7 @@ use text::copy_bytes;
 ghost use mathlib.Core.Path.{_≡_};
 ghost use Prim.Native.Nat.{_+_};
 ghost use lib.ListN.{length};
+ghost use Rattle.reference.specs.Contract.{was};
 ghost use Rattle.lines.specs.Rules.{rules-of};
 ghost use Rattle.build.specs.State.{used};
 ghost use Rattle.build.specs.Added.{used-words};
@@ -33,7 +34,7 @@ fn patch_lines<'a>(
     requires { ⌜ Plannable (rules-of rules) (now tape) (now area) (now tokens) (now lines) j × (length (now area) ≡ size .text)
         × (length (now tokens) ≡ size .tokens)
         × Spare (now area2) (now tokens2) size (need-from (now tokens) (now lines) j (j .line + 1)) ⌝ }
-    ensures { λ r. ⌜ Patched (rules-of rules) (now (tape .entry)) (now (area .entry)) (now (tokens .entry)) (now (lines .entry)) j size
+    ensures { λ r. ⌜ Patched (rules-of rules) (was tape) (was area) (was tokens) (was lines) j size
         (now (area2 .exit)) (now (tokens2 .exit)) (now (lines .exit)) r ⌝ }
 {
     let gone = j.line;
@@ -86,8 +87,8 @@ pub fn patch(
         × Current (now tape) (now area) (now tokens) (now lines) size
         × Spare (now area) (now tokens) size (need-from (used-words (now tokens) size) (used-lines (now lines) size) j (j .line + 1))
         × Spare (now area2) (now tokens2) size (need-from (used-words (now tokens) size) (used-lines (now lines) size) j (j .line + 1)) ⌝ }
-    ensures { λ r. ⌜ Acted (rules-of rules) (now (tape .entry)) (used (now (area .entry)) size) (used-words (now (tokens .entry)) size)
-        (used-lines (now (lines .entry)) size) j (now (area .exit)) (now (tokens .exit)) (now (lines .exit)) r ⌝ }
+    ensures { λ r. ⌜ Acted (rules-of rules) (was tape) (used (was area) size) (used-words (was tokens) size)
+        (used-lines (was lines) size) j (now (area .exit)) (now (tokens .exit)) (now (lines .exit)) r ⌝ }
 {
     let n = size.lines;
     let words = size.tokens;

@@ -10,6 +10,7 @@ use plan::plans::Join;
 use text::copy_bytes;
 ghost use Prim.Native.Nat.{_≤_, _<_};
 ghost use lib.ListN.{length};
+ghost use Rattle.reference.specs.Contract.{was};
 ghost use Rattle.lines.specs.Rules.{rules-of};
 ghost use Rattle.build.specs.State.{used};
 ghost use Rattle.build.specs.Added.{used-words};
@@ -31,8 +32,8 @@ fn build_line<'a>(
     size: Size,
 ) -> Appended
     requires { ⌜ Placeable (rules-of rules) (now tape) (now area) (now tokens) source j k l (now area2) (now tokens2) size ⌝ }
-    ensures { λ r. ⌜ Placed (rules-of rules) (now (tape .entry)) (now (area .entry)) (now (tokens .entry)) source j k l (now (area2 .entry))
-        (now (tokens2 .entry)) size (now (area2 .exit)) (now (tokens2 .exit)) r ⌝ }
+    ensures { λ r. ⌜ Placed (rules-of rules) (was tape) (was area) (was tokens) source j k l (was area2)
+        (was tokens2) size (now (area2 .exit)) (now (tokens2 .exit)) r ⌝ }
 {
     if is_changed(tape, area, tokens, l, k, j, rules) {
         return rewrite(
@@ -54,7 +55,7 @@ fn build_line<'a>(
 // The word of the line that was appended takes its place behind the lines in use.
 fn put_line(a: Appended, lines: &mut [u64]) -> Size
     requires { ⌜ a .size .lines < length (now lines) ⌝ }
-    ensures { λ r. ⌜ Put a (now (lines .entry)) (now (lines .exit)) r ⌝ }
+    ensures { λ r. ⌜ Put a (was lines) (now (lines .exit)) r ⌝ }
 {
     let s = a.size;
     let n = s.lines;
@@ -79,7 +80,7 @@ fn build<'a>(
 ) -> Size
     requires { ⌜ Plannable (rules-of rules) (now tape) (now area) (now tokens) (now lines) j × (49152 ≤ length (now area2))
         × (1024 ≤ length (now tokens2)) ⌝ }
-    ensures { λ r. ⌜ Rebuilt (rules-of rules) (now (tape .entry)) (now (area .entry)) (now (tokens .entry)) (now (lines .entry)) j
+    ensures { λ r. ⌜ Rebuilt (rules-of rules) (was tape) (was area) (was tokens) (was lines) j
         (now (area2 .exit)) (now (tokens2 .exit)) (now (lines .exit)) r ⌝ }
 {
     let gone = j.line;
@@ -128,8 +129,8 @@ pub fn rebuild(
 ) -> Size
     requires { ⌜ Plannable (rules-of rules) (now tape) (used (now area) size) (used-words (now tokens) size) (used-lines (now lines) size) j
         × Current (now tape) (now area) (now tokens) (now lines) size × Lent (now area) (now tokens) (now area2) (now tokens2) ⌝ }
-    ensures { λ r. ⌜ Acted (rules-of rules) (now (tape .entry)) (used (now (area .entry)) size) (used-words (now (tokens .entry)) size)
-        (used-lines (now (lines .entry)) size) j (now (area .exit)) (now (tokens .exit)) (now (lines .exit)) r ⌝ }
+    ensures { λ r. ⌜ Acted (rules-of rules) (was tape) (used (was area) size) (used-words (was tokens) size)
+        (used-lines (was lines) size) j (now (area .exit)) (now (tokens .exit)) (now (lines .exit)) r ⌝ }
 {
     let n = size.lines;
     let words = size.tokens;

@@ -6,6 +6,7 @@ ghost use Prim.Native.Nat.{ℕ, _+_, _≤_, _<_, min};
 ghost use lib.Dec.{ltb};
 ghost use lib.ListN.{length, getD};
 ghost use lib.Seq.{slice};
+ghost use Rattle.reference.specs.Contract.{was};
 ghost use Rattle.lines.specs.Lines.{first-of, count-of, part-of};
 ghost use Rattle.join.specs.Patching.{words-room, needs, behind, free};
 
@@ -31,7 +32,7 @@ fn behind(length: usize, used: usize) -> usize
 
 // What is free in a set.
 pub fn free<'a>(area: &'a [u8], tokens: &'a [u64], size: Size) -> usize
-    ensures { λ r. ⌜ r ≡ free (length (now (area .entry))) (length (now (tokens .entry))) size ⌝ }
+    ensures { λ r. ⌜ r ≡ free (length (was area)) (length (was tokens)) size ⌝ }
 {
     let text = behind(area.len(), size.text);
     let count = behind(tokens.len(), size.tokens);
@@ -41,7 +42,7 @@ pub fn free<'a>(area: &'a [u8], tokens: &'a [u64], size: Size) -> usize
 // A bound on the room of the tokens of these words.
 fn room_of(line: &[u64]) -> usize
     requires { ⌜ length (now line) < 2048 ⌝ }
-    ensures { λ r. ⌜ r ≡ words-room (now (line .entry)) ⌝ }
+    ensures { λ r. ⌜ r ≡ words-room (was line) ⌝ }
 {
     let mut sum: usize = 0;
     let mut k = 0;
@@ -52,10 +53,10 @@ fn room_of(line: &[u64]) -> usize
     sum
 }
 
-// The same of the line l.
+// A bound on the room of the tokens of the line l.
 fn line_room(tokens: &[u64], l: u64) -> usize
     requires { ⌜ first-of l + count-of l ≤ length (now tokens) ⌝ }
-    ensures { λ r. ⌜ r ≡ words-room (part-of (now (tokens .entry)) l) ⌝ }
+    ensures { λ r. ⌜ r ≡ words-room (part-of (was tokens) l) ⌝ }
 {
     room_of(words::line_of(tokens, l))
 }
@@ -64,7 +65,7 @@ fn line_room(tokens: &[u64], l: u64) -> usize
 pub fn is_enough<'a>(tokens: &'a [u64], lines: &'a [u64], source: u64, n: usize) -> bool
     requires { ⌜ (first-of source + count-of source ≤ length (now tokens))
         × ((k : ℕ) → k < length (now lines) → first-of (getD (now lines) k 0) + count-of (getD (now lines) k 0) ≤ length (now tokens)) ⌝ }
-    ensures { λ r. ⌜ r ≡ ltb (needs (now (tokens .entry)) source (now (lines .entry))) n ⌝ }
+    ensures { λ r. ⌜ r ≡ ltb (needs (was tokens) source (was lines)) n ⌝ }
 {
     let base = line_room(tokens, source);
     let mut left = n;
@@ -84,8 +85,7 @@ pub fn is_enough<'a>(tokens: &'a [u64], lines: &'a [u64], source: u64, n: usize)
 pub fn is_short<'a>(tokens: &'a [u64], lines: &'a [u64], gone: usize, last: usize, n: usize) -> bool
     requires { ⌜ (gone < length (now lines)) × (last < length (now lines))
         × ((k : ℕ) → k < length (now lines) → first-of (getD (now lines) k 0) + count-of (getD (now lines) k 0) ≤ length (now tokens)) ⌝ }
-    ensures { λ r. ⌜ r ≡ ltb
-        (needs (now (tokens .entry)) (getD (now (lines .entry)) gone 0) (slice (gone + 1) (last + 1) (now (lines .entry)))) n ⌝ }
+    ensures { λ r. ⌜ r ≡ ltb (needs (was tokens) (getD (was lines) gone 0) (slice (gone + 1) (last + 1) (was lines))) n ⌝ }
 {
     let from = gone + 1;
     let end = last + 1;

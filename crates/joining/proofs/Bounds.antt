@@ -27,7 +27,7 @@ use Rattle.reference.proofs.Fits.{Fits, accepted-fits, changes-fit, removed-fit
 use Rattle.reference.proofs.Attempts.{attempt-removed}
 use Rattle.reference.proofs.Cuts.{cut-changes}
 use Rattle.laws.proofs.Scans.{if-false}
-use Rattle.joining.specs.Limits.{Limits, plain-size, over, room, each-token}
+use Rattle.joining.specs.Limits.{RunLimits, plain-size, over, room, each-token}
 use Rattle.joining.specs.Plan.{Plan, map-from, right-side-of, where-used, unmerged-line, built}
 use Rattle.joining.specs.Rounds.{cut-at}
 use Rattle.joining.proofs.Acting.{modifies, changed}
@@ -36,17 +36,17 @@ use Rattle.joining.proofs.Planned.{Way, constant, single, Planned}
 
 -- ---- the limits, from step to step
 
-pub limits-begin : (lines : Listing) → length lines ≤ 256 → Accepted lines → Limits lines
+pub limits-begin : (lines : Listing) → length lines ≤ 256 → Accepted lines → RunLimits lines
 limits-begin lines h a = record { lines-fit = h; fits = accepted-fits a }
 
 pub limits-after : (rules : Rules) (lines : Listing) (i : ℕ) (labels : Labels) (addressed : List Text) {lines′ : Listing}
-    → try-at rules lines i labels addressed ≡ some lines′ → Limits lines → Limits lines′
+    → try-at rules lines i labels addressed ≡ some lines′ → RunLimits lines → RunLimits lines′
 limits-after rules lines i labels addressed e v =
     let r = attempt-removed rules lines i labels addressed e in
     record { lines-fit = omega (arith, removed-length r, v .lines-fit); fits = removed-fit r (v .fits) }
 
 pub limits-cut : (rules : Rules) (labels : Labels) (lines : Listing) (i : ℕ) → i < length lines → dead-result rules labels lines i ≡ true
-    → Limits lines → Limits (cut-at i lines)
+    → RunLimits lines → RunLimits (cut-at i lines)
 limits-cut rules labels lines i h e v =
     record { lines-fit = rw length-modify (v .lines-fit); fits = changes-fit (cut-changes rules labels lines i h e) (v .fits) }
 

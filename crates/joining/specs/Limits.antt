@@ -7,7 +7,7 @@ use Rattle.reference.specs.Listing.{Token, is, Number, Listing}
 use Rattle.reference.specs.Claim.{sum, size}
 use Rattle.reference.proofs.Fits.{Fits}
 
-pub record Limits (lines : Listing) : Type 0 where
+pub record RunLimits (lines : Listing) : Type 0 where
   pub lines-fit : length lines ≤ 256
   pub fits : Fits lines
 

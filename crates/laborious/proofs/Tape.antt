@@ -17,7 +17,7 @@ use Rattle.reference.specs.Claim.{token-count, text}
 use Rattle.reference.specs.Run.{propagate-once}
 use Rattle.reference.specs.Spans.{Marks}
 use Rattle.reference.specs.Tape.{write-lines, write-by, write-lines-by}
-use Rattle.reference.proofs.Limits.{All, MarksFit, TokenFits, LineFits, Fits}
+use Rattle.reference.proofs.Limits.{All, MarksFit, TokenFits, LineFits, TapeFits}
 use Rattle.reference.proofs.Commands.{AddressFits}
 use Rattle.reference.proofs.Written.{read-write}
 use Rattle.laborious.specs.Most.{first-attempts, most-attempts}
@@ -85,7 +85,7 @@ to-and-fro-moves x y p q (suc n) =
       addresses = (tt, h .addresses);
     }
 
-laborious-fits : (n : ℕ) → n ≤ 256 → Fits (laborious n)
+laborious-fits : (n : ℕ) → n ≤ 256 → TapeFits (laborious n)
 unfolding laborious
 laborious-fits zero le =
     record {

@@ -5,6 +5,7 @@ ghost use mathlib.Core.Path.{_≡_};
 ghost use Prim.Native.Nat.{_+_, _≤_};
 ghost use mathlib.Core.Option.{none};
 ghost use lib.ListN.{length};
+ghost use Rattle.reference.specs.Contract.{was};
 ghost use Rattle.reference.specs.Tape.{write-line};
 ghost use Rattle.answers.specs.Answers.{answer-of, Writes};
 ghost use Rattle.laborious.specs.Listing.{line-of, laborious-tape, laborious-reply};
@@ -13,7 +14,7 @@ ghost use Rattle.laborious.specs.Written.{Put, Front};
 // Puts line i at `at`, and says where it ends.
 fn put_line(i: usize, out: &mut [u8], at: usize) -> usize
     requires { ⌜ at + 24 ≤ length (now out) ⌝ }
-    ensures { λ r. ⌜ Put (now (out .entry)) at (write-line (line-of i) none) (now (out .exit)) r ⌝ }
+    ensures { λ r. ⌜ Put (was out) at (write-line (line-of i) none) (now (out .exit)) r ⌝ }
 {
     if i == 0 {
         copy_bytes(b"\x02\x00\x14\x01\x00L\x16\x01\x00:", out, at);
@@ -46,7 +47,7 @@ fn put_line(i: usize, out: &mut [u8], at: usize) -> usize
 // Writes the tape of the listing of n lines, and says how long it is.
 fn write_laborious(n: usize, out: &mut [u8]) -> usize
     requires { ⌜ (n ≤ 256) × (6145 ≤ length (now out)) ⌝ }
-    ensures { λ r. ⌜ Front (now (out .entry)) (laborious-tape n) (now (out .exit)) r ⌝ }
+    ensures { λ r. ⌜ Front (was out) (laborious-tape n) (now (out .exit)) r ⌝ }
 {
     let mut at = 0;
     let mut i = 0;
@@ -60,7 +61,7 @@ fn write_laborious(n: usize, out: &mut [u8]) -> usize
 
 // Answers the most laborious listing of n lines: its tape at the front of the output, and its length. A refusal changes nothing.
 pub fn laborious(n: u64, out: &mut [u8]) -> Answer
-    ensures { λ r. ⌜ Writes (laborious-reply n (length (now (out .entry)))) (now (out .entry)) (now (out .exit)) (answer-of r) ⌝ }
+    ensures { λ r. ⌜ Writes (laborious-reply n (length (was out))) (was out) (now (out .exit)) (answer-of r) ⌝ }
 {
     if 256 < n {
         return Answer::Refused {

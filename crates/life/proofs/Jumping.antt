@@ -23,8 +23,8 @@ use Rattle.joining.proofs.Labels.{label-inside, lookup-hit, lookup-miss, lookup
 use Rattle.lines.specs.Words.{text-of, token-of, tokens-of}
 use Rattle.lines.specs.Lines.{indent-of, part-of, bare-in, bare-listing}
 use Rattle.lines.specs.Shapes.{found, symbol-from}
-use Rattle.lines.specs.declared.shapes.Found.{Found}
-use Rattle.lines.specs.declared.shapes.Found.the-variants.{At, Nothing}
+use Rattle.lines.specs.declared.shapes.Position.{Position}
+use Rattle.lines.specs.declared.shapes.Position.the-variants.{At, Nothing}
 use Rattle.lines.proofs.words.Each.{map-take}
 use Rattle.lines.proofs.words.Lines.{bare-at}
 use Rattle.lines.proofs.shapes.Places.{found-is, found-not, find-at, symbol-at, symbol-fromone}
@@ -140,16 +140,16 @@ module _ (tape area : Text) (tokens lines places : List ℕ) (ok : Labelled (bar
 
 -- ---- where a `goto` jumps to
 
-pub goto-inside : (tape area : Text) (ws : List ℕ) {r : Found} {g : ℕ} → found r ≡ position (is-kw (bytes "goto")) (tokens-of tape area ws) → r ≡ At g → g < length ws
+pub goto-inside : (tape area : Text) (ws : List ℕ) {r : Position} {g : ℕ} → found r ≡ position (is-kw (bytes "goto")) (tokens-of tape area ws) → r ≡ At g → g < length ws
 goto-inside tape area ws {g = g} er e =
     let b = find-at (is-kw (bytes "goto")) (tokens-of tape area ws) g (token-of tape area 0) (found-is er e) .0 in
     rw (length-map ws (token-of tape area)) at b
 
-pub symbol-inside : (tape area : Text) (ws : List ℕ) (n : ℕ) {s : ℕ} {q : Found} → found q ≡ symbol-from (tokens-of tape area ws) n → q ≡ At s → s < length ws
+pub symbol-inside : (tape area : Text) (ws : List ℕ) (n : ℕ) {s : ℕ} {q : Position} → found q ≡ symbol-from (tokens-of tape area ws) n → q ≡ At s → s < length ws
 symbol-inside tape area ws n {s} eq f = symbol-at tape area ws n s (found-is eq f) .0
 
 module _ (tape area : Text) (labels : Labels) (line : List ℕ) {ws : List ℕ} (ew : ws ≡ line)
-    (r : Found) (er : found r ≡ position (is-kw (bytes "goto")) (tokens-of tape area ws)) where
+    (r : Position) (er : found r ≡ position (is-kw (bytes "goto")) (tokens-of tape area ws)) where
   pub target-stays : r ≡ Nothing → none ≡ goto-target (tokens-of tape area line) labels
   unfolding goto-target let-some_else_then_
   target-stays e = rw (← ew, found-not er e)
@@ -160,7 +160,7 @@ module _ (tape area : Text) (labels : Labels) (line : List ℕ) {ws : List ℕ} 
     unfolding goto-target let-some_else_then_
     at-goto = rw (← ew, found-is er e, add-one g)
 
-    module _ (q : Found) (eq : found q ≡ symbol-from (tokens-of tape area ws) (g + 1)) where
+    module _ (q : Position) (eq : found q ≡ symbol-from (tokens-of tape area ws) (g + 1)) where
       pub target-none : q ≡ Nothing → some none ≡ goto-target (tokens-of tape area line) labels
       unfolding let-some_else_then_
       target-none f = sym (at-goto ∙ rw (symbol-fromone tape area ws (g + 1) (found-not eq f)))
@@ -170,7 +170,7 @@ module _ (tape area : Text) (labels : Labels) (line : List ℕ) {ws : List ℕ} 
         unfolding let-some_else_then_
         at-symbol = at-goto ∙ rw (symbol-at tape area ws (g + 1) s (found-is eq f) .1)
 
-        module _ (t : Found) (et : found t ≡ lookup labels (text-of tape area (getD ws s 0))) where
+        module _ (t : Position) (et : found t ≡ lookup labels (text-of tape area (getD ws s 0))) where
           pub target-unknown : t ≡ Nothing → some none ≡ goto-target (tokens-of tape area line) labels
           target-unknown u = sym (at-symbol ∙ ap some (found-not et u))
 
@@ -223,7 +223,7 @@ module _ (lines : List ℕ) (tape area : Text) (tokens : List ℕ) (fam : Text) 
     unfolding while-passes if_then_else_
     loop-uses t = rw (← ew, ← ex, t)
 
-    module _ (t : x ≡ false) {k : ℕ} (ek : k ≡ indent-of l) (r : Found) (er : found r ≡ last-position (is-do k) (bare-listing tape area tokens (take w lines))) where
+    module _ (t : x ≡ false) {k : ℕ} (ek : k ≡ indent-of l) (r : Position) (er : found r ≡ last-position (is-do k) (bare-listing tape area tokens (take w lines))) where
       at-do : loops ≡ (let-some (found r) else false then λ d. not (ltb d start && not (rerun-kills listing fam start vs d k)))
       unfolding while-passes if_then_else_
       at-do = rw (← ew, ← ex, t, ← ek, ← map-take (bare-in tape area tokens) w lines, ← er)

@@ -18,45 +18,45 @@ use Rattle.lines.specs.Codes.{family-number}
 use Rattle.lines.specs.Lines.{indent-of, part-of, bare-in, bare-listing, Lined}
 use Rattle.lines.specs.Words.{tokens-of}
 use Rattle.lines.proofs.words.Each.{map-take, map-drop}
-use Rattle.linemarks.specs.Quiet.{is-steady, is-quiet, is-calling}
-use Rattle.linemarks.proofs.Lacking.{steady-kw, steady-goto, quiet-steady, quiet-touch, calling-steady, calling-kills, calling-keeps}
+use Rattle.linefacts.specs.Transparent.{is-transparent-save-calls, is-transparent, is-calling}
+use Rattle.linefacts.proofs.Lacking.{save-calls-kw, save-calls-goto, transparent-save-calls, transparent-touch, calling-save-calls, calling-kills, calling-keeps}
 use Rattle.life.specs.declared.touches.Touched.{Touched}
 use Rattle.life.specs.declared.touches.Touched.the-variants.{Nothing, Kill as Kills, Use as Uses}
-use Rattle.life.specs.declared.fates.Fate.{Fate}
-use Rattle.life.specs.declared.fates.Fate.the-variants.{Dead, Live, Open}
+use Rattle.life.specs.declared.liveness.Liveness.{Liveness}
+use Rattle.life.specs.declared.liveness.Liveness.the-variants.{Dead, Live, Open}
 use Rattle.life.specs.Touches.{touched}
-use Rattle.life.specs.Fates.{decided, line-fate, returns-at, or-returns, scan-fate, fate-after}
+use Rattle.life.specs.Liveness.{decided, line-liveness, returns-at, or-returns, scan-liveness, liveness-after}
 
 -- ---- one line
 
 module _ (tape area : Text) (tokens : List ℕ) (l : ℕ) (fam : Text) (deep : ℕ) (vs : List Text) {ws : List ℕ} (ew : ws ≡ part-of tokens l)
     (t : Touched) (h : touched t ≡ touch-of (tokens-of tape area ws) fam vs) where
-  by-touch : line-fate fam deep vs (bare-in tape area tokens l) ≡ match-touch (touched t) Open (if leb (indent-of l) deep then Dead else Open) (λ n. Live)
-  unfolding line-fate
+  by-touch : line-liveness fam deep vs (bare-in tape area tokens l) ≡ match-touch (touched t) Open (if leb (indent-of l) deep then Dead else Open) (λ n. Live)
+  unfolding line-liveness
   by-touch = rw (← ew, ← h)
 
-  pub fate-use : {n : ℕ} → t ≡ Uses n → Live ≡ line-fate fam deep vs (bare-in tape area tokens l)
+  pub liveness-use : {n : ℕ} → t ≡ Uses n → Live ≡ line-liveness fam deep vs (bare-in tape area tokens l)
   unfolding match-touch
-  fate-use e = sym (by-touch ∙ rw e)
+  liveness-use e = sym (by-touch ∙ rw e)
 
-  pub fate-none : t ≡ Nothing → Open ≡ line-fate fam deep vs (bare-in tape area tokens l)
+  pub liveness-none : t ≡ Nothing → Open ≡ line-liveness fam deep vs (bare-in tape area tokens l)
   unfolding match-touch
-  fate-none e = sym (by-touch ∙ rw e)
+  liveness-none e = sym (by-touch ∙ rw e)
 
   module _ (e : t ≡ Kills) {k : ℕ} (ek : k ≡ indent-of l) where
-    pub fate-kill : k ≤ deep → Dead ≡ line-fate fam deep vs (bare-in tape area tokens l)
+    pub liveness-kill : k ≤ deep → Dead ≡ line-liveness fam deep vs (bare-in tape area tokens l)
     unfolding match-touch if_then_else_
-    fate-kill b = sym (by-touch ∙ rw (e, ← ek, le-leb k deep b))
+    liveness-kill b = sym (by-touch ∙ rw (e, ← ek, le-leb k deep b))
 
-    pub fate-deep : deep < k → Open ≡ line-fate fam deep vs (bare-in tape area tokens l)
+    pub liveness-deep : deep < k → Open ≡ line-liveness fam deep vs (bare-in tape area tokens l)
     unfolding match-touch if_then_else_
-    fate-deep b = sym (by-touch ∙ rw (e, ← ek, lt-leb k deep b))
+    liveness-deep b = sym (by-touch ∙ rw (e, ← ek, lt-leb k deep b))
 
 -- ---- `killed-first`
 
 module _ (fam : Text) (deep : ℕ) (vs : List Text) where
-  killed-line : (l : Line) (ls : Listing) → killed-first (l ∷ ls) fam deep vs ≡ decided (line-fate fam deep vs l) (killed-first ls fam deep vs)
-  unfolding killed-first line-fate match-touch if_then_else_
+  killed-line : (l : Line) (ls : Listing) → killed-first (l ∷ ls) fam deep vs ≡ decided (line-liveness fam deep vs l) (killed-first ls fam deep vs)
+  unfolding killed-first line-liveness match-touch if_then_else_
   killed-line l ls = go (touch l fam vs) (leb (l .indent) deep)
     where
       next : Bool
@@ -70,7 +70,7 @@ module _ (fam : Text) (deep : ℕ) (vs : List Text) where
 
   -- x is what the definition says of all lines
   module _ (tape area : Text) (tokens lines : List ℕ) (k : ℕ) {x : Bool} (inv : x ≡ killed-first (bare-listing tape area tokens (drop k lines)) fam deep vs) where
-    module _ (h : k < length lines) (r : Fate) (e : r ≡ line-fate fam deep vs (bare-in tape area tokens (getD lines k 0))) where
+    module _ (h : k < length lines) (r : Liveness) (e : r ≡ line-liveness fam deep vs (bare-in tape area tokens (getD lines k 0))) where
       killed-step : x ≡ decided r (killed-first (bare-listing tape area tokens (drop (k + 1) lines)) fam deep vs)
       killed-step = inv ∙ rw (e, add-one k, drop-cons lines k 0 h) (killed-line _ _)
 
@@ -116,26 +116,26 @@ module _ (tape area : Text) (tokens : List ℕ) (l base : ℕ) {k : ℕ} (ek : k
       last true = refl
       last false = refl
 
-module _ (fam : Text) (base : ℕ) (vs : List Text) (l : Line) {r : Fate} (er : r ≡ line-fate fam base vs l) where
-  pub scan-dead : r ≡ Dead → Dead ≡ scan-fate fam base vs l
-  unfolding scan-fate
+module _ (fam : Text) (base : ℕ) (vs : List Text) (l : Line) {r : Liveness} (er : r ≡ line-liveness fam base vs l) where
+  pub scan-dead : r ≡ Dead → Dead ≡ scan-liveness fam base vs l
+  unfolding scan-liveness
   scan-dead e = rw (← er, e)
 
-  pub scan-live : r ≡ Live → Live ≡ scan-fate fam base vs l
-  unfolding scan-fate
+  pub scan-live : r ≡ Live → Live ≡ scan-liveness fam base vs l
+  unfolding scan-liveness
   scan-live e = rw (← er, e)
 
   module _ (e : r ≡ Open) {x : Bool} (ex : x ≡ returns-at base l) where
-    pub scan-returns : x ≡ true → Dead ≡ scan-fate fam base vs l
-    unfolding scan-fate if_then_else_
+    pub scan-returns : x ≡ true → Dead ≡ scan-liveness fam base vs l
+    unfolding scan-liveness if_then_else_
     scan-returns t = rw (← er, e, ← ex, t)
 
-    pub scan-open : x ≡ false → Open ≡ scan-fate fam base vs l
-    unfolding scan-fate if_then_else_
+    pub scan-open : x ≡ false → Open ≡ scan-liveness fam base vs l
+    unfolding scan-liveness if_then_else_
     scan-open t = rw (← er, e, ← ex, t)
 
-scan-is : (fam : Text) (base : ℕ) (vs : List Text) (l : Line) (next : Bool) → scan fam base vs l next ≡ decided (scan-fate fam base vs l) next
-unfolding scan scan-fate line-fate returns-at match-touch if_then_else_
+scan-is : (fam : Text) (base : ℕ) (vs : List Text) (l : Line) (next : Bool) → scan fam base vs l next ≡ decided (scan-liveness fam base vs l) next
+unfolding scan scan-liveness line-liveness returns-at match-touch if_then_else_
 scan-is fam base vs l next = go (touch l fam vs) (leb (l .indent) base) (has-kw l "return" && leb (l .indent) base)
   where
     go : (t : Touch) (b c : Bool)
@@ -150,16 +150,16 @@ scan-is fam base vs l next = go (touch l fam vs) (leb (l .indent) base) (has-kw 
 
 module _ (lines : Listing) (fam : Text) (base : ℕ) (labels : Labels) (start : ℕ) (vs : List Text) where
   dead-line : (w : ℕ) (l : Line) (ls : Listing)
-      → dead-from lines fam base labels start vs w (l ∷ ls) ≡ decided (fate-after lines fam base labels start vs w l) (dead-from lines fam base labels start vs (suc w) ls)
-  unfolding dead-from fate-after if_then_else_
+      → dead-from lines fam base labels start vs w (l ∷ ls) ≡ decided (liveness-after lines fam base labels start vs w l) (dead-from lines fam base labels start vs (suc w) ls)
+  unfolding dead-from liveness-after if_then_else_
   dead-line w l ls = rw (scan-is fam base vs l next) (go (has-kw l "while") (while-passes lines fam start vs w l) (goto-passes lines fam start vs labels l))
     where
       next : Bool
       next = dead-from lines fam base labels start vs (suc w) ls
 
       go : (a b c : Bool)
-          → (if a then (if b then next else false) else if c then decided (scan-fate fam base vs l) next else false)
-          ≡ decided (if a then (if b then Open else Live) else if c then scan-fate fam base vs l else Live) next
+          → (if a then (if b then next else false) else if c then decided (scan-liveness fam base vs l) next else false)
+          ≡ decided (if a then (if b then Open else Live) else if c then scan-liveness fam base vs l else Live) next
       go true true c = refl
       go true false c = refl
       go false b true = refl
@@ -176,8 +176,8 @@ module _ (tape area : Text) (tokens lines : List ℕ) (fam : Text) (base : ℕ) 
 
   -- x is what the definition says of all lines
   module _ (w : ℕ) {x : Bool} (inv : x ≡ dead-rest w) where
-    module _ (h : w < length lines) (r : Fate)
-        (e : r ≡ fate-after (bare-listing tape area tokens lines) fam base labels start vs w (bare-in tape area tokens (getD lines w 0))) where
+    module _ (h : w < length lines) (r : Liveness)
+        (e : r ≡ liveness-after (bare-listing tape area tokens lines) fam base labels start vs w (bare-in tape area tokens (getD lines w 0))) where
       dead-step : x ≡ decided r (dead-rest (w + 1))
       dead-step = inv ∙ rw (e, add-one w, drop-cons lines w 0 h) (dead-line _ fam base labels start vs w _ _)
 
@@ -200,60 +200,60 @@ module _ (lines : List ℕ) (tape area : Text) (tokens : List ℕ) (fam : Text) 
   loops : x ≡ kw-in (tokens-of tape area (part-of tokens l)) (bytes "while")
   loops = rw ew at ex
 
-  abbrev after : Fate
-  after = fate-after (bare-listing tape area tokens lines) fam base labels start vs w (bare-in tape area tokens l)
+  abbrev after : Liveness
+  after = liveness-after (bare-listing tape area tokens lines) fam base labels start vs w (bare-in tape area tokens l)
 
   module _ (t : x ≡ true) {y : Bool} (ey : y ≡ while-passes (bare-listing tape area tokens lines) fam start vs w (bare-in tape area tokens l)) where
     pub after-while : y ≡ true → Open ≡ after
-    unfolding fate-after if_then_else_
+    unfolding liveness-after if_then_else_
     after-while u = rw (← loops, t, ← ey, u)
 
     pub after-loop : y ≡ false → Live ≡ after
-    unfolding fate-after if_then_else_
+    unfolding liveness-after if_then_else_
     after-loop u = rw (← loops, t, ← ey, u)
 
   module _ (t : x ≡ false) {y : Bool} (ey : y ≡ goto-passes (bare-listing tape area tokens lines) fam start vs labels (bare-in tape area tokens l)) where
     pub after-goto : y ≡ false → Live ≡ after
-    unfolding fate-after if_then_else_
+    unfolding liveness-after if_then_else_
     after-goto u = rw (← loops, t, ← ey, u)
 
-    pub after-scan : {r : Fate} → y ≡ true → r ≡ scan-fate fam base vs (bare-in tape area tokens l) → r ≡ after
-    unfolding fate-after if_then_else_
+    pub after-scan : {r : Liveness} → y ≡ true → r ≡ scan-liveness fam base vs (bare-in tape area tokens l) → r ≡ after
+    unfolding liveness-after if_then_else_
     after-scan u e = e ∙ rw (← loops, t, ← ey, u)
 
 -- a line that lacks the family and all that turns decides only by how it touches the family
 module _ (lines : List ℕ) (tape area : Text) (tokens : List ℕ) (fam : Text) (base : ℕ) (labels : Labels) (start : ℕ) (vs : List Text) (w l : ℕ)
     (h : Lined tape area tokens l) {n : ℕ} (en : n ≡ family-number fam) where
-  abbrev by-marks : Fate
-  by-marks = fate-after (bare-listing tape area tokens lines) fam base labels start vs w (bare-in tape area tokens l)
+  abbrev by-facts : Liveness
+  by-facts = liveness-after (bare-listing tape area tokens lines) fam base labels start vs w (bare-in tape area tokens l)
 
-  after-steady : is-steady l n ≡ true → {r : Fate} → r ≡ line-fate fam base vs (bare-in tape area tokens l) → r ≡ by-marks
-  unfolding fate-after goto-passes goto-target scan-fate returns-at if_then_else_ let-some_else_then_ _&&_
-  after-steady st {r} e =
-      let kw = steady-kw fam h en st in
-      rw (kw (bytes "while"), steady-goto fam h en st, kw (bytes "return"), ← e) (last r)
+  after-save-calls : is-transparent-save-calls l n ≡ true → {r : Liveness} → r ≡ line-liveness fam base vs (bare-in tape area tokens l) → r ≡ by-facts
+  unfolding liveness-after goto-passes goto-target scan-liveness returns-at if_then_else_ let-some_else_then_ _&&_
+  after-save-calls st {r} e =
+      let kw = save-calls-kw fam h en st in
+      rw (kw (bytes "while"), save-calls-goto fam h en st, kw (bytes "return"), ← e) (last r)
     where
-      last : (r : Fate) → r ≡ or-returns r false
+      last : (r : Liveness) → r ≡ or-returns r false
       last Dead = refl
       last Live = refl
       last Open = refl
 
-  -- a quiet line decides nothing: x is the answer of `is_quiet`
-  pub after-quiet : {x : Bool} → x ≡ is-quiet l n → x ≡ true → Open ≡ by-marks
-  after-quiet ex t =
-      after-steady (quiet-steady fam h en ex t) (fate-none tape area tokens l fam base vs refl Nothing (sym (quiet-touch fam h en ex t vs)) refl)
+  -- a transparent line decides nothing: x is the answer of `is_transparent`
+  pub after-transparent : {x : Bool} → x ≡ is-transparent l n → x ≡ true → Open ≡ by-facts
+  after-transparent ex t =
+      after-save-calls (transparent-save-calls fam h en ex t) (liveness-none tape area tokens l fam base vs refl Nothing (sym (transparent-touch fam h en ex t vs)) refl)
 
   -- a calling line: x is the answer of `is_calling`, v whether calls overwrite the family, k the indent
   module _ {x : Bool} (ex : x ≡ is-calling l n) (t : x ≡ true) {v : Bool} (ev : v ≡ has vs fam) where
-    pub after-keeping : v ≡ false → Open ≡ by-marks
+    pub after-keeping : v ≡ false → Open ≡ by-facts
     after-keeping e =
-        after-steady (calling-steady fam h en ex t) (fate-none tape area tokens l fam base vs refl Nothing (sym (calling-keeps fam h en ex t vs ev e)) refl)
+        after-save-calls (calling-save-calls fam h en ex t) (liveness-none tape area tokens l fam base vs refl Nothing (sym (calling-keeps fam h en ex t vs ev e)) refl)
 
     module _ (e : v ≡ true) {k : ℕ} (ek : k ≡ indent-of l) where
-      pub after-calling : k ≤ base → Dead ≡ by-marks
+      pub after-calling : k ≤ base → Dead ≡ by-facts
       after-calling b =
-          after-steady (calling-steady fam h en ex t) (fate-kill tape area tokens l fam base vs refl Kills (sym (calling-kills fam h en ex t vs ev e)) refl ek b)
+          after-save-calls (calling-save-calls fam h en ex t) (liveness-kill tape area tokens l fam base vs refl Kills (sym (calling-kills fam h en ex t vs ev e)) refl ek b)
 
-      pub after-deep : base < k → Open ≡ by-marks
+      pub after-deep : base < k → Open ≡ by-facts
       after-deep b =
-          after-steady (calling-steady fam h en ex t) (fate-deep tape area tokens l fam base vs refl Kills (sym (calling-kills fam h en ex t vs ev e)) refl ek b)
+          after-save-calls (calling-save-calls fam h en ex t) (liveness-deep tape area tokens l fam base vs refl Kills (sym (calling-kills fam h en ex t vs ev e)) refl ek b)

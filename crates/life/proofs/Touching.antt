@@ -25,7 +25,7 @@ use Rattle.lines.specs.declared.fams.Named.{Named}
 use Rattle.lines.specs.declared.fams.Named.the-variants.{As, Nothing as Unnamed}
 use Rattle.lines.proofs.shapes.Sides.{assigned-to, assigned-not}
 use Rattle.lines.proofs.fams.Families.{named-as, named-not}
-use Rattle.linemarks.proofs.Lacking.{kills-empty, kills-other}
+use Rattle.linefacts.proofs.Lacking.{kills-empty, kills-other}
 use Rattle.life.specs.declared.touches.Touched.{Touched}
 use Rattle.life.specs.declared.touches.Touched.the-variants.{Nothing, Kill as Kills, Use as Uses}
 use Rattle.life.specs.Touches.{touched, kills-by}

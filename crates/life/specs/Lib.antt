@@ -1,4 +1,4 @@
 pub mod Touches
-pub mod Fates
+pub mod Liveness
 pub mod Jumps
 pub mod Labels

@@ -1,11 +1,12 @@
 // Whether a family's value is never read again: `dead_after` of the Rust.
-use crate::fates::Fate;
-use crate::fates::fate_at;
 use crate::jumps::goto_passes;
 use crate::jumps::while_passes;
-use linemarks::is_calling;
-use linemarks::is_quiet;
-use linemarks::number_of;
+use crate::liveness::Followed;
+use crate::liveness::Liveness;
+use crate::liveness::liveness_at;
+use linefacts::is_calling;
+use linefacts::is_transparent;
+use linefacts::number_of;
 use lines::fams;
 use lines::fams::Fam;
 use lines::rules::Rules;
@@ -14,6 +15,7 @@ use lines::words;
 ghost use mathlib.Core.Path.{_≡_};
 ghost use Prim.Native.Nat.{_<_};
 ghost use lib.ListN.{length, getD};
+ghost use Rattle.reference.specs.Contract.{was};
 ghost use Rattle.reference.specs.Text.{has};
 ghost use Rattle.reference.specs.Rules.{volatile};
 ghost use Rattle.reference.specs.Life.{dead-after};
@@ -22,7 +24,7 @@ ghost use Rattle.lines.specs.Rules.{rules-of};
 ghost use Rattle.lines.specs.Codes.{family-number};
 ghost use Rattle.lines.specs.Lines.{bare-in, bare-listing, Lined, Listed};
 ghost use Rattle.lines.specs.Fams.{fam-text, Known};
-ghost use Rattle.life.specs.Fates.{returns-at, scan-fate, fate-after};
+ghost use Rattle.life.specs.Liveness.{returns-at, scan-liveness, liveness-after};
 
 // Whether a line, at most `base_indent` deep, has the Keyword `return`.
 fn returns_at<'a>(
@@ -33,7 +35,7 @@ fn returns_at<'a>(
     base_indent: u64,
 ) -> bool
     requires { ⌜ Lined (now tape) (now area) (now tokens) l ⌝ }
-    ensures { λ r. ⌜ r ≡ returns-at «base_indent» (bare-in (now (tape .entry)) (now (area .entry)) (now (tokens .entry)) l) ⌝ }
+    ensures { λ r. ⌜ r ≡ returns-at «base_indent» (bare-in (was tape) (was area) (was tokens) l) ⌝ }
 {
     if base_indent < words::indent(l) {
         return false;
@@ -50,111 +52,93 @@ fn scan<'a>(
     f: Fam,
     base_indent: u64,
     rules: Rules,
-) -> Fate
+) -> Liveness
     requires { ⌜ Lined (now tape) (now area) (now tokens) l × Known (now tape) (now area) f ⌝ }
-    ensures { λ r. ⌜ r ≡ scan-fate (fam-text (now (tape .entry)) (now (area .entry)) f) «base_indent» (volatile (rules-of rules))
-        (bare-in (now (tape .entry)) (now (area .entry)) (now (tokens .entry)) l) ⌝ }
+    ensures { λ r. ⌜ r ≡ scan-liveness (fam-text (was tape) (was area) f) «base_indent» (volatile (rules-of rules))
+        (bare-in (was tape) (was area) (was tokens) l) ⌝ }
 {
-    match fate_at(tape, area, tokens, l, f, base_indent, rules) {
-        Fate::Dead => Fate::Dead,
-        Fate::Live => Fate::Live,
-        Fate::Open => {
+    match liveness_at(tape, area, tokens, l, f, base_indent, rules) {
+        Liveness::Dead => Liveness::Dead,
+        Liveness::Live => Liveness::Live,
+        Liveness::Open => {
             if returns_at(tape, area, tokens, l, base_indent) {
-                return Fate::Dead;
+                return Liveness::Dead;
             }
-            Fate::Open
+            Liveness::Open
         }
     }
 }
 
-// What line w, after a definition on line `start`, does to the value.
-fn fate_after<'a>(
+// What line w, after the definition, does to the value.
+fn liveness_after<'a>(
     tape: &'a [u8],
     area: &'a [u8],
     tokens: &'a [u64],
     lines: &'a [u64],
     labels: &'a [u64],
     w: usize,
-    f: Fam,
-    base_indent: u64,
-    start: usize,
-    rules: Rules,
-) -> Fate
+    v: Followed,
+) -> Liveness
     requires { ⌜ Listed (now tape) (now area) (now tokens) (now lines)
-        × Labelled (bare-listing (now tape) (now area) (now tokens) (now lines)) (now labels) × Known (now tape) (now area) f
-        × (w < length (now lines)) × (start < length (now lines)) ⌝ }
-    ensures { λ r. ⌜ r ≡ fate-after (bare-listing (now (tape .entry)) (now (area .entry)) (now (tokens .entry)) (now (lines .entry)))
-        (fam-text (now (tape .entry)) (now (area .entry)) f) «base_indent»
-        (labels-at (bare-listing (now (tape .entry)) (now (area .entry)) (now (tokens .entry)) (now (lines .entry))) (now (labels .entry)))
-        start (volatile (rules-of rules)) w (bare-in (now (tape .entry)) (now (area .entry)) (now (tokens .entry))
-        (getD (now (lines .entry)) w 0)) ⌝ }
+        × Labelled (bare-listing (now tape) (now area) (now tokens) (now lines)) (now labels) × Known (now tape) (now area) (v .family)
+        × (w < length (now lines)) × (v .start < length (now lines)) ⌝ }
+    ensures { λ r. ⌜ r ≡ liveness-after (bare-listing (was tape) (was area) (was tokens) (was lines))
+        (fam-text (was tape) (was area) (v .family)) (v .indent)
+        (labels-at (bare-listing (was tape) (was area) (was tokens) (was lines)) (was labels)) (v .start)
+        (volatile (rules-of (v .rules))) w (bare-in (was tape) (was area) (was tokens) (getD (was lines) w 0)) ⌝ }
 {
     let l = lines[w];
     if shapes::has_while(tape, area, words::line_of(tokens, l)) {
-        if while_passes(tape, area, tokens, lines, w, f, start, rules) {
-            return Fate::Open;
+        if while_passes(tape, area, tokens, lines, w, v) {
+            return Liveness::Open;
         }
-        return Fate::Live;
+        return Liveness::Live;
     }
-    if !goto_passes(tape, area, tokens, lines, labels, l, f, start, rules) {
-        return Fate::Live;
+    if !goto_passes(tape, area, tokens, lines, labels, l, v) {
+        return Liveness::Live;
     }
-    scan(tape, area, tokens, l, f, base_indent, rules)
+    scan(tape, area, tokens, l, v.family, v.indent, v.rules)
 }
 
-// The same, where n is the number of the family, and calls overwrite it or not: a quiet line does nothing, and a calling one what calls do.
-fn fate_by_marks<'a>(
+// What line w does to the value, by its facts where they tell it: a transparent line does nothing, and a calling one what calls do to the
+// family. n is the family's number, and `overwritten` says whether calls overwrite it.
+fn liveness_by_facts<'a>(
     tape: &'a [u8],
     area: &'a [u8],
     tokens: &'a [u64],
     lines: &'a [u64],
     labels: &'a [u64],
     w: usize,
-    f: Fam,
+    v: Followed,
     n: u64,
     overwritten: bool,
-    base_indent: u64,
-    start: usize,
-    rules: Rules,
-) -> Fate
+) -> Liveness
     requires { ⌜ Listed (now tape) (now area) (now tokens) (now lines)
-        × Labelled (bare-listing (now tape) (now area) (now tokens) (now lines)) (now labels) × Known (now tape) (now area) f
-        × (w < length (now lines)) × (start < length (now lines)) × (n ≡ family-number (fam-text (now tape) (now area) f))
-        × (overwritten ≡ has (volatile (rules-of rules)) (fam-text (now tape) (now area) f)) ⌝ }
-    ensures { λ r. ⌜ r ≡ fate-after (bare-listing (now (tape .entry)) (now (area .entry)) (now (tokens .entry)) (now (lines .entry)))
-        (fam-text (now (tape .entry)) (now (area .entry)) f) «base_indent»
-        (labels-at (bare-listing (now (tape .entry)) (now (area .entry)) (now (tokens .entry)) (now (lines .entry))) (now (labels .entry)))
-        start (volatile (rules-of rules)) w (bare-in (now (tape .entry)) (now (area .entry)) (now (tokens .entry))
-        (getD (now (lines .entry)) w 0)) ⌝ }
+        × Labelled (bare-listing (now tape) (now area) (now tokens) (now lines)) (now labels) × Known (now tape) (now area) (v .family)
+        × (w < length (now lines)) × (v .start < length (now lines)) × (n ≡ family-number (fam-text (now tape) (now area) (v .family)))
+        × (overwritten ≡ has (volatile (rules-of (v .rules))) (fam-text (now tape) (now area) (v .family))) ⌝ }
+    ensures { λ r. ⌜ r ≡ liveness-after (bare-listing (was tape) (was area) (was tokens) (was lines))
+        (fam-text (was tape) (was area) (v .family)) (v .indent)
+        (labels-at (bare-listing (was tape) (was area) (was tokens) (was lines)) (was labels)) (v .start)
+        (volatile (rules-of (v .rules))) w (bare-in (was tape) (was area) (was tokens) (getD (was lines) w 0)) ⌝ }
 {
     let l = lines[w];
-    if is_quiet(l, n) {
-        return Fate::Open;
+    if is_transparent(l, n) {
+        return Liveness::Open;
     }
     if is_calling(l, n) {
         if !overwritten {
-            return Fate::Open;
+            return Liveness::Open;
         }
-        if words::indent(l) <= base_indent {
-            return Fate::Dead; // by the call
+        if words::indent(l) <= v.indent {
+            return Liveness::Dead; // by the call
         }
-        return Fate::Open;
+        return Liveness::Open;
     }
-    fate_after(
-        tape,
-        area,
-        tokens,
-        lines,
-        labels,
-        w,
-        f,
-        base_indent,
-        start,
-        rules,
-    )
+    liveness_after(tape, area, tokens, lines, labels, w, v)
 }
 
-// Whether the family's value at the end of line `from`, defined on line `start`, is never read again.
+// Whether the family's value at the end of line `from` is never read again.
 pub fn dead_after<'a>(
     tape: &'a [u8],
     area: &'a [u8],
@@ -162,44 +146,28 @@ pub fn dead_after<'a>(
     lines: &'a [u64],
     labels: &'a [u64],
     from: usize,
-    f: Fam,
-    base_indent: u64,
-    start: usize,
-    rules: Rules,
+    v: Followed,
 ) -> bool
     requires { ⌜ Listed (now tape) (now area) (now tokens) (now lines)
-        × Labelled (bare-listing (now tape) (now area) (now tokens) (now lines)) (now labels) × Known (now tape) (now area) f
-        × (from < length (now lines)) × (start < length (now lines)) ⌝ }
-    ensures { λ r. ⌜ r ≡ dead-after (bare-listing (now (tape .entry)) (now (area .entry)) (now (tokens .entry)) (now (lines .entry))) from
-        (fam-text (now (tape .entry)) (now (area .entry)) f) «base_indent»
-        (labels-at (bare-listing (now (tape .entry)) (now (area .entry)) (now (tokens .entry)) (now (lines .entry))) (now (labels .entry)))
-        start (volatile (rules-of rules)) ⌝ }
+        × Labelled (bare-listing (now tape) (now area) (now tokens) (now lines)) (now labels) × Known (now tape) (now area) (v .family)
+        × (from < length (now lines)) × (v .start < length (now lines)) ⌝ }
+    ensures { λ r. ⌜ r ≡ dead-after (bare-listing (was tape) (was area) (was tokens) (was lines)) from
+        (fam-text (was tape) (was area) (v .family)) (v .indent)
+        (labels-at (bare-listing (was tape) (was area) (was tokens) (was lines)) (was labels)) (v .start)
+        (volatile (rules-of (v .rules))) ⌝ }
 {
-    let n = number_of(tape, area, f);
-    let overwritten = fams::is_volatile(tape, area, f, rules);
+    let n = number_of(tape, area, v.family);
+    let overwritten = fams::is_volatile(tape, area, v.family, v.rules);
     let mut w = from + 1;
     while w < lines.len() {
-        match fate_by_marks(
-            tape,
-            area,
-            tokens,
-            lines,
-            labels,
-            w,
-            f,
-            n,
-            overwritten,
-            base_indent,
-            start,
-            rules,
-        ) {
-            Fate::Dead => {
+        match liveness_by_facts(tape, area, tokens, lines, labels, w, v, n, overwritten) {
+            Liveness::Dead => {
                 return true;
             }
-            Fate::Live => {
+            Liveness::Live => {
                 return false;
             }
-            Fate::Open => {}
+            Liveness::Open => {}
         }
         w += 1;
     }

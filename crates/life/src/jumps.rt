@@ -1,14 +1,16 @@
 // Jumps: what a `while` and a `goto` of a line after a definition let the value's scan do.
-use crate::fates::rerun_kills;
+use crate::liveness::Followed;
+use crate::liveness::rerun_kills;
 use crate::touches;
 use lines::fams::Fam;
 use lines::rules::Rules;
 use lines::shapes;
-use lines::shapes::Found;
+use lines::shapes::Position;
 use lines::words;
 ghost use mathlib.Core.Path.{_≡_};
 ghost use Prim.Native.Nat.{_<_};
 ghost use lib.ListN.{length, getD};
+ghost use Rattle.reference.specs.Contract.{was};
 ghost use Rattle.reference.specs.Lists.{last-position};
 ghost use Rattle.reference.specs.Text.{_==_};
 ghost use Rattle.reference.specs.Listing.{_at_};
@@ -27,7 +29,7 @@ ghost use Rattle.life.specs.Jumps.{jump};
 // Whether a line has this indent and the Keyword `do`.
 fn is_do<'a>(tape: &'a [u8], area: &'a [u8], tokens: &'a [u64], l: u64, indent: u64) -> bool
     requires { ⌜ Lined (now tape) (now area) (now tokens) l ⌝ }
-    ensures { λ r. ⌜ r ≡ is-do indent (bare-in (now (tape .entry)) (now (area .entry)) (now (tokens .entry)) l) ⌝ }
+    ensures { λ r. ⌜ r ≡ is-do indent (bare-in (was tape) (was area) (was tokens) l) ⌝ }
 {
     if words::indent(l) != indent {
         return false;
@@ -42,19 +44,18 @@ fn do_before<'a>(
     tokens: &'a [u64],
     lines: &'a [u64],
     indent: u64,
-) -> Found
+) -> Position
     requires { ⌜ Listed (now tape) (now area) (now tokens) (now lines) ⌝ }
-    ensures { λ r. ⌜ found r
-        ≡ last-position (is-do indent) (bare-listing (now (tape .entry)) (now (area .entry)) (now (tokens .entry)) (now (lines .entry))) ⌝ }
+    ensures { λ r. ⌜ found r ≡ last-position (is-do indent) (bare-listing (was tape) (was area) (was tokens) (was lines)) ⌝ }
 {
     let mut n = lines.len();
     while 0 < n {
         n -= 1;
         if is_do(tape, area, tokens, lines[n], indent) {
-            return Found::At(n);
+            return Position::At(n);
         }
     }
-    Found::Nothing
+    Position::Nothing
 }
 
 // At line w, which has a `while`: the back edge enters the loop's head again.
@@ -64,28 +65,26 @@ pub fn while_passes<'a>(
     tokens: &'a [u64],
     lines: &'a [u64],
     w: usize,
-    f: Fam,
-    start: usize,
-    rules: Rules,
+    v: Followed,
 ) -> bool
-    requires { ⌜ Listed (now tape) (now area) (now tokens) (now lines) × Known (now tape) (now area) f × (w < length (now lines))
-        × (start < length (now lines)) ⌝ }
-    ensures { λ r. ⌜ r ≡ while-passes (bare-listing (now (tape .entry)) (now (area .entry)) (now (tokens .entry)) (now (lines .entry)))
-        (fam-text (now (tape .entry)) (now (area .entry)) f) start (volatile (rules-of rules)) w
-        (bare-in (now (tape .entry)) (now (area .entry)) (now (tokens .entry)) (getD (now (lines .entry)) w 0)) ⌝ }
+    requires { ⌜ Listed (now tape) (now area) (now tokens) (now lines) × Known (now tape) (now area) (v .family)
+        × (w < length (now lines)) × (v .start < length (now lines)) ⌝ }
+    ensures { λ r. ⌜ r ≡ while-passes (bare-listing (was tape) (was area) (was tokens) (was lines))
+        (fam-text (was tape) (was area) (v .family)) (v .start) (volatile (rules-of (v .rules))) w
+        (bare-in (was tape) (was area) (was tokens) (getD (was lines) w 0)) ⌝ }
 {
     let l = lines[w];
-    if touches::uses(tape, area, words::line_of(tokens, l), f, rules) {
+    if touches::uses(tape, area, words::line_of(tokens, l), v.family, v.rules) {
         return false;
     }
     let indent = words::indent(l);
-    let Found::At(d) = do_before(tape, area, tokens, &lines[..w], indent) else {
+    let Position::At(d) = do_before(tape, area, tokens, &lines[..w], indent) else {
         return false; // a loop whose head is not known
     };
-    if start <= d {
+    if v.start <= d {
         return true;
     }
-    rerun_kills(tape, area, tokens, lines, d, indent, f, start, rules)
+    rerun_kills(tape, area, tokens, lines, d, indent, v)
 }
 
 // ---- `goto`
@@ -93,8 +92,7 @@ pub fn while_passes<'a>(
 // Whether the label line l has the name that the token word w has for its text.
 fn is_named<'a>(tape: &'a [u8], area: &'a [u8], tokens: &'a [u64], l: u64, w: u64) -> bool
     requires { ⌜ Lined (now tape) (now area) (now tokens) l × Points (now tape) (now area) w × (0 < length (part-of (now tokens) l)) ⌝ }
-    ensures { λ r. ⌜ r ≡ (text-of (now (tape .entry)) (now (area .entry)) (getD (part-of (now (tokens .entry)) l) 0 0) == text-of
-        (now (tape .entry)) (now (area .entry)) w) ⌝ }
+    ensures { λ r. ⌜ r ≡ (text-of (was tape) (was area) (getD (part-of (was tokens) l) 0 0) == text-of (was tape) (was area) w) ⌝ }
 {
     let line = words::line_of(tokens, l);
     text::same(words::text(tape, area, line[0]), words::text(tape, area, w))
@@ -103,7 +101,7 @@ fn is_named<'a>(tape: &'a [u8], area: &'a [u8], tokens: &'a [u64], l: u64, w: u6
 // The line of label n.
 fn place_at(labels: &[u64], n: usize) -> usize
     requires { ⌜ n < length (now labels) ⌝ }
-    ensures { λ r. ⌜ r ≡ getD (now (labels .entry)) n 0 ⌝ }
+    ensures { λ r. ⌜ r ≡ getD (was labels) n 0 ⌝ }
 {
     labels[n] as usize
 }
@@ -116,22 +114,21 @@ fn label_named<'a>(
     lines: &'a [u64],
     labels: &'a [u64],
     w: u64,
-) -> Found
+) -> Position
     requires { ⌜ Listed (now tape) (now area) (now tokens) (now lines)
         × Labelled (bare-listing (now tape) (now area) (now tokens) (now lines)) (now labels) × Points (now tape) (now area) w ⌝ }
-    ensures { λ r. ⌜ found r
-        ≡ lookup (labels-at (bare-listing (now (tape .entry)) (now (area .entry)) (now (tokens .entry)) (now (lines .entry)))
-        (now (labels .entry))) (text-of (now (tape .entry)) (now (area .entry)) w) ⌝ }
+    ensures { λ r. ⌜ found r ≡ lookup (labels-at (bare-listing (was tape) (was area) (was tokens) (was lines)) (was labels))
+        (text-of (was tape) (was area) w) ⌝ }
 {
     let mut n = labels.len();
     while 0 < n {
         n -= 1;
         let at = place_at(labels, n);
         if is_named(tape, area, tokens, lines[at], w) {
-            return Found::At(at);
+            return Position::At(at);
         }
     }
-    Found::Nothing
+    Position::Nothing
 }
 
 // Where a line jumps to: it has no `goto`, one to no known label, or one to the label on that line.
@@ -152,24 +149,23 @@ fn goto_target<'a>(
     requires { ⌜ Listed (now tape) (now area) (now tokens) (now lines)
         × Labelled (bare-listing (now tape) (now area) (now tokens) (now lines)) (now labels)
         × Lined (now tape) (now area) (now tokens) l ⌝ }
-    ensures { λ r. ⌜ jump r ≡ goto-target (tokens-of (now (tape .entry)) (now (area .entry)) (part-of (now (tokens .entry)) l))
-        (labels-at (bare-listing (now (tape .entry)) (now (area .entry)) (now (tokens .entry)) (now (lines .entry)))
-        (now (labels .entry))) ⌝ }
+    ensures { λ r. ⌜ jump r ≡ goto-target (tokens-of (was tape) (was area) (part-of (was tokens) l))
+        (labels-at (bare-listing (was tape) (was area) (was tokens) (was lines)) (was labels)) ⌝ }
 {
     let line = words::line_of(tokens, l);
-    let Found::At(g) = shapes::goto_at(tape, area, line) else {
+    let Position::At(g) = shapes::goto_at(tape, area, line) else {
         return Jump::Nothing;
     };
-    let Found::At(s) = shapes::symbol_from(line, g + 1) else {
+    let Position::At(s) = shapes::symbol_from(line, g + 1) else {
         return Jump::Unknown;
     };
-    let Found::At(at) = label_named(tape, area, tokens, lines, labels, line[s]) else {
+    let Position::At(at) = label_named(tape, area, tokens, lines, labels, line[s]) else {
         return Jump::Unknown;
     };
     Jump::To(at)
 }
 
-// At a line with a `goto` or none: a jump back above the definition, on line `start`, runs it again.
+// At a line with a `goto` or none: a jump back above the definition runs it again.
 pub fn goto_passes<'a>(
     tape: &'a [u8],
     area: &'a [u8],
@@ -177,27 +173,25 @@ pub fn goto_passes<'a>(
     lines: &'a [u64],
     labels: &'a [u64],
     l: u64,
-    f: Fam,
-    start: usize,
-    rules: Rules,
+    v: Followed,
 ) -> bool
     requires { ⌜ Listed (now tape) (now area) (now tokens) (now lines)
         × Labelled (bare-listing (now tape) (now area) (now tokens) (now lines)) (now labels) × Lined (now tape) (now area) (now tokens) l
-        × Known (now tape) (now area) f × (start < length (now lines)) ⌝ }
-    ensures { λ r. ⌜ r ≡ goto-passes (bare-listing (now (tape .entry)) (now (area .entry)) (now (tokens .entry)) (now (lines .entry)))
-        (fam-text (now (tape .entry)) (now (area .entry)) f) start (volatile (rules-of rules))
-        (labels-at (bare-listing (now (tape .entry)) (now (area .entry)) (now (tokens .entry)) (now (lines .entry))) (now (labels .entry)))
-        (bare-in (now (tape .entry)) (now (area .entry)) (now (tokens .entry)) l) ⌝ }
+        × Known (now tape) (now area) (v .family) × (v .start < length (now lines)) ⌝ }
+    ensures { λ r. ⌜ r ≡ goto-passes (bare-listing (was tape) (was area) (was tokens) (was lines))
+        (fam-text (was tape) (was area) (v .family)) (v .start) (volatile (rules-of (v .rules)))
+        (labels-at (bare-listing (was tape) (was area) (was tokens) (was lines)) (was labels))
+        (bare-in (was tape) (was area) (was tokens) l) ⌝ }
 {
     match goto_target(tape, area, tokens, lines, labels, l) {
         Jump::Nothing => true,
         Jump::Unknown => false,
         Jump::To(at) => {
-            if start < at {
+            if v.start < at {
                 return true;
             }
             let indent = words::indent(lines[at]);
-            rerun_kills(tape, area, tokens, lines, at, indent, f, start, rules)
+            rerun_kills(tape, area, tokens, lines, at, indent, v)
         }
     }
 }

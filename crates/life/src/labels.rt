@@ -4,6 +4,7 @@ use lines::words;
 ghost use mathlib.Core.Path.{_≡_};
 ghost use Prim.Native.Nat.{_≤_};
 ghost use lib.ListN.{length};
+ghost use Rattle.reference.specs.Contract.{was};
 ghost use Rattle.joining.specs.Places.{label-places, shift-place, shift-places};
 ghost use Rattle.lines.specs.Lines.{bare-listing, Listed};
 ghost use Rattle.life.specs.Labels.{Gathered};
@@ -17,9 +18,8 @@ pub fn gather_labels<'a>(
     labels: &mut [u64],
 ) -> usize
     requires { ⌜ Listed (now tape) (now area) (now tokens) (now lines) × (length (now lines) ≤ length (now labels)) ⌝ }
-    ensures { λ r. ⌜ Gathered
-        (label-places 0 (bare-listing (now (tape .entry)) (now (area .entry)) (now (tokens .entry)) (now (lines .entry))))
-        (now (labels .entry)) (now (labels .exit)) r ⌝ }
+    ensures { λ r. ⌜ Gathered (label-places 0 (bare-listing (was tape) (was area) (was tokens) (was lines))) (was labels)
+        (now (labels .exit)) r ⌝ }
 {
     let mut n = 0;
     let mut k = 0;
@@ -46,7 +46,7 @@ fn shifted(place: u64, i: usize) -> u64
 
 // The places when line i is gone.
 pub fn shift_labels(labels: &mut [u64], i: usize)
-    ensures { λ _. ⌜ now (labels .exit) ≡ shift-places i (now (labels .entry)) ⌝ }
+    ensures { λ _. ⌜ now (labels .exit) ≡ shift-places i (was labels) ⌝ }
 {
     let mut k = 0;
     while k < labels.len() {

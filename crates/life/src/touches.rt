@@ -7,6 +7,7 @@ use lines::shapes;
 use lines::shapes::Assigned;
 use lines::shapes::Expr;
 ghost use mathlib.Core.Path.{_≡_};
+ghost use Rattle.reference.specs.Contract.{was};
 ghost use Rattle.reference.specs.Rules.{volatile};
 ghost use Rattle.reference.specs.Life.{kills, touch-of, is-use, is-kill};
 ghost use Rattle.lines.specs.Rules.{rules-of};
@@ -25,8 +26,7 @@ pub enum Touched {
 // Whether a line that assigns the right side x to its first token overwrites the family.
 fn overwrites_by<'a>(tape: &'a [u8], area: &'a [u8], line: &'a [u64], x: Expr, f: Fam) -> bool
     requires { ⌜ Holds (now tape) (now area) (now line) × Expression (now line) x × Known (now tape) (now area) f ⌝ }
-    ensures { λ r. ⌜ r ≡ kills-by (now (tape .entry)) (now (area .entry)) (now (line .entry)) x
-        (fam-text (now (tape .entry)) (now (area .entry)) f) ⌝ }
+    ensures { λ r. ⌜ r ≡ kills-by (was tape) (was area) (was line) x (fam-text (was tape) (was area) f) ⌝ }
 {
     let Named::As(g, width, _) = fams::name_of(tape, area, line[0]) else {
         return false;
@@ -43,8 +43,7 @@ fn overwrites_by<'a>(tape: &'a [u8], area: &'a [u8], line: &'a [u64], x: Expr, f
 // Whether a line is an assignment to the family, at width 32 or more, whose right side lacks it.
 fn is_overwriting<'a>(tape: &'a [u8], area: &'a [u8], line: &'a [u64], f: Fam) -> bool
     requires { ⌜ Holds (now tape) (now area) (now line) × Known (now tape) (now area) f ⌝ }
-    ensures { λ r. ⌜ r ≡ kills (tokens-of (now (tape .entry)) (now (area .entry)) (now (line .entry)))
-        (fam-text (now (tape .entry)) (now (area .entry)) f) ⌝ }
+    ensures { λ r. ⌜ r ≡ kills (tokens-of (was tape) (was area) (was line)) (fam-text (was tape) (was area) f) ⌝ }
 {
     let Assigned::To(x) = shapes::assignment(tape, area, line) else {
         return false;
@@ -52,11 +51,10 @@ fn is_overwriting<'a>(tape: &'a [u8], area: &'a [u8], line: &'a [u64], f: Fam) -
     overwrites_by(tape, area, line, x, f)
 }
 
-// The same: the first token tells most lines apart.
+// Whether a line overwrites the family whole (`is_overwriting`): the first token tells most lines apart.
 fn overwrites<'a>(tape: &'a [u8], area: &'a [u8], line: &'a [u64], f: Fam) -> bool
     requires { ⌜ Holds (now tape) (now area) (now line) × Known (now tape) (now area) f ⌝ }
-    ensures { λ r. ⌜ r ≡ kills (tokens-of (now (tape .entry)) (now (area .entry)) (now (line .entry)))
-        (fam-text (now (tape .entry)) (now (area .entry)) f) ⌝ }
+    ensures { λ r. ⌜ r ≡ kills (tokens-of (was tape) (was area) (was line)) (fam-text (was tape) (was area) f) ⌝ }
 {
     if line.len() == 0 {
         return false;
@@ -69,8 +67,8 @@ fn overwrites<'a>(tape: &'a [u8], area: &'a [u8], line: &'a [u64], f: Fam) -> bo
 
 pub fn touch<'a>(tape: &'a [u8], area: &'a [u8], line: &'a [u64], f: Fam, rules: Rules) -> Touched
     requires { ⌜ Holds (now tape) (now area) (now line) × Known (now tape) (now area) f ⌝ }
-    ensures { λ r. ⌜ touched r ≡ touch-of (tokens-of (now (tape .entry)) (now (area .entry)) (now (line .entry)))
-        (fam-text (now (tape .entry)) (now (area .entry)) f) (volatile (rules-of rules)) ⌝ }
+    ensures { λ r. ⌜ touched r ≡ touch-of (tokens-of (was tape) (was area) (was line))
+        (fam-text (was tape) (was area) f) (volatile (rules-of rules)) ⌝ }
 {
     if overwrites(tape, area, line, f) {
         return Touched::Kill;
@@ -90,8 +88,8 @@ pub fn touch<'a>(tape: &'a [u8], area: &'a [u8], line: &'a [u64], f: Fam, rules:
 
 pub fn uses<'a>(tape: &'a [u8], area: &'a [u8], line: &'a [u64], f: Fam, rules: Rules) -> bool
     requires { ⌜ Holds (now tape) (now area) (now line) × Known (now tape) (now area) f ⌝ }
-    ensures { λ r. ⌜ r ≡ is-use (touch-of (tokens-of (now (tape .entry)) (now (area .entry)) (now (line .entry)))
-        (fam-text (now (tape .entry)) (now (area .entry)) f) (volatile (rules-of rules))) ⌝ }
+    ensures { λ r. ⌜ r ≡ is-use (touch-of (tokens-of (was tape) (was area) (was line))
+        (fam-text (was tape) (was area) f) (volatile (rules-of rules))) ⌝ }
 {
     match touch(tape, area, line, f, rules) {
         Touched::Use(_) => true,
@@ -102,8 +100,8 @@ pub fn uses<'a>(tape: &'a [u8], area: &'a [u8], line: &'a [u64], f: Fam, rules: 
 
 pub fn kills<'a>(tape: &'a [u8], area: &'a [u8], line: &'a [u64], f: Fam, rules: Rules) -> bool
     requires { ⌜ Holds (now tape) (now area) (now line) × Known (now tape) (now area) f ⌝ }
-    ensures { λ r. ⌜ r ≡ is-kill (touch-of (tokens-of (now (tape .entry)) (now (area .entry)) (now (line .entry)))
-        (fam-text (now (tape .entry)) (now (area .entry)) f) (volatile (rules-of rules))) ⌝ }
+    ensures { λ r. ⌜ r ≡ is-kill (touch-of (tokens-of (was tape) (was area) (was line))
+        (fam-text (was tape) (was area) f) (volatile (rules-of rules))) ⌝ }
 {
     match touch(tape, area, line, f, rules) {
         Touched::Use(_) => false,

@@ -1,7 +1,7 @@
--- What the code's values mean: codes of names, token words, marks of lines, line words and listings, settings, answers on shapes, families.
+-- What the code's values mean: codes of names, token words, facts of lines, line words and listings, settings, answers on shapes, families.
 pub mod Codes
 pub mod Words
-pub mod Marks
+pub mod Facts
 pub mod Lines
 pub mod Rules
 pub mod Shapes

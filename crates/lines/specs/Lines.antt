@@ -10,9 +10,9 @@ use Rattle.reference.specs.Control.{if_then_else_}
 use Rattle.reference.specs.Text.{Text}
 use Rattle.reference.specs.Listing.{Line, Listing}
 use Rattle.lines.specs.Words.{tokens-of, Holds}
-use Rattle.lines.specs.Marks.{Tells}
+use Rattle.lines.specs.Facts.{Tells}
 
--- first token in 16 bits, count in 11 bits, indent in 6 bits, whether it has an address in 1 bit, origin in 8 bits; above them the marks
+-- first token in 16 bits, count in 11 bits, indent in 6 bits, whether it has an address in 1 bit, origin in 8 bits; above them the facts
 
 unfoldable pub first-of : ℕ → ℕ
 first-of l = l % 65536
@@ -30,19 +30,19 @@ addressed-of l = l / 8589934592 % 2
 unfoldable pub origin-of : ℕ → ℕ
 origin-of l = l / 17179869184 % 256
 
-unfoldable pub marks-of : ℕ → ℕ
-marks-of l = l / 4398046511104
+unfoldable pub facts-of : ℕ → ℕ
+facts-of l = l / 4398046511104
 
--- the same line with the marks m
-unfoldable pub with-marks : ℕ → ℕ → ℕ
-with-marks l m = l % 4398046511104 + m * 4398046511104
+-- the same line with the facts m
+unfoldable pub with-facts : ℕ → ℕ → ℕ
+with-facts l m = l % 4398046511104 + m * 4398046511104
 
--- the word of these parts, with no marks
+-- the word of these parts, with no facts
 unfoldable pub line-word : ℕ → ℕ → ℕ → ℕ → ℕ → ℕ
 line-word first count indent addressed origin =
     first + count * 65536 + indent * 134217728 + addressed * 8589934592 + origin * 17179869184
 
--- the same line with `count` tokens from `first` on, with no marks
+-- the same line with `count` tokens from `first` on, with no facts
 unfoldable pub with-part : ℕ → ℕ → ℕ → ℕ
 with-part l first count = line-word first count (indent-of l) (addressed-of l) (origin-of l)
 
@@ -87,11 +87,11 @@ bare-in tape area tokens l = record { address = none; indent = indent-of l; toke
 abbrev pub bare-listing : Text → Text → List ℕ → List ℕ → Listing
 bare-listing tape area tokens lines = map (bare-in tape area tokens) lines
 
--- the line is a part of the tokens, and each of its words points into its text; its marks say nothing false
+-- the line is a part of the tokens, and each of its words points into its text; its facts say nothing false
 pub record Lined (tape area : Text) (tokens : List ℕ) (l : ℕ) : Type 0 where
   pub inside : first-of l + count-of l ≤ length tokens
   pub holds : Holds tape area (part-of tokens l)
-  pub marks : Tells 1 (marks-of l) (tokens-of tape area (part-of tokens l))
+  pub facts : Tells 1 (facts-of l) (tokens-of tape area (part-of tokens l))
 
 -- so is every line of the list
 pub record Listed (tape area : Text) (tokens lines : List ℕ) : Type 0 where

@@ -11,13 +11,13 @@ use Rattle.reference.specs.Text.{Text, bytes, starts-with}
 use Rattle.reference.specs.Listing.{Token, is, Symbol, Punct}
 use Rattle.reference.specs.Shapes.{Assignment, cut-semicolon, assignment-of}
 use Rattle.lines.specs.Words.{start-of, len-of, without-first, without-last, token-of, tokens-of, Holds}
-use Rattle.lines.specs.declared.shapes.Found.{Found}
-use Rattle.lines.specs.declared.shapes.Found.the-variants.{At, Nothing}
+use Rattle.lines.specs.declared.shapes.Position.{Position}
+use Rattle.lines.specs.declared.shapes.Position.the-variants.{At, Nothing}
 use Rattle.lines.specs.declared.shapes.Expr.{Expr}
 use Rattle.lines.specs.declared.shapes.Assigned.{Assigned}
 use Rattle.lines.specs.declared.shapes.Assigned.the-variants.{To, Nothing as Unassigned}
 
-abbrev pub found : Found → Option ℕ
+abbrev pub found : Position → Option ℕ
 found (At k) = some k
 found Nothing = none
 

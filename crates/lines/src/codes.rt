@@ -5,6 +5,7 @@ use crate::words;
 use names::Spelled;
 ghost use mathlib.Core.Path.{_≡_};
 ghost use Prim.Native.Nat.{_+_, _*_, _%_};
+ghost use Rattle.reference.specs.Contract.{was};
 ghost use Rattle.reference.specs.Text.{_==_};
 ghost use Rattle.reference.specs.Names.{family};
 ghost use Rattle.names.specs.Families.{Spells};
@@ -21,7 +22,7 @@ fn mixed(a: u8, b: u8) -> u64
 
 // A number below 7 of a name.
 pub fn bucket(s: &[u8]) -> u64
-    ensures { λ r. ⌜ r ≡ bucket (now (s .entry)) ⌝ }
+    ensures { λ r. ⌜ r ≡ bucket (was s) ⌝ }
 {
     let n = s.len();
     if n < 2 {
@@ -46,7 +47,7 @@ fn width_of(c: u64) -> u64
 // The family and the width that the code of a word says; the lowest bit is 0.
 pub fn decoded<'a>(tape: &'a [u8], area: &'a [u8], w: u64) -> Named
     requires { ⌜ Points (now tape) (now area) w × (code-of w ≡ 0 → ⊥) ⌝ }
-    ensures { λ r. ⌜ Names (now (tape .entry)) (now (area .entry)) (family (text-of (now (tape .entry)) (now (area .entry)) w)) r ⌝ }
+    ensures { λ r. ⌜ Names (was tape) (was area) (family (text-of (was tape) (was area) w)) r ⌝ }
 {
     let c = words::code(w);
     let width = width_of(c);
@@ -62,7 +63,7 @@ pub fn decoded<'a>(tape: &'a [u8], area: &'a [u8], w: u64) -> Named
 // Whether two tokens have one text: codes that differ tell at once.
 pub fn same_text<'a>(tape: &'a [u8], area: &'a [u8], v: u64, w: u64) -> bool
     requires { ⌜ Points (now tape) (now area) v × Points (now tape) (now area) w ⌝ }
-    ensures { λ r. ⌜ r ≡ (text-of (now (tape .entry)) (now (area .entry)) v == text-of (now (tape .entry)) (now (area .entry)) w) ⌝ }
+    ensures { λ r. ⌜ r ≡ (text-of (was tape) (was area) v == text-of (was tape) (was area) w) ⌝ }
 {
     let a = words::code(v);
     let b = words::code(w);
@@ -81,7 +82,7 @@ pub fn same_text<'a>(tape: &'a [u8], area: &'a [u8], v: u64, w: u64) -> bool
 // The code of a row and a width from bit 0; 0 for another width.
 fn row_code(s: &[u8], row: u64, width: u64) -> u64
     requires { ⌜ Spells (now s) (family (now s)) (Row row width 0) ⌝ }
-    ensures { λ r. ⌜ Codes (now (s .entry)) r ⌝ }
+    ensures { λ r. ⌜ Codes (was s) r ⌝ }
 {
     let base = 4 + 4 * row;
     if s.len() == 0 {
@@ -99,7 +100,7 @@ fn row_code(s: &[u8], row: u64, width: u64) -> u64
 // The code of a text that is its family's name.
 fn whole_code(s: &[u8], n: usize) -> u64
     requires { ⌜ Spells (now s) (family (now s)) (Front n 64) ⌝ }
-    ensures { λ r. ⌜ Codes (now (s .entry)) r ⌝ }
+    ensures { λ r. ⌜ Codes (was s) r ⌝ }
 {
     if n == 0 {
         return 0;
@@ -113,7 +114,7 @@ fn whole_code(s: &[u8], n: usize) -> u64
 // The code of a text that is its family's name and one byte more; 0 for a width of 64 bits.
 fn front_code(s: &[u8], n: usize, width: u64) -> u64
     requires { ⌜ Spells (now s) (family (now s)) (Front n width) ⌝ }
-    ensures { λ r. ⌜ Codes (now (s .entry)) r ⌝ }
+    ensures { λ r. ⌜ Codes (was s) r ⌝ }
 {
     if n + 1 != s.len() {
         return 0;
@@ -129,7 +130,7 @@ fn front_code(s: &[u8], n: usize, width: u64) -> u64
 
 // The code of a name; 0 where it has no family, and for a high byte.
 fn code_of(s: &[u8]) -> u64
-    ensures { λ r. ⌜ Codes (now (s .entry)) r ⌝ }
+    ensures { λ r. ⌜ Codes (was s) r ⌝ }
 {
     match names::family(s) {
         Spelled::Row(row, width, lowest) => {
@@ -150,12 +151,12 @@ fn code_of(s: &[u8]) -> u64
 
 // The word with the code of its text, where it is a Register in the tape.
 pub fn coded(tape: &[u8], w: u64) -> u64
-    ensures { λ r. ⌜ Recoded (now (tape .entry)) w r ⌝ }
+    ensures { λ r. ⌜ Recoded (was tape) w r ⌝ }
 {
     if words::kind(w) != words::REGISTER {
         return w;
     }
-    if words::place(w) != words::IN_TAPE {
+    if words::buffer(w) != words::IN_TAPE {
         return w;
     }
     let from = words::start(w);

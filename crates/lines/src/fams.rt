@@ -3,12 +3,13 @@ use crate::codes;
 use crate::rules::Rules;
 use crate::shapes;
 use crate::shapes::Expr;
-use crate::shapes::Found;
+use crate::shapes::Position;
 use crate::words;
 use names::Spelled;
 ghost use mathlib.Core.Path.{_≡_};
 ghost use Prim.Native.Nat.{_<_};
 ghost use lib.ListN.{length, getD};
+ghost use Rattle.reference.specs.Contract.{was};
 ghost use Rattle.reference.specs.Control.{_&&_};
 ghost use Rattle.reference.specs.Lists.{any, count, position};
 ghost use Rattle.reference.specs.Text.{_==_, has};
@@ -33,7 +34,7 @@ pub enum Named {
 // The family, the width and the lowest bit of a token's text, read from its bytes.
 fn spelled<'a>(tape: &'a [u8], area: &'a [u8], w: u64) -> Named
     requires { ⌜ Points (now tape) (now area) w ⌝ }
-    ensures { λ r. ⌜ Names (now (tape .entry)) (now (area .entry)) (family (text-of (now (tape .entry)) (now (area .entry)) w)) r ⌝ }
+    ensures { λ r. ⌜ Names (was tape) (was area) (family (text-of (was tape) (was area) w)) r ⌝ }
 {
     match names::family(words::text(tape, area, w)) {
         Spelled::Row(row, width, lowest) => Named::As(row, width, lowest),
@@ -45,7 +46,7 @@ fn spelled<'a>(tape: &'a [u8], area: &'a [u8], w: u64) -> Named
 // The family, the width and the lowest bit of a token's text, whatever its kind.
 pub fn name_of<'a>(tape: &'a [u8], area: &'a [u8], w: u64) -> Named
     requires { ⌜ Points (now tape) (now area) w ⌝ }
-    ensures { λ r. ⌜ Names (now (tape .entry)) (now (area .entry)) (family (text-of (now (tape .entry)) (now (area .entry)) w)) r ⌝ }
+    ensures { λ r. ⌜ Names (was tape) (was area) (family (text-of (was tape) (was area) w)) r ⌝ }
 {
     if words::code(w) == 0 {
         return spelled(tape, area, w);
@@ -56,7 +57,7 @@ pub fn name_of<'a>(tape: &'a [u8], area: &'a [u8], w: u64) -> Named
 // The family, the width and the lowest bit of a token: of a Register alone.
 pub fn fam_of<'a>(tape: &'a [u8], area: &'a [u8], w: u64) -> Named
     requires { ⌜ Points (now tape) (now area) w ⌝ }
-    ensures { λ r. ⌜ Names (now (tape .entry)) (now (area .entry)) (fam-of (token-of (now (tape .entry)) (now (area .entry)) w)) r ⌝ }
+    ensures { λ r. ⌜ Names (was tape) (was area) (fam-of (token-of (was tape) (was area) w)) r ⌝ }
 {
     if words::kind(w) != words::REGISTER {
         return Named::Nothing;
@@ -66,7 +67,7 @@ pub fn fam_of<'a>(tape: &'a [u8], area: &'a [u8], w: u64) -> Named
 
 pub fn same_family<'a>(tape: &'a [u8], area: &'a [u8], f: Fam, g: Fam) -> bool
     requires { ⌜ Known (now tape) (now area) f × Known (now tape) (now area) g ⌝ }
-    ensures { λ r. ⌜ r ≡ (fam-text (now (tape .entry)) (now (area .entry)) f == fam-text (now (tape .entry)) (now (area .entry)) g) ⌝ }
+    ensures { λ r. ⌜ r ≡ (fam-text (was tape) (was area) f == fam-text (was tape) (was area) g) ⌝ }
 {
     if f < 8 {
         return f == g;
@@ -80,8 +81,7 @@ pub fn same_family<'a>(tape: &'a [u8], area: &'a [u8], f: Fam, g: Fam) -> bool
 // Whether a token is a Register of the family. A code tells a row at once.
 pub fn is_of<'a>(tape: &'a [u8], area: &'a [u8], w: u64, f: Fam) -> bool
     requires { ⌜ Points (now tape) (now area) w × Known (now tape) (now area) f ⌝ }
-    ensures { λ r. ⌜ r ≡ of-family (fam-text (now (tape .entry)) (now (area .entry)) f)
-        (token-of (now (tape .entry)) (now (area .entry)) w) ⌝ }
+    ensures { λ r. ⌜ r ≡ of-family (fam-text (was tape) (was area) f) (token-of (was tape) (was area) w) ⌝ }
 {
     if words::kind(w) != words::REGISTER {
         return false;
@@ -101,8 +101,7 @@ pub fn is_of<'a>(tape: &'a [u8], area: &'a [u8], w: u64, f: Fam) -> bool
 // Whether a token is a Register of the family, of less than 32 bits.
 pub fn is_narrow_of<'a>(tape: &'a [u8], area: &'a [u8], w: u64, f: Fam) -> bool
     requires { ⌜ Points (now tape) (now area) w × Known (now tape) (now area) f ⌝ }
-    ensures { λ r. ⌜ r ≡ is-narrow (fam-text (now (tape .entry)) (now (area .entry)) f)
-        (token-of (now (tape .entry)) (now (area .entry)) w) ⌝ }
+    ensures { λ r. ⌜ r ≡ is-narrow (fam-text (was tape) (was area) f) (token-of (was tape) (was area) w) ⌝ }
 {
     match fam_of(tape, area, w) {
         Named::As(g, width, _) => {
@@ -118,7 +117,7 @@ pub fn is_narrow_of<'a>(tape: &'a [u8], area: &'a [u8], w: u64, f: Fam) -> bool
 // The family by its number.
 fn number_of<'a>(tape: &'a [u8], area: &'a [u8], f: Fam) -> u64
     requires { ⌜ Known (now tape) (now area) f ⌝ }
-    ensures { λ r. ⌜ r ≡ fam-number (now (tape .entry)) (now (area .entry)) f ⌝ }
+    ensures { λ r. ⌜ r ≡ fam-number (was tape) (was area) f ⌝ }
 {
     if f < 8 {
         return f;
@@ -129,7 +128,7 @@ fn number_of<'a>(tape: &'a [u8], area: &'a [u8], f: Fam) -> u64
 // Whether a call overwrites the family.
 pub fn is_volatile<'a>(tape: &'a [u8], area: &'a [u8], f: Fam, rules: Rules) -> bool
     requires { ⌜ Known (now tape) (now area) f ⌝ }
-    ensures { λ r. ⌜ r ≡ has (volatile (rules-of rules)) (fam-text (now (tape .entry)) (now (area .entry)) f) ⌝ }
+    ensures { λ r. ⌜ r ≡ has (volatile (rules-of rules)) (fam-text (was tape) (was area) f) ⌝ }
 {
     let n = number_of(tape, area, f);
     names::overwritten(n, rules.convention)
@@ -140,8 +139,8 @@ pub fn is_volatile<'a>(tape: &'a [u8], area: &'a [u8], f: Fam, rules: Rules) -> 
 // Whether the right side x of a line has a token of the family.
 pub fn mentions<'a>(tape: &'a [u8], area: &'a [u8], line: &'a [u64], x: Expr, f: Fam) -> bool
     requires { ⌜ Holds (now tape) (now area) (now line) × Expression (now line) x × Known (now tape) (now area) f ⌝ }
-    ensures { λ r. ⌜ r ≡ any (of-family (fam-text (now (tape .entry)) (now (area .entry)) f))
-        (tokens-of (now (tape .entry)) (now (area .entry)) (expr-words (now (line .entry)) x)) ⌝ }
+    ensures { λ r. ⌜ r ≡ any (of-family (fam-text (was tape) (was area) f))
+        (tokens-of (was tape) (was area) (expr-words (was line) x)) ⌝ }
 {
     let n = x.count;
     let mut k = 0;
@@ -157,8 +156,7 @@ pub fn mentions<'a>(tape: &'a [u8], area: &'a [u8], line: &'a [u64], x: Expr, f:
 // How many tokens of the family a line has.
 pub fn count_of<'a>(tape: &'a [u8], area: &'a [u8], line: &'a [u64], f: Fam) -> usize
     requires { ⌜ Holds (now tape) (now area) (now line) × Known (now tape) (now area) f ⌝ }
-    ensures { λ r. ⌜ r ≡ count (of-family (fam-text (now (tape .entry)) (now (area .entry)) f))
-        (tokens-of (now (tape .entry)) (now (area .entry)) (now (line .entry))) ⌝ }
+    ensures { λ r. ⌜ r ≡ count (of-family (fam-text (was tape) (was area) f)) (tokens-of (was tape) (was area) (was line)) ⌝ }
 {
     let mut n = 0;
     let mut k = 0;
@@ -172,26 +170,24 @@ pub fn count_of<'a>(tape: &'a [u8], area: &'a [u8], line: &'a [u64], f: Fam) -> 
 }
 
 // The place of the first token of the family.
-pub fn first_of<'a>(tape: &'a [u8], area: &'a [u8], line: &'a [u64], f: Fam) -> Found
+pub fn first_of<'a>(tape: &'a [u8], area: &'a [u8], line: &'a [u64], f: Fam) -> Position
     requires { ⌜ Holds (now tape) (now area) (now line) × Known (now tape) (now area) f ⌝ }
-    ensures { λ r. ⌜ found r ≡ position (of-family (fam-text (now (tape .entry)) (now (area .entry)) f))
-        (tokens-of (now (tape .entry)) (now (area .entry)) (now (line .entry))) ⌝ }
+    ensures { λ r. ⌜ found r ≡ position (of-family (fam-text (was tape) (was area) f)) (tokens-of (was tape) (was area) (was line)) ⌝ }
 {
     let mut k = 0;
     while k < line.len() {
         if is_of(tape, area, line[k], f) {
-            return Found::At(k);
+            return Position::At(k);
         }
         k += 1;
     }
-    Found::Nothing
+    Position::Nothing
 }
 
 // Whether a token of the family has less than 32 bits.
 pub fn has_narrow<'a>(tape: &'a [u8], area: &'a [u8], line: &'a [u64], f: Fam) -> bool
     requires { ⌜ Holds (now tape) (now area) (now line) × Known (now tape) (now area) f ⌝ }
-    ensures { λ r. ⌜ r ≡ any (is-narrow (fam-text (now (tape .entry)) (now (area .entry)) f))
-        (tokens-of (now (tape .entry)) (now (area .entry)) (now (line .entry))) ⌝ }
+    ensures { λ r. ⌜ r ≡ any (is-narrow (fam-text (was tape) (was area) f)) (tokens-of (was tape) (was area) (was line)) ⌝ }
 {
     let mut k = 0;
     while k < line.len() {
@@ -205,9 +201,8 @@ pub fn has_narrow<'a>(tape: &'a [u8], area: &'a [u8], line: &'a [u64], f: Fam) -
 
 fn writes_at<'a>(tape: &'a [u8], area: &'a [u8], line: &'a [u64], k: usize, f: Fam) -> bool
     requires { ⌜ Holds (now tape) (now area) (now line) × Known (now tape) (now area) f × (k < length (now line)) ⌝ }
-    ensures { λ r. ⌜ r ≡ (of-family (fam-text (now (tape .entry)) (now (area .entry)) f)
-        (token-of (now (tape .entry)) (now (area .entry)) (getD (now (line .entry)) k 0)) && is-written
-        (tokens-of (now (tape .entry)) (now (area .entry)) (now (line .entry))) k) ⌝ }
+    ensures { λ r. ⌜ r ≡ (of-family (fam-text (was tape) (was area) f) (token-of (was tape) (was area) (getD (was line) k 0)) &&
+        is-written (tokens-of (was tape) (was area) (was line)) k) ⌝ }
 {
     if !is_of(tape, area, line[k], f) {
         return false;
@@ -218,8 +213,7 @@ fn writes_at<'a>(tape: &'a [u8], area: &'a [u8], line: &'a [u64], k: usize, f: F
 // Whether a token of the family is the target of an assignment.
 pub fn writes<'a>(tape: &'a [u8], area: &'a [u8], line: &'a [u64], f: Fam) -> bool
     requires { ⌜ Holds (now tape) (now area) (now line) × Known (now tape) (now area) f ⌝ }
-    ensures { λ r. ⌜ r ≡ written-from (fam-text (now (tape .entry)) (now (area .entry)) f)
-        (tokens-of (now (tape .entry)) (now (area .entry)) (now (line .entry))) ⌝ }
+    ensures { λ r. ⌜ r ≡ written-from (fam-text (was tape) (was area) f) (tokens-of (was tape) (was area) (was line)) ⌝ }
 {
     let mut k = 0;
     while k < line.len() {

@@ -5,6 +5,7 @@ use crate::words;
 ghost use mathlib.Core.Path.{_≡_};
 ghost use Prim.Native.Nat.{_+_, _≤_, _<_};
 ghost use lib.ListN.{length, getD};
+ghost use Rattle.reference.specs.Contract.{was};
 ghost use Rattle.reference.specs.Lists.{position, is-some};
 ghost use Rattle.reference.specs.Text.{Text, bytes};
 ghost use Rattle.reference.specs.Shapes.{label-tokens, is-kw, kw-in, has-brace, braces-in, calls-here, call-in, begins-assignment};
@@ -14,7 +15,7 @@ ghost use Rattle.lines.specs.Words.{start-of, len-of, token-of, tokens-o
 ghost use Rattle.lines.specs.Shapes.{found, symbol-from, is-called, opened, expr-words, Opens, Expression, Sides, Assigns};
 
 // A place in a line or in a listing.
-pub enum Found {
+pub enum Position {
     At(usize),
     Nothing,
 }
@@ -22,7 +23,7 @@ pub enum Found {
 // Two tokens, a Symbol and `:`.
 pub fn is_label<'a>(tape: &'a [u8], area: &'a [u8], line: &'a [u64]) -> bool
     requires { ⌜ Holds (now tape) (now area) (now line) ⌝ }
-    ensures { λ r. ⌜ r ≡ label-tokens (tokens-of (now (tape .entry)) (now (area .entry)) (now (line .entry))) ⌝ }
+    ensures { λ r. ⌜ r ≡ label-tokens (tokens-of (was tape) (was area) (was line)) ⌝ }
 {
     if line.len() != 2 {
         return false;
@@ -37,7 +38,7 @@ pub fn is_label<'a>(tape: &'a [u8], area: &'a [u8], line: &'a [u64]) -> bool
 
 fn is_kw<'a>(tape: &'a [u8], area: &'a [u8], w: u64, kw: &'a [u8]) -> bool
     requires { ⌜ Points (now tape) (now area) w ⌝ }
-    ensures { λ r. ⌜ r ≡ is-kw (now (kw .entry)) (token-of (now (tape .entry)) (now (area .entry)) w) ⌝ }
+    ensures { λ r. ⌜ r ≡ is-kw (was kw) (token-of (was tape) (was area) w) ⌝ }
 {
     if words::kind(w) != words::KEYWORD {
         return false;
@@ -46,85 +47,84 @@ fn is_kw<'a>(tape: &'a [u8], area: &'a [u8], w: u64, kw: &'a [u8]) -> bool
 }
 
 // The place of the first Keyword with that text.
-fn kw_at<'a>(tape: &'a [u8], area: &'a [u8], line: &'a [u64], kw: &'a [u8]) -> Found
+fn kw_at<'a>(tape: &'a [u8], area: &'a [u8], line: &'a [u64], kw: &'a [u8]) -> Position
     requires { ⌜ Holds (now tape) (now area) (now line) ⌝ }
-    ensures { λ r. ⌜ found r
-        ≡ position (is-kw (now (kw .entry))) (tokens-of (now (tape .entry)) (now (area .entry)) (now (line .entry))) ⌝ }
+    ensures { λ r. ⌜ found r ≡ position (is-kw (was kw)) (tokens-of (was tape) (was area) (was line)) ⌝ }
 {
     let mut k = 0;
     while k < line.len() {
         if is_kw(tape, area, line[k], kw) {
-            return Found::At(k);
+            return Position::At(k);
         }
         k += 1;
     }
-    Found::Nothing
+    Position::Nothing
 }
 
 fn has_kw<'a>(tape: &'a [u8], area: &'a [u8], line: &'a [u64], kw: &'a [u8]) -> bool
     requires { ⌜ Holds (now tape) (now area) (now line) ⌝ }
-    ensures { λ r. ⌜ r ≡ kw-in (tokens-of (now (tape .entry)) (now (area .entry)) (now (line .entry))) (now (kw .entry)) ⌝ }
+    ensures { λ r. ⌜ r ≡ kw-in (tokens-of (was tape) (was area) (was line)) (was kw) ⌝ }
 {
     match kw_at(tape, area, line, kw) {
-        Found::At(_) => true,
-        Found::Nothing => false,
+        Position::At(_) => true,
+        Position::Nothing => false,
     }
 }
 
 pub fn has_do<'a>(tape: &'a [u8], area: &'a [u8], line: &'a [u64]) -> bool
     requires { ⌜ Holds (now tape) (now area) (now line) ⌝ }
-    ensures { λ r. ⌜ r ≡ kw-in (tokens-of (now (tape .entry)) (now (area .entry)) (now (line .entry))) (bytes "do") ⌝ }
+    ensures { λ r. ⌜ r ≡ kw-in (tokens-of (was tape) (was area) (was line)) (bytes "do") ⌝ }
 {
     has_kw(tape, area, line, b"do")
 }
 
 pub fn has_while<'a>(tape: &'a [u8], area: &'a [u8], line: &'a [u64]) -> bool
     requires { ⌜ Holds (now tape) (now area) (now line) ⌝ }
-    ensures { λ r. ⌜ r ≡ kw-in (tokens-of (now (tape .entry)) (now (area .entry)) (now (line .entry))) (bytes "while") ⌝ }
+    ensures { λ r. ⌜ r ≡ kw-in (tokens-of (was tape) (was area) (was line)) (bytes "while") ⌝ }
 {
     has_kw(tape, area, line, b"while")
 }
 
 pub fn has_goto<'a>(tape: &'a [u8], area: &'a [u8], line: &'a [u64]) -> bool
     requires { ⌜ Holds (now tape) (now area) (now line) ⌝ }
-    ensures { λ r. ⌜ r ≡ kw-in (tokens-of (now (tape .entry)) (now (area .entry)) (now (line .entry))) (bytes "goto") ⌝ }
+    ensures { λ r. ⌜ r ≡ kw-in (tokens-of (was tape) (was area) (was line)) (bytes "goto") ⌝ }
 {
     has_kw(tape, area, line, b"goto")
 }
 
 pub fn has_return<'a>(tape: &'a [u8], area: &'a [u8], line: &'a [u64]) -> bool
     requires { ⌜ Holds (now tape) (now area) (now line) ⌝ }
-    ensures { λ r. ⌜ r ≡ kw-in (tokens-of (now (tape .entry)) (now (area .entry)) (now (line .entry))) (bytes "return") ⌝ }
+    ensures { λ r. ⌜ r ≡ kw-in (tokens-of (was tape) (was area) (was line)) (bytes "return") ⌝ }
 {
     has_kw(tape, area, line, b"return")
 }
 
-pub fn goto_at<'a>(tape: &'a [u8], area: &'a [u8], line: &'a [u64]) -> Found
+pub fn goto_at<'a>(tape: &'a [u8], area: &'a [u8], line: &'a [u64]) -> Position
     requires { ⌜ Holds (now tape) (now area) (now line) ⌝ }
-    ensures { λ r. ⌜ found r ≡ position (is-kw (bytes "goto")) (tokens-of (now (tape .entry)) (now (area .entry)) (now (line .entry))) ⌝ }
+    ensures { λ r. ⌜ found r ≡ position (is-kw (bytes "goto")) (tokens-of (was tape) (was area) (was line)) ⌝ }
 {
     kw_at(tape, area, line, b"goto")
 }
 
 // The place of the first Symbol from `from` on, whatever the texts are.
-pub fn symbol_from(line: &[u64], from: usize) -> Found
-    ensures { λ r. ⌜ ((tape area : Text) → found r ≡ symbol-from (tokens-of tape area (now (line .entry))) from) ⌝ }
+pub fn symbol_from(line: &[u64], from: usize) -> Position
+    ensures { λ r. ⌜ ((tape area : Text) → found r ≡ symbol-from (tokens-of tape area (was line)) from) ⌝ }
 {
     let mut k = from;
     while k < line.len() {
         if words::kind(line[k]) == words::SYMBOL {
-            return Found::At(k);
+            return Position::At(k);
         }
         k += 1;
     }
-    Found::Nothing
+    Position::Nothing
 }
 
 // ---- braces and calls
 
 pub fn has_brace<'a>(tape: &'a [u8], area: &'a [u8], w: u64) -> bool
     requires { ⌜ Points (now tape) (now area) w ⌝ }
-    ensures { λ r. ⌜ r ≡ has-brace (token-of (now (tape .entry)) (now (area .entry)) w) ⌝ }
+    ensures { λ r. ⌜ r ≡ has-brace (token-of (was tape) (was area) w) ⌝ }
 {
     if words::kind(w) != words::PUNCT {
         return false;
@@ -134,7 +134,7 @@ pub fn has_brace<'a>(tape: &'a [u8], area: &'a [u8], w: u64) -> bool
 
 pub fn opens_or_closes<'a>(tape: &'a [u8], area: &'a [u8], line: &'a [u64]) -> bool
     requires { ⌜ Holds (now tape) (now area) (now line) ⌝ }
-    ensures { λ r. ⌜ r ≡ braces-in (tokens-of (now (tape .entry)) (now (area .entry)) (now (line .entry))) ⌝ }
+    ensures { λ r. ⌜ r ≡ braces-in (tokens-of (was tape) (was area) (was line)) ⌝ }
 {
     let mut k = 0;
     while k < line.len() {
@@ -149,8 +149,7 @@ pub fn opens_or_closes<'a>(tape: &'a [u8], area: &'a [u8], line: &'a [u64]) -> b
 // Whether a token is a Symbol with a bracket after it.
 fn is_called<'a>(tape: &'a [u8], area: &'a [u8], w: u64, next: u64) -> bool
     requires { ⌜ Points (now tape) (now area) next ⌝ }
-    ensures { λ r. ⌜ r ≡ is-called (token-of (now (tape .entry)) (now (area .entry)) w)
-        (token-of (now (tape .entry)) (now (area .entry)) next) ⌝ }
+    ensures { λ r. ⌜ r ≡ is-called (token-of (was tape) (was area) w) (token-of (was tape) (was area) next) ⌝ }
 {
     if words::kind(w) != words::SYMBOL {
         return false;
@@ -164,11 +163,7 @@ fn is_called<'a>(tape: &'a [u8], area: &'a [u8], w: u64, next: u64) -> bool
 // Whether a token, with the one after it, is a call mark.
 fn is_call_mark<'a>(tape: &'a [u8], area: &'a [u8], w: u64, next: u64) -> bool
     requires { ⌜ Points (now tape) (now area) w × Points (now tape) (now area) next ⌝ }
-    ensures { λ r. ⌜ r ≡ calls-here (
-      token-of (now (tape .entry)) (now (area .entry)) w,
-      token-of (now (tape .entry)) (now (area .entry))
-          next,
-    ) ⌝ }
+    ensures { λ r. ⌜ r ≡ calls-here (token-of (was tape) (was area) w, token-of (was tape) (was area) next) ⌝ }
 {
     if is_called(tape, area, w, next) {
         return true;
@@ -180,27 +175,27 @@ fn is_call_mark<'a>(tape: &'a [u8], area: &'a [u8], w: u64, next: u64) -> bool
 }
 
 // The place of the first call mark.
-pub fn call_at<'a>(tape: &'a [u8], area: &'a [u8], line: &'a [u64]) -> Found
+pub fn call_at<'a>(tape: &'a [u8], area: &'a [u8], line: &'a [u64]) -> Position
     requires { ⌜ Holds (now tape) (now area) (now line) ⌝ }
-    ensures { λ r. ⌜ found r ≡ call-in (tokens-of (now (tape .entry)) (now (area .entry)) (now (line .entry))) ⌝ }
+    ensures { λ r. ⌜ found r ≡ call-in (tokens-of (was tape) (was area) (was line)) ⌝ }
 {
     let mut k = 0;
     while k + 1 < line.len() {
         if is_call_mark(tape, area, line[k], line[k + 1]) {
-            return Found::At(k);
+            return Position::At(k);
         }
         k += 1;
     }
-    Found::Nothing
+    Position::Nothing
 }
 
 pub fn has_call<'a>(tape: &'a [u8], area: &'a [u8], line: &'a [u64]) -> bool
     requires { ⌜ Holds (now tape) (now area) (now line) ⌝ }
-    ensures { λ r. ⌜ r ≡ is-some (call-in (tokens-of (now (tape .entry)) (now (area .entry)) (now (line .entry)))) ⌝ }
+    ensures { λ r. ⌜ r ≡ is-some (call-in (tokens-of (was tape) (was area) (was line))) ⌝ }
 {
     match call_at(tape, area, line) {
-        Found::At(_) => true,
-        Found::Nothing => false,
+        Position::At(_) => true,
+        Position::Nothing => false,
     }
 }
 
@@ -224,7 +219,7 @@ pub enum Assigned {
 fn right_word(line: &[u64], at: usize) -> u64
     requires { ⌜ (at < length (now line)) × (3 ≤ len-of (getD (now line) 1 0))
         × (start-of (getD (now line) 1 0) + len-of (getD (now line) 1 0) < 65536) ⌝ }
-    ensures { λ r. ⌜ r ≡ getD (opened (now (line .entry))) at 0 ⌝ }
+    ensures { λ r. ⌜ r ≡ getD (opened (was line)) at 0 ⌝ }
 {
     let w = line[at];
     if at == 1 {
@@ -236,7 +231,7 @@ fn right_word(line: &[u64], at: usize) -> u64
 // Token k of the right side x of a line.
 pub fn expr_word(line: &[u64], x: Expr, k: usize) -> u64
     requires { ⌜ Expression (now line) x × (k < x .count) ⌝ }
-    ensures { λ r. ⌜ r ≡ getD (expr-words (now (line .entry)) x) k 0 ⌝ }
+    ensures { λ r. ⌜ r ≡ getD (expr-words (was line) x) k 0 ⌝ }
 {
     let w = right_word(line, x.first + k);
     if x.cut {
@@ -250,8 +245,7 @@ pub fn expr_word(line: &[u64], x: Expr, k: usize) -> u64
 // Whether two tokens are a Register and a Punct that begins with ` = `.
 fn begins_assignment<'a>(tape: &'a [u8], area: &'a [u8], lhs: u64, eq: u64) -> bool
     requires { ⌜ Points (now tape) (now area) eq ⌝ }
-    ensures { λ r. ⌜ r ≡ begins-assignment (token-of (now (tape .entry)) (now (area .entry)) lhs)
-        (token-of (now (tape .entry)) (now (area .entry)) eq) ⌝ }
+    ensures { λ r. ⌜ r ≡ begins-assignment (token-of (was tape) (was area) lhs) (token-of (was tape) (was area) eq) ⌝ }
 {
     if words::kind(lhs) != words::REGISTER {
         return false;
@@ -265,7 +259,7 @@ fn begins_assignment<'a>(tape: &'a [u8], area: &'a [u8], lhs: u64, eq: u64) -> b
 // The right side of a line whose second token begins with ` = `, from the token at `first` on.
 fn right_side<'a>(tape: &'a [u8], area: &'a [u8], line: &'a [u64], first: usize) -> Assigned
     requires { ⌜ Opens (now tape) (now area) (now line) × (1 ≤ first) × (first ≤ 2) ⌝ }
-    ensures { λ r. ⌜ Sides (now (tape .entry)) (now (area .entry)) (now (line .entry)) first r ⌝ }
+    ensures { λ r. ⌜ Sides (was tape) (was area) (was line) first r ⌝ }
 {
     let n = line.len();
     if n <= first {
@@ -295,7 +289,7 @@ fn right_side<'a>(tape: &'a [u8], area: &'a [u8], line: &'a [u64], first: usize)
 // `reg = expr;`: its right side; token 0 is the register. Another assignment is none.
 pub fn assignment<'a>(tape: &'a [u8], area: &'a [u8], line: &'a [u64]) -> Assigned
     requires { ⌜ Holds (now tape) (now area) (now line) ⌝ }
-    ensures { λ r. ⌜ Assigns (now (tape .entry)) (now (area .entry)) (now (line .entry)) r ⌝ }
+    ensures { λ r. ⌜ Assigns (was tape) (was area) (was line) r ⌝ }
 {
     if line.len() < 2 {
         return Assigned::Nothing;
@@ -313,7 +307,7 @@ pub fn assignment<'a>(tape: &'a [u8], area: &'a [u8], line: &'a [u64]) -> Assign
 // Whether the right side x of a line is a Number alone, whatever the texts are.
 pub fn is_lone_number(line: &[u64], x: Expr) -> bool
     requires { ⌜ Expression (now line) x ⌝ }
-    ensures { λ r. ⌜ ((tape area : Text) → r ≡ lone-number (tokens-of tape area (expr-words (now (line .entry)) x))) ⌝ }
+    ensures { λ r. ⌜ ((tape area : Text) → r ≡ lone-number (tokens-of tape area (expr-words (was line) x))) ⌝ }
 {
     if x.count != 1 {
         return false;
@@ -326,7 +320,7 @@ pub fn is_lone_number(line: &[u64], x: Expr) -> bool
 // Whether the token at `pos` is the target of an assignment (`x = ..`, `x += ..`, `x++`).
 pub fn is_written<'a>(tape: &'a [u8], area: &'a [u8], line: &'a [u64], pos: usize) -> bool
     requires { ⌜ Holds (now tape) (now area) (now line) × (pos < length (now line)) ⌝ }
-    ensures { λ r. ⌜ r ≡ is-written (tokens-of (now (tape .entry)) (now (area .entry)) (now (line .entry))) pos ⌝ }
+    ensures { λ r. ⌜ r ≡ is-written (tokens-of (was tape) (was area) (was line)) pos ⌝ }
 {
     let at = pos + 1;
     if line.len() <= at {
@@ -346,7 +340,7 @@ pub fn is_written<'a>(tape: &'a [u8], area: &'a [u8], line: &'a [u64], pos: usiz
 // Whether a token is a Punct with a space at an edge, and no comma between its edge spaces.
 fn is_operator<'a>(tape: &'a [u8], area: &'a [u8], w: u64) -> bool
     requires { ⌜ Points (now tape) (now area) w ⌝ }
-    ensures { λ r. ⌜ r ≡ is-operator (token-of (now (tape .entry)) (now (area .entry)) w) ⌝ }
+    ensures { λ r. ⌜ r ≡ is-operator (token-of (was tape) (was area) w) ⌝ }
 {
     if words::kind(w) != words::PUNCT {
         return false;
@@ -362,7 +356,7 @@ fn is_operator<'a>(tape: &'a [u8], area: &'a [u8], w: u64) -> bool
 // Whether the right side x of a line has an operator among its tokens, of which there are several.
 pub fn is_operator_expr<'a>(tape: &'a [u8], area: &'a [u8], line: &'a [u64], x: Expr) -> bool
     requires { ⌜ Holds (now tape) (now area) (now line) × Expression (now line) x ⌝ }
-    ensures { λ r. ⌜ r ≡ is-operator-expr (tokens-of (now (tape .entry)) (now (area .entry)) (expr-words (now (line .entry)) x)) ⌝ }
+    ensures { λ r. ⌜ r ≡ is-operator-expr (tokens-of (was tape) (was area) (expr-words (was line) x)) ⌝ }
 {
     let n = x.count;
     if n <= 1 {

@@ -1,17 +1,18 @@
 // Token words and line words: a token and a line, each in one number, read by / and %.
 //
-// A token word: kind in 3 bits, place in 1 bit, start in 16 bits, length in 16 bits, and above them
+// A token word: kind in 3 bits, buffer in 1 bit, start in 16 bits, length in 16 bits, and above them
 // the code of its text, or 0 (codes.rt). Its text is `len` bytes from `start` on, in the tape or,
 // once rewritten, in the area.
 // A line word: first token in 16 bits, count in 11 bits, indent in 6 bits, whether it has an
 // address in 1 bit, and its origin, the number of the input line that it was, in 8 bits; above them
-// its marks (crate linemarks).
+// its facts (crate linefacts).
 ghost use mathlib.Core.Path.{_≡_};
 ghost use Prim.Native.Nat.{_+_, _≤_, _<_};
 ghost use lib.ListN.{length};
-ghost use Rattle.lines.specs.Words.{kind-of, place-of, start-of, len-of, code-of, word, with-code, without-first, first-bytes};
+ghost use Rattle.reference.specs.Contract.{was};
+ghost use Rattle.lines.specs.Words.{kind-of, buffer-of, start-of, len-of, code-of, word, with-code, without-first, first-bytes};
 ghost use Rattle.lines.specs.Words.{without-last, text-of, Points};
-ghost use Rattle.lines.specs.Lines.{first-of, count-of, indent-of, addressed-of, origin-of, marks-of, with-marks, line-word};
+ghost use Rattle.lines.specs.Lines.{first-of, count-of, indent-of, addressed-of, origin-of, facts-of, with-facts, line-word};
 ghost use Rattle.lines.specs.Lines.{with-part, part-of};
 
 // The kinds that the cleaner asks about. (Address is 5 and Prefix is 7.)
@@ -27,16 +28,16 @@ pub const SYMBOL: u64 = 4;
 
 pub const PUNCT: u64 = 6;
 
-// The places of a text.
+// The buffers that hold a text.
 pub const IN_TAPE: u64 = 0;
 
 pub const IN_AREA: u64 = 1;
 
-pub fn token_word(kind: u64, place: u64, start: usize, len: usize) -> u64
-    requires { ⌜ (kind < 8) × (place < 2) × (start < 65536) × (len < 65536) ⌝ }
-    ensures { λ r. ⌜ r ≡ word kind place start len ⌝ }
+pub fn token_word(kind: u64, buffer: u64, start: usize, len: usize) -> u64
+    requires { ⌜ (kind < 8) × (buffer < 2) × (start < 65536) × (len < 65536) ⌝ }
+    ensures { λ r. ⌜ r ≡ word kind buffer start len ⌝ }
 {
-    kind + place * 8 + (start as u64) * 16 + (len as u64) * 1048576
+    kind + buffer * 8 + (start as u64) * 16 + (len as u64) * 1048576
 }
 
 pub fn kind(w: u64) -> u64
@@ -45,8 +46,8 @@ pub fn kind(w: u64) -> u64
     w % 8
 }
 
-pub fn place(w: u64) -> u64
-    ensures { λ r. ⌜ r ≡ place-of w ⌝ }
+pub fn buffer(w: u64) -> u64
+    ensures { λ r. ⌜ r ≡ buffer-of w ⌝ }
 {
     w / 8 % 2
 }
@@ -83,7 +84,7 @@ pub fn without_first(w: u64, n: usize) -> u64
     requires { ⌜ (n ≤ len-of w) × (start-of w + len-of w < 65536) ⌝ }
     ensures { λ r. ⌜ r ≡ without-first w n ⌝ }
 {
-    token_word(kind(w), place(w), start(w) + n, len(w) - n)
+    token_word(kind(w), buffer(w), start(w) + n, len(w) - n)
 }
 
 // The token of the first n bytes of its text.
@@ -91,7 +92,7 @@ pub fn first_bytes(w: u64, n: usize) -> u64
     requires { ⌜ n ≤ len-of w ⌝ }
     ensures { λ r. ⌜ r ≡ first-bytes w n ⌝ }
 {
-    token_word(kind(w), place(w), start(w), n)
+    token_word(kind(w), buffer(w), start(w), n)
 }
 
 // The token without the last byte of its text.
@@ -105,11 +106,11 @@ pub fn without_last(w: u64) -> u64
 // The text of a token: a part of the tape, or of the area once it was rewritten.
 pub fn text<'a>(tape: &'a [u8], area: &'a [u8], w: u64) -> &'a [u8]
     requires { ⌜ Points (now tape) (now area) w ⌝ }
-    ensures { λ r. ⌜ now r ≡ text-of (now (tape .entry)) (now (area .entry)) w ⌝ }
+    ensures { λ r. ⌜ now r ≡ text-of (was tape) (was area) w ⌝ }
 {
     let from = start(w);
     let to = from + len(w);
-    if place(w) == IN_TAPE {
+    if buffer(w) == IN_TAPE {
         return &tape[from..to];
     }
     &area[from..to]
@@ -157,21 +158,21 @@ pub fn origin(l: u64) -> usize
     (l / 17179869184 % 256) as usize
 }
 
-pub fn marks(l: u64) -> u64
-    ensures { λ r. ⌜ r ≡ marks-of l ⌝ }
+pub fn facts(l: u64) -> u64
+    ensures { λ r. ⌜ r ≡ facts-of l ⌝ }
 {
     l / 4398046511104
 }
 
-// The line with the marks m.
-pub fn with_marks(l: u64, m: u64) -> u64
+// The line with the facts m.
+pub fn with_facts(l: u64, m: u64) -> u64
     requires { ⌜ m < 4194304 ⌝ }
-    ensures { λ r. ⌜ r ≡ with-marks l m ⌝ }
+    ensures { λ r. ⌜ r ≡ with-facts l m ⌝ }
 {
     l % 4398046511104 + m * 4398046511104
 }
 
-// The line with its tokens elsewhere, or with others, and no marks.
+// The line with its tokens elsewhere, or with others, and no facts.
 pub fn with_tokens(l: u64, first: usize, count: usize) -> u64
     requires { ⌜ (first < 65536) × (count < 2048) ⌝ }
     ensures { λ r. ⌜ r ≡ with-part l first count ⌝ }
@@ -182,7 +183,7 @@ pub fn with_tokens(l: u64, first: usize, count: usize) -> u64
 // The tokens of a line.
 pub fn line_of(tokens: &[u64], l: u64) -> &[u64]
     requires { ⌜ first-of l + count-of l ≤ length (now tokens) ⌝ }
-    ensures { λ r. ⌜ now r ≡ part-of (now (tokens .entry)) l ⌝ }
+    ensures { λ r. ⌜ now r ≡ part-of (was tokens) l ⌝ }
 {
     let from = first(l);
     let to = from + count(l);

@@ -12,7 +12,7 @@ use Rattle.arguments.specs.Words.{onto}
 use Rattle.arguments.specs.Values.{digit, digits-from, number-in}
 use Rattle.listing_text.specs.Forms.{line-end, hexadecimal, enough, short-hex, blanks, exact-address, exact-command, own-span, span-text, read-address, read-command-text}
 use Rattle.listing_text.specs.Showing.{begun, shown-at, shown-from, shown}
-use Rattle.listing_text.specs.Exact.{ended, apart, address-in, indent-in, line-command, span-command, token-command, field-command, then-read, fields-read, line-read, then-lines, lines-read, tape-of}
+use Rattle.listing_text.specs.Exact.{ended, apart, address-in, indent-in, line-command, then-read, fields-read, line-read, then-lines, lines-read, tape-of}
 
 -- 401000, an indent, marks from 400ff0; then a label without an address
 abbrev pub sample : List ℕ

@@ -11,6 +11,7 @@ ghost use mathlib.Core.List.{[]};
 ghost use mathlib.Core.Option.{none, some};
 ghost use Prim.Native.Nat.{_+_};
 ghost use lib.Dec.{eqb};
+ghost use Rattle.reference.specs.Contract.{was};
 ghost use Rattle.reference.specs.Control.{let-some_else_then_};
 ghost use Rattle.reference.specs.Lists.{position};
 ghost use Rattle.reference.specs.Tape.{write-command, new-line, marked};
@@ -44,7 +45,7 @@ pub struct Laid {
 // ---- the first two fields
 
 fn address_of(field: &[u8]) -> Address
-    ensures { λ r. ⌜ addressed r ≡ address-in (now (field .entry)) ⌝ }
+    ensures { λ r. ⌜ addressed r ≡ address-in (was field) ⌝ }
 {
     if same(field, b"-") {
         return Address::Missing;
@@ -67,7 +68,7 @@ fn line_with(address: Address, indent: u8) -> Parsed
 }
 
 fn line_of(a: &[u8], i: &[u8]) -> Parsed
-    ensures { λ r. ⌜ read-in [] r ≡ read-of (line-command (now (a .entry)) (now (i .entry))) ⌝ }
+    ensures { λ r. ⌜ read-in [] r ≡ read-of (line-command (was a) (was i)) ⌝ }
 {
     let address = address_of(a);
     match number_in(i, 10) {
@@ -85,7 +86,7 @@ fn line_of(a: &[u8], i: &[u8]) -> Parsed
 
 // Marks: LOWEST..HIGHEST, 16 digits each.
 fn span_of(span: &[u8]) -> Parsed
-    ensures { λ r. ⌜ read-in [] r ≡ read-of (span-command (now (span .entry))) ⌝ }
+    ensures { λ r. ⌜ read-in [] r ≡ read-of (span-command (was span)) ⌝ }
 {
     if span.len() != 34 {
         return Parsed::Wrong;
@@ -120,7 +121,7 @@ fn tag_of(letter: u8) -> u8
 }
 
 fn token_of(letter: u8, text: &[u8]) -> Parsed
-    ensures { λ r. ⌜ read-in (now (text .entry)) r ≡ read-of (token-command letter (now (text .entry))) ⌝ }
+    ensures { λ r. ⌜ read-in (was text) r ≡ read-of (token-command letter (was text)) ⌝ }
 {
     let tag = tag_of(letter);
     if tag == 0 {
@@ -150,7 +151,7 @@ fn is_right(q: Parsed) -> bool
 }
 
 fn put_line(address: u64, indent: u8, out: &mut [u8], p: Place) -> Place
-    ensures { λ r. ⌜ Puts (now (out .entry)) p (write-command (new-line (some address) indent)) (now (out .exit)) r ⌝ }
+    ensures { λ r. ⌜ Puts (was out) p (write-command (new-line (some address) indent)) (now (out .exit)) r ⌝ }
 {
     let a = put_byte(1, out, p);
     let b = put_le(address, 8, out, a);
@@ -158,14 +159,14 @@ fn put_line(address: u64, indent: u8, out: &mut [u8], p: Place) -> Place
 }
 
 fn put_plain(indent: u8, out: &mut [u8], p: Place) -> Place
-    ensures { λ r. ⌜ Puts (now (out .entry)) p (write-command (new-line none indent)) (now (out .exit)) r ⌝ }
+    ensures { λ r. ⌜ Puts (was out) p (write-command (new-line none indent)) (now (out .exit)) r ⌝ }
 {
     let a = put_byte(2, out, p);
     put_byte(indent, out, a)
 }
 
 fn put_span(low: u64, high: u64, out: &mut [u8], p: Place) -> Place
-    ensures { λ r. ⌜ Puts (now (out .entry)) p (write-command (marked (record { lowest = low; highest = high }))) (now (out .exit)) r ⌝ }
+    ensures { λ r. ⌜ Puts (was out) p (write-command (marked (record { lowest = low; highest = high }))) (now (out .exit)) r ⌝ }
 {
     let a = put_byte(3, out, p);
     let b = put_le(low, 8, out, a);
@@ -173,7 +174,7 @@ fn put_span(low: u64, high: u64, out: &mut [u8], p: Place) -> Place
 }
 
 fn put_token(tag: u8, text: &[u8], out: &mut [u8], p: Place) -> Place
-    ensures { λ r. ⌜ Puts (now (out .entry)) p (bytes-in (now (text .entry)) (Parsed.Token tag)) (now (out .exit)) r ⌝ }
+    ensures { λ r. ⌜ Puts (was out) p (bytes-in (was text) (Parsed.Token tag)) (now (out .exit)) r ⌝ }
 {
     let a = put_byte(tag, out, p);
     let b = put_le(text.len() as u64, 2, out, a);
@@ -182,7 +183,7 @@ fn put_token(tag: u8, text: &[u8], out: &mut [u8], p: Place) -> Place
 
 // Puts the bytes of what a field says; `text` is a token's.
 fn put_bytes(q: Parsed, text: &[u8], out: &mut [u8], p: Place) -> Place
-    ensures { λ r. ⌜ Puts (now (out .entry)) p (bytes-in (now (text .entry)) q) (now (out .exit)) r ⌝ }
+    ensures { λ r. ⌜ Puts (was out) p (bytes-in (was text) q) (now (out .exit)) r ⌝ }
 {
     match q {
         Parsed::Addressed { address, indent } => put_line(address, indent, out, p),
@@ -194,7 +195,7 @@ fn put_bytes(q: Parsed, text: &[u8], out: &mut [u8], p: Place) -> Place
 }
 
 fn put_parsed(q: Parsed, text: &[u8], out: &mut [u8], p: Place) -> Laid
-    ensures { λ r. ⌜ PutsRead (now (out .entry)) p (read-in (now (text .entry)) q) (now (out .exit)) r ⌝ }
+    ensures { λ r. ⌜ PutsRead (was out) p (read-in (was text) q) (now (out .exit)) r ⌝ }
 {
     let right = is_right(q);
     let place = put_bytes(q, text, out, p);
@@ -205,14 +206,14 @@ fn put_parsed(q: Parsed, text: &[u8], out: &mut [u8], p: Place) -> Laid
 
 // Puts the command of a line's first two fields.
 pub fn put_head(a: &[u8], i: &[u8], out: &mut [u8], p: Place) -> Laid
-    ensures { λ r. ⌜ PutsRead (now (out .entry)) p (read-of (line-command (now (a .entry)) (now (i .entry)))) (now (out .exit)) r ⌝ }
+    ensures { λ r. ⌜ PutsRead (was out) p (read-of (line-command (was a) (was i))) (now (out .exit)) r ⌝ }
 {
     put_parsed(line_of(a, i), b"", out, p)
 }
 
 // Puts the command of a further field.
 pub fn put_field(field: &[u8], out: &mut [u8], p: Place) -> Laid
-    ensures { λ r. ⌜ PutsRead (now (out .entry)) p (read-of (field-command (now (field .entry)))) (now (out .exit)) r ⌝ }
+    ensures { λ r. ⌜ PutsRead (was out) p (read-of (field-command (was field))) (now (out .exit)) r ⌝ }
 {
     if field.len() < 2 {
         return Laid {

@@ -9,6 +9,7 @@ ghost use mathlib.Core.List.{_∷_, [], _++_};
 ghost use mathlib.Core.Option.{none, some};
 ghost use lib.Dec.{eqb};
 ghost use lib.ListN.{getD};
+ghost use Rattle.reference.specs.Contract.{was};
 ghost use Rattle.reference.specs.Control.{_&&_};
 ghost use Rattle.printing.specs.Decimals.{decimal};
 ghost use Rattle.tape.specs.Commands.{command-in};
@@ -20,7 +21,7 @@ ghost use Rattle.listing_text.specs.Forms.{span-in, marks-at, read-comma
 
 // Puts 16 hexadecimal digits.
 fn put_hex(n: u64, out: &mut [u8], p: Place) -> Place
-    ensures { λ r. ⌜ Puts (now (out .entry)) p (hexadecimal 16 n) (now (out .exit)) r ⌝ }
+    ensures { λ r. ⌜ Puts (was out) p (hexadecimal 16 n) (now (out .exit)) r ⌝ }
 {
     let mut digits = [0u8; 16];
     let k = io::hex(n, 16, &mut digits);
@@ -29,7 +30,7 @@ fn put_hex(n: u64, out: &mut [u8], p: Place) -> Place
 
 // Puts eight hexadecimal digits, or as many more as it takes.
 fn put_short_hex(n: u64, out: &mut [u8], p: Place) -> Place
-    ensures { λ r. ⌜ Puts (now (out .entry)) p (short-hex n) (now (out .exit)) r ⌝ }
+    ensures { λ r. ⌜ Puts (was out) p (short-hex n) (now (out .exit)) r ⌝ }
 {
     let mut digits = [0u8; 16];
     let k = io::hex(n, 8, &mut digits);
@@ -37,7 +38,7 @@ fn put_short_hex(n: u64, out: &mut [u8], p: Place) -> Place
 }
 
 fn put_decimal(n: u64, out: &mut [u8], p: Place) -> Place
-    ensures { λ r. ⌜ Puts (now (out .entry)) p (decimal n) (now (out .exit)) r ⌝ }
+    ensures { λ r. ⌜ Puts (was out) p (decimal n) (now (out .exit)) r ⌝ }
 {
     let mut digits = [0u8; 20];
     let k = io::decimal(n, &mut digits);
@@ -46,7 +47,7 @@ fn put_decimal(n: u64, out: &mut [u8], p: Place) -> Place
 
 // Ends the line before, if there is one.
 pub fn put_line_end(at: usize, out: &mut [u8], p: Place) -> Place
-    ensures { λ r. ⌜ Puts (now (out .entry)) p (line-end at) (now (out .exit)) r ⌝ }
+    ensures { λ r. ⌜ Puts (was out) p (line-end at) (now (out .exit)) r ⌝ }
 {
     if at == 0 {
         return p;
@@ -56,7 +57,7 @@ pub fn put_line_end(at: usize, out: &mut [u8], p: Place) -> Place
 
 // Puts two blanks for each indent.
 fn put_blanks(indent: u64, out: &mut [u8], p: Place) -> Place
-    ensures { λ r. ⌜ Puts (now (out .entry)) p (blanks indent) (now (out .exit)) r ⌝ }
+    ensures { λ r. ⌜ Puts (was out) p (blanks indent) (now (out .exit)) r ⌝ }
 {
     let mut q = p;
     let mut left = indent;
@@ -88,7 +89,7 @@ fn letter_of(kind: u64) -> u8
 
 // Puts a tab, the letter of a kind, a colon and a text.
 fn put_token(kind: u64, text: &[u8], out: &mut [u8], p: Place) -> Place
-    ensures { λ r. ⌜ Puts (now (out .entry)) p ((9 ∷ getD letters kind 0 ∷ 58 ∷ []) ++ now (text .entry)) (now (out .exit)) r ⌝ }
+    ensures { λ r. ⌜ Puts (was out) p ((9 ∷ getD letters kind 0 ∷ 58 ∷ []) ++ was text) (now (out .exit)) r ⌝ }
 {
     let front = [b'\t', letter_of(kind), b':'];
     let a = put(&front, out, p);
@@ -97,7 +98,7 @@ fn put_token(kind: u64, text: &[u8], out: &mut [u8], p: Place) -> Place
 
 // Puts a tab, and marks.
 fn put_marks(low: u64, high: u64, out: &mut [u8], p: Place) -> Place
-    ensures { λ r. ⌜ Puts (now (out .entry)) p
+    ensures { λ r. ⌜ Puts (was out) p
         ((9 ∷ 109 ∷ 58 ∷ []) ++ hexadecimal 16 low ++ (46 ∷ 46 ∷ []) ++ hexadecimal 16 high) (now (out .exit)) r ⌝ }
 {
     let a = put(b"\tm:", out, p);
@@ -108,7 +109,7 @@ fn put_marks(low: u64, high: u64, out: &mut [u8], p: Place) -> Place
 
 // Puts a tab and an indent.
 fn put_indent(indent: u64, out: &mut [u8], p: Place) -> Place
-    ensures { λ r. ⌜ Puts (now (out .entry)) p ((9 ∷ []) ++ decimal indent) (now (out .exit)) r ⌝ }
+    ensures { λ r. ⌜ Puts (was out) p ((9 ∷ []) ++ decimal indent) (now (out .exit)) r ⌝ }
 {
     let a = put(b"\t", out, p);
     put_decimal(indent, out, a)
@@ -124,7 +125,7 @@ fn put_exact(
     p: Place,
 ) -> Place
     requires { ⌜ TokenEnds (now tape) at next command ⌝ }
-    ensures { λ r. ⌜ Puts (now (out .entry)) p (exact-command at (command-in (now (tape .entry)) at command)) (now (out .exit)) r ⌝ }
+    ensures { λ r. ⌜ Puts (was out) p (exact-command at (command-in (was tape) at command)) (now (out .exit)) r ⌝ }
 {
     match command {
         Command::Addressed { address, indent } => {
@@ -160,7 +161,7 @@ fn is_span(lowest: u64, highest: u64, low: u64, high: u64) -> bool
 
 // Puts marks, unless they are from `low` to `high`.
 fn put_span(lowest: u64, highest: u64, low: u64, high: u64, out: &mut [u8], p: Place) -> Place
-    ensures { λ r. ⌜ Puts (now (out .entry)) p
+    ensures { λ r. ⌜ Puts (was out) p
         (span-text (record { lowest = low; highest = high }) (some (record { lowest = lowest; highest = highest })))
         (now (out .exit)) r ⌝ }
 {
@@ -175,7 +176,7 @@ fn put_span(lowest: u64, highest: u64, low: u64, high: u64, out: &mut [u8], p: P
 
 // The same of a command's marks, if it is marks.
 fn put_span_of(command: Command, low: u64, high: u64, out: &mut [u8], p: Place) -> Place
-    ensures { λ r. ⌜ Puts (now (out .entry)) p
+    ensures { λ r. ⌜ Puts (was out) p
         (span-text (record { lowest = low; highest = high }) (span-in (command-in [] 0 command))) (now (out .exit)) r ⌝ }
 {
     match command {
@@ -195,8 +196,8 @@ fn put_span_of(command: Command, low: u64, high: u64, out: &mut [u8], p: Place) 
 
 // The same of the marks that stand at an offset, if any.
 fn put_marks_at(tape: &[u8], at: usize, low: u64, high: u64, out: &mut [u8], p: Place) -> Place
-    ensures { λ r. ⌜ Puts (now (out .entry)) p
-        (span-text (record { lowest = low; highest = high }) (marks-at (now (tape .entry)) at)) (now (out .exit)) r ⌝ }
+    ensures { λ r. ⌜ Puts (was out) p
+        (span-text (record { lowest = low; highest = high }) (marks-at (was tape) at)) (now (out .exit)) r ⌝ }
 {
     match command_from(tape, at) {
         Found::Whole(command) => put_span_of(command, low, high, out, p),
@@ -215,8 +216,8 @@ fn put_addressed(
     out: &mut [u8],
     p: Place,
 ) -> Place
-    ensures { λ r. ⌜ Puts (now (out .entry)) p
-        (line-end at ++ span-text (own-span (some address)) (marks-at (now (tape .entry)) next)
+    ensures { λ r. ⌜ Puts (was out) p
+        (line-end at ++ span-text (own-span (some address)) (marks-at (was tape) next)
         ++ (short-hex address ++ (32 ∷ 32 ∷ [])) ++ blanks indent) (now (out .exit)) r ⌝ }
 {
     let a = put_line_end(at, out, p);
@@ -227,8 +228,8 @@ fn put_addressed(
 }
 
 fn put_plain(tape: &[u8], at: usize, next: usize, indent: u64, out: &mut [u8], p: Place) -> Place
-    ensures { λ r. ⌜ Puts (now (out .entry)) p
-        (line-end at ++ span-text (own-span none) (marks-at (now (tape .entry)) next)
+    ensures { λ r. ⌜ Puts (was out) p
+        (line-end at ++ span-text (own-span none) (marks-at (was tape) next)
         ++ (32 ∷ 32 ∷ 32 ∷ 32 ∷ 32 ∷ 32 ∷ 32 ∷ 32 ∷ 32 ∷ 32 ∷ []) ++ blanks indent) (now (out .exit)) r ⌝ }
 {
     let a = put_line_end(at, out, p);
@@ -247,8 +248,8 @@ fn put_readable(
     p: Place,
 ) -> Place
     requires { ⌜ TokenEnds (now tape) at next command ⌝ }
-    ensures { λ r. ⌜ Puts (now (out .entry)) p
-        (read-command-text at (marks-at (now (tape .entry)) next) (command-in (now (tape .entry)) at command)) (now (out .exit)) r ⌝ }
+    ensures { λ r. ⌜ Puts (was out) p
+        (read-command-text at (marks-at (was tape) next) (command-in (was tape) at command)) (now (out .exit)) r ⌝ }
 {
     match command {
         Command::Addressed { address, indent } => {
@@ -277,8 +278,8 @@ pub fn put_command(
     p: Place,
 ) -> Place
     requires { ⌜ TokenEnds (now tape) at next command ⌝ }
-    ensures { λ r. ⌜ Puts (now (out .entry)) p
-        (command-text exact (now (tape .entry)) at next (command-in (now (tape .entry)) at command)) (now (out .exit)) r ⌝ }
+    ensures { λ r. ⌜ Puts (was out) p
+        (command-text exact (was tape) at next (command-in (was tape) at command)) (now (out .exit)) r ⌝ }
 {
     if exact {
         return put_exact(tape, at, next, command, out, p);

@@ -7,6 +7,7 @@ use crate::room::put_byte;
 ghost use mathlib.Core.Path.{_≡_};
 ghost use Prim.Native.Nat.{_≤_};
 ghost use lib.ListN.{length};
+ghost use Rattle.reference.specs.Contract.{was};
 ghost use Rattle.listing_text.specs.Room.{page, put-one};
 ghost use Rattle.listing_text.specs.Exact.{apart, fields-read, line-read, tape-of, Makes};
 ghost use Rattle.listing_text.specs.Parsed.{PutsRead, EndsAt, fields-behind, made-on};
@@ -14,7 +15,7 @@ ghost use Rattle.listing_text.specs.Parsed.{PutsRead, EndsAt, fields-beh
 // Where the part that begins at `at` ends: at the first byte b from there on, or with the text.
 fn part_end(text: &[u8], at: usize, b: u8) -> usize
     requires { ⌜ at ≤ length (now text) ⌝ }
-    ensures { λ r. ⌜ EndsAt b (now (text .entry)) at r ⌝ }
+    ensures { λ r. ⌜ EndsAt b (was text) at r ⌝ }
 {
     let mut e = at;
     while e < text.len() {
@@ -29,7 +30,7 @@ fn part_end(text: &[u8], at: usize, b: u8) -> usize
 // Puts the fields behind the one that ends at `from`, up to the first that is wrong.
 fn put_fields(line: &[u8], from: usize, out: &mut [u8], p: Place) -> Laid
     requires { ⌜ from ≤ length (now line) ⌝ }
-    ensures { λ r. ⌜ PutsRead (now (out .entry)) p (fields-read (fields-behind (now (line .entry)) from)) (now (out .exit)) r ⌝ }
+    ensures { λ r. ⌜ PutsRead (was out) p (fields-read (fields-behind (was line) from)) (now (out .exit)) r ⌝ }
 {
     let mut q = p;
     let mut e = from;
@@ -51,7 +52,7 @@ fn put_fields(line: &[u8], from: usize, out: &mut [u8], p: Place) -> Laid
 
 // Puts a line, up to the first field that is wrong.
 fn put_line(line: &[u8], out: &mut [u8], p: Place) -> Laid
-    ensures { λ r. ⌜ PutsRead (now (out .entry)) p (line-read (apart 9 (now (line .entry)))) (now (out .exit)) r ⌝ }
+    ensures { λ r. ⌜ PutsRead (was out) p (line-read (apart 9 (was line))) (now (out .exit)) r ⌝ }
 {
     let a = part_end(line, 0, b'\t');
     if line.len() <= a {
@@ -79,8 +80,8 @@ pub enum Made {
 
 // Ends the tape.
 fn finish(out: &mut [u8], p: Place) -> Made
-    ensures { λ r. ⌜ (now (out .exit) ≡ put-one (page (now (out .entry)) p) 255 .bytes)
-        × (r ≡ made-on (put-one (page (now (out .entry)) p) 255)) ⌝ }
+    ensures { λ r. ⌜ (now (out .exit) ≡ put-one (page (was out) p) 255 .bytes)
+        × (r ≡ made-on (put-one (page (was out) p) 255)) ⌝ }
 {
     let q = put_byte(255, out, p);
     if q.cut {
@@ -91,7 +92,7 @@ fn finish(out: &mut [u8], p: Place) -> Made
 
 // Reads the exact form: puts the tape of a text.
 pub fn put_tape(text: &[u8], out: &mut [u8]) -> Made
-    ensures { λ r. ⌜ Makes (tape-of (now (text .entry))) (now (out .entry)) (now (out .exit)) r ⌝ }
+    ensures { λ r. ⌜ Makes (tape-of (was text)) (was out) (now (out .exit)) r ⌝ }
 {
     let mut p = Place { at: 0, cut: false };
     let mut at = 0;

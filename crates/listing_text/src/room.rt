@@ -1,5 +1,6 @@
 // Bytes put into a lent slice one after the other, as far as they fit: no function needs to know how long what it puts may be.
 ghost use mathlib.Core.List.{[], _∷_};
+ghost use Rattle.reference.specs.Contract.{was};
 ghost use Rattle.reference.specs.Tape.{to-le-bytes};
 ghost use Rattle.listing_text.specs.Room.{Puts};
 
@@ -11,7 +12,7 @@ pub struct Place {
 
 // Puts a byte.
 pub fn put_byte(b: u8, out: &mut [u8], p: Place) -> Place
-    ensures { λ r. ⌜ Puts (now (out .entry)) p (b ∷ []) (now (out .exit)) r ⌝ }
+    ensures { λ r. ⌜ Puts (was out) p (b ∷ []) (now (out .exit)) r ⌝ }
 {
     let at = p.at;
     if at < out.len() {
@@ -26,7 +27,7 @@ pub fn put_byte(b: u8, out: &mut [u8], p: Place) -> Place
 
 // Puts a text.
 pub fn put(s: &[u8], out: &mut [u8], p: Place) -> Place
-    ensures { λ r. ⌜ Puts (now (out .entry)) p (now (s .entry)) (now (out .exit)) r ⌝ }
+    ensures { λ r. ⌜ Puts (was out) p (was s) (now (out .exit)) r ⌝ }
 {
     let mut q = p;
     let mut i = 0;
@@ -39,7 +40,7 @@ pub fn put(s: &[u8], out: &mut [u8], p: Place) -> Place
 
 // Puts the lowest n bytes of a number, the lowest first.
 pub fn put_le(v: u64, n: usize, out: &mut [u8], p: Place) -> Place
-    ensures { λ r. ⌜ Puts (now (out .entry)) p (to-le-bytes n v) (now (out .exit)) r ⌝ }
+    ensures { λ r. ⌜ Puts (was out) p (to-le-bytes n v) (now (out .exit)) r ⌝ }
 {
     let mut q = p;
     let mut rest = v;

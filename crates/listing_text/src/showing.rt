@@ -8,6 +8,7 @@ use tape::questions::is_end;
 use tape::questions::step;
 ghost use mathlib.Core.Path.{_≡_};
 ghost use mathlib.Core.Bool.{not};
+ghost use Rattle.reference.specs.Contract.{was};
 ghost use Rattle.tape.specs.Questions.{totals-of};
 ghost use Rattle.listing_text.specs.Showing.{begun, shown, Shows};
 
@@ -54,7 +55,7 @@ fn begun(at: usize, fresh: bool) -> Totals
 // Puts the commands of a tape up to the end, or to the first that a question refuses: in the exact form, or to read. Each turn takes a byte
 // of the tape at least.
 pub fn put_listing(tape: &[u8], exact: bool, out: &mut [u8]) -> Shown
-    ensures { λ r. ⌜ Shows (shown exact (now (tape .entry))) (now (out .entry)) (now (out .exit)) r ⌝ }
+    ensures { λ r. ⌜ Shows (shown exact (was tape)) (was out) (now (out .exit)) r ⌝ }
 {
     let mut p = Place { at: 0, cut: false };
     let mut at = 0;

@@ -6,6 +6,7 @@ ghost use Prim.Native.Nat.{_+_, _<_};
 ghost use mathlib.Core.Path.{_≡_};
 ghost use mathlib.Core.List.{[], _∷_, map};
 ghost use lib.ListN.{length, getD, drop};
+ghost use Rattle.reference.specs.Contract.{was};
 ghost use Rattle.reference.specs.Names.{LEGACY, is-digit, digits-of, stack-slot, numbered, high-byte, family};
 ghost use Rattle.names.specs.Tables.{unpadded};
 ghost use Rattle.names.specs.Families.{Spells, Lists, suffix-width};
@@ -54,7 +55,7 @@ fn column_width(column: usize) -> u64
 
 // The first row that has s among its names, and s's width there.
 fn legacy_in(s: &[u8], names: &[[[u8; 3]; 4]]) -> Listed
-    ensures { λ r. ⌜ Lists (map (map unpadded) (now (names .entry))) (now (s .entry)) r ⌝ }
+    ensures { λ r. ⌜ Lists (map (map unpadded) (was names)) (was s) r ⌝ }
 {
     let mut row = 0;
     while row < names.len() {
@@ -69,7 +70,7 @@ fn legacy_in(s: &[u8], names: &[[[u8; 3]; 4]]) -> Listed
 
 // A name of the table, which is laid out once here and lent.
 fn legacy(s: &[u8]) -> Listed
-    ensures { λ r. ⌜ Lists LEGACY (now (s .entry)) r ⌝ }
+    ensures { λ r. ⌜ Lists LEGACY (was s) r ⌝ }
 {
     let names = NAMES;
     legacy_in(s, &names)
@@ -83,7 +84,7 @@ fn is_digit(b: u8) -> bool
 
 // Where the digits that stand from place 1 on end.
 fn digits_end(s: &[u8]) -> usize
-    ensures { λ r. ⌜ r ≡ 1 + length (digits-of (drop 1 (now (s .entry)))) ⌝ }
+    ensures { λ r. ⌜ r ≡ 1 + length (digits-of (drop 1 (was s))) ⌝ }
 {
     let mut i = 1;
     while i < s.len() {
@@ -97,7 +98,7 @@ fn digits_end(s: &[u8]) -> usize
 
 // The width that a numbered register's suffix says; 0 for none.
 fn suffix(s: &[u8]) -> u64
-    ensures { λ r. ⌜ r ≡ suffix-width (now (s .entry)) ⌝ }
+    ensures { λ r. ⌜ r ≡ suffix-width (was s) ⌝ }
 {
     if s.len() == 0 {
         return 64;
@@ -116,7 +117,7 @@ fn suffix(s: &[u8]) -> u64
 
 // Stack variables behave like registers.
 fn stack_slot(s: &[u8]) -> Spelled
-    ensures { λ r. ⌜ Spells (now (s .entry)) (stack-slot (now (s .entry))) r ⌝ }
+    ensures { λ r. ⌜ Spells (was s) (stack-slot (was s)) r ⌝ }
 {
     if begins_slot(s) {
         return Spelled::Front(s.len(), 64);
@@ -126,7 +127,7 @@ fn stack_slot(s: &[u8]) -> Spelled
 
 // r with digits and a suffix, and what follows it.
 fn numbered(s: &[u8]) -> Spelled
-    ensures { λ r. ⌜ Spells (now (s .entry)) (numbered (now (s .entry))) r ⌝ }
+    ensures { λ r. ⌜ Spells (was s) (numbered (was s)) r ⌝ }
 {
     if !starts(s, b"r") {
         return stack_slot(s);
@@ -144,7 +145,7 @@ fn numbered(s: &[u8]) -> Spelled
 
 // ah, bh, ch, dh, which begin at bit 8, and what follows them.
 fn high_byte(s: &[u8]) -> Spelled
-    ensures { λ r. ⌜ Spells (now (s .entry)) (high-byte (now (s .entry))) r ⌝ }
+    ensures { λ r. ⌜ Spells (was s) (high-byte (was s)) r ⌝ }
 {
     let row = column_in(s, HIGH);
     if row < 4 {
@@ -155,7 +156,7 @@ fn high_byte(s: &[u8]) -> Spelled
 
 // The family, the width and the lowest bit of a name.
 pub fn family(s: &[u8]) -> Spelled
-    ensures { λ r. ⌜ Spells (now (s .entry)) (family (now (s .entry))) r ⌝ }
+    ensures { λ r. ⌜ Spells (was s) (family (was s)) r ⌝ }
 {
     // no name of the tables is longer
     if 3 < s.len() {

@@ -2,6 +2,7 @@
 use crate::rows::column_in;
 ghost use mathlib.Core.Path.{_≡_};
 ghost use lib.Dec.{eqb};
+ghost use Rattle.reference.specs.Contract.{was};
 ghost use Rattle.reference.specs.Lists.{any};
 ghost use Rattle.reference.specs.Text.{has};
 ghost use Rattle.reference.specs.Names.{volatile-of};
@@ -19,7 +20,7 @@ const VOLATILE_2: [u64; 7] = [0, 2, 3, 8, 9, 10, 11];
 
 // The number of a family that has no row.
 pub fn number_of(s: &[u8]) -> u64
-    ensures { λ r. ⌜ r ≡ number-of (now (s .entry)) ⌝ }
+    ensures { λ r. ⌜ r ≡ number-of (was s) ⌝ }
 {
     let place = column_in(s, NEW);
     8 + place as u64
@@ -27,7 +28,7 @@ pub fn number_of(s: &[u8]) -> u64
 
 // Whether n is on the list.
 fn among(list: &[u64], n: u64) -> bool
-    ensures { λ r. ⌜ r ≡ any (eqb n) (now (list .entry)) ⌝ }
+    ensures { λ r. ⌜ r ≡ any (eqb n) (was list) ⌝ }
 {
     let mut i = 0;
     while i < list.len() {

@@ -11,6 +11,7 @@ use text::starts;
 ghost use mathlib.Core.Path.{_≡_};
 ghost use Prim.Native.Nat.{_≤_, _<_};
 ghost use lib.ListN.{length};
+ghost use Rattle.reference.specs.Contract.{was};
 ghost use Rattle.reference.specs.Control.{_||_};
 ghost use Rattle.reference.specs.Text.{bytes, starts-with};
 ghost use Rattle.reference.specs.Numbers as reference;
@@ -21,13 +22,13 @@ ghost use Rattle.numbers.specs.Constants.{PastQuote};
 const QUOTE: u8 = 39;
 
 fn begins_hexadecimal(s: &[u8]) -> bool
-    ensures { λ r. ⌜ r ≡ (starts-with (now (s .entry)) (bytes "0x") || starts-with (now (s .entry)) (bytes "0X")) ⌝ }
+    ensures { λ r. ⌜ r ≡ (starts-with (was s) (bytes "0x") || starts-with (was s) (bytes "0X")) ⌝ }
 {
     starts(s, b"0x") || starts(s, b"0X")
 }
 
 pub fn begins_binary(s: &[u8]) -> bool
-    ensures { λ r. ⌜ r ≡ (starts-with (now (s .entry)) (bytes "0b") || starts-with (now (s .entry)) (bytes "0B")) ⌝ }
+    ensures { λ r. ⌜ r ≡ (starts-with (was s) (bytes "0b") || starts-with (was s) (bytes "0B")) ⌝ }
 {
     starts(s, b"0b") || starts(s, b"0B")
 }
@@ -35,7 +36,7 @@ pub fn begins_binary(s: &[u8]) -> bool
 // Where the digit after a digit stands: at i, or behind a quote there.
 fn past_quote(s: &[u8], i: usize) -> usize
     requires { ⌜ i < length (now s) ⌝ }
-    ensures { λ r. ⌜ PastQuote (now (s .entry)) i r ⌝ }
+    ensures { λ r. ⌜ PastQuote (was s) i r ⌝ }
 {
     if s[i] == QUOTE {
         return i + 1;
@@ -46,7 +47,7 @@ fn past_quote(s: &[u8], i: usize) -> usize
 // One digit or more, of a number that is at most `most`. At i a digit must stand.
 pub fn row(s: &[u8], radix: u64, most: u64) -> Natural
     requires { ⌜ radix ≤ 36 ⌝ }
-    ensures { λ r. ⌜ natural-meaning r ≡ at-most most (constants.row radix (now (s .entry))) ⌝ }
+    ensures { λ r. ⌜ natural-meaning r ≡ at-most most (constants.row radix (was s)) ⌝ }
 {
     let mut v = 0;
     let mut i = 0;
@@ -70,7 +71,7 @@ pub fn row(s: &[u8], radix: u64, most: u64) -> Natural
 // A row of a number that is at most `most`, as an i64.
 fn sized(s: &[u8], radix: u64, most: u64) -> Number
     requires { ⌜ radix ≤ 36 ⌝ }
-    ensures { λ r. ⌜ meaning r ≡ constants.sized radix most (now (s .entry)) ⌝ }
+    ensures { λ r. ⌜ meaning r ≡ constants.sized radix most (was s) ⌝ }
 {
     match row(s, radix, most) {
         Natural::Read(n) => Number::Read(signed(n)),
@@ -80,7 +81,7 @@ fn sized(s: &[u8], radix: u64, most: u64) -> Number
 
 // A constant without a sign.
 fn constant(s: &[u8]) -> Number
-    ensures { λ r. ⌜ meaning r ≡ reference.read-constant (now (s .entry)) ⌝ }
+    ensures { λ r. ⌜ meaning r ≡ reference.read-constant (was s) ⌝ }
 {
     if begins_hexadecimal(s) {
         return sized(&s[2..], 16, MOST);
@@ -96,7 +97,7 @@ fn constant(s: &[u8]) -> Number
 
 // A number by the 2024 edition.
 pub fn parse_2024(s: &[u8]) -> Number
-    ensures { λ r. ⌜ meaning r ≡ reference.parse-2024 (now (s .entry)) ⌝ }
+    ensures { λ r. ⌜ meaning r ≡ reference.parse-2024 (was s) ⌝ }
 {
     if !begins_minus(s) {
         return constant(s);

@@ -8,6 +8,7 @@ use text::begins_minus;
 use text::begins_plus;
 ghost use mathlib.Core.Path.{_≡_};
 ghost use lib.Dec.{leb};
+ghost use Rattle.reference.specs.Contract.{was};
 ghost use Rattle.reference.specs.Control.{_&&_};
 ghost use Rattle.reference.specs.Numbers as reference;
 ghost use Rattle.numbers.specs.Reading as reading;
@@ -65,7 +66,7 @@ pub fn with_digit(v: u64, b: u8, radix: u64, most: u64) -> Natural
 
 // One digit or more, of a number that is at most `most`. Zeros in front may be of any number.
 fn unsigned(s: &[u8], radix: u64, most: u64) -> Natural
-    ensures { λ r. ⌜ natural-meaning r ≡ at-most most (reference.unsigned radix (now (s .entry))) ⌝ }
+    ensures { λ r. ⌜ natural-meaning r ≡ at-most most (reference.unsigned radix (was s)) ⌝ }
 {
     if s.len() == 0 {
         return Natural::Unread;
@@ -88,7 +89,7 @@ fn unsigned(s: &[u8], radix: u64, most: u64) -> Natural
 
 // The text without a plus in front.
 fn without_plus(s: &[u8]) -> &[u8]
-    ensures { λ r. ⌜ now r ≡ reading.without-plus (now (s .entry)) ⌝ }
+    ensures { λ r. ⌜ now r ≡ reading.without-plus (was s) ⌝ }
 {
     if begins_plus(s) {
         return &s[1..];
@@ -98,7 +99,7 @@ fn without_plus(s: &[u8]) -> &[u8]
 
 // `u64::from_str_radix(s, 16)`, as an i64.
 fn hexadecimal(s: &[u8]) -> Number
-    ensures { λ r. ⌜ meaning r ≡ reading.hexadecimal (now (s .entry)) ⌝ }
+    ensures { λ r. ⌜ meaning r ≡ reading.hexadecimal (was s) ⌝ }
 {
     match unsigned(without_plus(s), 16, MOST) {
         Natural::Read(n) => Number::Read(signed(n)),
@@ -108,7 +109,7 @@ fn hexadecimal(s: &[u8]) -> Number
 
 // Decimal digits without a sign, of a number below 2^63.
 fn positive(s: &[u8]) -> Number
-    ensures { λ r. ⌜ meaning r ≡ reading.positive (now (s .entry)) ⌝ }
+    ensures { λ r. ⌜ meaning r ≡ reading.positive (was s) ⌝ }
 {
     match unsigned(s, 10, HALF - 1) {
         Natural::Read(n) => Number::Read(signed(n)),
@@ -118,7 +119,7 @@ fn positive(s: &[u8]) -> Number
 
 // The negation of a number in decimal digits that is at most 2^63. (2^63 as an i64 is its own negation.)
 fn negative(s: &[u8]) -> Number
-    ensures { λ r. ⌜ meaning r ≡ reading.negative (now (s .entry)) ⌝ }
+    ensures { λ r. ⌜ meaning r ≡ reading.negative (was s) ⌝ }
 {
     match unsigned(s, 10, HALF) {
         Natural::Read(n) => Number::Read(wrapping_neg(signed(n))),
@@ -128,7 +129,7 @@ fn negative(s: &[u8]) -> Number
 
 // `s.parse::<i64>()`
 fn decimal(s: &[u8]) -> Number
-    ensures { λ r. ⌜ meaning r ≡ reference.read-i64 (now (s .entry)) ⌝ }
+    ensures { λ r. ⌜ meaning r ≡ reference.read-i64 (was s) ⌝ }
 {
     if begins_minus(s) {
         return negative(&s[1..]);
@@ -138,7 +139,7 @@ fn decimal(s: &[u8]) -> Number
 
 // The number after the first minus.
 fn unnegated(s: &[u8]) -> Number
-    ensures { λ r. ⌜ meaning r ≡ reading.unnegated (now (s .entry)) ⌝ }
+    ensures { λ r. ⌜ meaning r ≡ reading.unnegated (was s) ⌝ }
 {
     if begins_hex(s) {
         return hexadecimal(&s[2..]);
@@ -147,7 +148,7 @@ fn unnegated(s: &[u8]) -> Number
 }
 
 pub fn parse_c_number(s: &[u8]) -> Number
-    ensures { λ r. ⌜ meaning r ≡ reference.parse-c-number (now (s .entry)) ⌝ }
+    ensures { λ r. ⌜ meaning r ≡ reference.parse-c-number (was s) ⌝ }
 {
     if !begins_minus(s) {
         return unnegated(s);

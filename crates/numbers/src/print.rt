@@ -5,6 +5,7 @@ use crate::wrapping::bits;
 ghost use mathlib.Core.Path.{_≡_};
 ghost use Prim.Native.Nat.{_+_, _%_, _≤_};
 ghost use lib.ListN.{length};
+ghost use Rattle.reference.specs.Contract.{was};
 ghost use Rattle.reference.specs.Numbers.{digit-byte, show-natural, show};
 ghost use Rattle.numbers.specs.Writing.{hexadecimal, Written};
 
@@ -19,7 +20,7 @@ fn last_digit(v: u64) -> u8
 // Writes the hexadecimal digits at `at`, and says where they end.
 pub fn put_digits(v: u64, out: &mut [u8], at: usize) -> usize
     requires { ⌜ at + length (hexadecimal v) ≤ length (now out) ⌝ }
-    ensures { λ r. ⌜ Written (now (out .entry)) at (hexadecimal v) (now (out .exit)) r ⌝ }
+    ensures { λ r. ⌜ Written (was out) at (hexadecimal v) (now (out .exit)) r ⌝ }
 {
     let d = last_digit(v);
     if v < 16 {
@@ -33,7 +34,7 @@ pub fn put_digits(v: u64, out: &mut [u8], at: usize) -> usize
 
 fn put_natural(v: u64, out: &mut [u8], at: usize) -> usize
     requires { ⌜ at + length (show-natural v) ≤ length (now out) ⌝ }
-    ensures { λ r. ⌜ Written (now (out .entry)) at (show-natural v) (now (out .exit)) r ⌝ }
+    ensures { λ r. ⌜ Written (was out) at (show-natural v) (now (out .exit)) r ⌝ }
 {
     if v < 10 {
         return put_digits(v, out, at);
@@ -46,7 +47,7 @@ fn put_natural(v: u64, out: &mut [u8], at: usize) -> usize
 // Writes the number at `at`, and says where it ends. No number takes more than 19 bytes.
 pub fn put_number(v: i64, out: &mut [u8], at: usize) -> usize
     requires { ⌜ at + 19 ≤ length (now out) ⌝ }
-    ensures { λ r. ⌜ Written (now (out .entry)) at (show v) (now (out .exit)) r ⌝ }
+    ensures { λ r. ⌜ Written (was out) at (show v) (now (out .exit)) r ⌝ }
 {
     let b = bits(v);
     if b < HALF {

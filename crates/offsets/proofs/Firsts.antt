@@ -178,7 +178,7 @@ module _ (bad : ℕ → Bool) where
 
     -- ---- the place that 18 tells is that of the first command with a bad address
 
-    pub record Found (place : ℕ) : Type 0 where
+    pub record FirstAt (place : ℕ) : Type 0 where
       pub state : State
       pub reached : ReachedBy form tape state
       pub at-is : state .at ≡ place
@@ -187,22 +187,22 @@ module _ (bad : ℕ → Bool) where
       pub lines-good : All (OfLine Good) (state .lines)
       pub marks-good : All (OfMarks Good) (state .marks)
 
-    pub found : (lines : Listing) (place : ℕ) → read-by form tape ≡ Passed lines → first-with form bad tape ≡ some place → Found place
+    pub found : (lines : Listing) (place : ℕ) → read-by form tape ≡ Passed lines → first-with form bad tape ≡ some place → FirstAt place
     unfolding read-by read-from-by first-with first-from if_then_else_
     found lines place = go (length tape) (start-by form) here tt tt
       where
         go : (fuel : ℕ) (s : State) → ReachedBy form tape s → All (OfLine Good) (s .lines) → All (OfMarks Good) (s .marks)
-            → read-from-by form fuel tape (s .at) (s .totals) (s .lines) ≡ Passed lines → first-from form bad fuel tape (s .at) ≡ some place → Found place
+            → read-from-by form fuel tape (s .at) (s .totals) (s .lines) ≡ Passed lines → first-from form bad fuel tape (s .at) ≡ some place → FirstAt place
         go zero s r gl gm = λ e. absurd (refused-passed e)
         go (suc fuel) s r gl gm =
-            by-passed (λ (x : Answer Listing). x ≡ Passed lines → first-from form bad (suc fuel) tape (s .at) ≡ some place → Found place)
+            by-passed (λ (x : Answer Listing). x ≡ Passed lines → first-from form bad (suc fuel) tape (s .at) ≡ some place → FirstAt place)
             (λ number place u e. absurd (refused-passed e))
             (λ a known e.
             (let p = command-passed-by form tape (s .at) (s .totals) a known in
             let e′ = rw (p .1) at e in
-            by-if (λ (x : Option ℕ). x ≡ some place → Found place)
+            by-if (λ (x : Option ℕ). x ≡ some place → FirstAt place)
             (λ yes f. record { state = s; reached = r; at-is = some-inj f; is-bad = yes; lines-good = gl; marks-good = gm })
-            (λ no. by-if (λ (x : Option ℕ). x ≡ some place → Found place)
+            (λ no. by-if (λ (x : Option ℕ). x ≡ some place → FirstAt place)
             (λ ends f. absurd (none-some f))
             (λ goes f.
             go fuel (after-by form tape s) (on r (p .0) goes) (good-line (at-place (s .at)) (s .lines) no gl) (good-mark (at-place (s .at)) (s .marks) no gm) (rw goes at e′) f))))

@@ -11,7 +11,7 @@ use Rattle.reference.specs.Spans.{Span, Marks}
 use Rattle.reference.specs.Tape.{TapeForm, width}
 use Rattle.reference.specs.Claim.{token-count, text-in, text}
 use Rattle.reference.proofs.Commands.{AddressFitsBy}
-use Rattle.reference.proofs.Limits.{All, LineFits, Limits, MarksFitBy, FitsBy}
+use Rattle.reference.proofs.Limits.{All, LineFits, Limits, MarksFitBy, TapeFitsBy}
 use Rattle.offsets.specs.Offsets.{move-line, move-marks, move-lines, move-all-marks}
 
 -- Q of every address there
@@ -138,7 +138,7 @@ module _ (form : TapeForm) where
   abbrev pub Short : ℕ → Type 0
   Short a = a < 256 ^ width form
 
-  pub short-lines : (lines : Listing) → FitsBy form lines → All (OfLine Short) lines
+  pub short-lines : (lines : Listing) → TapeFitsBy form lines → All (OfLine Short) lines
   short-lines lines h = all-map _ _ one lines (h .addresses)
     where
       go : (o : Option ℕ) → AddressFitsBy form o → OfAddress Short o
@@ -148,7 +148,7 @@ module _ (form : TapeForm) where
       one : (l : Line) → AddressFitsBy form (l .address) → OfLine Short l
       one l u = go (l .address) u
 
-  pub fitting-lines : (lines : Listing) → Limits lines → All (OfLine Short) lines → FitsBy form lines
+  pub fitting-lines : (lines : Listing) → Limits lines → All (OfLine Short) lines → TapeFitsBy form lines
   fitting-lines lines l h = record { limits = l; addresses = all-map _ _ one lines h }
     where
       go : (o : Option ℕ) → OfAddress Short o → AddressFitsBy form o

@@ -12,6 +12,7 @@ ghost use mathlib.Core.Path.{_≡_};
 ghost use mathlib.Core.Bool.{false};
 ghost use Prim.Native.Nat.{_≤_};
 ghost use lib.ListN.{length};
+ghost use Rattle.reference.specs.Contract.{was};
 ghost use Rattle.answers.specs.Answers.{answer-of, Writes};
 ghost use Rattle.offsets.specs.Offsets.{to-offsets, from-offsets};
 ghost use Rattle.offsets.specs.Calls.{reach-answer, ready-answer, Read, Ready, Fronted};
@@ -19,7 +20,7 @@ ghost use Rattle.offsets.specs.Calls.{reach-answer, ready-answer, Read, 
 // 18 of an accepted tape, or 0.
 fn reach(tape: &[u8], base: u64, based: bool) -> Answer
     requires { ⌜ Read based (now tape) ⌝ }
-    ensures { λ r. ⌜ answer-of r ≡ reach-answer based base (now (tape .entry)) ⌝ }
+    ensures { λ r. ⌜ answer-of r ≡ reach-answer based base (was tape) ⌝ }
 {
     match first_refused(tape, base, based) {
         First::Nowhere => Answer::Passed(0),
@@ -29,7 +30,7 @@ fn reach(tape: &[u8], base: u64, based: bool) -> Answer
 
 // The tape's questions, and then 18; 0 where all are answered "yes".
 fn ready(tape: &[u8], base: u64, based: bool) -> Answer
-    ensures { λ r. ⌜ answer-of r ≡ ready-answer based base (now (tape .entry)) ⌝ }
+    ensures { λ r. ⌜ answer-of r ≡ ready-answer based base (was tape) ⌝ }
 {
     match check_by(tape, based) {
         Checked::Refused { number, place } => Answer::Refused { number, place },
@@ -40,8 +41,7 @@ fn ready(tape: &[u8], base: u64, based: bool) -> Answer
 // Writes the tape by offset.
 fn lower(base: u64, tape: &[u8], out: &mut [u8]) -> Answer
     requires { ⌜ Ready false base (now tape) × (59146 ≤ length (now out)) ⌝ }
-    ensures { λ r. ⌜ Writes (to-offsets base (now (tape .entry)) (length (now (out .entry)))) (now (out .entry)) (now (out .exit))
-        (answer-of r) ⌝ }
+    ensures { λ r. ⌜ Writes (to-offsets base (was tape) (length (was out))) (was out) (now (out .exit)) (answer-of r) ⌝ }
 {
     let from = put_front(base, out);
     let end = put_commands(tape, base, false, out, from);
@@ -51,8 +51,7 @@ fn lower(base: u64, tape: &[u8], out: &mut [u8]) -> Answer
 // A tape of document 01's form brought to the form by offset from `base`: the new tape stands at the front of `out`, and its length is
 // answered.
 pub fn to_offsets(base: u64, tape: &[u8], out: &mut [u8]) -> Answer
-    ensures { λ r. ⌜ Writes (to-offsets base (now (tape .entry)) (length (now (out .entry)))) (now (out .entry)) (now (out .exit))
-        (answer-of r) ⌝ }
+    ensures { λ r. ⌜ Writes (to-offsets base (was tape) (length (was out))) (was out) (now (out .exit)) (answer-of r) ⌝ }
 {
     if out.len() < 59146 {
         return Answer::Refused {
@@ -69,8 +68,7 @@ pub fn to_offsets(base: u64, tape: &[u8], out: &mut [u8]) -> Answer
 // The way back of a tape whose front passed.
 fn raise(tape: &[u8], out: &mut [u8]) -> Answer
     requires { ⌜ Fronted (now tape) × (59146 ≤ length (now out)) ⌝ }
-    ensures { λ r. ⌜ Writes (from-offsets (now (tape .entry)) (length (now (out .entry)))) (now (out .entry)) (now (out .exit))
-        (answer-of r) ⌝ }
+    ensures { λ r. ⌜ Writes (from-offsets (was tape) (length (was out))) (was out) (now (out .exit)) (answer-of r) ⌝ }
 {
     let base = base_of(tape);
     match ready(tape, base, true) {
@@ -84,8 +82,7 @@ fn raise(tape: &[u8], out: &mut [u8]) -> Answer
 
 // A tape by offset brought back to document 01's form: the new tape stands at the front of `out`, and its length is answered.
 pub fn from_offsets(tape: &[u8], out: &mut [u8]) -> Answer
-    ensures { λ r. ⌜ Writes (from-offsets (now (tape .entry)) (length (now (out .entry)))) (now (out .entry)) (now (out .exit))
-        (answer-of r) ⌝ }
+    ensures { λ r. ⌜ Writes (from-offsets (was tape) (length (was out))) (was out) (now (out .exit)) (answer-of r) ⌝ }
 {
     if out.len() < 59146 {
         return Answer::Refused {

@@ -7,6 +7,7 @@ use tape::questions::Totals;
 use tape::questions::is_end;
 use tape::questions::step_by;
 ghost use mathlib.Core.Path.{_≡_};
+ghost use Rattle.reference.specs.Contract.{was};
 ghost use Rattle.reference.specs.Lists.{any};
 ghost use Rattle.tape.specs.Commands.{form-of};
 ghost use Rattle.offsets.specs.Offsets.{out-of-reach, wraps, first-with};
@@ -63,7 +64,7 @@ pub enum First {
 // The first command of an accepted tape that has such an address. The walk is the step's, whose totals say that the command passes.
 pub fn first_refused(tape: &[u8], base: u64, based: bool) -> First
     requires { ⌜ Read based (now tape) ⌝ }
-    ensures { λ r. ⌜ first-of r ≡ first-with (form-of based) (bad-for based base) (now (tape .entry)) ⌝ }
+    ensures { λ r. ⌜ first-of r ≡ first-with (form-of based) (bad-for based base) (was tape) ⌝ }
 {
     let mut at = header_of(based);
     let mut totals = Totals {

@@ -17,6 +17,7 @@ ghost use mathlib.Core.Bool.{false};
 ghost use mathlib.Core.Option.{some};
 ghost use Prim.Native.Nat.{_+_, _-_, _≤_, _<_};
 ghost use lib.ListN.{length, take, drop};
+ghost use Rattle.reference.specs.Contract.{was};
 ghost use Rattle.reference.specs.Tape.{width, new-line, marked, write-command-by};
 ghost use Rattle.tape.specs.Bytes.{Puts};
 ghost use Rattle.tape.specs.Commands.{form-of};
@@ -44,7 +45,7 @@ fn moved(address: u64, base: u64, based: bool) -> u64
 // Writes the command of a line with an address.
 fn put_line(address: u64, indent: u64, based: bool, out: &mut [u8], at: usize) -> usize
     requires { ⌜ (indent < 256) × (at + (2 + width (form-of based)) ≤ length (now out)) ⌝ }
-    ensures { λ r. ⌜ Puts (now (out .entry)) at (write-command-by (form-of based) (new-line (some address) indent)) (now (out .exit)) r ⌝ }
+    ensures { λ r. ⌜ Puts (was out) at (write-command-by (form-of based) (new-line (some address) indent)) (now (out .exit)) r ⌝ }
 {
     let w = width_of(based);
     out[at] = line_byte(based);
@@ -56,7 +57,7 @@ fn put_line(address: u64, indent: u64, based: bool, out: &mut [u8], at: usize) -
 // Writes the command of marks.
 fn put_marks(low: u64, high: u64, based: bool, out: &mut [u8], at: usize) -> usize
     requires { ⌜ at + (1 + width (form-of based) + width (form-of based)) ≤ length (now out) ⌝ }
-    ensures { λ r. ⌜ Puts (now (out .entry)) at
+    ensures { λ r. ⌜ Puts (was out) at
         (write-command-by (form-of based) (marked (record { lowest = low; highest = high }))) (now (out .exit)) r ⌝ }
 {
     let w = width_of(based);
@@ -69,7 +70,7 @@ fn put_marks(low: u64, high: u64, based: bool, out: &mut [u8], at: usize) -> usi
 // Copies the bytes of the tape from `from` to `end`.
 fn put_copy(tape: &[u8], from: usize, end: usize, out: &mut [u8], at: usize) -> usize
     requires { ⌜ (from ≤ end) × (end ≤ length (now tape)) × (at + (end - from) ≤ length (now out)) ⌝ }
-    ensures { λ r. ⌜ Puts (now (out .entry)) at (take (end - from) (drop from (now (tape .entry)))) (now (out .exit)) r ⌝ }
+    ensures { λ r. ⌜ Puts (was out) at (take (end - from) (drop from (was tape))) (now (out .exit)) r ⌝ }
 {
     let n = end - from;
     copy_bytes(text_of(tape, from, n), out, at);
@@ -88,7 +89,7 @@ fn put_command(
     to: usize,
 ) -> usize
     requires { ⌜ Moves based base (now tape) at next command (now out) to ⌝ }
-    ensures { λ r. ⌜ Puts (now (out .entry)) to (moved-bytes based base (now (tape .entry)) at command) (now (out .exit)) r ⌝ }
+    ensures { λ r. ⌜ Puts (was out) to (moved-bytes based base (was tape) at command) (now (out .exit)) r ⌝ }
 {
     match command {
         Command::Addressed { address, indent } => {
@@ -107,7 +108,7 @@ fn put_command(
 // Writes the commands of a tape that no question refuses in the other form, from `to` on, and says where they end.
 pub fn put_commands(tape: &[u8], base: u64, based: bool, out: &mut [u8], to: usize) -> usize
     requires { ⌜ Ready based base (now tape) × (to + 34561 ≤ length (now out)) ⌝ }
-    ensures { λ r. ⌜ Converts based base (now (tape .entry)) (now (out .entry)) to (now (out .exit)) r ⌝ }
+    ensures { λ r. ⌜ Converts based base (was tape) (was out) to (now (out .exit)) r ⌝ }
 {
     let mut at = header_of(based);
     let mut totals = Totals {

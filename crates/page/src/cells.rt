@@ -7,6 +7,7 @@ use tape::reader::token_text;
 ghost use mathlib.Core.Path.{_≡_};
 ghost use Prim.Native.Nat.{_+_, _*_, _≤_, min};
 ghost use lib.ListN.{length};
+ghost use Rattle.reference.specs.Contract.{was};
 ghost use Rattle.numbers.specs.Writing.{Written};
 ghost use Rattle.tallies.specs.Held.{commands, tokens-of};
 ghost use Rattle.tape.specs.Commands.{command-in, size-of};
@@ -26,7 +27,7 @@ fn least(n: usize, m: usize) -> usize
 // Puts a text in its cell; a longer one than 512 bytes in several.
 pub fn put_cells(kind: u64, text: &[u8], out: &mut [u8], at: usize) -> usize
     requires { ⌜ at + 7 * length (now text) + 35 ≤ length (now out) ⌝ }
-    ensures { λ r. ⌜ Written (now (out .entry)) at (cells kind (now (text .entry))) (now (out .exit)) r ⌝ }
+    ensures { λ r. ⌜ Written (was out) at (cells kind (was text)) (now (out .exit)) r ⌝ }
 {
     let mut end = at;
     let mut i = 0;
@@ -41,7 +42,7 @@ pub fn put_cells(kind: u64, text: &[u8], out: &mut [u8], at: usize) -> usize
 // Puts a token's cells; nothing for another command.
 fn put_command(tape: &[u8], at: usize, command: Command, out: &mut [u8], end: usize) -> usize
     requires { ⌜ (at + size-of command ≤ length (now tape)) × (end + 12 * size-of command ≤ length (now out)) ⌝ }
-    ensures { λ r. ⌜ Written (now (out .entry)) end (command-cells (command-in (now (tape .entry)) at command)) (now (out .exit)) r ⌝ }
+    ensures { λ r. ⌜ Written (was out) end (command-cells (command-in (was tape) at command)) (now (out .exit)) r ⌝ }
 {
     match command {
         Command::Addressed {
@@ -74,7 +75,7 @@ fn begins_line(command: Command) -> bool
 // Puts the cells of the tokens that a tape begins with, up to the next line.
 pub fn put_line(tape: &[u8], out: &mut [u8]) -> usize
     requires { ⌜ 12 * length (now tape) ≤ length (now out) ⌝ }
-    ensures { λ r. ⌜ Written (now (out .entry)) 0 (line-cells (tokens-of (commands (now (tape .entry))))) (now (out .exit)) r ⌝ }
+    ensures { λ r. ⌜ Written (was out) 0 (line-cells (tokens-of (commands (was tape)))) (now (out .exit)) r ⌝ }
 {
     let mut end = 0;
     let mut at = 0;

@@ -9,6 +9,7 @@ use printing::put_decimal;
 ghost use mathlib.Core.List.{[], _∷_};
 ghost use Prim.Native.Nat.{_+_, _*_, _≤_, _<_};
 ghost use lib.ListN.{length};
+ghost use Rattle.reference.specs.Contract.{was};
 ghost use Rattle.numbers.specs.Writing.{Written};
 ghost use Rattle.page.specs.Escaping.{entity, escaped};
 ghost use Rattle.page.specs.Cells.{cell};
@@ -16,7 +17,7 @@ ghost use Rattle.page.specs.Cells.{cell};
 // Puts a byte as it is.
 fn put_same(b: u8, out: &mut [u8], at: usize) -> usize
     requires { ⌜ at < length (now out) ⌝ }
-    ensures { λ r. ⌜ Written (now (out .entry)) at (b ∷ []) (now (out .exit)) r ⌝ }
+    ensures { λ r. ⌜ Written (was out) at (b ∷ []) (now (out .exit)) r ⌝ }
 {
     out[at] = b;
     at + 1
@@ -25,7 +26,7 @@ fn put_same(b: u8, out: &mut [u8], at: usize) -> usize
 // Puts a byte, or its entity.
 fn put_byte(b: u8, out: &mut [u8], at: usize) -> usize
     requires { ⌜ at + 6 ≤ length (now out) ⌝ }
-    ensures { λ r. ⌜ Written (now (out .entry)) at (entity b) (now (out .exit)) r ⌝ }
+    ensures { λ r. ⌜ Written (was out) at (entity b) (now (out .exit)) r ⌝ }
 {
     if b == b'&' {
         return put(b"&amp;", out, at);
@@ -48,7 +49,7 @@ fn put_byte(b: u8, out: &mut [u8], at: usize) -> usize
 // Puts a text escaped.
 pub fn put_escaped(text: &[u8], out: &mut [u8], at: usize) -> usize
     requires { ⌜ at + 6 * length (now text) ≤ length (now out) ⌝ }
-    ensures { λ r. ⌜ Written (now (out .entry)) at (escaped (now (text .entry))) (now (out .exit)) r ⌝ }
+    ensures { λ r. ⌜ Written (was out) at (escaped (was text)) (now (out .exit)) r ⌝ }
 {
     let mut end = at;
     let mut i = 0;
@@ -62,7 +63,7 @@ pub fn put_escaped(text: &[u8], out: &mut [u8], at: usize) -> usize
 // Puts a text of a kind in its cell.
 pub fn put_cell(kind: u64, text: &[u8], out: &mut [u8], at: usize) -> usize
     requires { ⌜ at + 6 * length (now text) + 35 ≤ length (now out) ⌝ }
-    ensures { λ r. ⌜ Written (now (out .entry)) at (cell kind (now (text .entry))) (now (out .exit)) r ⌝ }
+    ensures { λ r. ⌜ Written (was out) at (cell kind (was text)) (now (out .exit)) r ⌝ }
 {
     let a = put(b"<i class=k", out, at);
     let b = put_decimal(kind, out, a);

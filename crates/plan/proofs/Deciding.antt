@@ -27,8 +27,8 @@ use Rattle.lines.specs.Words.{token-of, tokens-of}
 use Rattle.lines.specs.Lines.{indent-of, part-of, bare-listing}
 use Rattle.lines.specs.Shapes.{found, expr-words, Expression}
 use Rattle.lines.specs.Fams.{fam-text, Known}
-use Rattle.lines.specs.declared.shapes.Found.{Found}
-use Rattle.lines.specs.declared.shapes.Found.the-variants.{At, Nothing as Unfound}
+use Rattle.lines.specs.declared.shapes.Position.{Position}
+use Rattle.lines.specs.declared.shapes.Position.the-variants.{At, Nothing as Unfound}
 use Rattle.lines.proofs.shapes.Places.{found-is, found-not}
 use Rattle.plan.specs.declared.definitions.Definition.{Definition}
 use Rattle.plan.specs.declared.definitions.Defined.{Defined}
@@ -141,7 +141,7 @@ pub ruleset propagating = (constant-unused, constant-live, constant-refused, con
 
 -- ---- a single use
 
-pub found-inside : (p : Token → Bool) (tape area : Text) (ws : List ℕ) {q : Found} {pos : ℕ} → found q ≡ position p (tokens-of tape area ws) → q ≡ At pos → pos < length ws
+pub found-inside : (p : Token → Bool) (tape area : Text) (ws : List ℕ) {q : Position} {pos : ℕ} → found q ≡ position p (tokens-of tape area ws) → q ≡ At pos → pos < length ws
 found-inside p tape area ws {pos = pos} h e =
     rw length-map at (found-at p (tokens-of tape area ws) pos (token-of tape area 0) (found-is h e) .0)
 
@@ -150,7 +150,7 @@ module _ (rules : Rules) (tape area : Text) (us ws : List ℕ) (i j : ℕ) (d : 
   abbrev among : Option J.Plan
   among = plan-among rules (definition-in tape area us d) (tokens-of tape area ws) j
 
-  module _ (q : Found) (eq : found q ≡ position (of-family (fam-text tape area (d .family))) (tokens-of tape area ws)) where
+  module _ (q : Position) (eq : found q ≡ position (of-family (fam-text tape area (d .family))) (tokens-of tape area ws)) where
     pub among-none : q ≡ Unfound → Plans tape area us i among Nothing
     unfolding plan-among let-some_else_then_
     among-none e = no-plan (rw (found-not eq e))
@@ -201,7 +201,7 @@ module _ (rules : Rules) (tape area : Text) (tokens lines : List ℕ) (i j : ℕ
 pub ruleset finding = (used-while, used-live, used-among)
 
 module _ (rules : Rules) (tape area : Text) (tokens lines : List ℕ) (i : ℕ) (d : J.Definition) (vs : List Text)
-    {q : Found} (eq : found q ≡ use-of (bare-listing tape area tokens lines) i d vs) where
+    {q : Position} (eq : found q ≡ use-of (bare-listing tape area tokens lines) i d vs) where
   pub use-inside : {j : ℕ} → q ≡ At j → j < length lines
   unfolding use-of
   use-inside {j} e =

@@ -9,6 +9,7 @@ use lines::words;
 ghost use mathlib.Core.Path.{_≡_};
 ghost use Prim.Native.Nat.{_<_};
 ghost use lib.ListN.{getD};
+ghost use Rattle.reference.specs.Contract.{was};
 ghost use Rattle.reference.specs.Join.{reads-here, reads-memory};
 ghost use Rattle.lines.specs.Words.{token-of, tokens-of, Holds};
 ghost use Rattle.lines.specs.Shapes.{expr-words, Expression};
@@ -33,8 +34,8 @@ pub enum Defined {
 // Whether token k of the right side x of a line reads memory: `*(`, a stack slot, or a Symbol that is not behind `&`.
 fn reads_at<'a>(tape: &'a [u8], area: &'a [u8], line: &'a [u64], x: Expr, k: usize) -> bool
     requires { ⌜ Holds (now tape) (now area) (now line) × Expression (now line) x × (k < x .count) ⌝ }
-    ensures { λ r. ⌜ r ≡ reads-here (before-at (tokens-of (now (tape .entry)) (now (area .entry)) (expr-words (now (line .entry)) x)) k)
-        (token-of (now (tape .entry)) (now (area .entry)) (getD (expr-words (now (line .entry)) x) k 0)) ⌝ }
+    ensures { λ r. ⌜ r ≡ reads-here (before-at (tokens-of (was tape) (was area) (expr-words (was line) x)) k)
+        (token-of (was tape) (was area) (getD (expr-words (was line) x) k 0)) ⌝ }
 {
     let w = shapes::expr_word(line, x, k);
     let kind = words::kind(w);
@@ -57,7 +58,7 @@ fn reads_at<'a>(tape: &'a [u8], area: &'a [u8], line: &'a [u64], x: Expr, k: usi
 // Whether the right side x of a line reads memory.
 pub fn reads_memory<'a>(tape: &'a [u8], area: &'a [u8], line: &'a [u64], x: Expr) -> bool
     requires { ⌜ Holds (now tape) (now area) (now line) × Expression (now line) x ⌝ }
-    ensures { λ r. ⌜ r ≡ reads-memory (tokens-of (now (tape .entry)) (now (area .entry)) (expr-words (now (line .entry)) x)) ⌝ }
+    ensures { λ r. ⌜ r ≡ reads-memory (tokens-of (was tape) (was area) (expr-words (was line) x)) ⌝ }
 {
     let n = x.count;
     let mut k = 0;
@@ -73,7 +74,7 @@ pub fn reads_memory<'a>(tape: &'a [u8], area: &'a [u8], line: &'a [u64], x: Expr
 // The line as a definition.
 pub fn definition_of<'a>(tape: &'a [u8], area: &'a [u8], line: &'a [u64]) -> Defined
     requires { ⌜ Holds (now tape) (now area) (now line) ⌝ }
-    ensures { λ r. ⌜ Defines (now (tape .entry)) (now (area .entry)) (now (line .entry)) r ⌝ }
+    ensures { λ r. ⌜ Defines (was tape) (was area) (was line) r ⌝ }
 {
     let Assigned::To(x) = shapes::assignment(tape, area, line) else {
         return Defined::Nothing;

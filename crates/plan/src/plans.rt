@@ -5,17 +5,19 @@ use crate::definitions::definition_of;
 use crate::reaches;
 use crate::slots::is_addressed;
 use crate::uses;
+use life::Followed;
 use life::dead_after;
 use lines::fams;
 use lines::fams::Fam;
 use lines::rules::Rules;
 use lines::shapes;
 use lines::shapes::Expr;
-use lines::shapes::Found;
+use lines::shapes::Position;
 use lines::words;
 ghost use mathlib.Core.Path.{_≡_};
 ghost use Prim.Native.Nat.{_<_};
 ghost use lib.ListN.{length, getD};
+ghost use Rattle.reference.specs.Contract.{was};
 ghost use Rattle.reference.specs.Rules.{volatile};
 ghost use Rattle.reference.specs.Join.{is-bracketed};
 ghost use Rattle.joining.specs.Places.{labels-at, Labelled};
@@ -72,11 +74,10 @@ fn propagate_constant<'a>(
     requires { ⌜ Listed (now tape) (now area) (now tokens) (now lines)
         × Labelled (bare-listing (now tape) (now area) (now tokens) (now lines)) (now labels)
         × Sound (now tape) (now area) (part-of (now tokens) (getD (now lines) i 0)) d × (i < length (now lines)) ⌝ }
-    ensures { λ r. ⌜ Plans (now (tape .entry)) (now (area .entry)) (part-of (now (tokens .entry)) (getD (now (lines .entry)) i 0)) i
-        (plan-constant (bare-listing (now (tape .entry)) (now (area .entry)) (now (tokens .entry)) (now (lines .entry))) i
-        (definition-in (now (tape .entry)) (now (area .entry)) (part-of (now (tokens .entry)) (getD (now (lines .entry)) i 0)) d)
-        (labels-at (bare-listing (now (tape .entry)) (now (area .entry)) (now (tokens .entry)) (now (lines .entry))) (now (labels .entry)))
-        (volatile (rules-of rules))) r ⌝ }
+    ensures { λ r. ⌜ Plans (was tape) (was area) (part-of (was tokens) (getD (was lines) i 0)) i
+        (plan-constant (bare-listing (was tape) (was area) (was tokens) (was lines)) i
+        (definition-in (was tape) (was area) (part-of (was tokens) (getD (was lines) i 0)) d)
+        (labels-at (bare-listing (was tape) (was area) (was tokens) (was lines)) (was labels)) (volatile (rules-of rules))) r ⌝ }
 {
     let f = d.family;
     let r = reaches::reach_of(tape, area, tokens, lines, i, f, rules);
@@ -102,8 +103,7 @@ fn is_bracketed<'a>(
     rules: Rules,
 ) -> bool
     requires { ⌜ Holds (now tape) (now area) (now source) × Expression (now source) x ⌝ }
-    ensures { λ r. ⌜ r ≡ is-bracketed (rules-of rules)
-        (tokens-of (now (tape .entry)) (now (area .entry)) (expr-words (now (source .entry)) x)) ⌝ }
+    ensures { λ r. ⌜ r ≡ is-bracketed (rules-of rules) (tokens-of (was tape) (was area) (expr-words (was source) x)) ⌝ }
 {
     if rules.profile {
         return 1 < x.count;
@@ -123,9 +123,8 @@ fn wants_brackets<'a>(
 ) -> bool
     requires { ⌜ Holds (now tape) (now area) (now source) × Expression (now source) x × Holds (now tape) (now area) (now line)
         × (pos < length (now line)) ⌝ }
-    ensures { λ r. ⌜ r ≡ wants-brackets (rules-of rules)
-        (tokens-of (now (tape .entry)) (now (area .entry)) (expr-words (now (source .entry)) x))
-        (tokens-of (now (tape .entry)) (now (area .entry)) (now (line .entry))) pos ⌝ }
+    ensures { λ r. ⌜ r ≡ wants-brackets (rules-of rules) (tokens-of (was tape) (was area) (expr-words (was source) x))
+        (tokens-of (was tape) (was area) (was line)) pos ⌝ }
 {
     if !is_bracketed(tape, area, source, x, rules) {
         return false;
@@ -146,13 +145,12 @@ fn plan_among<'a>(
 ) -> Plan
     requires { ⌜ Holds (now tape) (now area) (now source) × Holds (now tape) (now area) (now line)
         × Sound (now tape) (now area) (now source) d ⌝ }
-    ensures { λ r. ⌜ Plans (now (tape .entry)) (now (area .entry)) (now (source .entry)) i
-        (plan-among (rules-of rules)
-        (definition-in (now (tape .entry)) (now (area .entry)) (now (source .entry)) d)
-        (tokens-of (now (tape .entry)) (now (area .entry)) (now (line .entry))) j) r ⌝ }
+    ensures { λ r. ⌜ Plans (was tape) (was area) (was source) i
+        (plan-among (rules-of rules) (definition-in (was tape) (was area) (was source) d) (tokens-of (was tape) (was area) (was line)) j)
+        r ⌝ }
 {
     let f = d.family;
-    let Found::At(pos) = fams::first_of(tape, area, line, f) else {
+    let Position::At(pos) = fams::first_of(tape, area, line, f) else {
         return Plan::Nothing;
     };
     if !uses::use_fits(tape, area, line, pos, f, d.width, d.lowest, rules.parts) {
@@ -179,31 +177,23 @@ fn plan_use<'a>(
         × Labelled (bare-listing (now tape) (now area) (now tokens) (now lines)) (now labels)
         × Sound (now tape) (now area) (part-of (now tokens) (getD (now lines) i 0)) d × (i < length (now lines))
         × (j < length (now lines)) ⌝ }
-    ensures { λ r. ⌜ Plans (now (tape .entry)) (now (area .entry)) (part-of (now (tokens .entry)) (getD (now (lines .entry)) i 0)) i
-        (plan-use (rules-of rules) (bare-listing (now (tape .entry)) (now (area .entry)) (now (tokens .entry)) (now (lines .entry))) i
-        (definition-in (now (tape .entry)) (now (area .entry)) (part-of (now (tokens .entry)) (getD (now (lines .entry)) i 0)) d)
-        (labels-at (bare-listing (now (tape .entry)) (now (area .entry)) (now (tokens .entry)) (now (lines .entry)))
-        (now (labels .entry))) (volatile (rules-of rules)) j) r ⌝ }
+    ensures { λ r. ⌜ Plans (was tape) (was area) (part-of (was tokens) (getD (was lines) i 0)) i
+        (plan-use (rules-of rules) (bare-listing (was tape) (was area) (was tokens) (was lines)) i
+        (definition-in (was tape) (was area) (part-of (was tokens) (getD (was lines) i 0)) d)
+        (labels-at (bare-listing (was tape) (was area) (was tokens) (was lines)) (was labels)) (volatile (rules-of rules)) j) r ⌝ }
 {
     let s = lines[i];
     let line = words::line_of(tokens, lines[j]);
     if shapes::has_while(tape, area, line) {
         return Plan::Nothing;
     }
-    let f = d.family;
-    let base_indent = words::indent(s);
-    if !dead_after(
-        tape,
-        area,
-        tokens,
-        lines,
-        labels,
-        j,
-        f,
-        base_indent,
-        i,
+    let v = Followed {
+        family: d.family,
+        indent: words::indent(s),
+        start: i,
         rules,
-    ) {
+    };
+    if !dead_after(tape, area, tokens, lines, labels, j, v) {
         return Plan::Nothing;
     }
     plan_among(tape, area, words::line_of(tokens, s), line, i, j, d, rules)
@@ -223,13 +213,12 @@ fn plan_single<'a>(
     requires { ⌜ Listed (now tape) (now area) (now tokens) (now lines)
         × Labelled (bare-listing (now tape) (now area) (now tokens) (now lines)) (now labels)
         × Sound (now tape) (now area) (part-of (now tokens) (getD (now lines) i 0)) d × (i < length (now lines)) ⌝ }
-    ensures { λ r. ⌜ Plans (now (tape .entry)) (now (area .entry)) (part-of (now (tokens .entry)) (getD (now (lines .entry)) i 0)) i
-        (plan-single (rules-of rules) (bare-listing (now (tape .entry)) (now (area .entry)) (now (tokens .entry)) (now (lines .entry))) i
-        (definition-in (now (tape .entry)) (now (area .entry)) (part-of (now (tokens .entry)) (getD (now (lines .entry)) i 0)) d)
-        (labels-at (bare-listing (now (tape .entry)) (now (area .entry)) (now (tokens .entry)) (now (lines .entry)))
-        (now (labels .entry))) (volatile (rules-of rules))) r ⌝ }
+    ensures { λ r. ⌜ Plans (was tape) (was area) (part-of (was tokens) (getD (was lines) i 0)) i
+        (plan-single (rules-of rules) (bare-listing (was tape) (was area) (was tokens) (was lines)) i
+        (definition-in (was tape) (was area) (part-of (was tokens) (getD (was lines) i 0)) d)
+        (labels-at (bare-listing (was tape) (was area) (was tokens) (was lines)) (was labels)) (volatile (rules-of rules))) r ⌝ }
 {
-    let Found::At(j) = uses::use_of(tape, area, tokens, lines, i, d, rules) else {
+    let Position::At(j) = uses::use_of(tape, area, tokens, lines, i, d, rules) else {
         return Plan::Nothing;
     };
     plan_use(tape, area, tokens, lines, labels, i, j, d, rules)
@@ -249,11 +238,10 @@ fn plan_for<'a>(
     requires { ⌜ Listed (now tape) (now area) (now tokens) (now lines)
         × Labelled (bare-listing (now tape) (now area) (now tokens) (now lines)) (now labels)
         × Sound (now tape) (now area) (part-of (now tokens) (getD (now lines) i 0)) d × (i < length (now lines)) ⌝ }
-    ensures { λ r. ⌜ Plans (now (tape .entry)) (now (area .entry)) (part-of (now (tokens .entry)) (getD (now (lines .entry)) i 0)) i
-        (plan-for (rules-of rules) (bare-listing (now (tape .entry)) (now (area .entry)) (now (tokens .entry)) (now (lines .entry))) i
-        (definition-in (now (tape .entry)) (now (area .entry)) (part-of (now (tokens .entry)) (getD (now (lines .entry)) i 0)) d)
-        (labels-at (bare-listing (now (tape .entry)) (now (area .entry)) (now (tokens .entry)) (now (lines .entry)))
-        (now (labels .entry))) (volatile (rules-of rules))) r ⌝ }
+    ensures { λ r. ⌜ Plans (was tape) (was area) (part-of (was tokens) (getD (was lines) i 0)) i
+        (plan-for (rules-of rules) (bare-listing (was tape) (was area) (was tokens) (was lines)) i
+        (definition-in (was tape) (was area) (part-of (was tokens) (getD (was lines) i 0)) d)
+        (labels-at (bare-listing (was tape) (was area) (was tokens) (was lines)) (was labels)) (volatile (rules-of rules))) r ⌝ }
 {
     let x = d.expr;
     if !shapes::is_lone_number(words::line_of(tokens, lines[i]), x) {
@@ -280,10 +268,10 @@ pub fn decide<'a>(
     requires { ⌜ Listed (now tape) (now area) (now tokens) (now lines)
         × Labelled (bare-listing (now tape) (now area) (now tokens) (now lines)) (now labels) × Slotted (now slots) (now «slot_words»)
         × (i < length (now lines)) ⌝ }
-    ensures { λ r. ⌜ Plans (now (tape .entry)) (now (area .entry)) (part-of (now (tokens .entry)) (getD (now (lines .entry)) i 0)) i
-        (decide (rules-of rules) (bare-listing (now (tape .entry)) (now (area .entry)) (now (tokens .entry)) (now (lines .entry))) i
-        (labels-at (bare-listing (now (tape .entry)) (now (area .entry)) (now (tokens .entry)) (now (lines .entry))) (now (labels .entry)))
-        (slot-names (now (slots .entry)) (now («slot_words» .entry)))) r ⌝ }
+    ensures { λ r. ⌜ Plans (was tape) (was area) (part-of (was tokens) (getD (was lines) i 0)) i
+        (decide (rules-of rules) (bare-listing (was tape) (was area) (was tokens) (was lines)) i
+        (labels-at (bare-listing (was tape) (was area) (was tokens) (was lines)) (was labels))
+        (slot-names (was slots) (was «slot_words»))) r ⌝ }
 {
     let Defined::As(d) = definition_of(tape, area, words::line_of(tokens, lines[i])) else {
         return Plan::Nothing;

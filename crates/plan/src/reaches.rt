@@ -1,9 +1,10 @@
 // How far a constant reaches, and whether every use takes it: the scan and the tests of `propagate_constant` of the Rust.
+use life::Followed;
 use life::Touched;
 use life::dead_after;
-use linemarks::is_calling;
-use linemarks::is_quiet;
-use linemarks::number_of;
+use linefacts::is_calling;
+use linefacts::is_transparent;
+use linefacts::number_of;
 use lines::fams;
 use lines::fams::Fam;
 use lines::rules::Rules;
@@ -13,6 +14,7 @@ ghost use mathlib.Core.Path.{_≡_};
 ghost use Prim.Native.Nat.{suc, _<_};
 ghost use lib.ListN.{length};
 ghost use lib.Seq.{slice};
+ghost use Rattle.reference.specs.Contract.{was};
 ghost use Rattle.reference.specs.Rules.{volatile};
 ghost use Rattle.reference.specs.Join.{ends-run, updates-first, bad-use};
 ghost use Rattle.joining.specs.Places.{labels-at, Labelled};
@@ -34,7 +36,7 @@ pub struct Reach {
 // Whether a line ends the run of lines before it is looked at.
 fn ends_run<'a>(tape: &'a [u8], area: &'a [u8], tokens: &'a [u64], l: u64, base_indent: u64) -> bool
     requires { ⌜ Lined (now tape) (now area) (now tokens) l ⌝ }
-    ensures { λ r. ⌜ r ≡ ends-run «base_indent» (bare-in (now (tape .entry)) (now (area .entry)) (now (tokens .entry)) l) ⌝ }
+    ensures { λ r. ⌜ r ≡ ends-run «base_indent» (bare-in (was tape) (was area) (was tokens) l) ⌝ }
 {
     let line = words::line_of(tokens, l);
     if shapes::is_label(tape, area, line) {
@@ -62,8 +64,8 @@ fn reach_at<'a>(
     rules: Rules,
 ) -> Reach
     requires { ⌜ Lined (now tape) (now area) (now tokens) l × Known (now tape) (now area) f ⌝ }
-    ensures { λ n. ⌜ reach n ≡ reach-at «base_indent» (fam-text (now (tape .entry)) (now (area .entry)) f) (volatile (rules-of rules)) j
-        (bare-in (now (tape .entry)) (now (area .entry)) (now (tokens .entry)) l) (reach r) ⌝ }
+    ensures { λ n. ⌜ reach n ≡ reach-at «base_indent» (fam-text (was tape) (was area) f) (volatile (rules-of rules)) j
+        (bare-in (was tape) (was area) (was tokens) l) (reach r) ⌝ }
 {
     if ends_run(tape, area, tokens, l, base_indent) {
         return Reach {
@@ -93,9 +95,9 @@ fn reach_at<'a>(
     }
 }
 
-// The same, where n is the number of the family: at the same indent a quiet line changes nothing, and a calling one only what calls
-// overwrite.
-fn reach_by_marks<'a>(
+// How far a constant reaches with one line more, by the line's facts where they tell it: at the same indent a transparent line changes
+// nothing, and a calling one only what calls overwrite. n is the number of the family.
+fn reach_by_facts<'a>(
     tape: &'a [u8],
     area: &'a [u8],
     tokens: &'a [u64],
@@ -109,11 +111,11 @@ fn reach_by_marks<'a>(
 ) -> Reach
     requires { ⌜ Lined (now tape) (now area) (now tokens) l × Known (now tape) (now area) f
         × (n ≡ family-number (fam-text (now tape) (now area) f)) ⌝ }
-    ensures { λ q. ⌜ reach q ≡ reach-at «base_indent» (fam-text (now (tape .entry)) (now (area .entry)) f) (volatile (rules-of rules)) j
-        (bare-in (now (tape .entry)) (now (area .entry)) (now (tokens .entry)) l) (reach r) ⌝ }
+    ensures { λ q. ⌜ reach q ≡ reach-at «base_indent» (fam-text (was tape) (was area) f) (volatile (rules-of rules)) j
+        (bare-in (was tape) (was area) (was tokens) l) (reach r) ⌝ }
 {
     if words::indent(l) == base_indent {
-        if is_quiet(l, n) {
+        if is_transparent(l, n) {
             return Reach {
                 used: r.used,
                 last: r.last,
@@ -149,8 +151,8 @@ pub fn reach_of<'a>(
     rules: Rules,
 ) -> Reach
     requires { ⌜ Listed (now tape) (now area) (now tokens) (now lines) × Known (now tape) (now area) f × (i < length (now lines)) ⌝ }
-    ensures { λ r. ⌜ reach r ≡ reach-of (bare-listing (now (tape .entry)) (now (area .entry)) (now (tokens .entry)) (now (lines .entry))) i
-        (fam-text (now (tape .entry)) (now (area .entry)) f) (volatile (rules-of rules)) ⌝ }
+    ensures { λ r. ⌜ reach r ≡ reach-of (bare-listing (was tape) (was area) (was tokens) (was lines)) i
+        (fam-text (was tape) (was area) f) (volatile (rules-of rules)) ⌝ }
 {
     let base_indent = words::indent(lines[i]);
     let n = number_of(tape, area, f);
@@ -164,7 +166,7 @@ pub fn reach_of<'a>(
         if r.ended {
             return r;
         }
-        r = reach_by_marks(tape, area, tokens, lines[j], j, base_indent, f, n, r, rules);
+        r = reach_by_facts(tape, area, tokens, lines[j], j, base_indent, f, n, r, rules);
         j += 1;
     }
     r
@@ -173,8 +175,7 @@ pub fn reach_of<'a>(
 // Whether the first token of a line is of the family, and a Punct after it is neither ` = ` nor ` ==`.
 fn updates_first<'a>(tape: &'a [u8], area: &'a [u8], line: &'a [u64], f: Fam) -> bool
     requires { ⌜ Holds (now tape) (now area) (now line) × Known (now tape) (now area) f ⌝ }
-    ensures { λ r. ⌜ r ≡ updates-first (fam-text (now (tape .entry)) (now (area .entry)) f)
-        (tokens-of (now (tape .entry)) (now (area .entry)) (now (line .entry))) ⌝ }
+    ensures { λ r. ⌜ r ≡ updates-first (fam-text (was tape) (was area) f) (tokens-of (was tape) (was area) (was line)) ⌝ }
 {
     if line.len() < 2 {
         return false;
@@ -196,8 +197,7 @@ fn updates_first<'a>(tape: &'a [u8], area: &'a [u8], line: &'a [u64], f: Fam) ->
 // Whether a line that uses the family does not only read it, or reads less than 32 bits of it.
 fn bad_use<'a>(tape: &'a [u8], area: &'a [u8], line: &'a [u64], f: Fam) -> bool
     requires { ⌜ Holds (now tape) (now area) (now line) × Known (now tape) (now area) f ⌝ }
-    ensures { λ r. ⌜ r ≡ bad-use (fam-text (now (tape .entry)) (now (area .entry)) f)
-        (tokens-of (now (tape .entry)) (now (area .entry)) (now (line .entry))) ⌝ }
+    ensures { λ r. ⌜ r ≡ bad-use (fam-text (was tape) (was area) f) (tokens-of (was tape) (was area) (was line)) ⌝ }
 {
     if fams::writes(tape, area, line, f) {
         return true;
@@ -218,8 +218,8 @@ fn refuses_constant<'a>(
     rules: Rules,
 ) -> bool
     requires { ⌜ Lined (now tape) (now area) (now tokens) l × Known (now tape) (now area) f ⌝ }
-    ensures { λ r. ⌜ r ≡ refuses (fam-text (now (tape .entry)) (now (area .entry)) f) (volatile (rules-of rules))
-        (bare-in (now (tape .entry)) (now (area .entry)) (now (tokens .entry)) l) ⌝ }
+    ensures { λ r. ⌜ r ≡ refuses (fam-text (was tape) (was area) f) (volatile (rules-of rules))
+        (bare-in (was tape) (was area) (was tokens) l) ⌝ }
 {
     let line = words::line_of(tokens, l);
     if !life::uses(tape, area, line, f, rules) {
@@ -241,8 +241,8 @@ pub fn all_take<'a>(
 ) -> bool
     requires { ⌜ Listed (now tape) (now area) (now tokens) (now lines) × Known (now tape) (now area) f × (i < length (now lines))
         × (last < length (now lines)) ⌝ }
-    ensures { λ r. ⌜ r ≡ all-take (fam-text (now (tape .entry)) (now (area .entry)) f) (volatile (rules-of rules))
-        (slice (suc i) (suc last) (bare-listing (now (tape .entry)) (now (area .entry)) (now (tokens .entry)) (now (lines .entry)))) ⌝ }
+    ensures { λ r. ⌜ r ≡ all-take (fam-text (was tape) (was area) f) (volatile (rules-of rules))
+        (slice (suc i) (suc last) (bare-listing (was tape) (was area) (was tokens) (was lines))) ⌝ }
 {
     let mut j = i + 1;
     while j <= last {
@@ -269,24 +269,16 @@ pub fn ends_at<'a>(
     requires { ⌜ Listed (now tape) (now area) (now tokens) (now lines)
         × Labelled (bare-listing (now tape) (now area) (now tokens) (now lines)) (now labels) × Known (now tape) (now area) f
         × (i < length (now lines)) × (last < length (now lines)) ⌝ }
-    ensures { λ r. ⌜ r ≡ ends-at (bare-listing (now (tape .entry)) (now (area .entry)) (now (tokens .entry)) (now (lines .entry))) i
-        (fam-text (now (tape .entry)) (now (area .entry)) f)
-        (labels-at (bare-listing (now (tape .entry)) (now (area .entry)) (now (tokens .entry)) (now (lines .entry))) (now (labels .entry)))
-        (volatile (rules-of rules)) last ⌝ }
+    ensures { λ r. ⌜ r ≡ ends-at (bare-listing (was tape) (was area) (was tokens) (was lines)) i (fam-text (was tape) (was area) f)
+        (labels-at (bare-listing (was tape) (was area) (was tokens) (was lines)) (was labels)) (volatile (rules-of rules)) last ⌝ }
 {
-    let base_indent = words::indent(lines[i]);
-    if dead_after(
-        tape,
-        area,
-        tokens,
-        lines,
-        labels,
-        last,
-        f,
-        base_indent,
-        i,
+    let v = Followed {
+        family: f,
+        indent: words::indent(lines[i]),
+        start: i,
         rules,
-    ) {
+    };
+    if dead_after(tape, area, tokens, lines, labels, last, v) {
         return true;
     }
     life::kills(tape, area, words::line_of(tokens, lines[last]), f, rules)

@@ -2,6 +2,7 @@
 use lines::fams::Fam;
 use lines::words;
 ghost use mathlib.Core.Path.{_≡_};
+ghost use Rattle.reference.specs.Contract.{was};
 ghost use Rattle.reference.specs.Text.{has};
 ghost use Rattle.lines.specs.Words.{Holds};
 ghost use Rattle.lines.specs.Fams.{fam-text, Known};
@@ -9,7 +10,7 @@ ghost use Rattle.plan.specs.Slots.{slot-names, Slotted};
 
 fn slot_among<'a>(slots: &'a [u8], slot_words: &'a [u64], s: &'a [u8]) -> bool
     requires { ⌜ Holds (now slots) (now slots) (now «slot_words») ⌝ }
-    ensures { λ r. ⌜ r ≡ has (slot-names (now (slots .entry)) (now («slot_words» .entry))) (now (s .entry)) ⌝ }
+    ensures { λ r. ⌜ r ≡ has (slot-names (was slots) (was «slot_words»)) (was s) ⌝ }
 {
     let mut k = 0;
     while k < slot_words.len() {
@@ -30,8 +31,7 @@ pub fn is_addressed<'a>(
     f: Fam,
 ) -> bool
     requires { ⌜ Slotted (now slots) (now «slot_words») × Known (now tape) (now area) f ⌝ }
-    ensures { λ r. ⌜ r ≡ has (slot-names (now (slots .entry)) (now («slot_words» .entry)))
-        (fam-text (now (tape .entry)) (now (area .entry)) f) ⌝ }
+    ensures { λ r. ⌜ r ≡ has (slot-names (was slots) (was «slot_words»)) (fam-text (was tape) (was area) f) ⌝ }
 {
     if f < 8 {
         return false;

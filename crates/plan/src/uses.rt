@@ -1,22 +1,23 @@
 // The single use of a definition, and whether the right side can take its place there: the second half of `try_at` of the Rust.
 use crate::definitions::Definition;
 use life::Touched;
-use linemarks::is_calling;
-use linemarks::is_quiet;
-use linemarks::number_of;
+use linefacts::is_calling;
+use linefacts::is_transparent;
+use linefacts::number_of;
 use lines::fams;
 use lines::fams::Fam;
 use lines::fams::Named;
 use lines::rules::Rules;
 use lines::shapes;
 use lines::shapes::Assigned;
-use lines::shapes::Found;
+use lines::shapes::Position;
 use lines::words;
 ghost use mathlib.Core.Path.{_≡_};
 ghost use mathlib.Core.Bool.{false};
 ghost use Prim.Native.Nat.{_<_};
 ghost use lib.Dec.{ltb, eqb};
 ghost use lib.ListN.{length, getD};
+ghost use Rattle.reference.specs.Contract.{was};
 ghost use Rattle.reference.specs.Control.{not, _&&_, _||_};
 ghost use Rattle.reference.specs.Rules.{volatile};
 ghost use Rattle.reference.specs.Join.{text-before, text-after, standalone, use-width, use-lowest, is-compound, replaceable};
@@ -48,7 +49,7 @@ fn same_run<'a>(
     l: u64,
 ) -> bool
     requires { ⌜ Lined (now tape) (now area) (now tokens) l ⌝ }
-    ensures { λ r. ⌜ r ≡ same-run «base_indent» calls (bare-in (now (tape .entry)) (now (area .entry)) (now (tokens .entry)) l) ⌝ }
+    ensures { λ r. ⌜ r ≡ same-run «base_indent» calls (bare-in (was tape) (was area) (was tokens) l) ⌝ }
 {
     if calls {
         return false;
@@ -73,8 +74,8 @@ fn leaves_inputs<'a>(
 ) -> bool
     requires { ⌜ Holds (now tape) (now area) (now source) × Holds (now tape) (now area) (now line)
         × Sound (now tape) (now area) (now source) d ⌝ }
-    ensures { λ r. ⌜ r ≡ leaves-inputs (definition-in (now (tape .entry)) (now (area .entry)) (now (source .entry)) d .expr)
-        (tokens-of (now (tape .entry)) (now (area .entry)) (now (line .entry))) ⌝ }
+    ensures { λ r. ⌜ r ≡ leaves-inputs (definition-in (was tape) (was area) (was source) d .expr)
+        (tokens-of (was tape) (was area) (was line)) ⌝ }
 {
     let Assigned::To(_) = shapes::assignment(tape, area, line) else {
         return false;
@@ -104,9 +105,8 @@ fn look_at<'a>(
 ) -> Look
     requires { ⌜ Lined (now tape) (now area) (now tokens) s × Lined (now tape) (now area) (now tokens) l
         × Sound (now tape) (now area) (part-of (now tokens) s) d ⌝ }
-    ensures { λ r. ⌜ looked r
-        ≡ look (indent-of s) (definition-in (now (tape .entry)) (now (area .entry)) (part-of (now (tokens .entry)) s) d)
-        (volatile (rules-of rules)) (bare-in (now (tape .entry)) (now (area .entry)) (now (tokens .entry)) l) ⌝ }
+    ensures { λ r. ⌜ looked r ≡ look (indent-of s) (definition-in (was tape) (was area) (part-of (was tokens) s) d)
+        (volatile (rules-of rules)) (bare-in (was tape) (was area) (was tokens) l) ⌝ }
 {
     let line = words::line_of(tokens, l);
     if shapes::is_label(tape, area, line) {
@@ -133,9 +133,9 @@ fn look_at<'a>(
     }
 }
 
-// The same, where n is the number of the family: a calling line ends the run, and a quiet line of the same run is only asked what it
-// leaves alone.
-fn look_by_marks<'a>(
+// What the search for the single use makes of a line, by its facts where they tell it: a calling line ends the run, and a transparent line
+// of the same run is only asked what it leaves alone. n is the number of the family.
+fn look_by_facts<'a>(
     tape: &'a [u8],
     area: &'a [u8],
     tokens: &'a [u64],
@@ -147,14 +147,13 @@ fn look_by_marks<'a>(
 ) -> Look
     requires { ⌜ Lined (now tape) (now area) (now tokens) s × Lined (now tape) (now area) (now tokens) l
         × Sound (now tape) (now area) (part-of (now tokens) s) d × (n ≡ family-number (fam-text (now tape) (now area) (d .family))) ⌝ }
-    ensures { λ r. ⌜ looked r
-        ≡ look (indent-of s) (definition-in (now (tape .entry)) (now (area .entry)) (part-of (now (tokens .entry)) s) d)
-        (volatile (rules-of rules)) (bare-in (now (tape .entry)) (now (area .entry)) (now (tokens .entry)) l) ⌝ }
+    ensures { λ r. ⌜ looked r ≡ look (indent-of s) (definition-in (was tape) (was area) (part-of (was tokens) s) d)
+        (volatile (rules-of rules)) (bare-in (was tape) (was area) (was tokens) l) ⌝ }
 {
     if is_calling(l, n) {
         return Look::Stops;
     }
-    if !is_quiet(l, n) {
+    if !is_transparent(l, n) {
         return look_at(tape, area, tokens, s, l, d, rules);
     }
     if d.calls {
@@ -184,30 +183,29 @@ pub fn use_of<'a>(
     i: usize,
     d: Definition,
     rules: Rules,
-) -> Found
+) -> Position
     requires { ⌜ Listed (now tape) (now area) (now tokens) (now lines)
         × Sound (now tape) (now area) (part-of (now tokens) (getD (now lines) i 0)) d × (i < length (now lines)) ⌝ }
-    ensures { λ r. ⌜ found r ≡ use-of (bare-listing (now (tape .entry)) (now (area .entry)) (now (tokens .entry)) (now (lines .entry))) i
-        (definition-in (now (tape .entry)) (now (area .entry)) (part-of (now (tokens .entry)) (getD (now (lines .entry)) i 0)) d)
-        (volatile (rules-of rules)) ⌝ }
+    ensures { λ r. ⌜ found r ≡ use-of (bare-listing (was tape) (was area) (was tokens) (was lines)) i
+        (definition-in (was tape) (was area) (part-of (was tokens) (getD (was lines) i 0)) d) (volatile (rules-of rules)) ⌝ }
 {
     let s = lines[i];
     let f = d.family;
     let n = number_of(tape, area, f);
     let mut j = i + 1;
     while j < lines.len() {
-        match look_by_marks(tape, area, tokens, s, lines[j], d, n, rules) {
+        match look_by_facts(tape, area, tokens, s, lines[j], d, n, rules) {
             Look::Use => {
-                return Found::At(j);
+                return Position::At(j);
             }
             Look::Passes => {}
             Look::Stops => {
-                return Found::Nothing;
+                return Position::Nothing;
             }
         }
         j += 1;
     }
-    Found::Nothing
+    Position::Nothing
 }
 
 // ---- the token that uses it
@@ -228,7 +226,7 @@ fn widths_fit(width: u64, used: u64) -> bool
 // The width of the token at `pos`.
 fn use_width<'a>(tape: &'a [u8], area: &'a [u8], line: &'a [u64], pos: usize) -> u64
     requires { ⌜ Holds (now tape) (now area) (now line) × (pos < length (now line)) ⌝ }
-    ensures { λ r. ⌜ r ≡ use-width (tokens-of (now (tape .entry)) (now (area .entry)) (now (line .entry))) pos ⌝ }
+    ensures { λ r. ⌜ r ≡ use-width (tokens-of (was tape) (was area) (was line)) pos ⌝ }
 {
     match fams::name_of(tape, area, line[pos]) {
         Named::As(_, width, _) => width,
@@ -239,7 +237,7 @@ fn use_width<'a>(tape: &'a [u8], area: &'a [u8], line: &'a [u64], pos: usize) ->
 // Whether the token at `pos` is written through a compound operator: it stands first, and an operator follows that is not ` = `.
 fn is_compound<'a>(tape: &'a [u8], area: &'a [u8], line: &'a [u64], pos: usize) -> bool
     requires { ⌜ Holds (now tape) (now area) (now line) ⌝ }
-    ensures { λ r. ⌜ r ≡ is-compound (tokens-of (now (tape .entry)) (now (area .entry)) (now (line .entry))) pos ⌝ }
+    ensures { λ r. ⌜ r ≡ is-compound (tokens-of (was tape) (was area) (was line)) pos ⌝ }
 {
     if pos != 0 {
         return false;
@@ -261,9 +259,8 @@ fn is_compound<'a>(tape: &'a [u8], area: &'a [u8], line: &'a [u64], pos: usize) 
 // Whether the use at `pos` may be replaced by an expression of this width, whatever its part.
 fn fits<'a>(tape: &'a [u8], area: &'a [u8], line: &'a [u64], pos: usize, f: Fam, width: u64) -> bool
     requires { ⌜ Holds (now tape) (now area) (now line) × (pos < length (now line)) × Known (now tape) (now area) f ⌝ }
-    ensures { λ r. ⌜ r ≡ replaceable false
-        (record { name = fam-text (now (tape .entry)) (now (area .entry)) f; width = width; lowest = 0 })
-        (tokens-of (now (tape .entry)) (now (area .entry)) (now (line .entry))) pos ⌝ }
+    ensures { λ r. ⌜ r ≡ replaceable false (record { name = fam-text (was tape) (was area) f; width = width; lowest = 0 })
+        (tokens-of (was tape) (was area) (was line)) pos ⌝ }
 {
     if !widths_fit(width, use_width(tape, area, line, pos)) {
         return false;
@@ -283,8 +280,8 @@ fn begins_elsewhere<'a>(
     lowest: u64,
 ) -> bool
     requires { ⌜ Holds (now tape) (now area) (now line) × (pos < length (now line)) ⌝ }
-    ensures { λ r. ⌜ r ≡ (ltb (use-width (tokens-of (now (tape .entry)) (now (area .entry)) (now (line .entry))) pos) 32
-        && not (eqb (use-lowest (tokens-of (now (tape .entry)) (now (area .entry)) (now (line .entry))) pos) lowest)) ⌝ }
+    ensures { λ r. ⌜ r ≡ (ltb (use-width (tokens-of (was tape) (was area) (was line)) pos) 32
+        && not (eqb (use-lowest (tokens-of (was tape) (was area) (was line)) pos) lowest)) ⌝ }
 {
     match fams::name_of(tape, area, line[pos]) {
         Named::As(_, width, from) => {
@@ -310,9 +307,8 @@ pub fn use_fits<'a>(
     parts: bool,
 ) -> bool
     requires { ⌜ Holds (now tape) (now area) (now line) × (pos < length (now line)) × Known (now tape) (now area) f ⌝ }
-    ensures { λ r. ⌜ r ≡ replaceable parts
-        (record { name = fam-text (now (tape .entry)) (now (area .entry)) f; width = width; lowest = lowest })
-        (tokens-of (now (tape .entry)) (now (area .entry)) (now (line .entry))) pos ⌝ }
+    ensures { λ r. ⌜ r ≡ replaceable parts (record { name = fam-text (was tape) (was area) f; width = width; lowest = lowest })
+        (tokens-of (was tape) (was area) (was line)) pos ⌝ }
 {
     if !fits(tape, area, line, pos, f, width) {
         return false;
@@ -326,8 +322,8 @@ pub fn use_fits<'a>(
 // Whether the token at `pos` stands between delimiters.
 pub fn is_standalone<'a>(tape: &'a [u8], area: &'a [u8], line: &'a [u64], pos: usize) -> bool
     requires { ⌜ Holds (now tape) (now area) (now line) × (pos < length (now line)) ⌝ }
-    ensures { λ r. ⌜ r ≡ standalone (text-before (tokens-of (now (tape .entry)) (now (area .entry)) (now (line .entry))) pos)
-        (text-after (tokens-of (now (tape .entry)) (now (area .entry)) (now (line .entry))) pos) ⌝ }
+    ensures { λ r. ⌜ r ≡ standalone (text-before (tokens-of (was tape) (was area) (was line)) pos)
+        (text-after (tokens-of (was tape) (was area) (was line)) pos) ⌝ }
 {
     if pos == 0 {
         return false;

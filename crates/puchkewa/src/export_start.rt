@@ -2,6 +2,7 @@
 use answers::Told;
 use answers::tell;
 ghost use mathlib.Core.Path.{_≡_};
+ghost use Rattle.reference.specs.Contract.{was};
 ghost use Rattle.answers.specs.Answers.{in-numbers, numbers-of};
 ghost use Rattle.start.specs.Start.{start-reply};
 
@@ -13,7 +14,7 @@ pub extern "C" fn puchkewa_start_value<'a>(
     values: &'a [u8],
     wanted: u64,
 ) -> Told
-    ensures { λ r. ⌜ numbers-of r ≡ in-numbers (start-reply (now (tape .entry)) (now (chosen .entry)) (now (values .entry)) wanted) ⌝ }
+    ensures { λ r. ⌜ numbers-of r ≡ in-numbers (start-reply (was tape) (was chosen) (was values) wanted) ⌝ }
 {
     tell(start::start_value(tape, chosen, values, wanted))
 }

@@ -28,35 +28,35 @@ use Rattle.reference.proofs.Limits.{All}
 -- ---- a lone number, to several uses
 
 -- lines from k on, in order, none of them a label
-abbrev Found : Listing → ℕ → List ℕ → Type 0
-Found lines k [] = Unit {0}
-Found lines k (j ∷ js) = (k ≤ j) × (j < length lines) × (is-label (lines at j) ≡ false) × Found lines (suc j) js
+abbrev UsedFrom : Listing → ℕ → List ℕ → Type 0
+UsedFrom lines k [] = Unit {0}
+UsedFrom lines k (j ∷ js) = (k ≤ j) × (j < length lines) × (is-label (lines at j) ≡ false) × UsedFrom lines (suc j) js
 
-found-earlier : (lines : Listing) (k : ℕ) (js : List ℕ) → Found lines (suc k) js → Found lines k js
+found-earlier : (lines : Listing) (k : ℕ) (js : List ℕ) → UsedFrom lines (suc k) js → UsedFrom lines k js
 found-earlier lines k [] o = tt
 found-earlier lines k (j ∷ js) o = (omega (arith, o .0), o .1, o .2, o .3)
 
 module _ (lines : Listing) (base-indent : ℕ) (fam : Text) (volatile : List Text) where
-  gathered : (j : ℕ) (ls : Listing) (last : ℕ) → drop j lines ≡ ls → Found lines j ((gather base-indent fam volatile j ls last) .uses)
+  gathered : (j : ℕ) (ls : Listing) (last : ℕ) → drop j lines ≡ ls → UsedFrom lines j ((gather base-indent fam volatile j ls last) .uses)
   unfolding gather ends-run
   gathered j [] last e = tt
   gathered j (l ∷ rest) last e =
       let d = drop-step j lines l rest e in
-      by-if (λ (u : Uses). Found lines j (u .uses))
+      by-if (λ (u : Uses). UsedFrom lines j (u .uses))
       (λ h. tt)
       (λ h.
       (let plain : is-label (lines at j) ≡ false = rw (d .0) (neither h .0) in
-      by-touch (λ (u : Uses). Found lines j (u .uses))
-      (λ t. by-if (λ (u : Uses). Found lines j (u .uses))
+      by-touch (λ (u : Uses). UsedFrom lines j (u .uses))
+      (λ t. by-if (λ (u : Uses). UsedFrom lines j (u .uses))
       (λ o. tt)
       (λ o. found-earlier lines j ((gather base-indent fam volatile (suc j) rest last) .uses) (gathered (suc j) rest last (d .1))))
       (λ t. tt)
-      (λ n t. by-if (λ (u : Uses). Found lines j (u .uses))
+      (λ n t. by-if (λ (u : Uses). UsedFrom lines j (u .uses))
       (λ o. (le-refl j, d .2, plain, tt))
       (λ o. (le-refl j, d .2, plain, gathered (suc j) rest j (d .1))))))
 
 module _ (edition : ℕ) (fam : Text) (expr : List Token) (lone : lone-number expr ≡ true) where
-  found-later : (lines : Listing) (j k : ℕ) (js : List ℕ) → j < k → Found lines k js → Found (modify j (rewrite-use edition fam expr) lines) k js
+  found-later : (lines : Listing) (j k : ℕ) (js : List ℕ) → j < k → UsedFrom lines k js → UsedFrom (modify j (rewrite-use edition fam expr) lines) k js
   found-later lines j k [] h o = tt
   found-later lines j k (n ∷ js) h o =
       let after : j < n = omega (arith, o .0) in (
@@ -74,7 +74,7 @@ module _ (edition : ℕ) (fam : Text) (expr : List Token) (lone : lone-number ex
       (λ w light. omega (arith, fold-merge-le w edition (substitute fam expr ts), substitute-le w fam expr (light lone) ts))
       (λ c. omega (arith, fold-merge-keeps edition (substitute fam expr ts) .called c, substitute-keeps fam expr ts .called c))
 
-  uses-change : (k : ℕ) (js : List ℕ) (lines : Listing) → Found lines k js
+  uses-change : (k : ℕ) (js : List ℕ) (lines : Listing) → UsedFrom lines k js
       → Changes expr [] [] lines (rewrite-uses edition fam expr js lines) × ((i : ℕ) → i < k → rewrite-uses edition fam expr js lines at i ≡ lines at i)
   unfolding rewrite-uses
   uses-change k [] lines o = (unchanged expr lines, λ i h. refl)
@@ -166,7 +166,7 @@ pub record Joined (i n : ℕ) (js : List ℕ) : Type 0 where
   pub some-line : 1 ≤ length js
   pub each : All (λ j. (i < j) × (j < n)) js
 
-found-all : (lines : Listing) (i k : ℕ) (js : List ℕ) → i < k → Found lines k js → All (λ j. (i < j) × (j < length lines)) js
+found-all : (lines : Listing) (i k : ℕ) (js : List ℕ) → i < k → UsedFrom lines k js → All (λ j. (i < j) × (j < length lines)) js
 found-all lines i k [] h o = tt
 found-all lines i k (j ∷ js) h o = ((omega (arith, o .0), o .1), found-all lines i (suc j) js (omega (arith, o .0)) (o .3))
 

@@ -18,25 +18,25 @@ use Rattle.reference.specs.Numbers.{merge-into, merge, fold-at, fold}
 use Rattle.reference.specs.Rules.{Rules}
 use Rattle.reference.specs.Shapes.{Assignment, right-side}
 use Rattle.reference.specs.Join.{replacement, text-before, text-after, replace-at, substitute, lone-number}
-use Rattle.reference.specs.Claim.{Callee, one-if, opens, marks, calls-in}
+use Rattle.reference.specs.Claim.{Callee, one-if, opens, is-call-mark, calls-in}
 use Rattle.reference.proofs.Cases.{by-if, by-some, both, either, neither, pair, fails, true-false, same-number, zero-if, one-le}
 use Rattle.reference.proofs.Shapes.{other-kind, joins-other, family-register, starts-as, Folds, folds, Cut, gone, short, later, Assigning, assigning, split-at}
 
 -- ---- single tokens
 
 -- more is marked where more is open
-mark-le : (c : Callee) (t : Token) (o o′ : Bool) → (o ≡ true → o′ ≡ true) → one-if (marks c t o) ≤ one-if (marks c t o′)
-unfolding marks
+mark-le : (c : Callee) (t : Token) (o o′ : Bool) → (o ≡ true → o′ ≡ true) → one-if (is-call-mark c t o) ≤ one-if (is-call-mark c t o′)
+unfolding is-call-mark
 mark-le none t o o′ h = le-refl _
 mark-le (some name) t o o′ h = one-le _ _ (λ e. pair (both e .0) (pair (both (both e .1) .0) (h (both (both e .1) .1))))
 
 -- a token that is no mark is passed over
-pub skip : (c : Callee) (t : Token) (ts : List Token) → marks c t (opens ts) ≡ false → calls-in c (t ∷ ts) ≡ calls-in c ts
+pub skip : (c : Callee) (t : Token) (ts : List Token) → is-call-mark c t (opens ts) ≡ false → calls-in c (t ∷ ts) ≡ calls-in c ts
 unfolding calls-in
 skip c t ts e = omega (arith, zero-if e)
 
-no-mark : (c : Callee) (t : Token) (o : Bool) → is Symbol t ≡ false → is Keyword t ≡ false → marks c t o ≡ false
-unfolding marks
+no-mark : (c : Callee) (t : Token) (o : Bool) → is Symbol t ≡ false → is Keyword t ≡ false → is-call-mark c t o ≡ false
+unfolding is-call-mark
 no-mark none t o hs hk = fails (λ e. true-false (both e .0) hk)
 no-mark (some name) t o hs hk = fails (λ e. true-false (both e .0) hs)
 
@@ -53,7 +53,7 @@ more : (c : Callee) (t : Token) (ts : List Token) → calls-in c ts ≤ calls-in
 unfolding calls-in
 more c t ts = omega arith
 
--- ---- lists: `ys` has the marks of `xs`, and those of `es` besides
+-- ---- lists: `ys` has the is-call-mark of `xs`, and those of `es` besides
 
 pub record Keeps (es xs ys : List Token) : Type 0 where
   pub opened : opens xs ≡ true → opens ys ≡ true
@@ -128,8 +128,8 @@ into-keeps last (t ∷ ts) =
 
 -- ---- folding
 
-sign-mark : (c : Callee) (a b d n : Token) (rest : List Token) → Folds a b d n → marks c b (opens (d ∷ rest)) ≡ false
-unfolding marks
+sign-mark : (c : Callee) (a b d n : Token) (rest : List Token) → Folds a b d n → is-call-mark c b (opens (d ∷ rest)) ≡ false
+unfolding is-call-mark
 sign-mark none a b d n rest h =
     fails (λ e. true-false (both e .1)
     (either (starts-with (b .text) (bytes "((void") ≡ false) (h .sign)
@@ -181,10 +181,10 @@ starts-short (x ∷ w ∷ xs) (y ∷ ys) h e n =
     pair (both h .0) (starts-short (w ∷ xs) ys (both h .1)
     (either (ends-with (w ∷ xs) (bytes ";") ≡ true) e (λ u. absurd (false≢true (both u .1))) (λ u. u)) (neither n .1))
 
--- the marks of a last token without its `;`
-short-mark : (c : Callee) (t : Token) → ends-with (t .text) (bytes ";") ≡ true → marks c t (opens []) ≡ true
-    → marks c (token (t .kind) (dropLast (t .text))) (opens []) ≡ true
-unfolding marks opens is
+-- the is-call-mark of a last token without its `;`
+short-mark : (c : Callee) (t : Token) → ends-with (t .text) (bytes ";") ≡ true → is-call-mark c t (opens []) ≡ true
+    → is-call-mark c (token (t .kind) (dropLast (t .text))) (opens []) ≡ true
+unfolding is-call-mark opens is
 short-mark none t e h = pair (both h .0) (starts-short (t .text) (bytes "((void") (both h .1) e (unfold _||_ _&&_ in refl))
 short-mark (some name) t e h = absurd (false≢true (both (both h .1) .1))
 
@@ -192,8 +192,8 @@ short-open : (t : Token) → ends-with (t .text) (bytes ";") ≡ true → opens 
 unfolding opens is
 short-open t e h = pair (both h .0) (starts-short (t .text) (bytes "(") (both h .1) e (unfold _||_ _&&_ in refl))
 
-empty-mark : (c : Callee) (k : ℕ) → marks c (token k []) (opens []) ≡ true → ⊥
-unfolding marks opens
+empty-mark : (c : Callee) (k : ℕ) → is-call-mark c (token k []) (opens []) ≡ true → ⊥
+unfolding is-call-mark opens
 empty-mark none k h = false≢true (both h .1)
 empty-mark (some name) k h = false≢true (both (both h .1) .1)
 
@@ -207,7 +207,7 @@ cut-keeps (gone {t = t} e z) =
 cut-keeps (short {t = t} e) = record { opened = short-open t e; called = λ c. omega (arith, one-le _ _ (short-mark c t e)) }
 cut-keeps (later t c) = keeps-cons t (cut-keeps c)
 
--- an assignment's marks are its expression's
+-- an assignment's is-call-mark are its expression's
 pub assigned-calls : {ts : List Token} {a : Assignment} → Assigning ts a → (c : Callee) → calls-in c ts ≤ calls-in c (a .expr)
 unfolding right-side calls-in
 assigned-calls (assigning {lhs = lhs} {eq = eq} {rest = rest} r p s cut) c =
@@ -237,7 +237,7 @@ replacement-calls rules expr before after c =
     (λ e. omega (arith, more c (token Punct (bytes "(")) (expr ++ (token Punct (bytes ")") ∷ [])), append-calls c expr (token Punct (bytes ")") ∷ [])))
     (λ e. le-refl _)
 
--- the line of the use keeps its marks and takes those of the expression
+-- the line of the use keeps its is-call-mark and takes those of the expression
 pub replaced-keeps : (rules : Rules) (fam : Text) (toks expr : List Token) (pos : ℕ) → position (of-family fam) toks ≡ some pos → Keeps expr toks (replace-at rules toks pos expr)
 unfolding replace-at
 replaced-keeps rules fam toks expr pos h =

@@ -11,7 +11,7 @@ use Rattle.reference.specs.Lists.{remove, modify}
 use Rattle.reference.specs.Listing.{Token, Line, Listing, _at_}
 use Rattle.reference.specs.Names.{Fam, family, fam-of}
 use Rattle.reference.specs.Shapes.{Assignment, assignment, is-label}
-use Rattle.reference.specs.Claim.{Callee, calls-in, calls, place, places, label-lines}
+use Rattle.reference.specs.Claim.{Callee, calls-in, calls, pair-of, pairs-of, label-lines}
 use Rattle.reference.specs.Demand.{nothing, line, Step}
 use Rattle.reference.proofs.Cases.{by-if, true-false}
 use Rattle.reference.proofs.Shapes.{assigns, assigning-register, assigning-plain, inside}
@@ -23,7 +23,7 @@ use Rattle.reference.proofs.Lines.{sum-remove, sum-modify, length-remov
 
 -- `lines′` is `lines` with an expression joined into some lines: it weighs `extra` more at most, and has the calls of `gained` besides
 pub record Changes (expr extra gained : List Token) (lines lines′ : Listing) : Type 0 where
-  pub places-same : places lines′ ≡ places lines
+  pub places-same : pairs-of lines′ ≡ pairs-of lines
   pub labels-stay : Sublistᴰ (label-lines lines) (label-lines lines′)
   pub weight-le : (w : Weight) → Light w expr → total w lines′ ≤ total w lines + weight w extra
   pub calls-ge : (c : Callee) → calls c lines + calls-in c gained ≤ calls c lines′
@@ -45,7 +45,7 @@ changes-trans p q =
 
 -- one line changed
 pub changes-line : {expr extra gained : List Token} (g : Line → Line) (j : ℕ) (lines : Listing) → j < length lines → is-label (lines at j) ≡ false
-    → place (g (lines at j)) ≡ place (lines at j)
+    → pair-of (g (lines at j)) ≡ pair-of (lines at j)
     → ((w : Weight) → Light w expr → weight w (g (lines at j) .tokens) ≤ weight w ((lines at j) .tokens) + weight w extra)
     → ((c : Callee) → calls-in c ((lines at j) .tokens) + calls-in c gained ≤ calls-in c (g (lines at j) .tokens))
     → Changes expr extra gained lines (modify j g lines)
@@ -83,8 +83,8 @@ pub record Removed (lines : Listing) (i : ℕ) (lines′ : Listing) : Type 0 whe
   pub line-same : between at i ≡ lines at i
   pub left : lines′ ≡ remove i between
 
-same-length : (lines lines′ : Listing) → places lines′ ≡ places lines → length lines′ ≡ length lines
-same-length lines lines′ e = sym (length-map lines′ place) ∙ ap length e ∙ length-map lines place
+same-length : (lines lines′ : Listing) → pairs-of lines′ ≡ pairs-of lines → length lines′ ≡ length lines
+same-length lines lines′ e = sym (length-map lines′ pair-of) ∙ ap length e ∙ length-map lines pair-of
 
 module _ {lines : Listing} {i : ℕ} {lines′ : Listing} (r : Removed lines i lines′) where
   open Removed r using (assigned, between, changes, line-same, left)
@@ -98,7 +98,7 @@ module _ {lines : Listing} {i : ℕ} {lines′ : Listing} (r : Removed lines i l
       let same : length between ≡ length lines = same-length lines between (changes .places-same) in
       ap (λ (l : Listing). suc (length l)) left ∙ length-remove i between (rw same in-range) ∙ same
 
-  pub removed-places : Sublistᴰ (places lines′) (places lines)
+  pub removed-places : Sublistᴰ (pairs-of lines′) (pairs-of lines)
   removed-places = rw left (rw (changes .places-same) at (places-remove i between))
 
   pub removed-labels : Sublistᴰ (label-lines lines) (label-lines lines′)

@@ -15,7 +15,7 @@ use Rattle.reference.specs.Shapes.{calls-here, call-in, label-tokens}
 use Rattle.reference.specs.Life.{Labels}
 use Rattle.reference.specs.Join.{text-or-empty}
 use Rattle.reference.specs.Run.{dead-result}
-use Rattle.reference.specs.Claim.{Callee, marks, opens, calls-in}
+use Rattle.reference.specs.Claim.{Callee, is-call-mark, opens, calls-in}
 use Rattle.reference.proofs.Cases.{by-if, both, either, neither, pair, fails, true-false, same-number, some-inj, none-some, bind-some, some-true}
 use Rattle.reference.proofs.Shapes.{starts-as}
 use Rattle.reference.proofs.Weights.{Weight, weight}
@@ -69,8 +69,8 @@ dead-line rules labels lines i e =
 -- ---- the two tokens
 
 name-mark : (c : Callee) (t u : Token) (rest : List Token) → ((t .text == bytes "rax") || (t .text == bytes "eax")) ≡ true → (u .text == bytes " = ") ≡ true
-    → marks c t (opens (u ∷ rest)) ≡ false
-unfolding marks opens
+    → is-call-mark c t (opens (u ∷ rest)) ≡ false
+unfolding is-call-mark opens
 name-mark none t u rest hn hs =
     fails (λ e. true-false (both e .1)
     (either (starts-with (t .text) (bytes "((void") ≡ false) hn
@@ -79,8 +79,8 @@ name-mark none t u rest hn hs =
 name-mark (some name) t u rest hn hs =
     fails (λ e. true-false (both (both (both e .1) .1) .1) (starts-as (u .text) (bytes " = ") (bytes "(") false (unfold _&&_ in refl) hs))
 
-sign-mark : (c : Callee) (u v : Token) (rest : List Token) → (u .text == bytes " = ") ≡ true → calls-here (u, v) ≡ false → marks c u (opens (v ∷ rest)) ≡ false
-unfolding marks opens calls-here
+sign-mark : (c : Callee) (u v : Token) (rest : List Token) → (u .text == bytes " = ") ≡ true → calls-here (u, v) ≡ false → is-call-mark c u (opens (v ∷ rest)) ≡ false
+unfolding is-call-mark opens calls-here
 sign-mark none u v rest hs hc = fails (λ e. true-false (both e .1) (starts-as (u .text) (bytes " = ") (bytes "((void") false (unfold _&&_ in refl) hs))
 sign-mark (some name) u v rest hs hc = fails (λ e. true-false (pair (both e .0) (both (both e .1) .1)) (neither hc .0))
 

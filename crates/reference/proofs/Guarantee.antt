@@ -19,7 +19,7 @@ use Rattle.reference.specs.Lists.{any}
 use Rattle.reference.specs.Listing.{Token, is, Number, Listing}
 use Rattle.reference.specs.Rules.{Rules}
 use Rattle.reference.specs.Run.{run, last-of, listings, finished, counts}
-use Rattle.reference.specs.Claim.{size, token-count, place}
+use Rattle.reference.specs.Claim.{size, token-count, pair-of}
 use Rattle.reference.specs.Demand.{Accepted, Within, Each, Steps, Demand3}
 use Rattle.reference.specs.Spans.{Marks}
 use Rattle.reference.specs.Marks.{finished-marks}
@@ -84,7 +84,7 @@ output-length rules tape input marks e =
     let within : Within input last = each-last (Within input) input _ (d .each) in
     let tokens : token-count last ≤ token-count input = tokens-last input _ (d .step) in
     omega
-    (arith, write-length last marks, within .text-bounded, tokens, limits .few-tokens, limits .few-lines, simp length-map at (sublist-length (within .places-in-order)))
+    (arith, write-length last marks, within .text-bounded, tokens, limits .few-tokens, limits .few-lines, simp length-map at (sublist-length (within .pairs-in-order)))
 
 -- ---- a call that is not refused
 
@@ -115,7 +115,7 @@ answered rules tape work-a work-b output c e =
     let r = ask-passed (λ number. 0) _ _ c e in
     let room = both (r .0 .1 .1 .0) in
     by-passed (λ (x : Reply). x ≡ Passed c → Answered rules tape work-a work-b output c)
-    (λ number place u e. absurd (refused-passed e))
+    (λ number pair-of u e. absurd (refused-passed e))
     (λ input reads e.
     (let asked = profile-passed rules input _ c e in
     let same = passed-inj (asked .0) in

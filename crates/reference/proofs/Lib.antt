@@ -1,4 +1,5 @@
--- The examples of document 01, by computation; then the proof of demand 3, from the ground up: its last file states it. Code crates cite Cases
+-- The examples of document 01, by computation; then the proof of demand 3, from the ground up (Guarantee states it), and
+-- what the requests promise of the definitions. Code crates cite Cases
 -- (the control words), Shapes (what a success knows), Fits (how large a listing grows) and Rounds (the rounds and cuts without fuel).
 pub mod Opened
 pub mod Examples

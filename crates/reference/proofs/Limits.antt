@@ -52,12 +52,12 @@ MarksFitBy form none = Unit {0}
 MarksFitBy form (some s) = SpanFitsBy form s × (s .lowest ≤ s .highest)
 
 -- what an accepted tape of bytes holds: addresses have 8 of them, offsets 4
-pub record FitsBy (form : TapeForm) (lines : Listing) : Type 0 where
+pub record TapeFitsBy (form : TapeForm) (lines : Listing) : Type 0 where
   pub limits : Limits lines
   pub addresses : All (λ l. AddressFitsBy form (l .address)) lines
 
 abbrev pub MarksFit : Marks → Type 0
 MarksFit = MarksFitBy old
 
-abbrev pub Fits : Listing → Type 0
-Fits = FitsBy old
+abbrev pub TapeFits : Listing → Type 0
+TapeFits = TapeFitsBy old

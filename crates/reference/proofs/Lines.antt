@@ -1,4 +1,4 @@
--- A listing one of whose lines is changed in place or taken out: its sums, places and labels. Assumes nothing.
+-- A listing one of whose lines is changed in place or taken out: its sums, its pairs of address and indent, and its labels. Assumes nothing.
 use Prim.Native.Nat.{ℕ, zero, suc, _+_, _<_}
 use native.Mathlib.Omega.{arith}
 use native.Mathlib.Nat.{not-suc-le-zero, le-of-suc-le-suc}
@@ -10,7 +10,7 @@ use Rattle.reference.specs.Control.{if_then_else_}
 use Rattle.reference.specs.Lists.{remove, modify}
 use Rattle.reference.specs.Listing.{Line, Listing, blank, _at_}
 use Rattle.reference.specs.Shapes.{is-label}
-use Rattle.reference.specs.Claim.{sum, place, places, label-lines}
+use Rattle.reference.specs.Claim.{sum, pair-of, pairs-of, label-lines}
 use Rattle.reference.proofs.Cases.{by-if}
 
 -- ---- sums and elements
@@ -53,14 +53,14 @@ drop-step zero (x ∷ xs) l rest e = (cc, cc, omega arith)
 drop-step (suc j) [] l rest e = absurd (nil≢cons e)
 drop-step (suc j) (x ∷ xs) l rest e = let h = drop-step j xs l rest e in (h .0, h .1, omega (arith, h .2))
 
--- ---- places
+-- ---- pairs-of
 
-pub places-modify : (g : Line → Line) (j : ℕ) (lines : Listing) → place (g (lines at j)) ≡ place (lines at j) → places (modify j g lines) ≡ places lines
+pub places-modify : (g : Line → Line) (j : ℕ) (lines : Listing) → pair-of (g (lines at j)) ≡ pair-of (lines at j) → pairs-of (modify j g lines) ≡ pairs-of lines
 places-modify g j [] h = refl
-places-modify g zero (l ∷ ls) h = λ k. h k ∷ places ls
-places-modify g (suc j) (l ∷ ls) h = λ k. place l ∷ places-modify g j ls h k
+places-modify g zero (l ∷ ls) h = λ k. h k ∷ pairs-of ls
+places-modify g (suc j) (l ∷ ls) h = λ k. pair-of l ∷ places-modify g j ls h k
 
-pub places-remove : (i : ℕ) (lines : Listing) → Sublistᴰ (places (remove i lines)) (places lines)
+pub places-remove : (i : ℕ) (lines : Listing) → Sublistᴰ (pairs-of (remove i lines)) (pairs-of lines)
 places-remove i [] = Sublistᴰ·slnil
 places-remove zero (l ∷ ls) = Sublistᴰ·cons (Sublistᴰ·refl _)
 places-remove (suc i) (l ∷ ls) = Sublistᴰ·cons-cons refl (places-remove i ls)

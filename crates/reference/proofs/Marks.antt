@@ -33,7 +33,7 @@ use Rattle.reference.proofs.Attempts.{attempt-removed, Joined, attempt-
 use Rattle.reference.proofs.Rounds.{run-taken}
 use Rattle.reference.proofs.LittleEndian.{Bytes}
 use Rattle.reference.proofs.Commands.{AddressFits}
-use Rattle.reference.proofs.Limits.{All, all-append, MarksFit, Fits}
+use Rattle.reference.proofs.Limits.{All, all-append, MarksFit, TapeFits}
 use Rattle.reference.proofs.Tapes.{read-fits, read-marks-fit}
 use Rattle.reference.proofs.Written.{read-write}
 use Rattle.reference.proofs.Spans.{hull-none, span-append, Covers, all-left, all-right, span-covers, hull-of, hull-of-ext, hull-of-one, hull-of-take-in, moved-above, moved-below, but, but-elsewhere, but-same, hull-of-remove, hull-of-split}
@@ -345,7 +345,7 @@ finished-marks-fit rules input marks a f =
     each-fits _ (λ q. span-fits (added (λ p. comes-to (attempts-of (run rules input)) p q) input marks) (added-fits _ input marks a f)) (finished rules input)
 
 -- AN OUTPUT WITHIN THE LIMITS READS BACK: the finished listing, which is the Rust's, and its marks
-pub output-reads-back : (rules : Rules) (tape : List ℕ) (input : Listing) → Bytes tape → read tape ≡ Passed input → Fits (finished rules input)
+pub output-reads-back : (rules : Rules) (tape : List ℕ) (input : Listing) → Bytes tape → read tape ≡ Passed input → TapeFits (finished rules input)
     → let marks = finished-marks rules input (marks-in tape) in
     (read (write (finished rules input) marks) ≡ Passed (finished rules input)) × (marks-in (write (finished rules input) marks) ≡ marks)
 output-reads-back rules tape input h e f =

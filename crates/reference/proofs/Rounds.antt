@@ -13,7 +13,7 @@ use Rattle.reference.specs.Listing.{Listing}
 use Rattle.reference.specs.Rules.{Rules}
 use Rattle.reference.specs.Life.{Labels}
 use Rattle.reference.specs.Run.{labels-from, addressed-in, Attempt, attempts-from, propagate-once, after-attempts, removals, changed, rounds-from, limit, after-rounds, cuts-from, drop-dead-results, last-of, run, attempts-of, steps, listings, finished}
-use Rattle.reference.specs.Claim.{places, label-lines}
+use Rattle.reference.specs.Claim.{pairs-of, label-lines}
 use Rattle.reference.specs.Demand.{Accepted, Attempts, over, failed, succeeded, Round, Rounds, enough, ended, again, Settled, Cuts, done, kept, dropped, Taken, Within, Each, Step, Steps, Bounded, EachRound, Demand3}
 use Rattle.reference.proofs.Cases.{by-if, by-some, true-false}
 use Rattle.reference.proofs.Lines.{length-modify, labels-sublist}
@@ -76,7 +76,7 @@ next-step (removes i r) = removed-step r
 
 -- what holds of every listing of the run
 record Inv (input lines : Listing) : Type 0 where
-  in-order : Sublistᴰ (places lines) (places input)
+  in-order : Sublistᴰ (pairs-of lines) (pairs-of input)
   labelled : Sublistᴰ (label-lines input) (label-lines lines)
   fits : Fits lines
 
@@ -97,7 +97,7 @@ next-inv (removes i r) v =
 within : {input lines : Listing} → Inv input lines → Within input lines
 within {lines = lines} v =
     record {
-      places-in-order = v .in-order;
+      pairs-in-order = v .in-order;
       labels-stand = Sublistᴰ·trans (v .labelled) (labels-sublist lines);
       text-bounded = fits-text (v .fits);
     }

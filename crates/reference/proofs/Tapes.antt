@@ -21,7 +21,7 @@ use Rattle.reference.proofs.LittleEndian.{Bytes, bytes-drop}
 use Rattle.reference.proofs.Commands.{AddressFitsBy, Sized, sized, WritableBy, writable, write-of-read}
 use Rattle.reference.proofs.Reading.{PassesBy, State, left, ReachedBy, here, on, accepts-by, marks-read}
 use Rattle.reference.proofs.Writing.{with-token, write-new-line, write-new-token, Fresh, write-new-marks}
-use Rattle.reference.proofs.Limits.{All, all-append, all-modify, TokenFits, LineFits, Limits, MarksFitBy, MarksFit, FitsBy, Fits}
+use Rattle.reference.proofs.Limits.{All, all-append, all-modify, TokenFits, LineFits, Limits, MarksFitBy, MarksFit, TapeFitsBy, TapeFits}
 
 -- ---- what the reading keeps
 
@@ -255,7 +255,7 @@ module _ (form : TapeForm) (tape : List ℕ) where
         each = rw (a .listing) at (k .each);
       }
 
-  pub read-fits-by : (lines : Listing) → Bytes tape → read-by form tape ≡ Passed lines → FitsBy form lines
+  pub read-fits-by : (lines : Listing) → Bytes tape → read-by form tape ≡ Passed lines → TapeFitsBy form lines
   read-fits-by lines h e =
       let a = accepts-by form tape lines e in
       record { limits = read-limits-by lines e; addresses = rw (a .listing) at (addressed h (a .reached)) }
@@ -282,7 +282,7 @@ module _ (tape : List ℕ) where
   pub read-limits : (lines : Listing) → read tape ≡ Passed lines → Limits lines
   read-limits = read-limits-by old tape
 
-  pub read-fits : (lines : Listing) → Bytes tape → read tape ≡ Passed lines → Fits lines
+  pub read-fits : (lines : Listing) → Bytes tape → read tape ≡ Passed lines → TapeFits lines
   read-fits = read-fits-by old tape
 
   -- THE 03S OF AN ACCEPTED TAPE: one for each line or none, the lowest first

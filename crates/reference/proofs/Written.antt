@@ -19,7 +19,7 @@ use Rattle.reference.proofs.Cases.{pair}
 use Rattle.reference.proofs.Commands.{AddressFitsBy, WritableBy, read-of-write, form-of}
 use Rattle.reference.proofs.Reading.{PassesBy, State, start-by, left, after-by, ReachedBy, here, on, AcceptsBy, accepted, marks-read}
 use Rattle.reference.proofs.Writing.{with-token, add-last, mark-last}
-use Rattle.reference.proofs.Limits.{All, TokenFits, LineFits, MarksFitBy, MarksFit, FitsBy, Fits}
+use Rattle.reference.proofs.Limits.{All, TokenFits, LineFits, MarksFitBy, MarksFit, TapeFitsBy, TapeFits}
 use Rattle.reference.proofs.Tapes.{totals-so-far}
 
 -- ---- tests that pass
@@ -192,7 +192,7 @@ module _ (form : TapeForm) (tape : List ℕ) where
       same-place refl (append-snoc lines l ls) (append-snoc marks m ms) more
 
 -- WHAT IS WRITTEN READS BACK, the listing and the marks, after whatever stands before the first command
-pub read-write-by : (form : TapeForm) (front : List ℕ) (lines : Listing) (marks : List Marks) → length front ≡ header form → FitsBy form lines → All (MarksFitBy form) marks
+pub read-write-by : (form : TapeForm) (front : List ℕ) (lines : Listing) (marks : List Marks) → length front ≡ header form → TapeFitsBy form lines → All (MarksFitBy form) marks
     → length marks ≡ length lines
     → (read-by form (front ++ write-by form lines marks) ≡ Passed lines) × (marks-in-by form (front ++ write-by form lines marks) ≡ marks)
 unfolding write-by write-command-by has-line is-within is-few is-short is-printable is-over
@@ -222,6 +222,6 @@ read-write-by form front lines marks n f g e =
     (accepted tape lines a, marks-read tape lines a ∙ to .marks-are)
 
 -- WHAT IS WRITTEN READS BACK, the listing and the marks
-pub read-write : (lines : Listing) (marks : List Marks) → Fits lines → All MarksFit marks → length marks ≡ length lines
+pub read-write : (lines : Listing) (marks : List Marks) → TapeFits lines → All MarksFit marks → length marks ≡ length lines
     → (read (write lines marks) ≡ Passed lines) × (marks-in (write lines marks) ≡ marks)
 read-write lines marks = read-write-by old [] lines marks refl

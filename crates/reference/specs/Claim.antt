@@ -1,4 +1,5 @@
--- What demand 3 counts and compares: the tokens, the text, the calls, the places and the label lines of a listing. Assumes nothing.
+-- What demand 3 counts and compares: the tokens, the text, the calls, the pairs of address and indent and the label lines of a listing.
+-- Assumes nothing.
 use Prim.Native.Nat.{ℕ, _+_}
 use mathlib.Core.Bool.{Bool, false}
 use mathlib.Core.List.{List, [], _∷_, map}
@@ -46,29 +47,29 @@ opens (t ∷ ts) = is Punct t && starts-with (t .text) (bytes "(")
 
 -- Whether the token is a call mark of the callee; `o` says whether the token after it opens a bracket. "Call mark: S before P beginning
 -- `(`, or K beginning `((void`"; for demand 3 the K counts "followed or not".
-unfoldable pub marks : Callee → Token → Bool → Bool
-marks none t o = is Keyword t && starts-with (t .text) (bytes "((void")
-marks (some name) t o = is Symbol t && (t .text == name) && o
+unfoldable pub is-call-mark : Callee → Token → Bool → Bool
+is-call-mark none t o = is Keyword t && starts-with (t .text) (bytes "((void")
+is-call-mark (some name) t o = is Symbol t && (t .text == name) && o
 
 unfoldable pub calls-in : Callee → List Token → ℕ
 calls-in c [] = 0
-calls-in c (t ∷ ts) = one-if (marks c t (opens ts)) + calls-in c ts
+calls-in c (t ∷ ts) = one-if (is-call-mark c t (opens ts)) + calls-in c ts
 
 -- how many times a callee is called
 abbrev pub calls : Callee → Listing → ℕ
 calls c = sum (λ l. calls-in c (l .tokens))
 
--- ---- places and labels
+-- ---- pairs of address and indent, and labels
 
 -- an address and indent pair
-abbrev pub Place : Type 0
-Place = Option ℕ × ℕ
+abbrev pub AddressIndent : Type 0
+AddressIndent = Option ℕ × ℕ
 
-abbrev pub place : Line → Place
-place l = (l .address, l .indent)
+abbrev pub pair-of : Line → AddressIndent
+pair-of l = (l .address, l .indent)
 
-abbrev pub places : Listing → List Place
-places = map place
+abbrev pub pairs-of : Listing → List AddressIndent
+pairs-of = map pair-of
 
 -- "Label lines: the input's lines that are labels, equal ones included, with address, indent and tokens"
 unfoldable pub label-lines : Listing → Listing

@@ -28,7 +28,7 @@ use Rattle.reference.specs.Life.{Labels}
 use Rattle.reference.specs.Join.{try-at, targets}
 use Rattle.reference.specs.Run.{labels-from, addressed-in, shift, Attempt, failure, success, after-attempts, removals, changed, limit}
 use Rattle.reference.specs.Run.{after-rounds, dead-result, Run, run, steps, listings, finished}
-use Rattle.reference.specs.Claim.{size, Callee, calls, token-count, text, places, label-lines}
+use Rattle.reference.specs.Claim.{size, Callee, calls, token-count, text, pairs-of, label-lines}
 
 -- "An accepted listing is one whose tape no question below refuses": those questions bound lines, indents and bytes too. The claim needs
 -- these three limits alone, and so it holds of more listings.
@@ -41,7 +41,7 @@ pub record Accepted (lines : Listing) : Type 0 where
 -- cut". The definitions make it (`run`, `listings`); here it is said of what they make, with no bound on the attempts.
 
 -- The attempts of a round that stands at line i, up to its end. "An attempt is one call of `try_at` at line i. Success removes line i and
--- steps back one, not below 0; failure steps on"; "label places shift with removals".
+-- steps back one, not below 0; failure steps on"; "label pairs-of shift with removals".
 pub data Attempts (rules : Rules) (addressed : List Text) : ℕ → Listing → Labels → List Attempt → Type 0 where
   over : {i : ℕ} {lines : Listing} {labels : Labels} → length lines ≤ i → Attempts rules addressed i lines labels []
   failed : {i : ℕ} {lines : Listing} {labels : Labels} {more : List Attempt} → i < length lines
@@ -97,7 +97,7 @@ pub record Taken (rules : Rules) (input : Listing) (r : Run) : Type 0 where
 
 pub record Within (input lines : Listing) : Type 0 where
   -- (2)
-  pub places-in-order : Sublistᴰ (places lines) (places input)
+  pub pairs-in-order : Sublistᴰ (pairs-of lines) (pairs-of input)
   -- (3) they "are a subsequence of the lines of each listing in the run"
   pub labels-stand : Sublistᴰ (label-lines input) lines
   -- (7)
@@ -118,9 +118,9 @@ pub record Assigned (lines : Listing) (i : ℕ) : Type 0 where
 
 -- which line is gone, if any: other lines change in place, and then the line i, which did not change, is taken out
 pub data Gone (before after : Listing) : Type 0 where
-  nothing : places after ≡ places before → Gone before after
+  nothing : pairs-of after ≡ pairs-of before → Gone before after
   line : (i : ℕ) → i < length before → Assigned before i
-      → (between : Listing) → places between ≡ places before → between at i ≡ before at i → after ≡ remove i between → Gone before after
+      → (between : Listing) → pairs-of between ≡ pairs-of before → between at i ≡ before at i → after ≡ remove i between → Gone before after
 
 pub record Step (before after : Listing) : Type 0 where
   -- (4)

@@ -1,3 +1,4 @@
+pub mod Contract
 pub mod Control
 pub mod Lists
 pub mod Text

@@ -462,7 +462,7 @@ fn put_places_row(s: Sink) -> Sink {
         s,
         true,
         b"<b>Places stay.</b> The pairs of address and indent that are left stand in the input's order, and none is new. \
-          <code>places-in-order</code>",
+          <code>pairs-in-order</code>",
     );
     put(t, b"by the theorem: line beside line above</td></tr>\n")
 }

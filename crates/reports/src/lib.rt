@@ -8,6 +8,7 @@ ghost use mathlib.Core.Path.{_≡_};
 ghost use mathlib.Core.List.{[], _∷_, _++_};
 ghost use Prim.Native.Nat.{_+_, _*_, _≤_, _<_};
 ghost use lib.ListN.{length};
+ghost use Rattle.reference.specs.Contract.{was};
 ghost use Rattle.reference.specs.Numbers.{digit-byte};
 ghost use Rattle.numbers.specs.Writing.{hexadecimal, Written};
 ghost use Rattle.rounds.specs.Runs.{tally-of};
@@ -17,7 +18,7 @@ ghost use Rattle.reports.specs.Reports.{meaning, refusal, three, settled
 // Puts what a refusal by a number means; nothing for a number that no question has.
 fn put_meaning(number: u64, out: &mut [u8], at: usize) -> usize
     requires { ⌜ at + 200 ≤ length (now out) ⌝ }
-    ensures { λ r. ⌜ Written (now (out .entry)) at (meaning number) (now (out .exit)) r ⌝ }
+    ensures { λ r. ⌜ Written (was out) at (meaning number) (now (out .exit)) r ⌝ }
 {
     put(
         nth_word(
@@ -54,7 +55,7 @@ fn put_meaning(number: u64, out: &mut [u8], at: usize) -> usize
 // Puts the line of a refusal at the front, and says how long it is.
 pub fn put_refusal(number: u64, place: u64, out: &mut [u8]) -> usize
     requires { ⌜ 256 ≤ length (now out) ⌝ }
-    ensures { λ r. ⌜ Written (now (out .entry)) 0 (refusal number place) (now (out .exit)) r ⌝ }
+    ensures { λ r. ⌜ Written (was out) 0 (refusal number place) (now (out .exit)) r ⌝ }
 {
     let a = put_named(b"refused ", number, out, 0);
     let b = put_named(b" at ", place, out, a);
@@ -66,7 +67,7 @@ pub fn put_refusal(number: u64, place: u64, out: &mut [u8]) -> usize
 // Puts a text and a number.
 fn put_named(name: &[u8], n: u64, out: &mut [u8], at: usize) -> usize
     requires { ⌜ at + length (now name) + 20 ≤ length (now out) ⌝ }
-    ensures { λ r. ⌜ Written (now (out .entry)) at (now (name .entry) ++ decimal n) (now (out .exit)) r ⌝ }
+    ensures { λ r. ⌜ Written (was out) at (was name ++ decimal n) (now (out .exit)) r ⌝ }
 {
     let a = put(name, out, at);
     put_decimal(n, out, a)
@@ -75,7 +76,7 @@ fn put_named(name: &[u8], n: u64, out: &mut [u8], at: usize) -> usize
 // Puts what is told of three rounds.
 fn put_three(first: u64, second: u64, third: u64, out: &mut [u8], at: usize) -> usize
     requires { ⌜ at + 73 ≤ length (now out) ⌝ }
-    ensures { λ r. ⌜ Written (now (out .entry)) at (three first second third) (now (out .exit)) r ⌝ }
+    ensures { λ r. ⌜ Written (was out) at (three first second third) (now (out .exit)) r ⌝ }
 {
     let a = put_named(b", attempts ", first, out, at);
     let b = put_named(b" ", second, out, a);
@@ -85,7 +86,7 @@ fn put_three(first: u64, second: u64, third: u64, out: &mut [u8], at: usize) -> 
 // Puts what is told of rounds that settled.
 fn put_settled(rounds: u64, attempts: u64, out: &mut [u8], at: usize) -> usize
     requires { ⌜ at + 73 ≤ length (now out) ⌝ }
-    ensures { λ r. ⌜ Written (now (out .entry)) at (settled rounds attempts) (now (out .exit)) r ⌝ }
+    ensures { λ r. ⌜ Written (was out) at (settled rounds attempts) (now (out .exit)) r ⌝ }
 {
     let a = put_named(b", rounds ", rounds, out, at);
     put_named(b", attempts ", attempts, out, a)
@@ -94,7 +95,7 @@ fn put_settled(rounds: u64, attempts: u64, out: &mut [u8], at: usize) -> usize
 // Puts what is told of the rounds.
 fn put_tally(tally: Tally, out: &mut [u8], at: usize) -> usize
     requires { ⌜ at + 73 ≤ length (now out) ⌝ }
-    ensures { λ r. ⌜ Written (now (out .entry)) at (tallied (tally-of tally)) (now (out .exit)) r ⌝ }
+    ensures { λ r. ⌜ Written (was out) at (tallied (tally-of tally)) (now (out .exit)) r ⌝ }
 {
     match tally {
         Tally::Three {
@@ -109,7 +110,7 @@ fn put_tally(tally: Tally, out: &mut [u8], at: usize) -> usize
 // Puts the line of what a cleaning did at the front, and says how long it is.
 pub fn put_counts(size: u64, tally: Tally, removed: u64, cut: u64, out: &mut [u8]) -> usize
     requires { ⌜ 256 ≤ length (now out) ⌝ }
-    ensures { λ r. ⌜ Written (now (out .entry)) 0 (counts size (tally-of tally) removed cut) (now (out .exit)) r ⌝ }
+    ensures { λ r. ⌜ Written (was out) 0 (counts size (tally-of tally) removed cut) (now (out .exit)) r ⌝ }
 {
     let a = put_named(b"length ", size, out, 0);
     let b = put_tally(tally, out, a);
@@ -121,7 +122,7 @@ pub fn put_counts(size: u64, tally: Tally, removed: u64, cut: u64, out: &mut [u8
 // Puts a number in hexadecimal.
 fn put_hexadecimal(v: u64, out: &mut [u8], at: usize) -> usize
     requires { ⌜ at + 16 ≤ length (now out) ⌝ }
-    ensures { λ r. ⌜ Written (now (out .entry)) at (hexadecimal v) (now (out .exit)) r ⌝ }
+    ensures { λ r. ⌜ Written (was out) at (hexadecimal v) (now (out .exit)) r ⌝ }
 {
     put_digits(v, out, at)
 }
@@ -129,7 +130,7 @@ fn put_hexadecimal(v: u64, out: &mut [u8], at: usize) -> usize
 // Puts the line of a start value at the front, and says how long it is.
 pub fn put_start(chosen: &[u8], v: u64, out: &mut [u8]) -> usize
     requires { ⌜ length (now chosen) + 45 ≤ length (now out) ⌝ }
-    ensures { λ r. ⌜ Written (now (out .entry)) 0 (started (now (chosen .entry)) v) (now (out .exit)) r ⌝ }
+    ensures { λ r. ⌜ Written (was out) 0 (started (was chosen) v) (now (out .exit)) r ⌝ }
 {
     let a = put(chosen, out, 0);
     let b = put(b" = 0x", out, a);
@@ -141,7 +142,7 @@ pub fn put_start(chosen: &[u8], v: u64, out: &mut [u8]) -> usize
 // Puts a byte.
 fn put_byte(b: u8, out: &mut [u8], at: usize) -> usize
     requires { ⌜ at < length (now out) ⌝ }
-    ensures { λ r. ⌜ Written (now (out .entry)) at (b ∷ []) (now (out .exit)) r ⌝ }
+    ensures { λ r. ⌜ Written (was out) at (b ∷ []) (now (out .exit)) r ⌝ }
 {
     out[at] = b;
     at + 1
@@ -158,7 +159,7 @@ fn digit_byte(d: u8) -> u8
 // Puts a byte as \xHH.
 fn put_escape(b: u8, out: &mut [u8], at: usize) -> usize
     requires { ⌜ at + 4 ≤ length (now out) ⌝ }
-    ensures { λ r. ⌜ Written (now (out .entry)) at (escape b) (now (out .exit)) r ⌝ }
+    ensures { λ r. ⌜ Written (was out) at (escape b) (now (out .exit)) r ⌝ }
 {
     let x = put(b"\\x", out, at);
     let y = put_byte(digit_byte(b / 16), out, x);
@@ -168,7 +169,7 @@ fn put_escape(b: u8, out: &mut [u8], at: usize) -> usize
 // Puts a byte as it is shown.
 fn put_visible_byte(b: u8, out: &mut [u8], at: usize) -> usize
     requires { ⌜ at + 4 ≤ length (now out) ⌝ }
-    ensures { λ r. ⌜ Written (now (out .entry)) at (visible-byte b) (now (out .exit)) r ⌝ }
+    ensures { λ r. ⌜ Written (was out) at (visible-byte b) (now (out .exit)) r ⌝ }
 {
     if b < 32 {
         return put_escape(b, out, at);
@@ -185,7 +186,7 @@ fn put_visible_byte(b: u8, out: &mut [u8], at: usize) -> usize
 // Puts a name as it is shown at the front, and says how long it is.
 pub fn put_visible(name: &[u8], out: &mut [u8]) -> usize
     requires { ⌜ 4 * length (now name) ≤ length (now out) ⌝ }
-    ensures { λ r. ⌜ Written (now (out .entry)) 0 (visible (now (name .entry))) (now (out .exit)) r ⌝ }
+    ensures { λ r. ⌜ Written (was out) 0 (visible (was name)) (now (out .exit)) r ⌝ }
 {
     let mut end = 0;
     let mut i = 0;

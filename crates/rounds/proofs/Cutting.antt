@@ -33,11 +33,11 @@ use Rattle.lines.specs.Words.{text-of, token-of, tokens-of}
 use Rattle.lines.specs.Lines.{Reading, numbered, first-of, count-of, indent-of, with-part, part-of, line-read, listing-read, bare-listing, Lined, Listed}
 use Rattle.lines.specs.Shapes.{found}
 use Rattle.lines.specs.Fams.{fam-text}
-use Rattle.lines.specs.declared.shapes.Found.{Found}
-use Rattle.lines.specs.declared.shapes.Found.the-variants.{At, Nothing}
+use Rattle.lines.specs.declared.shapes.Position.{Position}
+use Rattle.lines.specs.declared.shapes.Position.the-variants.{At, Nothing}
 use Rattle.lines.proofs.words.Each.{map-drop, map-set}
 use Rattle.lines.proofs.words.Tokens.{holds-drop}
-use Rattle.lines.proofs.words.Lines.{count-below, with-first, with-count, with-unmarked, with-read, no-marks, bare-at, bare-means, listed-set}
+use Rattle.lines.proofs.words.Lines.{count-below, with-first, with-count, with-factless, with-read, no-facts, bare-at, bare-means, listed-set}
 use Rattle.lines.proofs.fams.Families.{fam-row}
 use Rattle.lines.proofs.shapes.Places.{found-is, found-not, find-at, get-at}
 use Rattle.life.specs.Labels.{Gathered}
@@ -59,7 +59,7 @@ called-long ts e = long ts (find-at calls-here (windows ts) 2 (blank-token, blan
     long (a ∷ b ∷ []) h = absurd (omega arith)
     long (a ∷ b ∷ c ∷ rest) h = omega arith
 
-module _ (tape area : Text) (ws : List ℕ) {r : Found} (h : found r ≡ call-in (tokens-of tape area ws)) where
+module _ (tape area : Text) (ws : List ℕ) {r : Position} (h : found r ≡ call-in (tokens-of tape area ws)) where
   pub keeps-uncalled : r ≡ Nothing → false ≡ keeps-result (tokens-of tape area ws)
   unfolding keeps-result let-some_else_then_ _&&_
   keeps-uncalled e = rw (found-not h e)
@@ -145,7 +145,7 @@ module _ (tape area : Text) (tokens : List ℕ) (l : ℕ) (h : Lined tape area t
       record {
         inside = rw (first, count) (omega (arith, h .inside));
         holds = rw (first, count, part) (holds-drop (h .holds) 2);
-        marks = no-marks _ (with-unmarked l (first-of l + 2) (count-of l - 2) low (cut-fewer l));
+        facts = no-facts _ (with-factless l (first-of l + 2) (count-of l - 2) low (cut-fewer l));
       }
 
   cut-means : (addresses : Reading)

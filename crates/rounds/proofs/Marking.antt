@@ -10,8 +10,8 @@ use Rattle.reference.specs.Rules.{Rules}
 use Rattle.joining.specs.Bare.{bare-lines}
 use Rattle.lines.specs.Lines.{Reading, numbered, origin-of, line-read, listing-read}
 use Rattle.lines.proofs.words.Each.{map-at}
-use Rattle.linemarks.specs.Marking.{Remarked}
-use Rattle.linemarks.proofs.Making.{remarked-lined}
+use Rattle.linefacts.specs.Gathering.{AllNoted}
+use Rattle.linefacts.proofs.Making.{all-noted-lined}
 use Rattle.build.specs.declared.used.Size.{Size}
 use Rattle.build.specs.State.{used}
 use Rattle.build.specs.Added.{used-words}
@@ -23,7 +23,7 @@ use Rattle.rounds.proofs.Turning.{bare-is}
 
 -- ---- marked lines mean what they meant
 
-module _ {tape area : Text} {tokens lines after : List ℕ} (r : Remarked tape area tokens lines after) where
+module _ {tape area : Text} {tokens lines after : List ℕ} (r : AllNoted tape area tokens lines after) where
   remarked-means : (addresses : Reading) → listing-read tape area tokens addresses after ≡ listing-read tape area tokens addresses lines
   remarked-means addresses =
       let f = line-read tape area tokens addresses in
@@ -35,7 +35,7 @@ module _ {tape area : Text} {tokens lines after : List ℕ} (r : Remarked tape a
 
 -- the lines in use were marked, and stand before the others
 module _ {tape area : Text} {tokens lines : List ℕ} {at : Size} (c : Current tape area tokens lines at) {after : List ℕ}
-    (r : Remarked tape (used area at) (used-words tokens at) (used-lines lines at) after) where
+    (r : AllNoted tape (used area at) (used-words tokens at) (used-lines lines at) after) where
   front : take (at .lines) (after ++ drop (at .lines) lines) ≡ after
   front = take-at after _ (at .lines) (r .long ∙ length-take-le (at .lines) lines (c .lines-fit))
 
@@ -45,7 +45,7 @@ module _ {tape area : Text} {tokens lines : List ℕ} {at : Size} (c : Current t
       text-fits = c .text-fits;
       words-fit = c .words-fit;
       lines-fit = rw (length-front lines after (at .lines) (r .long)) (c .lines-fit);
-      listed = rw front (record { at = remarked-lined r });
+      listed = rw front (record { at = all-noted-lined r });
     };
     means = λ addresses. rw front (remarked-means r addresses);
   }

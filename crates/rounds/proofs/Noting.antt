@@ -19,7 +19,7 @@ use Rattle.reference.specs.Run.{addressed-here, addressed-in}
 use Rattle.reference.proofs.Cases.{by-if}
 use Rattle.laws.proofs.Scans.{if-true, if-false, and-true, and-false}
 use Rattle.laws.proofs.Parts.{part-below}
-use Rattle.lines.specs.Words.{place-of, start-of, len-of, word, source, text-of, token-of, tokens-of, Coded, Points, Holds}
+use Rattle.lines.specs.Words.{buffer-of, start-of, len-of, word, source, text-of, token-of, tokens-of, Coded, Points, Holds}
 use Rattle.lines.specs.Lines.{part-of, bare-in, bare-listing}
 use Rattle.lines.proofs.words.Each.{map-same}
 use Rattle.lines.proofs.words.Tokens.{text-length, holds-snoc}
@@ -37,7 +37,7 @@ one-source buffer p = by-if (λ (s : Text). s ≡ buffer) (λ e. refl) (λ e. re
 
 module _ (buffer more : Text) {w : ℕ} (h : Points buffer buffer w) where
   below : start-of w + len-of w ≤ length buffer
-  below = rw (one-source buffer (place-of w)) at (h .inside)
+  below = rw (one-source buffer (buffer-of w)) at (h .inside)
 
   name-part : take (len-of w) (drop (start-of w) (buffer ++ more)) ≡ take (len-of w) (drop (start-of w) buffer)
   name-part = sym (rw take-append-seam at (part-below (start-of w) (len-of w) (length buffer) (buffer ++ more) below))
@@ -49,7 +49,7 @@ module _ (buffer more : Text) {w : ℕ} (h : Points buffer buffer w) where
   name-points : Points (buffer ++ more) (buffer ++ more) w
   name-points =
       record {
-        inside = rw (one-source (buffer ++ more) (place-of w), length-append) (omega (arith, below));
+        inside = rw (one-source (buffer ++ more) (buffer-of w), length-append) (omega (arith, below));
         short = h .short;
         coded = name-coded;
       }
@@ -57,7 +57,7 @@ module _ (buffer more : Text) {w : ℕ} (h : Points buffer buffer w) where
   name-stays : text-of (buffer ++ more) (buffer ++ more) w ≡ text-of buffer buffer w
   unfolding text-of
   name-stays =
-      rw (one-source (buffer ++ more) (place-of w), one-source buffer (place-of w)) name-part
+      rw (one-source (buffer ++ more) (buffer-of w), one-source buffer (buffer-of w)) name-part
 
 module _ (buffer more : Text) {ws : List ℕ} (h : Holds buffer buffer ws) where
   names-point : Holds (buffer ++ more) (buffer ++ more) ws

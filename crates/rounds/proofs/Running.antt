@@ -15,7 +15,7 @@ use Rattle.reference.specs.Listing.{Listing}
 use Rattle.reference.specs.Rules.{Rules}
 use Rattle.reference.specs.Run.{Attempt, propagate-once, after-attempts, removals, changed, rounds-from, limit, after-rounds, drop-dead-results}
 use Rattle.reference.specs.Run.{last-of, run, attempts-of, steps, finished, attempts-in, counts, Tally, settled, three}
-use Rattle.joining.specs.Limits.{Limits}
+use Rattle.joining.specs.Limits.{RunLimits}
 use Rattle.laws.proofs.Scans.{if-true, if-false}
 use Rattle.lines.specs.Lines.{Reading, numbered, origin-of, listing-read}
 use Rattle.build.specs.declared.used.Size.{Size}
@@ -161,7 +161,7 @@ module _ (rules : Rules) (most : ℕ) (start : Listing) where
 pub record Going (rules : Rules) (tape area₀ : Text) (tokens₀ lines₀ lows₀ highs₀ : List ℕ) (at₀ : Size) (most : ℕ)
     (area : Text) (tokens lines lows highs : List ℕ) (s : Progress) : Type 0 where
   pub current : Current tape area tokens lines (s .size)
-  pub limits : Limits (bare-now tape area tokens lines (s .size))
+  pub limits : RunLimits (bare-now tape area tokens lines (s .size))
   pub few : Few s
   pub sofar : (addresses : Reading)
       → Sofar rules most (listing-now tape area₀ tokens₀ lines₀ at₀ addresses) s (listing-now tape area tokens lines (s .size) addresses)

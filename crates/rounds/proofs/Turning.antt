@@ -19,7 +19,7 @@ use Rattle.reference.specs.Join.{try-at, targets}
 use Rattle.reference.specs.Run.{shift, Attempt, failure, success, after-attempts, removals}
 use Rattle.joining.specs.Bare.{bare-lines}
 use Rattle.joining.specs.Places.{labels-at, Labelled, shift-places}
-use Rattle.joining.specs.Limits.{Limits}
+use Rattle.joining.specs.Limits.{RunLimits}
 use Rattle.joining.specs.Rounds.{attempts}
 use Rattle.reference.proofs.Attempts.{attempt-joined}
 use Rattle.joining.proofs.Bare.{labels-at-bare, try-at-bare, targets-bare, attempt-addresses}
@@ -119,7 +119,7 @@ module _ {tape area : Text} {tokens lines : List ℕ} {at : Size} (c : Current t
   pub now-length : (addresses : Reading) → length (listing-now tape area tokens lines at addresses) ≡ at .lines
   now-length addresses = length-map (used-lines lines at) _ ∙ length-take-le (at .lines) lines (c .lines-fit)
 
-  pub now-few : Limits (bare-now tape area tokens lines at) → at .lines ≤ 256
+  pub now-few : RunLimits (bare-now tape area tokens lines at) → at .lines ≤ 256
   now-few l = omega (
     arith,
     l .lines-fit,
@@ -189,7 +189,7 @@ left-over r = r .size .lines + r .size .lines - r .next
 pub record Rounding (rules : Rules) (tape area₀ : Text) (tokens₀ lines₀ lows₀ highs₀ : List ℕ) (at₀ : Size) (labels₀ : List ℕ) (slots : Text)
     (words : List ℕ) (area : Text) (tokens lines lows highs labels : List ℕ) (r : Round) : Type 0 where
   pub current : Current tape area tokens lines (r .size)
-  pub limits : Limits (bare-now tape area tokens lines (r .size))
+  pub limits : RunLimits (bare-now tape area tokens lines (r .size))
   pub labelled : Labelled (bare-now tape area tokens lines (r .size)) labels
   pub few : r .attempts + left-over r ≤ 512
   pub fewer : r .removed ≤ r .attempts

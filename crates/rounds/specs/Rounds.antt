@@ -11,7 +11,7 @@ use Rattle.reference.specs.Rules.{Rules}
 use Rattle.reference.specs.Join.{try-at}
 use Rattle.reference.specs.Run.{Attempt, after-attempts, removals}
 use Rattle.joining.specs.Places.{labels-at, Labelled, shift-places}
-use Rattle.joining.specs.Limits.{Limits}
+use Rattle.joining.specs.Limits.{RunLimits}
 use Rattle.joining.specs.Rounds.{attempts}
 use Rattle.lines.specs.Lines.{Reading}
 use Rattle.build.specs.declared.used.Size.{Size}
@@ -74,7 +74,7 @@ pub record Roundable (tape area : Text) (tokens lines : List ℕ) (area2 : Text)
     (words : List ℕ)
     (at : Size) : Type 0 where
   pub current : Current tape area tokens lines at
-  pub limits : Limits (bare-now tape area tokens lines at)
+  pub limits : RunLimits (bare-now tape area tokens lines at)
   pub lent : Lent area tokens area2 tokens2
   pub labelled : Labelled (bare-now tape area tokens lines at) labels
   pub slotted : Slotted slots words
@@ -86,7 +86,7 @@ pub record Roundable (tape area : Text) (tokens lines : List ℕ) (area2 : Text)
 pub record Made (round : Listing → List Attempt) (tape area : Text) (tokens lines lows highs : List ℕ) (at : Size)
     (area′ : Text) (tokens′ lines′ lows′ highs′ : List ℕ) (r : Round) : Type 0 where
   pub current : Current tape area′ tokens′ lines′ (r .size)
-  pub limits : Limits (bare-now tape area′ tokens′ lines′ (r .size))
+  pub limits : RunLimits (bare-now tape area′ tokens′ lines′ (r .size))
   pub few : Countable r
   pub left : (addresses : Reading) → listing-now tape area′ tokens′ lines′ (r .size) addresses
       ≡ after-attempts (listing-now tape area tokens lines at addresses) (round (listing-now tape area tokens lines at addresses))

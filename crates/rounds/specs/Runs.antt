@@ -9,7 +9,7 @@ use Rattle.reference.specs.Control.{if_then_else_}
 use Rattle.reference.specs.Text.{Text}
 use Rattle.reference.specs.Rules.{Rules}
 use Rattle.reference.specs.Run as R
-use Rattle.joining.specs.Limits.{Limits}
+use Rattle.joining.specs.Limits.{RunLimits}
 use Rattle.lines.specs.Lines.{Reading}
 use Rattle.build.specs.declared.used.Size.{Size}
 use Rattle.join.specs.Current.{used-lines, listing-now, bare-now, Current, Lent}
@@ -30,7 +30,7 @@ pub record Runnable (tape area : Text) (tokens lines : List ℕ) (area2 : Text) 
     (slot-words : List ℕ)
     (at : Size) : Type 0 where
   pub current : Current tape area tokens lines at
-  pub limits : Limits (bare-now tape area tokens lines at)
+  pub limits : RunLimits (bare-now tape area tokens lines at)
   pub lent : Lent area tokens area2 tokens2
   pub for-labels : 256 ≤ length labels
   pub for-slots : 49152 ≤ length slots
@@ -85,7 +85,7 @@ pub record Counted (rounds : List (List R.Attempt)) (s : Progress) : Type 0 wher
 pub record Rounded (rules : Rules) (tape area : Text) (tokens lines lows highs : List ℕ) (at : Size)
     (area′ : Text) (tokens′ lines′ lows′ highs′ : List ℕ) (s : Progress) : Type 0 where
   pub current : Current tape area′ tokens′ lines′ (s .size)
-  pub limits : Limits (bare-now tape area′ tokens′ lines′ (s .size))
+  pub limits : RunLimits (bare-now tape area′ tokens′ lines′ (s .size))
   pub left : (addresses : Reading)
       → let before = listing-now tape area tokens lines at addresses in
       listing-now tape area′ tokens′ lines′ (s .size) addresses ≡ R.after-rounds before (R.run rules before .rounds)

@@ -1,15 +1,17 @@
 // Dead results: `drop_dead_results` of the Rust.
+use life::Followed;
 use life::dead_after;
 use life::gather_labels;
 use lines::rules::Rules;
 use lines::shapes;
-use lines::shapes::Found;
+use lines::shapes::Position;
 use lines::words;
 use text::is_assign;
 use text::is_result_name;
 ghost use mathlib.Core.Path.{_≡_};
 ghost use Prim.Native.Nat.{_<_, _≤_};
 ghost use lib.ListN.{length};
+ghost use Rattle.reference.specs.Contract.{was};
 ghost use Rattle.reference.specs.Run.{drop-dead-results};
 ghost use Rattle.joining.specs.Rounds.{cuts};
 ghost use Rattle.lines.specs.Rules.{rules-of};
@@ -23,9 +25,9 @@ const RAX: u64 = 0;
 // Whether a line assigns the result of a call to rax or eax.
 fn keeps_result<'a>(tape: &'a [u8], area: &'a [u8], line: &'a [u64]) -> bool
     requires { ⌜ Holds (now tape) (now area) (now line) ⌝ }
-    ensures { λ r. ⌜ r ≡ keeps-result (tokens-of (now (tape .entry)) (now (area .entry)) (now (line .entry))) ⌝ }
+    ensures { λ r. ⌜ r ≡ keeps-result (tokens-of (was tape) (was area) (was line)) ⌝ }
 {
-    let Found::At(at) = shapes::call_at(tape, area, line) else {
+    let Position::At(at) = shapes::call_at(tape, area, line) else {
         return false;
     };
     if at != 2 {
@@ -48,25 +50,19 @@ fn is_dead_result<'a>(
     rules: Rules,
 ) -> bool
     requires { ⌜ Cuttable (now tape) (now area) (now tokens) (now lines) (now labels) × (i < length (now lines)) ⌝ }
-    ensures { λ r. ⌜ r ≡ dead-at (rules-of rules) (now (tape .entry)) (now (area .entry)) (now (tokens .entry)) (now (lines .entry))
-        (now (labels .entry)) i ⌝ }
+    ensures { λ r. ⌜ r ≡ dead-at (rules-of rules) (was tape) (was area) (was tokens) (was lines) (was labels) i ⌝ }
 {
     let l = lines[i];
     if !keeps_result(tape, area, words::line_of(tokens, l)) {
         return false;
     }
-    dead_after(
-        tape,
-        area,
-        tokens,
-        lines,
-        labels,
-        i,
-        RAX,
-        words::indent(l),
-        i,
+    let v = Followed {
+        family: RAX,
+        indent: words::indent(l),
+        start: i,
         rules,
-    )
+    };
+    dead_after(tape, area, tokens, lines, labels, i, v)
 }
 
 // Cuts the result of line i off, if it is never read, and says how many results that is.
@@ -80,8 +76,7 @@ fn drop_at<'a>(
     rules: Rules,
 ) -> u64
     requires { ⌜ Cuttable (now tape) (now area) (now tokens) (now lines) (now labels) × (i < length (now lines)) ⌝ }
-    ensures { λ r. ⌜ Dropped (rules-of rules) (now (tape .entry)) (now (area .entry)) (now (tokens .entry)) (now (lines .entry))
-        (now (labels .entry)) i (now (lines .exit)) r ⌝ }
+    ensures { λ r. ⌜ Dropped (rules-of rules) (was tape) (was area) (was tokens) (was lines) (was labels) i (now (lines .exit)) r ⌝ }
 {
     if !is_dead_result(tape, area, tokens, lines, labels, i, rules) {
         return 0;
@@ -91,7 +86,7 @@ fn drop_at<'a>(
     1
 }
 
-// The same for each line in turn, the labels standing at these places; says how many results that is.
+// Cuts the dead results of all lines, in turn, the labels standing at these places, and says how many results that is.
 fn drop_results<'a>(
     tape: &'a [u8],
     area: &'a [u8],
@@ -101,9 +96,8 @@ fn drop_results<'a>(
     rules: Rules,
 ) -> u64
     requires { ⌜ Cuttable (now tape) (now area) (now tokens) (now lines) (now labels) ⌝ }
-    ensures { λ r. ⌜ Cut (cuts (rules-of rules) (labels-now (now (tape .entry)) (now (area .entry)) (now (tokens .entry))
-        (now (lines .entry)) (now (labels .entry))) 0) (now (tape .entry)) (now (area .entry)) (now (tokens .entry)) (now (lines .entry))
-        (now (lines .exit)) r ⌝ }
+    ensures { λ r. ⌜ Cut (cuts (rules-of rules) (labels-now (was tape) (was area) (was tokens) (was lines) (was labels)) 0) (was tape)
+        (was area) (was tokens) (was lines) (now (lines .exit)) r ⌝ }
 {
     let mut cut = 0;
     let mut i = 0;
@@ -125,8 +119,7 @@ pub fn drop_dead_results<'a>(
 ) -> u64
     requires { ⌜ Listed (now tape) (now area) (now tokens) (now lines) × (length (now tokens) ≤ 65536)
         × (length (now lines) ≤ length (now labels)) ⌝ }
-    ensures { λ r. ⌜ Cut (drop-dead-results (rules-of rules)) (now (tape .entry)) (now (area .entry)) (now (tokens .entry))
-        (now (lines .entry)) (now (lines .exit)) r ⌝ }
+    ensures { λ r. ⌜ Cut (drop-dead-results (rules-of rules)) (was tape) (was area) (was tokens) (was lines) (now (lines .exit)) r ⌝ }
 {
     let known = gather_labels(tape, area, tokens, lines, labels);
     drop_results(tape, area, tokens, lines, &labels[..known], rules)

@@ -7,6 +7,7 @@ use life::shift_labels;
 use lines::rules::Rules;
 ghost use mathlib.Core.Path.{_≡_};
 ghost use Prim.Native.Nat.{pred};
+ghost use Rattle.reference.specs.Contract.{was};
 ghost use Rattle.reference.specs.Run.{propagate-once};
 ghost use Rattle.lines.specs.Rules.{rules-of};
 ghost use Rattle.join.specs.Attempts.{Attemptable};
@@ -49,8 +50,8 @@ fn turn<'a>(
 ) -> Round
     requires { ⌜ Attemptable (now tape) (now area) (now tokens) (now lines) (now area2) (now tokens2) (now lows) (now highs)
         (now labels) (now slots) (now «slot_words») (r .next) (r .size) × Countable r ⌝ }
-    ensures { λ q. ⌜ Turned (rules-of rules) (now (tape .entry)) (now (area .entry)) (now (tokens .entry)) (now (lines .entry))
-        (now (lows .entry)) (now (highs .entry)) (now (labels .entry)) (now (slots .entry)) (now («slot_words» .entry)) r
+    ensures { λ q. ⌜ Turned (rules-of rules) (was tape) (was area) (was tokens) (was lines)
+        (was lows) (was highs) (was labels) (was slots) (was «slot_words») r
         (now (area .exit)) (now (tokens .exit)) (now (lines .exit)) (now (lows .exit)) (now (highs .exit)) (now (labels .exit)) q ⌝ }
 {
     let i = r.next;
@@ -107,11 +108,9 @@ fn turns<'a>(
 ) -> Round
     requires { ⌜ Roundable (now tape) (now area) (now tokens) (now lines) (now area2) (now tokens2) (now lows) (now highs)
         (now labels) (now slots) (now «slot_words») size ⌝ }
-    ensures { λ r. ⌜ Made
-        (attempts-with (rules-of rules) (now (tape .entry)) (now (area .entry)) (now (tokens .entry)) (now (lines .entry)) size
-        (now (labels .entry)) (now (slots .entry)) (now («slot_words» .entry)))
-        (now (tape .entry)) (now (area .entry)) (now (tokens .entry)) (now (lines .entry)) (now (lows .entry)) (now (highs .entry)) size
-        (now (area .exit)) (now (tokens .exit)) (now (lines .exit)) (now (lows .exit)) (now (highs .exit)) r ⌝ }
+    ensures { λ r. ⌜ Made (attempts-with (rules-of rules) (was tape) (was area) (was tokens) (was lines) size (was labels) (was slots)
+        (was «slot_words»)) (was tape) (was area) (was tokens) (was lines) (was lows) (was highs) size (now (area .exit))
+        (now (tokens .exit)) (now (lines .exit)) (now (lows .exit)) (now (highs .exit)) r ⌝ }
 {
     let mut r = Round {
         next: 0,
@@ -157,9 +156,7 @@ pub fn propagate_once(
 ) -> Round
     requires { ⌜ Runnable (now tape) (now area) (now tokens) (now lines) (now area2) (now tokens2) (now lows) (now highs)
         (now labels) (now slots) (now «slot_words») size ⌝ }
-    ensures { λ r. ⌜ Made (propagate-once (rules-of rules)) (now (tape .entry)) (now (area .entry)) (now (tokens .entry))
-        (now (lines .entry))
-        (now (lows .entry)) (now (highs .entry)) size
+    ensures { λ r. ⌜ Made (propagate-once (rules-of rules)) (was tape) (was area) (was tokens) (was lines) (was lows) (was highs) size
         (now (area .exit)) (now (tokens .exit)) (now (lines .exit)) (now (lows .exit)) (now (highs .exit)) r ⌝ }
 {
     let n = size.lines;

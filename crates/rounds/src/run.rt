@@ -7,10 +7,11 @@ use crate::cuts::drop_dead_results;
 use crate::rounds::Round;
 use crate::rounds::propagate_once;
 use build::used::Size;
-use linemarks::mark_lines;
+use linefacts::gather_facts;
 use lines::rules::Rules;
 ghost use mathlib.Core.Path.{_≡_};
 ghost use Prim.Native.Nat.{_≤_};
+ghost use Rattle.reference.specs.Contract.{was};
 ghost use Rattle.lines.specs.Rules.{rules-of};
 ghost use Rattle.join.specs.Current.{Current};
 ghost use Rattle.rounds.specs.Rounds.{Countable};
@@ -130,8 +131,7 @@ fn make_rounds(
 ) -> Progress
     requires { ⌜ Runnable (now tape) (now area) (now tokens) (now lines) (now area2) (now tokens2)
         (now lows) (now highs) (now labels) (now slots) (now «slot_words») size ⌝ }
-    ensures { λ s. ⌜ Rounded (rules-of rules) (now (tape .entry)) (now (area .entry)) (now (tokens .entry)) (now (lines .entry))
-        (now (lows .entry)) (now (highs .entry)) size
+    ensures { λ s. ⌜ Rounded (rules-of rules) (was tape) (was area) (was tokens) (was lines) (was lows) (was highs) size
         (now (area .exit)) (now (tokens .exit)) (now (lines .exit)) (now (lows .exit)) (now (highs .exit)) s ⌝ }
 {
     let mut s = Progress {
@@ -169,13 +169,12 @@ fn make_rounds(
 // Gives each line of the listing its marks.
 fn mark<'a>(tape: &'a [u8], area: &'a [u8], tokens: &'a [u64], lines: &mut [u64], size: Size)
     requires { ⌜ Current (now tape) (now area) (now tokens) (now lines) size ⌝ }
-    ensures { λ r. ⌜ SameListing (now (tape .entry)) (now (area .entry)) (now (tokens .entry)) (now (lines .entry)) size
-        (now (lines .exit)) ⌝ }
+    ensures { λ r. ⌜ SameListing (was tape) (was area) (was tokens) (was lines) size (now (lines .exit)) ⌝ }
 {
     let n = size.lines;
     let used = size.tokens;
     let text = size.text;
-    mark_lines(tape, &area[..text], &tokens[..used], &mut lines[..n]);
+    gather_facts(tape, &area[..text], &tokens[..used], &mut lines[..n]);
 }
 
 // The marks, the rounds, then the cuts.
@@ -196,9 +195,8 @@ pub fn optimize(
 ) -> Outcome
     requires { ⌜ Runnable (now tape) (now area) (now tokens) (now lines) (now area2) (now tokens2)
         (now lows) (now highs) (now labels) (now slots) (now «slot_words») size ⌝ }
-    ensures { λ r. ⌜ Ran (rules-of rules) (now (tape .entry)) (now (area .entry)) (now (tokens .entry)) (now (lines .entry))
-        (now (lows .entry)) (now (highs .entry)) size
-        (now (area .exit)) (now (tokens .exit)) (now (lines .exit)) (now (lows .exit)) (now (highs .exit)) r ⌝ }
+    ensures { λ r. ⌜ Ran (rules-of rules) (was tape) (was area) (was tokens) (was lines) (was lows) (was highs) size (now (area .exit))
+        (now (tokens .exit)) (now (lines .exit)) (now (lows .exit)) (now (highs .exit)) r ⌝ }
 {
     mark(tape, area, tokens, lines, size);
     let s = make_rounds(

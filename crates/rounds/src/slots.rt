@@ -5,6 +5,7 @@ use text::copy_bytes;
 use text::ends_ampersand;
 ghost use mathlib.Core.List.{[], _∷_};
 ghost use lib.ListN.{length};
+ghost use Rattle.reference.specs.Contract.{was};
 ghost use Rattle.reference.specs.Lists.{windows};
 ghost use Rattle.reference.specs.Claim.{text-in, token-count, text as text-of-all};
 ghost use Rattle.reference.specs.Run.{addressed-here, addressed-in};
@@ -30,9 +31,8 @@ fn gather_slot<'a>(
 ) -> Slots
     requires { ⌜ Points (now tape) (now area) before × Points (now tape) (now area) w × Slotting (now slots) (now «slot_words») g
         × Roomy (now slots) (now «slot_words») g (len-of w) 1 ⌝ }
-    ensures { λ r. ⌜ Noted
-        (addressed-here ((token-of (now (tape .entry)) (now (area .entry)) before, token-of (now (tape .entry)) (now (area .entry)) w)
-        ∷ [])) (len-of w) 1 (now (slots .entry)) (now («slot_words» .entry)) g (now (slots .exit)) (now («slot_words» .exit)) r ⌝ }
+    ensures { λ r. ⌜ Noted (addressed-here ((token-of (was tape) (was area) before, token-of (was tape) (was area) w) ∷ [])) (len-of w) 1
+        (was slots) (was «slot_words») g (now (slots .exit)) (now («slot_words» .exit)) r ⌝ }
 {
     let s = words::text(tape, area, w);
     if !ends_ampersand(words::text(tape, area, before)) {
@@ -62,9 +62,9 @@ fn gather_line<'a>(
 ) -> Slots
     requires { ⌜ Holds (now tape) (now area) (now line) × Slotting (now slots) (now «slot_words») g
         × Roomy (now slots) (now «slot_words») g (text-in (tokens-of (now tape) (now area) (now line))) (length (now line)) ⌝ }
-    ensures { λ r. ⌜ Noted (addressed-here (windows (tokens-of (now (tape .entry)) (now (area .entry)) (now (line .entry)))))
-        (text-in (tokens-of (now (tape .entry)) (now (area .entry)) (now (line .entry)))) (length (now (line .entry))) (now (slots .entry))
-        (now («slot_words» .entry)) g (now (slots .exit)) (now («slot_words» .exit)) r ⌝ }
+    ensures { λ r. ⌜ Noted (addressed-here (windows (tokens-of (was tape) (was area) (was line))))
+        (text-in (tokens-of (was tape) (was area) (was line))) (length (was line)) (was slots)
+        (was «slot_words») g (now (slots .exit)) (now («slot_words» .exit)) r ⌝ }
 {
     let mut all = g;
     let mut k = 0;
@@ -84,12 +84,10 @@ pub fn gather_slots<'a>(
     slots: &mut [u8],
     slot_words: &mut [u64],
 ) -> Slots
-    requires { ⌜ Listed (now tape) (now area) (now tokens) (now lines)
-        × Roomy (now slots) (now «slot_words») (record { count = 0; text = 0 })
-        (text-of-all (bare-listing (now tape) (now area) (now tokens) (now lines)))
+    requires { ⌜ Listed (now tape) (now area) (now tokens) (now lines) × Roomy (now slots) (now «slot_words»)
+        (record { count = 0; text = 0 }) (text-of-all (bare-listing (now tape) (now area) (now tokens) (now lines)))
         (token-count (bare-listing (now tape) (now area) (now tokens) (now lines))) ⌝ }
-    ensures { λ r. ⌜ Gathers
-        (addressed-in (bare-listing (now (tape .entry)) (now (area .entry)) (now (tokens .entry)) (now (lines .entry)))) (now (slots .exit))
+    ensures { λ r. ⌜ Gathers (addressed-in (bare-listing (was tape) (was area) (was tokens) (was lines))) (now (slots .exit))
         (now («slot_words» .exit)) r ⌝ }
 {
     let mut all = Slots { count: 0, text: 0 };

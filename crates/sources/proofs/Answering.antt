@@ -17,7 +17,7 @@ use Rattle.reference.proofs.Reading.{ask-yes, ask-no, let-refused, let-is, refu
 use Rattle.reference.proofs.Guarantee.{Answered, answered}
 use Rattle.answers.specs.Answers.{Writes}
 use Rattle.tape.specs.Bytes.{Puts}
-use Rattle.tape.specs.Questions.{Accepted}
+use Rattle.tape.specs.Questions.{AcceptedTape}
 use Rattle.clean.specs.Replies.{Summary, summary, Leaves}
 use Rattle.offsets.proofs.Answering.{refused-call, written-call}
 use Rattle.sources.specs.Only.{COPY, only-tape, only-reply}
@@ -40,7 +40,7 @@ module _ (k : ℕ) (tape : List ℕ) (output : ℕ) where
     unfolding only-reply
     only-passed e = ask-yes _ _ _ (le-leb COPY output room, tt) ∙ let-is _ e
 
-pub only-written : (k : ℕ) (tape out : List ℕ) {out′ : List ℕ} {end : ℕ} → Accepted tape → 34561 ≤ length out → CopyOf k tape out out′ end
+pub only-written : (k : ℕ) (tape out : List ℕ) {out′ : List ℕ} {end : ℕ} → AcceptedTape tape → 34561 ≤ length out → CopyOf k tape out out′ end
     → Writes (only-reply k tape (length out)) out out′ (Passed end)
 only-written k tape out a room c = written-call (only-passed k tape (length out) room (a .reads)) (c (a .listing) (a .reads))
 

@@ -27,7 +27,7 @@ use Rattle.reference.proofs.Reading.{Yes, ask-yes, ask-no, ask-passed, let-refu
 use Rattle.reference.proofs.Marks.{marks-length}
 use Rattle.laws.proofs.Scans.{and-true}
 use Rattle.answers.specs.Answers.{measured, output-after, Writes}
-use Rattle.tape.specs.Questions.{first-no, Accepted}
+use Rattle.tape.specs.Questions.{first-no, AcceptedTape}
 use Rattle.tape.proofs.questions.Asking.{none-no, ask-number}
 use Rattle.sources.specs.Only.{COPY, FLAGS, only, only-tape, only-reply, came, flags, came-flags, Lent, ask-lent, in-profile, came-copy, came-cleaning, came-reply}
 use Rattle.sources.specs.Calls.{flag-of, in-place-of, FlagsCleaned, lent-as, lent-after, CameInto}
@@ -244,7 +244,7 @@ module _ (rules : Rules) (k : ℕ) (tape : List ℕ) (lent : Lent) where
         copy-read : read bytes ≡ Passed (only k (m .lines))
         copy-read = rw (m .bytes-are) (copy-reads tape (m .lines) k (m .reads))
 
-        pub part-accepted : {part : List ℕ} → part ≡ take size (drop 0 copy′) → Accepted part
+        pub part-accepted : {part : List ℕ} → part ≡ take size (drop 0 copy′) → AcceptedTape part
         part-accepted e = rw (part-is e) (record { listing = only k (m .lines); reads = copy-read })
 
         -- the answers of the definitions

@@ -21,7 +21,7 @@ use Rattle.reference.specs.Questions.{Passed, read, add-marks, marks-in}
 use Rattle.reference.proofs.LittleEndian.{Bytes}
 use Rattle.reference.proofs.Commands.{AddressFits}
 use Rattle.reference.proofs.Writing.{flat-append, mark-last}
-use Rattle.reference.proofs.Limits.{All, all-append, TokenFits, LineFits, MarksFit, Fits}
+use Rattle.reference.proofs.Limits.{All, all-append, TokenFits, LineFits, MarksFit, TapeFits}
 use Rattle.reference.proofs.Tapes.{read-fits, read-marks-fit}
 use Rattle.reference.proofs.Marks.{marks-length, finished-marks-fit}
 use Rattle.sources.specs.Calls.{begins, Inner, Walkable}
@@ -189,7 +189,7 @@ module _ (rules : Rules) (tape : List ℕ) (input : Listing) (bytes : Bytes tape
   abbrev marks : List Marks
   marks = finished-marks rules input (marks-in tape)
 
-  fits : Fits input
+  fits : TapeFits input
   fits = read-fits tape input bytes reads
 
   inner : All Inner (listing-commands done marks)

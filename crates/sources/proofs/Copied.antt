@@ -16,7 +16,7 @@ use Rattle.reference.specs.Marks.{comes-to, added, of-each, finished-marks}
 use Rattle.reference.specs.Tape.{write-lines, write-lines-by, write, write-by}
 use Rattle.reference.specs.Questions.{Passed, read, marks-in}
 use Rattle.reference.proofs.Commands.{AddressFits}
-use Rattle.reference.proofs.Limits.{All, MarksFit, LineFits, Limits, Fits}
+use Rattle.reference.proofs.Limits.{All, MarksFit, LineFits, Limits, TapeFits}
 use Rattle.reference.proofs.Writing.{write-length}
 use Rattle.reference.proofs.Tapes.{read-limits}
 use Rattle.reference.proofs.Written.{read-write}
@@ -107,7 +107,7 @@ only-limits k lines h =
       each = only-each k lines (h .each);
     }
 
-pub only-fits : (k : ℕ) (lines : Listing) → Limits lines → Fits (only k lines)
+pub only-fits : (k : ℕ) (lines : Listing) → Limits lines → TapeFits (only k lines)
 only-fits k lines h = record { limits = only-limits k lines h; addresses = only-addresses k lines }
 
 -- ---- its tape

@@ -204,4 +204,4 @@ module _ (rules : Rules) (tape : List ℕ) (input : Listing) (reads : read tape 
   finished-text = last-within .text-bounded
 
   pub finished-few : length (finished rules input) ≤ length input
-  finished-few = simp length-map at (sublist-length (last-within .places-in-order))
+  finished-few = simp length-map at (sublist-length (last-within .pairs-in-order))

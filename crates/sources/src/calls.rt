@@ -11,17 +11,17 @@ use tape::questions::asked;
 use tape::questions::check;
 ghost use Prim.Native.Nat.{_≤_};
 ghost use lib.ListN.{length};
+ghost use Rattle.reference.specs.Contract.{was};
 ghost use Rattle.answers.specs.Answers.{answer-of, Writes};
 ghost use Rattle.lines.specs.Rules.{rules-of};
-ghost use Rattle.tape.specs.Questions.{Accepted};
+ghost use Rattle.tape.specs.Questions.{AcceptedTape};
 ghost use Rattle.sources.specs.Only.{only-reply};
 ghost use Rattle.sources.specs.Calls.{FlagsCleaned, lent-as, CameInto};
 
 // The copy of a tape in which line k alone has an address, and no 03 stands: it stands at the front of `out`, and its length is answered.
 // Where there is no line k, no line has an address. A refusal changes nothing.
 pub fn only(k: usize, tape: &[u8], out: &mut [u8]) -> Answer
-    ensures { λ r. ⌜ Writes (only-reply k (now (tape .entry)) (length (now (out .entry)))) (now (out .entry)) (now (out .exit))
-        (answer-of r) ⌝ }
+    ensures { λ r. ⌜ Writes (only-reply k (was tape) (length (was out))) (was out) (now (out .exit)) (answer-of r) ⌝ }
 {
     if out.len() < 34561 {
         return Answer::Refused {
@@ -47,10 +47,9 @@ fn flags_of(
     out: &mut [u8],
     flags: &mut [u8],
 ) -> Answer
-    requires { ⌜ Accepted (now tape) × (256 ≤ length (now flags)) ⌝ }
-    ensures { λ r. ⌜ FlagsCleaned (rules-of rules)
-        (now (tape .entry)) (now («work_a» .entry)) (now («work_b» .entry)) (now (out .entry)) (now (flags .entry))
-        (now («work_a» .exit)) (now («work_b» .exit)) (now (out .exit)) (now (flags .exit)) (answer-of r) ⌝ }
+    requires { ⌜ AcceptedTape (now tape) × (256 ≤ length (now flags)) ⌝ }
+    ensures { λ r. ⌜ FlagsCleaned (rules-of rules) (was tape) (was «work_a») (was «work_b») (was out) (was flags) (now («work_a» .exit))
+        (now («work_b» .exit)) (now (out .exit)) (now (flags .exit)) (answer-of r) ⌝ }
 {
     match clean(rules, tape, work_a, work_b, out) {
         Reply::Refused { number, place } => Answer::Refused { number, place },
@@ -75,10 +74,8 @@ pub fn came_into(
     out: &mut [u8],
     flags: &mut [u8],
 ) -> Answer
-    ensures { λ r. ⌜ CameInto (rules-of rules) k (now (tape .entry))
-        (lent-as (now (copy .entry)) (now («work_a» .entry)) (now («work_b» .entry)) (now (out .entry)) (now (flags .entry)))
-        (lent-as (now (copy .exit)) (now («work_a» .exit)) (now («work_b» .exit)) (now (out .exit)) (now (flags .exit)))
-        (answer-of r) ⌝ }
+    ensures { λ r. ⌜ CameInto (rules-of rules) k (was tape) (lent-as (was copy) (was «work_a») (was «work_b») (was out) (was flags))
+        (lent-as (now (copy .exit)) (now («work_a» .exit)) (now («work_b» .exit)) (now (out .exit)) (now (flags .exit))) (answer-of r) ⌝ }
 {
     let number = asked(rules, work_a.len(), work_b.len(), out.len());
     if number != 0 {

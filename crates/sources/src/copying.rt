@@ -10,16 +10,17 @@ use text::copy_bytes;
 ghost use mathlib.Core.Option.{none, some};
 ghost use Prim.Native.Nat.{_+_, _-_, _≤_, _<_};
 ghost use lib.ListN.{length, take, drop};
+ghost use Rattle.reference.specs.Contract.{was};
 ghost use Rattle.reference.specs.Tape.{new-line, write-command};
 ghost use Rattle.tape.specs.Bytes.{Puts};
 ghost use Rattle.tape.specs.Commands.{command-in};
-ghost use Rattle.tape.specs.Questions.{Accepted};
+ghost use Rattle.tape.specs.Questions.{AcceptedTape};
 ghost use Rattle.sources.specs.Calls.{address-for, copied, Copies, CopyOf};
 
 // Writes the command of a line whose address is 0.
 fn put_picked(indent: u64, out: &mut [u8], at: usize) -> usize
     requires { ⌜ (indent < 256) × (at + 10 ≤ length (now out)) ⌝ }
-    ensures { λ r. ⌜ Puts (now (out .entry)) at (write-command (new-line (some 0) indent)) (now (out .exit)) r ⌝ }
+    ensures { λ r. ⌜ Puts (was out) at (write-command (new-line (some 0) indent)) (now (out .exit)) r ⌝ }
 {
     out[at] = 1;
     put_number(0, 8, out, at + 1);
@@ -30,7 +31,7 @@ fn put_picked(indent: u64, out: &mut [u8], at: usize) -> usize
 // Writes the command of a line without an address.
 fn put_plain(indent: u64, out: &mut [u8], at: usize) -> usize
     requires { ⌜ (indent < 256) × (at + 2 ≤ length (now out)) ⌝ }
-    ensures { λ r. ⌜ Puts (now (out .entry)) at (write-command (new-line none indent)) (now (out .exit)) r ⌝ }
+    ensures { λ r. ⌜ Puts (was out) at (write-command (new-line none indent)) (now (out .exit)) r ⌝ }
 {
     out[at] = 2;
     out[at + 1] = indent as u8;
@@ -40,7 +41,7 @@ fn put_plain(indent: u64, out: &mut [u8], at: usize) -> usize
 // Writes the command of a line: line k is the picked one.
 fn put_line(picked: bool, indent: u64, out: &mut [u8], at: usize) -> usize
     requires { ⌜ (indent < 256) × (at + length (write-command (new-line (address-for picked) indent)) ≤ length (now out)) ⌝ }
-    ensures { λ r. ⌜ Puts (now (out .entry)) at (write-command (new-line (address-for picked) indent)) (now (out .exit)) r ⌝ }
+    ensures { λ r. ⌜ Puts (was out) at (write-command (new-line (address-for picked) indent)) (now (out .exit)) r ⌝ }
 {
     if picked {
         return put_picked(indent, out, at);
@@ -51,7 +52,7 @@ fn put_line(picked: bool, indent: u64, out: &mut [u8], at: usize) -> usize
 // Copies the bytes of the tape from `from` to `end`.
 fn put_part(tape: &[u8], from: usize, end: usize, out: &mut [u8], at: usize) -> usize
     requires { ⌜ (from ≤ end) × (end ≤ length (now tape)) × (at + (end - from) ≤ length (now out)) ⌝ }
-    ensures { λ r. ⌜ Puts (now (out .entry)) at (take (end - from) (drop from (now (tape .entry)))) (now (out .exit)) r ⌝ }
+    ensures { λ r. ⌜ Puts (was out) at (take (end - from) (drop from (was tape))) (now (out .exit)) r ⌝ }
 {
     let n = end - from;
     copy_bytes(text_of(tape, from, n), out, at);
@@ -69,7 +70,7 @@ fn put_command(
     to: usize,
 ) -> usize
     requires { ⌜ Copies picked (now tape) at next command (now out) to ⌝ }
-    ensures { λ r. ⌜ Puts (now (out .entry)) to (copied picked (command-in (now (tape .entry)) at command)) (now (out .exit)) r ⌝ }
+    ensures { λ r. ⌜ Puts (was out) to (copied picked (command-in (was tape) at command)) (now (out .exit)) r ⌝ }
 {
     match command {
         Command::Addressed { address: _, indent } => put_line(picked, indent, out, to),
@@ -82,8 +83,8 @@ fn put_command(
 
 // Writes the copy of an accepted tape to the front of `out`, and says where it ends.
 pub fn put_commands(tape: &[u8], k: usize, out: &mut [u8]) -> usize
-    requires { ⌜ Accepted (now tape) × (34561 ≤ length (now out)) ⌝ }
-    ensures { λ r. ⌜ CopyOf k (now (tape .entry)) (now (out .entry)) (now (out .exit)) r ⌝ }
+    requires { ⌜ AcceptedTape (now tape) × (34561 ≤ length (now out)) ⌝ }
+    ensures { λ r. ⌜ CopyOf k (was tape) (was out) (now (out .exit)) r ⌝ }
 {
     let mut at = 0;
     let mut totals = Totals {

@@ -8,6 +8,7 @@ ghost use mathlib.Core.Path.{_≡_};
 ghost use mathlib.Core.List.{map};
 ghost use Prim.Native.Nat.{_≤_};
 ghost use lib.ListN.{length};
+ghost use Rattle.reference.specs.Contract.{was};
 ghost use Rattle.reference.specs.Questions.{marks-in};
 ghost use Rattle.tape.specs.Bytes.{Puts};
 ghost use Rattle.sources.specs.Calls.{flag-of, Walkable, marked-last, FlagFits, Flags};
@@ -15,7 +16,7 @@ ghost use Rattle.sources.specs.Calls.{flag-of, Walkable, marked-last, Fl
 // Sets the flag of the last of n lines.
 fn mark_last(flags: &mut [u8], n: usize)
     requires { ⌜ n ≤ length (now flags) ⌝ }
-    ensures { λ _. ⌜ now (flags .exit) ≡ marked-last n (now (flags .entry)) ⌝ }
+    ensures { λ _. ⌜ now (flags .exit) ≡ marked-last n (was flags) ⌝ }
 {
     if n == 0 {
         return;
@@ -26,7 +27,7 @@ fn mark_last(flags: &mut [u8], n: usize)
 // The flags with one command more, n lines having begun before it.
 fn flag(command: Command, flags: &mut [u8], n: usize) -> usize
     requires { ⌜ FlagFits command n (now flags) ⌝ }
-    ensures { λ r. ⌜ Flags command n (now (flags .entry)) (now (flags .exit)) r ⌝ }
+    ensures { λ r. ⌜ Flags command n (was flags) (now (flags .exit)) r ⌝ }
 {
     match command {
         Command::Addressed {
@@ -52,7 +53,7 @@ fn flag(command: Command, flags: &mut [u8], n: usize) -> usize
 // Writes a flag for each line of the tape to the front of `flags`, 1 where it has marks, else 0, and says how many lines there are.
 pub fn walk(tape: &[u8], flags: &mut [u8]) -> usize
     requires { ⌜ Walkable (now tape) (length (now flags)) ⌝ }
-    ensures { λ r. ⌜ Puts (now (flags .entry)) 0 (map flag-of (marks-in (now (tape .entry)))) (now (flags .exit)) r ⌝ }
+    ensures { λ r. ⌜ Puts (was flags) 0 (map flag-of (marks-in (was tape))) (now (flags .exit)) r ⌝ }
 {
     let mut at = 0;
     let mut n = 0;

@@ -17,8 +17,8 @@ use Rattle.reference.proofs.Cases.{bind-some, unless-some, some-inj}
 use Rattle.reference.proofs.Reading.{passed-inj}
 use Rattle.laws.proofs.Scans.{if-true, if-false}
 use Rattle.lines.specs.Shapes.{found}
-use Rattle.lines.specs.declared.shapes.Found.{Found}
-use Rattle.lines.specs.declared.shapes.Found.the-variants.{At, Nothing}
+use Rattle.lines.specs.declared.shapes.Position.{Position}
+use Rattle.lines.specs.declared.shapes.Position.the-variants.{At, Nothing}
 use Rattle.lines.specs.Lines.{Reading, own, listing-read}
 use Rattle.tape.specs.declared.questions.Totals.{Totals}
 use Rattle.tables.specs.Tables.{Loaded}
@@ -76,7 +76,7 @@ module _ (chosen : Text) (list : List ℕ) (wanted : ℕ) {x : Bool} (ex : x ≡
 
 -- ---- 14
 
-module _ (chosen : Text) (list : List ℕ) (wanted : ℕ) (lines : Listing) (r : Found) (e : found r ≡ breaks lines) where
+module _ (chosen : Text) (list : List ℕ) (wanted : ℕ) (lines : Listing) (r : Position) (e : found r ≡ breaks lines) where
   pub out-of-profile : (n : ℕ) → r ≡ At n → Refused 14 n ≡ ask-formula lines chosen list wanted
   unfolding ask-formula let-some_else_then_
   out-of-profile n q = rw (sym e ∙ ap found q) refl
@@ -98,7 +98,7 @@ module _ (tape : List ℕ) (chosen : Text) (list : List ℕ) (wanted : ℕ) wher
 
 -- ---- what was loaded
 
-module _ (tape tokens lines addresses : List ℕ) (t : Totals) (l : Loaded tape tokens lines addresses t) (r : Found)
+module _ (tape tokens lines addresses : List ℕ) (t : Totals) (l : Loaded tape tokens lines addresses t) (r : Position)
     (e : (reading : Reading) → found r ≡ breaks (listing-read tape tape (take (t .tokens) tokens) reading (take (t .lines) lines))) where
   pub profiled : r ≡ Nothing → Profiled tape (take (t .tokens) tokens) (take (t .lines) lines)
   profiled q =

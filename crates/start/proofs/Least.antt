@@ -13,8 +13,8 @@ use Rattle.laws.proofs.Scans.{if-true, if-false}
 use Rattle.start.specs.Start.{least-below}
 
 -- v passes the test, is below n, and nothing smaller passes
-abbrev pub Found : (ℕ → Bool) → ℕ → ℕ → Type 0
-Found works n v = (v < n) × (works v ≡ true) × ((u : ℕ) → u < v → works u ≡ false)
+abbrev pub IsLeast : (ℕ → Bool) → ℕ → ℕ → Type 0
+IsLeast works n v = (v < n) × (works v ≡ true) × ((u : ℕ) → u < v → works u ≡ false)
 
 module _ (works : ℕ → Bool) where
   -- ---- how it is found
@@ -52,13 +52,13 @@ module _ (works : ℕ → Bool) where
           by-cases (decLt u n) (before p u)
           (λ h. (let last : u ≡ n = omega arith in ap works last ∙ fails (λ t. none-some (sym e ∙ if-true _ _ t))))
 
-  pub least-found : (n v : ℕ) → least-below n works ≡ some v → Found works n v
+  pub least-found : (n v : ℕ) → least-below n works ≡ some v → IsLeast works n v
   unfolding least-below let-some_else_then_
   least-found zero v e = absurd (none-some e)
   least-found (suc n) v e = go (least-below n works) refl e (least-found n v)
     where
-      go : (o : Option ℕ) → least-below n works ≡ o → next n o ≡ some v → (least-below n works ≡ some v → Found works n v)
-          → Found works (suc n) v
+      go : (o : Option ℕ) → least-below n works ≡ o → next n o ≡ some v → (least-below n works ≡ some v → IsLeast works n v)
+          → IsLeast works (suc n) v
       go (some w) p e before = let b = before (p ∙ e) in (omega (arith, b .0), b .1, b .2)
       go none p e before =
           let h = if-some e in

@@ -3,16 +3,17 @@ use crate::listed::are_known;
 use crate::listed::is_register;
 use crate::reckoning::reckon;
 use answers::Answer;
-use lines::shapes::Found;
+use lines::shapes::Position;
 use solving::Solution;
 use solving::solve_sum;
 use tape::questions::Checked;
 ghost use mathlib.Core.Path.{_≡_};
 ghost use Prim.Native.Nat.{_≤_};
 ghost use lib.ListN.{length};
+ghost use Rattle.reference.specs.Contract.{was};
 ghost use Rattle.reference.specs.Listing.{Listing};
 ghost use Rattle.reference.specs.Questions.{Passed, read};
-ghost use Rattle.tape.specs.Questions.{Accepted};
+ghost use Rattle.tape.specs.Questions.{AcceptedTape};
 ghost use Rattle.lines.specs.Lines.{Reading, listing-read};
 ghost use Rattle.answers.specs.Answers.{answer-of};
 ghost use Rattle.start.specs.Start.{ask-names, ask-formula, start-reply};
@@ -28,9 +29,8 @@ fn solved<'a>(
     wanted: u64,
 ) -> Answer
     requires { ⌜ Profiled (now tape) (now tokens) (now lines) × (length (now tokens) ≤ 1024) ⌝ }
-    ensures { λ r. ⌜ ((reading : Reading) → answer-of r ≡ ask-names
-        (listing-read (now (tape .entry)) (now (tape .entry)) (now (tokens .entry)) reading (now (lines .entry)))
-        (now (chosen .entry)) (now (list .entry)) wanted) ⌝ }
+    ensures { λ r. ⌜ ((reading : Reading) → answer-of r ≡ ask-names (listing-read (was tape) (was tape) (was tokens) reading (was lines))
+        (was chosen) (was list) wanted) ⌝ }
 {
     if !is_register(chosen) {
         return Answer::Refused {
@@ -56,9 +56,9 @@ fn solved<'a>(
 
 // 14 and what follows, of a tape that passed its questions.
 fn asked<'a>(tape: &'a [u8], chosen: &'a [u8], list: &'a [u8], wanted: u64) -> Answer
-    requires { ⌜ Accepted (now tape) ⌝ }
-    ensures { λ r. ⌜ ((input : Listing) → read (now (tape .entry)) ≡ Passed input
-        → answer-of r ≡ ask-formula input (now (chosen .entry)) (now (list .entry)) wanted) ⌝ }
+    requires { ⌜ AcceptedTape (now tape) ⌝ }
+    ensures { λ r. ⌜ ((input : Listing) → read (was tape) ≡ Passed input
+        → answer-of r ≡ ask-formula input (was chosen) (was list) wanted) ⌝ }
 {
     let mut tokens = [0u64; 1024];
     let mut lines = [0u64; 256];
@@ -76,18 +76,18 @@ fn asked<'a>(tape: &'a [u8], chosen: &'a [u8], list: &'a [u8], wanted: u64) -> A
     let n = loaded.lines;
     let used = loaded.tokens;
     match formula::breaks(tape, &tokens[..used], &lines[..n]) {
-        Found::At(line) => Answer::Refused {
+        Position::At(line) => Answer::Refused {
             number: 14,
             place: line,
         },
-        Found::Nothing => solved(tape, &tokens[..used], &lines[..n], chosen, list, wanted),
+        Position::Nothing => solved(tape, &tokens[..used], &lines[..n], chosen, list, wanted),
     }
 }
 
 // The smallest start value of the chosen register for which the formula of a tape returns the wanted value, the other registers starting
 // with the values that the list has for their names, or 0.
 pub fn start_value<'a>(tape: &'a [u8], chosen: &'a [u8], list: &'a [u8], wanted: u64) -> Answer
-    ensures { λ r. ⌜ answer-of r ≡ start-reply (now (tape .entry)) (now (chosen .entry)) (now (list .entry)) wanted ⌝ }
+    ensures { λ r. ⌜ answer-of r ≡ start-reply (was tape) (was chosen) (was list) wanted ⌝ }
 {
     match tape::check(tape) {
         Checked::Refused { number, place } => Answer::Refused { number, place },

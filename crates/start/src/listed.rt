@@ -6,6 +6,7 @@ ghost use mathlib.Core.List.{List};
 ghost use mathlib.Core.Option.{some};
 ghost use Prim.Native.Nat.{_≤_, _<_};
 ghost use lib.ListN.{length, drop};
+ghost use Rattle.reference.specs.Contract.{was};
 ghost use Rattle.reference.specs.Lists.{is-some};
 ghost use Rattle.start.specs.Start.{Entry, entries, is-register, known-entries, listed};
 ghost use Rattle.start.specs.Items.{item-of};
@@ -26,7 +27,7 @@ fn length_of(b: u8) -> usize
 
 fn item_at(list: &[u8], at: usize) -> Item
     requires { ⌜ at ≤ length (now list) ⌝ }
-    ensures { λ r. ⌜ r ≡ item-of (drop at (now (list .entry))) ⌝ }
+    ensures { λ r. ⌜ r ≡ item-of (drop at (was list)) ⌝ }
 {
     if list.len() <= at {
         return Item::Over;
@@ -40,7 +41,7 @@ fn item_at(list: &[u8], at: usize) -> Item
 
 // Whether a name is a 64-bit register's and no stack slot's.
 pub fn is_register(name: &[u8]) -> bool
-    ensures { λ r. ⌜ r ≡ is-register (now (name .entry)) ⌝ }
+    ensures { λ r. ⌜ r ≡ is-register (was name) ⌝ }
 {
     if text::begins_slot(name) {
         return false;
@@ -54,7 +55,7 @@ pub fn is_register(name: &[u8]) -> bool
 
 // Whether no entry of a list is cut and each name is a 64-bit register's.
 pub fn are_known(list: &[u8]) -> bool
-    ensures { λ r. ⌜ r ≡ is-some (known-entries (now (list .entry))) ⌝ }
+    ensures { λ r. ⌜ r ≡ is-some (known-entries (was list)) ⌝ }
 {
     let mut at = 0;
     loop {
@@ -79,7 +80,7 @@ pub fn are_known(list: &[u8]) -> bool
 
 // The value of the first entry for a name; 0 where there is none.
 pub fn value_of(list: &[u8], name: &[u8]) -> u64
-    ensures { λ r. ⌜ ((es : List Entry) → entries (now (list .entry)) ≡ some es → r ≡ listed es (now (name .entry))) ⌝ }
+    ensures { λ r. ⌜ ((es : List Entry) → entries (was list) ≡ some es → r ≡ listed es (was name)) ⌝ }
 {
     let mut at = 0;
     loop {

@@ -13,6 +13,7 @@ ghost use mathlib.Core.List.{List};
 ghost use mathlib.Core.Option.{some};
 ghost use Prim.Native.Nat.{_+_, _*_, _≤_, _<_};
 ghost use lib.ListN.{length, drop};
+ghost use Rattle.reference.specs.Contract.{was};
 ghost use Rattle.reference.specs.Text.{Text};
 ghost use lib.IntN.{ℤ};
 ghost use Rattle.reference.specs.Numbers.{parse-c-number};
@@ -36,7 +37,7 @@ pub struct Pair {
 
 fn store_pair(values: &mut [u64], k: usize, p: Pair)
     requires { ⌜ 2 * k + 1 < length (now values) ⌝ }
-    ensures { λ _. ⌜ now (values .exit) ≡ with-pair (now (values .entry)) k (pair-of p) ⌝ }
+    ensures { λ _. ⌜ now (values .exit) ≡ with-pair (was values) k (pair-of p) ⌝ }
 {
     values[2 * k] = p.multiplier;
     values[2 * k + 1] = p.constant;
@@ -46,8 +47,7 @@ fn store_pair(values: &mut [u64], k: usize, p: Pair)
 
 // What a register starts with: the chosen one with 1 · v + 0, any other with its listed value.
 fn start_pair<'a>(chosen: &'a [u8], list: &'a [u8], name: &'a [u8]) -> Pair
-    ensures { λ r. ⌜ ((es : List Entry) → entries (now (list .entry)) ≡ some es
-        → pair-of r ≡ start-pairs (now (chosen .entry)) es (now (name .entry))) ⌝ }
+    ensures { λ r. ⌜ ((es : List Entry) → entries (was list) ≡ some es → pair-of r ≡ start-pairs (was chosen) es (was name)) ⌝ }
 {
     if text::same(name, chosen) {
         return Pair {
@@ -73,7 +73,7 @@ fn modulo(v: i64) -> u64
 
 // The value of a number; 0 where it is not read.
 fn number_value(s: &[u8]) -> u64
-    ensures { λ r. ⌜ ((z : ℤ) → parse-c-number (now (s .entry)) ≡ some z → r ≡ of-integer z) ⌝ }
+    ensures { λ r. ⌜ ((z : ℤ) → parse-c-number (was s) ≡ some z → r ≡ of-integer z) ⌝ }
 {
     match parse_c_number(s) {
         Number::Read(v) => modulo(v),
@@ -84,8 +84,8 @@ fn number_value(s: &[u8]) -> u64
 // What a token is worth at the start.
 fn token_pair<'a>(tape: &'a [u8], w: u64, chosen: &'a [u8], list: &'a [u8]) -> Pair
     requires { ⌜ Points (now tape) (now tape) w ⌝ }
-    ensures { λ r. ⌜ ((es : List Entry) → entries (now (list .entry)) ≡ some es
-        → Prices (start-pairs (now (chosen .entry)) es) (token-of (now (tape .entry)) (now (tape .entry)) w) (pair-of r)) ⌝ }
+    ensures { λ r. ⌜ ((es : List Entry) → entries (was list) ≡ some es
+        → Prices (start-pairs (was chosen) es) (token-of (was tape) (was tape) w) (pair-of r)) ⌝ }
 {
     let s = words::text(tape, tape, w);
     if words::kind(w) == words::NUMBER {
@@ -106,9 +106,8 @@ pub fn fill<'a>(
     values: &mut [u64],
 )
     requires { ⌜ Holds (now tape) (now tape) (now tokens) × (2 * length (now tokens) ≤ length (now values)) ⌝ }
-    ensures { λ _. ⌜ ((es : List Entry) → entries (now (list .entry)) ≡ some es
-        → Priced (start-pairs (now (chosen .entry)) es) (tokens-of (now (tape .entry)) (now (tape .entry)) (now (tokens .entry)))
-        (now (values .exit))) ⌝ }
+    ensures { λ _. ⌜ ((es : List Entry) → entries (was list) ≡ some es → Priced (start-pairs (was chosen) es)
+        (tokens-of (was tape) (was tape) (was tokens)) (now (values .exit))) ⌝ }
 {
     let mut k = 0;
     while k < tokens.len() {
@@ -123,8 +122,7 @@ pub fn fill<'a>(
 // Whether a token is the register that another one is.
 fn is_same<'a>(tape: &'a [u8], w: u64, target: u64) -> bool
     requires { ⌜ Points (now tape) (now tape) w × Points (now tape) (now tape) target ⌝ }
-    ensures { λ r. ⌜ r ≡ same-register (token-of (now (tape .entry)) (now (tape .entry)) target)
-        (token-of (now (tape .entry)) (now (tape .entry)) w) ⌝ }
+    ensures { λ r. ⌜ r ≡ same-register (token-of (was tape) (was tape) target) (token-of (was tape) (was tape) w) ⌝ }
 {
     if words::kind(w) != words::REGISTER {
         return false;
@@ -136,8 +134,8 @@ fn is_same<'a>(tape: &'a [u8], w: u64, target: u64) -> bool
 fn overwrite<'a>(tape: &'a [u8], tokens: &'a [u64], target: u64, p: Pair, values: &mut [u64])
     requires { ⌜ Holds (now tape) (now tape) (now tokens) × Points (now tape) (now tape) target
         × (2 * length (now tokens) ≤ length (now values)) ⌝ }
-    ensures { λ _. ⌜ Overwritten (token-of (now (tape .entry)) (now (tape .entry)) target) (pair-of p)
-        (tokens-of (now (tape .entry)) (now (tape .entry)) (now (tokens .entry))) (now (values .entry)) (now (values .exit)) ⌝ }
+    ensures { λ _. ⌜ Overwritten (token-of (was tape) (was tape) target) (pair-of p)
+        (tokens-of (was tape) (was tape) (was tokens)) (was values) (now (values .exit)) ⌝ }
 {
     let mut k = 0;
     while k < tokens.len() {
@@ -159,10 +157,8 @@ fn behind_first<'a>(
     before: &'a [u8],
 ) -> Worth
     requires { ⌜ Begun (now tape) (now tokens) l × (2 * length (now tokens) ≤ length (now values)) ⌝ }
-    ensures { λ r. ⌜ ((σ : Text → Values.Pair)
-        → Priced σ (tokens-of (now (tape .entry)) (now (tape .entry)) (now (tokens .entry))) (now (values .entry))
-        → value-of r ≡ evaluate affine σ (now (before .entry))
-        (lexemes (drop 1 (tokens-of (now (tape .entry)) (now (tape .entry)) (part-of (now (tokens .entry)) l))))) ⌝ }
+    ensures { λ r. ⌜ ((σ : Text → Values.Pair) → Priced σ (tokens-of (was tape) (was tape) (was tokens)) (was values) → value-of r
+        ≡ evaluate affine σ (was before) (lexemes (drop 1 (tokens-of (was tape) (was tape) (part-of (was tokens) l))))) ⌝ }
 {
     let first = words::first(l);
     let from = first + 1;
@@ -176,8 +172,8 @@ fn behind_first<'a>(
 fn assign_line<'a>(tape: &'a [u8], tokens: &'a [u64], l: u64, values: &mut [u64])
     requires { ⌜ Holds (now tape) (now tape) (now tokens) × Begun (now tape) (now tokens) l
         × (2 * length (now tokens) ≤ length (now values)) ⌝ }
-    ensures { λ _. ⌜ Assigned (tokens-of (now (tape .entry)) (now (tape .entry)) (part-of (now (tokens .entry)) l))
-        (tokens-of (now (tape .entry)) (now (tape .entry)) (now (tokens .entry))) (now (values .entry)) (now (values .exit)) ⌝ }
+    ensures { λ _. ⌜ Assigned (tokens-of (was tape) (was tape) (part-of (was tokens) l))
+        (tokens-of (was tape) (was tape) (was tokens)) (was values) (now (values .exit)) ⌝ }
 {
     match behind_first(tape, tokens, values, l, b" = ") {
         Worth::Is {
@@ -200,8 +196,8 @@ fn assign_line<'a>(tape: &'a [u8], tokens: &'a [u64], l: u64, values: &mut [u64]
 // What a line that returns is worth.
 fn returned<'a>(tape: &'a [u8], tokens: &'a [u64], values: &'a [u64], l: u64) -> Pair
     requires { ⌜ Begun (now tape) (now tokens) l × (2 * length (now tokens) ≤ length (now values)) ⌝ }
-    ensures { λ r. ⌜ Returned (tokens-of (now (tape .entry)) (now (tape .entry)) (part-of (now (tokens .entry)) l))
-        (tokens-of (now (tape .entry)) (now (tape .entry)) (now (tokens .entry))) (now (values .entry)) (pair-of r) ⌝ }
+    ensures { λ r. ⌜ Returned (tokens-of (was tape) (was tape) (part-of (was tokens) l))
+        (tokens-of (was tape) (was tape) (was tokens)) (was values) (pair-of r) ⌝ }
 {
     match behind_first(tape, tokens, values, l, b" ") {
         Worth::Is {
@@ -225,10 +221,8 @@ fn returned<'a>(tape: &'a [u8], tokens: &'a [u64], values: &'a [u64], l: u64) ->
 // What a listing in the profile returns, the table having what each token is worth at the start.
 fn run<'a>(tape: &'a [u8], tokens: &'a [u64], lines: &'a [u64], values: &mut [u64]) -> Pair
     requires { ⌜ Profiled (now tape) (now tokens) (now lines) × (2 * length (now tokens) ≤ length (now values)) ⌝ }
-    ensures { λ r. ⌜ ((reading : Reading) (σ : Text → Values.Pair)
-        → Priced σ (tokens-of (now (tape .entry)) (now (tape .entry)) (now (tokens .entry))) (now (values .entry))
-        → execute affine σ (listing-read (now (tape .entry)) (now (tape .entry)) (now (tokens .entry)) reading (now (lines .entry)))
-        ≡ some (pair-of r)) ⌝ }
+    ensures { λ r. ⌜ ((reading : Reading) (σ : Text → Values.Pair) → Priced σ (tokens-of (was tape) (was tape) (was tokens)) (was values)
+        → execute affine σ (listing-read (was tape) (was tape) (was tokens) reading (was lines)) ≡ some (pair-of r)) ⌝ }
 {
     let last = lines.len() - 1;
     let mut i = 0;
@@ -248,9 +242,8 @@ pub fn reckon<'a>(
     list: &'a [u8],
 ) -> Pair
     requires { ⌜ Profiled (now tape) (now tokens) (now lines) × (length (now tokens) ≤ 1024) ⌝ }
-    ensures { λ r. ⌜ ((reading : Reading) (es : List Entry) → entries (now (list .entry)) ≡ some es
-        → returned-pair (now (chosen .entry)) es
-        (listing-read (now (tape .entry)) (now (tape .entry)) (now (tokens .entry)) reading (now (lines .entry))) ≡ some (pair-of r)) ⌝ }
+    ensures { λ r. ⌜ ((reading : Reading) (es : List Entry) → entries (was list) ≡ some es
+        → returned-pair (was chosen) es (listing-read (was tape) (was tape) (was tokens) reading (was lines)) ≡ some (pair-of r)) ⌝ }
 {
     let mut values = [0u64; 2048];
     fill(tape, tokens, chosen, list, &mut values);

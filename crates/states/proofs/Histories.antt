@@ -12,10 +12,10 @@ use Rattle.reference.proofs.Cases.{by-if, both, some-inj, none-some, true-false
 use Rattle.reference.proofs.Reading.{refused-passed, passed-inj}
 use Rattle.reference.proofs.Shapes.{same-text}
 use Rattle.reference.proofs.Guarantee.{demand3-tape}
-use Rattle.tape.specs.Questions.{Accepted}
+use Rattle.tape.specs.Questions.{AcceptedTape}
 use Rattle.states.specs.Store.{Store, Name, Tape, STORE, ROOM, state}
 use Rattle.states.specs.Calls.{opened, is-whole, Spot, save-reply, after-save, delete-reply, after-delete, restore-reply}
-use Rattle.states.specs.Histories.{Call, save, restore, delete, Named, EachNamed, Quiet}
+use Rattle.states.specs.Histories.{Call, save, restore, delete, Named, EachNamed, Untouched}
 use Rattle.states.specs.Histories.{after-call, after, passes, recall, remembered, Sound, HoldsAccepted}
 use Rattle.states.specs.Promises.{Fresh, Saved, Deleted, come-back, History, Returned}
 use Rattle.states.proofs.Deciding.{save-unopened, held-refused}
@@ -59,7 +59,7 @@ module _ (store : Store) (s : Sound store) where
         let w = saved store n tape eight s e in
         split (n == m) refl w
       where
-        split : (b : Bool) → (n == m) ≡ b → Saved store n tape (after-save (save-reply store n tape) store n tape) → Accepted t
+        split : (b : Bool) → (n == m) ≡ b → Saved store n tape (after-save (save-reply store n tape) store n tape) → AcceptedTape t
         split true y w =
             let z : some tape ≡ some t = sym (w .holds) ∙ ap (state (after-save (save-reply store n tape) store n tape)) (same-text n m y)
             ∙ x in
@@ -101,7 +101,7 @@ module _ (store : Store) (s : Sound store) where
         let w = deleted store n s e in
         split (n == m) refl w
       where
-        split : (b : Bool) → (n == m) ≡ b → Deleted store n (after-delete (delete-reply store n) store) → Accepted t
+        split : (b : Bool) → (n == m) ≡ b → Deleted store n (after-delete (delete-reply store n) store) → AcceptedTape t
         split true y w =
             absurd (none-some (sym (w .gone) ∙ ap (state (after-delete (delete-reply store n) store)) (same-text n m y) ∙ x))
         split false f w = h m t (sym (w .others m (λ z. true-false (rw z (same-refl n)) f)) ∙ x)
@@ -178,14 +178,14 @@ other-name : (n m : Name) (b : Bool) (x y : Option Tape) → (n ≡ m → ⊥) �
 other-name n m b x y z =
     by-if (λ (o : Option Tape). o ≡ y) {b = b && (n == m)} (λ f. absurd (z (same-text n m (both {a = b} f .1)))) (λ f. refl)
 
-quiet : (m : Name) (calls : List Call) → Quiet m calls → (store : Store) (before : Option Tape) → remembered calls store m before ≡ before
+untouched : (m : Name) (calls : List Call) → Untouched m calls → (store : Store) (before : Option Tape) → remembered calls store m before ≡ before
 unfolding remembered recall
-quiet m [] q store before = refl
-quiet m (save n tape ∷ cs) q store before =
-    quiet m cs (q .1) (after-call (save n tape) store) (recall (save n tape) store m before) ∙ other-name n m _ _ before (q .0)
-quiet m (restore n output ∷ cs) q store before = quiet m cs q store before
-quiet m (delete n ∷ cs) q store before =
-    quiet m cs (q .1) (after-call (delete n) store) (recall (delete n) store m before) ∙ other-name n m _ _ before (q .0)
+untouched m [] q store before = refl
+untouched m (save n tape ∷ cs) q store before =
+    untouched m cs (q .1) (after-call (save n tape) store) (recall (save n tape) store m before) ∙ other-name n m _ _ before (q .0)
+untouched m (restore n output ∷ cs) q store before = untouched m cs q store before
+untouched m (delete n ∷ cs) q store before =
+    untouched m cs (q .1) (after-call (delete n) store) (recall (delete n) store m before) ∙ other-name n m _ _ before (q .0)
 
 remembered-append : (cs ds : List Call) (store : Store) (m : Name) (before : Option Tape)
     → remembered (cs ++ ds) store m before ≡ remembered ds (after cs store) m (remembered cs store m before)
@@ -203,7 +203,7 @@ recall-delete : (n : Name) (store : Store) (before : Option Tape) {i : ℕ} → 
 unfolding recall if_then_else_ _&&_
 recall-delete n store before e = rw (e, same-refl n)
 
-module _ (store : Store) (s : Sound store) (cs ds : List Call) (n : Name) (output : ℕ) (room : ROOM ≤ output) (q : Quiet n ds) where
+module _ (store : Store) (s : Sound store) (cs ds : List Call) (n : Name) (output : ℕ) (room : ROOM ≤ output) (q : Untouched n ds) where
   -- what was saved under a name, and neither saved nor deleted since, comes back
   pub last-saved : (tape : Tape) {spot : Spot} → EachNamed (cs ++ save n tape ∷ ds) → save-reply (after cs store) n tape ≡ Passed spot
       → restore-reply (after (cs ++ save n tape ∷ ds) store) n output ≡ Passed tape
@@ -212,7 +212,7 @@ module _ (store : Store) (s : Sound store) (cs ds : List Call) (n : Name) (outpu
       history store (cs ++ save n tape ∷ ds) s e .comes-back n output room
       ∙ ap come-back
       (remembered-append cs (save n tape ∷ ds) store n (state store n)
-      ∙ quiet n ds q (after-call (save n tape) (after cs store)) _
+      ∙ untouched n ds q (after-call (save n tape) (after cs store)) _
       ∙ recall-save n tape (after cs store) _ p)
 
   -- and what was deleted, and not saved since, is not held
@@ -223,7 +223,7 @@ module _ (store : Store) (s : Sound store) (cs ds : List Call) (n : Name) (outpu
       history store (cs ++ delete n ∷ ds) s e .comes-back n output room
       ∙ ap come-back
       (remembered-append cs (delete n ∷ ds) store n (state store n)
-      ∙ quiet n ds q (after-call (delete n) (after cs store)) _
+      ∙ untouched n ds q (after-call (delete n) (after cs store)) _
       ∙ recall-delete n (after cs store) _ p)
 
 -- What comes back from a store that began fresh is accepted, and demand 3 holds of its cleaning in every setting.

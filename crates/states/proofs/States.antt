@@ -21,7 +21,7 @@ use Rattle.reference.proofs.Cases.{by-some, both, neither, fails, true-false}
 use Rattle.reference.proofs.Shapes.{same-text}
 use Rattle.laws.proofs.Scans.{or-false, and-true, and-false}
 use Rattle.tape.specs.Bytes.{put}
-use Rattle.tape.specs.Questions.{Accepted}
+use Rattle.tape.specs.Questions.{AcceptedTape}
 use Rattle.tape.proofs.little_endian.Bytes.{put-one}
 use Rattle.states.specs.Store.{Store, Cell, Name, Tape, CELL, STORE, ROOM, cell}
 use Rattle.states.specs.Store.{first-byte, name-of, length-of, tape-of, holds, named, is-wrong, state}
@@ -210,7 +210,7 @@ module _ (store store′ : Store) (k : ℕ) (c : Cell) (d : Changed store store�
 
 module _ (store : Store) (n : Name) (tape : Tape) (g : Good store) where
   -- the cell k is now that of the name and its tape
-  kept-saved : {store′ : Store} {k : ℕ} {c : Cell} → Changed store store′ k c → Kept c n tape → Accepted tape
+  kept-saved : {store′ : Store} {k : ℕ} {c : Cell} → Changed store store′ k c → Kept c n tape → AcceptedTape tape
       → ((j : ℕ) → j < 8 → (j ≡ k → ⊥) → holds n (cell store j) ≡ false)
       → ((m : Name) → (m ≡ n → ⊥) → holds m (cell store k) ≡ false)
       → Saved store n tape store′

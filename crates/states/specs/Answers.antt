@@ -7,14 +7,14 @@ use Rattle.reference.specs.Questions as Q
 use Rattle.reference.specs.Questions.{Answer}
 use Rattle.states.specs.Store.{Store, Name, Tape, STORE}
 use Rattle.states.specs.Calls.{Spot, replaced, taken, save-reply, after-save, delete-reply, after-delete}
-use Rattle.states.specs.declared.cells.Found.{Found}
-use Rattle.states.specs.declared.cells.Found.the-variants.{At, Nothing}
+use Rattle.states.specs.declared.cells.Position.{Position}
+use Rattle.states.specs.declared.cells.Position.the-variants.{At, Nothing}
 use Rattle.states.specs.declared.calls.Located.{Located}
 use Rattle.states.specs.declared.calls.Located.the-variants.{Refused, Cell}
 use Rattle.states.specs.declared.calls.Placed.{Placed}
 use Rattle.states.specs.declared.calls.Placed.the-variants as P
 
-abbrev pub found : Found → Option ℕ
+abbrev pub found : Position → Option ℕ
 found (At i) = some i
 found Nothing = none
 

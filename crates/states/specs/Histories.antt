@@ -8,7 +8,7 @@ use lib.ListN.{length}
 use Rattle.reference.specs.Control.{_&&_, if_then_else_}
 use Rattle.reference.specs.Text.{_==_}
 use Rattle.reference.specs.Questions.{Answer, Refused, Passed}
-use Rattle.tape.specs.Questions.{Accepted}
+use Rattle.tape.specs.Questions.{AcceptedTape}
 use Rattle.states.specs.Store.{Store, Name, Tape, state}
 use Rattle.states.specs.Calls.{opened, is-whole, save-reply, after-save, delete-reply, after-delete}
 
@@ -56,11 +56,11 @@ remembered [] store m before = before
 remembered (c ∷ cs) store m before = remembered cs (after-call c store) m (recall c store m before)
 
 -- no call of the sequence saves or deletes that name
-abbrev pub Quiet : Name → List Call → Type 0
-Quiet m [] = Unit {0}
-Quiet m (save n tape ∷ cs) = (n ≡ m → ⊥) × Quiet m cs
-Quiet m (restore n output ∷ cs) = Quiet m cs
-Quiet m (delete n ∷ cs) = (n ≡ m → ⊥) × Quiet m cs
+abbrev pub Untouched : Name → List Call → Type 0
+Untouched m [] = Unit {0}
+Untouched m (save n tape ∷ cs) = (n ≡ m → ⊥) × Untouched m cs
+Untouched m (restore n output ∷ cs) = Untouched m cs
+Untouched m (delete n ∷ cs) = (n ≡ m → ⊥) × Untouched m cs
 
 -- a store that earns neither 2 nor 22
 abbrev pub Sound : Store → Type 0
@@ -68,4 +68,4 @@ Sound store = opened store (is-whole store) ≡ Passed tt
 
 -- each tape that is held passes the tape questions
 abbrev pub HoldsAccepted : Store → Type 0
-HoldsAccepted store = (m : Name) (tape : Tape) → state store m ≡ some tape → Accepted tape
+HoldsAccepted store = (m : Name) (tape : Tape) → state store m ≡ some tape → AcceptedTape tape

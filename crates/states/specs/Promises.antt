@@ -8,7 +8,7 @@ use Rattle.reference.specs.Listing.{Listing}
 use Rattle.reference.specs.Rules.{Rules}
 use Rattle.reference.specs.Demand.{Demand3}
 use Rattle.reference.specs.Questions.{Answer, Refused, Passed, read}
-use Rattle.tape.specs.Questions.{Accepted}
+use Rattle.tape.specs.Questions.{AcceptedTape}
 use Rattle.states.specs.Store.{Store, Name, Tape, STORE, ROOM, cell, first-byte, state}
 use Rattle.states.specs.Calls.{restore-reply}
 use Rattle.states.specs.Histories.{Call, after, remembered, Sound, HoldsAccepted}
@@ -25,7 +25,7 @@ pub record Saved (store : Store) (n : Name) (tape : Tape) (store′ : Store) : T
   pub others : (m : Name) → (m ≡ n → ⊥) → state store′ m ≡ state store m
   pub long : length store′ ≡ length store
   pub behind : drop STORE store′ ≡ drop STORE store
-  pub accepted : Accepted tape
+  pub accepted : AcceptedTape tape
 
 -- deleted: that name is not held, and every other name is as before
 pub record Deleted (store : Store) (n : Name) (store′ : Store) : Type 0 where

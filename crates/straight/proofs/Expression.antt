@@ -71,22 +71,22 @@ live-dead (signed p k) l d = d
 live-dead (done v) l d = l
 live-dead broken l d = l
 
-data Fate (s : State) : Type 0 where
-  live : Live s → Fate s
-  dead : Dead s → Fate s
+data Outcome (s : State) : Type 0 where
+  live : Live s → Outcome s
+  dead : Dead s → Outcome s
 
-byte-fate : (c : ℕ) (s : State) → Live s → Fate (byte c s)
+byte-outcome : (c : ℕ) (s : State) → Live s → Outcome (byte c s)
 unfolding byte
-byte-fate c fresh l = absurd l
-byte-fate c spaced l = absurd l
-byte-fate c equals l = absurd l
-byte-fate c (wants p k) l = by-if Fate (λ e. live tt) (λ e. dead tt)
-byte-fate c (holds v []) l = by-if Fate (λ e. dead tt) (λ e. by-if Fate (λ f. live tt) (λ f. dead tt))
-byte-fate c (holds v (p ∷ k)) l = by-if Fate (λ e. live tt) (λ e. by-if Fate (λ f. live tt) (λ f. dead tt))
-byte-fate c (gap v k) l = by-if Fate (λ e. live tt) (λ e. by-if Fate (λ f. live tt) (λ f. dead tt))
-byte-fate c (signed p k) l = by-if Fate (λ e. live tt) (λ e. dead tt)
-byte-fate c (done v) l = absurd l
-byte-fate c broken l = absurd l
+byte-outcome c fresh l = absurd l
+byte-outcome c spaced l = absurd l
+byte-outcome c equals l = absurd l
+byte-outcome c (wants p k) l = by-if Outcome (λ e. live tt) (λ e. dead tt)
+byte-outcome c (holds v []) l = by-if Outcome (λ e. dead tt) (λ e. by-if Outcome (λ f. live tt) (λ f. dead tt))
+byte-outcome c (holds v (p ∷ k)) l = by-if Outcome (λ e. live tt) (λ e. by-if Outcome (λ f. live tt) (λ f. dead tt))
+byte-outcome c (gap v k) l = by-if Outcome (λ e. live tt) (λ e. by-if Outcome (λ f. live tt) (λ f. dead tt))
+byte-outcome c (signed p k) l = by-if Outcome (λ e. live tt) (λ e. dead tt)
+byte-outcome c (done v) l = absurd l
+byte-outcome c broken l = absurd l
 
 byte-dead : (c : ℕ) (s : State) → Dead s → Dead (byte c s)
 unfolding byte
@@ -100,11 +100,11 @@ byte-dead c (signed p k) l = absurd l
 byte-dead c (done v) l = tt
 byte-dead c broken l = tt
 
-text-fate : (cs : Text) (s : State) → Fate s → Fate (text-step cs s)
+text-outcome : (cs : Text) (s : State) → Outcome s → Outcome (text-step cs s)
 unfolding text-step
-text-fate [] s f = f
-text-fate (c ∷ cs) s (live l) = text-fate cs (byte c s) (byte-fate c s l)
-text-fate (c ∷ cs) s (dead d) = text-fate cs (byte c s) (dead (byte-dead c s d))
+text-outcome [] s f = f
+text-outcome (c ∷ cs) s (live l) = text-outcome cs (byte c s) (byte-outcome c s l)
+text-outcome (c ∷ cs) s (dead d) = text-outcome cs (byte c s) (dead (byte-dead c s d))
 
 text-dead : (cs : Text) (s : State) → Dead s → Dead (text-step cs s)
 unfolding text-step
@@ -123,17 +123,17 @@ term-dead v (signed p k) d = absurd d
 term-dead v (done u) d = tt
 term-dead v broken d = tt
 
-term-fate : (v : ℕ) (s : State) → Live s → Fate (term v s)
+term-outcome : (v : ℕ) (s : State) → Live s → Outcome (term v s)
 unfolding term
-term-fate v fresh d = absurd d
-term-fate v spaced d = absurd d
-term-fate v equals d = absurd d
-term-fate v (wants p k) d = live tt
-term-fate v (holds u k) d = dead tt
-term-fate v (gap u k) d = dead tt
-term-fate v (signed p k) d = dead tt
-term-fate v (done u) d = absurd d
-term-fate v broken d = absurd d
+term-outcome v fresh d = absurd d
+term-outcome v spaced d = absurd d
+term-outcome v equals d = absurd d
+term-outcome v (wants p k) d = live tt
+term-outcome v (holds u k) d = dead tt
+term-outcome v (gap u k) d = dead tt
+term-outcome v (signed p k) d = dead tt
+term-outcome v (done u) d = absurd d
+term-outcome v broken d = absurd d
 
 term-under : (k : List Pending) (v : ℕ) (s : State) → term v (under k s) ≡ under k (term v s)
 unfolding term
@@ -180,9 +180,9 @@ module _ (k : List Pending) where
   text-under : (cs : Text) (s : State) → Live s → Live (text-step cs s) → text-step cs (under k s) ≡ under k (text-step cs s)
   unfolding text-step
   text-under [] s l m = refl
-  text-under (c ∷ cs) s l m = go (byte-fate c s l) (text-under cs (byte c s))
+  text-under (c ∷ cs) s l m = go (byte-outcome c s l) (text-under cs (byte c s))
     where
-      go : Fate (byte c s) → (Live (byte c s) → Live (text-step cs (byte c s)) → text-step cs (under k (byte c s)) ≡ under k (text-step cs (byte c s)))
+      go : Outcome (byte c s) → (Live (byte c s) → Live (text-step cs (byte c s)) → text-step cs (under k (byte c s)) ≡ under k (text-step cs (byte c s)))
           → text-step cs (byte c (under k s)) ≡ under k (text-step cs (byte c s))
       go (live n) ih = ap (text-step cs) (byte-under c s l n) ∙ ih n m
       go (dead d) ih = absurd (live-dead (text-step cs (byte c s)) m (text-dead cs (byte c s) d))
@@ -202,14 +202,14 @@ module _ (k : List Pending) where
     run-dead [] s d = d
     run-dead (t ∷ ts) s d = run-dead ts (token-step σ t s) (token-dead t s d)
 
-    token-fate : (t : Token) (s : State) → Live s → Fate (token-step σ t s)
-    token-fate t s l = go (step-of σ t)
+    token-outcome : (t : Token) (s : State) → Live s → Outcome (token-step σ t s)
+    token-outcome t s l = go (step-of σ t)
       where
-        go : Step σ t → Fate (token-step σ t s)
-        go (punct p) = subst⁻¹ Fate (step-punct σ t s p) (text-fate (t .text) s (live l))
-        go (register x w) = subst⁻¹ Fate (step-register σ t x s w) (term-fate (σ x) s l)
-        go (number z n) = subst⁻¹ Fate (step-number σ t z s n) (term-fate (of-integer z) s l)
-        go (breaks f) = subst⁻¹ Fate (f σ s) (dead tt)
+        go : Step σ t → Outcome (token-step σ t s)
+        go (punct p) = subst⁻¹ Outcome (step-punct σ t s p) (text-outcome (t .text) s (live l))
+        go (register x w) = subst⁻¹ Outcome (step-register σ t x s w) (term-outcome (σ x) s l)
+        go (number z n) = subst⁻¹ Outcome (step-number σ t z s n) (term-outcome (of-integer z) s l)
+        go (breaks f) = subst⁻¹ Outcome (f σ s) (dead tt)
 
     token-under : (t : Token) (s : State) → Live s → Live (token-step σ t s) → token-step σ t (under k s) ≡ under k (token-step σ t s)
     token-under t s l m = go (step-of σ t)
@@ -224,9 +224,9 @@ module _ (k : List Pending) where
     run-under : (ts : List Token) (s : State) → Live s → Live (run-tokens σ ts s) → run-tokens σ ts (under k s) ≡ under k (run-tokens σ ts s)
     unfolding run-tokens
     run-under [] s l m = refl
-    run-under (t ∷ ts) s l m = go (token-fate t s l) (run-under ts (token-step σ t s))
+    run-under (t ∷ ts) s l m = go (token-outcome t s l) (run-under ts (token-step σ t s))
       where
-        go : Fate (token-step σ t s)
+        go : Outcome (token-step σ t s)
             → (Live (token-step σ t s) → Live (run-tokens σ ts (token-step σ t s)) → run-tokens σ ts (under k (token-step σ t s)) ≡ under k (run-tokens σ ts (token-step σ t s)))
             → run-tokens σ ts (token-step σ t (under k s)) ≡ under k (run-tokens σ ts (token-step σ t s))
         go (live n) ih = ap (run-tokens σ ts) (token-under t s l n) ∙ ih n m

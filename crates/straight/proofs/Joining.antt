@@ -31,7 +31,7 @@ use Rattle.joining.proofs.Single.{use-count}
 use Rattle.joining.proofs.Looking.{mentions}
 use Rattle.straight.proofs.Folding.{Begins, opens-text}
 use Rattle.straight.proofs.Expression.{Worth, stands-first, stands-bracketed, stands-lone}
-use Rattle.straight.proofs.Substituting.{wide-known, wide-family, unread, Fits, fits-anywhere, fits-begun}
+use Rattle.straight.proofs.Substituting.{wide-known, wide-family, unread, TokensFit, fits-anywhere, fits-begun}
 use Rattle.straight.proofs.Flow.{Assigns, assigns, Returns, returns, Straight, last, next, Dead, Replaced, Joined, over, step, end, killed-dead}
 use Rattle.straight.proofs.Life.{untouched, killed, Kills, kills-assigns, lhs-is, other-register, assigns-no-call, returns-no-call, returns-no-kill, assigns-run, returns-run, dead-sound}
 use Rattle.straight.proofs.Rewriting.{new, use-assign, use-return, pass-assign, pass-return, return-family, unwritten, assigns-no-braces, returns-no-braces}
@@ -101,12 +101,12 @@ module _ {x : Text} {expr : List Token} (d : Defines x expr) where
   zeros′ : Store
   zeros′ y = 0
 
-  lone-fits : (t : Token) → expr ≡ t ∷ [] → (ts : List Token) (s : State) (σ : Store) → Fits x (d .value σ) σ expr ts s
+  lone-fits : (t : Token) → expr ≡ t ∷ [] → (ts : List Token) (s : State) (σ : Store) → TokensFit x (d .value σ) σ expr ts s
   lone-fits t e ts s σ =
-      subst⁻¹ (λ (r : List Token). Fits x (d .value σ) σ r ts s) e
+      subst⁻¹ (λ (r : List Token). TokensFit x (d .value σ) σ r ts s) e
       (fits-anywhere x (d .value σ) σ (t ∷ []) (λ p k. stands-lone σ t (d .value σ) p k (subst (λ (r : List Token). Worth σ r (d .value σ)) e (d .worth σ))) ts s)
 
-  short-fits : (r : List Token) → expr ≡ r → ltb 1 (length r) ≡ false → (ts : List Token) (s : State) (σ : Store) → Fits x (d .value σ) σ expr ts s
+  short-fits : (r : List Token) → expr ≡ r → ltb 1 (length r) ≡ false → (ts : List Token) (s : State) (σ : Store) → TokensFit x (d .value σ) σ expr ts s
   unfolding run-tokens
   short-fits [] e h ts s σ =
       let w : wants first [] ≡ holds (d .value σ) [] = subst (λ (r : List Token). Worth σ r (d .value σ)) e (d .worth σ) in
@@ -117,15 +117,15 @@ module _ {x : Text} {expr : List Token} (d : Defines x expr) where
   -- the right side of a plan for one use, at the first token of the family behind the line's first one
   single-fits : (rules : Rules) → rules .profile ≡ true → (p : Plan) → p .expr ≡ expr → (t : Token) (ts : List Token) (s : State) (pos : ℕ) → Begins s → of-family x t ≡ false
       → position (of-family x) (t ∷ ts) ≡ some pos → count (of-family x) (t ∷ ts) ≡ 1 → p .brackets ≡ wants-brackets rules expr (t ∷ ts) pos
-      → (σ : Store) → Fits x (d .value σ) σ (right-side-of p) ts s
+      → (σ : Store) → TokensFit x (d .value σ) σ (right-side-of p) ts s
   unfolding right-side-of wants-brackets is-bracketed standalone
   single-fits rules on p pe t ts s pos g n found one b σ =
-      by-if (λ (r : List Token). Fits x (d .value σ) σ r ts s)
+      by-if (λ (r : List Token). TokensFit x (d .value σ) σ r ts s)
       (λ h.
-      subst⁻¹ (λ (r : List Token). Fits x (d .value σ) σ (token Punct (bytes "(") ∷ r ++ (token Punct (bytes ")") ∷ [])) ts s) pe
+      subst⁻¹ (λ (r : List Token). TokensFit x (d .value σ) σ (token Punct (bytes "(") ∷ r ++ (token Punct (bytes ")") ∷ [])) ts s) pe
       (fits-anywhere x (d .value σ) σ _ (λ q k. stands-bracketed σ expr (d .value σ) q k (d .worth σ)) ts s))
-      (λ h. subst⁻¹ (λ (r : List Token). Fits x (d .value σ) σ r ts s) pe
-      (either-false (Fits x (d .value σ) σ expr ts s) (sym b ∙ h)
+      (λ h. subst⁻¹ (λ (r : List Token). TokensFit x (d .value σ) σ r ts s) pe
+      (either-false (TokensFit x (d .value σ) σ expr ts s) (sym b ∙ h)
       (λ c. short-fits expr refl (sym (if-true _ _ on) ∙ c) ts s σ)
       (λ c.
       (let m = bind-some (sym (if-false _ _ n) ∙ found) in
@@ -239,9 +239,9 @@ module _ (rules : Rules) (on : rules .profile ≡ true) (lines : Listing) (i : �
   -- ---- a lone number, to several uses
 
   module _ (base : ℕ) (same-base : indent ≡ base) (n₀ : Token) (lone : p .expr ≡ n₀ ∷ []) (number₀ : is Number n₀ ≡ true) (bare : p .brackets ≡ false) where
-    fits : (ts : List Token) (s : State) (σ : Store) → Fits (p .fam) (d .value σ) σ (right-side-of p) ts s
+    fits : (ts : List Token) (s : State) (σ : Store) → TokensFit (p .fam) (d .value σ) σ (right-side-of p) ts s
     unfolding right-side-of
-    fits ts s σ = subst⁻¹ (λ (r : List Token). Fits (p .fam) (d .value σ) σ r ts s) (if-false _ _ bare) (lone-fits d n₀ lone ts s σ)
+    fits ts s σ = subst⁻¹ (λ (r : List Token). TokensFit (p .fam) (d .value σ) σ r ts s) (if-false _ _ bare) (lone-fits d n₀ lone ts s σ)
 
     no-register : (y : Text) → any (of-family y) (p .expr) ≡ false
     no-register y =

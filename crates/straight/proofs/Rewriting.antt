@@ -22,7 +22,7 @@ use Rattle.reference.proofs.Shapes.{other-kind, folds, family-register}
 use Rattle.laws.proofs.Scans.{if-true, if-false, or-false, or-true, and-true, and-false}
 use Rattle.straight.proofs.Machine.{broken-done, text-broken, Step, punct, register, number, breaks, step-of, step-punct, step-register, step-number}
 use Rattle.straight.proofs.Folding.{Begins, alive}
-use Rattle.straight.proofs.Substituting.{wide-register, unread, Fits, Heads, fold-tail, rewritten-tail, rewritten, rewritten-run}
+use Rattle.straight.proofs.Substituting.{wide-register, unread, TokensFit, Heads, fold-tail, rewritten-tail, rewritten, rewritten-run}
 use Rattle.straight.proofs.Flow.{Reads, Assigns, assigns, Returns, returns, Replaced, replaced-assign, replaced-return}
 
 -- ---- Puncts stay apart
@@ -103,7 +103,7 @@ module _ (edition : ℕ) (x : Text) (value : Store → ℕ) (rhs : List Token) w
 
   -- a line that assigns another register
   pub use-assign : (t : Token) (ts : List Token) (y : Text) → Assigns (t ∷ ts) y → (y == x) ≡ false → of-family x t ≡ false
-      → ((σ : Store) → Fits x (value σ) σ rhs ts fresh) → Replaced x value (some y) (t ∷ ts) (new (t ∷ ts)) × Assigns (new (t ∷ ts)) y
+      → ((σ : Store) → TokensFit x (value σ) σ rhs ts fresh) → Replaced x value (some y) (t ∷ ts) (new (t ∷ ts)) × Assigns (new (t ∷ ts)) y
   use-assign t ts y (assigns w r a) d n f =
       subst⁻¹ (λ (us : List Token). Replaced x value (some y) (t ∷ ts) us × Assigns us y) (rewritten edition x rhs t ts (wide-heads t y w) n)
       (replaced-assign w d both-read, assigns w (λ σ. (let v = both-read σ in (v .0, v .2))) (tail-apart edition x rhs t ts))
@@ -112,7 +112,7 @@ module _ (edition : ℕ) (x : Text) (value : Store → ℕ) (rhs : List Token) w
       both-read σ = let v = r (assign x (value σ) σ) in (v .0, v .1, rewritten-run edition x (value σ) σ rhs (v .0) t ts fresh tt (f σ) (v .1))
 
   pub use-return : (t : Token) (ts : List Token) → Returns (t ∷ ts)
-      → ((σ : Store) → Fits x (value σ) σ rhs ts equals) → Replaced x value none (t ∷ ts) (new (t ∷ ts)) × Returns (new (t ∷ ts))
+      → ((σ : Store) → TokensFit x (value σ) σ rhs ts equals) → Replaced x value none (t ∷ ts) (new (t ∷ ts)) × Returns (new (t ∷ ts))
   use-return t ts (returns w r a) f =
       subst⁻¹ (λ (us : List Token). Replaced x value none (t ∷ ts) us × Returns us) (rewritten edition x rhs t ts (return-heads t w) (return-family x t w))
       (replaced-return w both-read, returns w (λ σ. (let v = both-read σ in (v .0, v .2))) (tail-apart edition x rhs t ts))

@@ -74,10 +74,10 @@ module _ (x : Text) (v : ℕ) (σ : Store) where
 
 module _ (x : Text) (v : ℕ) (σ : Store) (rhs : List Token) where
   -- wherever a token of the family stands for a term, the right side may stand
-  abbrev pub Fits : List Token → State → Type 0
-  Fits [] s = Unit {0}
-  Fits (t ∷ ts) s =
-      (of-family x t ≡ true → (p : Pending) (k : List Pending) → s ≡ wants p k → Stands σ rhs v p k) × Fits ts (token-step (assign x v σ) t s)
+  abbrev pub TokensFit : List Token → State → Type 0
+  TokensFit [] s = Unit {0}
+  TokensFit (t ∷ ts) s =
+      (of-family x t ≡ true → (p : Pending) (k : List Pending) → s ≡ wants p k → Stands σ rhs v p k) × TokensFit ts (token-step (assign x v σ) t s)
 
   -- a token of the family, read
   stood : (u : ℕ) (t : Token) (ts : List Token) (s : State) → of-family x t ≡ true → ((p : Pending) (k : List Pending) → s ≡ wants p k → Stands σ rhs v p k)
@@ -96,7 +96,7 @@ module _ (x : Text) (v : ℕ) (σ : Store) (rhs : List Token) where
       go (number z n) = absurd (true-false (number-kind t z n) (other-kind Register Number t refl (family-register x t e)))
       go (breaks g) = absurd (alive τ u ts (token-step τ t s) h (g τ s))
 
-  pub substituted : (u : ℕ) (ts : List Token) (s : State) → Fits ts s → run-tokens (assign x v σ) ts s ≡ done u → run-tokens σ (substitute x rhs ts) s ≡ done u
+  pub substituted : (u : ℕ) (ts : List Token) (s : State) → TokensFit ts s → run-tokens (assign x v σ) ts s ≡ done u → run-tokens σ (substitute x rhs ts) s ≡ done u
   unfolding substitute run-tokens
   substituted u [] s f h = h
   substituted u (t ∷ ts) s f h =
@@ -108,21 +108,21 @@ module _ (x : Text) (v : ℕ) (σ : Store) (rhs : List Token) where
 
   -- ---- where it fits
 
-  pub fits-anywhere : ((p : Pending) (k : List Pending) → Stands σ rhs v p k) → (ts : List Token) (s : State) → Fits ts s
+  pub fits-anywhere : ((p : Pending) (k : List Pending) → Stands σ rhs v p k) → (ts : List Token) (s : State) → TokensFit ts s
   fits-anywhere f [] s = tt
   fits-anywhere f (t ∷ ts) s = (λ e p k q. f p k, fits-anywhere f ts (token-step (assign x v σ) t s))
 
-  fits-nowhere : (ts : List Token) (s : State) → count (of-family x) ts ≡ 0 → Fits ts s
+  fits-nowhere : (ts : List Token) (s : State) → count (of-family x) ts ≡ 0 → TokensFit ts s
   fits-nowhere [] s e = tt
   fits-nowhere (t ∷ ts) s e = go (of-family x t) refl (fits-nowhere ts (token-step (assign x v σ) t s))
     where
-      go : (b : Bool) → of-family x t ≡ b → (count (of-family x) ts ≡ 0 → Fits ts (token-step (assign x v σ) t s)) → Fits (t ∷ ts) s
+      go : (b : Bool) → of-family x t ≡ b → (count (of-family x) ts ≡ 0 → TokensFit ts (token-step (assign x v σ) t s)) → TokensFit (t ∷ ts) s
       go true h ih = absurd (unfold if_then_else_ in (let z = rw h at e in omega arith))
       go false h ih = (λ q. absurd (true-false q h), ih (sym (if-false _ _ h) ∙ e))
 
   -- one token of the family, behind a text behind which an expression begins
   pub fits-begun : ((k : List Pending) → Stands σ rhs v first k) → (b : Token) (ts : List Token) (pos : ℕ) (s : State) → (opens-text (b .text) ≡ true → Begins s)
-      → position (of-family x) ts ≡ some pos → count (of-family x) ts ≡ 1 → opens-text (text-or-empty (get (b ∷ ts) pos)) ≡ true → Fits ts s
+      → position (of-family x) ts ≡ some pos → count (of-family x) ts ≡ 1 → opens-text (text-or-empty (get (b ∷ ts) pos)) ≡ true → TokensFit ts s
   unfolding let-some_else_then_ if_then_else_
   fits-begun f b [] pos s g at one o = absurd (none-some at)
   fits-begun f b (t ∷ ts) pos s g at one o = go (of-family x t) refl (λ n. fits-begun f t ts n τ (token-begins (assign x v σ) t s))
@@ -134,8 +134,8 @@ module _ (x : Text) (v : ℕ) (σ : Store) (rhs : List Token) where
       begun h p k q = let e : p ≡ first = subst Begins q (g h) in subst⁻¹ (λ (r : Pending). Stands σ rhs v r k) e (f k)
 
       go : (c : Bool) → of-family x t ≡ c
-          → ((n : ℕ) → position (of-family x) ts ≡ some n → count (of-family x) ts ≡ 1 → opens-text (text-or-empty (get (t ∷ ts) n)) ≡ true → Fits ts τ)
-          → Fits (t ∷ ts) s
+          → ((n : ℕ) → position (of-family x) ts ≡ some n → count (of-family x) ts ≡ 1 → opens-text (text-or-empty (get (t ∷ ts) n)) ≡ true → TokensFit ts τ)
+          → TokensFit (t ∷ ts) s
       go true h ih =
           let zero-is : 0 ≡ pos = some-inj (sym (if-true _ _ h) ∙ at) in
           let here : opens-text (b .text) ≡ true = subst⁻¹ (λ (n : ℕ). opens-text (text-or-empty (get (b ∷ t ∷ ts) n)) ≡ true) zero-is o in
@@ -187,7 +187,7 @@ rewritten edition x rhs t ts h e =
     ∙ ap (fold edition) (head-merge t (substitute x rhs ts) (λ b. fails (λ j. true-false (h .is-kind) (joins-other (h .kind) t b (h .no-punct) (h .no-plain) j .0))))
     ∙ head-fold edition t (merge (substitute x rhs ts)) (other-kind (h .kind) Number t (h .no-number) (h .is-kind))
 
-pub rewritten-run : (edition : ℕ) (x : Text) (v : ℕ) (σ : Store) (rhs : List Token) (u : ℕ) (t : Token) (ts : List Token) (s : State) → Begins s → Fits x v σ rhs ts s
+pub rewritten-run : (edition : ℕ) (x : Text) (v : ℕ) (σ : Store) (rhs : List Token) (u : ℕ) (t : Token) (ts : List Token) (s : State) → Begins s → TokensFit x v σ rhs ts s
     → run-tokens (assign x v σ) ts s ≡ done u → run-tokens σ (rewritten-tail edition x rhs t ts) s ≡ done u
 unfolding rewritten-tail
 rewritten-run edition x v σ rhs u t ts s g f h = tail (merge (substitute x rhs ts)) (merge-run σ (substitute x rhs ts) s ∙ substituted x v σ rhs u ts s f h)

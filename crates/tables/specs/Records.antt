@@ -25,8 +25,8 @@ use Rattle.tape.specs.declared.commands.Command.the-variants.{Addressed, Plain,
 use Rattle.tape.specs.declared.commands.Found.the-variants.{Whole}
 use Rattle.tape.specs.declared.questions.Totals.{Totals}
 use Rattle.tables.specs.declared.records.LineRecord.{LineRecord}
-use Rattle.tables.specs.declared.loading.Laying.{Laying}
-use Rattle.tables.specs.declared.loading.Laid.{Laid}
+use Rattle.tables.specs.declared.loading.LoadState.{LoadState}
+use Rattle.tables.specs.declared.loading.LoadStep.{LoadStep}
 
 abbrev pub blank : LineRecord
 blank = record { address = 0; addressed = 0; indent = 0; first = 0; count = 0; low = 0; high = 0 }
@@ -76,7 +76,7 @@ abbrev pub word-of : ℕ → LineRecord → ℕ
 word-of k r = line-word (r .first) (r .count) (r .indent) (r .addressed) k
 
 -- the numbers fit a line word
-pub record Fits (r : LineRecord) : Type 0 where
+pub record RecordFits (r : LineRecord) : Type 0 where
   pub first : r .first < 65536
   pub count : r .count < 2048
   pub indent : r .indent < 64
@@ -101,7 +101,7 @@ pub record Marking (records : List LineRecord) (n : ℕ) (lows highs : List ℕ)
 
 -- the first n numbers fit
 abbrev pub Fitting : List LineRecord → ℕ → Type 0
-Fitting records n = (k : ℕ) → k < n → Fits (getD records k blank)
+Fitting records n = (k : ℕ) → k < n → RecordFits (getD records k blank)
 
 -- the first n records have the marks of the listing's lines, with the 03s that were read in
 pub record MarksRecorded (listing : Listing) (marks : List Marks) (records : List LineRecord) (n : ℕ) : Type 0 where
@@ -160,7 +160,7 @@ place-after (Marked low high) t last = last
 place-after (Token kind count) t last = last
 place-after End t last = last
 
-abbrev pub start-of : Laying
+abbrev pub start-of : LoadState
 start-of = record { at = 0; line = 0; totals = record { lines = 0; tokens = 0; text = 0; fresh = false }; going = true }
 
 -- a token's numbers fit its word, and there is room for it
@@ -180,19 +180,19 @@ Grows (Token kind count) line = line .count < 2047
 Grows End line = Unit {0}
 
 -- a command can be taken
-pub record Takes (tape tokens : List ℕ) (s : Laying) (line : LineRecord) (c : Command) : Type 0 where
+pub record Takes (tape tokens : List ℕ) (s : LoadState) (line : LineRecord) (c : Command) : Type 0 where
   pub inside : s .at + size-of c ≤ length tape
   pub counts : Counts c (s .totals)
   pub token : TakesToken (s .at) c (s .totals) tokens
   pub grows : Grows c line
 
 -- the command at the offset, known to stand there, can be taken
-pub record Ready (tape tokens : List ℕ) (s : Laying) (line : LineRecord) : Type 0 where
+pub record Ready (tape tokens : List ℕ) (s : LoadState) (line : LineRecord) : Type 0 where
   pub stood : Stood tape (s .at)
   pub takes : (c : Command) → found-in tape (s .at) (Whole c) ≡ standing tape (s .at) → Takes tape tokens s line c
 
--- a turn: the command at the offset was taken
-pub record Lays (tape : List ℕ) (s : Laying) (line : LineRecord) (tokens tokens′ : List ℕ) (r : Laid) : Type 0 where
+-- one step of loading: the command at the offset was taken
+pub record StepLoads (tape : List ℕ) (s : LoadState) (line : LineRecord) (tokens tokens′ : List ℕ) (r : LoadStep) : Type 0 where
   pub command : Command
   pub stands : found-in tape (s .at) (Whole command) ≡ standing tape (s .at)
   pub line-is : r .line ≡ line-after command (s .totals) line

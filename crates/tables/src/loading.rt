@@ -19,33 +19,34 @@ use tape::reader::known_command;
 ghost use mathlib.Core.Path.{_≡_};
 ghost use Prim.Native.Nat.{_≤_};
 ghost use lib.ListN.{length};
+ghost use Rattle.reference.specs.Contract.{was};
 ghost use Rattle.lines.specs.Words.{Recodes};
-ghost use Rattle.tape.specs.Questions.{Accepted};
+ghost use Rattle.tape.specs.Questions.{AcceptedTape};
 ghost use Rattle.tables.specs.Records.{Fitting, Holding, Marking, Recorded, line-after, place-after, start-of, TakesToken, Grows};
-ghost use Rattle.tables.specs.Records.{Ready, Lays};
+ghost use Rattle.tables.specs.Records.{Ready, StepLoads};
 ghost use Rattle.tables.specs.Tables.{tokens-after, Loaded, LoadedMarks};
 
-// Where the laying of the lines stands: the offset in the tape, the place of the last line's record, what was read so far, and whether FF
+// Where the loading stands: the offset in the tape, the index of the last line's record, what was read so far, and whether FF
 // is still to come.
-pub struct Laying {
+pub struct LoadState {
     pub at: usize,
     pub line: usize,
     pub totals: Totals,
     pub going: bool,
 }
 
-// The record that a command is about, and where the laying stands after the command.
-pub struct Laid {
+// The record that a command is about, and where the loading stands after the command.
+pub struct LoadStep {
     pub line: LineRecord,
-    pub next: Laying,
+    pub next: LoadState,
 }
 
 // ---- one command
 
-fn start() -> Laying
+fn start() -> LoadState
     ensures { λ r. ⌜ r ≡ start-of ⌝ }
 {
-    Laying {
+    LoadState {
         at: 0,
         line: 0,
         totals: Totals {
@@ -123,7 +124,7 @@ fn place_after(command: Command, totals: Totals, last: usize) -> usize
 // Adds a token's word behind the tokens so far.
 fn add_token(at: usize, command: Command, tokens: &mut [u64], totals: Totals)
     requires { ⌜ TakesToken at command totals (now tokens) ⌝ }
-    ensures { λ _. ⌜ now (tokens .exit) ≡ tokens-after at command totals (now (tokens .entry)) ⌝ }
+    ensures { λ _. ⌜ now (tokens .exit) ≡ tokens-after at command totals (was tokens) ⌝ }
 {
     match command {
         Command::Addressed {
@@ -141,22 +142,22 @@ fn add_token(at: usize, command: Command, tokens: &mut [u64], totals: Totals)
 }
 
 // Takes the command at the offset, `line` being the record of the last line.
-fn lay(tape: &[u8], s: Laying, line: LineRecord, tokens: &mut [u64]) -> Laid
+fn load_command(tape: &[u8], s: LoadState, line: LineRecord, tokens: &mut [u64]) -> LoadStep
     requires { ⌜ Ready (now tape) (now tokens) s line ⌝ }
-    ensures { λ r. ⌜ Lays (now (tape .entry)) s line (now (tokens .entry)) (now (tokens .exit)) r ⌝ }
+    ensures { λ r. ⌜ StepLoads (was tape) s line (was tokens) (now (tokens .exit)) r ⌝ }
 {
     let at = s.at;
     let totals = s.totals;
     let command = known_command(tape, at);
     add_token(at, command, tokens, totals);
     let ended = is_end(command);
-    let next = Laying {
+    let next = LoadState {
         at: at + size_of(command),
         line: place_after(command, totals, s.line),
         totals: count_in(command, totals),
         going: !ended,
     };
-    Laid {
+    LoadStep {
         line: record_after(command, totals, line),
         next,
     }
@@ -164,16 +165,16 @@ fn lay(tape: &[u8], s: Laying, line: LineRecord, tokens: &mut [u64]) -> Laid
 
 // ---- the whole tape
 
-// Lays the lines of a tape that passed the questions: a record for each line and a word for each token. Proved by hand.
+// StepLoads the lines of a tape that passed the questions: a record for each line and a word for each token. Proved by hand.
 pub fn fill(tape: &[u8], tokens: &mut [u64], lines: &mut [LineRecord]) -> Totals
-    requires { ⌜ Accepted (now tape) × (1024 ≤ length (now tokens)) × (256 ≤ length (now lines)) ⌝ }
-    ensures { λ r. ⌜ Recorded (now (tape .entry)) (now (tokens .exit)) (now (lines .exit)) r ⌝ }
+    requires { ⌜ AcceptedTape (now tape) × (1024 ≤ length (now tokens)) × (256 ≤ length (now lines)) ⌝ }
+    ensures { λ r. ⌜ Recorded (was tape) (now (tokens .exit)) (now (lines .exit)) r ⌝ }
 {
     let mut s = start();
     while s.going {
         let k = s.line;
         let line = line_at(lines, k);
-        let t = lay(tape, s, line, tokens);
+        let t = load_command(tape, s, line, tokens);
         store_line(lines, t.next.line, t.line);
         s = t.next;
     }
@@ -215,11 +216,11 @@ fn tabled(
     lows: &mut [u64],
     highs: &mut [u64],
 ) -> Totals
-    requires { ⌜ Accepted (now tape) ⌝ }
+    requires { ⌜ AcceptedTape (now tape) ⌝ }
     requires { ⌜ (1024 ≤ length (now tokens)) × (256 ≤ length (now lines)) × (256 ≤ length (now addresses))
         × (256 ≤ length (now lows)) × (256 ≤ length (now highs)) ⌝ }
-    ensures { λ r. ⌜ Loaded (now (tape .entry)) (now (tokens .exit)) (now (lines .exit)) (now (addresses .exit)) r
-        × LoadedMarks (now (tape .entry)) (now (lines .exit)) (now (lows .exit)) (now (highs .exit)) r ⌝ }
+    ensures { λ r. ⌜ Loaded (was tape) (now (tokens .exit)) (now (lines .exit)) (now (addresses .exit)) r
+        × LoadedMarks (was tape) (now (lines .exit)) (now (lows .exit)) (now (highs .exit)) r ⌝ }
 {
     let blank = LineRecord {
         address: 0,
@@ -239,7 +240,7 @@ fn tabled(
 // Codes the first n words.
 fn code_first(tape: &[u8], tokens: &mut [u64], n: usize)
     requires { ⌜ n ≤ length (now tokens) ⌝ }
-    ensures { λ _. ⌜ Recodes (now (tape .entry)) (now (tokens .entry)) (now (tokens .exit)) ⌝ }
+    ensures { λ _. ⌜ Recodes (was tape) (was tokens) (now (tokens .exit)) ⌝ }
 {
     let mut k = 0;
     while k < n {
@@ -257,11 +258,11 @@ pub fn load(
     lows: &mut [u64],
     highs: &mut [u64],
 ) -> Totals
-    requires { ⌜ Accepted (now tape) ⌝ }
+    requires { ⌜ AcceptedTape (now tape) ⌝ }
     requires { ⌜ (1024 ≤ length (now tokens)) × (256 ≤ length (now lines)) × (256 ≤ length (now addresses))
         × (256 ≤ length (now lows)) × (256 ≤ length (now highs)) ⌝ }
-    ensures { λ r. ⌜ Loaded (now (tape .entry)) (now (tokens .exit)) (now (lines .exit)) (now (addresses .exit)) r
-        × LoadedMarks (now (tape .entry)) (now (lines .exit)) (now (lows .exit)) (now (highs .exit)) r ⌝ }
+    ensures { λ r. ⌜ Loaded (was tape) (now (tokens .exit)) (now (lines .exit)) (now (addresses .exit)) r
+        × LoadedMarks (was tape) (now (lines .exit)) (now (lows .exit)) (now (highs .exit)) r ⌝ }
 {
     let totals = tabled(tape, tokens, lines, addresses, lows, highs);
     let n = totals.tokens;

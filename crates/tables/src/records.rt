@@ -2,6 +2,7 @@
 ghost use mathlib.Core.Path.{_≡_};
 ghost use Prim.Native.Nat.{_<_};
 ghost use lib.ListN.{length, getD, set};
+ghost use Rattle.reference.specs.Contract.{was};
 ghost use Rattle.tables.specs.Records.{blank};
 
 // Where there are no marks, the highest number there is stands as the lowest address, and 0 as the highest: so marks join by minimum and
@@ -23,7 +24,7 @@ pub struct LineRecord {
 // The record at an index.
 pub fn line_at(lines: &[LineRecord], at: usize) -> LineRecord
     requires { ⌜ at < length (now lines) ⌝ }
-    ensures { λ r. ⌜ r ≡ getD (now (lines .entry)) at blank ⌝ }
+    ensures { λ r. ⌜ r ≡ getD (was lines) at blank ⌝ }
 {
     lines[at]
 }
@@ -31,7 +32,7 @@ pub fn line_at(lines: &[LineRecord], at: usize) -> LineRecord
 // Stores a record at an index.
 pub fn store_line(lines: &mut [LineRecord], at: usize, line: LineRecord)
     requires { ⌜ at < length (now lines) ⌝ }
-    ensures { λ _. ⌜ now (lines .exit) ≡ set (now (lines .entry)) at line ⌝ }
+    ensures { λ _. ⌜ now (lines .exit) ≡ set (was lines) at line ⌝ }
 {
     lines[at] = line;
 }

@@ -17,6 +17,7 @@ ghost use mathlib.Core.Option.{none, some};
 ghost use Prim.Native.Nat.{_+_, _≤_, _<_};
 ghost use lib.ListN.{length, getD};
 ghost use lib.Seq.{paste};
+ghost use Rattle.reference.specs.Contract.{was};
 ghost use Rattle.reference.specs.Listing.{token};
 ghost use Rattle.reference.specs.Tape as Tape;
 ghost use Rattle.lines.specs.Words.{tokens-of, Holds};
@@ -32,7 +33,7 @@ ghost use Rattle.tables.specs.Writing.{token-bytes, line-bytes, tokens-b
 // Writes the command of a line with an address.
 fn put_addressed(address: u64, indent: u64, out: &mut [u8], at: usize) -> usize
     requires { ⌜ (indent < 256) × (at + 10 ≤ length (now out)) ⌝ }
-    ensures { λ r. ⌜ Puts (now (out .entry)) at (Tape.write-command (Tape.new-line (some address) indent)) (now (out .exit)) r ⌝ }
+    ensures { λ r. ⌜ Puts (was out) at (Tape.write-command (Tape.new-line (some address) indent)) (now (out .exit)) r ⌝ }
 {
     out[at] = 1;
     put_number(address, 8, out, at + 1);
@@ -43,7 +44,7 @@ fn put_addressed(address: u64, indent: u64, out: &mut [u8], at: usize) -> usize
 // Writes the command of a line without an address.
 fn put_plain(indent: u64, out: &mut [u8], at: usize) -> usize
     requires { ⌜ (indent < 256) × (at + 2 ≤ length (now out)) ⌝ }
-    ensures { λ r. ⌜ Puts (now (out .entry)) at (Tape.write-command (Tape.new-line none indent)) (now (out .exit)) r ⌝ }
+    ensures { λ r. ⌜ Puts (was out) at (Tape.write-command (Tape.new-line none indent)) (now (out .exit)) r ⌝ }
 {
     out[at] = 2;
     out[at + 1] = indent as u8;
@@ -53,7 +54,7 @@ fn put_plain(indent: u64, out: &mut [u8], at: usize) -> usize
 // Writes a line's command.
 fn put_line(line: LineRecord, out: &mut [u8], at: usize) -> usize
     requires { ⌜ (line .indent < 256) × (at + length (line-bytes line) ≤ length (now out)) ⌝ }
-    ensures { λ r. ⌜ Puts (now (out .entry)) at (line-bytes line) (now (out .exit)) r ⌝ }
+    ensures { λ r. ⌜ Puts (was out) at (line-bytes line) (now (out .exit)) r ⌝ }
 {
     if line.addressed == 1 {
         return put_addressed(line.address, line.indent, out, at);
@@ -64,7 +65,7 @@ fn put_line(line: LineRecord, out: &mut [u8], at: usize) -> usize
 // Writes the command of marks.
 fn put_marked(low: u64, high: u64, out: &mut [u8], at: usize) -> usize
     requires { ⌜ at + 17 ≤ length (now out) ⌝ }
-    ensures { λ r. ⌜ Puts (now (out .entry)) at (Tape.write-command (Tape.marked (record { lowest = low; highest = high })))
+    ensures { λ r. ⌜ Puts (was out) at (Tape.write-command (Tape.marked (record { lowest = low; highest = high })))
         (now (out .exit)) r ⌝ }
 {
     out[at] = 3;
@@ -76,7 +77,7 @@ fn put_marked(low: u64, high: u64, out: &mut [u8], at: usize) -> usize
 // Writes a line's marks, if there are any.
 fn put_marks(low: u64, high: u64, out: &mut [u8], at: usize) -> usize
     requires { ⌜ at + length (Tape.write-marks (marks-of (low, high))) ≤ length (now out) ⌝ }
-    ensures { λ r. ⌜ Puts (now (out .entry)) at (Tape.write-marks (marks-of (low, high))) (now (out .exit)) r ⌝ }
+    ensures { λ r. ⌜ Puts (was out) at (Tape.write-marks (marks-of (low, high))) (now (out .exit)) r ⌝ }
 {
     if high < low {
         return at;
@@ -87,7 +88,7 @@ fn put_marks(low: u64, high: u64, out: &mut [u8], at: usize) -> usize
 // Writes a token's command.
 fn put_token(kind: u64, s: &[u8], out: &mut [u8], at: usize) -> usize
     requires { ⌜ (kind < 8) × (at + 3 + length (now s) ≤ length (now out)) ⌝ }
-    ensures { λ r. ⌜ Puts (now (out .entry)) at (token-bytes (token kind (now (s .entry)))) (now (out .exit)) r ⌝ }
+    ensures { λ r. ⌜ Puts (was out) at (token-bytes (token kind (was s))) (now (out .exit)) r ⌝ }
 {
     out[at] = (16 + kind) as u8;
     put_number(s.len() as u64, 2, out, at + 1);
@@ -99,8 +100,7 @@ fn put_token(kind: u64, s: &[u8], out: &mut [u8], at: usize) -> usize
 fn put_tokens<'a>(tape: &'a [u8], area: &'a [u8], ws: &'a [u64], out: &mut [u8], at: usize) -> usize
     requires { ⌜ Holds (now tape) (now area) (now ws) ⌝ }
     requires { ⌜ at + length (tokens-bytes (tokens-of (now tape) (now area) (now ws))) ≤ length (now out) ⌝ }
-    ensures { λ r. ⌜ Puts (now (out .entry)) at (tokens-bytes (tokens-of (now (tape .entry)) (now (area .entry)) (now (ws .entry))))
-        (now (out .exit)) r ⌝ }
+    ensures { λ r. ⌜ Puts (was out) at (tokens-bytes (tokens-of (was tape) (was area) (was ws))) (now (out .exit)) r ⌝ }
 {
     let mut to = at;
     let mut k = 0;
@@ -123,8 +123,7 @@ fn put_whole_line<'a>(
 ) -> usize
     requires { ⌜ Sound (now tape) (now area) (now tokens) line
         × (at + length (Tape.write-line (line-of (now tape) (now area) (now tokens) line) (marks-of (pair-of line))) ≤ length (now out)) ⌝ }
-    ensures { λ r. ⌜ Puts (now (out .entry)) at
-        (Tape.write-line (line-of (now (tape .entry)) (now (area .entry)) (now (tokens .entry)) line) (marks-of (pair-of line)))
+    ensures { λ r. ⌜ Puts (was out) at (Tape.write-line (line-of (was tape) (was area) (was tokens) line) (marks-of (pair-of line)))
         (now (out .exit)) r ⌝ }
 {
     let marks = put_line(line, out, at);
@@ -145,7 +144,7 @@ fn record_of<'a>(
     at: usize,
 ) -> LineRecord
     requires { ⌜ (at < length (now lines)) × (256 ≤ length (now addresses)) × (256 ≤ length (now lows)) × (256 ≤ length (now highs)) ⌝ }
-    ensures { λ r. ⌜ r ≡ record-of (now (addresses .entry)) (now (lows .entry)) (now (highs .entry)) (getD (now (lines .entry)) at 0) ⌝ }
+    ensures { λ r. ⌜ r ≡ record-of (was addresses) (was lows) (was highs) (getD (was lines) at 0) ⌝ }
 {
     let l = lines[at];
     let k = origin(l);
@@ -173,9 +172,8 @@ fn gather<'a>(
 )
     requires { ⌜ (length (now lines) ≤ length (now records)) × (256 ≤ length (now addresses)) × (256 ≤ length (now lows))
         × (256 ≤ length (now highs)) ⌝ }
-    ensures { λ _. ⌜ now (records .exit) ≡ paste (now (records .entry)) 0
-        (records-of (now (addresses .entry)) (now (lows .entry)) (now (highs .entry)) (now (lines .entry)))
-        (length (now (lines .entry))) ⌝ }
+    ensures { λ _. ⌜ now (records .exit) ≡ paste (was records) 0 (records-of (was addresses) (was lows) (was highs) (was lines))
+        (length (was lines)) ⌝ }
 {
     let n = lines.len();
     let mut k = 0;
@@ -197,9 +195,7 @@ fn put_records<'a>(
     at: usize,
 ) -> usize
     requires { ⌜ Writes (now tape) (now area) (now tokens) (now records) n (now out) at ⌝ }
-    ensures { λ r. ⌜ Puts (now (out .entry)) at
-        (lines-bytes (recorded (now (tape .entry)) (now (area .entry)) (now (tokens .entry)) (now (records .entry)) n))
-        (now (out .exit)) r ⌝ }
+    ensures { λ r. ⌜ Puts (was out) at (lines-bytes (recorded (was tape) (was area) (was tokens) (was records) n)) (now (out .exit)) r ⌝ }
 {
     let mut to = at;
     let mut k = 0;
@@ -211,8 +207,8 @@ fn put_records<'a>(
     to
 }
 
-// Writes the lines of a page. Their records are an array of the call's own, lent to `gather` and then to `put_records`. Proved by hand.
-fn put_page<'a>(
+// Writes the lines. Their records are an array of the call's own, lent to `gather` and then to `put_records`. Proved by hand.
+fn put_lines<'a>(
     tape: &'a [u8],
     area: &'a [u8],
     tokens: &'a [u64],
@@ -227,10 +223,8 @@ fn put_page<'a>(
         × (256 ≤ length (now addresses)) × (256 ≤ length (now lows)) × (256 ≤ length (now highs))
         × (at + length (lines-bytes (paged (now tape) (now area) (now tokens) (now addresses) (now lows) (now highs) (now lines)))
         ≤ length (now out)) ⌝ }
-    ensures { λ r. ⌜ Puts (now (out .entry)) at
-        (lines-bytes (paged (now (tape .entry)) (now (area .entry)) (now (tokens .entry)) (now (addresses .entry)) (now (lows .entry))
-        (now (highs .entry)) (now (lines .entry))))
-        (now (out .exit)) r ⌝ }
+    ensures { λ r. ⌜ Puts (was out) at (lines-bytes (paged (was tape) (was area) (was tokens) (was addresses) (was lows) (was highs)
+        (was lines))) (now (out .exit)) r ⌝ }
 {
     let blank = LineRecord {
         address: 0,
@@ -248,16 +242,6 @@ fn put_page<'a>(
 
 // ---- the whole tape
 
-// How many of n lines the next page has.
-fn page(n: usize) -> usize
-    ensures { λ r. ⌜ (r ≤ n) × (r ≤ 256) × (r < 256 → r ≡ n) ⌝ }
-{
-    if n < 256 {
-        return n;
-    }
-    256
-}
-
 // Writes the listing's tape to the front of `out`, and says how long it is.
 pub fn write<'a>(
     tape: &'a [u8],
@@ -269,32 +253,14 @@ pub fn write<'a>(
     highs: &'a [u64],
     out: &mut [u8],
 ) -> usize
-    requires { ⌜ Listed (now tape) (now area) (now tokens) (now lines) ⌝ }
+    requires { ⌜ Listed (now tape) (now area) (now tokens) (now lines) × (length (now lines) ≤ 256) ⌝ }
     requires { ⌜ (256 ≤ length (now addresses)) × (256 ≤ length (now lows)) × (256 ≤ length (now highs)) ⌝ }
     requires { ⌜ length (Tape.write (listing-of (now tape) (now area) (now tokens) (now addresses) (now lines))
         (marks-for (now lows) (now highs) (now lines))) ≤ length (now out) ⌝ }
-    ensures { λ r. ⌜ Wrote (Tape.write
-        (listing-of (now (tape .entry)) (now (area .entry)) (now (tokens .entry)) (now (addresses .entry)) (now (lines .entry)))
-        (marks-for (now (lows .entry)) (now (highs .entry)) (now (lines .entry))))
-        (now (out .entry)) (now (out .exit)) r ⌝ }
+    ensures { λ r. ⌜ Wrote (Tape.write (listing-of (was tape) (was area) (was tokens) (was addresses) (was lines))
+        (marks-for (was lows) (was highs) (was lines))) (was out) (now (out .exit)) r ⌝ }
 {
-    let mut at = 0;
-    let mut k = 0;
-    while k < lines.len() {
-        let end = k + page(lines.len() - k);
-        at = put_page(
-            tape,
-            area,
-            tokens,
-            &lines[k..end],
-            addresses,
-            lows,
-            highs,
-            out,
-            at,
-        );
-        k = end;
-    }
+    let at = put_lines(tape, area, tokens, lines, addresses, lows, highs, out, 0);
     out[at] = 255;
     at + 1
 }

@@ -15,7 +15,7 @@ use Rattle.reference.specs.Lists.{is-empty}
 use Rattle.reference.specs.Listing.{Token, token, is, Symbol, Line, Listing}
 use Rattle.reference.specs.Shapes.{label-tokens}
 use Rattle.reference.specs.Spans.{Span}
-use Rattle.reference.specs.Claim.{sum, one-if, opens, marks, calls-in, calls, label-lines}
+use Rattle.reference.specs.Claim.{sum, one-if, opens, is-call-mark, calls-in, calls, label-lines}
 use Rattle.reference.specs.Tape as Tape
 use Rattle.reference.proofs.Cases.{by-if, zero-if}
 use Rattle.laws.proofs.Scans.{if-true, if-false, and-true, and-false}
@@ -93,15 +93,15 @@ module _ (t : Token) (s : Casts) where
   pub casts-before : s .begun ≡ false → TakesToken casts-with (calls-in none) t s s
   casts-before e = record { adds = λ ts. casts-shut s ts e ∙ sym (casts-shut s (t ∷ ts) e) }
 
-  cast-in : (ts : List Token) → calls-in none (t ∷ ts) ≡ one-if (marks none t false) + calls-in none ts
-  unfolding calls-in marks
+  cast-in : (ts : List Token) → calls-in none (t ∷ ts) ≡ one-if (is-call-mark none t false) + calls-in none ts
+  unfolding calls-in is-call-mark
   cast-in ts = refl
 
-  pub casts-other : s .begun ≡ true → marks none t false ≡ false → TakesToken casts-with (calls-in none) t s s
+  pub casts-other : s .begun ≡ true → is-call-mark none t false ≡ false → TakesToken casts-with (calls-in none) t s s
   casts-other e n =
       record { adds = λ ts. omega (arith, casts-open s ts e, casts-open s (t ∷ ts) e, cast-in ts, zero-if n) }
 
-  pub casts-more : {r : Casts} → s .begun ≡ true → marks none t false ≡ true → r .count ≡ s .count + 1 → r .begun ≡ true
+  pub casts-more : {r : Casts} → s .begun ≡ true → is-call-mark none t false ≡ true → r .count ≡ s .count + 1 → r .begun ≡ true
       → TakesToken casts-with (calls-in none) t s r
   casts-more {r} e y c b =
       record { adds = λ ts. omega (arith, casts-open r ts b, casts-open s (t ∷ ts) e, cast-in ts, if-true {A = ℕ} 1 0 y) }
@@ -143,7 +143,7 @@ module _ (name : Text) (t : Token) (s : Calls) where
   calls-before e = record { adds = λ ts. calls-shut name s ts e ∙ sym (calls-shut name s (t ∷ ts) e) }
 
   call-in : (ts : List Token) → calls-in (some name) (t ∷ ts) ≡ one-if (is-name name t && opens ts) + calls-in (some name) ts
-  unfolding calls-in marks
+  unfolding calls-in is-call-mark
   call-in ts = ap (λ (b : Bool). one-if b + calls-in (some name) ts) (sym (and-assoc (is Symbol t) (t .text == name) (opens ts)))
 
   opens-first : (ts : List Token) → opens (t ∷ ts) ≡ opens (t ∷ [])

@@ -21,7 +21,7 @@ use Rattle.reference.specs.Questions.{ends-inside-by, is-end, Passed, read, mar
 use Rattle.reference.proofs.Cases.{pair, fails, true-false}
 use Rattle.reference.proofs.LittleEndian.{Bytes}
 use Rattle.reference.proofs.Commands.{AddressFits, Writable, read-of-write}
-use Rattle.reference.proofs.Limits.{All, TokenFits, LineFits, MarksFit, Fits}
+use Rattle.reference.proofs.Limits.{All, TokenFits, LineFits, MarksFit, TapeFits}
 use Rattle.reference.proofs.Tapes.{write-read, read-fits, read-marks-fit}
 use Rattle.reference.proofs.Marks.{finished-marks-fit}
 use Rattle.reference.proofs.Unmarked.{Holdable, HoldableMarks}
@@ -148,7 +148,7 @@ input-held [] f a = tt
 input-held (l ∷ ls) f a = (record { address = a .0; tokens = kinds (l .tokens) (f .0 .tokens) }, input-held ls (f .1) (a .1))
 
 module _ (tape : List ℕ) (input : Listing) (bytes : Bytes tape) (reads : read tape ≡ Passed input) where
-  fits : Fits input
+  fits : TapeFits input
   fits = read-fits tape input bytes reads
 
   inputs : All Held input

@@ -12,6 +12,7 @@ ghost use mathlib.Core.List.{[], _∷_};
 ghost use mathlib.Core.Option.{some};
 ghost use Prim.Native.Nat.{_+_, _^_, _<_, _≤_};
 ghost use lib.ListN.{length};
+ghost use Rattle.reference.specs.Contract.{was};
 ghost use Rattle.reference.specs.Control.{_&&_};
 ghost use Rattle.reference.specs.Listing.{token};
 ghost use Rattle.reference.specs.Claim.{one-if, opens, calls, calls-in};
@@ -27,7 +28,7 @@ struct Calls {
 }
 
 fn is_name(kind: u64, text: &[u8], name: &[u8]) -> bool
-    ensures { λ r. ⌜ r ≡ is-name (now (name .entry)) (token kind (now (text .entry))) ⌝ }
+    ensures { λ r. ⌜ r ≡ is-name (was name) (token kind (was text)) ⌝ }
 {
     if kind != SYMBOL {
         return false;
@@ -36,7 +37,7 @@ fn is_name(kind: u64, text: &[u8], name: &[u8]) -> bool
 }
 
 fn opens(kind: u64, text: &[u8]) -> bool
-    ensures { λ r. ⌜ r ≡ opens (token kind (now (text .entry)) ∷ []) ⌝ }
+    ensures { λ r. ⌜ r ≡ opens (token kind (was text) ∷ []) ⌝ }
 {
     if kind != PUNCT {
         return false;
@@ -47,7 +48,7 @@ fn opens(kind: u64, text: &[u8]) -> bool
 // The count, and one more where the last token is the name and a bracket opens behind it.
 fn with_call(count: usize, named: bool, kind: u64, text: &[u8]) -> usize
     requires { ⌜ count + 1 < 2 ^ 64 ⌝ }
-    ensures { λ r. ⌜ r ≡ count + one-if (named && opens (token kind (now (text .entry)) ∷ [])) ⌝ }
+    ensures { λ r. ⌜ r ≡ count + one-if (named && opens (token kind (was text) ∷ [])) ⌝ }
 {
     if !named {
         return count;
@@ -60,7 +61,7 @@ fn with_call(count: usize, named: bool, kind: u64, text: &[u8]) -> usize
 
 fn with_token(s: Calls, kind: u64, text: &[u8], name: &[u8]) -> Calls
     requires { ⌜ s .count + 1 < 2 ^ 64 ⌝ }
-    ensures { λ r. ⌜ TakesToken (calls-with (now (name .entry))) (calls-in (some (now (name .entry)))) (token kind (now (text .entry))) s r
+    ensures { λ r. ⌜ TakesToken (calls-with (was name)) (calls-in (some (was name))) (token kind (was text)) s r
         × (r .count ≤ s .count + 1) ⌝ }
 {
     if !s.begun {
@@ -76,7 +77,7 @@ fn with_token(s: Calls, kind: u64, text: &[u8], name: &[u8]) -> Calls
 }
 
 fn with_line(s: Calls, name: &[u8]) -> Calls
-    ensures { λ r. ⌜ TakesLine (calls-with (now (name .entry))) (calls-in (some (now (name .entry)))) s r × (r .count ≤ s .count) ⌝ }
+    ensures { λ r. ⌜ TakesLine (calls-with (was name)) (calls-in (some (was name))) s r × (r .count ≤ s .count) ⌝ }
 {
     Calls {
         count: s.count,
@@ -87,8 +88,8 @@ fn with_line(s: Calls, name: &[u8]) -> Calls
 
 fn with_command(tape: &[u8], at: usize, command: Command, name: &[u8], s: Calls) -> Calls
     requires { ⌜ (at + size-of command ≤ length (now tape)) × (s .count + 1 < 2 ^ 64) ⌝ }
-    ensures { λ r. ⌜ Takes (calls-with (now (name .entry))) (calls-in (some (now (name .entry))))
-        (command-in (now (tape .entry)) at command) s r × (r .count ≤ s .count + 1) ⌝ }
+    ensures { λ r. ⌜ Takes (calls-with (was name)) (calls-in (some (was name))) (command-in (was tape) at command) s r
+        × (r .count ≤ s .count + 1) ⌝ }
 {
     match command {
         Command::Addressed {
@@ -104,7 +105,7 @@ fn with_command(tape: &[u8], at: usize, command: Command, name: &[u8], s: Calls)
 
 // How many calls of a name the listing of a tape has, as demand 3 counts them.
 pub fn count_calls(tape: &[u8], name: &[u8]) -> usize
-    ensures { λ r. ⌜ r ≡ calls (some (now (name .entry))) (held (now (tape .entry))) ⌝ }
+    ensures { λ r. ⌜ r ≡ calls (some (was name)) (held (was tape)) ⌝ }
 {
     let mut s = Calls {
         count: 0,

@@ -10,8 +10,9 @@ ghost use mathlib.Core.Bool.{false};
 ghost use mathlib.Core.Option.{none};
 ghost use Prim.Native.Nat.{_+_, _^_, _<_, _≤_};
 ghost use lib.ListN.{length};
+ghost use Rattle.reference.specs.Contract.{was};
 ghost use Rattle.reference.specs.Listing.{token};
-ghost use Rattle.reference.specs.Claim.{marks, calls, calls-in};
+ghost use Rattle.reference.specs.Claim.{is-call-mark, calls, calls-in};
 ghost use Rattle.tape.specs.Commands.{command-in, size-of};
 ghost use Rattle.tallies.specs.Held.{held};
 ghost use Rattle.tallies.specs.Counting.{casts-with, Takes, TakesToken, TakesLine};
@@ -23,7 +24,7 @@ struct Casts {
 }
 
 fn is_cast(kind: u64, text: &[u8]) -> bool
-    ensures { λ r. ⌜ r ≡ marks none (token kind (now (text .entry))) false ⌝ }
+    ensures { λ r. ⌜ r ≡ is-call-mark none (token kind (was text)) false ⌝ }
 {
     if kind != KEYWORD {
         return false;
@@ -33,7 +34,7 @@ fn is_cast(kind: u64, text: &[u8]) -> bool
 
 fn with_token(s: Casts, kind: u64, text: &[u8]) -> Casts
     requires { ⌜ s .count + 1 < 2 ^ 64 ⌝ }
-    ensures { λ r. ⌜ TakesToken casts-with (calls-in none) (token kind (now (text .entry))) s r × (r .count ≤ s .count + 1) ⌝ }
+    ensures { λ r. ⌜ TakesToken casts-with (calls-in none) (token kind (was text)) s r × (r .count ≤ s .count + 1) ⌝ }
 {
     if !s.begun {
         return s;
@@ -58,7 +59,7 @@ fn with_line(s: Casts) -> Casts
 
 fn with_command(tape: &[u8], at: usize, command: Command, s: Casts) -> Casts
     requires { ⌜ (at + size-of command ≤ length (now tape)) × (s .count + 1 < 2 ^ 64) ⌝ }
-    ensures { λ r. ⌜ Takes casts-with (calls-in none) (command-in (now (tape .entry)) at command) s r × (r .count ≤ s .count + 1) ⌝ }
+    ensures { λ r. ⌜ Takes casts-with (calls-in none) (command-in (was tape) at command) s r × (r .count ≤ s .count + 1) ⌝ }
 {
     match command {
         Command::Addressed {
@@ -74,7 +75,7 @@ fn with_command(tape: &[u8], at: usize, command: Command, s: Casts) -> Casts
 
 // How many calls through a cast pointer the listing of a tape has, as demand 3 counts them.
 pub fn count_casts(tape: &[u8]) -> usize
-    ensures { λ r. ⌜ r ≡ calls none (held (now (tape .entry))) ⌝ }
+    ensures { λ r. ⌜ r ≡ calls none (held (was tape)) ⌝ }
 {
     let mut s = Casts {
         count: 0,

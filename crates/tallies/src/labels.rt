@@ -9,6 +9,7 @@ ghost use mathlib.Core.Path.{_≡_};
 ghost use mathlib.Core.List.{[]};
 ghost use Prim.Native.Nat.{_+_, _^_, _<_, _≤_};
 ghost use lib.ListN.{length};
+ghost use Rattle.reference.specs.Contract.{was};
 ghost use Rattle.reference.specs.Listing.{token};
 ghost use Rattle.reference.specs.Claim.{label-lines};
 ghost use Rattle.tape.specs.Commands.{command-in, size-of};
@@ -39,7 +40,7 @@ fn shape_of_first(kind: u64) -> Shape
 }
 
 fn shape_of_second(text: &[u8]) -> Shape
-    ensures { λ r. ⌜ GoesOnWith (now (text .entry)) r ⌝ }
+    ensures { λ r. ⌜ GoesOnWith (was text) r ⌝ }
 {
     if is_colon(text) {
         return Shape::Label;
@@ -48,7 +49,7 @@ fn shape_of_second(text: &[u8]) -> Shape
 }
 
 fn next_shape(shape: Shape, kind: u64, text: &[u8]) -> Shape
-    ensures { λ r. ⌜ Shaped shape (token kind (now (text .entry))) r ⌝ }
+    ensures { λ r. ⌜ Shaped shape (token kind (was text)) r ⌝ }
 {
     match shape {
         Shape::Empty => shape_of_first(kind),
@@ -73,7 +74,7 @@ fn with_last(s: Labels) -> usize
 }
 
 fn with_token(s: Labels, kind: u64, text: &[u8]) -> Labels
-    ensures { λ r. ⌜ TakesToken labels-with label-in (token kind (now (text .entry))) s r × (r .count ≤ s .count) ⌝ }
+    ensures { λ r. ⌜ TakesToken labels-with label-in (token kind (was text)) s r × (r .count ≤ s .count) ⌝ }
 {
     let was = s.shape;
     let shape = next_shape(was, kind, text);
@@ -96,7 +97,7 @@ fn with_line(s: Labels) -> Labels
 
 fn with_command(tape: &[u8], at: usize, command: Command, s: Labels) -> Labels
     requires { ⌜ (at + size-of command ≤ length (now tape)) × (s .count + 1 < 2 ^ 64) ⌝ }
-    ensures { λ r. ⌜ Takes labels-with label-in (command-in (now (tape .entry)) at command) s r × (r .count ≤ s .count + 1) ⌝ }
+    ensures { λ r. ⌜ Takes labels-with label-in (command-in (was tape) at command) s r × (r .count ≤ s .count + 1) ⌝ }
 {
     match command {
         Command::Addressed {
@@ -112,7 +113,7 @@ fn with_command(tape: &[u8], at: usize, command: Command, s: Labels) -> Labels
 
 // How many label lines the listing of a tape has.
 pub fn count_labels(tape: &[u8]) -> usize
-    ensures { λ r. ⌜ r ≡ length (label-lines (held (now (tape .entry)))) ⌝ }
+    ensures { λ r. ⌜ r ≡ length (label-lines (held (was tape))) ⌝ }
 {
     let mut s = Labels {
         count: 0,

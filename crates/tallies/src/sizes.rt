@@ -5,6 +5,7 @@ use tape::commands::Command;
 ghost use mathlib.Core.Path.{_≡_};
 ghost use Prim.Native.Nat.{_+_, _^_, _<_};
 ghost use lib.Dec.{eqb};
+ghost use Rattle.reference.specs.Contract.{was};
 ghost use Rattle.reference.specs.Control.{if_then_else_};
 ghost use Rattle.tape.specs.Commands.{size-of};
 ghost use Rattle.tape.specs.Questions.{sizes-in};
@@ -65,7 +66,7 @@ fn with_command(command: Command, s: Sizes) -> Sizes
 
 // How many lines, tokens and bytes of text a tape holds.
 pub fn count_sizes(tape: &[u8]) -> Sizes
-    ensures { λ r. ⌜ sizes-of r ≡ sizes-in (held (now (tape .entry))) ⌝ }
+    ensures { λ r. ⌜ sizes-of r ≡ sizes-in (held (was tape)) ⌝ }
 {
     let mut s = Sizes {
         lines: 0,

@@ -4,6 +4,7 @@ use tape::commands::Found;
 use tape::commands::size_of;
 use tape::questions::is_end;
 use tape::reader::command_from;
+ghost use Rattle.reference.specs.Contract.{was};
 ghost use Rattle.tallies.specs.Counting.{Follows};
 
 // What stands at an offset: a command, and the offset after it; or there are no more.
@@ -13,7 +14,7 @@ pub enum Next {
 }
 
 pub fn next_at(tape: &[u8], at: usize) -> Next
-    ensures { λ r. ⌜ Follows (now (tape .entry)) at r ⌝ }
+    ensures { λ r. ⌜ Follows (was tape) at r ⌝ }
 {
     match command_from(tape, at) {
         Found::Unknown => Next::Over,

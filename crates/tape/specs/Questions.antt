@@ -63,7 +63,7 @@ Counts (Token kind count) t = (t .tokens < 1024) × (t .text + count ≤ 24576)
 Counts End t = Unit {0}
 
 -- a tape that no question refuses
-pub record Accepted (tape : List ℕ) : Type 0 where
+pub record AcceptedTape (tape : List ℕ) : Type 0 where
   pub listing : Listing
   pub reads : read tape ≡ Q.Passed listing
 

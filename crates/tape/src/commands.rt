@@ -4,6 +4,7 @@ use crate::little_endian::wide;
 ghost use mathlib.Core.Path.{_≡_};
 ghost use Prim.Native.Nat.{_+_, _^_, _≤_, _<_};
 ghost use lib.ListN.{length, take, drop, getD};
+ghost use Rattle.reference.specs.Contract.{was};
 ghost use Rattle.reference.specs.Tape.{line-byte, marks-byte, width, header};
 ghost use Rattle.tape.specs.Commands.{form-of, size-of-by, size-of, found-in-by, found-in, standing-by, standing};
 
@@ -27,7 +28,7 @@ pub enum Found {
 // `count` bytes of the tape from `from` on.
 pub fn text_of(tape: &[u8], from: usize, count: usize) -> &[u8]
     requires { ⌜ from + count ≤ length (now tape) ⌝ }
-    ensures { λ r. ⌜ now r ≡ take count (drop from (now (tape .entry))) ⌝ }
+    ensures { λ r. ⌜ now r ≡ take count (drop from (was tape)) ⌝ }
 {
     let to = from + count;
     &tape[from..to]
@@ -36,7 +37,7 @@ pub fn text_of(tape: &[u8], from: usize, count: usize) -> &[u8]
 // The text of the token at an offset: a part of the tape itself.
 pub fn text_at(tape: &[u8], at: usize, count: usize) -> &[u8]
     requires { ⌜ at + 3 + count ≤ length (now tape) ⌝ }
-    ensures { λ r. ⌜ now r ≡ take count (drop (at + 3) (now (tape .entry))) ⌝ }
+    ensures { λ r. ⌜ now r ≡ take count (drop (at + 3) (was tape)) ⌝ }
 {
     text_of(tape, at + 3, count)
 }
@@ -63,7 +64,7 @@ pub fn size_of(command: Command) -> usize
 // The line with an address that begins at `at`.
 fn addressed_from(tape: &[u8], at: usize) -> Found
     requires { ⌜ (at < length (now tape)) × (getD (now tape) at 0 ≡ 0x01) ⌝ }
-    ensures { λ r. ⌜ found-in (now (tape .entry)) at r ≡ standing (now (tape .entry)) at ⌝ }
+    ensures { λ r. ⌜ found-in (was tape) at r ≡ standing (was tape) at ⌝ }
 {
     if tape.len() - at < 10 {
         return Found::CutOff;
@@ -76,7 +77,7 @@ fn addressed_from(tape: &[u8], at: usize) -> Found
 // The line without an address that begins at `at`.
 fn plain_from(tape: &[u8], at: usize) -> Found
     requires { ⌜ (at < length (now tape)) × (getD (now tape) at 0 ≡ 0x02) ⌝ }
-    ensures { λ r. ⌜ found-in (now (tape .entry)) at r ≡ standing (now (tape .entry)) at ⌝ }
+    ensures { λ r. ⌜ found-in (was tape) at r ≡ standing (was tape) at ⌝ }
 {
     if tape.len() - at < 2 {
         return Found::CutOff;
@@ -88,7 +89,7 @@ fn plain_from(tape: &[u8], at: usize) -> Found
 // The marks that begin at `at`.
 fn marked_from(tape: &[u8], at: usize) -> Found
     requires { ⌜ (at < length (now tape)) × (getD (now tape) at 0 ≡ 0x03) ⌝ }
-    ensures { λ r. ⌜ found-in (now (tape .entry)) at r ≡ standing (now (tape .entry)) at ⌝ }
+    ensures { λ r. ⌜ found-in (was tape) at r ≡ standing (was tape) at ⌝ }
 {
     if tape.len() - at < 17 {
         return Found::CutOff; // 4, not 5
@@ -101,7 +102,7 @@ fn marked_from(tape: &[u8], at: usize) -> Found
 // The token that begins at `at`.
 fn token_from(tape: &[u8], at: usize) -> Found
     requires { ⌜ (at < length (now tape)) × (0x10 ≤ getD (now tape) at 0) × (getD (now tape) at 0 ≤ 0x17) ⌝ }
-    ensures { λ r. ⌜ found-in (now (tape .entry)) at r ≡ standing (now (tape .entry)) at ⌝ }
+    ensures { λ r. ⌜ found-in (was tape) at r ≡ standing (was tape) at ⌝ }
 {
     let left = tape.len() - at;
     if left < 3 {
@@ -117,7 +118,7 @@ fn token_from(tape: &[u8], at: usize) -> Found
 
 // What stands at an offset of the tape.
 pub fn found_at(tape: &[u8], at: usize) -> Found
-    ensures { λ r. ⌜ found-in (now (tape .entry)) at r ≡ standing (now (tape .entry)) at ⌝ }
+    ensures { λ r. ⌜ found-in (was tape) at r ≡ standing (was tape) at ⌝ }
 {
     if tape.len() <= at {
         return Found::Unknown;
@@ -195,7 +196,7 @@ pub fn marks_byte(based: bool) -> u8
 // The line with an address that begins at `at`.
 fn addressed_by(tape: &[u8], at: usize, based: bool) -> Found
     requires { ⌜ (at < length (now tape)) × (getD (now tape) at 0 ≡ line-byte (form-of based)) ⌝ }
-    ensures { λ r. ⌜ found-in-by (form-of based) (now (tape .entry)) at r ≡ standing-by (form-of based) (now (tape .entry)) at ⌝ }
+    ensures { λ r. ⌜ found-in-by (form-of based) (was tape) at r ≡ standing-by (form-of based) (was tape) at ⌝ }
 {
     let w = width_of(based);
     if tape.len() - at < 2 + w {
@@ -209,7 +210,7 @@ fn addressed_by(tape: &[u8], at: usize, based: bool) -> Found
 // The line without an address that begins at `at`.
 fn plain_by(tape: &[u8], at: usize, based: bool) -> Found
     requires { ⌜ (at < length (now tape)) × (getD (now tape) at 0 ≡ 0x02) ⌝ }
-    ensures { λ r. ⌜ found-in-by (form-of based) (now (tape .entry)) at r ≡ standing-by (form-of based) (now (tape .entry)) at ⌝ }
+    ensures { λ r. ⌜ found-in-by (form-of based) (was tape) at r ≡ standing-by (form-of based) (was tape) at ⌝ }
 {
     if tape.len() - at < 2 {
         return Found::CutOff;
@@ -221,7 +222,7 @@ fn plain_by(tape: &[u8], at: usize, based: bool) -> Found
 // The marks that begin at `at`.
 fn marked_by(tape: &[u8], at: usize, based: bool) -> Found
     requires { ⌜ (at < length (now tape)) × (getD (now tape) at 0 ≡ marks-byte (form-of based)) ⌝ }
-    ensures { λ r. ⌜ found-in-by (form-of based) (now (tape .entry)) at r ≡ standing-by (form-of based) (now (tape .entry)) at ⌝ }
+    ensures { λ r. ⌜ found-in-by (form-of based) (was tape) at r ≡ standing-by (form-of based) (was tape) at ⌝ }
 {
     let w = width_of(based);
     if tape.len() - at < 1 + w + w {
@@ -235,7 +236,7 @@ fn marked_by(tape: &[u8], at: usize, based: bool) -> Found
 // The token that begins at `at`.
 fn token_by(tape: &[u8], at: usize, based: bool) -> Found
     requires { ⌜ (at < length (now tape)) × (0x10 ≤ getD (now tape) at 0) × (getD (now tape) at 0 ≤ 0x17) ⌝ }
-    ensures { λ r. ⌜ found-in-by (form-of based) (now (tape .entry)) at r ≡ standing-by (form-of based) (now (tape .entry)) at ⌝ }
+    ensures { λ r. ⌜ found-in-by (form-of based) (was tape) at r ≡ standing-by (form-of based) (was tape) at ⌝ }
 {
     let left = tape.len() - at;
     if left < 3 {
@@ -251,7 +252,7 @@ fn token_by(tape: &[u8], at: usize, based: bool) -> Found
 
 // What stands at an offset of a tape of either form.
 pub fn found_by(tape: &[u8], at: usize, based: bool) -> Found
-    ensures { λ r. ⌜ found-in-by (form-of based) (now (tape .entry)) at r ≡ standing-by (form-of based) (now (tape .entry)) at ⌝ }
+    ensures { λ r. ⌜ found-in-by (form-of based) (was tape) at r ≡ standing-by (form-of based) (was tape) at ⌝ }
 {
     if tape.len() <= at {
         return Found::Unknown;

@@ -14,6 +14,7 @@ ghost use mathlib.Core.List.{[], _∷_};
 ghost use Prim.Native.Nat.{_+_, _≤_};
 ghost use lib.Dec.{leb};
 ghost use lib.ListN.{length, drop};
+ghost use Rattle.reference.specs.Contract.{was};
 ghost use Rattle.reference.specs.Control.{let-some_else_then_};
 ghost use Rattle.reference.specs.Lists.{position};
 ghost use Rattle.reference.specs.Listing.{token};
@@ -78,7 +79,7 @@ fn marks_follow(low: u64, high: u64, totals: Totals) -> bool
 }
 
 fn token_fits(kind: u64, text: &[u8]) -> bool
-    ensures { λ r. ⌜ r ≡ is-within (new-token (token kind (now (text .entry)))) ⌝ }
+    ensures { λ r. ⌜ r ≡ is-within (new-token (token kind (was text))) ⌝ }
 {
     let n = text.len();
     if n == 0 {
@@ -101,7 +102,7 @@ fn offends(byte: u8) -> bool
 }
 
 fn printable(kind: u64, text: &[u8]) -> bool
-    ensures { λ r. ⌜ r ≡ is-printable (new-token (token kind (now (text .entry)))) ⌝ }
+    ensures { λ r. ⌜ r ≡ is-printable (new-token (token kind (was text))) ⌝ }
 {
     let mut i = 0;
     while i < text.len() {
@@ -116,7 +117,7 @@ fn printable(kind: u64, text: &[u8]) -> bool
 
 // Where the first byte of a text that is not 20 to 7E stands, or 0.
 fn first_offending(text: &[u8]) -> usize
-    ensures { λ r. ⌜ (r ≡ (let-some (position is-offending (now (text .entry))) else 0 then λ i. i)) × (r ≤ length (now (text .entry))) ⌝ }
+    ensures { λ r. ⌜ (r ≡ (let-some (position is-offending (was text)) else 0 then λ i. i)) × (r ≤ length (was text)) ⌝ }
 {
     let mut i = 0;
     while i < text.len() {
@@ -141,7 +142,7 @@ fn text_fits(sum: usize, count: usize) -> bool
 
 // The number of the question after 4 that refuses a token, or 0: each test is made, then asked in order.
 fn token_refusal(kind: u64, text: &[u8], totals: Totals) -> u64
-    ensures { λ r. ⌜ r ≡ first-no (questions [] (totals-of totals) (new-token (token kind (now (text .entry))))) ⌝ }
+    ensures { λ r. ⌜ r ≡ first-no (questions [] (totals-of totals) (new-token (token kind (was text)))) ⌝ }
 {
     let within = token_fits(kind, text);
     let few = totals.tokens < 1024;
@@ -168,8 +169,7 @@ fn token_refusal(kind: u64, text: &[u8], totals: Totals) -> u64
 // The number of the question after 4 that refuses a command, or 0.
 fn refusal(tape: &[u8], at: usize, command: Command, totals: Totals) -> u64
     requires { ⌜ at + looked-at command ≤ length (now tape) ⌝ }
-    ensures { λ r. ⌜ r ≡ first-no
-        (questions (drop at (now (tape .entry))) (totals-of totals) (command-in (now (tape .entry)) at command)) ⌝ }
+    ensures { λ r. ⌜ r ≡ first-no (questions (drop at (was tape)) (totals-of totals) (command-in (was tape) at command)) ⌝ }
 {
     match command {
         Command::Addressed { address: _, indent } => line_refusal(indent, totals),
@@ -189,7 +189,7 @@ fn refusal(tape: &[u8], at: usize, command: Command, totals: Totals) -> u64
 // The place of a number that refuses a command: the command's; of 7 the offset of the first offending byte.
 fn place_of(tape: &[u8], at: usize, command: Command, number: u64) -> usize
     requires { ⌜ at + looked-at command ≤ length (now tape) ⌝ }
-    ensures { λ r. ⌜ r ≡ place-at at (command-in (now (tape .entry)) at command) number ⌝ }
+    ensures { λ r. ⌜ r ≡ place-at at (command-in (was tape) at command) number ⌝ }
 {
     if number != 7 {
         return at;
@@ -254,8 +254,8 @@ pub fn count_in(command: Command, totals: Totals) -> Totals
 // Reads the command at an offset, the totals so far being given: any, also such as no tape reaches. The answer depends only on them and on
 // the tape from the offset on (`FromHere`, request M-102).
 pub fn step(tape: &[u8], at: usize, totals: Totals) -> Stepped
-    ensures { λ r. ⌜ stepped (now (tape .entry)) at r ≡ read-command (now (tape .entry)) at (totals-of totals) ⌝ }
-    ensures { λ r. ⌜ FromHere (now (tape .entry)) at (totals-of totals) (stepped (now (tape .entry)) at r) ⌝ }
+    ensures { λ r. ⌜ stepped (was tape) at r ≡ read-command (was tape) at (totals-of totals) ⌝ }
+    ensures { λ r. ⌜ FromHere (was tape) at (totals-of totals) (stepped (was tape) at r) ⌝ }
 {
     match command_from(tape, at) {
         Found::Unknown => Stepped::Refused {
@@ -281,10 +281,11 @@ pub fn step(tape: &[u8], at: usize, totals: Totals) -> Stepped
     }
 }
 
-// The same of a tape of either form. (The cleaning's step has a body of its own: shared with the conversions it was not inlined there.)
+// Reads the command at an offset of a tape of either form. (The cleaning's step has a body of its own: shared with the conversions it was
+// not inlined there.)
 pub fn step_by(tape: &[u8], at: usize, totals: Totals, based: bool) -> Stepped
-    ensures { λ r. ⌜ stepped (now (tape .entry)) at r ≡ read-command-by (form-of based) (now (tape .entry)) at (totals-of totals) ⌝ }
-    ensures { λ r. ⌜ FromHereBy (form-of based) (now (tape .entry)) at (totals-of totals) (stepped (now (tape .entry)) at r) ⌝ }
+    ensures { λ r. ⌜ stepped (was tape) at r ≡ read-command-by (form-of based) (was tape) at (totals-of totals) ⌝ }
+    ensures { λ r. ⌜ FromHereBy (form-of based) (was tape) at (totals-of totals) (stepped (was tape) at r) ⌝ }
 {
     match command_by(tape, at, based) {
         Found::Unknown => Stepped::Refused {
@@ -332,7 +333,7 @@ pub fn is_end(command: Command) -> bool
 
 // Asks the questions of every command.
 pub fn check(tape: &[u8]) -> Checked
-    ensures { λ r. ⌜ checked r ≡ (let-passed (read (now (tape .entry))) then λ lines. Passed (sizes-in lines)) ⌝ }
+    ensures { λ r. ⌜ checked r ≡ (let-passed (read (was tape)) then λ lines. Passed (sizes-in lines)) ⌝ }
 {
     let mut at = 0;
     let mut totals = Totals {
@@ -361,9 +362,9 @@ pub fn check(tape: &[u8]) -> Checked
     }
 }
 
-// The same of a tape of either form, from its first command on.
+// Asks the questions of a tape of either form, from its first command on.
 pub fn check_by(tape: &[u8], based: bool) -> Checked
-    ensures { λ r. ⌜ checked r ≡ (let-passed (read-by (form-of based) (now (tape .entry))) then λ lines. Passed (sizes-in lines)) ⌝ }
+    ensures { λ r. ⌜ checked r ≡ (let-passed (read-by (form-of based) (was tape)) then λ lines. Passed (sizes-in lines)) ⌝ }
 {
     let mut at = header_of(based);
     let mut totals = Totals {

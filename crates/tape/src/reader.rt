@@ -9,6 +9,7 @@ use crate::commands::text_at;
 ghost use mathlib.Core.Path.{_≡_};
 ghost use Prim.Native.Nat.{_+_, _≤_};
 ghost use lib.ListN.{length, take, drop};
+ghost use Rattle.reference.specs.Contract.{was};
 ghost use Rattle.tape.specs.Commands.{form-of, found-in-by, found-in, standing-by, standing, Stood};
 
 pub struct TapeReader<'a> {
@@ -55,14 +56,14 @@ pub fn token<'a>(reader: TapeReader<'a>, count: usize) -> &'a [u8]
 
 // What stands at an offset of the tape.
 pub fn command_from(tape: &[u8], at: usize) -> Found
-    ensures { λ r. ⌜ found-in (now (tape .entry)) at r ≡ standing (now (tape .entry)) at ⌝ }
+    ensures { λ r. ⌜ found-in (was tape) at r ≡ standing (was tape) at ⌝ }
 {
     next(moved(new(tape), at))
 }
 
 // What stands at an offset of a tape of either form: document 01's is read through a reader.
 pub fn command_by(tape: &[u8], at: usize, based: bool) -> Found
-    ensures { λ r. ⌜ found-in-by (form-of based) (now (tape .entry)) at r ≡ standing-by (form-of based) (now (tape .entry)) at ⌝ }
+    ensures { λ r. ⌜ found-in-by (form-of based) (was tape) at r ≡ standing-by (form-of based) (was tape) at ⌝ }
 {
     if based {
         return found_by(tape, at, true);
@@ -73,7 +74,7 @@ pub fn command_by(tape: &[u8], at: usize, based: bool) -> Found
 // The text of the token at an offset: a part of the tape itself.
 pub fn token_text(tape: &[u8], at: usize, count: usize) -> &[u8]
     requires { ⌜ at + 3 + count ≤ length (now tape) ⌝ }
-    ensures { λ r. ⌜ now r ≡ take count (drop (at + 3) (now (tape .entry))) ⌝ }
+    ensures { λ r. ⌜ now r ≡ take count (drop (at + 3) (was tape)) ⌝ }
 {
     token(moved(new(tape), at), count)
 }
@@ -81,7 +82,7 @@ pub fn token_text(tape: &[u8], at: usize, count: usize) -> &[u8]
 // The command at an offset where one is known to stand.
 pub fn known_command(tape: &[u8], at: usize) -> Command
     requires { ⌜ Stood (now tape) at ⌝ }
-    ensures { λ r. ⌜ found-in (now (tape .entry)) at (Found.Whole r) ≡ standing (now (tape .entry)) at ⌝ }
+    ensures { λ r. ⌜ found-in (was tape) at (Found.Whole r) ≡ standing (was tape) at ⌝ }
 {
     match command_from(tape, at) {
         Found::Whole(command) => command,

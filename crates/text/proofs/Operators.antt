@@ -10,7 +10,7 @@ use Rattle.reference.specs.Lists.{any}
 use Rattle.reference.specs.Text.{Text, bytes, starts-with, contains}
 use Rattle.reference.specs.Join.{starts-with-operator}
 use Rattle.laws.proofs.Scans.{any-append}
-use Rattle.text.specs.Marks.{sums, products, shifts, updates}
+use Rattle.text.specs.Punctuation.{sums, products, shifts, updates}
 
 pub by-rows : (s : Text) → any (starts-with s) updates ≡ (any (starts-with s) sums || (any (starts-with s) products || any (starts-with s) shifts))
 by-rows s =

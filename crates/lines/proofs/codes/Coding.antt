@@ -26,7 +26,7 @@ use Rattle.names.proofs.Searches.{position-none, position-at, any-at, all-below
 use Rattle.names.proofs.Texts.{same-true}
 use Rattle.names.proofs.Same.{same-row}
 use Rattle.lines.specs.Codes.{bucket, family-number, WIDTHS, coded-width, coded-name, Says, Codes}
-use Rattle.lines.specs.Words.{kind-of, place-of, start-of, len-of, code-of, first-bytes, text-of, token-of, Coded, Points}
+use Rattle.lines.specs.Words.{kind-of, buffer-of, start-of, len-of, code-of, first-bytes, text-of, token-of, Coded, Points}
 use Rattle.lines.specs.declared.fams.Named.the-variants.{As}
 use Rattle.lines.specs.Fams.{fam-text, Names}
 use Rattle.lines.proofs.words.Tokens.{in-tape, text-length, first-bytes-means, first-bytes-points}
@@ -113,7 +113,7 @@ module _ (tape area : Text) (w : ℕ) (p : Points tape area w) (n : code-of w �
   unfolding Coded text-of
   says = step (p .coded)
     where
-      step : (code-of w ≡ 0) ⊎ ((place-of w ≡ 0) × Says (code-of w) (take (len-of w) (drop (start-of w) tape))) → Says (code-of w) (text-of tape area w)
+      step : (code-of w ≡ 0) ⊎ ((buffer-of w ≡ 0) × Says (code-of w) (take (len-of w) (drop (start-of w) tape))) → Says (code-of w) (text-of tape area w)
       step (inl e) = absurd (n e)
       step (inr h) = rw (in-tape tape area (h .0)) (h .1)
 

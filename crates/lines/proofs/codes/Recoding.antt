@@ -10,7 +10,7 @@ use lib.ListN.{length, take, drop, getD, set, length-take, length-drop, length-s
 use lib.Seq.{getD-take, getD-drop, getD-set-same, getD-set-other}
 use Rattle.reference.specs.Text.{Text}
 use Rattle.lines.specs.Codes.{Says, Codes}
-use Rattle.lines.specs.Words.{place-of, start-of, len-of, code-of, with-code, text-of, token-of, tokens-of, Coded, Points, Holds, Recoded, Recodes}
+use Rattle.lines.specs.Words.{buffer-of, start-of, len-of, code-of, with-code, text-of, token-of, tokens-of, Coded, Points, Holds, Recoded, Recodes}
 use Rattle.lines.specs.Lines.{first-of, count-of, part-of, line-in, listing-of, Lined, Listed}
 use Rattle.lines.proofs.words.Each.{map-same}
 use Rattle.lines.proofs.words.Tokens.{coded-kind, coded-place, coded-start, coded-len, coded-code}
@@ -20,11 +20,11 @@ use Rattle.lines.proofs.words.Tokens.{coded-kind, coded-place, coded-st
 pub recoded-same : (tape : Text) (w : ℕ) → Recoded tape w w
 recoded-same tape w = record { means = λ area. refl; points = λ area p. p }
 
-module _ (tape : Text) (w : ℕ) {p s l c r : ℕ} (ep : p ≡ place-of w) (z : p ≡ 0) (es : s ≡ start-of w) (el : l ≡ len-of w) (h : Codes (take (s + l - s) (drop s tape)) c) (er : r ≡ with-code w c) where
+module _ (tape : Text) (w : ℕ) {p s l c r : ℕ} (ep : p ≡ buffer-of w) (z : p ≡ 0) (es : s ≡ start-of w) (el : l ≡ len-of w) (h : Codes (take (s + l - s) (drop s tape)) c) (er : r ≡ with-code w c) where
   same-part : take (s + l - s) (drop s tape) ≡ take (len-of w) (drop (start-of w) tape)
   same-part = let k : s + l - s ≡ len-of w = omega arith in rw (k, es)
 
-  code-true : (c ≡ 0) ⊎ Says c (take (s + l - s) (drop s tape)) → (c ≡ 0) ⊎ ((place-of w ≡ 0) × Says c (take (len-of w) (drop (start-of w) tape)))
+  code-true : (c ≡ 0) ⊎ Says c (take (s + l - s) (drop s tape)) → (c ≡ 0) ⊎ ((buffer-of w ≡ 0) × Says c (take (len-of w) (drop (start-of w) tape)))
   code-true (inl e) = inl e
   code-true (inr f) = inr (sym ep ∙ z, rw same-part at f)
 
@@ -91,7 +91,7 @@ module _ {tape : Text} {ws us : List ℕ} (r : Recodes tape ws us) where
   part-recoded l = recodes-take (recodes-drop r (first-of l)) (count-of l)
 
   pub lined-recoded : {area : Text} {l : ℕ} → Lined tape area ws l → Lined tape area us l
-  lined-recoded {area} {l} h = record { inside = omega (arith, h .inside, r .long); holds = holds-recoded (part-recoded l) (h .holds); marks = rw (sym (tokens-recoded (part-recoded l) area)) at (h .marks) }
+  lined-recoded {area} {l} h = record { inside = omega (arith, h .inside, r .long); holds = holds-recoded (part-recoded l) (h .holds); facts = rw (sym (tokens-recoded (part-recoded l) area)) at (h .facts) }
 
   pub line-recoded : (area : Text) (addresses : List ℕ) (l : ℕ) → line-in tape area us addresses l ≡ line-in tape area ws addresses l
   line-recoded area addresses l = let e = tokens-recoded (part-recoded l) area in cc

@@ -15,23 +15,23 @@ use Rattle.reference.specs.Listing.{is, Symbol}
 use Rattle.reference.proofs.Cases.{some-inj, none-some}
 use Rattle.laws.proofs.Scans.{from, position-begin, position-hit, position-miss, position-end}
 use Rattle.lines.specs.Words.{token-of, tokens-of}
-use Rattle.lines.specs.declared.shapes.Found.{Found}
-use Rattle.lines.specs.declared.shapes.Found.the-variants.{At, Nothing}
+use Rattle.lines.specs.declared.shapes.Position.{Position}
+use Rattle.lines.specs.declared.shapes.Position.the-variants.{At, Nothing}
 use Rattle.lines.specs.Shapes.{found, symbol-from}
 use Rattle.lines.proofs.words.Each.{map-drop}
 
 -- ---- whether there is a place
 
-pub found-is : {r : Found} {k : ℕ} {o : Option ℕ} → found r ≡ o → r ≡ At k → o ≡ some k
+pub found-is : {r : Position} {k : ℕ} {o : Option ℕ} → found r ≡ o → r ≡ At k → o ≡ some k
 found-is e a = rw (← e, a)
 
-pub found-not : {r : Found} {o : Option ℕ} → found r ≡ o → r ≡ Nothing → o ≡ none
+pub found-not : {r : Position} {o : Option ℕ} → found r ≡ o → r ≡ Nothing → o ≡ none
 found-not e a = rw (← e, a)
 
-pub found-some : {r : Found} {k : ℕ} {o : Option ℕ} → found r ≡ o → r ≡ At k → true ≡ is-some o
+pub found-some : {r : Position} {k : ℕ} {o : Option ℕ} → found r ≡ o → r ≡ At k → true ≡ is-some o
 found-some e a = rw (← e, a)
 
-pub found-none : {r : Found} {o : Option ℕ} → found r ≡ o → r ≡ Nothing → false ≡ is-some o
+pub found-none : {r : Position} {o : Option ℕ} → found r ≡ o → r ≡ Nothing → false ≡ is-some o
 found-none e a = rw (← e, a)
 
 module _ {A : Type 0} (p : A → Bool) where
@@ -45,10 +45,10 @@ module _ {A : Type 0} (p : A → Bool) where
       step false none e = e
       step false (some i) e = e
 
-  pub any-some : (s : List A) {r : Found} {k : ℕ} → found r ≡ position p s → r ≡ At k → true ≡ any p s
+  pub any-some : (s : List A) {r : Position} {k : ℕ} → found r ≡ position p s → r ≡ At k → true ≡ any p s
   any-some s e a = found-some e a ∙ any-is s
 
-  pub any-none : (s : List A) {r : Found} → found r ≡ position p s → r ≡ Nothing → false ≡ any p s
+  pub any-none : (s : List A) {r : Position} → found r ≡ position p s → r ≡ Nothing → false ≡ any p s
   any-none s e a = found-none e a ∙ any-is s
 
   -- what stands at the place

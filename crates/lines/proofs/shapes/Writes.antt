@@ -12,7 +12,7 @@ use Rattle.reference.specs.Text.{Text, bytes, starts-with}
 use Rattle.reference.specs.Listing.{is, Punct}
 use Rattle.reference.specs.Shapes.{writes, is-written}
 use Rattle.reference.proofs.Cases.{both, same-number}
-use Rattle.text.specs.Marks.{updates}
+use Rattle.text.specs.Punctuation.{updates}
 use Rattle.lines.specs.Words.{token-of, tokens-of, text-of}
 use Rattle.lines.proofs.shapes.Places.{get-at, get-past}
 

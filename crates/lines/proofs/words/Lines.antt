@@ -15,8 +15,8 @@ use Rattle.reference.specs.Text.{Text}
 use Rattle.reference.specs.Listing.{Token, _at_, with-tokens}
 use Rattle.laws.proofs.Parts.{part-below}
 use Rattle.lines.specs.Words.{tokens-of, Holds}
-use Rattle.lines.specs.Marks.{bit, Tells}
-use Rattle.lines.specs.Lines.{first-of, count-of, indent-of, addressed-of, origin-of, marks-of, with-marks, line-word, with-part, part-of, address-in, Reading, own, numbered, read-as, line-read, listing-read, line-in, listing-of, bare, bare-in, bare-listing, Lined, Listed}
+use Rattle.lines.specs.Facts.{bit, Tells}
+use Rattle.lines.specs.Lines.{first-of, count-of, indent-of, addressed-of, origin-of, facts-of, with-facts, line-word, with-part, part-of, address-in, Reading, own, numbered, read-as, line-read, listing-read, line-in, listing-of, bare, bare-in, bare-listing, Lined, Listed}
 use Rattle.lines.proofs.words.Each.{each-none, each-one, each-take, each-drop, each-append, each-set, each-remove, map-at, map-same}
 use Rattle.lines.proofs.words.Tokens.{holds-take, holds-drop, holds-prefix, tokens-prefix}
 
@@ -66,9 +66,9 @@ module _ (f c i a o : ℕ) (hf : f < 65536) (hc : c < 2048) where
         unfolding line-word origin-of
         word-origin = omega arith
 
-        pub word-marks : marks-of (line-word f c i a o) ≡ 0
-        unfolding line-word marks-of
-        word-marks = omega arith
+        pub word-facts : facts-of (line-word f c i a o) ≡ 0
+        unfolding line-word facts-of
+        word-facts = omega arith
 
         pub line-word-means : (tape area : Text) (tokens addresses : List ℕ)
             → line-in tape area tokens addresses (line-word f c i a o)
@@ -86,9 +86,9 @@ module _ (l f c : ℕ) (hf : f < 65536) (hc : c < 2048) where
   unfolding with-part
   with-count = word-count f c (indent-of l) (addressed-of l) (origin-of l) hf hc
 
-  pub with-unmarked : marks-of (with-part l f c) ≡ 0
+  pub with-factless : facts-of (with-part l f c) ≡ 0
   unfolding with-part
-  with-unmarked = word-marks f c (indent-of l) (addressed-of l) (origin-of l) hf hc (indent-below l) (addressed-below l) (origin-below l)
+  with-factless = word-facts f c (indent-of l) (addressed-of l) (origin-of l) hf hc (indent-below l) (addressed-below l) (origin-below l)
 
   pub with-part-of : (tokens : List ℕ) → part-of tokens (with-part l f c) ≡ take c (drop f tokens)
   with-part-of tokens = rw (with-first, with-count)
@@ -117,49 +117,49 @@ module _ (l f c : ℕ) (hf : f < 65536) (hc : c < 2048) where
       let t : tokens-of tape area (part-of tokens (with-part l f c)) ≡ tokens-of tape area (take c (drop f tokens)) = ap (tokens-of tape area) (with-part-of tokens) in
       λ j. record { address = a j; indent = i j; tokens = t j }
 
--- marks change nothing else
+-- facts change nothing else
 module _ (l m : ℕ) where
-  pub marked-first : first-of (with-marks l m) ≡ first-of l
-  unfolding with-marks first-of
-  marked-first = omega arith
+  pub noted-first : first-of (with-facts l m) ≡ first-of l
+  unfolding with-facts first-of
+  noted-first = omega arith
 
-  pub marked-count : count-of (with-marks l m) ≡ count-of l
-  unfolding with-marks count-of
-  marked-count = omega arith
+  pub noted-count : count-of (with-facts l m) ≡ count-of l
+  unfolding with-facts count-of
+  noted-count = omega arith
 
-  pub marked-indent : indent-of (with-marks l m) ≡ indent-of l
-  unfolding with-marks indent-of
-  marked-indent = omega arith
+  pub noted-indent : indent-of (with-facts l m) ≡ indent-of l
+  unfolding with-facts indent-of
+  noted-indent = omega arith
 
-  pub marked-addressed : addressed-of (with-marks l m) ≡ addressed-of l
-  unfolding with-marks addressed-of
-  marked-addressed = omega arith
+  pub noted-addressed : addressed-of (with-facts l m) ≡ addressed-of l
+  unfolding with-facts addressed-of
+  noted-addressed = omega arith
 
-  pub marked-origin : origin-of (with-marks l m) ≡ origin-of l
-  unfolding with-marks origin-of
-  marked-origin = omega arith
+  pub noted-origin : origin-of (with-facts l m) ≡ origin-of l
+  unfolding with-facts origin-of
+  noted-origin = omega arith
 
-  pub marked-read : (addresses : Reading) → read-as addresses (with-marks l m) ≡ read-as addresses l
+  pub noted-read : (addresses : Reading) → read-as addresses (with-facts l m) ≡ read-as addresses l
   unfolding address-in
-  marked-read (own addresses) = rw (marked-addressed, marked-origin)
-  marked-read numbered = rw marked-origin
+  noted-read (own addresses) = rw (noted-addressed, noted-origin)
+  noted-read numbered = rw noted-origin
 
-  pub marked-marks : marks-of (with-marks l m) ≡ m
-  unfolding with-marks marks-of
-  marked-marks = omega arith
+  pub noted-facts : facts-of (with-facts l m) ≡ m
+  unfolding with-facts facts-of
+  noted-facts = omega arith
 
--- no marks say nothing
+-- no facts say nothing
 not-set : (i : ℕ) {X : Type 0} → bit 0 i ≡ 1 → X
 unfolding bit
 not-set i e = absurd (omega (arith, ap (λ (x : ℕ). x % 2) (zero-div (2 ^ i))))
 
-pub no-marks : {m : ℕ} (ts : List Token) → m ≡ 0 → Tells 1 m ts
-no-marks ts z = rw z (record { lacks = λ i h e. not-set i e; callless = λ e. not-set 16 e; calling = λ e. not-set 17 e })
+pub no-facts : {m : ℕ} (ts : List Token) → m ≡ 0 → Tells 1 m ts
+no-facts ts z = rw z (record { lacks = λ i h e. not-set i e; no-call = λ e. not-set 16 e; calling = λ e. not-set 17 e })
 
 -- ---- one line
 
-pub lined-of : {tape area : Text} {tokens : List ℕ} (l : ℕ) → Holds tape area tokens → first-of l + count-of l ≤ length tokens → marks-of l ≡ 0 → Lined tape area tokens l
-lined-of {tape} {area} {tokens} l h i z = record { inside = i; holds = holds-take (holds-drop h (first-of l)) (count-of l); marks = no-marks (tokens-of tape area (part-of tokens l)) z }
+pub lined-of : {tape area : Text} {tokens : List ℕ} (l : ℕ) → Holds tape area tokens → first-of l + count-of l ≤ length tokens → facts-of l ≡ 0 → Lined tape area tokens l
+lined-of {tape} {area} {tokens} l h i z = record { inside = i; holds = holds-take (holds-drop h (first-of l)) (count-of l); facts = no-facts (tokens-of tape area (part-of tokens l)) z }
 
 module _ (tape area : Text) (tokens : List ℕ) (addresses : Reading) (lines : List ℕ) where
   pub listing-at : (k : ℕ) → k < length lines → listing-read tape area tokens addresses lines at k ≡ line-read tape area tokens addresses (getD lines k 0)
@@ -208,7 +208,7 @@ module _ {tape : Text} (m : ℕ) (area : Text) (n : ℕ) (tokens : List ℕ) {l 
   line-tokens = tokens-prefix m area (h .holds) ∙ ap (tokens-of tape area) part-prefix
 
   pub lined-prefix : Lined tape area tokens l
-  lined-prefix = record { inside = omega (arith, h .inside, length-take n tokens); holds = rw part-prefix at (holds-prefix m area (h .holds)); marks = rw line-tokens at (h .marks) }
+  lined-prefix = record { inside = omega (arith, h .inside, length-take n tokens); holds = rw part-prefix at (holds-prefix m area (h .holds)); facts = rw line-tokens at (h .facts) }
 
   pub line-prefix : (addresses : Reading) → line-read tape (take m area) (take n tokens) addresses l ≡ line-read tape area tokens addresses l
   line-prefix addresses = let e = line-tokens in cc

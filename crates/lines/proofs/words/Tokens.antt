@@ -13,15 +13,15 @@ use Rattle.reference.specs.Text.{Text}
 use Rattle.reference.specs.Listing.{token}
 use Rattle.laws.proofs.Parts.{drop-take, part-below}
 use Rattle.laws.proofs.Scans.{if-true, if-false}
-use Rattle.lines.specs.Words.{kind-of, place-of, start-of, len-of, code-of, word, with-code, without-first, first-bytes, source, text-of, token-of, tokens-of, Coded, Points, Holds}
+use Rattle.lines.specs.Words.{kind-of, buffer-of, start-of, len-of, code-of, word, with-code, without-first, first-bytes, source, text-of, token-of, tokens-of, Coded, Points, Holds}
 use Rattle.lines.proofs.words.Each.{each-none, each-one, each-take, each-drop, each-append, each-set, map-same}
 
 pub kind-below : (w : ℕ) → kind-of w < 8
 unfolding kind-of
 kind-below w = omega arith
 
-pub place-below : (w : ℕ) → place-of w < 2
-unfolding place-of
+pub place-below : (w : ℕ) → buffer-of w < 2
+unfolding buffer-of
 place-below w = omega arith
 
 pub start-below : (w : ℕ) → start-of w < 65536
@@ -39,8 +39,8 @@ module _ (k p s l : ℕ) (hk : k < 8) (hp : p < 2) (hs : s < 65536) where
   unfolding word kind-of
   word-kind = omega arith
 
-  pub word-place : place-of (word k p s l) ≡ p
-  unfolding word place-of
+  pub word-place : buffer-of (word k p s l) ≡ p
+  unfolding word buffer-of
   word-place = omega arith
 
   pub word-start : start-of (word k p s l) ≡ s
@@ -71,8 +71,8 @@ module _ (w c : ℕ) where
   unfolding with-code kind-of
   coded-kind = omega arith
 
-  pub coded-place : place-of (with-code w c) ≡ place-of w
-  unfolding with-code place-of
+  pub coded-place : buffer-of (with-code w c) ≡ buffer-of w
+  unfolding with-code buffer-of
   coded-place = omega arith
 
   pub coded-start : start-of (with-code w c) ≡ start-of w
@@ -96,7 +96,7 @@ unfolding source
 in-area tape area e = if-false _ _ (ne-eqb _ _ e)
 
 -- the part of a source that the numbers in hand name is the word's text
-pub part-is : (tape area : Text) (w : ℕ) {s l : ℕ} (src : Text) → s ≡ start-of w → l ≡ len-of w → source tape area (place-of w) ≡ src
+pub part-is : (tape area : Text) (w : ℕ) {s l : ℕ} (src : Text) → s ≡ start-of w → l ≡ len-of w → source tape area (buffer-of w) ≡ src
     → take (s + l - s) (drop s src) ≡ text-of tape area w
 unfolding text-of
 part-is tape area w {s} {l} src es el e = let k : s + l - s ≡ len-of w = omega arith in rw (k, es, e)
@@ -111,25 +111,25 @@ module _ (tape area : Text) (w n : ℕ) (h : Points tape area w) (hn : n ≤ len
   pub without-first-means : token-of tape area (without-first w n) ≡ token (kind-of w) (drop n (text-of tape area w))
   unfolding without-first text-of
   without-first-means =
-      word-means (kind-of w) (place-of w) (start-of w + n) (len-of w - n) (kind-below w) (place-below w) (omega (arith, h .short)) (omega (arith, len-below w)) tape area
+      word-means (kind-of w) (buffer-of w) (start-of w + n) (len-of w - n) (kind-below w) (place-below w) (omega (arith, h .short)) (omega (arith, len-below w)) tape area
       ∙ rw (drop-take, drop-drop)
 
   pub without-first-points : Points tape area (without-first w n)
   unfolding without-first
   without-first-points =
-      word-points (kind-of w) (place-of w) (start-of w + n) (len-of w - n) (kind-below w) (place-below w) (omega (arith, h .short)) (omega (arith, len-below w)) tape area
+      word-points (kind-of w) (buffer-of w) (start-of w + n) (len-of w - n) (kind-below w) (place-below w) (omega (arith, h .short)) (omega (arith, len-below w)) tape area
       (omega (arith, h .inside)) (omega (arith, h .short))
 
   pub first-bytes-means : token-of tape area (first-bytes w n) ≡ token (kind-of w) (take n (text-of tape area w))
   unfolding first-bytes text-of
   first-bytes-means =
-      word-means (kind-of w) (place-of w) (start-of w) n (kind-below w) (place-below w) (start-below w) (omega (arith, len-below w)) tape area
+      word-means (kind-of w) (buffer-of w) (start-of w) n (kind-below w) (place-below w) (start-below w) (omega (arith, len-below w)) tape area
       ∙ rw take-take
 
   pub first-bytes-points : Points tape area (first-bytes w n)
   unfolding first-bytes
   first-bytes-points =
-      word-points (kind-of w) (place-of w) (start-of w) n (kind-below w) (place-below w) (start-below w) (omega (arith, len-below w)) tape area
+      word-points (kind-of w) (buffer-of w) (start-of w) n (kind-below w) (place-below w) (start-below w) (omega (arith, len-below w)) tape area
       (omega (arith, h .inside)) (omega (arith, h .short))
 
 -- ---- lists of words
@@ -162,7 +162,7 @@ module _ {tape area : Text} {ws : List ℕ} (h : Holds tape area ws) where
 module _ {tape : Text} (n : ℕ) (area : Text) {w : ℕ} (h : Points tape (take n area) w) where
   pub points-prefix : Points tape area w
   points-prefix = record {
-    inside = by-cases (ℕ-discrete (place-of w) 0)
+    inside = by-cases (ℕ-discrete (buffer-of w) 0)
         (λ e. rw (in-tape tape area e) (rw (in-tape tape (take n area) e) at (h .inside)))
         (λ e. rw (in-area tape area e) (omega (arith, h .inside, ap length (in-area tape (take n area) e), length-take n area)));
     short = h .short;
@@ -171,7 +171,7 @@ module _ {tape : Text} (n : ℕ) (area : Text) {w : ℕ} (h : Points tape (take 
 
   pub text-prefix : text-of tape (take n area) w ≡ text-of tape area w
   unfolding text-of
-  text-prefix = by-cases (ℕ-discrete (place-of w) 0)
+  text-prefix = by-cases (ℕ-discrete (buffer-of w) 0)
       (λ e. rw (in-tape tape area e, in-tape tape (take n area) e))
       (λ e.
       let b : start-of w + len-of w ≤ n = omega (arith, h .inside, ap length (in-area tape (take n area) e), length-take n area) in

@@ -15,7 +15,7 @@ use Rattle.reference.proofs.Reading.{Passes, pass-command}
 use Rattle.reference.proofs.Tapes.{Kept, kept, accepted-length}
 use Rattle.lines.proofs.words.Lines.{lined-of}
 use Rattle.tape.specs.Commands.{command-in, size-of, ends, Stood}
-use Rattle.tape.specs.Questions.{totals-of, counted, Counts, Accepted}
+use Rattle.tape.specs.Questions.{totals-of, counted, Counts, AcceptedTape}
 use Rattle.tables.specs.Tables.{Adds, Room, Added, Loaded}
 use Rattle.tape.specs.declared.commands.Command.{Command}
 use Rattle.tape.specs.declared.commands.Command.the-variants.{Addressed, Plain, Marked, Token, End}
@@ -34,7 +34,7 @@ filled-none tape tokens lines addresses = record { reads = reads-begin old tape;
 
 -- on an accepted tape every command passes
 
-module _ {tape tokens lines addresses : List ℕ} {at : ℕ} {t : Totals} (k : Accepted tape) (f : Filled tape tokens lines addresses at t) where
+module _ {tape tokens lines addresses : List ℕ} {at : ℕ} {t : Totals} (k : AcceptedTape tape) (f : Filled tape tokens lines addresses at t) where
   pub filled-passes : Passes (drop at tape) (totals-of t)
   filled-passes = accepted-passes (f .reads) k
 
@@ -43,7 +43,7 @@ module _ {tape tokens lines addresses : List ℕ} {at : ℕ} {t : Totals} (k : A
 
 -- a turn of the loop: the command at its offset, and tables with room for it
 pub record Turn (tape tokens lines addresses : List ℕ) (at : ℕ) (t : Totals) (c : Command) : Type 0 where
-  pub accepted : Accepted tape
+  pub accepted : AcceptedTape tape
   pub filled : Filled tape tokens lines addresses at t
   pub stands : Stands tape at c
   pub long-tokens : 1024 ≤ length tokens

@@ -19,7 +19,7 @@ use Rattle.lines.specs.Words.{tokens-of}
 use Rattle.lines.specs.Lines.{line-in}
 use Rattle.lines.proofs.words.Each.{map-same}
 use Rattle.lines.proofs.words.Lines.{line-word-means}
-use Rattle.tables.specs.Records.{blank, word-of, Fits, Held, Holding, Fitting}
+use Rattle.tables.specs.Records.{blank, word-of, RecordFits, Held, Holding, Fitting}
 use Rattle.tables.specs.Tables.{Loaded}
 use Rattle.tape.specs.declared.questions.Totals.{Totals}
 use Rattle.tables.specs.declared.records.LineRecord.{LineRecord}
@@ -30,7 +30,7 @@ holding-none records a b = record { long-lines = a; long-addresses = b; at = λ 
 -- ---- another record at k: the others are as before
 
 module _ (records : List LineRecord) {n : ℕ} (k n′ : ℕ) (r : LineRecord) (here : getD (set records k r) k blank ≡ r) (others : (j : ℕ) → j < n′ → (j ≡ k → ⊥) → j < n) where
-  pub fitting-set : Fitting records n → Fits r → Fitting (set records k r) n′
+  pub fitting-set : Fitting records n → RecordFits r → Fitting (set records k r) n′
   fitting-set f fits j b =
       by-cases (ℕ-discrete j k)
       (λ e. rw (e, here) fits)

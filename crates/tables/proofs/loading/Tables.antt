@@ -17,10 +17,10 @@ use Rattle.reference.specs.Questions as Q
 use Rattle.reference.proofs.Writing.{with-token, add-last}
 use Rattle.laws.proofs.Parts.{part-below}
 use Rattle.lines.specs.Words.{word, token-of, tokens-of, Holds}
-use Rattle.lines.specs.Lines.{first-of, count-of, indent-of, addressed-of, origin-of, marks-of, with-part, part-of, address-in, line-in, listing-of}
+use Rattle.lines.specs.Lines.{first-of, count-of, indent-of, addressed-of, origin-of, facts-of, with-part, part-of, address-in, line-in, listing-of}
 use Rattle.lines.proofs.words.Each.{Each, each-none, each-one, each-take, each-append, map-same}
 use Rattle.lines.proofs.words.Tokens.{word-means, word-points, in-tape, holds-none, holds-snoc}
-use Rattle.lines.proofs.words.Lines.{first-below, indent-below, addressed-below, origin-below, word-first, word-count, word-origin, word-marks, line-word-means, with-first, with-count, with-unmarked, with-means}
+use Rattle.lines.proofs.words.Lines.{first-below, indent-below, addressed-below, origin-below, word-first, word-count, word-origin, word-facts, line-word-means, with-first, with-count, with-factless, with-means}
 use Rattle.tape.specs.Commands.{command-in, size-of}
 use Rattle.tape.specs.Questions.{totals-of, counted}
 use Rattle.tables.specs.Tables.{begun, longer, lengthened, tokens-after, lines-after, addresses-after, Adds, Room}
@@ -34,7 +34,7 @@ pub record Table (tape tokens lines addresses : List ℕ) (t : Q.Totals) (listin
   pub holds : (area : Text) → Holds tape area (take (t .tokens) tokens)
   pub inside : Each (λ l. first-of l + count-of l ≤ t .tokens) (take (t .lines) lines)
   pub origins : Each (λ l. origin-of l < t .lines) (take (t .lines) lines)
-  pub unmarked : Each (λ l. marks-of l ≡ 0) (take (t .lines) lines)
+  pub unmarked : Each (λ l. facts-of l ≡ 0) (take (t .lines) lines)
   pub last : 0 < t .lines → first-of (getD lines (t .lines - 1) 0) + count-of (getD lines (t .lines - 1) 0) ≡ t .tokens
   pub means : (area : Text) → listing-of tape area (take (t .tokens) tokens) addresses (take (t .lines) lines) ≡ listing
 
@@ -44,7 +44,7 @@ table-none tape tokens lines addresses =
       holds = holds-none tape;
       inside = each-none (λ l. first-of l + count-of l ≤ 0);
       origins = each-none (λ l. origin-of l < 0);
-      unmarked = each-none (λ l. marks-of l ≡ 0);
+      unmarked = each-none (λ l. facts-of l ≡ 0);
       last = λ h. absurd (omega arith);
       means = λ area. refl;
     }
@@ -99,8 +99,8 @@ module _ {tape tokens lines addresses : List ℕ} {listing : Listing} (t : Total
               (each-one (λ l. first-of l + count-of l ≤ n) (omega arith)));
           unmarked =
               rw front
-              (each-append (λ l. marks-of l ≡ 0) (take (t .lines) lines) (h .unmarked) (w ∷ [])
-              (each-one (λ l. marks-of l ≡ 0) (word-marks n 0 indent flag (t .lines) (omega arith) (omega arith) low bit few)));
+              (each-append (λ l. facts-of l ≡ 0) (take (t .lines) lines) (h .unmarked) (w ∷ [])
+              (each-one (λ l. facts-of l ≡ 0) (word-facts n 0 indent flag (t .lines) (omega arith) (omega arith) low bit few)));
           origins =
               rw front
               (each-append (λ l. origin-of l < t .lines + 1) (take (t .lines) lines)
@@ -234,7 +234,7 @@ module _ {tape tokens lines addresses : List ℕ} {listing : Listing} (t : Total
           inside =
               each-next (λ l. first-of l + count-of l ≤ t .tokens) (λ l. first-of l + count-of l ≤ t .tokens + 1) (λ l i. omega arith)
               (omega (arith, next-first, next-count, ends)) (h .inside);
-          unmarked = each-next (λ l. marks-of l ≡ 0) (λ l. marks-of l ≡ 0) (λ l m. m) (with-unmarked l (first-of l) (count-of l + 1) (first-below l) (omega arith)) (h .unmarked);
+          unmarked = each-next (λ l. facts-of l ≡ 0) (λ l. facts-of l ≡ 0) (λ l m. m) (with-factless l (first-of l) (count-of l + 1) (first-below l) (omega arith)) (h .unmarked);
           origins =
               each-next (λ l. origin-of l < t .lines) (λ l. origin-of l < t .lines) (λ l o. o)
               (rw next-origin (rw (getD-take (t .lines) lines (t .lines - 1) 0 (omega arith)) at (h .origins (t .lines - 1) (rw (length-take-le (t .lines) lines line-room) (omega arith)))))

@@ -1,4 +1,4 @@
--- The loop that lays the lines of an accepted tape as records: the reading comes to its offset with its totals, and tables that hold the records so
+-- The loop that step-loads the lines of an accepted tape as records: the reading comes to its offset with its totals, and tables that hold the records so
 -- far mean the lines so far. Assumes nothing.
 use Prim.Native.Nat.{ℕ, _+_, _-_, _≤_, _<_}
 use native.Mathlib.Omega.{arith}
@@ -12,22 +12,22 @@ use Rattle.lines.specs.Lines.{first-of, count-of, indent-of, addressed-of, orig
 use Rattle.lines.proofs.words.Lines.{word-first, word-count, word-indent, word-addressed, word-origin}
 use Rattle.tape.specs.Commands.{size-of, ends, found-in, standing}
 use Rattle.reference.proofs.LittleEndian.{Bytes}
-use Rattle.tape.specs.Questions.{totals-of, counted, Accepted}
+use Rattle.tape.specs.Questions.{totals-of, counted, AcceptedTape}
 use Rattle.tables.specs.Tables.{Adds, Added, longer, tokens-after, lines-after, addresses-after}
-use Rattle.tables.specs.Records.{blank, word-of, Fits, Holding, Fitting, Recorded, line-after, place-after, start-of, TakesToken, Grows, Takes, Ready, Lays}
+use Rattle.tables.specs.Records.{blank, word-of, RecordFits, Holding, Fitting, Recorded, line-after, place-after, start-of, TakesToken, Grows, Takes, Ready, StepLoads}
 use Rattle.tape.specs.declared.commands.Command.{Command}
 use Rattle.tape.specs.declared.commands.Command.the-variants.{Addressed, Plain, Marked, Token, End}
 use Rattle.tape.specs.declared.commands.Found.the-variants.{Whole}
 use Rattle.tape.specs.declared.questions.Totals.{Totals}
 use Rattle.tables.specs.declared.records.LineRecord.{LineRecord}
-use Rattle.tables.specs.declared.loading.Laying.{Laying}
-use Rattle.tables.specs.declared.loading.Laid.{Laid}
+use Rattle.tables.specs.declared.loading.LoadState.{LoadState}
+use Rattle.tables.specs.declared.loading.LoadStep.{LoadStep}
 use Rattle.tape.proofs.commands.Standing.{stands}
 use Rattle.tables.proofs.loading.Filling.{Filled, filled-none, filled-stood, Turn, turn-room, turn-counts, turn-moves, turn-begun, turn-passed, turn-adds, turn-more, turn-ends}
 use Rattle.tables.proofs.loading.Marks.{Noted, noted-none, noted-more, noted-ends}
 use Rattle.tables.proofs.loading.Records.{holding-none, fitting-set, holding-set, loaded-held}
 
-pub record Going (tape tokens : List ℕ) (records : List LineRecord) (s : Laying) : Type 0 where
+pub record Going (tape tokens : List ℕ) (records : List LineRecord) (s : LoadState) : Type 0 where
   pub lines : List ℕ
   pub addresses : List ℕ
   pub filled : Filled tape tokens lines addresses (s .at) (s .totals)
@@ -53,7 +53,7 @@ going-start tape tokens records =
 -- ---- the last line's record and its word
 
 -- one token more
-longer-word : (k : ℕ) (r : LineRecord) → k < 256 → Fits r → r .count < 2047
+longer-word : (k : ℕ) (r : LineRecord) → k < 256 → RecordFits r → r .count < 2047
     → longer (word-of k r) ≡ line-word (r .first) (r .count + 1) (r .indent) (r .addressed) k
 unfolding with-part
 longer-word k r low f few =
@@ -85,12 +85,12 @@ abbrev pub left-of : Bool → ℕ → ℕ
 left-of true n = n
 left-of false n = 0
 
-abbrev pub left : List ℕ → Laying → ℕ
+abbrev pub left : List ℕ → LoadState → ℕ
 left tape s = left-of (s .going) (length tape - s .at + 1)
 
 -- ---- a turn
 
-module _ {tape tokens : List ℕ} {records : List LineRecord} {s : Laying} (k : Accepted tape) (long : 1024 ≤ length tokens) (enough : 256 ≤ length records)
+module _ {tape tokens : List ℕ} {records : List LineRecord} {s : LoadState} (k : AcceptedTape tape) (long : 1024 ≤ length tokens) (enough : 256 ≤ length records)
     (g : Going tape tokens records s) where
   abbrev t : Totals
   t = s .totals
@@ -119,7 +119,7 @@ module _ {tape tokens : List ℕ} {records : List LineRecord} {s : Laying} (k : 
   last-address : 0 < t .lines → line .addressed ≡ 1 → getD (g .addresses) (s .line) 0 ≡ line .address
   last-address b = g .holding .at (s .line) (last-inside b) .address
 
-  last-fits : 0 < t .lines → Fits line
+  last-fits : 0 < t .lines → RecordFits line
   last-fits b = g .fitting (s .line) (last-inside b)
 
   last-count : 0 < t .lines → count-of (getD (g .lines) (t .lines - 1) 0) ≡ line .count
@@ -222,8 +222,8 @@ module _ {tape tokens : List ℕ} {records : List LineRecord} {s : Laying} (k : 
 
   -- ---- what a turn leaves
 
-  -- (the fields of `Lays`, so that the command does not hang on what they say of u)
-  module _ {u : Laid} {tokens′ : List ℕ} (c : Command) (stood-there : found-in tape (s .at) (Whole c) ≡ standing tape (s .at)) (line-is : u .line ≡ line-after c t line)
+  -- (the fields of `StepLoads`, so that the command does not hang on what they say of u)
+  module _ {u : LoadStep} {tokens′ : List ℕ} (c : Command) (stood-there : found-in tape (s .at) (Whole c) ≡ standing tape (s .at)) (line-is : u .line ≡ line-after c t line)
       (tokens-are : tokens′ ≡ tokens-after (s .at) c t tokens) (at-is : u .next .at ≡ s .at + size-of c) (place-is : u .next .line ≡ place-after c t (s .line))
       (totals-are : totals-of (u .next .totals) ≡ counted c (totals-of t)) (going-is : u .next .going ≡ not (ends c)) (bytes : Bytes tape) where
     turn-here : Turn tape tokens (g .lines) (g .addresses) (s .at) t c
@@ -295,15 +295,15 @@ module _ {tape tokens : List ℕ} {records : List LineRecord} {s : Laying} (k : 
         less true = omega (arith, turn-moves turn-here)
         less false = omega arith
 
-  module _ {u : Laid} {tokens′ : List ℕ} (l : Lays tape s line tokens tokens′ u) where
-    pub laid-line : s .line < 256 → u .next .line < 256
-    laid-line = line-by (l .command) (l .stands) (l .line-is) (l .tokens-are) (l .at-is) (l .place-is) (l .totals-are) (l .going-is) (l .bytes)
+  module _ {u : LoadStep} {tokens′ : List ℕ} (l : StepLoads tape s line tokens tokens′ u) where
+    pub step-loaded-line : s .line < 256 → u .next .line < 256
+    step-loaded-line = line-by (l .command) (l .stands) (l .line-is) (l .tokens-are) (l .at-is) (l .place-is) (l .totals-are) (l .going-is) (l .bytes)
 
-    pub laid-going : u .next .going ≡ true → Going tape tokens′ (set records (u .next .line) (u .line)) (u .next)
-    laid-going = going-by (l .command) (l .stands) (l .line-is) (l .tokens-are) (l .at-is) (l .place-is) (l .totals-are) (l .going-is) (l .bytes)
+    pub step-loaded-going : u .next .going ≡ true → Going tape tokens′ (set records (u .next .line) (u .line)) (u .next)
+    step-loaded-going = going-by (l .command) (l .stands) (l .line-is) (l .tokens-are) (l .at-is) (l .place-is) (l .totals-are) (l .going-is) (l .bytes)
 
-    pub laid-over : u .next .going ≡ false → Recorded tape tokens′ (set records (u .next .line) (u .line)) (u .next .totals)
-    laid-over = over-by (l .command) (l .stands) (l .line-is) (l .tokens-are) (l .at-is) (l .place-is) (l .totals-are) (l .going-is) (l .bytes)
+    pub step-loaded-over : u .next .going ≡ false → Recorded tape tokens′ (set records (u .next .line) (u .line)) (u .next .totals)
+    step-loaded-over = over-by (l .command) (l .stands) (l .line-is) (l .tokens-are) (l .at-is) (l .place-is) (l .totals-are) (l .going-is) (l .bytes)
 
-    pub laid-less : s .going ≡ true → left tape (u .next) < left tape s
-    laid-less = less-by (l .command) (l .stands) (l .line-is) (l .tokens-are) (l .at-is) (l .place-is) (l .totals-are) (l .going-is) (l .bytes)
+    pub step-loaded-less : s .going ≡ true → left tape (u .next) < left tape s
+    step-loaded-less = less-by (l .command) (l .stands) (l .line-is) (l .tokens-are) (l .at-is) (l .place-is) (l .totals-are) (l .going-is) (l .bytes)

@@ -185,12 +185,12 @@ module _ {B A : Type 0} (f : B → A) (g : A → List ℕ) (ws : List B) where
   abbrev pub next : ℕ → ℕ → List ℕ
   next k n = flatMap g (map f (take n (drop k ws)))
 
-  pub record Written (out₀ : List ℕ) (at₀ : ℕ) (out : List ℕ) (at k : ℕ) : Type 0 where
+  pub record LinesPut (out₀ : List ℕ) (at₀ : ℕ) (out : List ℕ) (at k : ℕ) : Type 0 where
     pub place : at + length (rest k) ≡ at₀ + length (rest 0)
     pub whole : put out at (rest k) ≡ put out₀ at₀ (rest 0)
     pub long : length out ≡ length out₀
 
-  pub written-begin : (out₀ : List ℕ) (at₀ : ℕ) → Written out₀ at₀ out₀ at₀ 0
+  pub written-begin : (out₀ : List ℕ) (at₀ : ℕ) → LinesPut out₀ at₀ out₀ at₀ 0
   written-begin out₀ at₀ = record { place = refl; whole = refl; long = refl }
 
   rest-next : (k n : ℕ) → rest k ≡ next k n ++ rest (k + n)
@@ -206,7 +206,7 @@ module _ {B A : Type 0} (f : B → A) (g : A → List ℕ) (ws : List B) where
   unfolding flatMap
   next-one d k h = rw (drop-cons ws k d, append-nil)
 
-module _ {B A : Type 0} {f : B → A} {g : A → List ℕ} {ws : List B} {out₀ : List ℕ} {at₀ : ℕ} {out : List ℕ} {at k : ℕ} (w : Written f g ws out₀ at₀ out at k) where
+module _ {B A : Type 0} {f : B → A} {g : A → List ℕ} {ws : List B} {out₀ : List ℕ} {at₀ : ℕ} {out : List ℕ} {at k : ℕ} (w : LinesPut f g ws out₀ at₀ out at k) where
   module _ (room : at₀ + length (rest f g ws 0) ≤ length out₀) where
     module _ (n : ℕ) where
       size-next : length (rest f g ws k) ≡ length (next f g ws k n) + length (rest f g ws (k + n))
@@ -215,7 +215,7 @@ module _ {B A : Type 0} {f : B → A} {g : A → List ℕ} {ws : List B} {out₀
       pub page-room : at + length (next f g ws k n) ≤ length out
       page-room = omega (arith, size-next, w .place, w .long)
 
-      pub page-more : {out′ : List ℕ} {at′ : ℕ} → Puts out at (next f g ws k n) out′ at′ → Written f g ws out₀ at₀ out′ at′ (k + n)
+      pub page-more : {out′ : List ℕ} {at′ : ℕ} → Puts out at (next f g ws k n) out′ at′ → LinesPut f g ws out₀ at₀ out′ at′ (k + n)
       page-more p =
           let bytes : List ℕ = next f g ws k n in
           let more : List ℕ = rest f g ws (k + n) in
@@ -230,7 +230,7 @@ module _ {B A : Type 0} {f : B → A} {g : A → List ℕ} {ws : List B} {out₀
       pub written-room : at + length (g (f (getD ws k d))) ≤ length out
       written-room = rw (next-one f g ws d k h) at (page-room 1)
 
-      pub written-more : {out′ : List ℕ} {at′ : ℕ} → Puts out at (g (f (getD ws k d))) out′ at′ → Written f g ws out₀ at₀ out′ at′ (k + 1)
+      pub written-more : {out′ : List ℕ} {at′ : ℕ} → Puts out at (g (f (getD ws k d))) out′ at′ → LinesPut f g ws out₀ at₀ out′ at′ (k + 1)
       written-more {out′} {at′} p = page-more 1 (rw (next-one f g ws d k h) p)
 
   pub written-end : length ws ≤ k → Puts out₀ at₀ (rest f g ws 0) out at

@@ -12,7 +12,7 @@ use Rattle.reference.specs.Tape.{TapeForm, old, header}
 use Rattle.reference.specs.Questions.{Totals, Answer, Refused, Passed, let-passed_then_, Advance, read-command-by, is-end, add, no-commands, read-by, add-marks, marks-in-by}
 use Rattle.reference.proofs.Reading.{refused-passed, by-passed, let-refused, let-is, PassesBy, command-passed-by, advances, reading-by, reading-step-by, ReachedBy, here, on, reading-of, AcceptsBy, accepted, marks-read}
 use Rattle.reference.proofs.Tapes.{kept}
-use Rattle.tape.specs.Questions.{Sizes, sizes-in, Accepted}
+use Rattle.tape.specs.Questions.{Sizes, sizes-in, AcceptedTape}
 
 -- the reading comes to this offset with these totals
 pub record ReadsBy (form : TapeForm) (tape : List ℕ) (at : ℕ) (t : Totals) : Type 0 where
@@ -69,7 +69,7 @@ module _ {form : TapeForm} {tape : List ℕ} {at : ℕ} {t : Totals} (r : ReadsB
   sizes-are = let k = kept tape (r .reached) in λ i. record { lines = k .lines i; tokens = k .tokens i; text = k .text i }
 
 -- on an accepted tape of the old form every command passes
-pub accepted-passes : {tape : List ℕ} {at : ℕ} {t : Totals} → ReadsBy old tape at t → Accepted tape → PassesBy old (drop at tape) t
+pub accepted-passes : {tape : List ℕ} {at : ℕ} {t : Totals} → ReadsBy old tape at t → AcceptedTape tape → PassesBy old (drop at tape) t
 accepted-passes {tape} {at} {t} r k =
     by-passed (λ (x : Answer Listing). x ≡ Passed (k .listing) → PassesBy old (drop at tape) t)
     (λ number place u e. absurd (refused-passed e))
@@ -109,5 +109,5 @@ module _ (tape : List ℕ) where
   pub refused-by : {n p : ℕ} → Refused n p ≡ Verdict-by old tape → read-by old tape ≡ Refused n p
   refused-by = refused-verdict old tape
 
-  pub accepted-by : {t : Sizes} → Passed t ≡ Verdict-by old tape → Accepted tape
+  pub accepted-by : {t : Sizes} → Passed t ≡ Verdict-by old tape → AcceptedTape tape
   accepted-by e = let k = passed-verdict old tape e in record { listing = k .0; reads = k .1 }

@@ -10,6 +10,10 @@ use borrow.Author.Needs.{needs}
 use Rattle.build.proofs.append.extend_last.Statement.{statement}
 use Rattle.build.proofs.append.extend_last.Tie as tie
 
+-- Steps back to an earlier point of the function, each counted once.
+abbrev before-slice-known4 : tie.After-slice-known4 → tie.Start
+before-slice-known4 c = c .before .before .before .before .before .before .before .before .before
+
 sub-n : tie.Need-sub-n
 sub-n c = search needs
 
@@ -36,8 +40,8 @@ add-token-word c = search needs
 
 token-word-requires : tie.Need-token-word-requires
 token-word-requires c κs =
-    let a = c .before .before .before .before .before .before .before .before .before .before .before .before .args in
-    let p = c .before .before .before .before .before .before .before .before .before .before .before .before .pre in
+    let a = before-slice-known4 (c .before .before .before) .args in
+    let p = before-slice-known4 (c .before .before .before) .pre in
     let w = getD (a .tokens .now) (a .size .tokens - 1) 0 in omega (arith, kind-below w, start-below w, c .before .before .kind .ensures, c .before .start .ensures, c .len .ensures, p .1 .short, p .3)
 
 mul-tokens : tie.Need-mul-tokens
@@ -60,8 +64,8 @@ same-length-2 c = search needs
 
 returns : tie.Need-returns
 returns c =
-    let a = c .before .before .before .before .before .before .before .before .before .before .before .before .before .args in
-    let p = c .before .before .before .before .before .before .before .before .before .before .before .before .before .pre in
+    let a = before-slice-known4 (c .before .before .before .before) .args in
+    let p = before-slice-known4 (c .before .before .before .before) .pre in
     let kind = c .before .before .before .kind in
     let copy-bytes = c .before .before .before .before .before .before .copy-bytes in
     let n = a .size .tokens - 1 in

@@ -4,6 +4,10 @@ use borrow.Author.Needs.{needs}
 use Rattle.build.proofs.fold.fold_last.Statement.{statement}
 use Rattle.build.proofs.fold.fold_last.Tie as tie
 
+-- Steps back to an earlier point of the function, each counted once.
+abbrev before-tokens : tie.After-tokens → tie.Start
+before-tokens c = c .before .before .before .before .before .before .before .before .before
+
 mul-fold : tie.Need-mul-fold
 mul-fold c = search needs
 
@@ -32,7 +36,7 @@ same-length-2 c = search needs
 
 returns : tie.Need-returns
 returns c =
-    let p = c .before .before .before .before .before .before .before .before .before .before .before .pre in
+    let p = before-tokens (c .before .before) .pre in
     let fold = c .before .before .before .before .before .fold in
     folded-last (p .0) _ (fold .ensures) (fold .kept .1 .0) (fold .kept .1 .1 .0) (p .1)
 

@@ -8,6 +8,10 @@ use borrow.Author.Needs.{needs}
 use Rattle.build.proofs.fold.fold_step.Statement.{statement}
 use Rattle.build.proofs.fold.fold_step.Tie as tie
 
+-- Steps back to an earlier point of the function, each counted once.
+abbrev before-known-told : tie.After-known-told → tie.Start
+before-known-told c = c .before .before .before .before .before .before .before .before .before
+
 fold-value-requires : tie.Need-fold-value-requires
 fold-value-requires c κs =
     let p = c .before .before .before .before .before .pre in
@@ -18,8 +22,8 @@ enum-known-v c = search needs
 
 put-number-requires : tie.Need-put-number-requires
 put-number-requires c κs =
-    let p = c .before .before .before .before .before .before .before .before .before .before .pre in
-    let n = c .before .before .before .before .before .before .before .before .before .before .args .edition in
+    let p = before-known-told (c .before) .pre in
+    let n = before-known-told (c .before) .args .edition in
     let v = c .before .before .v in
     let fold-value = c .before .before .before .before .fold-value in
     fold-room (p .0) n (next-some (p .0) n (ap meaning (v .given .1)) (read-back (v .given .0 .0) (c .before .known-told .given .0 .1)) (fold-value .ensures))
@@ -32,8 +36,8 @@ sub-token-word c = search needs
 
 token-word-requires : tie.Need-token-word-requires
 token-word-requires c κs =
-    let p = c .before .before .before .before .before .before .before .before .before .before .before .before .before .pre in
-    let n = c .before .before .before .before .before .before .before .before .before .before .before .before .before .args .edition in
+    let p = before-known-told (c .before .before .before .before) .pre in
+    let n = before-known-told (c .before .before .before .before) .args .edition in
     let v = c .before .before .before .before .before .v in
     let known-told = c .before .before .before .before .known-told in
     let fold-value = c .before .before .before .before .before .before .before .fold-value in
@@ -46,8 +50,8 @@ mul-line c = search needs
 
 slice-write-line : tie.Need-slice-write-line
 slice-write-line c =
-    let p = c .before .before .before .before .before .before .before .before .before .before .before .before .before .before .pre in
-    let n = c .before .before .before .before .before .before .before .before .before .before .before .before .before .before .args .edition in
+    let p = before-known-told (c .before .before .before .before .before) .pre in
+    let n = before-known-told (c .before .before .before .before .before) .args .edition in
     let v = c .before .before .before .before .before .before .v in
     let known-told = c .before .before .before .before .before .known-told in
     let fold-value = c .before .before .before .before .before .before .before .before .fold-value in
@@ -82,8 +86,8 @@ same-length-2 c = search needs
 
 returns : tie.Need-returns
 returns c =
-    let p = c .before .before .before .before .before .before .before .before .before .before .before .before .before .before .pre in
-    let n = c .before .before .before .before .before .before .before .before .before .before .before .before .before .before .args .edition in
+    let p = before-known-told (c .before .before .before .before .before) .pre in
+    let n = before-known-told (c .before .before .before .before .before) .args .edition in
     let v = c .before .before .before .before .before .before .v in
     let known-told = c .before .before .before .before .before .known-told in
     let fold-value = c .before .before .before .before .before .before .before .before .fold-value in

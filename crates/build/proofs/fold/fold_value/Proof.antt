@@ -9,6 +9,10 @@ use borrow.Author.Needs.{needs}
 use Rattle.build.proofs.fold.fold_value.Statement.{statement}
 use Rattle.build.proofs.fold.fold_value.Tie as tie
 
+-- Steps back to an earlier point of the function, each counted once.
+abbrev before-shared-slice-known4 : tie.After-shared-slice-known4 → tie.Start
+before-shared-slice-known4 c = c .before .before .before .before .before .before .before .before .before
+
 sub-if1 : tie.Need-sub-if1
 sub-if1 c = search needs
 
@@ -66,8 +70,8 @@ shared-slice-read-sum-of-3 c = search needs
 
 sum-of-requires : tie.Need-sum-of-requires
 sum-of-requires c κs =
-    let pre = c .before .before .before .before .before .before .before .before .before .before .before .pre in
-    let a = c .before .before .before .before .before .before .before .before .before .before .before .args in
+    let pre = before-shared-slice-known4 (c .before .before) .pre in
+    let a = before-shared-slice-known4 (c .before .before) .args in
     let p = pre .3 in
     let n = a .next in
     let l = a .line .now in
@@ -75,7 +79,7 @@ sum-of-requires c κs =
 
 returns-4 : tie.Need-returns-4
 returns-4 c =
-    let a = c .before .before .before .before .before .before .before .before .before .before .before .before .args in
+    let a = before-shared-slice-known4 (c .before .before .before) .args in
     let delimited-before = c .before .before .before .before .before .before .before .delimited-before in
     let if2 = c .before .before .before .before .before .before .if2 in
     let delimited-after = c .before .before .before .before .before .delimited-after in

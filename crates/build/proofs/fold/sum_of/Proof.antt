@@ -9,6 +9,19 @@ use borrow.Author.Needs.{needs}
 use Rattle.build.proofs.fold.sum_of.Statement.{statement}
 use Rattle.build.proofs.fold.sum_of.Tie as tie
 
+-- Steps back to an earlier point of the function, each counted once.
+abbrev before-kind : tie.After-kind → tie.Start
+before-kind c = c .before .before .before
+
+abbrev before-else1 : tie.Else1 → tie.After-kind
+before-else1 c = c .before
+
+abbrev before-kind2 : tie.After-kind2 → tie.Else1
+before-kind2 c = c .before
+
+abbrev before-read-number2 : tie.After-read-number2 → tie.After-kind2
+before-read-number2 c = c .before .before .before .before .before .before .before .before .before
+
 kind-requires : tie.Need-kind-requires
 kind-requires c κs = search needs
 
@@ -22,7 +35,7 @@ kind-requires-2 c κs = search needs
 
 returns-2 : tie.Need-returns-2
 returns-2 c =
-    let args = c .before .before .before .before .before .before .args in
+    let args = before-kind (before-else1 (before-kind2 (c .before))) .args in
     let kind = c .before .before .before .kind in
     let t = args .tape .now in
     let a = args .area .now in
@@ -36,8 +49,8 @@ is-sign-requires c κs = search needs
 
 returns-3 : tie.Need-returns-3
 returns-3 c =
-    let args = c .before .before .before .before .before .before .before .before .before .args in
-    let kind = c .before .before .before .before .before .before .kind in
+    let args = before-kind (before-else1 (before-kind2 (c .before .before .before .before))) .args in
+    let kind = before-else1 (before-kind2 (c .before .before .before .before)) .kind in
     let if1 = c .before .before .before .before .before .if1 in
     let kind2 = c .before .before .before .before .kind2 in
     let if2 = c .before .before .before .if2 in
@@ -65,14 +78,14 @@ operate-requires c κs = search needs
 
 returns-4 : tie.Need-returns-4
 returns-4 c =
-    let args = c .before .before .before .before .before .before .before .before .before .before .before .before .before .before .before .args in
+    let args = before-kind (before-else1 (before-kind2 (before-read-number2 (c .before)))) .args in
     let is-plus = c .before .before .before .before .before .is-plus in
     let read-number = c .before .before .before .read-number in
     let text = c .before .before .before .before .before .before .before .before .text in
     let text2 = c .before .before .before .before .text2 in
-    let kind = c .before .before .before .before .before .before .before .before .before .before .before .before .kind in
-    let if1 = c .before .before .before .before .before .before .before .before .before .before .before .if1 in
-    let kind2 = c .before .before .before .before .before .before .before .before .before .before .kind2 in
+    let kind = before-else1 (before-kind2 (before-read-number2 (c .before))) .kind in
+    let if1 = before-kind2 (before-read-number2 (c .before)) .if1 in
+    let kind2 = before-read-number2 (c .before) .kind2 in
     let if2 = c .before .before .before .before .before .before .before .before .before .if2 in
     let is-sign = c .before .before .before .before .before .before .before .is-sign in
     let if3 = c .before .before .before .before .before .before .if3 in

@@ -6,6 +6,10 @@ use borrow.Author.Needs.{needs}
 use Rattle.build.proofs.line.keep_line.Statement.{statement}
 use Rattle.build.proofs.line.keep_line.Tie as tie
 
+-- Steps back to an earlier point of the function, each counted once.
+abbrev before-keep-tokens : tie.After-keep-tokens → tie.Start
+before-keep-tokens c = c .before .before .before .before .before .before .before .before .before
+
 line-of-requires : tie.Need-line-of-requires
 line-of-requires c κs = search needs
 
@@ -19,8 +23,8 @@ sub-count c = search needs
 
 with-tokens-requires : tie.Need-with-tokens-requires
 with-tokens-requires c κs =
-    let p = c .before .before .before .before .before .before .before .before .before .before .before .before .before .before .pre in
-    let a = c .before .before .before .before .before .before .before .before .before .before .before .before .before .before .args in
+    let p = before-keep-tokens (c .before .before .before .before .before) .pre in
+    let a = before-keep-tokens (c .before .before .before .before .before) .args in
     let line-of = c .before .before .before .before .before .before .before .before .line-of in
     let keep-tokens = c .before .before .before .before .before .keep-tokens in
     (p .first-fits, omega (arith, count-below (a .l), part-length (p .lined), (rw (line-of .ensures) at (keep-tokens .ensures)) .words-most))
@@ -33,7 +37,7 @@ same-length-2 c = search needs
 
 returns : tie.Need-returns
 returns c =
-    let p = c .before .before .before .before .before .before .before .before .before .before .before .before .before .before .before .pre in
+    let p = before-keep-tokens (c .before .before .before .before .before .before) .pre in
     let line-of = c .before .before .before .before .before .before .before .before .before .line-of in
     let keep-tokens = c .before .before .before .before .before .before .keep-tokens in
     added-kept (p .lined) (p .first-fits) (c .with-tokens .ensures) (rw (line-of .ensures) at (keep-tokens .ensures))

@@ -6,24 +6,28 @@ use lib.ListN.{length, take}
 use lib.Seq.{take-all}
 use Rattle.reference.specs.Claim.{text-in}
 use Rattle.lines.specs.Words.{tokens-of}
-use Rattle.build.specs.State.{Laid}
-use Rattle.build.proofs.Laying.{laid-none, laid-kept, laid-next, room-next}
+use Rattle.build.specs.State.{LineAdded}
+use Rattle.build.proofs.LineAdding.{line-added-none, line-added-kept, line-added-next, room-next}
 use borrow.Author.Needs.{needs}
 use Rattle.build.proofs.line.keep_tokens.Statement.{statement}
 use Rattle.build.proofs.line.keep_tokens.Tie as tie
 
 abbrev Inv-loop : tie.InvT-loop
 Inv-loop tape old line area₀ tokens₀ s₀ k₀ area tokens s k = (k ≤ length line) × (length area ≡ length area₀) × (length tokens ≡ length tokens₀)
-    × Laid tape area₀ tokens₀ s₀ (tokens-of tape old (take k line)) (text-in (tokens-of tape old (take k line))) k area tokens s
+    × LineAdded tape area₀ tokens₀ s₀ (tokens-of tape old (take k line)) (text-in (tokens-of tape old (take k line))) k area tokens s
 
 abbrev μ-loop : tie.MeasureT-loop
 μ-loop tape old line area₀ tokens₀ s₀ k₀ area tokens s k = length line - k
+
+-- Steps back to an earlier point of the function, each counted once.
+abbrev before-keep-arg : tie.After-keep-arg Inv-loop μ-loop → tie.Start Inv-loop μ-loop
+before-keep-arg c = c .before .before .before .before .before .before .before .before .before
 
 loop-holds : tie.Need-loop-holds Inv-loop μ-loop
 loop-holds c =
     let a = c .before .before .before .before .before .args in
     let p = c .before .before .before .before .before .pre in
-    (omega arith, refl, refl, laid-none (a .tape .now) (p .1))
+    (omega arith, refl, refl, line-added-none (a .tape .now) (p .1))
 
 mul-keep : tie.Need-mul-keep Inv-loop μ-loop
 mul-keep c = search needs
@@ -33,9 +37,9 @@ shared-slice-read-keep c = search needs
 
 keep-requires : tie.Need-keep-requires Inv-loop μ-loop
 keep-requires c κs =
-    let a = c .before .before .before .before .before .before .before .before .before .before .args in
+    let a = before-keep-arg (c .before) .args in
     let l = c .before .before .before .before .loop in
-    let pre = c .before .before .before .before .before .before .before .before .before .before .pre in
+    let pre = before-keep-arg (c .before) .pre in
     let loop-test = c .before .before .before .loop-test in
     let i = l .inv in
     let p = pre .0 .at (l .k) (loop-test .taken) in
@@ -49,9 +53,9 @@ loop-less c = search needs
 
 loop-again : tie.Need-loop-again Inv-loop μ-loop
 loop-again c =
-    let a = c .before .before .before .before .before .before .before .before .before .before .before .before .before .before .before .args in
+    let a = before-keep-arg (c .before .before .before .before .before .before) .args in
     let l = c .before .before .before .before .before .before .before .before .before .loop in
-    let pre = c .before .before .before .before .before .before .before .before .before .before .before .before .before .before .before .pre in
+    let pre = before-keep-arg (c .before .before .before .before .before .before) .pre in
     let loop-test = c .before .before .before .before .before .before .before .before .loop-test in
     let keep = c .before .before .before .before .keep in
     let i = l .inv in
@@ -60,7 +64,7 @@ loop-again c =
       omega arith,
       keep .kept .1 .1 .1 .0 ∙ i .1,
       keep .kept .1 .1 .1 .1 .0 ∙ i .2,
-      laid-next (a .tape .now) (a .old .now) (a .line .now) (l .k) (loop-test .taken) p (laid-kept (i .3) (keep .ensures) (keep .kept .1 .1 .1 .0) (keep .kept .1 .1 .1 .1 .0) r),
+      line-added-next (a .tape .now) (a .old .now) (a .line .now) (l .k) (loop-test .taken) p (line-added-kept (i .3) (keep .ensures) (keep .kept .1 .1 .1 .0) (keep .kept .1 .1 .1 .1 .0) r),
     )
 
 same-length : tie.Need-same-length Inv-loop μ-loop

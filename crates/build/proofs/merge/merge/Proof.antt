@@ -7,7 +7,7 @@ use lib.Seq.{take-all}
 use Rattle.build.specs.State.{Pushed}
 use Rattle.build.specs.Substitution.{substituted}
 use Rattle.build.proofs.Pushes.{pushed-then, ready-then}
-use Rattle.build.proofs.Substituting.{substituted-split, substituted-more, merge-begin, laid-merged}
+use Rattle.build.proofs.Substituting.{substituted-split, substituted-more, merge-begin, line-added-merged}
 use borrow.Author.Needs.{needs}
 use Rattle.build.proofs.merge.merge.Statement.{statement}
 use Rattle.build.proofs.merge.merge.Tie as tie
@@ -18,6 +18,10 @@ Inv-loop tape old source line j area₀ tokens₀ from s₀ k₀ area tokens s k
 
 abbrev μ-loop : tie.MeasureT-loop
 μ-loop tape old source line j area₀ tokens₀ from s₀ k₀ area tokens s k = length line - k
+
+-- Steps back to an earlier point of the function, each counted once.
+abbrev before-shared-slice-known5 : tie.After-shared-slice-known5 Inv-loop μ-loop → tie.Start Inv-loop μ-loop
+before-shared-slice-known5 c = c .before .before .before .before .before .before .before .before .before
 
 loop-holds : tie.Need-loop-holds Inv-loop μ-loop
 loop-holds c =
@@ -33,9 +37,9 @@ shared-slice-read-push-used c = search needs
 
 push-used-requires : tie.Need-push-used-requires Inv-loop μ-loop
 push-used-requires c κs =
-    let a = c .before .before .before .before .before .before .before .before .before .before .before .args in
+    let a = before-shared-slice-known5 (c .before .before) .args in
     let l = c .before .before .before .before .loop in
-    let p = c .before .before .before .before .before .before .before .before .before .before .before .pre in
+    let p = before-shared-slice-known5 (c .before .before) .pre in
     let loop-test = c .before .before .before .loop-test in
     let i = l .inv in (
       p .0,
@@ -52,7 +56,7 @@ loop-less c = search needs
 
 loop-again : tie.Need-loop-again Inv-loop μ-loop
 loop-again c =
-    let a = c .before .before .before .before .before .before .before .before .before .before .before .before .before .before .before .before .args in
+    let a = before-shared-slice-known5 (c .before .before .before .before .before .before .before) .args in
     let l = c .before .before .before .before .before .before .before .before .before .loop in
     let push-used = c .before .before .before .before .push-used in
     let loop-test = c .before .before .before .before .before .before .before .before .loop-test in
@@ -73,7 +77,7 @@ same-length-2 c = c .before .loop .inv .3
 returns : tie.Need-returns Inv-loop μ-loop
 returns c =
     let a = c .before .before .before .before .before .before .before .before .args in
-    laid-merged (rw (take-all (c .before .loop .k) (a .line .now) (c .loop-test .left)) at (c .before .loop .inv .4))
+    line-added-merged (rw (take-all (c .before .loop .k) (a .line .now) (c .loop-test .left)) at (c .before .loop .inv .4))
 
 pub merge-spec : {M : Type 1} → statement M
 merge-spec =

@@ -15,6 +15,13 @@ use borrow.Author.Needs.{needs}
 use Rattle.build.proofs.merge.push.Statement.{statement}
 use Rattle.build.proofs.merge.push.Tie as tie
 
+-- Steps back to an earlier point of the function, each counted once.
+abbrev before-kind : tie.After-kind → tie.Start
+before-kind c = c .before .before .before .before .before
+
+abbrev before-tokens : tie.After-tokens → tie.After-kind
+before-tokens c = c .before .before .before .before .before .before .before .before .before
+
 kind-requires : tie.Need-kind-requires
 kind-requires c κs = search needs
 
@@ -29,8 +36,8 @@ push-text-requires c κs =
     let is-joined = c .before .before .before .before .is-joined in
     let if1 = c .before .before .before .if1 in
     let kind = c .before .before .before .before .before .kind in
-    let a = c .before .before .before .before .before .before .before .before .before .before .args in
-    let p = c .before .before .before .before .before .before .before .before .before .before .pre in (
+    let a = before-kind (c .before .before .before .before .before) .args in
+    let p = before-kind (c .before .before .before .before .before) .pre in (
       sym (is-joined .ensures) ∙ if1 .taken,
       omega (arith, kind .ensures, kind-below (a .w)),
       p .1 .extendable,
@@ -45,16 +52,19 @@ same-length-2 c = search needs
 
 returns : tie.Need-returns
 returns c =
-    let kind = c .before .before .before .before .before .before .before .before .before .before .kind in
+    let at-tokens = c .before in
+    let at-kind = at-tokens .before .before .before .before .before .before .before .before .before in
+    let s = at-kind .before .before .before .before .before in
+    let kind = at-kind .kind in
     let text = c .before .before .before .before .before .before .before .text in
     let push-text = c .before .before .before .before .push-text in
-    let a = c .before .before .before .before .before .before .before .before .before .before .before .before .before .before .before .args in
-    let p = c .before .before .before .before .before .before .before .before .before .before .before .before .before .before .before .pre in
+    let a = s .args in
+    let p = s .pre in
     rw (kind .ensures, text .ensures) at (push-text .ensures (a .tape .now) (p .1 .built))
 
 keep-requires : tie.Need-keep-requires
 keep-requires c κs =
-    let p = c .before .before .before .before .before .before .before .before .before .pre in
+    let p = before-kind (c .before .before .before .before) .pre in
     (p .0, room-within (omega (arith, text-length (p .0))) (le-refl _) (p .1 .room))
 
 same-length-3 : tie.Need-same-length-3
@@ -65,8 +75,8 @@ same-length-4 c = search needs
 
 returns-2 : tie.Need-returns-2
 returns-2 c =
-    let p = c .before .before .before .before .before .before .before .before .before .before .before .before .before .before .pre in
-    let a = c .before .before .before .before .before .before .before .before .before .before .before .before .before .before .args in
+    let p = before-kind (c .before .before .before .before .before .before .before .before .before) .pre in
+    let a = before-kind (c .before .before .before .before .before .before .before .before .before) .args in
     let is-joined = c .before .before .before .before .before .before .before .before .is-joined in
     let kind = c .before .before .before .before .before .before .before .before .before .kind in
     let if1 = c .before .before .before .before .before .before .before .if1 in

@@ -20,6 +20,10 @@ Inv-loop tape old source x area₀ tokens₀ from n s₀ k₀ area tokens s k = 
 abbrev μ-loop : tie.MeasureT-loop
 μ-loop tape old source x area₀ tokens₀ from n s₀ k₀ area tokens s k = n - k
 
+-- Steps back to an earlier point of the function, each counted once.
+abbrev before-push-arg : tie.After-push-arg Inv-loop μ-loop → tie.Start Inv-loop μ-loop
+before-push-arg c = c .before .before .before .before .before .before .before .before .before
+
 loop-holds : tie.Need-loop-holds Inv-loop μ-loop
 loop-holds c =
     let p = c .before .before .before .before .before .pre in
@@ -30,9 +34,9 @@ expr-word-requires c κs = search needs
 
 push-requires : tie.Need-push-requires Inv-loop μ-loop
 push-requires c κs =
-    let a = c .before .before .before .before .before .before .before .before .before .before .args in
+    let a = before-push-arg (c .before) .args in
     let l = c .before .before .before .before .loop in
-    let p = c .before .before .before .before .before .before .before .before .before .before .pre in
+    let p = before-push-arg (c .before) .pre in
     let expr-word = c .before .before .expr-word in
     let i = l .inv in
     let ws = expr-words (a .source .now) (a .x) in
@@ -49,9 +53,9 @@ loop-less c = search needs
 
 loop-again : tie.Need-loop-again Inv-loop μ-loop
 loop-again c =
-    let a = c .before .before .before .before .before .before .before .before .before .before .before .before .before .before .before .args in
+    let a = before-push-arg (c .before .before .before .before .before .before) .args in
     let l = c .before .before .before .before .before .before .before .before .before .loop in
-    let p = c .before .before .before .before .before .before .before .before .before .before .before .before .before .before .before .pre in
+    let p = before-push-arg (c .before .before .before .before .before .before) .pre in
     let push = c .before .before .before .before .push in
     let expr-word = c .before .before .before .before .before .before .before .expr-word in
     let i = l .inv in

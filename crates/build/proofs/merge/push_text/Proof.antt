@@ -10,6 +10,13 @@ use borrow.Author.Needs.{needs}
 use Rattle.build.proofs.merge.push_text.Statement.{statement}
 use Rattle.build.proofs.merge.push_text.Tie as tie
 
+-- Steps back to an earlier point of the function, each counted once.
+abbrev before-extend-last : tie.After-extend-last → tie.Start
+before-extend-last c = c .before .before .before .before .before .before .before .before .before
+
+abbrev before-add-text : tie.After-add-text → tie.Start
+before-add-text c = c .before .before .before .before .before .before .before .before .before
+
 extends-requires : tie.Need-extends-requires
 extends-requires c κs = search needs
 
@@ -28,11 +35,11 @@ same-length-2 c = search needs
 
 returns : tie.Need-returns
 returns c =
-    let p = c .before .before .before .before .before .before .before .before .before .before .before .before .before .pre in
+    let p = before-extend-last (c .before .before .before .before) .pre in
     let extends = c .before .before .before .before .before .before .before .before .extends in
     let if1 = c .before .before .before .before .before .before .before .if1 in
     let extend-last = c .before .before .before .before .extend-last in
-    let a = c .before .before .before .before .before .before .before .before .before .before .before .before .before .args in
+    let a = before-extend-last (c .before .before .before .before) .args in
     let l = extendable-last (p .0) (p .2) (sym (extends .ensures) ∙ if1 .taken) in
     λ tape b.
     pushed-joined b (extend-last .kept .1 .0) (extend-last .kept .1 .1 .0) (p .3 .text-fits) (le-refl _) (extend-last .ensures .0 tape) (l .0) (extend-last .ensures .1)
@@ -50,8 +57,8 @@ same-length-4 c = search needs
 returns-2 : tie.Need-returns-2
 returns-2 c =
     let add-text = c .before .before .before .before .add-text in
-    let p = c .before .before .before .before .before .before .before .before .before .before .before .before .before .pre in
-    let a = c .before .before .before .before .before .before .before .before .before .before .before .before .before .args in
+    let p = before-add-text (c .before .before .before .before) .pre in
+    let a = before-add-text (c .before .before .before .before) .args in
     let extends = c .before .before .before .before .before .before .before .before .extends in
     let if1 = c .before .before .before .before .before .before .before .if1 in
     λ tape b.

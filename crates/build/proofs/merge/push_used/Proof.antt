@@ -5,13 +5,23 @@ use borrow.Author.Needs.{needs}
 use Rattle.build.proofs.merge.push_used.Statement.{statement}
 use Rattle.build.proofs.merge.push_used.Tie as tie
 
+-- Steps back to an earlier point of the function, each counted once.
+abbrev before-push-arg : tie.After-push-arg → tie.Start
+before-push-arg c = c .before .before .before .before .before .before .before .before .before
+
+abbrev before-then2 : tie.Then2 → tie.Start
+before-then2 c = c .before .before .before .before .before .before .before .before .before
+
+abbrev before-else2 : tie.Else2 → tie.Start
+before-else2 c = c .before .before .before .before .before .before .before .before .before
+
 is-of-requires : tie.Need-is-of-requires
 is-of-requires c κs = search needs
 
 push-requires : tie.Need-push-requires
 push-requires c κs =
-    let p = c .before .before .before .before .before .before .before .before .before .before .pre in
-    let a = c .before .before .before .before .before .before .before .before .before .before .args in
+    let p = before-push-arg (c .before) .pre in
+    let a = before-push-arg (c .before) .args in
     let is-of = c .before .before .before .is-of in
     (p .1, rw (used-kept (a .tape .now) (a .old .now) (a .source .now) (a .j) (a .w) (is-of .ensures) (not-true _ (c .before .before .if1 .taken))) at (p .2))
 
@@ -23,7 +33,7 @@ same-length-2 c = search needs
 
 returns : tie.Need-returns
 returns c =
-    let a = c .before .before .before .before .before .before .before .before .before .before .before .before .before .before .before .args in
+    let a = before-push-arg (c .before .before .before .before .before .before) .args in
     let is-of = c .before .before .before .before .before .before .before .before .is-of in
     let if1 = c .before .before .before .before .before .before .before .if1 in
     let push = c .before .before .before .before .push in
@@ -31,8 +41,8 @@ returns c =
 
 push-bracketed-requires : tie.Need-push-bracketed-requires
 push-bracketed-requires c κs =
-    let p = c .before .before .before .before .before .before .before .before .before .before .before .pre in
-    let a = c .before .before .before .before .before .before .before .before .before .before .before .args in
+    let p = before-then2 (c .before .before) .pre in
+    let a = before-then2 (c .before .before) .args in
     let is-of = c .before .before .before .before .is-of in
     let if1 = c .before .before .before .if1 in (
       p .0 .holds,
@@ -48,7 +58,7 @@ same-length-4 c = search needs
 
 returns-2 : tie.Need-returns-2
 returns-2 c =
-    let a = c .before .before .before .before .before .before .before .before .before .before .before .before .before .before .before .before .args in
+    let a = before-then2 (c .before .before .before .before .before .before .before) .args in
     let is-of = c .before .before .before .before .before .before .before .before .before .is-of in
     let if1 = c .before .before .before .before .before .before .before .before .if1 in
     let if2 = c .before .before .before .before .before .before .before .if2 in
@@ -57,8 +67,8 @@ returns-2 c =
 
 push-expr-requires : tie.Need-push-expr-requires
 push-expr-requires c κs =
-    let p = c .before .before .before .before .before .before .before .before .before .before .before .pre in
-    let a = c .before .before .before .before .before .before .before .before .before .before .before .args in
+    let p = before-else2 (c .before .before) .pre in
+    let a = before-else2 (c .before .before) .args in
     let is-of = c .before .before .before .before .is-of in
     let if1 = c .before .before .before .if1 in (
       p .0 .holds,
@@ -74,7 +84,7 @@ same-length-6 c = search needs
 
 returns-3 : tie.Need-returns-3
 returns-3 c =
-    let a = c .before .before .before .before .before .before .before .before .before .before .before .before .before .before .before .before .args in
+    let a = before-else2 (c .before .before .before .before .before .before .before) .args in
     let is-of = c .before .before .before .before .before .before .before .before .before .is-of in
     let if1 = c .before .before .before .before .before .before .before .before .if1 in
     let if2 = c .before .before .before .before .before .before .before .if2 in

@@ -5,6 +5,10 @@ use Rattle.clean.proofs.Running.{front-length, front-fits, wiped}
 use Rattle.clean.proofs.cleaning.finish.Statement.{statement}
 use Rattle.clean.proofs.cleaning.finish.Tie as tie
 
+-- Steps back to an earlier point of the function, each counted once.
+abbrev before-work-a2 : tie.After-work-a2 → tie.After-written
+before-work-a2 c = c .before .before .before .before .before .before .before .before .before
+
 work-bytes-requires : tie.Need-work-bytes-requires
 work-bytes-requires c κs = search needs
 
@@ -47,7 +51,7 @@ same-length-3 c = search needs
 
 returns : tie.Need-returns
 returns c = λ input e.
-    (let w = c .before .before .before .before .before .before .before .before .before .before .before .before .before .before in
+    (let w = before-work-a2 (c .before .before .before .before .before) in
     let s = w .before .before .before .before .before .before .before .before .before in
     let u = w .before .before .before .before .work-bytes .ensures in
     record {

@@ -5,6 +5,13 @@ use Rattle.clean.proofs.Running.{enough-words}
 use Rattle.clean.proofs.cleaning.optimized.Statement.{statement}
 use Rattle.clean.proofs.cleaning.optimized.Tie as tie
 
+-- Steps back to an earlier point of the function, each counted once.
+abbrev before-optimize-arg2 : tie.After-optimize-arg2 → tie.Start
+before-optimize-arg2 c = c .before .before .before .before .before .before .before .before .before
+
+abbrev before-tokens22 : tie.After-tokens22 → tie.After-optimize
+before-tokens22 c = c .before .before .before .before .before .before .before .before .before
+
 slice-aggregate-optimize : tie.Need-slice-aggregate-optimize
 slice-aggregate-optimize c = refl
 
@@ -19,7 +26,7 @@ slice-aggregate-optimize-4 c = refl
 
 optimize-requires : tie.Need-optimize-requires
 optimize-requires c κs =
-    let p = c .before .before .before .before .before .before .before .before .before .before .before .before .before .before .before .before .before .pre in
+    let p = before-optimize-arg2 (c .before .before .before .before .before .before .before .before) .pre in
     record {
       current = p .current;
       limits = p .limits;
@@ -39,25 +46,25 @@ optimize-requires c κs =
     }
 
 same-length : tie.Need-same-length
-same-length c = c .before .before .before .before .before .before .before .before .before .before .before .before .before .before .before .before .optimize .kept .1 .0
+same-length c = before-tokens22 (c .before .before .before .before .before .before .before) .optimize .kept .1 .0
 
 same-length-2 : tie.Need-same-length-2
-same-length-2 c = c .before .before .before .before .before .before .before .before .before .before .before .before .before .before .before .before .optimize .kept .1 .1 .0
+same-length-2 c = before-tokens22 (c .before .before .before .before .before .before .before) .optimize .kept .1 .1 .0
 
 same-length-3 : tie.Need-same-length-3
-same-length-3 c = c .before .before .before .before .before .before .before .before .before .before .before .before .before .before .before .before .optimize .kept .1 .1 .1 .0
+same-length-3 c = before-tokens22 (c .before .before .before .before .before .before .before) .optimize .kept .1 .1 .1 .0
 
 same-length-4 : tie.Need-same-length-4
-same-length-4 c = c .before .before .before .before .before .before .before .before .before .before .before .before .before .before .before .before .optimize .kept .1 .1 .1 .1 .0
+same-length-4 c = before-tokens22 (c .before .before .before .before .before .before .before) .optimize .kept .1 .1 .1 .1 .0
 
 same-length-5 : tie.Need-same-length-5
-same-length-5 c = c .before .before .before .before .before .before .before .before .before .before .before .before .before .before .before .before .optimize .kept .1 .1 .1 .1 .1 .1 .0
+same-length-5 c = before-tokens22 (c .before .before .before .before .before .before .before) .optimize .kept .1 .1 .1 .1 .1 .1 .0
 
 same-length-6 : tie.Need-same-length-6
-same-length-6 c = c .before .before .before .before .before .before .before .before .before .before .before .before .before .before .before .before .optimize .kept .1 .1 .1 .1 .1 .1 .1 .0
+same-length-6 c = before-tokens22 (c .before .before .before .before .before .before .before) .optimize .kept .1 .1 .1 .1 .1 .1 .1 .0
 
 returns : tie.Need-returns
-returns c = c .before .before .before .before .before .before .before .before .before .before .before .before .before .before .before .before .optimize .ensures
+returns c = before-tokens22 (c .before .before .before .before .before .before .before) .optimize .ensures
 
 pub optimized-spec : {M : Type 1} → statement M
 optimized-spec =

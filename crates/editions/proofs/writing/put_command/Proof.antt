@@ -120,9 +120,12 @@ same-length-5 : tie.Need-same-length-5
 same-length-5 c = search needs
 
 returns-5 : tie.Need-returns-5
-returns-5 c = let a = c .before .before .before .before .before .before .before .before .before .before .args in
+returns-5 c =
+    let p0 = c .before in
+    let p1 = p0 .before .before .before .before .before .before .before .before .before in
+    let a = p1 .args in
     let w = c .before .before .before .before .before .before .command .given in
-    let l = rw (w .1) at (c .before .before .before .before .before .before .before .before .before .before .pre) in
+    let l = rw (w .1) at (p1 .pre) in
     let other = other-command (a .tape .now) (a .at) (w .0 .0) (w .0 .1 .0) (c .before .before .before .before .if1 .left) in
     rw (w .1) (copy-puts l other (c .before .before .put-part4 .ensures))
 

@@ -14,6 +14,13 @@ Inv-loop tape tokens lines indent last i₀ i = From tape tokens lines indent i 
 abbrev μ-loop : tie.MeasureT-loop
 μ-loop tape tokens lines indent last i₀ i = last - i
 
+-- Steps back to an earlier point of the function, each counted once.
+abbrev before-shared-slice-known5 : tie.After-shared-slice-known5 Inv-loop μ-loop → tie.Start Inv-loop μ-loop
+before-shared-slice-known5 c = c .before .before .before .before .before .before .before .before .before
+
+abbrev before-shared-slice-known6 : tie.After-shared-slice-known6 Inv-loop μ-loop → tie.Start Inv-loop μ-loop
+before-shared-slice-known6 c = c .before .before .before .before .before .before .before .before .before
+
 returns : tie.Need-returns Inv-loop μ-loop
 returns c = search (needs, breaks-empty)
 
@@ -37,13 +44,13 @@ shared-slice-read-assigns-here c = search needs
 
 assigns-here-requires : tie.Need-assigns-here-requires Inv-loop μ-loop
 assigns-here-requires c κs =
-    let a = c .before .before .before .before .before .before .before .before .before .args in
+    let a = before-shared-slice-known5 c .args in
     let l = c .before .before .loop in
-    before-inside (a .tape .now) (a .tokens .now) (a .lines .now) (l .i) (length (a .lines .now) - 1) (c .before .before .before .before .before .before .before .before .before .pre) (search needs) (l .inv .2)
+    before-inside (a .tape .now) (a .tokens .now) (a .lines .now) (l .i) (length (a .lines .now) - 1) (before-shared-slice-known5 c .pre) (search needs) (l .inv .2)
 
 returns-2 : tie.Need-returns-2 Inv-loop μ-loop
 returns-2 c =
-    let a = c .before .before .before .before .before .before .before .before .before .before .before .args in
+    let a = before-shared-slice-known5 (c .before .before) .args in
     let l = c .before .before .before .before .loop in
     let h : l .i < length (a .lines .now) - 1 = search needs in
     step-breaks (a .tape .now) (a .tokens .now) (a .lines .now) (c .before .before .before .before .before .indent .result) (l .i) (l .inv .0) (omega arith) (c .before .assigns-here .ensures) (c .if2 .taken)
@@ -56,7 +63,7 @@ loop-less c = search needs
 
 loop-again : tie.Need-loop-again Inv-loop μ-loop
 loop-again c =
-    let a = c .before .before .before .before .before .before .before .before .before .before .before .args in
+    let a = before-shared-slice-known5 (c .before .before) .args in
     let l = c .before .before .before .before .loop in
     let h : l .i < length (a .lines .now) - 1 = search needs in (
       step-goes (a .tape .now) (a .tokens .now) (a .lines .now) (c .before .before .before .before .before .indent .result) (l .i) (l .inv .0) (omega arith) (c .before .assigns-here .ensures) (c .if2 .left),
@@ -72,13 +79,13 @@ shared-slice-read-returns-here c = search needs
 
 returns-here-requires : tie.Need-returns-here-requires Inv-loop μ-loop
 returns-here-requires c κs =
-    let a = c .before .before .before .before .before .before .before .before .before .args in
+    let a = before-shared-slice-known6 c .args in
     let l = c .before .before .loop in
-    last-inside (a .tape .now) (a .tokens .now) (a .lines .now) (length (a .lines .now) - 1) (c .before .before .before .before .before .before .before .before .before .pre) (l .inv .2)
+    last-inside (a .tape .now) (a .tokens .now) (a .lines .now) (length (a .lines .now) - 1) (before-shared-slice-known6 c .pre) (l .inv .2)
 
 returns-3 : tie.Need-returns-3 Inv-loop μ-loop
 returns-3 c =
-    let a = c .before .before .before .before .before .before .before .before .before .before .before .args in
+    let a = before-shared-slice-known6 (c .before .before) .args in
     let l = c .before .before .before .before .loop in
     let h : length (a .lines .now) - 1 ≤ l .i = search needs in
     let e : l .i ≡ length (a .lines .now) - 1 = omega (arith, l .inv .1) in
@@ -88,7 +95,7 @@ returns-3 c =
 
 returns-4 : tie.Need-returns-4 Inv-loop μ-loop
 returns-4 c =
-    let a = c .before .before .before .before .before .before .before .before .before .before .before .args in
+    let a = before-shared-slice-known6 (c .before .before) .args in
     let l = c .before .before .before .before .loop in
     let h : length (a .lines .now) - 1 ≤ l .i = search needs in
     let e : l .i ≡ length (a .lines .now) - 1 = omega (arith, l .inv .1) in

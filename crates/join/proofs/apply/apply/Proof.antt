@@ -12,6 +12,16 @@ use borrow.Author.Needs.{needs}
 use Rattle.join.proofs.apply.apply.Statement.{statement}
 use Rattle.join.proofs.apply.apply.Tie as tie
 
+-- Steps back to an earlier point of the function, each counted once.
+abbrev before-free : tie.After-free → tie.Start
+before-free c = c .before .before .before .before .before .before .before .before .before
+
+abbrev before-free2 : tie.After-free2 → tie.After-free
+before-free2 c = c .before .before .before
+
+abbrev before-patch-arg4 : tie.After-patch-arg4 → tie.After-free2
+before-patch-arg4 c = c .before .before .before .before .before .before .before .before .before
+
 free-requires : tie.Need-free-requires
 free-requires c κs = search needs
 
@@ -25,17 +35,17 @@ slice-reshare-prefix-is-short : tie.Need-slice-reshare-prefix-is-short
 slice-reshare-prefix-is-short c = search needs
 
 slice-aggregate-is-short : tie.Need-slice-aggregate-is-short
-slice-aggregate-is-short c = sym (length-take-le _ _ (c .before .before .before .before .before .before .before .before .before .before .before .before .before .before .pre .1 .words-fit))
+slice-aggregate-is-short c = sym (length-take-le _ _ (before-free (before-free2 (c .before .before)) .pre .1 .words-fit))
 
 slice-reshare-prefix-is-short-2 : tie.Need-slice-reshare-prefix-is-short-2
 slice-reshare-prefix-is-short-2 c = search needs
 
 slice-aggregate-is-short-2 : tie.Need-slice-aggregate-is-short-2
-slice-aggregate-is-short-2 c = sym (length-take-le _ _ (c .before .before .before .before .before .before .before .before .before .before .before .before .before .before .before .pre .1 .lines-fit))
+slice-aggregate-is-short-2 c = sym (length-take-le _ _ (before-free (before-free2 (c .before .before .before)) .pre .1 .lines-fit))
 
 is-short-requires : tie.Need-is-short-requires
 is-short-requires c κs =
-    let p = c .before .before .before .before .before .before .before .before .before .before .before .before .before .before .before .pre in
+    let p = before-free (before-free2 (c .before .before .before)) .pre in
     (p .0 .inside, last-inside (p .0), λ k b. p .0 .listed .at k b .inside)
 
 rebuild-requires : tie.Need-rebuild-requires
@@ -61,14 +71,14 @@ returns c = search needs
 
 patch-requires : tie.Need-patch-requires
 patch-requires c κs =
-    let a = c .before .before .before .before .before .before .before .before .before .before .before .before .before .before .before .before .before .before .before .before .before .before .args in
-    let p = c .before .before .before .before .before .before .before .before .before .before .before .before .before .before .before .before .before .before .before .before .before .before .pre in
+    let a = before-free (before-free2 (before-patch-arg4 (c .before))) .args in
+    let p = before-free (before-free2 (before-patch-arg4 (c .before))) .pre in
     let n = need-from (used-words (a .tokens .now) (a .size)) (used-lines (a .lines .now) (a .size)) (a .j) (a .j .line + 1) in
     let h = enough n (c .before .before .before .before .before .before .before .before .before .lesser .result) (c .before .before .before .before .before .before .is-short .ensures) (c .before .before .before .before .before .if1 .left) in (
       p .0,
       p .1,
-      is-spare h (omega (arith, c .before .before .before .before .before .before .before .before .before .lesser .ensures, c .before .before .before .before .before .before .before .before .before .before .before .before .before .free .ensures)),
-      is-spare h (omega (arith, c .before .before .before .before .before .before .before .before .before .lesser .ensures, c .before .before .before .before .before .before .before .before .before .before .free2 .ensures)),
+      is-spare h (omega (arith, c .before .before .before .before .before .before .before .before .before .lesser .ensures, before-free2 (before-patch-arg4 (c .before)) .free .ensures)),
+      is-spare h (omega (arith, c .before .before .before .before .before .before .before .before .before .lesser .ensures, before-patch-arg4 (c .before) .free2 .ensures)),
     )
 
 same-length-6 : tie.Need-same-length-6

@@ -18,6 +18,16 @@ Inv-loop tape area tokens lines lows₀ highs₀ j rules gone last source low hi
 abbrev μ-loop : tie.MeasureT-loop
 μ-loop tape area tokens lines lows₀ highs₀ j rules gone last source low high next₀ lows highs next = length lines - next
 
+-- Steps back to an earlier point of the function, each counted once.
+abbrev before-slice-known3 : tie.After-slice-known3 Inv-loop μ-loop → tie.Start Inv-loop μ-loop
+before-slice-known3 c = c .before .before .before .before .before .before .before .before .before
+
+abbrev before-loop-body : tie.In-loop Inv-loop μ-loop → tie.After-slice-known3 Inv-loop μ-loop
+before-loop-body c = c .before .before .before
+
+abbrev before-slice-known5 : tie.After-slice-known5 Inv-loop μ-loop → tie.In-loop Inv-loop μ-loop
+before-slice-known5 c = c .before .before .before .before .before .before .before .before .before
+
 mul-origin : tie.Need-mul-origin Inv-loop μ-loop
 mul-origin c = search needs
 
@@ -34,17 +44,17 @@ mul-low c =
 
 slice-read-low : tie.Need-slice-read-low Inv-loop μ-loop
 slice-read-low c =
-    let s = c .before .before .before .before .before .before .before .before .before in
+    let s = before-slice-known3 c in
     omega (arith, origin-small (getD (s .args .lines .now) (s .args .j .line) 0) (c .before .origin .ensures), s .pre .1)
 
 mul-high : tie.Need-mul-high Inv-loop μ-loop
 mul-high c =
-    let s = c .before .before .before .before .before .before .before .before .before in
+    let s = before-slice-known3 c in
     omega (arith, origin-small (getD (s .args .lines .now) (s .args .j .line) 0) (c .before .origin .ensures), s .pre .2)
 
 slice-read-high : tie.Need-slice-read-high Inv-loop μ-loop
 slice-read-high c =
-    let s = c .before .before .before .before .before .before .before .before .before .before in
+    let s = before-slice-known3 (c .before) in
     omega (arith, origin-small (getD (s .args .lines .now) (s .args .j .line) 0) (c .before .before .origin .ensures), s .pre .2)
 
 add-next : tie.Need-add-next Inv-loop μ-loop
@@ -52,21 +62,21 @@ add-next c = search needs
 
 loop-holds : tie.Need-loop-holds Inv-loop μ-loop
 loop-holds c =
-    let p = c .before .before .before .before .before .before .before .before .before .before .pre in
+    let p = before-slice-known3 (c .before) .pre in
     (refl, refl, omega arith, omega (arith, p .0 .inside), carry-begun _ _ _ _ _ _ _ _ _ _)
 
 add-next-2 : tie.Need-add-next-2 Inv-loop μ-loop
-add-next-2 c = omega (arith, last-inside (c .before .before .before .before .before .before .before .before .before .before .before .before .pre .0), c .loop-test .taken)
+add-next-2 c = omega (arith, last-inside (before-slice-known3 (before-loop-body c) .pre .0), c .loop-test .taken)
 
 mul-l : tie.Need-mul-l Inv-loop μ-loop
 mul-l c = search needs
 
 shared-slice-read-l : tie.Need-shared-slice-read-l Inv-loop μ-loop
-shared-slice-read-l c = omega (arith, last-inside (c .before .before .before .before .before .before .before .before .before .before .before .before .before .pre .0), c .before .loop-test .taken)
+shared-slice-read-l c = omega (arith, last-inside (before-slice-known3 (before-loop-body (c .before)) .pre .0), c .before .loop-test .taken)
 
 is-changed-requires : tie.Need-is-changed-requires Inv-loop μ-loop
 is-changed-requires c κs =
-    let p = c .before .before .before .before .before .before .before .before .before .before .before .before .before .pre .0 in
+    let p = before-slice-known3 (before-loop-body (c .before)) .pre .0 in
     let l = c .before .before .loop in
     (p .listed .at (l .next) (omega (arith, last-inside p, c .before .loop-test .taken)), p .joins .known)
 
@@ -75,21 +85,21 @@ origin-requires-2 c κs = tt
 
 take-in-requires : tie.Need-take-in-requires Inv-loop μ-loop
 take-in-requires c κs =
-    let s = c .before .before .before .before .before .before .before .before .before .before .before .before .before .before .before .before .before .before in
+    let s = before-slice-known3 (before-loop-body (c .before .before .before .before .before .before)) in
     let l = c .before .before .before .before .before .before .before .loop in
     let low = origin-small (getD (s .args .lines .now) (l .next) 0) (c .before .before .origin2 .ensures) in
     (omega (arith, low, s .pre .1, l .inv .0), omega (arith, low, s .pre .2, l .inv .1))
 
 loop-less : tie.Need-loop-less Inv-loop μ-loop
-loop-less c = omega (arith, last-inside (c .before .before .before .before .before .before .before .before .before .before .before .before .before .before .before .before .before .before .before .before .before .before .before .pre .0), c .before .before .before .before .before .before .before .before .before .before .before .loop-test .taken)
+loop-less c = omega (arith, last-inside (before-slice-known3 (before-loop-body (before-slice-known5 (c .before .before))) .pre .0), before-slice-known5 (c .before .before) .loop-test .taken)
 
 loop-again : tie.Need-loop-again Inv-loop μ-loop
 loop-again c =
     let t = c .before .before .before .before .take-in in
-    let at = c .before .before .before .before .before .before .before .before .before .before .before in
+    let at = before-slice-known5 (c .before .before) in
     let l = at .before .loop in
     let i = l .inv in
-    let inside : l .next < length (at .before .before .before .before .before .before .before .before .before .before .before .before .args .lines .now) = omega (arith, last-inside (at .before .before .before .before .before .before .before .before .before .before .before .before .pre .0), at .loop-test .taken) in (
+    let inside : l .next < length (before-slice-known3 (before-loop-body at) .args .lines .now) = omega (arith, last-inside (before-slice-known3 (before-loop-body at) .pre .0), at .loop-test .taken) in (
       t .kept .1 .1 .1 .0 ∙ i .0,
       t .kept .1 .1 .1 .1 .0 ∙ i .1,
       omega (arith, i .2),
@@ -98,14 +108,14 @@ loop-again c =
     )
 
 loop-less-2 : tie.Need-loop-less-2 Inv-loop μ-loop
-loop-less-2 c = omega (arith, last-inside (c .before .before .before .before .before .before .before .before .before .before .before .before .before .before .before .pre .0), c .before .before .before .loop-test .taken)
+loop-less-2 c = omega (arith, last-inside (before-slice-known3 (before-loop-body (c .before .before .before)) .pre .0), c .before .before .before .loop-test .taken)
 
 loop-again-2 : tie.Need-loop-again-2 Inv-loop μ-loop
 loop-again-2 c =
     let at = c .before .before .before in
     let l = at .before .loop in
     let i = l .inv in
-    let inside : l .next < length (at .before .before .before .before .before .before .before .before .before .before .before .before .args .lines .now) = omega (arith, last-inside (at .before .before .before .before .before .before .before .before .before .before .before .before .pre .0), at .loop-test .taken) in
+    let inside : l .next < length (before-slice-known3 (before-loop-body at) .args .lines .now) = omega (arith, last-inside (before-slice-known3 (before-loop-body at) .pre .0), at .loop-test .taken) in
     (i .0, i .1, omega (arith, i .2), omega arith, carry-kept _ _ _ _ _ _ _ _ _ _ (i .4) inside (c .before .is-changed .ensures) (c .if1 .left))
 
 same-length : tie.Need-same-length Inv-loop μ-loop
@@ -116,7 +126,7 @@ same-length-2 c = c .before .loop .inv .1
 
 returns : tie.Need-returns Inv-loop μ-loop
 returns c =
-    let s = c .before .before .before .before .before .before .before .before .before .before .before .before in
+    let s = before-slice-known3 (c .before .before .before) in
     let o = c .before .before .before .before .origin .ensures in
     let i = c .before .loop .inv in
     carried _ _ _ _ _ _ _ _ _ _ (i .4) (ap (λ (k : ℕ). getD (s .args .lows .now) k 0) o) (ap (λ (k : ℕ). getD (s .args .highs .now) k 0) o) (i .2) (c .loop-test .left)

@@ -8,6 +8,16 @@ use borrow.Author.Needs.{needs}
 use Rattle.join.proofs.patch.patch.Statement.{statement}
 use Rattle.join.proofs.patch.patch.Tie as tie
 
+-- Steps back to an earlier point of the function, each counted once.
+abbrev before-patch-lines-arg3 : tie.After-patch-lines-arg3 → tie.Start
+before-patch-lines-arg3 c = c .before .before .before .before .before .before .before .before .before
+
+abbrev before-patch-lines : tie.After-patch-lines → tie.After-patch-lines-arg3
+before-patch-lines c = c .before .before .before
+
+abbrev before-copy-bytes-arg2 : tie.After-copy-bytes-arg2 → tie.After-patch-lines
+before-copy-bytes-arg2 c = c .before .before .before .before .before .before .before .before .before
+
 slice-reshare-prefix-patch-lines : tie.Need-slice-reshare-prefix-patch-lines
 slice-reshare-prefix-patch-lines c = search needs
 
@@ -24,11 +34,11 @@ slice-relend-prefix-patch-lines : tie.Need-slice-relend-prefix-patch-lines
 slice-relend-prefix-patch-lines c = search needs
 
 slice-aggregate-patch-lines-3 : tie.Need-slice-aggregate-patch-lines-3
-slice-aggregate-patch-lines-3 c = sym (length-take-le _ _ (c .before .before .before .before .before .before .before .before .before .pre .1 .lines-fit))
+slice-aggregate-patch-lines-3 c = sym (length-take-le _ _ (before-patch-lines-arg3 c .pre .1 .lines-fit))
 
 patch-lines-requires : tie.Need-patch-lines-requires
 patch-lines-requires c κs =
-    let p = c .before .before .before .before .before .before .before .before .before .before .before .pre in
+    let p = before-patch-lines-arg3 (c .before .before) .pre in
     (p .0, length-take-le _ _ (p .1 .text-fits), length-take-le _ _ (p .1 .words-fit), p .3)
 
 sub-copy-bytes : tie.Need-sub-copy-bytes
@@ -75,9 +85,9 @@ same-length-5 c = search needs
 
 returns : tie.Need-returns
 returns c =
-    let a = c .before .before .before .before .before .before .before .before .before .before .before .before .before .before .before .before .before .before .before .before .before .before .before .before .before .before .before .before .before .before .args in
-    let p = c .before .before .before .before .before .before .before .before .before .before .before .before .before .before .before .before .before .before .before .before .before .before .before .before .before .before .before .before .before .before .pre in
-    let lines = c .before .before .before .before .before .before .before .before .before .before .before .before .before .before .before .before .before .before .patch-lines in
+    let a = before-patch-lines-arg3 (before-patch-lines (before-copy-bytes-arg2 (c .before .before .before .before .before .before .before .before .before))) .args in
+    let p = before-patch-lines-arg3 (before-patch-lines (before-copy-bytes-arg2 (c .before .before .before .before .before .before .before .before .before))) .pre in
+    let lines = before-copy-bytes-arg2 (c .before .before .before .before .before .before .before .before .before) .patch-lines in
     settled (a .area .now) (a .tokens .now) (lines .ensures) (p .2) (spare-as (p .3) (lines .kept .1 .1 .1 .1 .1 .1 .0) (lines .kept .1 .1 .1 .1 .1 .1 .1 .0)) (drop (a .size .lines) (a .lines .now))
     (c .before .before .before .before .before .before .before .before .copy-bytes .kept .1 .0) (c .before .before .copy-words .kept .1 .0) (c .before .before .before .before .before .before .before .before .copy-bytes .ensures) (c .before .before .copy-words .ensures)
 

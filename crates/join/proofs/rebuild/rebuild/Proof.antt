@@ -8,6 +8,14 @@ use borrow.Author.Needs.{needs}
 use Rattle.join.proofs.rebuild.rebuild.Statement.{statement}
 use Rattle.join.proofs.rebuild.rebuild.Tie as tie
 
+-- Steps back to an earlier point of the function, each counted once.
+abbrev before-build : tie.After-build → tie.Start
+before-build c = c .before .before .before .before .before .before .before .before .before
+    .before .before .before
+
+abbrev before-copy-bytes : tie.After-copy-bytes → tie.After-build
+before-copy-bytes c = c .before .before .before .before .before .before .before .before .before
+
 slice-reshare-prefix-build : tie.Need-slice-reshare-prefix-build
 slice-reshare-prefix-build c = search needs
 
@@ -36,16 +44,16 @@ slice-aggregate-copy-bytes : tie.Need-slice-aggregate-copy-bytes
 slice-aggregate-copy-bytes c = sym (length-take-le _ _ (c .before .before .before .before .before .before .before .build .ensures .acted .current .text-fits))
 
 copy-bytes-requires : tie.Need-copy-bytes-requires
-copy-bytes-requires c κs = simp length-take (omega (arith, c .before .before .before .before .before .before .before .before .build .ensures .text-few, c .before .before .before .before .before .before .before .before .before .before .before .before .before .before .before .before .before .before .before .before .pre .2 .first-text))
+copy-bytes-requires c κs = simp length-take (omega (arith, c .before .before .before .before .before .before .before .before .build .ensures .text-few, before-build (c .before .before .before .before .before .before .before .before) .pre .2 .first-text))
 
 slice-reshare-prefix-copy-words : tie.Need-slice-reshare-prefix-copy-words
 slice-reshare-prefix-copy-words c = search needs
 
 slice-aggregate-copy-words : tie.Need-slice-aggregate-copy-words
-slice-aggregate-copy-words c = sym (length-take-le _ _ (c .before .before .before .before .before .before .before .before .before .before .before .before .build .ensures .acted .current .words-fit))
+slice-aggregate-copy-words c = sym (length-take-le _ _ (before-copy-bytes (c .before .before .before) .build .ensures .acted .current .words-fit))
 
 copy-words-requires : tie.Need-copy-words-requires
-copy-words-requires c κs = simp length-take (omega (arith, c .before .before .before .before .before .before .before .before .before .before .before .before .before .build .ensures .words-few, c .before .before .before .before .before .before .before .before .before .before .before .before .before .before .before .before .before .before .before .before .before .before .before .before .before .pre .2 .first-words))
+copy-words-requires c κs = simp length-take (omega (arith, before-copy-bytes (c .before .before .before .before) .build .ensures .words-few, before-build (before-copy-bytes (c .before .before .before .before)) .pre .2 .first-words))
 
 same-length : tie.Need-same-length
 same-length c = search needs
@@ -64,9 +72,9 @@ same-length-5 c = search needs
 
 returns : tie.Need-returns
 returns c =
-    let a = c .before .before .before .before .before .before .before .before .before .before .before .before .before .before .before .before .before .before .before .before .before .before .before .before .before .before .before .before .args in
-    let lent = c .before .before .before .before .before .before .before .before .before .before .before .before .before .before .before .before .before .before .before .before .before .before .before .before .before .before .before .before .pre .2 in
-    brought (c .before .before .before .before .before .before .before .before .before .before .before .before .before .before .before .before .build .ensures) (a .area .now) (a .tokens .now) (drop (a .size .lines) (a .lines .now))
+    let a = before-build (before-copy-bytes (c .before .before .before .before .before .before .before)) .args in
+    let lent = before-build (before-copy-bytes (c .before .before .before .before .before .before .before)) .pre .2 in
+    brought (before-copy-bytes (c .before .before .before .before .before .before .before) .build .ensures) (a .area .now) (a .tokens .now) (drop (a .size .lines) (a .lines .now))
     (omega (arith, c .before .before .before .before .before .before .before .copy-bytes .kept .1 .0, lent .first-text)) (omega (arith, c .before .before .copy-words .kept .1 .0, lent .first-words))
     (c .before .before .before .before .before .before .before .copy-bytes .ensures) (c .before .before .copy-words .ensures)
 

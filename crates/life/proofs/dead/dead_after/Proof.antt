@@ -14,11 +14,11 @@ use Rattle.life.proofs.dead.dead_after.Statement.{statement}
 use Rattle.life.proofs.dead.dead_after.Tie as tie
 
 abbrev Inv-loop : tie.InvT-loop
-Inv-loop tape area tokens lines labels from f base-indent start rules n overwritten w₀ w = dead-after (bare-listing tape area tokens lines) from (fam-text tape area f) base-indent (labels-at (bare-listing tape area tokens lines) labels) start (volatile (rules-of rules))
-    ≡ dead-rest tape area tokens lines (fam-text tape area f) base-indent (labels-at (bare-listing tape area tokens lines) labels) start (volatile (rules-of rules)) w
+Inv-loop tape area tokens lines labels from v n overwritten w₀ w = dead-after (bare-listing tape area tokens lines) from (fam-text tape area (v .family)) (v .indent) (labels-at (bare-listing tape area tokens lines) labels) (v .start) (volatile (rules-of (v .rules)))
+    ≡ dead-rest tape area tokens lines (fam-text tape area (v .family)) (v .indent) (labels-at (bare-listing tape area tokens lines) labels) (v .start) (volatile (rules-of (v .rules))) w
 
 abbrev μ-loop : tie.MeasureT-loop
-μ-loop tape area tokens lines labels from f base-indent start rules n overwritten w₀ w = length lines - w
+μ-loop tape area tokens lines labels from v n overwritten w₀ w = length lines - w
 
 number-of-requires : tie.Need-number-of-requires Inv-loop μ-loop
 number-of-requires c κs = search needs
@@ -32,8 +32,8 @@ add-w c = search needs
 loop-holds : tie.Need-loop-holds Inv-loop μ-loop
 loop-holds c = let s = c .before .before .before .before .before .before .before in dead-begin _ _ _ (s .args .lines .now) _ _ _ _ _ (s .args .from)
 
-fate-by-marks-requires : tie.Need-fate-by-marks-requires Inv-loop μ-loop
-fate-by-marks-requires c κs = search needs
+liveness-by-facts-requires : tie.Need-liveness-by-facts-requires Inv-loop μ-loop
+liveness-by-facts-requires c κs = search needs
 
 enum-told : tie.Need-enum-told Inv-loop μ-loop
 enum-told c = search needs
@@ -57,7 +57,7 @@ loop-less : tie.Need-loop-less Inv-loop μ-loop
 loop-less c = search needs
 
 loop-again : tie.Need-loop-again Inv-loop μ-loop
-loop-again c = search (dead-open, c .before .before .before .before .loop .inv, c .before .before .before .loop-test .taken, c .before .before .fate-by-marks .ensures, c .enum-told3 .given .1)
+loop-again c = search (dead-open, c .before .before .before .before .loop .inv, c .before .before .before .loop-test .taken, c .before .before .liveness-by-facts .ensures, c .enum-told3 .given .1)
 
 returns-3 : tie.Need-returns-3 Inv-loop μ-loop
 returns-3 c = search (needs, dead-end)
@@ -72,7 +72,7 @@ dead-after-spec =
     is-volatile-requires
     add-w
     loop-holds
-    fate-by-marks-requires
+    liveness-by-facts-requires
     enum-told
     returns
     enum-told-2

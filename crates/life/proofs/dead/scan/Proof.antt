@@ -4,8 +4,8 @@ use Rattle.life.proofs.Scanning.{scan-dead, scan-live, scan-returns, sc
 use Rattle.life.proofs.dead.scan.Statement.{statement}
 use Rattle.life.proofs.dead.scan.Tie as tie
 
-fate-at-requires : tie.Need-fate-at-requires
-fate-at-requires c κs = search needs
+liveness-at-requires : tie.Need-liveness-at-requires
+liveness-at-requires c κs = search needs
 
 enum-told : tie.Need-enum-told
 enum-told c = search needs
@@ -35,7 +35,7 @@ pub scan-spec : {M : Type 1} → statement M
 scan-spec =
     tie.close
     (tie.spec
-    fate-at-requires
+    liveness-at-requires
     enum-told
     enum-told-2
     enum-told-3

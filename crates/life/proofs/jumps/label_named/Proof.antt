@@ -20,6 +20,10 @@ Inv-loop tape area tokens lines labels w n₀ n = (n ≤ length labels)
 abbrev μ-loop : tie.MeasureT-loop
 μ-loop tape area tokens lines labels w n₀ n = n
 
+-- Steps back to an earlier point of the function, each counted once.
+abbrev before-loop : tie.At-loop Inv-loop μ-loop → tie.Start Inv-loop μ-loop
+before-loop c = c .before .before .before .before .before .before
+
 loop-holds : tie.Need-loop-holds Inv-loop μ-loop
 loop-holds c = let a = c .before .before .before .before .before .args in (search needs, lookup-begin (bare-listing (a .tape .now) (a .area .now) (a .tokens .now) (a .lines .now)) (a .labels .now) (text-of (a .tape .now) (a .area .now) (a .w)))
 
@@ -40,19 +44,19 @@ shared-slice-read-is-named : tie.Need-shared-slice-read-is-named Inv-loop μ-loo
 shared-slice-read-is-named c = inside (c .before)
 
 is-named-requires : tie.Need-is-named-requires Inv-loop μ-loop
-is-named-requires c κs = let a = c .before .before .before .before .before .before .before .before .before .args in (c .before .before .before .before .before .before .before .before .before .pre .0 .at _ (inside (c .before)), c .before .before .before .before .before .before .before .before .before .pre .2, place-long (a .tape .now) (a .area .now) (a .tokens .now) (a .lines .now) (a .labels .now) (c .before .before .before .before .before .before .before .before .before .pre .1) (c .before .before .before .loop .n - 1) (search needs) (c .before .place-at .ensures))
+is-named-requires c κs = let a = before-loop (c .before .before .before) .args in (before-loop (c .before .before .before) .pre .0 .at _ (inside (c .before)), before-loop (c .before .before .before) .pre .2, place-long (a .tape .now) (a .area .now) (a .tokens .now) (a .lines .now) (a .labels .now) (before-loop (c .before .before .before) .pre .1) (c .before .before .before .loop .n - 1) (search needs) (c .before .place-at .ensures))
 
 returns : tie.Need-returns Inv-loop μ-loop
-returns c = let a = c .before .before .before .before .before .before .before .before .before .before .before .args in named-hit (a .tape .now) (a .area .now) (a .tokens .now) (a .lines .now) (a .labels .now) (c .before .before .before .before .before .before .before .before .before .before .before .pre .1) _ (c .before .before .before .before .before .loop .n) (c .before .before .before .before .before .loop .inv .1) (search needs) (search needs) (c .before .before .before .place-at .ensures) (c .before .is-named .ensures) (c .if1 .taken)
+returns c = let a = before-loop (c .before .before .before .before .before) .args in named-hit (a .tape .now) (a .area .now) (a .tokens .now) (a .lines .now) (a .labels .now) (before-loop (c .before .before .before .before .before) .pre .1) _ (c .before .before .before .before .before .loop .n) (c .before .before .before .before .before .loop .inv .1) (search needs) (search needs) (c .before .before .before .place-at .ensures) (c .before .is-named .ensures) (c .if1 .taken)
 
 loop-less : tie.Need-loop-less Inv-loop μ-loop
 loop-less c = search needs
 
 loop-again : tie.Need-loop-again Inv-loop μ-loop
-loop-again c = let a = c .before .before .before .before .before .before .before .before .before .before .before .args in (search needs, named-miss (a .tape .now) (a .area .now) (a .tokens .now) (a .lines .now) (a .labels .now) (c .before .before .before .before .before .before .before .before .before .before .before .pre .1) _ (c .before .before .before .before .before .loop .n) (c .before .before .before .before .before .loop .inv .1) (search needs) (search needs) (c .before .before .before .place-at .ensures) (c .before .is-named .ensures) (c .if1 .left))
+loop-again c = let a = before-loop (c .before .before .before .before .before) .args in (search needs, named-miss (a .tape .now) (a .area .now) (a .tokens .now) (a .lines .now) (a .labels .now) (before-loop (c .before .before .before .before .before) .pre .1) _ (c .before .before .before .before .before .loop .n) (c .before .before .before .before .before .loop .inv .1) (search needs) (search needs) (c .before .before .before .place-at .ensures) (c .before .is-named .ensures) (c .if1 .left))
 
 returns-2 : tie.Need-returns-2 Inv-loop μ-loop
-returns-2 c = let a = c .before .before .before .before .before .before .before .args in named-end (a .tape .now) (a .area .now) (a .tokens .now) (a .lines .now) (a .labels .now) (c .before .before .before .before .before .before .before .pre .1) _ (c .before .loop .n) (c .before .loop .inv .1) (search needs)
+returns-2 c = let a = before-loop (c .before) .args in named-end (a .tape .now) (a .area .now) (a .tokens .now) (a .lines .now) (a .labels .now) (before-loop (c .before) .pre .1) _ (c .before .loop .n) (c .before .loop .inv .1) (search needs)
 
 pub label-named-spec : {M : Type 1} → statement M
 label-named-spec =

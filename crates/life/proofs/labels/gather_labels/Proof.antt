@@ -16,6 +16,10 @@ Inv-loop tape area tokens lines labels₀ n₀ k₀ labels n k = (n ≤ k) × (k
 abbrev μ-loop : tie.MeasureT-loop
 μ-loop tape area tokens lines labels₀ n₀ k₀ labels n k = length lines - k
 
+-- Steps back to an earlier point of the function, each counted once.
+abbrev before-loop : tie.At-loop Inv-loop μ-loop → tie.Start Inv-loop μ-loop
+before-loop c = c .before .before .before .before .before .before
+
 -- the array keeps its length
 size : (c : tie.At-loop Inv-loop μ-loop) → length (c .loop .labels) ≡ length (c .before .before .before .before .before .before .args .labels .now)
 size c = let a = c .before .before .before .before .before .before .args in gathered-length (a .tape .now) (a .area .now) (a .tokens .now) (a .lines .now) (c .loop .n) (c .loop .k) (c .loop .inv .2) (search needs)
@@ -30,7 +34,7 @@ shared-slice-read-line-of : tie.Need-shared-slice-read-line-of Inv-loop μ-loop
 shared-slice-read-line-of c = search needs
 
 line-of-requires : tie.Need-line-of-requires Inv-loop μ-loop
-line-of-requires c κs = c .before .before .before .before .before .before .before .before .pre .0 .at (c .before .before .loop .k) (search needs) .inside
+line-of-requires c κs = before-loop (c .before .before) .pre .0 .at (c .before .before .loop .k) (search needs) .inside
 
 is-label-requires : tie.Need-is-label-requires Inv-loop μ-loop
 is-label-requires c κs = search (needs, reading)
@@ -51,7 +55,7 @@ loop-less : tie.Need-loop-less Inv-loop μ-loop
 loop-less c = search needs
 
 loop-again : tie.Need-loop-again Inv-loop μ-loop
-loop-again c = let a = c .before .before .before .before .before .before .before .before .before .before .before .args in let l = c .before .before .before .before .before .loop in
+loop-again c = let a = before-loop (c .before .before .before .before .before) .args in let l = c .before .before .before .before .before .loop in
     ⊎-elim
     (λ w. (search needs, search needs, rw (w .1, w .2) (gathered-hit (a .tape .now) (a .area .now) (a .tokens .now) (a .lines .now) _ (l .k) (l .inv .2) (search needs) (c .before .before .line-of .ensures) (c .before .is-label .ensures) (w .0 .taken) (search needs))))
     (λ w. (search needs, search needs, rw (w .1, w .2) (gathered-miss (a .tape .now) (a .area .now) (a .tokens .now) (a .lines .now) _ (l .k) (l .inv .2) (search needs) (c .before .before .line-of .ensures) (c .before .is-label .ensures) (w .0 .left))))

@@ -12,8 +12,8 @@ kind-requires c κs = search needs
 returns : tie.Need-returns
 returns c = recoded-same _ _
 
-place-requires : tie.Need-place-requires
-place-requires c κs = search needs
+buffer-requires : tie.Need-buffer-requires
+buffer-requires c κs = search needs
 
 returns-2 : tie.Need-returns-2
 returns-2 c = recoded-same _ _
@@ -54,7 +54,7 @@ coded-spec =
     (tie.spec
     kind-requires
     returns
-    place-requires
+    buffer-requires
     returns-2
     start-requires
     len-requires

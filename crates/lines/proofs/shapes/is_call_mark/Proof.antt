@@ -1,5 +1,7 @@
 -- `lines::shapes::is_call_mark` meets its contract. Assumes nothing.
 use borrow.Author.Needs.{needs}
+use Rattle.reference.specs.Control.{_||_, _&&_}
+use Rattle.reference.specs.Listing.{is}
 use Rattle.reference.specs.Shapes.{calls-here}
 use Rattle.laws.proofs.Scans.{tests}
 use Rattle.lines.specs.Shapes.{is-called}
@@ -28,7 +30,7 @@ begins-void-requires : tie.Need-begins-void-requires
 begins-void-requires c κs = search needs
 
 returns-3 : tie.Need-returns-3
-unfolding calls-here is-called
+unfolding calls-here is-called _||_ _&&_ is
 returns-3 c = search (needs, tests, kinds, ← c .before .text .ensures)
 
 pub is-call-mark-spec : {M : Type 1} → statement M

@@ -9,8 +9,8 @@ use Rattle.lines.proofs.words.first_bytes.Tie as tie
 kind-requires : tie.Need-kind-requires
 kind-requires c κs = search needs
 
-place-requires : tie.Need-place-requires
-place-requires c κs = search needs
+buffer-requires : tie.Need-buffer-requires
+buffer-requires c κs = search needs
 
 start-requires : tie.Need-start-requires
 start-requires c κs = search needs
@@ -24,4 +24,4 @@ returns c = cc
 
 pub first-bytes-spec : {M : Type 1} → statement M
 first-bytes-spec =
-    tie.close (tie.spec kind-requires place-requires start-requires token-word-requires returns)
+    tie.close (tie.spec kind-requires buffer-requires start-requires token-word-requires returns)

@@ -16,8 +16,8 @@ len-requires c κs = search needs
 add-to : tie.Need-add-to
 add-to c = search needs
 
-place-requires : tie.Need-place-requires
-place-requires c κs = search needs
+buffer-requires : tie.Need-buffer-requires
+buffer-requires c κs = search needs
 
 sub-result : tie.Need-sub-result
 sub-result c = search needs
@@ -27,12 +27,12 @@ part-result-start c = search needs
 
 part-result-end : tie.Need-part-result-end
 part-result-end c = let a = c .before .before .before .before .before .before in
-    omega (arith, a .pre .inside, ap length (in-tape (a .args .tape .now) (a .args .area .now) (sym (c .before .place .ensures) ∙ c .if1 .taken)))
+    omega (arith, a .pre .inside, ap length (in-tape (a .args .tape .now) (a .args .area .now) (sym (c .before .buffer .ensures) ∙ c .if1 .taken)))
 
 returns : tie.Need-returns
 returns c = let a = c .before .before .before .before .before .before .before .args in
     part-is (a .tape .now) (a .area .now) (a .w) (a .tape .now) (c .before .before .before .before .start .ensures) (c .before .before .before .len .ensures)
-    (in-tape (a .tape .now) (a .area .now) (sym (c .before .before .place .ensures) ∙ c .before .if1 .taken))
+    (in-tape (a .tape .now) (a .area .now) (sym (c .before .before .buffer .ensures) ∙ c .before .if1 .taken))
 
 sub-result-2 : tie.Need-sub-result-2
 sub-result-2 c = search needs
@@ -42,12 +42,12 @@ part-result-start-2 c = search needs
 
 part-result-end-2 : tie.Need-part-result-end-2
 part-result-end-2 c = let a = c .before .before .before .before .before .before in
-    omega (arith, a .pre .inside, ap length (in-area (a .args .tape .now) (a .args .area .now) (λ e. c .if1 .left (c .before .place .ensures ∙ e))))
+    omega (arith, a .pre .inside, ap length (in-area (a .args .tape .now) (a .args .area .now) (λ e. c .if1 .left (c .before .buffer .ensures ∙ e))))
 
 returns-2 : tie.Need-returns-2
 returns-2 c = let a = c .before .before .before .before .before .before .before .args in
     part-is (a .tape .now) (a .area .now) (a .w) (a .area .now) (c .before .before .before .before .start .ensures) (c .before .before .before .len .ensures)
-    (in-area (a .tape .now) (a .area .now) (λ e. c .before .if1 .left (c .before .before .place .ensures ∙ e)))
+    (in-area (a .tape .now) (a .area .now) (λ e. c .before .if1 .left (c .before .before .buffer .ensures ∙ e)))
 
 pub text-spec : {M : Type 1} → statement M
 text-spec =
@@ -56,7 +56,7 @@ text-spec =
     start-requires
     len-requires
     add-to
-    place-requires
+    buffer-requires
     sub-result
     part-result-start
     part-result-end

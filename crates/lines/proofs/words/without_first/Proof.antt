@@ -9,8 +9,8 @@ use Rattle.lines.proofs.words.without_first.Tie as tie
 kind-requires : tie.Need-kind-requires
 kind-requires c κs = search needs
 
-place-requires : tie.Need-place-requires
-place-requires c κs = search needs
+buffer-requires : tie.Need-buffer-requires
+buffer-requires c κs = search needs
 
 start-requires : tie.Need-start-requires
 start-requires c κs = search needs
@@ -36,7 +36,7 @@ without-first-spec =
     tie.close
     (tie.spec
     kind-requires
-    place-requires
+    buffer-requires
     start-requires
     add-token-word
     len-requires

@@ -18,6 +18,10 @@ Inv-loop s radix most v₀ i₀ v i =
 abbrev μ-loop : tie.MeasureT-loop
 μ-loop s radix most v₀ i₀ v i = length s - i
 
+-- Steps back to an earlier point of the function, each counted once.
+abbrev before-loop : tie.At-loop Inv-loop μ-loop → tie.Start Inv-loop μ-loop
+before-loop c = c .before .before
+
 loop-holds : tie.Need-loop-holds Inv-loop μ-loop
 loop-holds c = (omega arith, refl)
 
@@ -35,14 +39,14 @@ enum-told c = search needs
 
 returns : tie.Need-returns Inv-loop μ-loop
 returns c =
-    sym (c .before .before .before .before .before .loop .inv .1 ∙ digit-unread _ _ _ _ _ (c .before .before .before .before .before .before .before .pre) (c .before .before .before .before .loop-test .taken) (rw (c .enum-told .given .1) at (c .before .before .with-digit .ensures)))
+    sym (c .before .before .before .before .before .loop .inv .1 ∙ digit-unread _ _ _ _ _ (before-loop (c .before .before .before .before .before) .pre) (c .before .before .before .before .loop-test .taken) (rw (c .enum-told .given .1) at (c .before .before .with-digit .ensures)))
 
 add-if1 : tie.Need-add-if1 Inv-loop μ-loop
 add-if1 c = search needs
 
 returns-2 : tie.Need-returns-2 Inv-loop μ-loop
 returns-2 c =
-    let r = digit-read _ _ _ _ _ (c .before .before .before .before .before .before .before .before .before .pre) (c .before .before .before .before .before .before .loop-test .taken) (rw (c .before .before .n .given .1) at (c .before .before .before .before .with-digit .ensures)) in
+    let r = digit-read _ _ _ _ _ (before-loop (c .before .before .before .before .before .before .before) .pre) (c .before .before .before .before .before .before .loop-test .taken) (rw (c .before .before .n .given .1) at (c .before .before .before .before .with-digit .ensures)) in
     sym (c .before .before .before .before .before .before .before .loop .inv .1 ∙ r .1 ∙ ends-read _ _ _ _ _ (c .if1 .taken) (r .0))
 
 add-past-quote : tie.Need-add-past-quote Inv-loop μ-loop
@@ -56,7 +60,7 @@ loop-less c = search needs
 
 loop-again : tie.Need-loop-again Inv-loop μ-loop
 loop-again c =
-    let r = digit-read _ _ _ _ _ (c .before .before .before .before .before .before .before .before .before .before .pre) (c .before .before .before .before .before .before .before .loop-test .taken) (rw (c .before .before .before .n .given .1) at (c .before .before .before .before .before .with-digit .ensures)) in
+    let r = digit-read _ _ _ _ _ (before-loop (c .before .before .before .before .before .before .before .before) .pre) (c .before .before .before .before .before .before .before .loop-test .taken) (rw (c .before .before .before .n .given .1) at (c .before .before .before .before .before .with-digit .ensures)) in
     let q = c .past-quote .ensures in
     (q .inside, c .before .before .before .before .before .before .before .before .loop .inv .1 ∙ r .1 ∙ ap (at-most _) (q .means _ _))
 

@@ -37,14 +37,14 @@ loop-holds c = search (needs, reached-begin)
 returns : tie.Need-returns Inv-loop μ-loop
 returns c = search (needs, reached-ended)
 
-mul-reach-by-marks : tie.Need-mul-reach-by-marks Inv-loop μ-loop
-mul-reach-by-marks c = search needs
+mul-reach-by-facts : tie.Need-mul-reach-by-facts Inv-loop μ-loop
+mul-reach-by-facts c = search needs
 
-shared-slice-read-reach-by-marks : tie.Need-shared-slice-read-reach-by-marks Inv-loop μ-loop
-shared-slice-read-reach-by-marks c = search needs
+shared-slice-read-reach-by-facts : tie.Need-shared-slice-read-reach-by-facts Inv-loop μ-loop
+shared-slice-read-reach-by-facts c = search needs
 
-reach-by-marks-requires : tie.Need-reach-by-marks-requires Inv-loop μ-loop
-reach-by-marks-requires c κs = search (needs, reading)
+reach-by-facts-requires : tie.Need-reach-by-facts-requires Inv-loop μ-loop
+reach-by-facts-requires c κs = search (needs, reading)
 
 add-j-2 : tie.Need-add-j-2 Inv-loop μ-loop
 add-j-2 c = search needs
@@ -71,9 +71,9 @@ reach-of-spec =
     add-j
     loop-holds
     returns
-    mul-reach-by-marks
-    shared-slice-read-reach-by-marks
-    reach-by-marks-requires
+    mul-reach-by-facts
+    shared-slice-read-reach-by-facts
+    reach-by-facts-requires
     add-j-2
     loop-less
     loop-again

@@ -34,14 +34,14 @@ add-j c = search needs
 loop-holds : tie.Need-loop-holds Inv-loop μ-loop
 loop-holds c = search (needs, seeking)
 
-mul-look-by-marks : tie.Need-mul-look-by-marks Inv-loop μ-loop
-mul-look-by-marks c = search needs
+mul-look-by-facts : tie.Need-mul-look-by-facts Inv-loop μ-loop
+mul-look-by-facts c = search needs
 
-shared-slice-read-look-by-marks : tie.Need-shared-slice-read-look-by-marks Inv-loop μ-loop
-shared-slice-read-look-by-marks c = search needs
+shared-slice-read-look-by-facts : tie.Need-shared-slice-read-look-by-facts Inv-loop μ-loop
+shared-slice-read-look-by-facts c = search needs
 
-look-by-marks-requires : tie.Need-look-by-marks-requires Inv-loop μ-loop
-look-by-marks-requires c κs = search (needs, reading)
+look-by-facts-requires : tie.Need-look-by-facts-requires Inv-loop μ-loop
+look-by-facts-requires c κs = search (needs, reading)
 
 enum-told : tie.Need-enum-told Inv-loop μ-loop
 enum-told c = search needs
@@ -81,9 +81,9 @@ use-of-spec =
     number-of-requires
     add-j
     loop-holds
-    mul-look-by-marks
-    shared-slice-read-look-by-marks
-    look-by-marks-requires
+    mul-look-by-facts
+    shared-slice-read-look-by-facts
+    look-by-facts-requires
     enum-told
     returns
     enum-told-2

@@ -6,6 +6,10 @@ use Rattle.rounds.proofs.Cutting.{cut-fewer, dropped-kept, cut-count, c
 use Rattle.rounds.proofs.cuts.drop_at.Statement.{statement}
 use Rattle.rounds.proofs.cuts.drop_at.Tie as tie
 
+-- Steps back to an earlier point of the function, each counted once.
+abbrev before-slice-known2 : tie.After-slice-known2 → tie.Start
+before-slice-known2 c = c .before .before .before .before .before .before .before .before .before
+
 is-dead-result-requires : tie.Need-is-dead-result-requires
 is-dead-result-requires c κs = search needs
 
@@ -28,8 +32,8 @@ first-requires c κs = search needs
 
 add-with-tokens : tie.Need-add-with-tokens
 add-with-tokens c =
-    let p = c .before .before .before .before .before .before .before .before .before .before .pre in
-    let low = cut-first (p .0) _ (c .before .before .before .before .before .before .before .before .before .before .args .i) (p .1) (c .before .before .before .is-dead-result .ensures) (not-false _ (c .before .before .if1 .left)) in
+    let p = before-slice-known2 (c .before) .pre in
+    let low = cut-first (p .0) _ (before-slice-known2 (c .before) .args .i) (p .1) (c .before .before .before .is-dead-result .ensures) (not-false _ (c .before .before .if1 .left)) in
     omega (arith, c .first .ensures)
 
 count-requires : tie.Need-count-requires
@@ -37,13 +41,17 @@ count-requires c κs = search needs
 
 sub-with-tokens : tie.Need-sub-with-tokens
 sub-with-tokens c =
-    let p = c .before .before .before .before .before .before .before .before .before .before .before .pre in
-    rw (c .count .ensures) (cut-count (p .0) _ (c .before .before .before .before .before .before .before .before .before .before .before .args .i) (p .1) (c .before .before .before .before .is-dead-result .ensures) (not-false _ (c .before .before .before .if1 .left)))
+    let p0 = c .before .before in
+    let p1 = p0 .before .before .before .before .before .before .before .before .before in
+    let p = p1 .pre in
+    rw (c .count .ensures) (cut-count (p .0) _ (p1 .args .i) (p .1) (c .before .before .before .before .is-dead-result .ensures) (not-false _ (c .before .before .before .if1 .left)))
 
 with-tokens-requires : tie.Need-with-tokens-requires
 with-tokens-requires c κs =
-    let p = c .before .before .before .before .before .before .before .before .before .before .before .pre in
-    let low = cut-first (p .0) _ (c .before .before .before .before .before .before .before .before .before .before .before .args .i) (p .1) (c .before .before .before .before .is-dead-result .ensures) (not-false _ (c .before .before .before .if1 .left)) in
+    let p0 = c .before .before in
+    let p1 = p0 .before .before .before .before .before .before .before .before .before in
+    let p = p1 .pre in
+    let low = cut-first (p .0) _ (p1 .args .i) (p .1) (c .before .before .before .before .is-dead-result .ensures) (not-false _ (c .before .before .before .if1 .left)) in
     (rw (c .before .first .ensures) low, rw (c .count .ensures) (cut-fewer _))
 
 mul-lines : tie.Need-mul-lines
@@ -57,8 +65,10 @@ same-length-2 c = search needs
 
 returns-2 : tie.Need-returns-2
 returns-2 c =
-    let p = c .before .before .before .before .before .before .before .before .before .before .before .before .pre in
-    dropped-cut (p .0) _ (c .before .before .before .before .before .before .before .before .before .before .before .before .args .i) (p .1) (c .before .before .before .before .before .is-dead-result .ensures) (not-false _ (c .before .before .before .before .if1 .left))
+    let p0 = c .before .before .before in
+    let p1 = p0 .before .before .before .before .before .before .before .before .before in
+    let p = p1 .pre in
+    dropped-cut (p .0) _ (p1 .args .i) (p .1) (c .before .before .before .before .before .is-dead-result .ensures) (not-false _ (c .before .before .before .before .if1 .left))
     (rw (c .before .before .first .ensures, c .before .count .ensures) at (c .with-tokens .ensures))
 
 pub drop-at-spec : {M : Type 1} → statement M

@@ -6,6 +6,10 @@ use Rattle.rounds.proofs.Cutting.{dead-not, dead-then}
 use Rattle.rounds.proofs.cuts.is_dead_result.Statement.{statement}
 use Rattle.rounds.proofs.cuts.is_dead_result.Tie as tie
 
+-- Steps back to an earlier point of the function, each counted once.
+abbrev before-else1 : tie.Else1 → tie.Start
+before-else1 c = c .before .before .before .before .before .before .before .before .before
+
 mul-l : tie.Need-mul-l
 mul-l c = search needs
 
@@ -32,8 +36,8 @@ dead-after-requires c κs = search (needs, row-known)
 
 returns-2 : tie.Need-returns-2
 returns-2 c =
-    let a = c .before .before .before .before .before .before .before .before .before .before .before .args in
-    dead-then _ (a .tape .now) (a .area .now) (a .tokens .now) (a .lines .now) (a .labels .now) (a .i) (c .before .before .before .before .before .before .before .before .before .before .before .pre .1)
+    let a = before-else1 (c .before .before) .args in
+    dead-then _ (a .tape .now) (a .area .now) (a .tokens .now) (a .lines .now) (a .labels .now) (a .i) (before-else1 (c .before .before) .pre .1)
     (c .before .before .before .before .line-of .ensures) (c .before .before .before .keeps-result .ensures) (not-false _ (c .before .before .if1 .left)) (c .before .indent .ensures) (c .dead-after .ensures)
 
 pub is-dead-result-spec : {M : Type 1} → statement M

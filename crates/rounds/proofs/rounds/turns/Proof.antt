@@ -17,13 +17,29 @@ abbrev μ-loop : tie.MeasureT-loop
 μ-loop tape area₀ tokens₀ lines₀ area2₀ tokens2₀ lows₀ highs₀ labels₀ slots slot-words rules r₀ area tokens lines area2 tokens2 lows highs labels r =
     left-over r
 
+-- Steps back to an earlier point of the function, each counted once.
+abbrev before-slice-known8 : tie.After-slice-known8 Inv-loop μ-loop → tie.Start Inv-loop μ-loop
+before-slice-known8 c = c .before .before .before .before .before .before .before .before .before
+
+abbrev before-loop : tie.At-loop Inv-loop μ-loop → tie.After-slice-known8 Inv-loop μ-loop
+before-loop c = c .before .before .before
+
+abbrev before-then1 : tie.Then1 Inv-loop μ-loop → tie.At-loop Inv-loop μ-loop
+before-then1 c = c .before .before
+
+abbrev before-turn : tie.After-turn Inv-loop μ-loop → tie.Then1 Inv-loop μ-loop
+before-turn c = c .before .before .before .before .before .before .before .before .before
+
+abbrev before-tokens2 : tie.After-tokens2 Inv-loop μ-loop → tie.After-turn Inv-loop μ-loop
+before-tokens2 c = c .before .before .before .before .before .before .before .before .before
+
 loop-holds : tie.Need-loop-holds Inv-loop μ-loop
-loop-holds c = (refl, refl, refl, refl, refl, refl, refl, refl, rounding-begin (c .before .before .before .before .before .before .before .before .before .before .before .pre))
+loop-holds c = (refl, refl, refl, refl, refl, refl, refl, refl, rounding-begin (before-slice-known8 (c .before .before) .pre))
 
 turn-requires : tie.Need-turn-requires Inv-loop μ-loop
 turn-requires c κs =
-    let p = c .before .before .before .before .before .before .before .before .before .before .before .before .before .before .before .before .before .before .before .before .before .before .pre in
-    let l = c .before .before .before .before .before .before .before .before .before .before .loop in
+    let p = before-slice-known8 (before-loop (before-then1 (c .before .before .before .before .before .before .before .before))) .pre in
+    let l = before-then1 (c .before .before .before .before .before .before .before .before) .loop in
     let i = l .inv in
     let lent = lent-same (l .area) (l .tokens) (l .area2) (l .tokens2) (p .lent) (i .0) (i .1) (i .3) (i .4) in (
       rounding-attempt (i .8) lent (p .slotted) (omega (arith, p .for-lows, i .5)) (omega (arith, p .for-highs, i .6)) (c .before .before .before .before .before .before .before .before .if1 .taken),
@@ -31,12 +47,12 @@ turn-requires c κs =
     )
 
 loop-less : tie.Need-loop-less Inv-loop μ-loop
-loop-less c = rounding-less (c .before .before .before .before .before .before .before .before .before .before .before .before .before .before .before .before .before .before .before .before .before .before .before .before .before .before .before .loop .inv .8) (c .before .before .before .before .before .before .before .before .before .before .before .before .before .before .before .before .before .before .before .before .before .before .before .before .before .if1 .taken) (c .before .before .before .before .before .before .before .before .before .before .before .before .before .before .before .before .turn .ensures)
+loop-less c = rounding-less (before-then1 (before-turn (before-tokens2 (c .before .before .before .before .before .before .before))) .loop .inv .8) (before-turn (before-tokens2 (c .before .before .before .before .before .before .before)) .if1 .taken) (before-tokens2 (c .before .before .before .before .before .before .before) .turn .ensures)
 
 loop-again : tie.Need-loop-again Inv-loop μ-loop
 loop-again c =
-    let i = c .before .before .before .before .before .before .before .before .before .before .before .before .before .before .before .before .before .before .before .before .before .before .before .before .before .before .before .loop .inv in
-    let t = c .before .before .before .before .before .before .before .before .before .before .before .before .before .before .before .before .turn in (
+    let i = before-then1 (before-turn (before-tokens2 (c .before .before .before .before .before .before .before))) .loop .inv in
+    let t = before-tokens2 (c .before .before .before .before .before .before .before) .turn in (
       t .kept .1 .0 ∙ i .0,
       t .kept .1 .1 .0 ∙ i .1,
       t .kept .1 .1 .1 .0 ∙ i .2,
@@ -45,7 +61,7 @@ loop-again c =
       t .kept .1 .1 .1 .1 .1 .1 .0 ∙ i .5,
       t .kept .1 .1 .1 .1 .1 .1 .1 .0 ∙ i .6,
       t .kept .1 .1 .1 .1 .1 .1 .1 .1 .0 ∙ i .7,
-      rounding-next (i .8) (c .before .before .before .before .before .before .before .before .before .before .before .before .before .before .before .before .before .before .before .before .before .before .before .before .before .if1 .taken) (t .ensures),
+      rounding-next (i .8) (before-turn (before-tokens2 (c .before .before .before .before .before .before .before)) .if1 .taken) (t .ensures),
     )
 
 same-length : tie.Need-same-length Inv-loop μ-loop

@@ -19,32 +19,64 @@ abbrev μ-loop : tie.MeasureT-loop
 μ-loop tape area₀ tokens₀ lines₀ area2₀ tokens2₀ lows₀ highs₀ labels₀ slots₀ slot-words₀ rules s₀ area tokens lines area2 tokens2 lows highs labels slots slot-words s =
     s .left
 
+-- Steps back to an earlier point of the function, each counted once.
+abbrev before-slice-known8 : tie.After-slice-known8 Inv-loop μ-loop → tie.Start Inv-loop μ-loop
+before-slice-known8 c = c .before .before .before .before .before .before .before .before .before
+
+abbrev before-loop : tie.At-loop Inv-loop μ-loop → tie.After-slice-known8 Inv-loop μ-loop
+before-loop c = c .before .before .before .before
+
+abbrev before-then1 : tie.Then1 Inv-loop μ-loop → tie.At-loop Inv-loop μ-loop
+before-then1 c = c .before .before
+
+abbrev before-propagate-once-arg8 : tie.After-propagate-once-arg8 Inv-loop μ-loop → tie.Then1 Inv-loop μ-loop
+before-propagate-once-arg8 c = c .before .before .before .before .before .before .before .before .before
+
+abbrev before-propagate-once : tie.After-propagate-once Inv-loop μ-loop → tie.After-propagate-once-arg8 Inv-loop μ-loop
+before-propagate-once c = c .before .before .before
+
+abbrev before-slice-known19 : tie.After-slice-known19 Inv-loop μ-loop → tie.After-propagate-once Inv-loop μ-loop
+before-slice-known19 c = c .before .before .before .before .before .before .before .before .before
+    .before .before .before .before .before .before .before .before .before
+
 most-rounds-requires : tie.Need-most-rounds-requires Inv-loop μ-loop
-most-rounds-requires c κs = let p = c .before .before .before .before .before .before .before .before .before .before .before .pre in now-few (p .current) (p .limits)
+most-rounds-requires c κs = let p = before-slice-known8 (c .before .before) .pre in now-few (p .current) (p .limits)
 
 loop-holds : tie.Need-loop-holds Inv-loop μ-loop
-loop-holds c = (refl, refl, refl, refl, refl, refl, refl, refl, refl, refl, going-begin (c .before .before .before .before .before .before .before .before .before .before .before .before .pre) (c .most-rounds .ensures))
+loop-holds c = (refl, refl, refl, refl, refl, refl, refl, refl, refl, refl, going-begin (before-slice-known8 (c .before .before .before) .pre) (c .most-rounds .ensures))
 
 propagate-once-requires : tie.Need-propagate-once-requires Inv-loop μ-loop
 propagate-once-requires c κs =
-    let l = c .before .before .before .before .before .before .before .before .before .before .before .before .before .loop in
+    let l = before-then1 (before-propagate-once-arg8 (c .before .before)) .loop in
     let i = l .inv in
-    runnable-again (l .area2) (l .tokens2) (l .labels) (l .slots) (l .slot-words) (l .lows) (l .highs) (c .before .before .before .before .before .before .before .before .before .before .before .before .before .before .before .before .before .before .before .before .before .before .before .before .before .before .pre) (i .10)
+    runnable-again (l .area2) (l .tokens2) (l .labels) (l .slots) (l .slot-words) (l .lows) (l .highs) (before-slice-known8 (before-loop (before-then1 (before-propagate-once-arg8 (c .before .before)))) .pre) (i .10)
     (i .0) (i .1) (i .3) (i .4) (i .5) (i .6) (i .7) (i .8) (i .9)
 
 after-round-requires : tie.Need-after-round-requires Inv-loop μ-loop
-after-round-requires c κs = (c .before .before .before .before .before .before .before .before .before .before .before .before .before .before .before .before .before .before .before .before .before .before .before .before .before .before .before .before .before .before .before .before .before .before .loop .inv .10 .few, c .before .before .before .before .before .before .before .before .before .before .before .before .before .before .before .before .before .before .before .before .propagate-once .ensures .few, omega (arith, c .before .before .before .before .before .before .before .before .before .before .before .before .before .before .before .before .before .before .before .before .before .before .before .before .before .before .before .before .before .before .before .before .if1 .taken))
+after-round-requires c κs = (before-then1 (before-propagate-once-arg8 (before-propagate-once (before-slice-known19 (c .before .before)))) .loop .inv .10 .few, before-slice-known19 (c .before .before) .propagate-once .ensures .few, omega (arith, before-propagate-once-arg8 (before-propagate-once (before-slice-known19 (c .before .before))) .if1 .taken))
 
 loop-less : tie.Need-loop-less Inv-loop μ-loop
 loop-less c =
-    let left = c .before .before .before .before .before .before .before .before .before .before .before .before .before .before .before .before .before .before .before .before .before .before .before .before .before .before .before .before .before .before .before .before .before .if1 .taken in
-    rw (c .after-round .ensures) (going-less (c .before .before .before .before .before .before .before .before .before .before .before .before .before .before .before .before .before .before .before .before .before .before .before .before .before .before .before .before .before .before .before .before .before .before .before .loop .inv .10) (omega arith) (c .before .before .before .before .before .before .before .before .before .before .before .before .before .before .before .before .before .before .before .before .before .propagate-once .ensures))
+    let p0 = c .before .before .before in
+    let p1 = p0 .before .before .before .before .before .before .before .before .before in
+    let p2 = p1 .before .before .before .before .before .before .before .before .before in
+    let p4 = p2 .before .before .before in
+    let p5 = p4 .before .before .before .before .before .before .before .before .before in
+    let p6 = p5 .before .before in
+    let left = p5 .if1 .taken in
+    rw (c .after-round .ensures) (going-less (p6 .loop .inv .10) (omega arith) (p2 .propagate-once .ensures))
 
 loop-again : tie.Need-loop-again Inv-loop μ-loop
 loop-again c =
-    let r = c .before .before .before .before .before .before .before .before .before .before .before .before .before .before .before .before .before .before .before .before .before .propagate-once in
-    let left = c .before .before .before .before .before .before .before .before .before .before .before .before .before .before .before .before .before .before .before .before .before .before .before .before .before .before .before .before .before .before .before .before .before .if1 .taken in
-    let i = c .before .before .before .before .before .before .before .before .before .before .before .before .before .before .before .before .before .before .before .before .before .before .before .before .before .before .before .before .before .before .before .before .before .before .before .loop .inv in (
+    let p0 = c .before .before .before in
+    let p1 = p0 .before .before .before .before .before .before .before .before .before in
+    let p2 = p1 .before .before .before .before .before .before .before .before .before in
+    let p4 = p2 .before .before .before in
+    let p5 = p4 .before .before .before .before .before .before .before .before .before in
+    let p6 = p5 .before .before in
+    let r = p2 .propagate-once in
+    let left = p5 .if1 .taken in
+    let i = p6 .loop .inv in (
       r .kept .1 .0 ∙ i .0,
       r .kept .1 .1 .0 ∙ i .1,
       r .kept .1 .1 .1 .0 ∙ i .2,
@@ -89,7 +121,7 @@ same-length-10 : tie.Need-same-length-10 Inv-loop μ-loop
 same-length-10 c = c .before .before .loop .inv .9
 
 returns : tie.Need-returns Inv-loop μ-loop
-returns c = going-end (c .before .before .loop .inv .10) (c .before .before .before .before .before .before .before .before .before .before .before .before .before .before .before .pre) (c .before .before .before .most-rounds .ensures) (c .if1 .left)
+returns c = going-end (c .before .before .loop .inv .10) (before-slice-known8 (before-loop (c .before .before)) .pre) (c .before .before .before .most-rounds .ensures) (c .if1 .left)
 
 pub make-rounds-spec : {M : Type 1} → statement M
 make-rounds-spec =

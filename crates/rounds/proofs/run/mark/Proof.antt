@@ -6,35 +6,39 @@ use Rattle.rounds.proofs.Marking.{same-marked}
 use Rattle.rounds.proofs.run.mark.Statement.{statement}
 use Rattle.rounds.proofs.run.mark.Tie as tie
 
-slice-aggregate-mark-lines : tie.Need-slice-aggregate-mark-lines
-slice-aggregate-mark-lines c = sym (length-take-le _ _ (c .before .before .before .before .before .pre .text-fits))
+-- Steps back to an earlier point of the function, each counted once.
+abbrev before-lines : tie.After-lines → tie.Start
+before-lines c = c .before .before .before .before .before .before .before .before .before
 
-slice-aggregate-mark-lines-2 : tie.Need-slice-aggregate-mark-lines-2
-slice-aggregate-mark-lines-2 c = sym (length-take-le _ _ (c .before .before .before .before .before .before .pre .words-fit))
+slice-aggregate-gather-facts : tie.Need-slice-aggregate-gather-facts
+slice-aggregate-gather-facts c = sym (length-take-le _ _ (c .before .before .before .before .before .pre .text-fits))
 
-slice-relend-prefix-mark-lines : tie.Need-slice-relend-prefix-mark-lines
-slice-relend-prefix-mark-lines c = search needs
+slice-aggregate-gather-facts-2 : tie.Need-slice-aggregate-gather-facts-2
+slice-aggregate-gather-facts-2 c = sym (length-take-le _ _ (c .before .before .before .before .before .before .pre .words-fit))
 
-slice-aggregate-mark-lines-3 : tie.Need-slice-aggregate-mark-lines-3
-slice-aggregate-mark-lines-3 c = sym (length-take-le _ _ (c .before .before .before .before .before .before .before .pre .lines-fit))
+slice-relend-prefix-gather-facts : tie.Need-slice-relend-prefix-gather-facts
+slice-relend-prefix-gather-facts c = search needs
 
-mark-lines-requires : tie.Need-mark-lines-requires
-mark-lines-requires c κs = search needs
+slice-aggregate-gather-facts-3 : tie.Need-slice-aggregate-gather-facts-3
+slice-aggregate-gather-facts-3 c = sym (length-take-le _ _ (c .before .before .before .before .before .before .before .pre .lines-fit))
+
+gather-facts-requires : tie.Need-gather-facts-requires
+gather-facts-requires c κs = search needs
 
 same-length : tie.Need-same-length
 same-length c = search needs
 
 returns : tie.Need-returns
-returns c = same-marked (c .before .before .before .before .before .before .before .before .before .before .pre) (c .before .before .mark-lines .ensures)
+returns c = same-marked (before-lines (c .before) .pre) (c .before .before .gather-facts .ensures)
 
 pub mark-spec : {M : Type 1} → statement M
 mark-spec =
     tie.close
     (tie.spec
-    slice-aggregate-mark-lines
-    slice-aggregate-mark-lines-2
-    slice-relend-prefix-mark-lines
-    slice-aggregate-mark-lines-3
-    mark-lines-requires
+    slice-aggregate-gather-facts
+    slice-aggregate-gather-facts-2
+    slice-relend-prefix-gather-facts
+    slice-aggregate-gather-facts-3
+    gather-facts-requires
     same-length
     returns)

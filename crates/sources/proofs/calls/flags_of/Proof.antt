@@ -20,7 +20,9 @@ enum-told : tie.Need-enum-told
 enum-told c = search needs
 
 walk-requires : tie.Need-walk-requires
-walk-requires c κs = let k = c .before .before .before .before .before .before .before .before .before .before in
+walk-requires c κs =
+    let w = c .before in
+    let k = w .before .before .before .before .before .before .before .before .before in
     let b = k .before .before .before .before .before .before .before .before in
     let s = b .before in
     let a = s .args in
@@ -55,8 +57,10 @@ same-length-7 : tie.Need-same-length-7
 same-length-7 c = search needs
 
 returns-2 : tie.Need-returns-2
-returns-2 c = let w = c .before .before in
-    let k = w .before .before .before .before .before .before .before .before .before .before .before in
+returns-2 c =
+    let w = c .before .before in
+    let w2 = w .before .before in
+    let k = w2 .before .before .before .before .before .before .before .before .before in
     let b = k .before .before .before .before .before .before .before .before in
     let s = b .before in
     let a = s .args in

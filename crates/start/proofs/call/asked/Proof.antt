@@ -7,6 +7,13 @@ use Rattle.start.proofs.Asking.{profiled, few-words, out-of-profile, lo
 use Rattle.start.proofs.call.asked.Statement.{statement}
 use Rattle.start.proofs.call.asked.Tie as tie
 
+-- Steps back to an earlier point of the function, each counted once.
+abbrev before-at-match-keys2 : tie.At-match-keys2 → tie.After-load
+before-at-match-keys2 c = c .before .before .before .before .before .before .before .before .before
+
+abbrev before-at-match-keys1 : tie.At-match-keys1 → tie.After-load
+before-at-match-keys1 c = c .before .before .before .before .before .before .before .before .before
+
 slice-aggregate-load : tie.Need-slice-aggregate-load
 slice-aggregate-load c = search needs
 
@@ -47,33 +54,33 @@ enum-told : tie.Need-enum-told
 enum-told c = search needs
 
 array-share-prefix-tokens-2 : tie.Need-array-share-prefix-tokens-2
-array-share-prefix-tokens-2 c = let l = c .before .before .before .before .before .before .before .before .before .before .load in words-fit _ _ _ _ _ (l .ensures .0) (sym (l .kept .1 .0))
+array-share-prefix-tokens-2 c = let l = before-at-match-keys2 (c .before) .load in words-fit _ _ _ _ _ (l .ensures .0) (sym (l .kept .1 .0))
 
 slice-aggregate-solved : tie.Need-slice-aggregate-solved
-slice-aggregate-solved c = let l = c .before .before .before .before .before .before .before .before .before .before .before .load in sym (length-take-le _ _ (words-fit _ _ _ _ _ (l .ensures .0) (sym (l .kept .1 .0))))
+slice-aggregate-solved c = let l = before-at-match-keys2 (c .before .before) .load in sym (length-take-le _ _ (words-fit _ _ _ _ _ (l .ensures .0) (sym (l .kept .1 .0))))
 
 array-share-prefix-lines-2 : tie.Need-array-share-prefix-lines-2
-array-share-prefix-lines-2 c = let l = c .before .before .before .before .before .before .before .before .before .before .before .load in lines-fit _ _ _ _ _ (l .ensures .0) (sym (l .kept .1 .1 .0))
+array-share-prefix-lines-2 c = let l = before-at-match-keys2 (c .before .before) .load in lines-fit _ _ _ _ _ (l .ensures .0) (sym (l .kept .1 .1 .0))
 
 slice-aggregate-solved-2 : tie.Need-slice-aggregate-solved-2
-slice-aggregate-solved-2 c = let l = c .before .before .before .before .before .before .before .before .before .before .before .before .load in sym (length-take-le _ _ (lines-fit _ _ _ _ _ (l .ensures .0) (sym (l .kept .1 .1 .0))))
+slice-aggregate-solved-2 c = let l = before-at-match-keys2 (c .before .before .before) .load in sym (length-take-le _ _ (lines-fit _ _ _ _ _ (l .ensures .0) (sym (l .kept .1 .1 .0))))
 
 solved-requires : tie.Need-solved-requires
 solved-requires c κs =
     let b = c .before .before .before .before in
-    let l = c .before .before .before .before .before .before .before .before .before .before .before .before .load in
+    let l = before-at-match-keys2 (c .before .before .before) .load in
     (profiled _ _ _ _ _ (l .ensures .0) (b .breaks .result) (b .breaks .ensures) (c .before .before .enum-told .given .1), few-words _ _ _ _ _ (l .ensures .0) (b .breaks .result) (b .breaks .ensures))
 
 returns : tie.Need-returns
 returns c = λ input e.
     (let b = c .before .before .before in
-    let l = c .before .before .before .before .before .before .before .before .before .before .before .load in
+    let l = before-at-match-keys1 (c .before .before) .load in
     out-of-profile _ _ _ input (b .breaks .result) (breaks-is _ _ _ _ _ (l .ensures .0) (b .breaks .result) (b .breaks .ensures) input e) _ (c .before .line .given .1))
 
 returns-2 : tie.Need-returns-2
 returns-2 c = λ input e.
     (let b = c .before .before .before .before .before in
-    let l = c .before .before .before .before .before .before .before .before .before .before .before .before .before .load in
+    let l = before-at-match-keys2 (c .before .before .before .before) .load in
     loaded-answer _ _ _ _ _ (l .ensures .0) (b .breaks .result) (b .breaks .ensures) (c .before .before .before .enum-told .given .1) _ _ _ (c .solved .ensures) input e)
 
 pub asked-spec : {M : Type 1} → statement M

@@ -5,6 +5,10 @@ use Rattle.start.proofs.Pricing.{target-points, line-assigned, line-una
 use Rattle.start.proofs.reckoning.assign_line.Statement.{statement}
 use Rattle.start.proofs.reckoning.assign_line.Tie as tie
 
+-- Steps back to an earlier point of the function, each counted once.
+abbrev before-known-told : tie.After-known-told → tie.Start
+before-known-told c = c .before .before .before .before .before .before .before .before .before
+
 slice-aggregate-behind-first : tie.Need-slice-aggregate-behind-first
 slice-aggregate-behind-first c = search needs
 
@@ -25,7 +29,7 @@ shared-slice-read-overwrite c = search needs
 
 overwrite-requires : tie.Need-overwrite-requires
 overwrite-requires c κs =
-    let s = c .before .before .before .before .before .before .before .before .before .before .before .before in
+    let s = before-known-told (c .before .before .before) in
     (s .pre .0, target-points _ _ (s .args .l) _ (c .before .before .first .ensures) (s .pre .1) (s .pre .0), s .pre .2)
 
 enum-told : tie.Need-enum-told
@@ -38,7 +42,7 @@ returns : tie.Need-returns
 returns c =
     let o = c .before .before in
     let m = o .before .before .before .before in
-    let s = m .before .before .before .before .before .before .before .before .before in
+    let s = before-known-told m in
     line-assigned _ _ (s .args .l) _ (o .before .before .before .first .ensures) (s .pre .1) _ _ (m .before .before .before .behind-first .ensures) _ _ _ _ (m .before .multiplier .given .1) (o .overwrite .ensures)
 
 same-length-2 : tie.Need-same-length-2

@@ -10,6 +10,13 @@ use Rattle.states.proofs.Passing.{delete-refused, delete-ready, delete-
 use Rattle.states.proofs.calls.delete.Statement.{statement}
 use Rattle.states.proofs.calls.delete.Tie as tie
 
+-- Steps back to an earlier point of the function, each counted once.
+abbrev before-store-bytes : tie.After-store-bytes → tie.Start
+before-store-bytes c = c .before .before .before
+
+abbrev before-store : tie.After-store → tie.After-store-bytes
+before-store c = c .before .before .before .before .before .before .before .before .before
+
 store-bytes-requires : tie.Need-store-bytes-requires
 store-bytes-requires c κs = search needs
 
@@ -24,7 +31,7 @@ enum-known-i c = search needs
 
 cell-start-requires : tie.Need-cell-start-requires
 cell-start-requires c κs =
-    let s = c .before .before .before .before .before .before .before .before .before in
+    let s = before-store-bytes (c .before .before .before .before .before .before) in
     let i =
     delete-ready (s .args .store .now) (s .args .name .now)
     (whole-room (s .args .store .now) (c .before .before .before .before .before .before .store-bytes .ensures))
@@ -33,7 +40,7 @@ cell-start-requires c κs =
 
 release-requires : tie.Need-release-requires
 release-requires c κs =
-    let s = c .before .before .before .before .before .before .before .before .before .before in
+    let s = before-store-bytes (c .before .before .before .before .before .before .before) in
     let i =
     delete-ready (s .args .store .now) (s .args .name .now)
     (whole-room (s .args .store .now) (c .before .before .before .before .before .before .before .store-bytes .ensures))
@@ -45,7 +52,7 @@ same-length c = search needs
 
 returns : tie.Need-returns
 returns c =
-    let s = c .before .before .before .before .before .before .before .before in
+    let s = before-store-bytes (c .before .before .before .before .before) in
     delete-refused (s .args .store .now) (s .args .name .now)
     (whole-room (s .args .store .now) (c .before .before .before .before .before .store-bytes .ensures))
     (sym (ap cell-of (c .before .number .given .1)) ∙ c .before .before .before .held .ensures)
@@ -55,10 +62,10 @@ same-length-2 c = search needs
 
 returns-2 : tie.Need-returns-2
 returns-2 c =
-    let s = c .before .before .before .before .before .before .before .before .before .before .before .before .before in
+    let s = before-store-bytes (before-store (c .before)) in
     delete-done (s .args .store .now) (s .args .name .now)
     (whole-room (s .args .store .now)
-    (c .before .before .before .before .before .before .before .before .before .before .store-bytes .ensures))
+    (before-store (c .before) .store-bytes .ensures))
     (sym (ap cell-of (c .before .before .before .before .before .before .i .given .1))
     ∙ c .before .before .before .before .before .before .before .before .held .ensures)
     (c .before .before .before .cell-start .ensures) (c .before .before .release .ensures)

@@ -9,6 +9,10 @@ use borrow.Author.Needs.{needs}
 use Rattle.states.proofs.calls.restore.Statement.{statement}
 use Rattle.states.proofs.calls.restore.Tie as tie
 
+-- Steps back to an earlier point of the function, each counted once.
+abbrev before-copy-out-arg : tie.After-copy-out-arg → tie.Start
+before-copy-out-arg c = c .before .before .before .before .before .before .before .before .before
+
 has-room-requires : tie.Need-has-room-requires
 has-room-requires c κs = search needs
 
@@ -24,7 +28,7 @@ enum-known-i c = search needs
 copy-out-requires : tie.Need-copy-out-requires
 unfolding is-whole
 copy-out-requires c κs =
-    let s = c .before .before .before .before .before .before .before .before .before in
+    let s = before-copy-out-arg c in
     restore-ready (s .args .store .now) (s .args .name .now) (s .args .out .now)
     (c .before .before .before .before .before .before .has-room .ensures)
     (sym (ap cell-of (c .before .before .i .given .1)) ∙ c .before .before .before .before .held .ensures)
@@ -42,7 +46,7 @@ same-length c = search needs
 
 returns-2 : tie.Need-returns-2
 unfolding is-whole
-returns-2 c = let s = c .before .before .before .before .before .before .before .before .before .before .before .before in
+returns-2 c = let s = before-copy-out-arg (c .before .before .before) in
     let w = c .before .before .copy-out .ensures in
     restore-done (s .args .store .now) (s .args .name .now) (s .args .out .now)
     (c .before .before .before .before .before .before .before .before .before .has-room .ensures)

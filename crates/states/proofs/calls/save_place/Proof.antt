@@ -13,6 +13,13 @@ use borrow.Author.Needs.{needs}
 use Rattle.states.proofs.calls.save_place.Statement.{statement}
 use Rattle.states.proofs.calls.save_place.Tie as tie
 
+-- Steps back to an earlier point of the function, each counted once.
+abbrev before-at-match2-keys2 : tie.At-match2-keys2 → tie.Start
+before-at-match2-keys2 c = c .before .before .before .before .before .before .before .before .before
+
+abbrev before-at-match2-keys1 : tie.At-match2-keys1 → tie.Start
+before-at-match2-keys1 c = c .before .before .before .before .before .before .before .before .before
+
 store-bytes-requires : tie.Need-store-bytes-requires
 store-bytes-requires c κs = search needs
 
@@ -36,7 +43,7 @@ enum-told-2 c = search needs
 
 place-for-requires : tie.Need-place-for-requires
 unfolding is-whole
-place-for-requires c κs = let s = c .before .before .before .before .before .before .before .before .before .before in
+place-for-requires c κs = let s = before-at-match2-keys2 (c .before) in
     let z = c .before .before .before .before .before .before .store-bytes .ensures in
     let o = plain-passed _ (sym (ap answer-of (c .before .before .before .enum-told .given .1))
     ∙ c .before .before .before .before .before .opened .ensures) in
@@ -51,7 +58,7 @@ returns c = let s = c .before .before .before .before .before .before .before .b
 
 returns-2 : tie.Need-returns-2
 unfolding is-whole
-returns-2 c = let s = c .before .before .before .before .before .before .before .before .before .before .before in
+returns-2 c = let s = before-at-match2-keys1 (c .before .before) in
     let z = c .before .before .before .before .before .before .before .store-bytes .ensures in
     let o = plain-passed _ (sym (ap answer-of (c .before .before .before .before .enum-told .given .1))
     ∙ c .before .before .before .before .before .before .opened .ensures) in
@@ -60,7 +67,7 @@ returns-2 c = let s = c .before .before .before .before .before .before .before 
 
 returns-3 : tie.Need-returns-3
 unfolding is-whole
-returns-3 c = let s = c .before .before .before .before .before .before .before .before .before .before .before in
+returns-3 c = let s = before-at-match2-keys2 (c .before .before) in
     let z = c .before .before .before .before .before .before .before .store-bytes .ensures in
     let o = plain-passed _ (sym (ap answer-of (c .before .before .before .before .enum-told .given .1))
     ∙ c .before .before .before .before .before .before .opened .ensures) in

@@ -9,6 +9,10 @@ use borrow.Author.Needs.{needs}
 use Rattle.states.proofs.calls.take.Statement.{statement}
 use Rattle.states.proofs.calls.take.Tie as tie
 
+-- Steps back to an earlier point of the function, each counted once.
+abbrev before-write-body-arg : tie.After-write-body-arg → tie.Start
+before-write-body-arg c = c .before .before .before .before .before .before .before .before .before
+
 cell-start-requires : tie.Need-cell-start-requires
 cell-start-requires c κs = search needs
 
@@ -36,11 +40,11 @@ copy-bytes-requires c κs =
 
 add-write-body : tie.Need-add-write-body
 add-write-body c =
-    let s = c .before .before .before .before .before .before .before .before .before in
+    let s = before-write-body-arg c in
     omega (arith, c .before .before .before .before .before .cell-start .ensures, cell-ends (s .args .i) (s .pre .0 .below), store-fits)
 
 write-body-requires : tie.Need-write-body-requires
-write-body-requires c κs = let s = c .before .before .before .before .before .before .before .before .before in
+write-body-requires c κs = let s = before-write-body-arg c in
     let k : length (c .before .before .before .copy-bytes .last .1 .0) ≡ length (s .args .store .now) = c .before .before .before
     .copy-bytes .kept .1 .0 ∙ simp length-set in (
       omega (
@@ -61,7 +65,10 @@ same-length c =
     c .before .before .write-body .kept .0 ∙ c .before .before .before .before .before .before .copy-bytes .kept .1 .0 ∙ simp length-set
 
 returns : tie.Need-returns
-returns c = let s = c .before .before .before .before .before .before .before .before .before .before .before .before in
+returns c =
+    let p0 = c .before .before .before in
+    let p1 = p0 .before .before .before .before .before .before .before .before .before in
+    let s = p1 in
     let e = c .before .before .before .before .before .before .before .before .cell-start .ensures in
     cell-written (s .args .store .now) (c .before .before .before .before .before .before .before .before .cell-start .result)
     (s .args .name .now) (s .args .tape .now) (omega (arith, e, cell-ends (s .args .i) (s .pre .0 .below), s .pre .0 .whole, room-is))

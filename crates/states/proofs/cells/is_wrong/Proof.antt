@@ -8,6 +8,10 @@ use borrow.Author.Needs.{needs}
 use Rattle.states.proofs.cells.is_wrong.Statement.{statement}
 use Rattle.states.proofs.cells.is_wrong.Tie as tie
 
+-- Steps back to an earlier point of the function, each counted once.
+abbrev before-cell-name : tie.After-cell-name → tie.Start
+before-cell-name c = c .before .before .before .before .before .before .before .before .before
+
 cell-at-requires : tie.Need-cell-at-requires
 cell-at-requires c κs = search needs
 
@@ -50,7 +54,7 @@ is-taken-requires : tie.Need-is-taken-requires
 is-taken-requires c κs = search needs
 
 returns-4 : tie.Need-returns-4
-returns-4 c = let s = c .before .before .before .before .before .before .before .before .before .before in
+returns-4 c = let s = before-cell-name (c .before) in
     c .is-taken .ensures
     ∙ rw (c .before .cell-name .ensures)
     (wrong-twice (s .args .store .now) (s .args .i) (c .before .before .before .before .before .before .before .before .cell-at .ensures)

@@ -1,4 +1,4 @@
--- `tape::loading::add_token` meets its contract. Assumes nothing.
+-- `tables::loading::add_token` meets its contract. Assumes nothing.
 use native.Mathlib.Omega.{arith}
 use borrow.Author.Needs.{needs}
 use Rattle.tables.proofs.loading.add_token.Statement.{statement}

@@ -1,4 +1,4 @@
--- `tape::loading::code_first` meets its contract. Assumes nothing.
+-- `tables::loading::code_first` meets its contract. Assumes nothing.
 use Prim.Native.Nat.{_-_}
 use native.Mathlib.Omega.{arith}
 use lib.ListN.{length, length-set}

@@ -1,5 +1,5 @@
--- `tape::loading::fill` meets its contract: a walk of its MIR, by hand, with a loop. A turn reads a record (`line_at`, to which the slice is lent as
--- `&`), has the covered `lay` take the next command (the tokens are lent again to it), and stores the record that it makes (`store_line`, to which the
+-- `tables::loading::fill` meets its contract: a walk of its MIR, by hand, with a loop. A turn reads a record (`line_at`, to which the slice is lent as
+-- `&`), has the covered `load_command` take the next command (the tokens are lent again to it), and stores the record that it makes (`store_line`, to which the
 -- slice is lent again).
 --     State        the loop's state: where the laying stands, the records and the words of the tokens, and what holds of them
 --     At t         the invariant: the slices are at t's lists, `s` is t's, and every local but these and the parameters is room
@@ -48,31 +48,31 @@ use denote.Triple.Table.{entered, cited}
 use denote.Triple.Walked.{says, needs, Stays, stay-none-slice, stay-slice, walkOf, goes-none-slice, goes-slice, Walks, ends-at, walked, walk-meets}
 use denote.Exit.{yes}
 use denote.Triple.Clauses.{ensured, lasts}
-use Rattle.tape.specs.Questions.{Accepted}
-use Rattle.tables.specs.Records.{blank, start-of, Recorded, Ready, Lays}
+use Rattle.tape.specs.Questions.{AcceptedTape}
+use Rattle.tables.specs.Records.{blank, start-of, Recorded, Ready, StepLoads}
 use Rattle.tape.specs.declared.questions.Totals.{Totals}
 use Rattle.tables.specs.declared.records.LineRecord.{LineRecord}
-use Rattle.tables.specs.declared.loading.Laying.{Laying}
-use Rattle.tables.specs.declared.loading.Laid.{Laid}
+use Rattle.tables.specs.declared.loading.LoadState.{LoadState}
+use Rattle.tables.specs.declared.loading.LoadStep.{LoadStep}
 use Rattle.tables.proofs.records.Again.{LentAgain, lends-again-at, comes-back-at, LentShared, shares-again-at, shares-back-at}
 use Rattle.tables.proofs.records.Shared.{after, LineAt, StoreLine, at-said, to-at, goes-at, to-store, goes-store}
-use Rattle.tables.proofs.loading.Turns.{Going, going-start, going-ready, laid-line, laid-going, laid-over, laid-less, left}
+use Rattle.tables.proofs.loading.Turns.{Going, going-start, going-ready, step-loaded-line, step-loaded-going, step-loaded-over, step-loaded-less, left}
 use Rattle.tape.proofs.questions.Totals as Q
 use Rattle.tape.proofs.questions.Totals.Laws as Q′
 use Rattle.tables.proofs.records.LineRecord as T
 use Rattle.tables.proofs.records.LineRecord.Laws as T′
-use Rattle.tables.proofs.loading.Laying as S
-use Rattle.tables.proofs.loading.Laying.Laws as S′
-use Rattle.tables.proofs.loading.Laid as U
-use Rattle.tables.proofs.loading.Laid.Laws as U′
+use Rattle.tables.proofs.loading.LoadState as S
+use Rattle.tables.proofs.loading.LoadState.Laws as S′
+use Rattle.tables.proofs.loading.LoadStep as U
+use Rattle.tables.proofs.loading.LoadStep.Laws as U′
 use Rattle.tables.proofs.loading.start as start
 use Rattle.tables.proofs.loading.start.Symbol as start-def
 use Rattle.tables.proofs.loading.start.Symbol.{name as #tables·start}
 use Rattle.tables.proofs.loading.start.Met as start-thm
-use Rattle.tables.proofs.loading.lay as lay
-use Rattle.tables.proofs.loading.lay.Symbol as lay-def
-use Rattle.tables.proofs.loading.lay.Symbol.{name as #tables·lay}
-use Rattle.tables.proofs.loading.lay.Met as lay-thm
+use Rattle.tables.proofs.loading.load_command as load-command
+use Rattle.tables.proofs.loading.load_command.Symbol as load-command-def
+use Rattle.tables.proofs.loading.load_command.Symbol.{name as #tables·load-command}
+use Rattle.tables.proofs.loading.load_command.Met as load-command-thm
 use Rattle.tables.proofs.records.line_at as line-at
 use Rattle.tables.proofs.records.line_at.Symbol as line-at-def
 use Rattle.tables.proofs.records.line_at.Symbol.{name as #tables·line-at}
@@ -107,7 +107,7 @@ fails false _ = refl
 
 -- ---- the loop's state
 pub record State (tape xs : List ℕ) (ys : List LineRecord) : Type 0 where
-  pub s : Laying
+  pub s : LoadState
   pub l : List LineRecord
   pub w : List ℕ
   pub is : Is S.the-row s (LL.vals S.the-type S′.the-laws s)
@@ -124,7 +124,7 @@ module _ (tape xs : List ℕ) (ys : List LineRecord) where
   Fewer-wf : WellFounded Fewer
   Fewer-wf = InvImage·wf (λ (t : State tape xs ys). left tape (t .s)) (Nat·lt-wfRel .wf)
 
-  module _ (pre : Accepted tape × (1024 ≤ length xs) × (256 ≤ length ys)) (t : State tape xs ys) where
+  module _ (pre : AcceptedTape tape × (1024 ≤ length xs) × (256 ≤ length ys)) (t : State tape xs ys) where
     long : 1024 ≤ length (t .w)
     long = omega (arith, pre .1, t .len-w)
 
@@ -139,12 +139,12 @@ module _ (tape xs : List ℕ) (ys : List LineRecord) where
       ready : (r : LineRecord) → r ≡ getD (t .l) (t .s .line) blank → Ready tape (t .w) (t .s) r
       ready r e = subst (λ (z : LineRecord). Ready tape (t .w) (t .s) z) (sym e) (going-ready (pre .0) long wide goes)
 
-      module _ {w′ : List ℕ} {u : Laid} (r : LineRecord) (r-is : r ≡ getD (t .l) (t .s .line) blank) (lays : Lays tape (t .s) r (t .w) w′ u) where
-        taken : Lays tape (t .s) (getD (t .l) (t .s .line) blank) (t .w) w′ u
-        taken = subst (λ (z : LineRecord). Lays tape (t .s) z (t .w) w′ u) r-is lays
+      module _ {w′ : List ℕ} {u : LoadStep} (r : LineRecord) (r-is : r ≡ getD (t .l) (t .s .line) blank) (step-loads : StepLoads tape (t .s) r (t .w) w′ u) where
+        taken : StepLoads tape (t .s) (getD (t .l) (t .s .line) blank) (t .w) w′ u
+        taken = subst (λ (z : LineRecord). StepLoads tape (t .s) z (t .w) w′ u) r-is step-loads
 
         place-ok : u .next .line < 256
-        place-ok = laid-line (pre .0) long wide goes taken (t .line-ok)
+        place-ok = step-loaded-line (pre .0) long wide goes taken (t .line-ok)
 
         module _ (len′ : length w′ ≡ length (t .w)) {l′ : List LineRecord} (l-is : l′ ≡ set (t .l) (u .next .line) (u .line)) (ok : Is S.the-row (u .next) (LL.vals S.the-type S′.the-laws (u .next))) where
           abbrev next : State tape xs ys
@@ -156,25 +156,25 @@ module _ (tape xs : List ℕ) (ys : List LineRecord) where
             line-ok = place-ok;
             len = ap length l-is ∙ (length-set (t .l) (u .next .line) (u .line) ∙ t .len);
             len-w = len′ ∙ t .len-w;
-            going = λ e. subst (λ (z : List LineRecord). Going tape w′ z (u .next)) (sym l-is) (laid-going (pre .0) long wide goes taken e);
-            over = λ e. subst (λ (z : List LineRecord). Recorded tape w′ z (u .next .totals)) (sym l-is) (laid-over (pre .0) long wide goes taken e);
+            going = λ e. subst (λ (z : List LineRecord). Going tape w′ z (u .next)) (sym l-is) (step-loaded-going (pre .0) long wide goes taken e);
+            over = λ e. subst (λ (z : List LineRecord). Recorded tape w′ z (u .next .totals)) (sym l-is) (step-loaded-over (pre .0) long wide goes taken e);
           }
 
           fewer : Fewer next t
-          fewer = laid-less (pre .0) long wide goes taken (holds _ go)
+          fewer = step-loaded-less (pre .0) long wide goes taken (holds _ go)
 
 -- ---- the contracts that the proof cites
 module _ {M : Type 1} (𝓤 : URA M) (H : Heap 𝓤) (A : Atoms 𝓤) (mem : Memory → SProp 𝓤) (run : Routine → Fun 𝓤) where
   abbrev Start : Contract 𝓤
   Start = tripleOf 𝓤 H A start.signature (start.spec 𝓤 H A mem run)
 
-  abbrev Lay : Contract 𝓤
-  Lay = tripleOf 𝓤 H A lay.signature (lay.spec 𝓤 H A mem run)
+  abbrev LoadCommand : Contract 𝓤
+  LoadCommand = tripleOf 𝓤 H A load-command.signature (load-command.spec 𝓤 H A mem run)
 
-  start-said : (r : Laying) → ent 𝓤 (ensured 𝓤 H A start.ended (start.clauses 𝓤 H A mem run) tt tt tt r) (fact 𝓤 (r ≡ start-of))
+  start-said : (r : LoadState) → ent 𝓤 (ensured 𝓤 H A start.ended (start.clauses 𝓤 H A mem run) tt tt tt r) (fact 𝓤 (r ≡ start-of))
   start-said r = exE 𝓤 _ (λ ws. snd∗ 𝓤 (sem 𝓤 H A (lasts start.ended tt tt ws)) (fact 𝓤 (r ≡ start-of)))
 
-module _ {M : Type 1} (𝓤 : URA M) (H : Heap 𝓤) (A : Atoms 𝓤) (W : Given 𝓤 H A) (mem : Memory → SProp 𝓤) (run : Routine → Fun 𝓤) (κ κ₁ κ₂ : Lft) (q q₁ q₂ : Share) (p : RefT (List ℕ)) (b₁ o₁ : ℕ) (γ₁ : GName) (xs : List ℕ) (b o : ℕ) (γ : GName) (ys : List LineRecord) (p-is : Is (ShrSlice (named 0) κ u8) p (slice-vals p)) (room₁ : Room u64 (length xs)) (room : Room T.the-row (length ys)) (pre : Accepted (now p) × (1024 ≤ length xs) × (256 ≤ length ys)) where
+module _ {M : Type 1} (𝓤 : URA M) (H : Heap 𝓤) (A : Atoms 𝓤) (W : Given 𝓤 H A) (mem : Memory → SProp 𝓤) (run : Routine → Fun 𝓤) (κ κ₁ κ₂ : Lft) (q q₁ q₂ : Share) (p : RefT (List ℕ)) (b₁ o₁ : ℕ) (γ₁ : GName) (xs : List ℕ) (b o : ℕ) (γ : GName) (ys : List LineRecord) (p-is : Is (ShrSlice (named 0) κ u8) p (slice-vals p)) (room₁ : Room u64 (length xs)) (room : Room T.the-row (length ys)) (pre : AcceptedTape (now p) × (1024 ≤ length xs) × (256 ≤ length ys)) where
   -- the machine value of the tape; the tokens and the records under a name at a list, and their machine values
   abbrev v : Val
   v = sliceVal (p .ptr) (length (p .now))
@@ -212,7 +212,7 @@ module _ {M : Type 1} (𝓤 : URA M) (H : Heap 𝓤) (A : Atoms 𝓤) (W : Given
   abbrev St : Type 0
   St = State (now p) xs ys
 
-  abbrev mach : Laying → Val
+  abbrev mach : LoadState → Val
   mach = LL.val S.the-type S′.the-laws
 
   abbrev machR : LineRecord → Val
@@ -249,18 +249,18 @@ module _ {M : Type 1} (𝓤 : URA M) (H : Heap 𝓤) (A : Atoms 𝓤) (W : Given
   goes-start : ent 𝓤 (emp 𝓤) (Start 𝓤 H A mem run .pre to-start)
   goes-start = qed W [] ∵ nothing ! $ nothing ! $ nothing ! $ join ! $ frame ! $ done !
 
-  abbrev to-lay : ℕ → GName → List ℕ → Laying → LineRecord → Val → Lay 𝓤 H A mem run .Ghost
-  to-lay μ δ l d r u = (((κ, (μ ∷ [], tt)), (q, (fullShare, tt)), tt, (p, (d, (r, (x₁ δ l, tt)))), (v ∷ [], (mach d ∷ [], (u ∷ [], (s₁ ∷ [], tt))))), tt)
+  abbrev to-load-command : ℕ → GName → List ℕ → LoadState → LineRecord → Val → LoadCommand 𝓤 H A mem run .Ghost
+  to-load-command μ δ l d r u = (((κ, (μ ∷ [], tt)), (q, (fullShare, tt)), tt, (p, (d, (r, (x₁ δ l, tt)))), (v ∷ [], (mach d ∷ [], (u ∷ [], (s₁ ∷ [], tt))))), tt)
 
-  goes-lay : (μ : ℕ) (δ : GName) (l : List ℕ) (d : Laying) (r : LineRecord) (u : Val) → Is S.the-row d (mach d ∷ []) → Ready (now p) l d r
-      → ent 𝓤 (sep 𝓤 (sep 𝓤 (A .lft κ q) (A .lft (μ ∷ []) fullShare)) (sep 𝓤 (sem 𝓤 H A Own) (sep 𝓤 (sem 𝓤 H A (T.the-row .own r (u ∷ []))) (sem 𝓤 H A (MutSlice (named 1) (μ ∷ []) u64 .own (x₁ δ l) (s₁ ∷ [])))))) (Lay 𝓤 H A mem run .pre (to-lay μ δ l d r u))
-  goes-lay μ δ l d r u is ready-is =
+  goes-load-command : (μ : ℕ) (δ : GName) (l : List ℕ) (d : LoadState) (r : LineRecord) (u : Val) → Is S.the-row d (mach d ∷ []) → Ready (now p) l d r
+      → ent 𝓤 (sep 𝓤 (sep 𝓤 (A .lft κ q) (A .lft (μ ∷ []) fullShare)) (sep 𝓤 (sem 𝓤 H A Own) (sep 𝓤 (sem 𝓤 H A (T.the-row .own r (u ∷ []))) (sem 𝓤 H A (MutSlice (named 1) (μ ∷ []) u64 .own (x₁ δ l) (s₁ ∷ [])))))) (LoadCommand 𝓤 H A mem run .pre (to-load-command μ δ l d r u))
+  goes-load-command μ δ l d r u is ready-is =
       qed W ((‵ (flft κ q) ⊛ ‵ (flft (μ ∷ []) fullShare)) ∷ ‵ Own ∷ (‵ (T.the-row .own r (u ∷ [])) ⊛ ‵ (MutSlice (named 1) (μ ∷ []) u64 .own (x₁ δ l) (s₁ ∷ []))) ∷ []) ∵ says ! ready-is $ split ! $
       nothing ! $ move ! (2 ∷ 0 ∷ []) $ join ! $ move ! (1 ∷ 0 ∷ []) $ join ! $ frame ! $ move ! (1 ∷ []) $ split ! $ nothing ! $ move ! (2 ∷ 0 ∷ []) $ fjoin ! $ move ! (1 ∷ 0 ∷ []) $ fjoin ! $
       owned ! S.the-row (Is S.the-row) (LL.makes S.the-type S′.the-plain 𝓤 H A) d (mach d ∷ []) is $ fjoin ! $ move ! (1 ∷ 0 ∷ []) $ fjoin ! $ done !
 
   -- ---- the loop
-  module _ (𝓣 : Tables 𝓤 H) (known-lay : Triple 𝓤 (𝓣 .C #tables·lay) (Lay 𝓤 H A mem run)) (known-at : Triple 𝓤 (𝓣 .C #tables·line-at) (LineAt 𝓤 H A mem run)) (known-store : Triple 𝓤 (𝓣 .C #tables·store-line) (StoreLine 𝓤 H A mem run)) (l₀ l₁ l₂ l₃ l₄ l₅ l₆ l₇ l₈ l₉ la lb lc ld le lf : ℕ) where
+  module _ (𝓣 : Tables 𝓤 H) (known-load-command : Triple 𝓤 (𝓣 .C #tables·load-command) (LoadCommand 𝓤 H A mem run)) (known-at : Triple 𝓤 (𝓣 .C #tables·line-at) (LineAt 𝓤 H A mem run)) (known-store : Triple 𝓤 (𝓣 .C #tables·store-line) (StoreLine 𝓤 H A mem run)) (l₀ l₁ l₂ l₃ l₄ l₅ l₆ l₇ l₈ l₉ la lb lc ld le lf : ℕ) where
     abbrev C : Calls 𝓤 H
     C = 𝓣 .C
 
@@ -324,7 +324,7 @@ module _ {M : Type 1} (𝓤 : URA M) (H : Heap 𝓤) (A : Atoms 𝓤) (W : Given
         land ! (from ! (stop !)) (init ! 25 refl (LL.lawful T.the-type T′.the-laws 𝓤 H A W .typed r (u₁ ∷ []) is₁ .0)) $
         move ! (1 ∷ []) $ split ! $ lft-end ! tt $ move ! (0 ∷ 3 ∷ []) $
         use2 W (later (‵ (Lines (t .l)) ⊛ ‵ (flft κ₂ q₂))) (shares-back-at T.the-row κ₂ (ν ∷ []) q₂ γ b o 𝓤 H A W (named 2) (named 0) (t .l) (length ys) (t .len) room) $ await ! tt $ split ! $ move ! (2 ∷ []) $ drop ! $
-        -- [the records; their token; the record; the words; their token; the tape; its token; _15; …]: `lay`, the words are lent again for the lifetime μ
+        -- [the records; their token; the record; the words; their token; the tape; its token; _15; …]: `load_command`, the words are lent again for the lifetime μ
         assigns ! (addr ! (from ! (fld ! refl (hop ! (look-in ! 33 (sub ! 0 refl (whole !))) (stop !))))) (from ! (stop !)) (init ! 15 refl (tt, tt)) $
         assigns ! (agg ! (and-then ! (load ! (from ! (stop !)) (look ! 15 refl)) (and-then ! (load ! (from ! (fld ! refl (stop !))) (look-in ! 33 (sub ! 1 refl (whole !)))) (no-more !)))) (from ! (stop !)) (init ! 13 refl (tt, (tt, (record { fits = room₁ .0 }, tt)))) $
         lft-new ! tt (λ μ. move ! (4 ∷ 5 ∷ []) $
@@ -332,11 +332,11 @@ module _ {M : Type 1} (𝓤 : URA M) (H : Heap 𝓤) (A : Atoms 𝓤) (W : Given
         (lends-again-at u64 κ₁ (μ ∷ []) q₁ γ₁ b₁ o₁ 𝓤 H A W (named 1) (named 1) (t .w) (length xs) (t .len-w)) $ await ! tt $ pick ! (λ δ₁. split ! $
         -- [the words, lent; the lender's part; μ; the records; their token; the record; the tape; its token; _15; …]
         move ! (6 ∷ []) $ use1 W (‵ Own ⊛ ‵ Own) (shr-slice-copy 𝓤 H A W (named 0) κ u8 .twice p (v ∷ [])) $ split ! $ move ! (8 ∷ 4 ∷ 0 ∷ 7 ∷ 2 ∷ []) $ join ! $ move ! (2 ∷ 3 ∷ []) $ join ! $ move ! (1 ∷ 2 ∷ 0 ∷ []) $
-        use3 W (raw (Lay 𝓤 H A mem run .pre (to-lay μ δ₁ (t .w) (t .s) r u₁))) (goes-lay μ δ₁ (t .w) (t .s) r u₁ (t .is) (ready (now p) xs ys pre t go r e₁)) $
-        calls-at ! (fmOf 𝓤 H (W .laws) 𝓣) (Lay 𝓤 H A mem run) known-lay (to-lay μ δ₁ (t .w) (t .s) r u₁) (and-then ! (load ! (from ! (stop !)) (look ! 33 refl)) (and-then ! (load ! (from ! (stop !)) (look ! 27 refl)) (and-then ! (load ! (from ! (stop !)) (look ! 23 refl)) (and-then ! (load ! (from ! (stop !)) (look ! 11 refl)) (no-more !))))) (λ u₂.
-        use1 W (later (some (λ (d : Laid). ((‵ (flft κ q) ⊛ ‵ (flft (μ ∷ []) fullShare) ⊛ ‵ ftrue) ⊛ ‵ (U.the-row .own d (u₂ ∷ []))) ⊛ raw (ensured 𝓤 H A lay.ended (lay.clauses 𝓤 H A mem run) (κ, (μ ∷ [], tt)) (p, (t .s, (r, (x₁ δ₁ (t .w), tt)))) tt d)))) (id⊢ 𝓤 _) $ await ! tt $ pick ! (λ d.
-        split ! $ move ! (1 ∷ []) $ use1 W (some (λ (zs : Unit {0} × (Unit {0} × (Unit {0} × (List ℕ × Unit {0})))). ‵ (lasts lay.ended (κ, (μ ∷ [], tt)) (p, (t .s, (r, (x₁ δ₁ (t .w), tt)))) zs) ⊛ raw (fact 𝓤 (Lays (now p) (t .s) r (t .w) (zs .1 .1 .1 .0) d)))) (id⊢ 𝓤 _) $ pick ! (λ zs.
-        split ! $ move ! (1 ∷ []) $ heard ! (Lays (now p) (t .s) r (t .w) (zs .1 .1 .1 .0) d) (λ e₂. fsplit ! $ drop ! $ fsplit ! $ drop ! $ fsplit ! $ drop ! $ fsplit ! $ fsplit ! $ move ! (1 ∷ []) $ feqL ! (λ len₂.
+        use3 W (raw (LoadCommand 𝓤 H A mem run .pre (to-load-command μ δ₁ (t .w) (t .s) r u₁))) (goes-load-command μ δ₁ (t .w) (t .s) r u₁ (t .is) (ready (now p) xs ys pre t go r e₁)) $
+        calls-at ! (fmOf 𝓤 H (W .laws) 𝓣) (LoadCommand 𝓤 H A mem run) known-load-command (to-load-command μ δ₁ (t .w) (t .s) r u₁) (and-then ! (load ! (from ! (stop !)) (look ! 33 refl)) (and-then ! (load ! (from ! (stop !)) (look ! 27 refl)) (and-then ! (load ! (from ! (stop !)) (look ! 23 refl)) (and-then ! (load ! (from ! (stop !)) (look ! 11 refl)) (no-more !))))) (λ u₂.
+        use1 W (later (some (λ (d : LoadStep). ((‵ (flft κ q) ⊛ ‵ (flft (μ ∷ []) fullShare) ⊛ ‵ ftrue) ⊛ ‵ (U.the-row .own d (u₂ ∷ []))) ⊛ raw (ensured 𝓤 H A load-command.ended (load-command.clauses 𝓤 H A mem run) (κ, (μ ∷ [], tt)) (p, (t .s, (r, (x₁ δ₁ (t .w), tt)))) tt d)))) (id⊢ 𝓤 _) $ await ! tt $ pick ! (λ d.
+        split ! $ move ! (1 ∷ []) $ use1 W (some (λ (zs : Unit {0} × (Unit {0} × (Unit {0} × (List ℕ × Unit {0})))). ‵ (lasts load-command.ended (κ, (μ ∷ [], tt)) (p, (t .s, (r, (x₁ δ₁ (t .w), tt)))) zs) ⊛ raw (fact 𝓤 (StepLoads (now p) (t .s) r (t .w) (zs .1 .1 .1 .0) d)))) (id⊢ 𝓤 _) $ pick ! (λ zs.
+        split ! $ move ! (1 ∷ []) $ heard ! (StepLoads (now p) (t .s) r (t .w) (zs .1 .1 .1 .0) d) (λ e₂. fsplit ! $ drop ! $ fsplit ! $ drop ! $ fsplit ! $ drop ! $ fsplit ! $ fsplit ! $ move ! (1 ∷ []) $ feqL ! (λ len₂.
         move ! (2 ∷ []) $ split ! $ move ! (1 ∷ []) $ peeks ! U.the-row (Is U.the-row) (shows 𝓤 H A U.the-row) d (u₂ ∷ []) (λ is₂.
         land ! (from ! (stop !)) (init ! 24 refl (LL.lawful U.the-type U′.the-laws 𝓤 H A W .typed d (u₂ ∷ []) is₂ .0)) $
         rewrite ! 24 (λ (z : Val). ‵ (fat fullShare U′.mir l₇ 0 z)) (ap only (LL.tells U.the-type U′.the-laws d (u₂ ∷ []) is₂)) refl $
@@ -371,46 +371,46 @@ module _ {M : Type 1} (𝓤 : URA M) (H : Heap 𝓤) (A : Atoms 𝓤) (W : Given
         move ! (36 ∷ 37 ∷ []) $ free1 ! $ move ! (34 ∷ 35 ∷ []) $ free1 ! $ move ! (32 ∷ 33 ∷ []) $ free1 ! $ move ! (30 ∷ 31 ∷ []) $ free1 ! $ move ! (28 ∷ 29 ∷ []) $ free1 ! $ move ! (26 ∷ 27 ∷ []) $ free1 ! $ move ! (24 ∷ 25 ∷ []) $ free1 ! $ move ! (22 ∷ 23 ∷ []) $ free1 ! $ move ! (20 ∷ 21 ∷ []) $ free1 ! $ move ! (18 ∷ 19 ∷ []) $ free1 ! $ move ! (16 ∷ 17 ∷ []) $ free1 ! $ move ! (14 ∷ 15 ∷ []) $ free1 ! $ move ! (12 ∷ 13 ∷ []) $ free1 ! $ move ! (10 ∷ 11 ∷ []) $ free1 ! $ move ! (8 ∷ 9 ∷ []) $ free1 ! $ move ! (6 ∷ 7 ∷ []) $ free1 ! $ free0 ! $
         by ! (exits t over))
       where
-        next-is : (d : Laid) (u : Val) → Is U.the-row d (u ∷ []) → Is S.the-row (d .next) (mach (d .next) ∷ [])
+        next-is : (d : LoadStep) (u : Val) → Is U.the-row d (u ∷ []) → Is S.the-row (d .next) (mach (d .next) ∷ [])
         next-is d u is = LL.owed U.the-type U′.the-laws d (u ∷ []) is .1 .0
 
-        place-fits : (d : Laid) → d .next .line < 256 → d .next .line < 2 ^ 64
+        place-fits : (d : LoadStep) → d .next .line < 256 → d .next .line < 2 ^ 64
         place-fits d low = omega arith
 
-        place-inside : (d : Laid) → d .next .line < 256 → d .next .line < length (t .l)
+        place-inside : (d : LoadStep) → d .next .line < 256 → d .next .line < length (t .l)
         place-inside d low = omega (arith, pre .2, t .len)
 
-        line-is : (d : Laid) (u : Val) → Is U.the-row d (u ∷ []) → Is T.the-row (d .line) (machR (d .line) ∷ [])
+        line-is : (d : LoadStep) (u : Val) → Is U.the-row d (u ∷ []) → Is T.the-row (d .line) (machR (d .line) ∷ [])
         line-is d u is = LL.owed U.the-type U′.the-laws d (u ∷ []) is .0
 
     looped : (t : St) → Sq W (At t) (runs C Λ En pieces.t-2 (atRet En Post))
     looped t = first ! $ blocks ! $ loops ! 𝓣 (Fewer (now p) xs ys) (Fewer-wf (now p) xs ys) At turns t
 
   -- the state before the first turn
-  begun : (r : Laying) → r ≡ start-of → Is S.the-row r (mach r ∷ []) → St
+  begun : (r : LoadState) → r ≡ start-of → Is S.the-row r (mach r ∷ []) → St
   begun r e is = record {
     s = r;
     l = ys;
     w = xs;
     is = is;
-    line-ok = subst (λ (d : Laying). d .line < 256) (sym e) (omega arith);
+    line-ok = subst (λ (d : LoadState). d .line < 256) (sym e) (omega arith);
     len = refl;
     len-w = refl;
     going = λ _. subst (Going (now p) xs ys) (sym e) (going-start (now p) xs ys);
-    over = λ f. absurd (true≢false (sym (ap (λ (d : Laying). d .going) e) ∙ f));
+    over = λ f. absurd (true≢false (sym (ap (λ (d : LoadState). d .going) e) ∙ f));
   }
 
-  walk : (𝓣 : Tables 𝓤 H) → Triple 𝓤 (𝓣 .C #tables·start) (Start 𝓤 H A mem run) → Triple 𝓤 (𝓣 .C #tables·lay) (Lay 𝓤 H A mem run) → Triple 𝓤 (𝓣 .C #tables·line-at) (LineAt 𝓤 H A mem run) → Triple 𝓤 (𝓣 .C #tables·store-line) (StoreLine 𝓤 H A mem run)
+  walk : (𝓣 : Tables 𝓤 H) → Triple 𝓤 (𝓣 .C #tables·start) (Start 𝓤 H A mem run) → Triple 𝓤 (𝓣 .C #tables·load-command) (LoadCommand 𝓤 H A mem run) → Triple 𝓤 (𝓣 .C #tables·line-at) (LineAt 𝓤 H A mem run) → Triple 𝓤 (𝓣 .C #tables·store-line) (StoreLine 𝓤 H A mem run)
       → ent 𝓤 (onEntry 𝓤 H A fill.signature (κ, (κ₁, (κ₂, tt))) (q, (q₁, (q₂, tt))) a at) (WpFn 𝓤 H (𝓣 .C) (𝓣 .Λ) code.function (v ∷ s₁ ∷ s ∷ []) Post)
   unfolding begun
-  walk 𝓣 known-start known-lay known-at known-store =
+  walk 𝓣 known-start known-load-command known-at known-store =
       qed W ((‵ (flft κ q) ⊛ ‵ (flft κ₁ q₁) ⊛ ‵ (flft κ₂ q₂) ⊛ ‵ ftrue) ∷ ‵ (owns (ShrSlice (named 0) κ u8 ∷ MutSlice (named 1) κ₁ u64 ∷ MutSlice (named 2) κ₂ T.the-row ∷ []) a at) ∷ []) ∵ enter ! (𝓣 .C) (𝓣 .Λ) code.function (v ∷ s₁ ∷ s ∷ []) _ $
       alloc1 ! (λ l₀. alloc1 ! (λ l₁. alloc1 ! (λ l₂. alloc1 ! (λ l₃. alloc1 ! (λ l₄. alloc1 ! (λ l₅. alloc1 ! (λ l₆. alloc1 ! (λ l₇. alloc1 ! (λ l₈. alloc1 ! (λ l₉. alloc1 ! (λ la. alloc1 ! (λ lb. alloc1 ! (λ lc. alloc1 ! (λ ld. alloc1 ! (λ le. alloc1 ! (λ lf. alloc0 ! $ params1 ! $
       pass1 ! (init ! 28 refl (shr-slice-lawful 𝓤 H A W (named 0) κ u8 .typed p (v ∷ []) p-is .0)) $ pass1 ! (init ! 26 refl (tt, (tt, (record { fits = room₁ .0 }, tt)))) $ pass1 ! (init ! 24 refl (tt, (tt, (record { fits = room .0 }, tt)))) $ pass0 ! $
       -- `start`
       use0 W (raw (Start 𝓤 H A mem run .pre to-start)) goes-start $
       calls-at ! (fmOf 𝓤 H (W .laws) 𝓣) (Start 𝓤 H A mem run) known-start to-start (no-more !) (λ u.
-      use1 W (later (some (λ (r : Laying). (‵ ftrue ⊛ ‵ (S.the-row .own r (u ∷ []))) ⊛ raw (ensured 𝓤 H A start.ended (start.clauses 𝓤 H A mem run) tt tt tt r)))) (id⊢ 𝓤 _) $ await ! tt $ pick ! (λ r.
+      use1 W (later (some (λ (r : LoadState). (‵ ftrue ⊛ ‵ (S.the-row .own r (u ∷ []))) ⊛ raw (ensured 𝓤 H A start.ended (start.clauses 𝓤 H A mem run) tt tt tt r)))) (id⊢ 𝓤 _) $ await ! tt $ pick ! (λ r.
       split ! $ move ! (1 ∷ []) $ use1 W (raw (fact 𝓤 (r ≡ start-of))) (start-said 𝓤 H A mem run r) $ heard ! (r ≡ start-of) (λ e. split ! $ drop ! $
       peeks ! S.the-row (Is S.the-row) (shows 𝓤 H A S.the-row) r (u ∷ []) (λ is.
       land ! (from ! (stop !)) (init ! 23 refl (LL.lawful S.the-type S′.the-laws 𝓤 H A W .typed r (u ∷ []) is .0)) $
@@ -419,21 +419,21 @@ module _ {M : Type 1} (𝓤 : URA M) (H : Heap 𝓤) (A : Atoms 𝓤) (W : Given
       move ! (33 ∷ []) $ fsplit ! $ move ! (1 ∷ []) $ fsplit ! $ move ! (1 ∷ []) $ fsplit ! $ move ! (36 ∷ []) $ split ! $ move ! (1 ∷ []) $ split ! $ move ! (1 ∷ []) $ split ! $
       -- [the records' token; true; the words'; the tape's; the records; true; the words; the tape; _15; …]
       keep ! (4 ∷ 0 ∷ 6 ∷ 2 ∷ 7 ∷ 3 ∷ 8 ∷ 9 ∷ 10 ∷ 11 ∷ 12 ∷ 13 ∷ 14 ∷ 15 ∷ 16 ∷ 17 ∷ 18 ∷ 19 ∷ 20 ∷ 21 ∷ 22 ∷ 23 ∷ 24 ∷ 25 ∷ 26 ∷ 27 ∷ 28 ∷ 29 ∷ 30 ∷ 31 ∷ 32 ∷ 33 ∷ 34 ∷ 35 ∷ 36 ∷ 37 ∷ 38 ∷ 39 ∷ []) $
-      looped 𝓣 known-lay known-at known-store l₀ l₁ l₂ l₃ l₄ l₅ l₆ l₇ l₈ l₉ la lb lc ld le lf
+      looped 𝓣 known-load-command known-at known-store l₀ l₁ l₂ l₃ l₄ l₅ l₆ l₇ l₈ l₉ la lb lc ld le lf
       (begun r e (subst (λ (vs : List Val). Is S.the-row r vs) (LL.tells S.the-type S′.the-laws r (u ∷ []) is) is))))))))))))))))))))))
 
 module _ {M : Type 1} (𝓤 : URA M) (H : Heap 𝓤) (A : Atoms 𝓤) (W : Given 𝓤 H A) (mem : Memory → SProp 𝓤) (run : Routine → Fun 𝓤) where
-  fill-walks : (𝓣 : Tables 𝓤 H) → Triple 𝓤 (𝓣 .C #tables·start) (Start 𝓤 H A mem run) → Triple 𝓤 (𝓣 .C #tables·lay) (Lay 𝓤 H A mem run) → Triple 𝓤 (𝓣 .C #tables·line-at) (LineAt 𝓤 H A mem run) → Triple 𝓤 (𝓣 .C #tables·store-line) (StoreLine 𝓤 H A mem run)
+  fill-walks : (𝓣 : Tables 𝓤 H) → Triple 𝓤 (𝓣 .C #tables·start) (Start 𝓤 H A mem run) → Triple 𝓤 (𝓣 .C #tables·load-command) (LoadCommand 𝓤 H A mem run) → Triple 𝓤 (𝓣 .C #tables·line-at) (LineAt 𝓤 H A mem run) → Triple 𝓤 (𝓣 .C #tables·store-line) (StoreLine 𝓤 H A mem run)
       → Walks 𝓤 H A fill.ended stayed (WpFn 𝓤 H (𝓣 .C) (𝓣 .Λ) code.function) (fill.clauses 𝓤 H A mem run)
-  fill-walks 𝓣 known-start known-lay known-at known-store = walked 𝓤 H A fill.ended stayed (fill.clauses 𝓤 H A mem run) (WpFn 𝓤 H (𝓣 .C) (𝓣 .Λ) code.function) (λ κs. (slice-vals, (slice-vals, (slice-vals, tt)))) (λ κs. (shr-slice-tells (named 0) (κs .0) u8, (mut-slice-tells (named 1) (κs .1 .0) u64, (mut-slice-tells (named 2) (κs .1 .1 .0) T.the-row, tt))))
-      (λ κs qs bounds a g are. needs 𝓤 (Accepted (now (a .0)) × (1024 ≤ length (now (a .1 .0))) × (256 ≤ length (now (a .1 .1 .0)))) _ (λ pre.
-      walk 𝓤 H A W mem run (κs .0) (κs .1 .0) (κs .1 .1 .0) (qs .0) (qs .1 .0) (qs .1 .1 .0) (a .0) (a .1 .0 .ptr .0) (a .1 .0 .ptr .1) (a .1 .0 .name) (a .1 .0 .now) (a .1 .1 .0 .ptr .0) (a .1 .1 .0 .ptr .1) (a .1 .1 .0 .name) (a .1 .1 .0 .now) (are .0) (are .1 .0 .0 .1) (are .1 .1 .0 .0 .1) pre 𝓣 known-start known-lay known-at known-store))
+  fill-walks 𝓣 known-start known-load-command known-at known-store = walked 𝓤 H A fill.ended stayed (fill.clauses 𝓤 H A mem run) (WpFn 𝓤 H (𝓣 .C) (𝓣 .Λ) code.function) (λ κs. (slice-vals, (slice-vals, (slice-vals, tt)))) (λ κs. (shr-slice-tells (named 0) (κs .0) u8, (mut-slice-tells (named 1) (κs .1 .0) u64, (mut-slice-tells (named 2) (κs .1 .1 .0) T.the-row, tt))))
+      (λ κs qs bounds a g are. needs 𝓤 (AcceptedTape (now (a .0)) × (1024 ≤ length (now (a .1 .0))) × (256 ≤ length (now (a .1 .1 .0)))) _ (λ pre.
+      walk 𝓤 H A W mem run (κs .0) (κs .1 .0) (κs .1 .1 .0) (qs .0) (qs .1 .0) (qs .1 .1 .0) (a .0) (a .1 .0 .ptr .0) (a .1 .0 .ptr .1) (a .1 .0 .name) (a .1 .0 .now) (a .1 .1 .0 .ptr .0) (a .1 .1 .0 .ptr .1) (a .1 .1 .0 .name) (a .1 .1 .0 .now) (are .0) (are .1 .0 .0 .1) (are .1 .1 .0 .0 .1) pre 𝓣 known-start known-load-command known-at known-store))
 
 fill-meets : {M : Type 1} (𝓤 : URA M) (H : Heap 𝓤) (A : Atoms 𝓤) (W : Given 𝓤 H A) (mem : Memory → SProp 𝓤) (run : Routine → Fun 𝓤) (𝓣 : Tables 𝓤 H)
-    → Triple 𝓤 (𝓣 .C #tables·start) (Start 𝓤 H A mem run) → Triple 𝓤 (𝓣 .C #tables·lay) (Lay 𝓤 H A mem run) → Triple 𝓤 (𝓣 .C #tables·line-at) (LineAt 𝓤 H A mem run) → Triple 𝓤 (𝓣 .C #tables·store-line) (StoreLine 𝓤 H A mem run)
+    → Triple 𝓤 (𝓣 .C #tables·start) (Start 𝓤 H A mem run) → Triple 𝓤 (𝓣 .C #tables·load-command) (LoadCommand 𝓤 H A mem run) → Triple 𝓤 (𝓣 .C #tables·line-at) (LineAt 𝓤 H A mem run) → Triple 𝓤 (𝓣 .C #tables·store-line) (StoreLine 𝓤 H A mem run)
     → Meets 𝓤 H A fill.signature (WpFn 𝓤 H (𝓣 .C) (𝓣 .Λ) code.function) (fill.spec 𝓤 H A mem run)
-fill-meets 𝓤 H A W mem run 𝓣 known-start known-lay known-at known-store = walk-meets 𝓤 H A fill.ended stayed W (goes-none-slice 𝓤 H A W 3 (0 ∷ []) tt (plain (λ _. u8)) yes, (goes-slice 𝓤 H A W 3 1 tt (plain (λ _. u64)), (goes-slice 𝓤 H A W 3 2 tt (plain (λ _. T.the-row)), tt))) (fill.clauses 𝓤 H A mem run) (WpFn 𝓤 H (𝓣 .C) (𝓣 .Λ) code.function) (WpFn-mono 𝓤 H (W .laws) 𝓣 code.function)
-    (fill-walks 𝓤 H A W mem run 𝓣 known-start known-lay known-at known-store)
+fill-meets 𝓤 H A W mem run 𝓣 known-start known-load-command known-at known-store = walk-meets 𝓤 H A fill.ended stayed W (goes-none-slice 𝓤 H A W 3 (0 ∷ []) tt (plain (λ _. u8)) yes, (goes-slice 𝓤 H A W 3 1 tt (plain (λ _. u64)), (goes-slice 𝓤 H A W 3 2 tt (plain (λ _. T.the-row)), tt))) (fill.clauses 𝓤 H A mem run) (WpFn 𝓤 H (𝓣 .C) (𝓣 .Λ) code.function) (WpFn-mono 𝓤 H (W .laws) 𝓣 code.function)
+    (fill-walks 𝓤 H A W mem run 𝓣 known-start known-load-command known-at known-store)
 
 pub fill-spec : {M : Type 1} → stated.statement M
 unfolding code.routine tablesOf
@@ -442,6 +442,6 @@ fill-spec 𝓤 H 𝓜 𝓖 𝓡 =
     (tables 𝓤 H 𝓜 𝓡 code.env .C) (tables 𝓤 H 𝓜 𝓡 code.env .Λ) #tables·fill code.function (code.unfolded 𝓤 H 𝓜 𝓡)
     (fill-meets 𝓤 H (𝓖 .A) (givenOf 𝓤 H 𝓜 𝓖) (𝓜 .mem) (𝓡 .run) (tablesOf 𝓤 H 𝓜 (tables 𝓤 H 𝓜 𝓡 code.env))
     (cited 𝓤 H (Start 𝓤 H (𝓖 .A) (𝓜 .mem) (𝓡 .run)) 𝓜 𝓡 code.env #tables·start start-def.routine code.calls-tables·loading·start (start-thm.met 𝓤 H 𝓜 𝓖 𝓡))
-    (cited 𝓤 H (Lay 𝓤 H (𝓖 .A) (𝓜 .mem) (𝓡 .run)) 𝓜 𝓡 code.env #tables·lay lay-def.routine code.calls-tables·loading·lay (lay-thm.met 𝓤 H 𝓜 𝓖 𝓡))
+    (cited 𝓤 H (LoadCommand 𝓤 H (𝓖 .A) (𝓜 .mem) (𝓡 .run)) 𝓜 𝓡 code.env #tables·load-command load-command-def.routine code.calls-tables·loading·load-command (load-command-thm.met 𝓤 H 𝓜 𝓖 𝓡))
     (cited 𝓤 H (LineAt 𝓤 H (𝓖 .A) (𝓜 .mem) (𝓡 .run)) 𝓜 𝓡 code.env #tables·line-at line-at-def.routine code.calls-tables·records·line-at (line-at-thm.met 𝓤 H 𝓜 𝓖 𝓡))
     (cited 𝓤 H (StoreLine 𝓤 H (𝓖 .A) (𝓜 .mem) (𝓡 .run)) 𝓜 𝓡 code.env #tables·store-line store-line-def.routine code.calls-tables·records·store-line (store-line-thm.met 𝓤 H 𝓜 𝓖 𝓡)))

@@ -1,4 +1,4 @@
--- `tape::loading::record_after` meets its contract. Assumes nothing.
+-- `tables::loading::record_after` meets its contract. Assumes nothing.
 use native.Mathlib.Omega.{arith}
 use borrow.Author.Needs.{needs}
 use Rattle.tables.proofs.loading.record_after.Statement.{statement}

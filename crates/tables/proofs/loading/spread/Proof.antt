@@ -1,4 +1,4 @@
--- `tape::loading::spread` meets its contract: the first k places of the tables hold the first k records. Assumes nothing.
+-- `tables::loading::spread` meets its contract: the first k places of the tables hold the first k records. Assumes nothing.
 use Prim.Native.Nat.{_-_, _≤_, _<_}
 use native.Mathlib.Omega.{arith}
 use mathlib.Core.Path.{_≡_, refl, _∙_}

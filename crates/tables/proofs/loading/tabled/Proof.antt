@@ -1,4 +1,4 @@
--- `tape::loading::tabled` meets its contract: a walk of its MIR, by hand. The table of 256 records is made in a local, lent as a `&mut [LineRecord]` to
+-- `tables::loading::tabled` meets its contract: a walk of its MIR, by hand. The table of 256 records is made in a local, lent as a `&mut [LineRecord]` to
 -- `fill`, taken back (`Frame.antt`) and passed to `spread` by value. The tokens, lines, addresses and marks are passed on for good.
 -- All that the proof knows of the two callees is that each meets its contract. Assumes nothing.
 use mathlib.Core.Path.{_≡_, refl, ap, subst}
@@ -44,7 +44,7 @@ use denote.Triple.Table.{entered, cited}
 use denote.Triple.Walked.{says, needs, Stays, stay-none-slice, gave-slice, walkOf, goes-none-slice, goes-gave-slice, Walks, ends-at, walked, walk-meets}
 use denote.Exit.{yes}
 use denote.Triple.Clauses.{ensured, lasts}
-use Rattle.tape.specs.Questions.{Accepted}
+use Rattle.tape.specs.Questions.{AcceptedTape}
 use Rattle.tables.specs.Tables.{Loaded, LoadedMarks}
 use Rattle.tables.specs.Records.{blank, Holding, Marking, Recorded}
 use Rattle.tape.specs.declared.questions.Totals.{Totals}
@@ -83,7 +83,7 @@ module _ {M : Type 1} (𝓤 : URA M) (H : Heap 𝓤) (A : Atoms 𝓤) (mem : Mem
   abbrev Spread : Contract 𝓤
   Spread = tripleOf 𝓤 H A spread.signature (spread.spec 𝓤 H A mem run)
 
-module _ {M : Type 1} (𝓤 : URA M) (H : Heap 𝓤) (A : Atoms 𝓤) (W : Given 𝓤 H A) (mem : Memory → SProp 𝓤) (run : Routine → Fun 𝓤) (κ κ₁ κ₂ κ₃ κ₄ κ₅ : Lft) (q q₁ q₂ q₃ q₄ q₅ : Share) (p g₁ g₂ g₃ g₄ g₅ : RefT (List ℕ)) (p-is : Is (ShrSlice (named 0) κ u8) p (slice-vals p)) (room₁ : Room u64 (length (now g₁))) (room₂ : Room u64 (length (now g₂))) (room₃ : Room u64 (length (now g₃))) (room₄ : Room u64 (length (now g₄))) (room₅ : Room u64 (length (now g₅))) (accepted : Accepted (now p)) (longs : (1024 ≤ length (now g₁)) × (256 ≤ length (now g₂)) × (256 ≤ length (now g₃)) × (256 ≤ length (now g₄)) × (256 ≤ length (now g₅))) where
+module _ {M : Type 1} (𝓤 : URA M) (H : Heap 𝓤) (A : Atoms 𝓤) (W : Given 𝓤 H A) (mem : Memory → SProp 𝓤) (run : Routine → Fun 𝓤) (κ κ₁ κ₂ κ₃ κ₄ κ₅ : Lft) (q q₁ q₂ q₃ q₄ q₅ : Share) (p g₁ g₂ g₃ g₄ g₅ : RefT (List ℕ)) (p-is : Is (ShrSlice (named 0) κ u8) p (slice-vals p)) (room₁ : Room u64 (length (now g₁))) (room₂ : Room u64 (length (now g₂))) (room₃ : Room u64 (length (now g₃))) (room₄ : Room u64 (length (now g₄))) (room₅ : Room u64 (length (now g₅))) (accepted : AcceptedTape (now p)) (longs : (1024 ≤ length (now g₁)) × (256 ≤ length (now g₂)) × (256 ≤ length (now g₃)) × (256 ≤ length (now g₄)) × (256 ≤ length (now g₅))) where
   -- the machine values of the tape, the tokens, the lines, the addresses and the marks
   abbrev v : Val
   v = sliceVal (p .ptr) (length (p .now))
@@ -238,7 +238,7 @@ module _ {M : Type 1} (𝓤 : URA M) (H : Heap 𝓤) (A : Atoms 𝓤) (W : Given
   load-walks : (C : Calls 𝓤 H) (Λ : Loops 𝓤 H) → FmC 𝓤 H (W .laws) C → Triple 𝓤 (C #tables·fill) (Fill 𝓤 H A mem run) → Triple 𝓤 (C #tables·spread) (Spread 𝓤 H A mem run)
       → Walks 𝓤 H A loads.ended stayed (WpFn 𝓤 H C Λ code.function) (loads.clauses 𝓤 H A mem run)
   load-walks C Λ fm known-fill known-spread = walked 𝓤 H A loads.ended stayed (loads.clauses 𝓤 H A mem run) (WpFn 𝓤 H C Λ code.function) (λ κs. (slice-vals, (slice-vals, (slice-vals, (slice-vals, (slice-vals, (slice-vals, tt))))))) (λ κs. (shr-slice-tells (named 0) (κs .0) u8, (mut-slice-tells (named 1) (κs .1 .0) u64, (mut-slice-tells (named 2) (κs .1 .1 .0) u64, (mut-slice-tells (named 3) (κs .1 .1 .1 .0) u64, (mut-slice-tells (named 4) (κs .1 .1 .1 .1 .0) u64, (mut-slice-tells (named 5) (κs .1 .1 .1 .1 .1 .0) u64, tt)))))))
-      (λ κs qs bounds a g are. both (Accepted (now (a .0))) ((1024 ≤ length (now (a .1 .0))) × (256 ≤ length (now (a .1 .1 .0))) × (256 ≤ length (now (a .1 .1 .1 .0))) × (256 ≤ length (now (a .1 .1 .1 .1 .0))) × (256 ≤ length (now (a .1 .1 .1 .1 .1 .0)))) _ (λ accepted longs.
+      (λ κs qs bounds a g are. both (AcceptedTape (now (a .0))) ((1024 ≤ length (now (a .1 .0))) × (256 ≤ length (now (a .1 .1 .0))) × (256 ≤ length (now (a .1 .1 .1 .0))) × (256 ≤ length (now (a .1 .1 .1 .1 .0))) × (256 ≤ length (now (a .1 .1 .1 .1 .1 .0)))) _ (λ accepted longs.
       walk 𝓤 H A W mem run (κs .0) (κs .1 .0) (κs .1 .1 .0) (κs .1 .1 .1 .0) (κs .1 .1 .1 .1 .0) (κs .1 .1 .1 .1 .1 .0) (qs .0) (qs .1 .0) (qs .1 .1 .0) (qs .1 .1 .1 .0) (qs .1 .1 .1 .1 .0) (qs .1 .1 .1 .1 .1 .0) (a .0) (a .1 .0) (a .1 .1 .0) (a .1 .1 .1 .0) (a .1 .1 .1 .1 .0) (a .1 .1 .1 .1 .1 .0) (are .0) (are .1 .0 .0 .1) (are .1 .1 .0 .0 .1) (are .1 .1 .1 .0 .0 .1) (are .1 .1 .1 .1 .0 .0 .1) (are .1 .1 .1 .1 .1 .0 .0 .1) accepted longs C Λ fm known-fill known-spread))
 
 load-meets : {M : Type 1} (𝓤 : URA M) (H : Heap 𝓤) (A : Atoms 𝓤) (W : Given 𝓤 H A) (mem : Memory → SProp 𝓤) (run : Routine → Fun 𝓤) (𝓣 : Tables 𝓤 H)

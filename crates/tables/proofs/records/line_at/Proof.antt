@@ -1,4 +1,4 @@
--- `tape::records::line_at` meets its contract: a walk of its MIR, by hand. The place of `lines[at]` is 56 * at past the slice's pointer; the slice is looked into, the record is taken out of the row, read whole, and put back.
+-- `tables::records::line_at` meets its contract: a walk of its MIR, by hand. The place of `lines[at]` is 56 * at past the slice's pointer; the slice is looked into, the record is taken out of the row, read whole, and put back.
 -- Assumes nothing.
 use mathlib.Core.Path.{refl, sym}
 use Prim.Native.Nat.{ℕ, _*_, _<_, _^_}

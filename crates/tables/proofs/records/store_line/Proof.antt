@@ -1,4 +1,4 @@
--- `tape::records::store_line` meets its contract: a walk of its MIR, by hand. The borrow is opened, the record at the index is taken out of the row and stored to, and the borrow is closed at the list with the record in it.
+-- `tables::records::store_line` meets its contract: a walk of its MIR, by hand. The borrow is opened, the record at the index is taken out of the row and stored to, and the borrow is closed at the list with the record in it.
 -- Assumes nothing.
 use mathlib.Core.Path.{refl, sym, ap, subst}
 use Prim.Native.Nat.{ℕ, _*_, _<_, _^_}

@@ -1,4 +1,4 @@
--- `tape::writing::gather` meets its contract: a walk of its MIR, by hand, with a loop. In a turn the covered `record_of` makes a record of the next
+-- `tables::writing::gather` meets its contract: a walk of its MIR, by hand, with a loop. In a turn the covered `record_of` makes a record of the next
 -- line word, and `store_line`, to which the slice is lent again, stores it.
 --     At k         the invariant: the slice has the records of the first k words, and every local but n, k and the parameters is room
 -- Assumes nothing.

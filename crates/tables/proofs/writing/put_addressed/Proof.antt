@@ -1,4 +1,4 @@
--- `tape::writing::put_addressed` meets its contract. Assumes nothing.
+-- `tables::writing::put_addressed` meets its contract. Assumes nothing.
 use native.Mathlib.Omega.{arith}
 use lib.ListN.{length-set}
 use Rattle.tape.proofs.little_endian.Bytes.{puts-length}

@@ -1,4 +1,4 @@
--- `tape::writing::put_line` meets its contract. Assumes nothing.
+-- `tables::writing::put_line` meets its contract. Assumes nothing.
 use native.Mathlib.Omega.{arith}
 use mathlib.Core.Path.{ap, _∙_}
 use lib.ListN.{length}

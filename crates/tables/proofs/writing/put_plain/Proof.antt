@@ -1,4 +1,4 @@
--- `tape::writing::put_plain` meets its contract. Assumes nothing.
+-- `tables::writing::put_plain` meets its contract. Assumes nothing.
 use native.Mathlib.Omega.{arith}
 use lib.ListN.{length-set}
 use Rattle.tables.proofs.writing.Putting.{plain-puts}

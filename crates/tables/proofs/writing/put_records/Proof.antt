@@ -1,4 +1,4 @@
--- `tape::writing::put_records` meets its contract: a walk of its MIR, by hand, with a loop. A turn reads a record (`line_at`, at the records' own
+-- `tables::writing::put_records` meets its contract: a walk of its MIR, by hand, with a loop. A turn reads a record (`line_at`, at the records' own
 -- lifetime), and the covered `put_whole_line`, to which the output is lent again, writes its line.
 --     State        the loop's state: how many lines are written, the output and the place behind them, and what holds of them
 --     At t         the invariant: the output, k and `to` are t's, and every local but these and the parameters is room
@@ -55,7 +55,7 @@ use Rattle.tables.specs.Writing.{whole-line, lines-bytes, marked-of, rec
 use Rattle.tables.specs.declared.records.LineRecord.{LineRecord}
 use Rattle.tables.proofs.records.Again.{LentAgain, lends-again-at, comes-back-at}
 use Rattle.tables.proofs.records.Shared.{after, LineAt, at-said, to-at, goes-at}
-use Rattle.tables.proofs.writing.Putting.{Written, written-begin, written-room, written-more, written-end}
+use Rattle.tables.proofs.writing.Putting.{LinesPut, written-begin, written-room, written-more, written-end}
 use Rattle.tables.proofs.records.LineRecord as T
 use Rattle.tables.proofs.records.LineRecord.Laws as T′
 use Rattle.tables.proofs.records.line_at as line-at
@@ -90,7 +90,7 @@ module _ (tape area tokens : List ℕ) (rows : List LineRecord) (n : ℕ) (ys : 
     pub to : ℕ
     pub low : k ≤ n
     pub fits : to < 2 ^ 64
-    pub written : Written (marked-of tape area tokens) whole-line (take n rows) ys at l to k
+    pub written : LinesPut (marked-of tape area tokens) whole-line (take n rows) ys at l to k
 
   abbrev Nearer : State → State → Type 0
   Nearer u t = n - u .k < n - t .k

@@ -1,4 +1,4 @@
--- `tape::writing::put_token` meets its contract. Assumes nothing.
+-- `tables::writing::put_token` meets its contract. Assumes nothing.
 use Prim.Native.Nat.{_+_}
 use native.Mathlib.Omega.{arith}
 use lib.ListN.{length-set}
@@ -7,6 +7,10 @@ use Rattle.tables.proofs.writing.Putting.{token-puts, token-size}
 use borrow.Author.Needs.{needs}
 use Rattle.tables.proofs.writing.put_token.Statement.{statement}
 use Rattle.tables.proofs.writing.put_token.Tie as tie
+
+-- Steps back to an earlier point of the function, each counted once.
+abbrev before-put-number : tie.After-put-number → tie.Start
+before-put-number c = c .before .before .before .before
 
 add-out : tie.Need-add-out
 add-out c = search needs
@@ -27,7 +31,7 @@ add-copy-bytes : tie.Need-add-copy-bytes
 add-copy-bytes c = search needs
 
 copy-bytes-requires : tie.Need-copy-bytes-requires
-copy-bytes-requires c κs = let s = c .before .before .before .before .before .before .before in
+copy-bytes-requires c κs = let s = before-put-number (c .before .before .before) in
     let k = c .before .before .before .put-number .kept .1 .1 .0 in
     let e = length-set (s .args .out .now) (s .args .at) (16 + s .args .kind) in
     omega (arith, s .pre)
@@ -39,13 +43,13 @@ add-result-2 : tie.Need-add-result-2
 add-result-2 c = search needs
 
 same-length : tie.Need-same-length
-same-length c = let s = c .before .before .before .before .before .before .before .before .before .before in
+same-length c = let s = before-put-number (c .before .before .before .before .before .before) in
     let a = s .args in
     puts-length (a .out .now) (a .at) _ (omega (arith, token-size (a .kind) (a .s .now), s .pre))
     (token-puts (a .out .now) (a .at) (a .kind) (a .s .now) (s .pre .1) (c .before .before .before .before .before .before .put-number .ensures) (c .before .before .copy-bytes .ensures))
 
 returns : tie.Need-returns
-returns c = let s = c .before .before .before .before .before .before .before .before .before .before in
+returns c = let s = before-put-number (c .before .before .before .before .before .before) in
     let a = s .args in
     token-puts (a .out .now) (a .at) (a .kind) (a .s .now) (s .pre .1) (c .before .before .before .before .before .before .put-number .ensures) (c .before .before .copy-bytes .ensures)
 

@@ -1,4 +1,4 @@
--- `tape::writing::put_tokens` meets its contract: what is still to be written, put where the loop stands, makes the whole. Assumes nothing.
+-- `tables::writing::put_tokens` meets its contract: what is still to be written, put where the loop stands, makes the whole. Assumes nothing.
 use Prim.Native.Nat.{_-_}
 use native.Mathlib.Omega.{arith}
 use mathlib.Core.Path.{ap}
@@ -6,16 +6,20 @@ use lib.ListN.{length, getD}
 use Rattle.lines.specs.Words.{token-of, text-of, kind-of}
 use Rattle.lines.proofs.words.Tokens.{kind-below}
 use Rattle.tables.specs.Writing.{token-bytes}
-use Rattle.tables.proofs.writing.Putting.{Written, written-begin, written-room, written-more, written-end, token-size}
+use Rattle.tables.proofs.writing.Putting.{LinesPut, written-begin, written-room, written-more, written-end, token-size}
 use borrow.Author.Needs.{needs}
 use Rattle.tables.proofs.writing.put_tokens.Statement.{statement}
 use Rattle.tables.proofs.writing.put_tokens.Tie as tie
 
 abbrev Inv-loop : tie.InvT-loop
-Inv-loop tape area ws out₀ at to₀ k₀ out to k = Written (token-of tape area) token-bytes ws out₀ at out to k
+Inv-loop tape area ws out₀ at to₀ k₀ out to k = LinesPut (token-of tape area) token-bytes ws out₀ at out to k
 
 abbrev μ-loop : tie.MeasureT-loop
 μ-loop tape area ws out₀ at to₀ k₀ out to k = length ws - k
+
+-- Steps back to an earlier point of the function, each counted once.
+abbrev before-loop : tie.At-loop Inv-loop μ-loop → tie.Start Inv-loop μ-loop
+before-loop c = c .before .before .before .before .before
 
 loop-holds : tie.Need-loop-holds Inv-loop μ-loop
 loop-holds c = let a = c .before .before .before .before .args in
@@ -31,10 +35,10 @@ kind-requires : tie.Need-kind-requires Inv-loop μ-loop
 kind-requires c κs = search needs
 
 text-requires : tie.Need-text-requires Inv-loop μ-loop
-text-requires c κs = c .before .before .before .before .before .before .before .before .pre .0 .at (c .before .before .before .loop .k) (c .before .before .loop-test .taken)
+text-requires c κs = before-loop (c .before .before .before) .pre .0 .at (c .before .before .before .loop .k) (c .before .before .loop-test .taken)
 
 put-token-requires : tie.Need-put-token-requires Inv-loop μ-loop
-put-token-requires c κs = let s = c .before .before .before .before .before .before .before .before .before .before in
+put-token-requires c κs = let s = before-loop (c .before .before .before .before .before) in
     let l = c .before .before .before .before .before .loop in
     let w = getD (s .args .ws .now) (l .k) 0 in
     let room = written-room (l .inv) (s .pre .1) 0 (c .before .before .before .before .loop-test .taken) in
@@ -48,7 +52,7 @@ loop-less : tie.Need-loop-less Inv-loop μ-loop
 loop-less c = search needs
 
 loop-again : tie.Need-loop-again Inv-loop μ-loop
-loop-again c = let s = c .before .before .before .before .before .before .before .before .before .before .before .before .before in
+loop-again c = let s = before-loop (c .before .before .before .before .before .before .before .before) in
     let l = c .before .before .before .before .before .before .before .before .loop in
     let p = rw (c .before .before .before .before .before .kind .ensures, c .before .before .before .before .text .ensures) at (c .before .before .put-token .ensures) in
     written-more (l .inv) (s .pre .1) 0 (c .before .before .before .before .before .before .before .loop-test .taken) p

@@ -1,4 +1,4 @@
--- `tape::writing::put_whole_line` meets its contract. Assumes nothing.
+-- `tables::writing::put_whole_line` meets its contract. Assumes nothing.
 use Prim.Native.Nat.{_+_, _-_, _≤_}
 use native.Mathlib.Omega.{arith}
 use mathlib.Core.Path.{_≡_}

@@ -1,4 +1,4 @@
--- `tape::writing::record_of` meets its contract. Assumes nothing.
+-- `tables::writing::record_of` meets its contract. Assumes nothing.
 use Prim.Native.Nat.{_<_}
 use native.Mathlib.Omega.{arith}
 use lib.ListN.{getD}

@@ -1,2 +1,0 @@
--- Laws that the proofs of show cite: an address put before blanks (Blanks).
-pub mod Blanks
