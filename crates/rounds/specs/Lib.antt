@@ -1,4 +1,3 @@
-pub mod Cuts
 pub mod Slots
 pub mod Carries
 pub mod Rounds

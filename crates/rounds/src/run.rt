@@ -3,10 +3,10 @@
 // Then the cuts. Before the rounds each line is given its marks (what it lacks), which are no part of the listing. The other marks, the
 // lowest and the highest address of each line and of all that was joined into it, are in `lows` and `highs`, by the number of the input
 // line.
-use crate::cuts::drop_dead_results;
 use crate::rounds::Round;
 use crate::rounds::propagate_once;
 use build::used::Size;
+use cuts::drop_dead_results;
 use linefacts::gather_facts;
 use lines::rules::Rules;
 ghost use mathlib.Core.Path.{_≡_};

@@ -1,10 +1,10 @@
--- `rounds::cuts::is_dead_result` meets its contract. Assumes nothing.
+-- `cuts::is_dead_result` meets its contract. Assumes nothing.
 use borrow.Author.Needs.{needs}
 use borrow.Author.Tests.{not-true, not-false}
 use Rattle.lines.proofs.fams.Families.{row-known}
-use Rattle.rounds.proofs.Cutting.{dead-not, dead-then}
-use Rattle.rounds.proofs.cuts.is_dead_result.Statement.{statement}
-use Rattle.rounds.proofs.cuts.is_dead_result.Tie as tie
+use Rattle.cuts.proofs.Cutting.{dead-not, dead-then}
+use Rattle.cuts.proofs.is_dead_result.Statement.{statement}
+use Rattle.cuts.proofs.is_dead_result.Tie as tie
 
 -- Steps back to an earlier point of the function, each counted once.
 abbrev before-else1 : tie.Else1 → tie.Start

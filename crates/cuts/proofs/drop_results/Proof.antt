@@ -1,13 +1,13 @@
--- `rounds::cuts::drop_results` meets its contract. Assumes nothing.
+-- `cuts::drop_results` meets its contract. Assumes nothing.
 use Prim.Native.Nat.{_-_}
 use native.Mathlib.Omega.{arith}
 use mathlib.Core.Path.{_≡_, refl, _∙_}
 use lib.ListN.{length}
 use borrow.Author.Needs.{needs}
 use Rattle.lines.specs.Rules.{rules-of}
-use Rattle.rounds.proofs.Cutting.{Cutting, cutting-begin, cutting-now, cutting-next, dropped-few, cutting-end}
-use Rattle.rounds.proofs.cuts.drop_results.Statement.{statement}
-use Rattle.rounds.proofs.cuts.drop_results.Tie as tie
+use Rattle.cuts.proofs.Cutting.{Cutting, cutting-begin, cutting-now, cutting-next, dropped-few, cutting-end}
+use Rattle.cuts.proofs.drop_results.Statement.{statement}
+use Rattle.cuts.proofs.drop_results.Tie as tie
 
 abbrev Inv-loop : tie.InvT-loop
 Inv-loop tape area tokens lines₀ labels rules cut₀ i₀ lines cut i = (length lines ≡ length lines₀) × Cutting (rules-of rules) tape area tokens lines₀ labels lines cut i

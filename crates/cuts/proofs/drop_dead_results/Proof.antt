@@ -1,10 +1,10 @@
--- `rounds::cuts::drop_dead_results` meets its contract. Assumes nothing.
+-- `cuts::drop_dead_results` meets its contract. Assumes nothing.
 use mathlib.Core.Path.{sym}
 use lib.Seq.{length-take-le}
 use borrow.Author.Needs.{needs}
-use Rattle.rounds.proofs.Cutting.{gathered-inside, gathered-cuttable, cut-whole}
-use Rattle.rounds.proofs.cuts.drop_dead_results.Statement.{statement}
-use Rattle.rounds.proofs.cuts.drop_dead_results.Tie as tie
+use Rattle.cuts.proofs.Cutting.{gathered-inside, gathered-cuttable, cut-whole}
+use Rattle.cuts.proofs.drop_dead_results.Statement.{statement}
+use Rattle.cuts.proofs.drop_dead_results.Tie as tie
 
 -- Steps back to an earlier point of the function, each counted once.
 abbrev before-labels : tie.After-labels → tie.Start

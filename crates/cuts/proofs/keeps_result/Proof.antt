@@ -1,10 +1,10 @@
--- `rounds::cuts::keeps_result` meets its contract. Assumes nothing.
+-- `cuts::keeps_result` meets its contract. Assumes nothing.
 use native.Mathlib.Omega.{arith}
 use borrow.Author.Needs.{needs}
 use borrow.Author.Tests.{not-true, not-false}
-use Rattle.rounds.proofs.Cutting.{keeps-uncalled, keeps-elsewhere, called-inside, keeps-other, keeps-assigned}
-use Rattle.rounds.proofs.cuts.keeps_result.Statement.{statement}
-use Rattle.rounds.proofs.cuts.keeps_result.Tie as tie
+use Rattle.cuts.proofs.Cutting.{keeps-uncalled, keeps-elsewhere, called-inside, keeps-other, keeps-assigned}
+use Rattle.cuts.proofs.keeps_result.Statement.{statement}
+use Rattle.cuts.proofs.keeps_result.Tie as tie
 
 -- Steps back to an earlier point of the function, each counted once.
 abbrev before-call-at : tie.After-call-at → tie.Start

@@ -41,7 +41,7 @@ use Rattle.lines.proofs.words.Lines.{count-below, with-first, with-count, with-
 use Rattle.lines.proofs.fams.Families.{fam-row}
 use Rattle.lines.proofs.shapes.Places.{found-is, found-not, find-at, get-at}
 use Rattle.life.specs.Labels.{Gathered}
-use Rattle.rounds.specs.Cuts.{keeps-result, Cuttable, labels-now, dead-at, Dropped, Cut}
+use Rattle.cuts.specs.Cuts.{keeps-result, Cuttable, labels-now, dead-at, Dropped, Cut}
 
 -- ---- a line that keeps a result
 

@@ -1,10 +1,10 @@
--- `rounds::cuts::drop_at` meets its contract. Assumes nothing.
+-- `cuts::drop_at` meets its contract. Assumes nothing.
 use native.Mathlib.Omega.{arith}
 use borrow.Author.Needs.{needs}
 use borrow.Author.Tests.{not-true, not-false}
-use Rattle.rounds.proofs.Cutting.{cut-fewer, dropped-kept, cut-count, cut-first, dropped-cut}
-use Rattle.rounds.proofs.cuts.drop_at.Statement.{statement}
-use Rattle.rounds.proofs.cuts.drop_at.Tie as tie
+use Rattle.cuts.proofs.Cutting.{cut-fewer, dropped-kept, cut-count, cut-first, dropped-cut}
+use Rattle.cuts.proofs.drop_at.Statement.{statement}
+use Rattle.cuts.proofs.drop_at.Tie as tie
 
 -- Steps back to an earlier point of the function, each counted once.
 abbrev before-slice-known2 : tie.After-slice-known2 → tie.Start

@@ -1,4 +1,4 @@
-// Dead results: `drop_dead_results` of the Rust.
+// The cuts: `drop_dead_results` of the Rust. The `rax = ` or `eax = ` of a call whose result is never read is cut off, after the rounds.
 use life::Followed;
 use life::dead_after;
 use life::gather_labels;
@@ -17,7 +17,7 @@ ghost use Rattle.joining.specs.Rounds.{cuts};
 ghost use Rattle.lines.specs.Rules.{rules-of};
 ghost use Rattle.lines.specs.Words.{tokens-of, Holds};
 ghost use Rattle.lines.specs.Lines.{Listed};
-ghost use Rattle.rounds.specs.Cuts.{keeps-result, Cuttable, labels-now, dead-at, Dropped, Cut};
+ghost use Rattle.cuts.specs.Cuts.{keeps-result, Cuttable, labels-now, dead-at, Dropped, Cut};
 
 // The row of rax in the table of names.
 const RAX: u64 = 0;
