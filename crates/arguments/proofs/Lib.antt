@@ -1,6 +1,4 @@
-pub mod Branches
-pub mod Splitting
-pub mod Digits
+pub mod Taken
 pub mod Naming
 pub mod Gathering
 pub mod Bases

@@ -1,4 +1,3 @@
-pub mod Words
 pub mod Tables
 pub mod Request
 pub mod Values

@@ -2,8 +2,8 @@
 use crate::reading::begin;
 use crate::reading::step;
 use crate::request::Request;
-use crate::words::word_end;
 use text::same;
+use words::word_end;
 ghost use mathlib.Core.Path.{_≡_};
 ghost use Prim.Native.Nat.{_+_, _≤_};
 ghost use lib.ListN.{length, drop};
@@ -11,7 +11,7 @@ ghost use Rattle.reference.specs.Contract.{was};
 ghost use Rattle.reference.specs.Control.{_&&_, if_then_else_};
 ghost use Rattle.reference.specs.Text.{_==_};
 ghost use lib.Dec.{eqb};
-ghost use Rattle.arguments.specs.Words.{split};
+ghost use Rattle.words.specs.Splitting.{split};
 ghost use Rattle.arguments.specs.Names.{base-name, same-later, clash-of};
 
 // Where the next part begins, if the byte at i is a slash; otherwise where the last one did.

@@ -9,8 +9,6 @@ mod sink; // the file that the page goes to
 
 use answers::Answer;
 use arguments::Request;
-use arguments::nth_word;
-use arguments::word_end;
 use clean::Reply;
 use files::NOTHING;
 use files::append;
@@ -35,6 +33,8 @@ use sink::close_goal;
 use sink::open_goal;
 use tape::questions::Checked;
 use text::same;
+use words::nth_word;
+use words::word_end;
 
 // ---- words
 
