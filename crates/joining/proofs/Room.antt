@@ -39,14 +39,6 @@ over-at [] k d h e = absurd (not-suc-le-zero h)
 over-at (t ∷ ts) zero d h e = omega arith
 over-at (t ∷ ts) (suc k) d h e = over-at ts k d (le-of-suc-le-suc h) (omega arith)
 
-pub size-room : (t : Token) → over t ≡ 0 → size t ≤ room t
-unfolding if_then_else_
-size-room t = go (is Number t)
-  where
-    go : (b : Bool) → (if b then size t - 24 else 0) ≡ 0 → size t ≤ (if b then 0 else size t) + 24
-    go true e = omega arith
-    go false e = omega arith
-
 -- ---- signs
 
 unfoldable pub is-sign : Token → Bool

@@ -194,9 +194,6 @@ module _ {tape used : Text} (more : Text) {w : ℕ} (h : Points tape used w) whe
   word-front : Points tape (take (length used) (used ++ more)) w
   word-front = rw take-append-seam h
 
-  pub points-grows : Points tape (used ++ more) w
-  points-grows = points-prefix (length used) (used ++ more) word-front
-
   pub text-grows : text-of tape (used ++ more) w ≡ text-of tape used w
   text-grows = sym (text-prefix (length used) (used ++ more) word-front) ∙ rw take-append-seam
 
