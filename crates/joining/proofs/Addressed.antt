@@ -1,4 +1,4 @@
--- The names that are addressed when a round begins: as a loop gathers them, and that each of them begins `var_`. Assumes nothing.
+-- The names that are addressed when a round begins: each of them begins `var_`. Assumes nothing.
 use mathlib.Core.Path.{_≡_, refl, sym, ap, _∙_}
 use mathlib.Core.Bool.{false}
 use mathlib.Core.List.{List, [], _∷_}

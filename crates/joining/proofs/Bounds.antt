@@ -1,4 +1,4 @@
--- The limits hold after every attempt and every cut; and while an attempt's new listing is built, its lines, not merged and folded yet, fit too:
+-- The limits hold after every attempt; and while an attempt's new listing is built, its lines, not merged and folded yet, fit too:
 -- they have 1,024 tokens and 49,152 bytes of room at most. Assumes nothing.
 use Prim.Native.Nat.{ℕ, zero, suc, _+_, _*_, _≤_, zero-le}
 use native.Mathlib.Omega.{arith}

@@ -1,3 +1,4 @@
+-- What the contracts of rounds and cuts cite: the cuts, the addressed names as they are gathered, marks carried on, a round, the whole run.
 pub mod Cuts
 pub mod Slots
 pub mod Carries
