@@ -14,7 +14,7 @@ use Rattle.reference.specs.Rules.{Rules}
 use Rattle.reference.specs.Life.{Labels}
 use Rattle.reference.specs.Join.{try-at, targets}
 use Rattle.reference.specs.Demand.{Attempts, over, failed, succeeded}
-use Rattle.reference.specs.Run.{labels-from, addressed-in, shift, Attempt, failure, success, attempts-from, propagate-once, dead-result, cuts-from, drop-dead-results}
+use Rattle.reference.specs.Run.{labels-from, addressed-in, shift, Attempt, failure, success, propagate-once, dead-result, cuts-from, drop-dead-results}
 use Rattle.reference.proofs.Cases.{some-inj, none-some}
 use Rattle.reference.proofs.Rounds.{attempts as made}
 use Rattle.reference.proofs.Lines.{length-modify}
@@ -45,11 +45,6 @@ module _ (rules : Rules) (addressed : List Text) where
       let same : y ≡ x = some-inj (sym f ∙ e) in
       let tail = unique m (subst (λ (l : Listing). Attempts rules addressed (pred i) l (shift i labels) more) same n) in
       λ t. success i (targets rules lines i labels) (sym same t) ∷ tail t
-
-  -- fuel for twice the lines that are left is enough: with more the attempts are the same
-  pub enough : (m n i : ℕ) (lines : Listing) (labels : Labels) → length lines + length lines ≤ m + i → length lines + length lines ≤ n + i
-      → attempts-from rules addressed m i lines labels ≡ attempts-from rules addressed n i lines labels
-  enough m n i lines labels p q = unique (made rules addressed m i lines labels p) (made rules addressed n i lines labels q)
 
   taken : (i : ℕ) (lines : Listing) (labels : Labels) → Attempts rules addressed i lines labels (attempts rules addressed i lines labels)
   unfolding attempts
