@@ -6,6 +6,7 @@ use lines::rules::Rules;
 use lines::shapes;
 use lines::shapes::Position;
 use lines::words;
+use names::RAX;
 use text::is_assign;
 use text::is_result_name;
 ghost use mathlib.Core.Path.{_≡_};
@@ -18,9 +19,6 @@ ghost use Rattle.lines.specs.Rules.{rules-of};
 ghost use Rattle.lines.specs.Words.{tokens-of, Holds};
 ghost use Rattle.lines.specs.Lines.{Listed};
 ghost use Rattle.cuts.specs.Cuts.{keeps-result, Cuttable, labels-now, dead-at, Dropped, Cut};
-
-// The row of rax in the table of names.
-const RAX: u64 = 0;
 
 // Whether a line assigns the result of a call to rax or eax.
 fn keeps_result<'a>(tape: &'a [u8], area: &'a [u8], line: &'a [u64]) -> bool

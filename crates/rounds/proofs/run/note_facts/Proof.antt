@@ -1,10 +1,10 @@
--- `rounds::run::mark` meets its contract. Assumes nothing.
+-- `rounds::run::note_facts` meets its contract. Assumes nothing.
 use mathlib.Core.Path.{sym}
 use lib.Seq.{length-take-le}
 use borrow.Author.Needs.{needs}
-use Rattle.rounds.proofs.Marking.{same-marked}
-use Rattle.rounds.proofs.run.mark.Statement.{statement}
-use Rattle.rounds.proofs.run.mark.Tie as tie
+use Rattle.rounds.proofs.Facts.{same-noted}
+use Rattle.rounds.proofs.run.note_facts.Statement.{statement}
+use Rattle.rounds.proofs.run.note_facts.Tie as tie
 
 -- Steps back to an earlier point of the function, each counted once.
 abbrev before-lines : tie.After-lines → tie.Start
@@ -29,10 +29,10 @@ same-length : tie.Need-same-length
 same-length c = search needs
 
 returns : tie.Need-returns
-returns c = same-marked (before-lines (c .before) .pre) (c .before .before .gather-facts .ensures)
+returns c = same-noted (before-lines (c .before) .pre) (c .before .before .gather-facts .ensures)
 
-pub mark-spec : {M : Type 1} → statement M
-mark-spec =
+pub note-facts-spec : {M : Type 1} → statement M
+note-facts-spec =
     tie.close
     (tie.spec
     slice-aggregate-gather-facts

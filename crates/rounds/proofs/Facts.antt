@@ -1,4 +1,4 @@
--- The lines with their marks: the listing is the same, and so is the run that is made of it. Assumes nothing.
+-- Lines whose facts were noted (crate linefacts): the listing is the same, and so is the run that is made of it. Assumes nothing.
 use Prim.Native.Nat.{ℕ, _<_}
 use native.Mathlib.Omega.{arith}
 use mathlib.Core.Path.{_≡_, sym, ap, _∙_}
@@ -21,11 +21,11 @@ use Rattle.rounds.specs.Runs.{SameListing, Runnable, Rounded}
 use Rattle.rounds.proofs.Carrying.{carries-then, carries-same, numbers-same}
 use Rattle.rounds.proofs.Turning.{bare-is}
 
--- ---- marked lines mean what they meant
+-- ---- lines whose facts were noted mean what they meant
 
 module _ {tape area : Text} {tokens lines after : List ℕ} (r : AllNoted tape area tokens lines after) where
-  remarked-means : (addresses : Reading) → listing-read tape area tokens addresses after ≡ listing-read tape area tokens addresses lines
-  remarked-means addresses =
+  noted-means : (addresses : Reading) → listing-read tape area tokens addresses after ≡ listing-read tape area tokens addresses lines
+  noted-means addresses =
       let f = line-read tape area tokens addresses in
       ext-getD (f 0) (map f after) (map f lines) (length-map after f ∙ r .long ∙ sym (length-map lines f))
       (λ k h.
@@ -33,21 +33,21 @@ module _ {tape area : Text} {tokens lines after : List ℕ} (r : AllNoted tape a
       let b′ : k < length lines = omega (arith, r .long) in
       map-at f after k (f 0) b ∙ r .at k b′ .means addresses ∙ sym (map-at f lines k (f 0) b′))
 
--- the lines in use were marked, and stand before the others
+-- the facts of the lines in use were noted, and these lines stand before the others
 module _ {tape area : Text} {tokens lines : List ℕ} {at : Size} (c : Current tape area tokens lines at) {after : List ℕ}
     (r : AllNoted tape (used area at) (used-words tokens at) (used-lines lines at) after) where
   front : take (at .lines) (after ++ drop (at .lines) lines) ≡ after
   front = take-at after _ (at .lines) (r .long ∙ length-take-le (at .lines) lines (c .lines-fit))
 
-  pub same-marked : SameListing tape area tokens lines at (after ++ drop (at .lines) lines)
-  same-marked = record {
+  pub same-noted : SameListing tape area tokens lines at (after ++ drop (at .lines) lines)
+  same-noted = record {
     current = record {
       text-fits = c .text-fits;
       words-fit = c .words-fit;
       lines-fit = rw (length-front lines after (at .lines) (r .long)) (c .lines-fit);
       listed = rw front (record { at = all-noted-lined r });
     };
-    means = λ addresses. rw front (remarked-means r addresses);
+    means = λ addresses. rw front (noted-means r addresses);
   }
 
 -- ---- a run of the same listing
