@@ -1,5 +1,5 @@
 -- The listing that bytes hold, whatever they are. No question of document 01 is asked but 3 and 4, and the limits are not: a cleaned tape
--- may have more text than an accepted one. Of the tape of a listing it is that listing (proofs/Holding.antt). Assumes nothing.
+-- may have more text than an accepted one. Of the tape of a listing it is that listing (`held-write` of crate tallies). Assumes nothing.
 use Prim.Native.Nat.{ℕ, zero, suc}
 use mathlib.Core.Bool.{Bool}
 use mathlib.Core.List.{List, [], _∷_}

@@ -1,14 +1,14 @@
--- `tallies::walking::next_at` meets its contract. Assumes nothing.
+-- `walk::next_at` meets its contract. Assumes nothing.
 use Prim.Native.Nat.{ℕ, _+_}
 use native.Mathlib.Omega.{arith}
 use mathlib.Core.Path.{sym, ap, _∙_}
 use Rattle.reference.specs.Tape.{old}
 use Rattle.tape.proofs.commands.Standing.{Stands, stands, stands-inside}
 use Rattle.tape.proofs.questions.Asking.{ends-same}
-use Rattle.tallies.proofs.Following.{refused-follows, end-follows, more-follows}
+use Rattle.walk.proofs.Following.{refused-follows, end-follows, more-follows}
 use borrow.Author.Needs.{needs}
-use Rattle.tallies.proofs.walking.next_at.Statement.{statement}
-use Rattle.tallies.proofs.walking.next_at.Tie as tie
+use Rattle.walk.proofs.next_at.Statement.{statement}
+use Rattle.walk.proofs.next_at.Tie as tie
 
 -- the command that was found
 here : (c : tie.After-command) → let a = c .before .before .before .before .args in Stands (a .tape .now) (a .at) (c .command .given .0 .0)

@@ -20,9 +20,9 @@ use Rattle.tape.specs.Commands.{command-in, size-of, standing, standing-by}
 use Rattle.tape.specs.declared.commands.Command.{Command}
 use Rattle.tape.specs.declared.commands.Command.the-variants.{Addressed, Plain, Marked, Token, End}
 use Rattle.tape.proofs.commands.Standing.{Stands, stands-inside}
-use Rattle.tallies.specs.declared.walking.Next.the-variants.{More, Over}
-use Rattle.tallies.specs.Held.{goes-on, commands-from, commands}
-use Rattle.tallies.specs.Counting.{Follows}
+use Rattle.walk.specs.declared.Next.the-variants.{More, Over}
+use Rattle.walk.specs.Held.{goes-on, commands-from, commands}
+use Rattle.walk.specs.Walk.{Follows}
 
 -- ---- the fuel is enough
 
