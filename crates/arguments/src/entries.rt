@@ -112,7 +112,7 @@ fn put_entry(word: &[u8], out: &mut [u8], at: usize) -> usize
     }
 }
 
-// The same, if the word was taken as an entry.
+// Puts the entry of a word that was taken as one; nothing of any other word.
 pub fn put_taken(taken: bool, word: &[u8], out: &mut [u8], at: usize) -> usize
     requires { ⌜ at + length (now word) + 9 ≤ length (now out) ⌝ }
     ensures { λ r. ⌜ Written (was out) at (if taken then entry-bytes (was word) else []) (now (out .exit)) r ⌝ }

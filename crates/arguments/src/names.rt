@@ -47,7 +47,7 @@ fn same_base(a: &[u8], b: &[u8]) -> bool
     same(&a[i..], &b[j..])
 }
 
-// The same of a word that was taken as an operand.
+// Whether a word that was taken as an operand has the base name of a path.
 fn is_same(taken: bool, a: &[u8], b: &[u8]) -> bool
     ensures { λ r. ⌜ r ≡ (taken && base-name (was a) == base-name (was b)) ⌝ }
 {
@@ -78,7 +78,7 @@ fn same_later(path: &[u8], s: Request, k: u64, words: &[u8], from: usize) -> u64
     0
 }
 
-// The same, if the path was taken as an operand; otherwise 0.
+// The first later operand with the base name of a path, if that path was taken as an operand; otherwise 0.
 fn taken_later(taken: bool, path: &[u8], s: Request, k: u64, words: &[u8], from: usize) -> u64
     requires { ⌜ (k ≤ from + 1) × (from ≤ length (now words) + 1) ⌝ }
     ensures { λ r. ⌜ r ≡ (if taken then same-later (was path) s k (split (drop from (was words))) else 0) ⌝ }

@@ -305,7 +305,7 @@ fn print_page(s: Request, name: &[u8], tape: &[u8], fin: &[u8], counts: Counts) 
     }
 }
 
-// The same to a file, which is there whole or not at all.
+// The page of a cleaning, to a file, which is there whole or not at all.
 fn write_page(path: &[u8], s: Request, name: &[u8], tape: &[u8], fin: &[u8], counts: Counts) {
     let mut beside = [0u8; 4200];
     let goal = open_goal(path, &mut beside);
@@ -616,7 +616,7 @@ fn read_store(s: Request, name: &[u8], store: &mut [u8]) -> usize {
     n
 }
 
-// The same with the first n bytes of a buffer; nothing where none were read.
+// Does what is asked with the store in the first n bytes of a buffer; nothing where none were read.
 fn act_front(words: &[u8], s: Request, name: &[u8], store: &mut [u8], n: usize) {
     if n == NOTHING {
         return;

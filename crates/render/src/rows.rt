@@ -156,7 +156,8 @@ fn put_tokens_by(s: Sink, line: &[u8], out: &mut [u8]) -> Sink {
     put(s, front(out, n))
 }
 
-// The same: a line of an accepted or a cleaned tape has at most 59,137 bytes, and its cells at most twelve times so many.
+// The tokens of a line in their cells. A line of an accepted or a cleaned tape has at most 59,137 bytes, and its cells at most twelve
+// times so many.
 fn put_tokens(s: Sink, line: &[u8]) -> Sink {
     let mut out = [0u8; 709644];
     put_tokens_by(s, line, &mut out)

@@ -41,7 +41,7 @@ sized Code.End s = s
 
 -- What is counted so far: `with-tokens s ts` is the number if the last line goes on with the tokens `ts` and no line follows.
 module _ {S : Type 0} (with-tokens : S → List Token → ℕ) (of-line : List Token → ℕ) where
-  -- ... with the commands to come
+  -- the number with the commands to come
   abbrev pub with-commands : S → List Tape.Command → ℕ
   with-commands s more = with-tokens s (tokens-of more) + sum (λ l. of-line (l .tokens)) (lines-of more)
 
@@ -49,11 +49,11 @@ module _ {S : Type 0} (with-tokens : S → List Token → ℕ) (of-line : List T
   pub record Takes (c : Tape.Command) (before after : S) : Type 0 where
     pub adds : (more : List Tape.Command) → with-commands after more ≡ with-commands before (c ∷ more)
 
-  -- and a token
+  -- a token is counted, whatever comes behind it in its line
   pub record TakesToken (t : Token) (before after : S) : Type 0 where
     pub adds : (ts : List Token) → with-tokens after ts ≡ with-tokens before (t ∷ ts)
 
-  -- and the beginning of a line
+  -- the beginning of a line is counted, whatever tokens it has
   pub record TakesLine (before after : S) : Type 0 where
     pub adds : (ts : List Token) → with-tokens after ts ≡ with-tokens before [] + of-line ts
 

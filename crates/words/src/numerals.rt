@@ -98,7 +98,7 @@ fn unsigned_in(word: &[u8], base: u64) -> Value
     Value::Is(v)
 }
 
-// The same, decimal, or hexadecimal behind 0x.
+// The number below 2^64 that a word stands for: decimal, or hexadecimal behind 0x.
 fn magnitude_in(word: &[u8]) -> Value
     ensures { λ r. ⌜ option-of r ≡ magnitude-in (was word) ⌝ }
 {
@@ -121,7 +121,7 @@ fn negated(v: u64) -> Value
     Value::Is(MOST - v + 1)
 }
 
-// The same of a word.
+// The number that stands behind a minus, as two's complement has it.
 fn negative_in(word: &[u8]) -> Value
     ensures { λ r. ⌜ option-of r ≡ negative-in (was word) ⌝ }
 {
