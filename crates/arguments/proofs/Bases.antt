@@ -13,11 +13,11 @@ use Rattle.reference.specs.Control.{_&&_, if_then_else_}
 use Rattle.reference.specs.Text.{Text, _==_}
 use Rattle.reference.proofs.Cases.{by-if}
 use Rattle.laws.proofs.Scans.{if-true, if-false}
-use Rattle.arguments.specs.Words.{split, EndsAt}
+use Rattle.words.specs.Splitting.{split, EndsAt}
 use Rattle.arguments.specs.declared.request.Request.{Request}
 use Rattle.arguments.specs.Requests.{none-yet, step-of}
 use Rattle.arguments.specs.Names.{base-from, base-name, same-later, clash-from, clash-of}
-use Rattle.arguments.proofs.Splitting.{first-word, no-word}
+use Rattle.words.proofs.FirstWord.{first-word, no-word}
 
 -- ---- a base name
 

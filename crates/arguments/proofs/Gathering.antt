@@ -10,11 +10,11 @@ use Rattle.reference.specs.Control.{if_then_else_}
 use Rattle.reference.specs.Text.{Text}
 use Rattle.numbers.specs.Writing.{Written}
 use Rattle.numbers.proofs.Writing.{written-then}
-use Rattle.arguments.specs.Words.{split, EndsAt}
+use Rattle.words.specs.Splitting.{split, EndsAt}
 use Rattle.arguments.specs.Entries.{entry-bytes}
 use Rattle.arguments.specs.declared.request.Request.{Request}
 use Rattle.arguments.specs.Requests.{none-yet, step-of, entries-from, entries-of}
-use Rattle.arguments.proofs.Splitting.{first-word, no-word}
+use Rattle.words.proofs.FirstWord.{first-word, no-word}
 use Rattle.arguments.proofs.Naming.{nothing-put}
 
 -- the entries of the words before `at` stand in `out`, and end at `end`; s is what is known before word k, which begins at `at`

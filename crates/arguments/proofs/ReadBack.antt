@@ -18,7 +18,7 @@ use Rattle.laws.proofs.Scans.{if-true}
 use Rattle.start.specs.Start as L
 use Rattle.start.specs.Start.{Entry}
 use Rattle.arguments.specs.declared.request.Request.{Request}
-use Rattle.arguments.specs.Values.{within-64, unsigned-in, magnitude-in, negated, negative-in, integer-in}
+use Rattle.words.specs.Numerals.{within-64, unsigned-in, magnitude-in, negated, negative-in, integer-in}
 use Rattle.arguments.specs.Entries.{equals-at, entry-value, named-value, entry-bytes}
 use Rattle.arguments.specs.Requests.{step-of, entries-from, entries-of}
 use Rattle.arguments.specs.Given.{said, given-from, given-of}

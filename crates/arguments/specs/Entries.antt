@@ -9,7 +9,7 @@ use lib.ListN.{length, take, drop}
 use Rattle.reference.specs.Control.{if_then_else_, let-some_else_then_}
 use Rattle.reference.specs.Text.{Text, bytes, starts-with}
 use Rattle.reference.specs.Tape.{to-le-bytes}
-use Rattle.arguments.specs.Values.{integer-in}
+use Rattle.words.specs.Numerals.{integer-in}
 
 -- where the first = stands; past the last byte, if there is none
 unfoldable pub equals-at : Text → ℕ

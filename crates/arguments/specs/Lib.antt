@@ -1,4 +1,5 @@
-pub mod Words
+-- What the command's words ask for: the tables of words (Tables), a request (Request), operands (Values, Entries), the whole of it
+-- (Requests), files that would be written to one (Names), and what the entries of `start` say (Given).
 pub mod Tables
 pub mod Request
 pub mod Values

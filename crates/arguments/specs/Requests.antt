@@ -14,9 +14,10 @@ use lib.Dec.{eqb, ltb}
 use lib.ListN.{length}
 use Rattle.reference.specs.Control.{if_then_else_, let-some_else_then_}
 use Rattle.reference.specs.Text.{Text, bytes, starts-with}
-use Rattle.arguments.specs.Words.{number-of}
+use Rattle.words.specs.Splitting.{number-of}
+use Rattle.words.specs.Numerals.{integer-in}
 use Rattle.arguments.specs.Tables.{verbs, options, helps, conventions, editions, kind-of, taking, fewest, most}
-use Rattle.arguments.specs.Values.{is-name, integer-in, value-of}
+use Rattle.arguments.specs.Values.{is-name, value-of}
 use Rattle.arguments.specs.Entries.{is-entry, entry-value, entry-bytes}
 use Rattle.arguments.specs.declared.request.Request.{Request}
 use Rattle.arguments.specs.Request.{with-help, with-fault, with-verb, with-pending, with-convention, with-edition}

@@ -1,9 +1,9 @@
 // Operands REG=VALUE: the registers of `start` and what they start with. Their list is the one that crate start takes.
-use crate::values::Value;
-use crate::values::integer_in;
 use tape::little_endian::put_number;
 use text::copy_bytes;
 use text::starts;
+use words::Value;
+use words::integer_in;
 ghost use mathlib.Core.Path.{_≡_};
 ghost use mathlib.Core.List.{[], _∷_};
 ghost use Prim.Native.Nat.{_+_, _≤_, _<_};
@@ -12,7 +12,7 @@ ghost use Rattle.reference.specs.Contract.{was};
 ghost use Rattle.reference.specs.Control.{if_then_else_};
 ghost use Rattle.reference.specs.Tape.{to-le-bytes};
 ghost use Rattle.numbers.specs.Writing.{Written};
-ghost use Rattle.arguments.specs.Values.{option-of};
+ghost use Rattle.words.specs.Numerals.{option-of};
 ghost use Rattle.arguments.specs.Entries.{equals-at, is-entry, entry-value, named-value, entry-bytes};
 
 // Where the first = stands; past the last byte, if there is none.
@@ -112,7 +112,7 @@ fn put_entry(word: &[u8], out: &mut [u8], at: usize) -> usize
     }
 }
 
-// The same, if the word was taken as an entry.
+// Puts the entry of a word that was taken as one; nothing of any other word.
 pub fn put_taken(taken: bool, word: &[u8], out: &mut [u8], at: usize) -> usize
     requires { ⌜ at + length (now word) + 9 ≤ length (now out) ⌝ }
     ensures { λ r. ⌜ Written (was out) at (if taken then entry-bytes (was word) else []) (now (out .exit)) r ⌝ }

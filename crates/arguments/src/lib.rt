@@ -6,7 +6,6 @@ mod reading; // one word more, and all of them
 mod request; // what is known of a request so far
 mod tables; // which words, options and operands there are
 mod values; // operands that stand for a number
-mod words; // the words of a slice
 
 pub use names::clash;
 pub use reading::begin;
@@ -14,8 +13,3 @@ pub use reading::parse;
 pub use reading::put_entries;
 pub use reading::step;
 pub use request::Request;
-pub use values::Value;
-pub use values::number_in;
-pub use words::nth_word;
-pub use words::number_of;
-pub use words::word_end;

@@ -2,8 +2,8 @@
 use crate::reading::begin;
 use crate::reading::step;
 use crate::request::Request;
-use crate::words::word_end;
 use text::same;
+use words::word_end;
 ghost use mathlib.Core.Path.{_≡_};
 ghost use Prim.Native.Nat.{_+_, _≤_};
 ghost use lib.ListN.{length, drop};
@@ -11,7 +11,7 @@ ghost use Rattle.reference.specs.Contract.{was};
 ghost use Rattle.reference.specs.Control.{_&&_, if_then_else_};
 ghost use Rattle.reference.specs.Text.{_==_};
 ghost use lib.Dec.{eqb};
-ghost use Rattle.arguments.specs.Words.{split};
+ghost use Rattle.words.specs.Splitting.{split};
 ghost use Rattle.arguments.specs.Names.{base-name, same-later, clash-of};
 
 // Where the next part begins, if the byte at i is a slash; otherwise where the last one did.
@@ -47,7 +47,7 @@ fn same_base(a: &[u8], b: &[u8]) -> bool
     same(&a[i..], &b[j..])
 }
 
-// The same of a word that was taken as an operand.
+// Whether a word that was taken as an operand has the base name of a path.
 fn is_same(taken: bool, a: &[u8], b: &[u8]) -> bool
     ensures { λ r. ⌜ r ≡ (taken && base-name (was a) == base-name (was b)) ⌝ }
 {
@@ -78,7 +78,7 @@ fn same_later(path: &[u8], s: Request, k: u64, words: &[u8], from: usize) -> u64
     0
 }
 
-// The same, if the path was taken as an operand; otherwise 0.
+// The first later operand with the base name of a path, if that path was taken as an operand; otherwise 0.
 fn taken_later(taken: bool, path: &[u8], s: Request, k: u64, words: &[u8], from: usize) -> u64
     requires { ⌜ (k ≤ from + 1) × (from ≤ length (now words) + 1) ⌝ }
     ensures { λ r. ⌜ r ≡ (if taken then same-later (was path) s k (split (drop from (was words))) else 0) ⌝ }

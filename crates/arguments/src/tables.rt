@@ -1,10 +1,10 @@
 // Which words, options and operands there are. A further verb is a word at the end of its row, and a row of each table.
-use crate::words::number_of;
 use tape::little_endian::wide;
+use words::number_of;
 ghost use mathlib.Core.Path.{_≡_};
 ghost use lib.ListN.{length, getD};
 ghost use Rattle.reference.specs.Contract.{was};
-ghost use Rattle.arguments.specs.Words.{number-of};
+ghost use Rattle.words.specs.Splitting.{number-of};
 ghost use Prim.Native.Nat.{_+_, _*_, _≤_, min};
 ghost use Rattle.arguments.specs.Tables.{verbs, options, helps, conventions, editions, actions};
 ghost use Rattle.arguments.specs.Tables.{kind-of, taking, row-of, fewest, most};

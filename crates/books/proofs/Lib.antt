@@ -1,3 +1,4 @@
+-- Laws of tables, names and constants (Entries to Alike), then the records of the specs, proved.
 pub mod Entries
 pub mod Names
 pub mod Reading

@@ -56,7 +56,7 @@ listing ls = map (λ l. line-at 0 (bytes l)) ls
 abbrev pub convention-1 : Rules
 convention-1 = record { convention = 1; settle = false; edition = 0; parts = false; profile = false }
 
--- M-104
+-- convention 1 with the parts setting (M-104)
 abbrev pub convention-1-parts : Rules
 convention-1-parts = record { convention = 1; settle = false; edition = 0; parts = true; profile = false }
 
@@ -64,7 +64,7 @@ convention-1-parts = record { convention = 1; settle = false; edition = 0; parts
 abbrev pub gives : List String → List String → Type 0
 gives before after = finished convention-1 (listing before) ≡ listing after
 
--- and under the parts setting
+-- the finished listing, under convention 1 and the parts setting
 abbrev pub gives-parts : List String → List String → Type 0
 gives-parts before after = finished convention-1-parts (listing before) ≡ listing after
 

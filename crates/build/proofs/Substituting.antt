@@ -15,7 +15,6 @@ use Rattle.reference.specs.Numbers.{merge}
 use Rattle.reference.specs.Join.{substitute}
 use Rattle.reference.specs.Claim.{text-in}
 use Rattle.laws.proofs.Scans.{if-true, if-false}
-use Rattle.joining.specs.Plan.{Plan, right-side-of}
 use Rattle.lines.specs.Words.{token-of, tokens-of}
 use Rattle.lines.specs.Shapes.{expr-words}
 use Rattle.lines.specs.Fams.{fam-text}
@@ -109,11 +108,3 @@ line-added-merged {tokens = tokens} {at} {ts} p = record {
   text-most = p .text-most;
   words-most = p .words-most;
 }
-
--- ---- the plan
-
--- what takes the place of a token is the plan's right side
-pub right-is : (tape area : Text) (source : List ℕ) (j : Substitution) (p : Plan) → p .expr ≡ tokens-of tape area (expr-words source (j .expr)) → p .brackets ≡ j .brackets
-    → right-of tape area source j ≡ right-side-of p
-unfolding right-of right-side-of
-right-is tape area source j p e b = rw (e, b)

@@ -46,7 +46,7 @@ pub record Keepable (tape old : Text) (words : List ℕ) (l : ℕ) (area : Text)
   pub has-room : Room area tokens at (text-in (tokens-of tape old (part-of words l))) (count-of l)
   pub first-fits : at .tokens < 65536
 
--- it means what it meant
+-- the line l of the old set was appended as it is, and means what it meant
 abbrev pub Kept : Text → Text → List ℕ → ℕ → Text → List ℕ → Size → Text → List ℕ → Appended → Type 0
 Kept tape old words l area tokens at =
     Added tape area tokens at (λ addresses. line-read tape old words addresses l) (text-in (tokens-of tape old (part-of words l)))
@@ -54,7 +54,7 @@ Kept tape old words l area tokens at =
 
 -- ---- a line rewritten
 
--- the tokens that it is made of, before they are merged
+-- the tokens that a rewritten line is made of, before they are merged
 abbrev pub unmerged : Text → Text → List ℕ → ℕ → Substitution → ℕ → List Token
 unmerged tape old words source j l = substituted tape old (part-of words source) j (part-of words l)
 
@@ -69,7 +69,7 @@ pub record Rewritable (tape old : Text) (words : List ℕ) (source : ℕ) (j : S
   pub first-fits : at .tokens < 65536
   pub few : length (unmerged tape old words source j l) < 2048
 
--- it means what `rewrite-use` makes of it
+-- the line l of the old set was appended, and means what `rewrite-use` makes of it
 abbrev pub Rewritten : ℕ → Text → Text → List ℕ → ℕ → Substitution → ℕ → Text → List ℕ → Size → Text → List ℕ → Appended → Type 0
 Rewritten edition tape old words source j l area tokens at =
     Added tape area tokens at

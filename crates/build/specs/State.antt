@@ -60,7 +60,7 @@ pub record Built (tape area : Text) (tokens : List ℕ) (from : ℕ) (at : Size)
 abbrev pub last-word : List ℕ → Size → ℕ
 last-word tokens at = getD tokens (at .tokens - 1) 0
 
--- its last token can be joined to: what may be extended stands at the end of the text
+-- the last token of the line that began at `from` can be joined to: what may be extended stands at the end of the text
 pub record Extendable (tokens : List ℕ) (from : ℕ) (at : Size) : Type 0 where
   pub in-area : from < at .tokens → joinable (kind-of (last-word tokens at)) ≡ true → buffer-of (last-word tokens at) ≡ 1
   pub at-end : from < at .tokens → buffer-of (last-word tokens at) ≡ 1 → start-of (last-word tokens at) + len-of (last-word tokens at)

@@ -104,7 +104,7 @@ pub(crate) fn read_file(name: &[u8], buffer: &mut [u8]) -> usize {
     n
 }
 
-// The same of a file that may be missing: that is 0 bytes.
+// Reads a file that may be missing, and answers how many bytes: 0 of a missing one; NOTHING where it cannot be read, which is told.
 pub(crate) fn read_present(name: &[u8], buffer: &mut [u8]) -> usize {
     let fd = os::open_read(name);
     if fd < 0 {

@@ -1,9 +1,9 @@
 // The help, and what is said of wrong use.
 use crate::files::tell;
 use arguments::Request;
-use arguments::nth_word;
 use libc::STDERR_FILENO;
 use libc::STDOUT_FILENO;
+use words::nth_word;
 
 // The first lines of the help.
 fn put_front(fd: i32) {

@@ -9,8 +9,6 @@ mod sink; // the file that the page goes to
 
 use answers::Answer;
 use arguments::Request;
-use arguments::nth_word;
-use arguments::word_end;
 use clean::Reply;
 use files::NOTHING;
 use files::append;
@@ -28,6 +26,7 @@ use lines::rules::Rules;
 use listing_text::Made;
 use listing_text::put_listing;
 use listing_text::put_tape;
+use render::Counts;
 use render::Sink;
 use render::put_page;
 use rounds::Tally;
@@ -35,6 +34,8 @@ use sink::close_goal;
 use sink::open_goal;
 use tape::questions::Checked;
 use text::same;
+use words::nth_word;
+use words::word_end;
 
 // ---- words
 
@@ -293,36 +294,19 @@ fn tape_one(words: &[u8], s: Request, name: &[u8], text: &[u8]) {
 }
 
 // The page of a cleaning, to standard output.
-fn print_page(
-    s: Request,
-    name: &[u8],
-    tape: &[u8],
-    fin: &[u8],
-    tally: Tally,
-    removed: u64,
-    cut: u64,
-) {
+fn print_page(s: Request, name: &[u8], tape: &[u8], fin: &[u8], counts: Counts) {
     let sink = Sink {
         fd: STDOUT_FILENO,
         done: true,
     };
-    let after = put_page(sink, s, rules_of(s), name, tape, fin, tally, removed, cut);
+    let after = put_page(sink, s, rules_of(s), name, tape, fin, counts);
     if !after.done {
         os::fail(b"standard output");
     }
 }
 
-// The same to a file, which is there whole or not at all.
-fn write_page(
-    path: &[u8],
-    s: Request,
-    name: &[u8],
-    tape: &[u8],
-    fin: &[u8],
-    tally: Tally,
-    removed: u64,
-    cut: u64,
-) {
+// The page of a cleaning, to a file, which is there whole or not at all.
+fn write_page(path: &[u8], s: Request, name: &[u8], tape: &[u8], fin: &[u8], counts: Counts) {
     let mut beside = [0u8; 4200];
     let goal = open_goal(path, &mut beside);
     if goal.fd < 0 {
@@ -332,33 +316,15 @@ fn write_page(
         fd: goal.fd,
         done: true,
     };
-    let after = put_page(sink, s, rules_of(s), name, tape, fin, tally, removed, cut);
+    let after = put_page(sink, s, rules_of(s), name, tape, fin, counts);
     close_goal(goal, path, &beside, after.done);
 }
 
-fn page_of(
-    words: &[u8],
-    s: Request,
-    name: &[u8],
-    tape: &[u8],
-    fin: &[u8],
-    tally: Tally,
-    removed: u64,
-    cut: u64,
-) {
+fn page_of(words: &[u8], s: Request, name: &[u8], tape: &[u8], fin: &[u8], counts: Counts) {
     if s.goal == 0 {
-        print_page(s, name, tape, fin, tally, removed, cut);
+        print_page(s, name, tape, fin, counts);
     } else {
-        write_page(
-            word(words, s.goal_at),
-            s,
-            name,
-            tape,
-            fin,
-            tally,
-            removed,
-            cut,
-        );
+        write_page(word(words, s.goal_at), s, name, tape, fin, counts);
     }
 }
 
@@ -370,16 +336,12 @@ fn page_one(words: &[u8], s: Request, name: &[u8], tape: &[u8]) {
         Reply::Refused { number, place } => tell_refusal(name, number, place as u64),
         Reply::Finished(f) => {
             let tally = f.tally;
-            page_of(
-                words,
-                s,
-                name,
-                tape,
-                front(&out, f.length),
+            let counts = Counts {
                 tally,
-                f.removed,
-                f.cut,
-            );
+                removed: f.removed,
+                cut: f.cut,
+            };
+            page_of(words, s, name, tape, front(&out, f.length), counts);
         }
     }
 }
@@ -654,7 +616,7 @@ fn read_store(s: Request, name: &[u8], store: &mut [u8]) -> usize {
     n
 }
 
-// The same with the first n bytes of a buffer; nothing where none were read.
+// Does what is asked with the store in the first n bytes of a buffer; nothing where none were read.
 fn act_front(words: &[u8], s: Request, name: &[u8], store: &mut [u8], n: usize) {
     if n == NOTHING {
         return;

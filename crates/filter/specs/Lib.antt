@@ -1,1 +1,2 @@
+-- What the filter writes, for every input.
 pub mod Response

@@ -34,12 +34,12 @@ abbrev pub new-line : Rules → Text → Text → List ℕ → ℕ → Join → 
 new-line rules tape old words source j k l addresses =
     acted-line rules (j .line) (join-in tape old (part-of words source) j) k (line-read tape old words addresses l)
 
--- its tokens, not merged and folded yet
+-- the tokens of what line k becomes, not merged and folded yet
 abbrev pub new-tokens : Rules → Text → Text → List ℕ → ℕ → Join → ℕ → ℕ → List Token
 new-tokens rules tape old words source j k l =
     unmerged-line (volatile rules) (j .line) (join-in tape old (part-of words source) j) k (bare-in tape old words l) .tokens
 
--- the line can be appended
+-- what line k becomes can be appended
 pub record Placeable (rules : Rules) (tape old : Text) (words : List ℕ) (source : ℕ) (j : Join) (k l : ℕ) (area : Text) (tokens : List ℕ)
     (at : Size) : Type 0 where
   pub source-lined : Lined tape old words source
@@ -56,7 +56,7 @@ Placed rules tape old words source j k l area tokens at =
     Added tape area tokens at (new-line rules tape old words source j k l)
     (sum room (new-tokens rules tape old words source j k l)) (length (new-tokens rules tape old words source j k l))
 
--- its word stands behind the lines in use, and every other word is as it was
+-- the word of the line that was appended stands behind the lines in use, and every other word is as it was
 pub record Put (a : Appended) (lines lines′ : List ℕ) (r : Size) : Type 0 where
   pub lines-are : lines′ ≡ set lines (a .size .lines) (a .line)
   pub size-is : r ≡ record { lines = a .size .lines + 1; tokens = a .size .tokens; text = a .size .text }
@@ -108,7 +108,7 @@ pub record Acted (rules : Rules) (tape old : Text) (words lines : List ℕ) (j :
   pub means : (addresses : Reading) → listing-now tape area tokens lines′ at addresses
       ≡ act rules (listing-read tape old words addresses lines) (j .line) (plan-of tape old words lines j)
 
--- it was built from nothing, within the limits
+-- the new listing, built from nothing, within the limits
 pub record Rebuilt (rules : Rules) (tape old : Text) (words lines : List ℕ) (j : Join) (area : Text) (tokens lines′ : List ℕ) (at : Size) :
     Type 0 where
   pub acted : Acted rules tape old words lines j area tokens lines′ at

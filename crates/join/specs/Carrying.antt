@@ -45,6 +45,6 @@ pub record Handed (lines : List ℕ) (i : ℕ) (places lows highs lows′ highs�
   pub lows-are : lows′ ≡ lowered (getD lows (origin-of (getD lines i 0)) 0) (origins-at lines places) lows
   pub highs-are : highs′ ≡ raised (getD highs (origin-of (getD lines i 0)) 0) (origins-at lines places) highs
 
--- those that the plan changes have taken in the marks of the line that is joined
+-- the lines that the plan changes have taken in the marks of the line that is joined
 abbrev pub Carried : Rules → Text → Text → List ℕ → List ℕ → Join → List ℕ → List ℕ → List ℕ → List ℕ → Type 0
 Carried rules tape old words lines j = Handed lines (j .line) (changed-by rules tape old words lines j)

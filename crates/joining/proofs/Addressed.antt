@@ -1,29 +1,14 @@
--- The names that are addressed when a round begins: as a loop gathers them, and that each of them begins `var_`. Assumes nothing.
-use Prim.Native.Nat.{ℕ, _+_, _<_}
-use native.Mathlib.Numerals.{add-one}
+-- The names that are addressed when a round begins: each of them begins `var_`. Assumes nothing.
 use mathlib.Core.Path.{_≡_, refl, sym, ap, _∙_}
 use mathlib.Core.Bool.{false}
-use mathlib.Core.List.{List, [], _∷_, _++_, append-assoc, append-nil}
-use lib.ListN.{length, take}
-use lib.Seq.{take-suc}
+use mathlib.Core.List.{List, [], _∷_}
 use Rattle.reference.specs.Lists.{windows}
 use Rattle.reference.specs.Text.{Text, bytes, has, _==_, starts-with}
-use Rattle.reference.specs.Listing.{Token, Listing, blank, _at_}
+use Rattle.reference.specs.Listing.{Token, Listing}
 use Rattle.reference.specs.Run.{addressed-here, addressed-in}
 use Rattle.reference.proofs.Cases.{by-if, both, fails, true-false}
 use Rattle.reference.proofs.Shapes.{same-text}
 use Rattle.laws.proofs.Scans.{any-append, or-false}
-
-in-append : (xs ys : Listing) → addressed-in (xs ++ ys) ≡ addressed-in xs ++ addressed-in ys
-unfolding addressed-in
-in-append [] ys = refl
-in-append (x ∷ xs) ys = rw (in-append xs ys, append-assoc (addressed-here (windows (x .tokens))) (addressed-in xs) (addressed-in ys))
-
-pub addressed-turn : (lines : Listing) (k : ℕ) → k < length lines
-    → addressed-in (take (k + 1) lines) ≡ addressed-in (take k lines) ++ addressed-here (windows ((lines at k) .tokens))
-unfolding addressed-in
-addressed-turn lines k h =
-    rw (add-one k, take-suc lines k blank h) (in-append (take k lines) ((lines at k) ∷ []) ∙ rw (append-nil (addressed-here (windows ((lines at k) .tokens)))))
 
 -- a name that does not begin `var_` is not among them
 module _ (name : Text) (other : starts-with name (bytes "var_") ≡ false) where

@@ -3,7 +3,7 @@
 use Prim.Native.Nat.{ℕ, zero, suc}
 use mathlib.Core.Path.{_≡_, refl, sym, ap, _∙_}
 use mathlib.Core.Bool.{Bool, true, false}
-use mathlib.Core.List.{List, [], _∷_, map, nil≢cons, cons≢nil}
+use mathlib.Core.List.{List, [], _∷_, map}
 use mathlib.Core.Option.{Option, none, some}
 use lib.ListN.{drop}
 use lib.Seq.{slice}
@@ -13,12 +13,12 @@ use Rattle.reference.specs.Text.{Text}
 use Rattle.reference.specs.Listing.{Token, Line, Listing, _at_}
 use Rattle.reference.specs.Rules.{Rules, volatile}
 use Rattle.reference.specs.Life.{Labels}
-use Rattle.reference.specs.Join.{ends-run, gather, harmless, use-from, rewrite-use, text-or-empty, try-at, targets}
+use Rattle.reference.specs.Join.{ends-run, harmless, use-from, rewrite-use, text-or-empty, try-at, targets}
 use Rattle.reference.specs.Run.{labels-from, addressed-in, dead-result}
 use Rattle.reference.proofs.Cases.{by-if}
 use Rattle.laws.proofs.Scans.{any-map}
 use Rattle.joining.specs.Bare.{bare, bare-lines}
-use Rattle.joining.specs.Places.{label-places, labels-at}
+use Rattle.joining.specs.Places.{labels-at}
 use Rattle.joining.specs.Rounds.{cut-at}
 use Rattle.joining.specs.Plan.{Definition, Plan, Reach, reach-at, reach-from, reach-of, refuses, all-take, ends-at, plan-reach, plan-constant, use-of, plan-use, plan-single, plan-for, decide, map-from, right-side-of, changes, where-used, acted-line, act}
 use Rattle.joining.proofs.BareLife.{at-bare, drop-map, slice-map, dead-after-bare}
@@ -28,11 +28,6 @@ use Rattle.joining.proofs.Deciding.{try-at-is, tried, changed-places, t
 -- ---- the decision
 
 module _ (base-indent : ℕ) (fam : Text) (volatile : List Text) where
-  pub gather-bare : (j : ℕ) (ls : Listing) (last : ℕ) → gather base-indent fam volatile j (bare-lines ls) last ≡ gather base-indent fam volatile j ls last
-  unfolding gather ends-run
-  gather-bare j [] last = refl
-  gather-bare j (l ∷ ls) last = rw (gather-bare (suc j) ls last, gather-bare (suc j) ls j)
-
   pub reach-from-bare : (j : ℕ) (ls : Listing) (r : Reach) → reach-from base-indent fam volatile j (bare-lines ls) r ≡ reach-from base-indent fam volatile j ls r
   unfolding reach-from reach-at ends-run
   reach-from-bare j [] r = refl
@@ -141,11 +136,6 @@ unfolding labels-from
 labels-bare i [] = refl
 labels-bare i (l ∷ ls) = rw (labels-bare (suc i) ls)
 
-pub label-places-bare : (i : ℕ) (ls : Listing) → label-places i (bare-lines ls) ≡ label-places i ls
-unfolding label-places
-label-places-bare i [] = refl
-label-places-bare i (l ∷ ls) = rw (label-places-bare (suc i) ls)
-
 pub labels-at-bare : (lines : Listing) (places : List ℕ) → labels-at (bare-lines lines) places ≡ labels-at lines places
 labels-at-bare lines [] = refl
 labels-at-bare lines (q ∷ qs) = λ t. record { name = text-or-empty (get (at-bare lines q t .tokens) 0); place = q } ∷ labels-at-bare lines qs t
@@ -163,17 +153,6 @@ pub cut-bare : (i : ℕ) (lines : Listing) → cut-at i (bare-lines lines) ≡ b
 cut-bare i lines = modify-map bare _ _ (λ l. refl) i lines
 
 -- ---- the addresses, kept beside the lines
-
--- lines are what they are without their addresses, and their addresses
-pub with-addresses : (xs ys : Listing) → bare-lines xs ≡ bare-lines ys → map (λ l. l .address) xs ≡ map (λ l. l .address) ys → xs ≡ ys
-with-addresses [] [] e h = refl
-with-addresses [] (y ∷ ys) e h = absurd (nil≢cons e)
-with-addresses (x ∷ xs) [] e h = absurd (cons≢nil e)
-with-addresses (x ∷ xs) (y ∷ ys) e h =
-    let first : bare x ≡ bare y = cc in
-    let address : x .address ≡ y .address = cc in
-    let more : xs ≡ ys = with-addresses xs ys (cc) (cc) in
-    λ t. record { address = address t; indent = first t .indent; tokens = first t .tokens } ∷ more t
 
 address-stays : (rules : Rules) (i : ℕ) (p : Plan) (k : ℕ) (l : Line) → acted-line rules i p k l .address ≡ l .address
 unfolding where-used rewrite-use

@@ -1,10 +1,10 @@
--- The limits hold after every attempt and every cut; and while an attempt's new listing is built, its lines, not merged and folded yet, fit too:
+-- The limits hold after every attempt; and while an attempt's new listing is built, its lines, not merged and folded yet, fit too:
 -- they have 1,024 tokens and 49,152 bytes of room at most. Assumes nothing.
-use Prim.Native.Nat.{ℕ, zero, suc, _+_, _*_, _≤_, _<_, zero-le}
+use Prim.Native.Nat.{ℕ, zero, suc, _+_, _*_, _≤_, zero-le}
 use native.Mathlib.Omega.{arith}
 use native.Mathlib.Nat.{le-refl, le-trans}
 use mathlib.Core.Path.{_≡_, refl, sym, ap, _∙_}
-use mathlib.Core.Bool.{true, false}
+use mathlib.Core.Bool.{false}
 use mathlib.Core.List.{List, [], _∷_}
 use mathlib.Core.Option.{some}
 use lib.ListN.{length, take}
@@ -15,40 +15,28 @@ use Rattle.reference.specs.Rules.{Rules, volatile}
 use Rattle.reference.specs.Shapes.{Assignment}
 use Rattle.reference.specs.Life.{Labels}
 use Rattle.reference.specs.Join.{substitute, try-at}
-use Rattle.reference.specs.Run.{dead-result}
 use Rattle.reference.specs.Claim.{sum, token-count}
-use Rattle.reference.specs.Demand.{Accepted}
 use Rattle.reference.proofs.Cases.{by-if}
 use Rattle.reference.proofs.Shapes.{Assigning, assigns}
 use Rattle.reference.proofs.Weights.{Weight, weigh, weight, total, Light, count, count-is, plain, excess, light, light-excess, replaced-le, substitute-le}
-use Rattle.reference.proofs.Lines.{sum-remove, sum-modify, at-modify, length-modify}
+use Rattle.reference.proofs.Lines.{sum-remove, sum-modify, at-modify}
 use Rattle.reference.proofs.Changes.{removed-length}
-use Rattle.reference.proofs.Fits.{Fits, accepted-fits, changes-fit, removed-fit}
+use Rattle.reference.proofs.Fits.{Fits, removed-fit}
 use Rattle.reference.proofs.Attempts.{attempt-removed}
-use Rattle.reference.proofs.Cuts.{cut-changes}
 use Rattle.laws.proofs.Scans.{if-false}
 use Rattle.joining.specs.Limits.{RunLimits, plain-size, over, room, each-token}
 use Rattle.joining.specs.Plan.{Plan, map-from, right-side-of, where-used, unmerged-line, built}
-use Rattle.joining.specs.Rounds.{cut-at}
 use Rattle.joining.proofs.Acting.{modifies, changed}
 use Rattle.joining.proofs.Deciding.{defined-by, inside}
 use Rattle.joining.proofs.Planned.{Way, constant, single, Planned}
 
 -- ---- the limits, from step to step
 
-pub limits-begin : (lines : Listing) → length lines ≤ 256 → Accepted lines → RunLimits lines
-limits-begin lines h a = record { lines-fit = h; fits = accepted-fits a }
-
 pub limits-after : (rules : Rules) (lines : Listing) (i : ℕ) (labels : Labels) (addressed : List Text) {lines′ : Listing}
     → try-at rules lines i labels addressed ≡ some lines′ → RunLimits lines → RunLimits lines′
 limits-after rules lines i labels addressed e v =
     let r = attempt-removed rules lines i labels addressed e in
     record { lines-fit = omega (arith, removed-length r, v .lines-fit); fits = removed-fit r (v .fits) }
-
-pub limits-cut : (rules : Rules) (labels : Labels) (lines : Listing) (i : ℕ) → i < length lines → dead-result rules labels lines i ≡ true
-    → RunLimits lines → RunLimits (cut-at i lines)
-limits-cut rules labels lines i h e v =
-    record { lines-fit = rw length-modify (v .lines-fit); fits = changes-fit (cut-changes rules labels lines i h e) (v .fits) }
 
 -- ---- the room of a listing that fits
 

@@ -1,21 +1,20 @@
--- The pieces of the plan for a use, by the index of its token: the token that was found, its width, the texts beside it. Assumes nothing.
+-- The pieces of the plan for a use, by the index of its token: the token that was found, and the texts beside it. Assumes nothing.
 use Prim.Native.Nat.{ℕ, suc, _-_, _≤_, _<_, suc-le-suc}
 use native.Mathlib.Omega.{arith}
 use mathlib.Core.Path.{_≡_, refl, _∙_, subst}
 use mathlib.Core.Bool.{Bool, true, false}
 use mathlib.Core.List.{List, [], _∷_}
-use mathlib.Core.Option.{Option, none, some}
+use mathlib.Core.Option.{Option, some}
 use lib.ListN.{length, getD}
 use borrow.Author.Tests.{eq-eqb, ne-eqb}
-use Rattle.reference.specs.Control.{_&&_, _||_, let-some_else_then_}
+use Rattle.reference.specs.Control.{_&&_, _||_}
 use Rattle.reference.specs.Lists.{position}
-use Rattle.reference.specs.Text.{Text, _==_}
+use Rattle.reference.specs.Text.{Text}
 use Rattle.reference.specs.Listing.{Token}
-use Rattle.reference.specs.Names.{Fam, fam-of, of-family}
-use Rattle.reference.specs.Join.{text-before, text-after, standalone, use-width}
-use Rattle.reference.proofs.Cases.{by-if, if-some, bind-some, some-inj, none-some, both, fails, true-false}
+use Rattle.reference.specs.Join.{text-before, text-after, standalone}
+use Rattle.reference.proofs.Cases.{by-if, bind-some, some-inj, none-some, both, fails, true-false}
 use Rattle.laws.proofs.Scans.{if-true, if-false}
-use Rattle.joining.proofs.Looking.{get-at, text-at, text-past}
+use Rattle.joining.proofs.Looking.{text-at, text-past}
 
 -- what a search finds
 pub found-at {ℓ} : {A : Type ℓ} (q : A → Bool) (xs : List A) (k : ℕ) (d : A) → position q xs ≡ some k → (k < length xs) × (q (getD xs k d) ≡ true)
@@ -27,19 +26,6 @@ found-at q (x ∷ xs) k d =
     (let b = bind-some e in
     let r = found-at q xs (b .0) d (b .1) in
     subst (λ (n : ℕ). (n < suc (length xs)) × (q (getD (x ∷ xs) n d) ≡ true)) (some-inj (b .2)) (suc-le-suc (r .0), r .1)))
-
--- a token of a family has a name, and that name the family
-pub family-known : (fam : Text) (t : Token) → of-family fam t ≡ true → (f : Fam) × (fam-of t ≡ some f)
-unfolding of-family let-some_else_then_
-family-known fam t = go (fam-of t)
-  where
-    go : (o : Option Fam) → (let-some o else false then λ f. f .name == fam) ≡ true → (f : Fam) × (o ≡ some f)
-    go none e = absurd (true-false e refl)
-    go (some f) e = (f, refl)
-
-pub width-at : (toks : List Token) (pos : ℕ) (d : Token) (f : Fam) → pos < length toks → fam-of (getD toks pos d) ≡ some f → use-width toks pos ≡ f .width
-unfolding use-width fam-of let-some_else_then_
-width-at toks pos d f h e = rw (get-at toks pos d h, if-some e .1)
 
 -- the texts beside it
 module _ (toks : List Token) (pos : ℕ) where

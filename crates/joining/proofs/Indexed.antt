@@ -27,13 +27,6 @@ module _ {ℓ κ} {A : Type ℓ} {B : Type κ} (f : ℕ → A → B) where
   getD-map-from k (x ∷ xs) zero d e h = rw (add-zero k)
   getD-map-from k (x ∷ xs) (suc m) d e h = rw (add-suc k m, ← (suc-add k m)) (getD-map-from (suc k) xs m d e (le-of-suc-le-suc h))
 
-  pub map-from-same : (g : ℕ → A → B) (k : ℕ) (xs : List A) → ((m : ℕ) (x : A) → k ≤ m → m < k + length xs → f m x ≡ g m x) → map-from f k xs ≡ map-from g k xs
-  map-from-same g k [] h = refl
-  map-from-same g k (x ∷ xs) h =
-      let one : f k x ≡ g k x = h k x (le-refl k) (omega arith) in
-      let more : map-from f (suc k) xs ≡ map-from g (suc k) xs = map-from-same g (suc k) xs (λ m y a b. h m y (omega arith) (omega arith)) in
-      λ i. one i ∷ more i
-
 module _ {ℓ} {A : Type ℓ} where
   pub map-from-id : (f : ℕ → A → A) (k : ℕ) (xs : List A) → ((m : ℕ) (x : A) → k ≤ m → m < k + length xs → f m x ≡ x) → map-from f k xs ≡ xs
   map-from-id f k [] h = refl

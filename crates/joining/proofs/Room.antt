@@ -1,25 +1,22 @@
 -- How the room of a line's tokens is used up: by the texts that are written, and by the numbers that folding makes. A fold's number, 19 bytes at
 -- most, is charged to the operator token that it takes away. Assumes nothing.
-use Prim.Native.Nat.{ℕ, zero, suc, _+_, _*_, _-_, _≤_, _<_, zero-le}
+use Prim.Native.Nat.{ℕ, suc, _+_, _*_, _-_, _≤_, _<_, zero-le}
 use native.Mathlib.Omega.{arith}
-use native.Mathlib.Nat.{not-suc-le-zero, le-of-suc-le-suc}
 use mathlib.Core.Path.{_≡_, refl, ap, _∙_}
 use mathlib.Core.Bool.{Bool, true, false}
 use mathlib.Core.List.{List, [], _∷_, _++_}
-use mathlib.Core.Option.{Option, some}
 use lib.ListN.{length, getD, length-append}
 use Rattle.reference.specs.Control.{_||_, if_then_else_}
 use Rattle.reference.specs.Lists.{count}
 use Rattle.reference.specs.Text.{bytes, _==_}
-use Rattle.reference.specs.Listing.{Token, token, is, Number, Listing, _at_}
-use Rattle.reference.specs.Numbers.{joins, merge-into, merge, folded}
+use Rattle.reference.specs.Listing.{Token, token, is, Number}
+use Rattle.reference.specs.Numbers.{joins, merge-into, merge}
 use Rattle.reference.specs.Claim.{sum, size, text-in}
 use Rattle.reference.proofs.Cases.{by-if, either}
-use Rattle.reference.proofs.Shapes.{same-text, joins-other, folds}
+use Rattle.reference.proofs.Shapes.{same-text, joins-other}
 use Rattle.reference.proofs.Weights.{sum-append}
-use Rattle.reference.proofs.Lines.{sum-remove}
-use Rattle.laws.proofs.Scans.{if-true, if-false}
-use Rattle.joining.specs.Limits.{over, room, each-token}
+use Rattle.laws.proofs.Scans.{if-false}
+use Rattle.joining.specs.Limits.{over, room}
 use Rattle.joining.specs.Plan.{built}
 use Rattle.joining.proofs.Building.{built-turn}
 
@@ -28,24 +25,6 @@ use Rattle.joining.proofs.Building.{built-turn}
 pub built-sum {ℓ κ} : {A : Type ℓ} {B : Type κ} (F : B → ℕ) (f : ℕ → A → B) (i : ℕ) (xs : List A) (k : ℕ) (d : A) → k < length xs → (k ≡ i → ⊥)
     → sum F (built f i xs (k + 1)) ≡ sum F (built f i xs k) + F (f k (getD xs k d))
 built-sum F f i xs k d h n = ap (sum F) (built-turn f i xs k d h n) ∙ sum-append F (built f i xs k) _ ∙ omega arith
-
--- ---- tokens whose numbers are short
-
-pub over-line : (lines : Listing) (k : ℕ) → each-token over lines ≡ 0 → sum over ((lines at k) .tokens) ≡ 0
-over-line lines k h = omega (arith, sum-remove (λ l. sum over (l .tokens)) refl k lines)
-
-pub over-at : (ts : List Token) (k : ℕ) (d : Token) → k < length ts → sum over ts ≡ 0 → over (getD ts k d) ≡ 0
-over-at [] k d h e = absurd (not-suc-le-zero h)
-over-at (t ∷ ts) zero d h e = omega arith
-over-at (t ∷ ts) (suc k) d h e = over-at ts k d (le-of-suc-le-suc h) (omega arith)
-
-pub size-room : (t : Token) → over t ≡ 0 → size t ≤ room t
-unfolding if_then_else_
-size-room t = go (is Number t)
-  where
-    go : (b : Bool) → (if b then size t - 24 else 0) ≡ 0 → size t ≤ (if b then 0 else size t) + 24
-    go true e = omega arith
-    go false e = omega arith
 
 -- ---- signs
 
@@ -136,12 +115,3 @@ merged-room ts e = omega (arith, charged ts e, charges (merge ts), merge-text ts
 -- a token kept
 pub keep-room : (b : Token) (rest : List Token) → signs rest ≤ signs (b ∷ rest)
 keep-room b rest = by-if (λ (n : ℕ). signs rest ≤ n) (λ h. omega arith) (λ h. omega arith)
-
--- one fold: the number that it makes is paid for by the sign that goes
-pub fold-room : (edition : ℕ) (before : Option Token) (a b c : Token) (rest : List Token) (n : Token) → folded edition before a b c rest ≡ some n
-    → size n + 19 * signs rest ≤ 19 * signs (b ∷ c ∷ rest)
-unfolding is-sign
-fold-room edition before a b c rest n e =
-    let f = folds edition before a b c rest n e in
-    let one : signs (b ∷ c ∷ rest) ≡ suc (signs (c ∷ rest)) = if-true _ _ (f .sign) in
-    omega (arith, keep-room c rest, f .small)

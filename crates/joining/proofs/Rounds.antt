@@ -8,14 +8,13 @@ use mathlib.Core.Bool.{true, false}
 use mathlib.Core.List.{List, [], _∷_}
 use mathlib.Core.Option.{none, some}
 use lib.ListN.{length}
-use Rattle.reference.specs.Control.{_||_, if_then_else_}
 use Rattle.reference.specs.Text.{Text}
 use Rattle.reference.specs.Listing.{Listing}
 use Rattle.reference.specs.Rules.{Rules}
 use Rattle.reference.specs.Life.{Labels}
 use Rattle.reference.specs.Join.{try-at, targets}
 use Rattle.reference.specs.Demand.{Attempts, over, failed, succeeded}
-use Rattle.reference.specs.Run.{labels-from, addressed-in, shift, Attempt, failure, success, attempts-from, propagate-once, after-attempts, removals, changed, dead-result, cuts-from, drop-dead-results}
+use Rattle.reference.specs.Run.{labels-from, addressed-in, shift, Attempt, failure, success, attempts-from, propagate-once, dead-result, cuts-from, drop-dead-results}
 use Rattle.reference.proofs.Cases.{some-inj, none-some}
 use Rattle.reference.proofs.Rounds.{attempts as made}
 use Rattle.reference.proofs.Lines.{length-modify}
@@ -47,7 +46,7 @@ module _ (rules : Rules) (addressed : List Text) where
       let tail = unique m (subst (λ (l : Listing). Attempts rules addressed (pred i) l (shift i labels) more) same n) in
       λ t. success i (targets rules lines i labels) (sym same t) ∷ tail t
 
-  -- fuel for twice the lines that are left is enough: with more the attempts are the same
+  -- fuel for twice the lines that are left is enough: with more the attempts are the same (a theorem for readers of `attempts-from`)
   pub enough : (m n i : ℕ) (lines : Listing) (labels : Labels) → length lines + length lines ≤ m + i → length lines + length lines ≤ n + i
       → attempts-from rules addressed m i lines labels ≡ attempts-from rules addressed n i lines labels
   enough m n i lines labels p q = unique (made rules addressed m i lines labels p) (made rules addressed n i lines labels q)
@@ -70,32 +69,6 @@ module _ (rules : Rules) (addressed : List Text) where
 pub round-begins : (rules : Rules) (lines : Listing) → propagate-once rules lines ≡ attempts rules (addressed-in lines) 0 lines (labels-from 0 lines)
 unfolding propagate-once attempts
 round-begins rules lines = refl
-
--- what is read off a round, by its attempts
-module _ (rest : List Attempt) (i : ℕ) (into : List ℕ) (lines lines′ : Listing) where
-  pub failed-left : after-attempts lines (failure i lines ∷ rest) ≡ after-attempts lines rest
-  unfolding after-attempts
-  failed-left = refl
-
-  pub succeeded-left : after-attempts lines (success i into lines′ ∷ rest) ≡ after-attempts lines′ rest
-  unfolding after-attempts
-  succeeded-left = refl
-
-  pub failed-removals : removals (failure i lines ∷ rest) ≡ removals rest
-  unfolding removals if_then_else_
-  failed-removals = refl
-
-  pub succeeded-removals : removals (success i into lines′ ∷ rest) ≡ suc (removals rest)
-  unfolding removals if_then_else_
-  succeeded-removals = refl
-
-  pub failed-changed : changed (failure i lines ∷ rest) ≡ changed rest
-  unfolding changed _||_
-  failed-changed = refl
-
-  pub succeeded-changed : changed (success i into lines′ ∷ rest) ≡ true
-  unfolding changed _||_
-  succeeded-changed = refl
 
 -- ---- the cuts
 

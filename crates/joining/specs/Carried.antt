@@ -19,7 +19,7 @@ TOP = 18446744073709551615
 abbrev pub Pair : Type 0
 Pair = ℕ × ℕ
 
--- what they mean
+-- the marks that two numbers stand for
 unfoldable pub marks-of : Pair → Marks
 marks-of p = if leb (p .0) (p .1) then some (record { lowest = p .0; highest = p .1 }) else none
 

@@ -69,10 +69,6 @@ module _ (tape area : Text) (tokens lines : List ℕ) where
 -- ---- changed in place, one after the other
 
 module _ (f : ℕ → ℕ) (before : List ℕ) (k : ℕ) {now : List ℕ} (inv : now ≡ map f (take k before) ++ drop k before) where
-  pub mapped-length : k ≤ length before → length now ≡ length before
-  mapped-length h =
-      rw (inv, length-append, length-map, length-take-le k before h, length-drop) (omega arith)
-
   module _ (h : k < length before) where
     split : now ≡ map f (take k before) ++ getD before k 0 ∷ drop (suc k) before
     split = inv ∙ rw (drop-cons before k 0 h)

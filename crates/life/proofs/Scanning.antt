@@ -221,7 +221,7 @@ module _ (lines : List ℕ) (tape area : Text) (tokens : List ℕ) (fam : Text) 
     unfolding liveness-after if_then_else_
     after-scan u e = e ∙ rw (← loops, t, ← ey, u)
 
--- a line that lacks the family and all that turns decides only by how it touches the family
+-- a line that lacks the family and control flow decides only by how it touches the family
 module _ (lines : List ℕ) (tape area : Text) (tokens : List ℕ) (fam : Text) (base : ℕ) (labels : Labels) (start : ℕ) (vs : List Text) (w l : ℕ)
     (h : Lined tape area tokens l) {n : ℕ} (en : n ≡ family-number fam) where
   abbrev by-facts : Liveness

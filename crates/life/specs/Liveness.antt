@@ -32,12 +32,12 @@ or-returns Dead b = Dead
 or-returns Live b = Live
 or-returns Open b = if b then Dead else Open
 
--- `scan`
+-- what `scan` of the code answers: a line that no jump decides
 unfoldable pub scan-liveness : Text → ℕ → List Text → Line → Liveness
 scan-liveness fam base-indent volatile l = or-returns (line-liveness fam base-indent volatile l) (returns-at base-indent l)
 
 module _ (lines : Listing) (fam : Text) (base-indent : ℕ) (labels : Labels) (start : ℕ) (volatile : List Text) where
-  -- `dead-from` at the line w
+  -- what `dead-from` decides at the line w
   unfoldable pub liveness-after : ℕ → Line → Liveness
   liveness-after w l =
       if has-kw l "while" then (if while-passes lines fam start volatile w l then Open else Live)

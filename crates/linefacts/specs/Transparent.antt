@@ -14,10 +14,10 @@ has-fact l i = eqb (bit (facts-of l) i) 1
 unfoldable pub is-transparent-save-calls : ℕ → ℕ → Bool
 is-transparent-save-calls l n = has-fact l n && has-fact l 15
 
--- whether they say that it lacks the families of number n, control flow and calls
+-- whether the facts of the line l say that it lacks the families of number n, control flow and calls
 unfoldable pub is-transparent : ℕ → ℕ → Bool
 is-transparent l n = is-transparent-save-calls l n && has-fact l 16
 
--- whether they say that it lacks the families of number n and control flow, and has a call
+-- whether the facts of the line l say that it lacks the families of number n and control flow, and has a call
 unfoldable pub is-calling : ℕ → ℕ → Bool
 is-calling l n = is-transparent-save-calls l n && has-fact l 17

@@ -18,7 +18,7 @@ const SYMBOLS: u64 = 65536;
 
 const ALL: u64 = 65535;
 
-// Bits of whether a line calls: a call, no call.
+// Bits of whether a line calls: it may call, it may have no call.
 const CALLS: u64 = 65536;
 
 const NO_CALL: u64 = 131072;
@@ -99,7 +99,7 @@ fn call_bits<'a>(tape: &'a [u8], area: &'a [u8], line: &'a [u64], has: u64) -> u
     NO_CALL
 }
 
-// The facts of a line: its bits turned.
+// The facts of a line: the bits of what it has and of whether it calls, turned over, so that a bit that is set says what is not.
 fn facts_of<'a>(tape: &'a [u8], area: &'a [u8], line: &'a [u64]) -> u64
     requires { ⌜ Holds (now tape) (now area) (now line) ⌝ }
     ensures { λ r. ⌜ (r < 4194304) × Tells 1 r (tokens-of (was tape) (was area) (was line)) ⌝ }
@@ -116,7 +116,7 @@ fn with_its_facts<'a>(tape: &'a [u8], area: &'a [u8], tokens: &'a [u64], l: u64)
     words::with_facts(l, facts_of(tape, area, words::line_of(tokens, l)))
 }
 
-// Gives each line its facts.
+// Notes the facts of each line in its word.
 pub fn gather_facts<'a>(tape: &'a [u8], area: &'a [u8], tokens: &'a [u64], lines: &mut [u64])
     requires { ⌜ Listed (now tape) (now area) (now tokens) (now lines) ⌝ }
     ensures { λ r. ⌜ AllNoted (was tape) (was area) (was tokens) (was lines) (now (lines .exit)) ⌝ }

@@ -93,6 +93,6 @@ pub record Lined (tape area : Text) (tokens : List ℕ) (l : ℕ) : Type 0 where
   pub holds : Holds tape area (part-of tokens l)
   pub facts : Tells 1 (facts-of l) (tokens-of tape area (part-of tokens l))
 
--- so is every line of the list
+-- each line of the list is a part of the tokens that can be read (`Lined`)
 pub record Listed (tape area : Text) (tokens lines : List ℕ) : Type 0 where
   pub at : (k : ℕ) → k < length lines → Lined tape area tokens (getD lines k 0)

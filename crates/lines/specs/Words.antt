@@ -77,7 +77,7 @@ pub record Recoded (tape : Text) (w r : ℕ) : Type 0 where
   pub means : (area : Text) → token-of tape area r ≡ token-of tape area w
   pub points : (area : Text) → Points tape area w → Points tape area r
 
--- so do the words of two lists, each with its own
+-- each word of us is the same token as the word of ws at its index, and points wherever that does
 pub record Recodes (tape : Text) (ws us : List ℕ) : Type 0 where
   pub long : length us ≡ length ws
   pub at : (k : ℕ) → k < length ws → Recoded tape (getD ws k 0) (getD us k 0)

@@ -8,8 +8,8 @@ use Rattle.reference.specs.Text.{Text, bytes}
 use Rattle.reference.proofs.Opened.{opened}
 use Rattle.tape.specs.Commands.{standing-by}
 use Rattle.printing.specs.Decimals.{decimal}
-use Rattle.arguments.specs.Words.{onto}
-use Rattle.arguments.specs.Values.{digit, digits-from, number-in}
+use Rattle.words.specs.Splitting.{onto}
+use Rattle.words.specs.Numerals.{digit, digits-from, number-in}
 use Rattle.listing_text.specs.Forms.{line-end, hexadecimal, enough, short-hex, blanks, exact-address, exact-command, own-span, span-text, read-address, read-command-text}
 use Rattle.listing_text.specs.Showing.{begun, shown-at, shown-from, shown}
 use Rattle.listing_text.specs.Exact.{ended, apart, address-in, indent-in, line-command, then-read, fields-read, line-read, then-lines, lines-read, tape-of}

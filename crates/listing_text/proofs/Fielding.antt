@@ -17,7 +17,7 @@ use Rattle.reference.specs.Lists.{position}
 use Rattle.reference.specs.Text.{Text, bytes, _==_}
 use Rattle.reference.specs.Tape.{Command, new-line, marked, end, write-command, write-command-by, to-le-bytes}
 use Rattle.laws.proofs.Scans.{if-true, if-false}
-use Rattle.arguments.specs.Values.{number-in}
+use Rattle.words.specs.Numerals.{number-in}
 use Rattle.listing_text.specs.Room.{laid, Page, put-one, puts, Adds, empty}
 use Rattle.listing_text.specs.Forms.{letters}
 use Rattle.listing_text.specs.Exact.{ended, apart, address-in, indent-in, line-command, span-command, token-command, field-command}

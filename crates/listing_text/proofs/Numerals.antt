@@ -18,7 +18,7 @@ use Rattle.reference.proofs.Cases.{none-some}
 use Rattle.laws.proofs.Scans.{if-true, if-false}
 use Rattle.io.specs.Digits.{glyph, digits}
 use Rattle.printing.specs.Decimals.{decimal}
-use Rattle.arguments.specs.Values.{digit, digits-from, number-in}
+use Rattle.words.specs.Numerals.{digit, digits-from, number-in}
 use Rattle.listing_text.specs.Forms.{hexadecimal}
 use Rattle.listing_text.proofs.Parts.{Without}
 

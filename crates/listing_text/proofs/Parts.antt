@@ -14,7 +14,7 @@ use borrow.Author.Tests.{eq-eqb, ne-eqb, lt-ltb, le-ltb}
 use Rattle.reference.specs.Control.{if_then_else_}
 use Rattle.reference.specs.Text.{Text}
 use Rattle.laws.proofs.Scans.{if-true, if-false}
-use Rattle.arguments.specs.Words.{onto}
+use Rattle.words.specs.Splitting.{onto}
 use Rattle.listing_text.specs.Exact.{ended, apart}
 use Rattle.listing_text.specs.Parsed.{EndsAt, fields-behind}
 

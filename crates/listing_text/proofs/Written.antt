@@ -16,7 +16,7 @@ use Rattle.reference.specs.Text.{Text, bytes, _==_}
 use Rattle.reference.specs.Tape.{Command, new-line, marked, new-token, write-command}
 use Rattle.reference.specs.Questions.{is-offending}
 use Rattle.reference.proofs.Cases.{neither}
-use Rattle.arguments.specs.Words.{onto}
+use Rattle.words.specs.Splitting.{onto}
 use Rattle.printing.specs.Decimals.{decimal}
 use Rattle.listing_text.specs.Forms.{hexadecimal, letters, exact-address}
 use Rattle.listing_text.specs.Exact.{apart, address-in, indent-in, line-command, span-command, token-command, field-command}

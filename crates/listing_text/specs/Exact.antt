@@ -12,8 +12,8 @@ use Rattle.reference.specs.Lists.{position}
 use Rattle.reference.specs.Text.{Text, bytes, _==_}
 use Rattle.reference.specs.Listing.{token}
 use Rattle.reference.specs.Tape.{Command, new-line, marked, new-token, end, write-command}
-use Rattle.arguments.specs.Words.{onto}
-use Rattle.arguments.specs.Values.{number-in}
+use Rattle.words.specs.Splitting.{onto}
+use Rattle.words.specs.Numerals.{number-in}
 use Rattle.listing_text.specs.Room.{laid}
 use Rattle.listing_text.specs.Forms.{letters}
 use Rattle.listing_text.specs.declared.reading.Made.{Made}

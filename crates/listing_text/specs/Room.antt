@@ -37,7 +37,7 @@ puts g (b ∷ t) = puts (put-one g b) t
 pub record Adds (g : Page) (t : Text) (g′ : Page) : Type 0 where
   pub same : g′ ≡ puts g t
 
--- the same of a slice and its places, before and after
+-- a slice, with a text put at its place, before and after
 abbrev pub Puts : List ℕ → Place → Text → List ℕ → Place → Type 0
 Puts out p t out′ p′ = Adds (page out p) t (page out′ p′)
 

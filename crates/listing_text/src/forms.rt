@@ -174,7 +174,7 @@ fn put_span(lowest: u64, highest: u64, low: u64, high: u64, out: &mut [u8], p: P
     put(b" ", out, c)
 }
 
-// The same of a command's marks, if it is marks.
+// Puts the marks of a command, unless they are from `low` to `high`; nothing of a command that is no marks.
 fn put_span_of(command: Command, low: u64, high: u64, out: &mut [u8], p: Place) -> Place
     ensures { λ r. ⌜ Puts (was out) p
         (span-text (record { lowest = low; highest = high }) (span-in (command-in [] 0 command))) (now (out .exit)) r ⌝ }
@@ -194,7 +194,7 @@ fn put_span_of(command: Command, low: u64, high: u64, out: &mut [u8], p: Place) 
     }
 }
 
-// The same of the marks that stand at an offset, if any.
+// Puts the marks that stand at an offset, if any, unless they are from `low` to `high`.
 fn put_marks_at(tape: &[u8], at: usize, low: u64, high: u64, out: &mut [u8], p: Place) -> Place
     ensures { λ r. ⌜ Puts (was out) p
         (span-text (record { lowest = low; highest = high }) (marks-at (was tape) at)) (now (out .exit)) r ⌝ }

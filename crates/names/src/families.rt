@@ -25,7 +25,7 @@ const NAMES: [[[u8; 3]; 4]; 8] = [
 
 const WIDTHS: [u64; 4] = [64, 32, 16, 8];
 
-// The row of rax.
+// The row of rax in the table.
 pub const RAX: u64 = 0;
 
 // The high bytes of the first four families.

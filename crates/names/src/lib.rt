@@ -3,6 +3,7 @@ mod families; // `family` of the Rust: the table, the high bytes, r with digits,
 mod rows; // a row of fixed-width names
 mod volatile; // the volatile lists
 
+pub use families::RAX;
 pub use families::Spelled;
 pub use families::family;
 pub use volatile::number_of;

@@ -21,9 +21,9 @@ use Rattle.printing.proofs.Decimals.{decimal-length}
 use Rattle.tape.specs.Commands.{command-in, size-of}
 use Rattle.tape.specs.declared.commands.Command.{Command}
 use Rattle.tape.specs.declared.commands.Command.the-variants as Code
-use Rattle.tallies.specs.Held.{commands, tokens-of}
-use Rattle.tallies.specs.Counting.{Follows}
-use Rattle.tallies.specs.declared.walking.Next.the-variants.{More, Over}
+use Rattle.walk.specs.Held.{commands, tokens-of}
+use Rattle.walk.specs.Walk.{Follows}
+use Rattle.walk.specs.declared.Next.the-variants.{More, Over}
 use Rattle.page.specs.Escaping.{escaped}
 use Rattle.page.specs.Cells.{cell, cells-by, cells, line-cells}
 use Rattle.page.specs.Commands.{command-cells, begins-line}

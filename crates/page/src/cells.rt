@@ -1,16 +1,16 @@
 // The cells of a line, side by side: what is put for its tokens is theirs, and nothing else.
 use crate::put_cell;
-use tallies::Next;
-use tallies::next_at;
 use tape::commands::Command;
 use tape::reader::token_text;
+use walk::Next;
+use walk::next_at;
 ghost use mathlib.Core.Path.{_≡_};
 ghost use Prim.Native.Nat.{_+_, _*_, _≤_, min};
 ghost use lib.ListN.{length};
 ghost use Rattle.reference.specs.Contract.{was};
 ghost use Rattle.numbers.specs.Writing.{Written};
-ghost use Rattle.tallies.specs.Held.{commands, tokens-of};
 ghost use Rattle.tape.specs.Commands.{command-in, size-of};
+ghost use Rattle.walk.specs.Held.{commands, tokens-of};
 ghost use Rattle.page.specs.Cells.{cells, line-cells};
 ghost use Rattle.page.specs.Commands.{command-cells, begins-line};
 

@@ -1,5 +1,5 @@
 // The page that puts a listing before and after its cleaning side by side: what stands there of a listing's bytes. Each function says where
-// what it puts ends; all else stays as it was. (The page's constant parts stand in crate command.)
+// what it puts ends; all else stays as it was. (The page's constant parts stand in crate render.)
 mod cells; // the cells of a line, side by side
 
 pub use cells::put_cells;

@@ -39,7 +39,7 @@ use Rattle.plan.specs.Reaches.{reach}
 use Rattle.plan.specs.declared.plans.Join.{Join}
 use Rattle.plan.specs.declared.plans.Plan.{Plan}
 use Rattle.plan.specs.declared.plans.Plan.the-variants.{Do, Nothing}
-use Rattle.plan.specs.Plans.{plan-among, join-in, Joins, Plans}
+use Rattle.plan.specs.Plans.{plan-among, Plans}
 use Rattle.plan.proofs.Reaching.{line-at}
 
 -- ---- plans
@@ -49,17 +49,6 @@ do-inj e = cc
 
 never-do : {j : Join} {X : Type 0} → Nothing ≡ Do j → X
 never-do e = absurd (let z : _≡_ {A = ℕ} 0 1 = cc in omega arith)
-
--- what a caller has from a plan
-module _ {tape area : Text} {ws : List ℕ} {i : ℕ} {o : Option J.Plan} {r : Plan} (h : Plans tape area ws i o r) where
-  pub planned-as : {j : Join} → r ≡ Do j → o ≡ some (join-in tape area ws j)
-  planned-as e = sym (h .is) ∙ rw e
-
-  pub planned-not : r ≡ Nothing → o ≡ none
-  planned-not e = sym (h .is) ∙ rw e
-
-  pub planned-joins : {j : Join} → r ≡ Do j → Joins tape area ws i j
-  planned-joins {j} e = h .sound j e
 
 module _ {tape area : Text} {ws : List ℕ} {i : ℕ} {o : Option J.Plan} where
   no-plan : o ≡ none → Plans tape area ws i o Nothing

@@ -31,7 +31,7 @@ use Rattle.plan.proofs.Looking.{look-kill, look-stop, look-pass, look-o
 
 module _ {tape area : Text} {tokens : List ℕ} {l n : ℕ} (fam : Text) (h : Lined tape area tokens l) (en : n ≡ family-number fam) {k : ℕ} (ek : k ≡ indent-of l)
     {base : ℕ} (e : k ≡ base) (j : ℕ) (vs : List Text) (r : Reach) where
-  -- a line that lacks the family and all that turns
+  -- a line that lacks the family and control flow
   runs-on : is-transparent-save-calls l n ≡ true → false ≡ ends-run base (bare-in tape area tokens l)
   runs-on st =
       run-goto tape area tokens l base refl (sym (save-calls-label fam h en st)) refl ek e (sym (save-calls-kw fam h en st (bytes "while"))) refl (sym (save-calls-kw fam h en st (bytes "goto")))

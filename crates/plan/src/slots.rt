@@ -8,6 +8,7 @@ ghost use Rattle.lines.specs.Words.{Holds};
 ghost use Rattle.lines.specs.Fams.{fam-text, Known};
 ghost use Rattle.plan.specs.Slots.{slot-names, Slotted};
 
+// Whether s is one of the names.
 fn slot_among<'a>(slots: &'a [u8], slot_words: &'a [u64], s: &'a [u8]) -> bool
     requires { ⌜ Holds (now slots) (now slots) (now «slot_words») ⌝ }
     ensures { λ r. ⌜ r ≡ has (slot-names (was slots) (was «slot_words»)) (was s) ⌝ }
@@ -22,7 +23,7 @@ fn slot_among<'a>(slots: &'a [u8], slot_words: &'a [u64], s: &'a [u8]) -> bool
     false
 }
 
-// Whether the family is one of them.
+// Whether the family is a stack slot whose address was taken when the round began.
 pub fn is_addressed<'a>(
     tape: &'a [u8],
     area: &'a [u8],

@@ -1,1 +1,2 @@
+-- The decimal digits of a number.
 pub mod Decimals

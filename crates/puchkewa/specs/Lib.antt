@@ -1,1 +1,2 @@
+-- What the structs of the C interface mean.
 pub mod Exports

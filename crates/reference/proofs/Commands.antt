@@ -1,6 +1,6 @@
 -- One command: what its first byte says of the bytes after it, and that it reads back as it was written and writes back as it was read.
 -- Assumes nothing.
-use Prim.Native.Nat.{ℕ, suc, _+_, _*_, _-_, _^_, _<_, _≤_}
+use Prim.Native.Nat.{ℕ, suc, _+_, _-_, _^_, _<_, _≤_}
 use native.Mathlib.Omega.{arith}
 use mathlib.Core.Path.{_≡_, refl, ap, _∙_}
 use mathlib.Core.Bool.{true, false, false≢true}
@@ -8,7 +8,7 @@ use mathlib.Core.List.{List, [], _∷_, _++_}
 use mathlib.Core.Option.{Option, none, some}
 use lib.Dec.{eqb}
 use lib.ListN.{length, getD, take, drop, length-drop}
-use lib.Seq.{drop-drop, take-suc, take-add, take-append-seam, length-take-le}
+use lib.Seq.{take-suc, take-add, take-append-seam, length-take-le}
 use borrow.Author.Tests.{ne-eqb, eqb-true, leb-true, le-leb}
 use Rattle.reference.specs.Control.{_&&_, _||_, if_then_else_}
 use Rattle.reference.specs.Listing.{token}
@@ -16,7 +16,7 @@ use Rattle.reference.specs.Spans.{Span}
 use Rattle.reference.specs.Tape.{to-le-bytes, from-le-bytes, TapeForm, old, offsets, line-byte, marks-byte, width, Command, new-line, marked, new-token, end, write-command-by, text-length, command-size-by, command-by}
 use Rattle.reference.specs.Questions.{is-command-by}
 use Rattle.reference.proofs.Cases.{either, both}
-use Rattle.reference.proofs.LittleEndian.{Bytes, bytes-drop, bytes-take, from-to, from-below, from-at, to-take}
+use Rattle.reference.proofs.LittleEndian.{Bytes, bytes-drop, bytes-take, from-to, from-below, to-take}
 
 -- ---- by the first byte
 
@@ -100,35 +100,6 @@ module _ (form : TapeForm) (rest : List ℕ) where
       let e₃ : eqb (getD rest 0 0) (marks-byte form) ≡ false = ne-eqb (getD rest 0 0) (marks-byte form) (λ e. omega (arith, a .marks-low)) in
       let e₄ : eqb (getD rest 0 0) 0xFF ≡ false = ne-eqb (getD rest 0 0) 0xFF (λ e. omega arith) in
       (rw (e₁, e₂, e₃, e₄), rw (e₁, e₂, e₃, e₄))
-
--- the old form's, in its own numbers
-module _ (rest : List ℕ) where
-  abbrev pub Says : ℕ → Command → Type 0
-  Says = SaysBy old rest
-
-  pub address-form : getD rest 0 0 ≡ 0x01 → Says 10 (new-line (some (from-le-bytes (take 8 (drop 1 rest)))) (getD rest 9 0))
-  address-form = address-form-by old rest
-
-  pub plain-form : getD rest 0 0 ≡ 0x02 → Says 2 (new-line none (getD rest 1 0))
-  plain-form = plain-form-by old rest
-
-  pub marks-form : getD rest 0 0 ≡ 0x03
-      → Says 17 (marked (record { lowest = from-le-bytes (take 8 (drop 1 rest)); highest = from-le-bytes (take 8 (drop 9 rest)) }))
-  marks-form = marks-form-by old rest
-
-  pub end-form : getD rest 0 0 ≡ 0xFF → Says 1 end
-  end-form = end-form-by old rest
-
-  pub token-form : 0x10 ≤ getD rest 0 0 → getD rest 0 0 ≤ 0x17
-      → Says (3 + text-length rest) (new-token (token (getD rest 0 0 - 0x10) (take (text-length rest) (drop 3 rest))))
-  token-form = token-form-by old rest
-
--- a text's length, as code reads it
-pub text-length-at : (tape : List ℕ) (at : ℕ) → text-length (drop at tape) ≡ getD tape (at + 1) 0 + 256 * getD tape (at + 2) 0
-unfolding from-le-bytes
-text-length-at tape at =
-    let e : suc (at + 1) ≡ at + 2 = omega arith in
-    rw (drop-drop 1 at tape, from-at 1 (at + 1) tape, from-at 0 (suc (at + 1)) tape, e) (omega arith)
 
 -- question 3's five cases
 pub data FormBy (form : TapeForm) (rest : List ℕ) : Type 0 where

@@ -3,7 +3,7 @@ use Prim.Native.Nat.{ℕ, zero, suc, _+_, _*_, _/_, _%_, _^_, _<_, _≤_}
 use native.Mathlib.Nat.{pow-suc}
 use native.Mathlib.Omega.{arith}
 use mathlib.Core.Path.{_≡_, refl, ap}
-use mathlib.Core.List.{List, [], _∷_, _++_}
+use mathlib.Core.List.{List, [], _∷_}
 use lib.ListN.{length, getD, take, drop}
 use lib.Seq.{length-take-le, getD-drop, take-nil, drop-nil}
 use Rattle.reference.specs.Tape.{to-le-bytes, from-le-bytes}
@@ -46,11 +46,6 @@ pub from-below : (bs : List ℕ) → Bytes bs → from-le-bytes bs < 256 ^ lengt
 unfolding from-le-bytes
 from-below [] h = omega arith
 from-below (b ∷ bs) h = omega (arith, h 0, from-below bs (λ i. h (suc i)), pow-suc 256 (length bs))
-
-pub from-append : (s t : List ℕ) → from-le-bytes (s ++ t) ≡ from-le-bytes s + 256 ^ length s * from-le-bytes t
-unfolding from-le-bytes
-from-append [] t = omega arith
-from-append (b ∷ s) t = rw (pow-suc 256 (length s)) (omega (arith, from-append s t))
 
 -- by index, as code reads it
 pub from-at : (n i : ℕ) (s : List ℕ) → from-le-bytes (take (suc n) (drop i s)) ≡ getD s i 0 + 256 * from-le-bytes (take n (drop (suc i) s))

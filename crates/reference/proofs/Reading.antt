@@ -201,18 +201,6 @@ module _ (form : TapeForm) where
   unfolding is-command-by
   no-byte-by tape at t h = refused-3-by form tape at t (rw (drop-of-length-le tape h))
 
-  -- the answer depends on the numbers carried along and on the tape from the offset on
-  pub read-command-rest-by : (s t : List ℕ) (at : ℕ) (n : Totals) → drop at s ≡ drop at t → read-command-by form s at n ≡ read-command-by form t at n
-  unfolding read-command-by
-  read-command-rest-by s t at n e = rw e
-
--- the old form's
-pub read-command-rest : (s t : List ℕ) (at : ℕ) (n : Totals) → drop at s ≡ drop at t → read-command-by old s at n ≡ read-command-by old t at n
-read-command-rest = read-command-rest-by old
-
-pub refused-3 : (tape : List ℕ) (at : ℕ) (t : Totals) → is-command-by old (drop at tape) ≡ false → read-command-by old tape at t ≡ Refused 3 at
-refused-3 = refused-3-by old
-
 -- ---- the fuel is enough
 
 module _ (form : TapeForm) (tape : List ℕ) where
@@ -245,38 +233,6 @@ module _ (form : TapeForm) (tape : List ℕ) where
   pub read-whole-by : read-by form tape ≡ reading-by (header form) (no-commands) []
   unfolding read-by
   read-whole-by = enough (length tape) (length tape - header form) (header form) (no-commands) [] (omega arith) (omega arith)
-
-abbrev pub reading : List ℕ → ℕ → Totals → Listing → Answer Listing
-reading = reading-by old
-
-pub reading-step : (tape : List ℕ) (at : ℕ) (t : Totals) (lines : Listing)
-    → reading tape at t lines
-    ≡ (let-passed (read-command-by old tape at t) then λ a. if is-end (a .command) then Passed lines else reading tape (a .next) (a .totals) (add (a .command) lines))
-reading-step = reading-step-by old
-
--- ---- the answer without the listing
-
-abbrev pub verdict : {A : Type 0} → Answer A → Answer (Unit {0})
-verdict (Refused number place) = Refused number place
-verdict (Passed x) = Passed tt
-
-same-if : {A C : Type 0} (f : A → C) (b : Bool) {x x′ y y′ : A} → f x ≡ f x′ → f y ≡ f y′ → f (if b then x else y) ≡ f (if b then x′ else y′)
-unfolding if_then_else_
-same-if f true p q = p
-same-if f false p q = q
-
--- whether a tape is refused does not depend on the lines read so far
-pub verdict-same-by : (form : TapeForm) (tape : List ℕ) (fuel at : ℕ) (t : Totals) (l m : Listing)
-    → verdict (read-from-by form fuel tape at t l) ≡ verdict (read-from-by form fuel tape at t m)
-unfolding read-from-by
-verdict-same-by form tape zero at t l m = refl
-verdict-same-by form tape (suc fuel) at t l m =
-    same-passed verdict
-    λ a e. same-if verdict (is-end (a .command)) refl (verdict-same-by form tape fuel (a .next) (a .totals) (add (a .command) l) (add (a .command) m))
-
-pub verdict-same : (tape : List ℕ) (fuel at : ℕ) (t : Totals) (l m : Listing)
-    → verdict (read-from-by old fuel tape at t l) ≡ verdict (read-from-by old fuel tape at t m)
-verdict-same = verdict-same-by old
 
 -- ---- the places that a reading comes to
 
@@ -354,14 +310,8 @@ module _ (form : TapeForm) where
 abbrev pub Reached : List ℕ → State → Type 0
 Reached = ReachedBy old
 
-abbrev pub Accepts : List ℕ → Listing → Type 0
-Accepts = AcceptsBy old
-
 abbrev pub after : List ℕ → State → State
 after = after-by old
-
-pub accepts : (tape : List ℕ) (out : Listing) → read-by old tape ≡ Passed out → Accepts tape out
-accepts = accepts-by old
 
 module _ {form : TapeForm} (tape : List ℕ) where
   pub reading-of : {s : State} → ReachedBy form tape s → read-by form tape ≡ reading-by form tape (s .at) (s .totals) (s .lines)

@@ -75,11 +75,6 @@ no-limit rules k input e le =
     let n : ℕ = length input + 1 in
     rw (limit-settling rules input e) (higher-limit rules n k input (rounds-settle (rounds-taken rules n input) (omega arith)) le)
 
--- A LISTING THAT SETTLES IN THREE ROUNDS HAS THE SAME ROUNDS WITH ANY HIGHER LIMIT, and so the same finished listing in both settings
-pub settled-in-three : (rules : Rules) (k : ℕ) (input : Listing) → Settled (rounds-from rules 3 input) → 3 ≤ k
-    → rounds-from rules k input ≡ rounds-from rules 3 input
-settled-in-three rules k input s le = higher-limit rules 3 k input s le
-
 -- ---- one round more
 
 idle-leaves : {rules : Rules} {addressed : List Text} {i : ℕ} {lines : Listing} {labels : Labels} {round : List Attempt}

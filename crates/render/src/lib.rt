@@ -8,7 +8,7 @@ mod walk; // lines and tokens by their offsets
 
 use arguments::Request;
 use lines::rules::Rules;
-use rounds::Tally;
+pub use sheet::Counts;
 pub use sink::Sink;
 ghost use Rattle.render.specs.Sinks.{Later};
 
@@ -19,15 +19,13 @@ fn put_all(
     name: &[u8],
     tape: &[u8],
     fin: &[u8],
-    tally: Tally,
-    removed: u64,
-    cut: u64,
+    counts: Counts,
 ) -> Sink {
     let mut places = [0u64; 256];
     let mut t = frame::put_head(sink, name);
     t = rows::put_rows(t, rules, tape, fin, &mut places);
     t = frame::put_middle(t);
-    t = sheet::put_sheet(t, s, tape, fin, tally, removed, cut, &places);
+    t = sheet::put_sheet(t, s, tape, fin, counts, &places);
     frame::put_foot(t)
 }
 
@@ -39,16 +37,14 @@ pub fn put_page(
     name: &[u8],
     tape: &[u8],
     fin: &[u8],
-    tally: Tally,
-    removed: u64,
-    cut: u64,
+    counts: Counts,
 ) -> Sink
     ensures { λ r. ⌜ Later sink r ⌝ }
 {
     if !sink.done {
         return sink;
     }
-    let after = put_all(sink, s, rules, name, tape, fin, tally, removed, cut);
+    let after = put_all(sink, s, rules, name, tape, fin, counts);
     Sink {
         fd: sink.fd,
         done: after.done,

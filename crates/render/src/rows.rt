@@ -156,13 +156,20 @@ fn put_tokens_by(s: Sink, line: &[u8], out: &mut [u8]) -> Sink {
     put(s, front(out, n))
 }
 
-// The same: a line of an accepted or a cleaned tape has at most 59,137 bytes, and its cells at most twelve times so many.
+// The tokens of a line in their cells. A line of an accepted or a cleaned tape has at most 59,137 bytes, and its cells at most twelve
+// times so many.
 fn put_tokens(s: Sink, line: &[u8]) -> Sink {
     let mut out = [0u8; 709644];
     put_tokens_by(s, line, &mut out)
 }
 
 // ---- rows
+
+// A line: where it begins in its tape, and its number, from 0.
+struct At {
+    offset: usize,
+    number: usize,
+}
 
 // What became of a raw line: gone, rewritten or kept.
 fn class_of(stays: bool, same: bool) -> u64 {
@@ -195,9 +202,9 @@ fn put_sign(s: Sink, class: u64) -> Sink {
     s
 }
 
-// The raw line at an offset, its number k from 0.
-fn put_raw(s: Sink, class: u64, tape: &[u8], at: usize, k: usize, flags: &[u8], n: usize) -> Sink {
-    let number = plus(k, 1) as u64;
+// A raw line; of the finished lines, n of them, those are flagged that it came into.
+fn put_raw(s: Sink, class: u64, tape: &[u8], at: At, flags: &[u8], n: usize) -> Sink {
+    let number = plus(at.number, 1) as u64;
     let mut t = put_class(s, class);
     t = put_number(t, number);
     t = put(t, b" data-into=\"");
@@ -205,13 +212,13 @@ fn put_raw(s: Sink, class: u64, tape: &[u8], at: usize, k: usize, flags: &[u8], 
     t = put(t, b"\"><td class=n>");
     t = put_number(t, number);
     t = put(t, b"</td><td class=a>");
-    t = put_address(t, tape, at);
+    t = put_address(t, tape, at.offset);
     t = put(t, b"</td><td class=s>");
     t = put_sign(t, class);
     t = put(t, b"</td><td class=c style=\"--d:");
-    t = put_number(t, indent_at(tape, at));
+    t = put_number(t, indent_at(tape, at.offset));
     t = put(t, b"\">");
-    t = put_tokens(t, tokens_of(tape, at));
+    t = put_tokens(t, tokens_of(tape, at.offset));
     put(t, b"</td><td class=i>")
 }
 
@@ -224,49 +231,47 @@ fn put_arrow(s: Sink, class: u64, flags: &[u8], n: usize) -> Sink {
     put_flagged(t, flags, n)
 }
 
-// The cleaned line at an offset, its number q from 0.
-fn put_cleaned(s: Sink, fin: &[u8], to: usize, q: usize) -> Sink {
-    let number = plus(q, 1) as u64;
+// A cleaned line, with its marks.
+fn put_cleaned(s: Sink, fin: &[u8], to: At) -> Sink {
+    let number = plus(to.number, 1) as u64;
     let mut t = put(s, b"</td><td class=m>");
     t = put_number(t, number);
     t = put(t, b"</td><td class=o data-q=");
     t = put_number(t, number);
     t = put(t, b" data-span=\"");
-    t = put_marks(t, fin, to);
+    t = put_marks(t, fin, to.offset);
     t = put(t, b"\" style=\"--d:");
-    t = put_number(t, indent_at(fin, to));
+    t = put_number(t, indent_at(fin, to.offset));
     t = put(t, b"\">");
-    t = put_tokens(t, tokens_of(fin, to));
+    t = put_tokens(t, tokens_of(fin, to.offset));
     t = put(t, b"</td><td class=p>");
-    t = put_marks(t, fin, to);
+    t = put_marks(t, fin, to.offset);
     put(t, b"</td></tr>\n")
 }
 
-fn put_beside(s: Sink, class: u64, fin: &[u8], to: usize, q: usize) -> Sink {
+fn put_beside(s: Sink, class: u64, fin: &[u8], to: At) -> Sink {
     if class == 0 {
         return put(
             s,
             b"</td><td class=m></td><td class=o></td><td class=p></td></tr>\n",
         );
     }
-    put_cleaned(s, fin, to, q)
+    put_cleaned(s, fin, to)
 }
 
 fn put_row(
     s: Sink,
     class: u64,
     tape: &[u8],
-    at: usize,
-    k: usize,
+    at: At,
     flags: &[u8],
     n: usize,
     fin: &[u8],
-    to: usize,
-    q: usize,
+    to: At,
 ) -> Sink {
-    let a = put_raw(s, class, tape, at, k, flags, n);
+    let a = put_raw(s, class, tape, at, flags, n);
     let b = put_arrow(a, class, flags, n);
-    put_beside(b, class, fin, to, q)
+    put_beside(b, class, fin, to)
 }
 
 // The class of raw line k beside the finished line q.
@@ -297,7 +302,15 @@ pub(crate) fn put_rows(s: Sink, rules: Rules, tape: &[u8], fin: &[u8], places: &
         }
         let told = ask(rules, tape, k, &mut flags);
         let class = class_beside(told, tape, at, fin, to, q);
-        t = put_row(t, class, tape, at, k, &flags, told.finished, fin, to, q);
+        let raw = At {
+            offset: at,
+            number: k,
+        };
+        let cleaned = At {
+            offset: to,
+            number: q,
+        };
+        t = put_row(t, class, tape, raw, &flags, told.finished, fin, cleaned);
         note(places, k, class, q);
         if class != 0 {
             to = line_end(fin, to);

@@ -27,6 +27,13 @@ use tape::commands::Command;
 use tape::commands::Found;
 use tape::reader::command_from;
 
+// What the reply told of the run: the rounds, the lines removed, the results cut.
+pub struct Counts {
+    pub tally: Tally,
+    pub removed: u64,
+    pub cut: u64,
+}
+
 // A tick, or a cross: the latter is never seen unless the counting or the theorem is wrong.
 fn put_tick(s: Sink, holds: bool) -> Sink {
     if holds {
@@ -362,12 +369,13 @@ fn put_tally(s: Sink, tally: Tally) -> Sink {
     }
 }
 
-fn put_counts(s: Sink, lines: usize, left: usize, tally: Tally, removed: u64, cut: u64) -> Sink {
+fn put_counts(s: Sink, lines: usize, left: usize, counts: Counts) -> Sink {
+    let tally = counts.tally;
     let mut t = put(s, b"<div><h3>Counts</h3><table class=q><tbody id=counts>\n");
     t = put_entry(t, b"raw lines", lines as u64);
     t = put_entry(t, b"cleaned lines", left as u64);
-    t = put_entry(t, b"lines removed", removed);
-    t = put_entry(t, b"results cut", cut);
+    t = put_entry(t, b"lines removed", counts.removed);
+    t = put_entry(t, b"results cut", counts.cut);
     t = put_tally(t, tally);
     put(t, b"</tbody></table></div>\n")
 }
@@ -593,9 +601,7 @@ pub(crate) fn put_sheet(
     r: Request,
     tape: &[u8],
     fin: &[u8],
-    tally: Tally,
-    removed: u64,
-    cut: u64,
+    counts: Counts,
     places: &[u64],
 ) -> Sink {
     let before = count_sizes(tape);
@@ -606,10 +612,10 @@ pub(crate) fn put_sheet(
     );
     t = put_calls(t, tape, fin);
     t = put_labels(t, tape, fin, places);
-    t = put_counts(t, before.lines, after.lines, tally, removed, cut);
+    t = put_counts(t, before.lines, after.lines, counts);
     t = put_settings(t, r);
     t = put(t, b"</div>\n");
-    t = put_guarantee(t, r, tape, fin, before, after, removed, places);
+    t = put_guarantee(t, r, tape, fin, before, after, counts.removed, places);
     put(
         t,
         b"<p class=z>The sentences are theorems that a machine has checked, for all inputs; the numbers were counted from the two tapes \

@@ -42,7 +42,7 @@ fn put_text_by(s: Sink, kind: u64, text: &[u8], out: &mut [u8]) -> Sink {
     put(s, front(out, n))
 }
 
-// The same: a text of a tape has at most 65,535 bytes, and so has a file's name.
+// A text in its cell. A text of a tape has at most 65,535 bytes, and so has a file's name.
 pub(crate) fn put_text(s: Sink, kind: u64, text: &[u8]) -> Sink {
     let mut out = [0u8; 458780];
     put_text_by(s, kind, text, &mut out)

@@ -1,1 +1,2 @@
+-- What the command writes of a reply.
 pub mod Reports

@@ -1,9 +1,9 @@
 // What the command `puchkewa` writes of a reply: the bytes are those of the definitions in specs/Reports.antt.
-use arguments::nth_word;
 use numbers::put_digits;
 use printing::put;
 use printing::put_decimal;
 use rounds::Tally;
+use words::nth_word;
 ghost use mathlib.Core.Path.{_≡_};
 ghost use mathlib.Core.List.{[], _∷_, _++_};
 ghost use Prim.Native.Nat.{_+_, _*_, _≤_, _<_};

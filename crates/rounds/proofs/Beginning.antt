@@ -25,7 +25,7 @@ use Rattle.rounds.specs.declared.rounds.Round.{Round}
 use Rattle.rounds.specs.Slots.{Roomy, Gathers}
 use Rattle.rounds.specs.Rounds.{Roundable, Made, attempts-with}
 use Rattle.rounds.specs.Runs.{Runnable}
-use Rattle.rounds.proofs.Cutting.{gathered-inside, gathered-labelled, gathered-labels}
+use Rattle.cuts.proofs.Cutting.{gathered-inside, gathered-labelled, gathered-labels}
 use Rattle.rounds.proofs.Turning.{bare-is}
 
 module _ {tape area : Text} {tokens lines : List ℕ} {area2 : Text} {tokens2 lows highs labels : List ℕ} {slots : Text} {slot-words : List ℕ} {at : Size}

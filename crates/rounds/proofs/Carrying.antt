@@ -1,6 +1,6 @@
 -- Marks by the number of the input line: what one attempt does to the two tables is what `carry` does to the marks of the lines (`carries-joined`,
--- `carries-failed`), and so is what one attempt after the other does (`carries-then`). Cuts, and lines that are given their marks, keep the numbers
--- (`carries-same`). Assumes nothing.
+-- `carries-failed`), and so is what one attempt after the other does (`carries-then`). Cuts, and the noting of facts, keep the numbers of
+-- lines (`carries-same`). Assumes nothing.
 use Prim.Native.Nat.{ℕ, zero, suc, _<_, min, max}
 use native.Mathlib.Omega.{arith}
 use native.Mathlib.Decide.{ℕ-discrete}

@@ -1,9 +1,8 @@
--- Laws that the functions' proofs cite: of the cuts (Cutting), of the names that are gathered (Noting), of the marks of lines (Carrying), of a
--- round's attempts (Turning), of a round's beginning (Beginning), of the run (Running) and of the marks that are made before it (Marking).
-pub mod Cutting
+-- Laws that the functions' proofs cite: of the names that are gathered (Noting), of the marks of lines (Carrying), of a round's attempts (Turning),
+-- of a round's beginning (Beginning), of the run (Running) and of the facts that are noted before it (Facts).
 pub mod Noting
 pub mod Carrying
 pub mod Turning
 pub mod Beginning
 pub mod Running
-pub mod Marking
+pub mod Facts

@@ -27,11 +27,11 @@ use Rattle.rounds.specs.declared.run.Outcome.{Outcome}
 use Rattle.rounds.specs.declared.run.Progress.{Progress}
 use Rattle.rounds.specs.declared.run.Tally as Code
 use Rattle.rounds.specs.Carries.{Carries}
-use Rattle.rounds.specs.Cuts.{Cut}
+use Rattle.cuts.specs.Cuts.{Cut}
 use Rattle.rounds.specs.Rounds.{Countable, Made}
 use Rattle.rounds.specs.Runs.{Runnable, most-rounds, rounds-left, count-after, after-round, Few, Counted, Rounded, tally-of, told-of, counts-of, Ran}
 use Rattle.rounds.proofs.Carrying.{carries-none, carries-then, carries-same, numbers-same, cuts-addresses}
-use Rattle.rounds.proofs.Cutting.{last-append}
+use Rattle.cuts.proofs.Cutting.{last-append}
 use Rattle.rounds.proofs.Turning.{removals-append, now-length, now-few, lent-same}
 
 -- ---- the rounds from a listing on: one, and those after it

@@ -15,7 +15,7 @@ pub record Held (lows highs : List ℕ) (o : ℕ) : Type 0 where
   pub high-inside : o < length highs
   pub kept : Kept (pair-at lows highs o)
 
--- they have one for each of these input lines, no two of which are the same
+-- the two tables have a pair for each of these input lines, no two of which are the same
 pub record Marked (origins lows highs : List ℕ) : Type 0 where
   pub rising : Rising 0 origins
   pub each : All (Held lows highs) origins

@@ -12,7 +12,7 @@ use Rattle.rounds.specs.declared.slots.Slots.{Slots}
 abbrev pub names-now : Text → List ℕ → Slots → List Text
 names-now slots words g = slot-names (take (g .text) slots) (take (g .count) words)
 
--- they can be read
+-- the names so far can be read
 pub record Slotting (slots : Text) (words : List ℕ) (g : Slots) : Type 0 where
   pub text-fits : g .text ≤ length slots
   pub words-fit : g .count ≤ length words

@@ -1,5 +1,4 @@
-// Rounds and cuts: `propagate_once`, `drop_dead_results` and `optimize` of the Rust.
-mod cuts; // dead results
+// The whole run: `propagate_once` and `optimize` of the Rust. (Its cuts, `drop_dead_results`, are crate cuts.)
 mod rounds; // a round's attempts
 mod run; // the rounds, then the cuts
 mod slots; // the addressed names of a round

@@ -1,12 +1,12 @@
 // The whole run: `optimize` of the Rust. Rounds, ending after one that changed nothing: at most three, or as many as it takes where the
 // run is to settle.
-// Then the cuts. Before the rounds each line is given its marks (what it lacks), which are no part of the listing. The other marks, the
-// lowest and the highest address of each line and of all that was joined into it, are in `lows` and `highs`, by the number of the input
-// line.
-use crate::cuts::drop_dead_results;
+// Then the cuts. Before the rounds the facts of each line (what it lacks, and whether it calls) are noted in its word; they are no part of
+// the listing. The marks of a line, the lowest and the highest address of it and of all that was joined into it, are in `lows` and `highs`,
+// by the number of the input line.
 use crate::rounds::Round;
 use crate::rounds::propagate_once;
 use build::used::Size;
+use cuts::drop_dead_results;
 use linefacts::gather_facts;
 use lines::rules::Rules;
 ghost use mathlib.Core.Path.{_≡_};
@@ -166,8 +166,8 @@ fn make_rounds(
     s
 }
 
-// Gives each line of the listing its marks.
-fn mark<'a>(tape: &'a [u8], area: &'a [u8], tokens: &'a [u64], lines: &mut [u64], size: Size)
+// Notes the facts of each line of the listing in its word.
+fn note_facts<'a>(tape: &'a [u8], area: &'a [u8], tokens: &'a [u64], lines: &mut [u64], size: Size)
     requires { ⌜ Current (now tape) (now area) (now tokens) (now lines) size ⌝ }
     ensures { λ r. ⌜ SameListing (was tape) (was area) (was tokens) (was lines) size (now (lines .exit)) ⌝ }
 {
@@ -177,7 +177,7 @@ fn mark<'a>(tape: &'a [u8], area: &'a [u8], tokens: &'a [u64], lines: &mut [u64]
     gather_facts(tape, &area[..text], &tokens[..used], &mut lines[..n]);
 }
 
-// The marks, the rounds, then the cuts.
+// The facts are noted, the rounds made, then the cuts.
 pub fn optimize(
     tape: &[u8],
     area: &mut [u8],
@@ -198,7 +198,7 @@ pub fn optimize(
     ensures { λ r. ⌜ Ran (rules-of rules) (was tape) (was area) (was tokens) (was lines) (was lows) (was highs) size (now (area .exit))
         (now (tokens .exit)) (now (lines .exit)) (now (lows .exit)) (now (highs .exit)) r ⌝ }
 {
-    mark(tape, area, tokens, lines, size);
+    note_facts(tape, area, tokens, lines, size);
     let s = make_rounds(
         tape,
         area,

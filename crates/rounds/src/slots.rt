@@ -51,7 +51,7 @@ fn gather_slot<'a>(
     }
 }
 
-// Those of a line.
+// Adds the names that are addressed in a line.
 fn gather_line<'a>(
     tape: &'a [u8],
     area: &'a [u8],
@@ -75,7 +75,7 @@ fn gather_line<'a>(
     all
 }
 
-// Those of a listing.
+// Gathers the names that are addressed in a listing.
 pub fn gather_slots<'a>(
     tape: &'a [u8],
     area: &'a [u8],

@@ -98,9 +98,6 @@ module _ {x : Text} {expr : List Token} (d : Defines x expr) where
   pub keeps : (y : Text) → any (of-family y) expr ≡ false → (σ : Store) (w : ℕ) → d .value (assign y w σ) ≡ d .value σ
   keeps y e σ w = held (sym (d .worth (assign y w σ)) ∙ unread y w σ expr (wants first []) e ∙ d .worth σ)
 
-  zeros′ : Store
-  zeros′ y = 0
-
   lone-fits : (t : Token) → expr ≡ t ∷ [] → (ts : List Token) (s : State) (σ : Store) → TokensFit x (d .value σ) σ expr ts s
   lone-fits t e ts s σ =
       subst⁻¹ (λ (r : List Token). TokensFit x (d .value σ) σ r ts s) e

@@ -62,17 +62,6 @@ byte-shape c (signed p k) = if-shape _ _ _ _ _ (ap {B = State} (λ (r : List Pen
 byte-shape c (done v) = refl
 byte-shape c broken = refl
 
-shape-twice : (s : State) → shape s ≡ shape (shape s)
-shape-twice fresh = refl
-shape-twice spaced = refl
-shape-twice equals = refl
-shape-twice (wants p k) = ap {B = State} (λ (r : List Pending). wants first r) (blanks-twice k)
-shape-twice (holds v k) = ap {B = State} (λ (r : List Pending). holds 0 r) (blanks-twice k)
-shape-twice (gap v k) = ap {B = State} (λ (r : List Pending). gap 0 r) (blanks-twice k)
-shape-twice (signed p k) = ap {B = State} (λ (r : List Pending). signed first r) (blanks-twice k)
-shape-twice (done v) = refl
-shape-twice broken = refl
-
 -- two states of one shape, a byte later
 byte-alike : (c : ℕ) (s t : State) → shape s ≡ shape t → shape (byte c s) ≡ shape (byte c t)
 byte-alike c s t e = byte-shape c s ∙ ap (λ (r : State). shape (byte c r)) e ∙ sym (byte-shape c t)

@@ -22,14 +22,15 @@ use Rattle.laws.proofs.Scans.{if-true, if-false, and-true, and-false}
 use Rattle.tape.specs.Commands.{command-in, size-of}
 use Rattle.tape.specs.declared.commands.Command.{Command}
 use Rattle.tape.specs.declared.commands.Command.the-variants as Code
-use Rattle.tallies.specs.declared.walking.Next.the-variants.{More, Over}
+use Rattle.walk.specs.declared.Next.the-variants.{More, Over}
+use Rattle.walk.specs.Held.{commands, tokens-of, lines-of, held}
+use Rattle.walk.specs.Walk.{Follows}
 use Rattle.tallies.specs.declared.casts.Casts.{Casts}
 use Rattle.tallies.specs.declared.calls.Calls.{Calls}
 use Rattle.tallies.specs.declared.labels.Shape.{Shape}
 use Rattle.tallies.specs.declared.labels.Shape.the-variants.{Empty, Name, Label, Other}
 use Rattle.tallies.specs.declared.labels.Labels.{Labels}
-use Rattle.tallies.specs.Held.{commands, tokens-of, lines-of, held}
-use Rattle.tallies.specs.Counting.{Follows, with-commands, Takes, TakesToken, TakesLine, casts-with, is-name, calls-with, is-label-with, Shaped, BeginsWith, GoesOnWith, label-in, labels-with}
+use Rattle.tallies.specs.Counting.{with-commands, Takes, TakesToken, TakesLine, casts-with, is-name, calls-with, is-label-with, Shaped, BeginsWith, GoesOnWith, label-in, labels-with}
 use Rattle.tallies.proofs.Sizing.{if-same}
 
 module _ {S : Type 0} (with-tokens : S → List Token → ℕ) (of-line : List Token → ℕ) where

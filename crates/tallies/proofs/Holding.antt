@@ -25,9 +25,9 @@ use Rattle.reference.proofs.Limits.{All, TokenFits, LineFits, MarksFit, TapeFit
 use Rattle.reference.proofs.Tapes.{write-read, read-fits, read-marks-fit}
 use Rattle.reference.proofs.Marks.{finished-marks-fit}
 use Rattle.reference.proofs.Unmarked.{Holdable, HoldableMarks}
+use Rattle.walk.specs.Held.{goes-on, commands, tokens-of, lines-of, held}
+use Rattle.walk.proofs.Following.{goes, more, over}
 use Rattle.sources.proofs.Held.{Kind, Held, finished-held, finished-text}
-use Rattle.tallies.specs.Held.{goes-on, commands, tokens-of, lines-of, held}
-use Rattle.tallies.proofs.Following.{goes, more, over}
 
 -- ---- one command
 

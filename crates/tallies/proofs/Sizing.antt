@@ -20,9 +20,10 @@ use Rattle.tape.specs.Commands.{command-in, size-of}
 use Rattle.tape.specs.Questions.{Sizes, sizes-in}
 use Rattle.tape.specs.declared.commands.Command.{Command}
 use Rattle.tape.specs.declared.commands.Command.the-variants as Code
-use Rattle.tallies.specs.declared.walking.Next.the-variants.{More, Over}
-use Rattle.tallies.specs.Held.{commands, tokens-of, lines-of, held}
-use Rattle.tallies.specs.Counting.{Follows, sized}
+use Rattle.walk.specs.declared.Next.the-variants.{More, Over}
+use Rattle.walk.specs.Held.{commands, tokens-of, lines-of, held}
+use Rattle.walk.specs.Walk.{Follows}
+use Rattle.tallies.specs.Counting.{sized}
 
 -- a token's text lies in the tape
 pub text-long : (tape : List ℕ) (at count : ℕ) → at + (3 + count) ≤ length tape → length (take count (drop (at + 3) tape)) ≡ count

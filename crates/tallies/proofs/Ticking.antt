@@ -21,7 +21,7 @@ use Rattle.reference.proofs.Lines.{length-modify}
 use Rattle.reference.proofs.LittleEndian.{Bytes}
 use Rattle.reference.proofs.Marks.{finished-is}
 use Rattle.reference.proofs.Guarantee.{demand3-tape, Answered, answered}
-use Rattle.tallies.specs.Held.{held}
+use Rattle.walk.specs.Held.{held}
 use Rattle.tallies.specs.Ticks.{Ticks}
 use Rattle.tallies.proofs.Holding.{held-read, held-cleaned}
 

@@ -1,11 +1,10 @@
--- What the code's values mean: a command and what comes behind it, and what is counted so far with what is still to come. Assumes nothing.
-use Prim.Native.Nat.{ℕ, _+_, _≤_}
+-- What the code's values mean: what is counted so far, with what is still to come. Assumes nothing.
+use Prim.Native.Nat.{ℕ, _+_}
 use mathlib.Core.Path.{_≡_}
 use mathlib.Core.Bool.{Bool, false}
 use mathlib.Core.List.{List, [], _∷_}
 use mathlib.Core.Option.{none, some}
 use lib.Dec.{eqb}
-use lib.ListN.{length, drop}
 use Rattle.reference.specs.Control.{_&&_, if_then_else_}
 use Rattle.reference.specs.Tape as Tape
 use Rattle.reference.specs.Text.{Text, bytes, _==_}
@@ -13,34 +12,16 @@ use Rattle.reference.specs.Lists.{is-empty}
 use Rattle.reference.specs.Listing.{Token, token, is, Symbol}
 use Rattle.reference.specs.Shapes.{label-tokens}
 use Rattle.reference.specs.Claim.{sum, one-if, opens, calls-in}
-use Rattle.tape.specs.Commands.{command-in, size-of}
 use Rattle.tape.specs.Questions as Totals
 use Rattle.tape.specs.declared.commands.Command.{Command}
 use Rattle.tape.specs.declared.commands.Command.the-variants as Code
-use Rattle.tallies.specs.declared.walking.Next.{Next}
-use Rattle.tallies.specs.declared.walking.Next.the-variants.{More, Over}
+use Rattle.walk.specs.Held.{tokens-of, lines-of}
 use Rattle.tallies.specs.declared.sizes.Sizes.{Sizes}
 use Rattle.tallies.specs.declared.casts.Casts.{Casts}
 use Rattle.tallies.specs.declared.calls.Calls.{Calls}
 use Rattle.tallies.specs.declared.labels.Shape.{Shape}
 use Rattle.tallies.specs.declared.labels.Shape.the-variants.{Empty, Name, Label, Other}
 use Rattle.tallies.specs.declared.labels.Labels.{Labels}
-use Rattle.tallies.specs.Held.{commands, tokens-of, lines-of}
-
--- ---- the walk
-
--- the commands from an offset on, as an answer at that offset says it
-abbrev pub coming : List ℕ → ℕ → Next → List Tape.Command
-coming tape at (More command next) = command-in tape at command ∷ commands (drop next tape)
-coming tape at Over = []
-
-abbrev pub Inside : List ℕ → ℕ → Next → Type 0
-Inside tape at (More command next) = (next ≡ at + size-of command) × (at + 2 ≤ next) × (next ≤ length tape)
-Inside tape at Over = Unit {0}
-
-pub record Follows (tape : List ℕ) (at : ℕ) (answer : Next) : Type 0 where
-  pub commands-are : coming tape at answer ≡ commands (drop at tape)
-  pub inside : Inside tape at answer
 
 -- ---- sizes
 
@@ -60,7 +41,7 @@ sized Code.End s = s
 
 -- What is counted so far: `with-tokens s ts` is the number if the last line goes on with the tokens `ts` and no line follows.
 module _ {S : Type 0} (with-tokens : S → List Token → ℕ) (of-line : List Token → ℕ) where
-  -- ... with the commands to come
+  -- the number with the commands to come
   abbrev pub with-commands : S → List Tape.Command → ℕ
   with-commands s more = with-tokens s (tokens-of more) + sum (λ l. of-line (l .tokens)) (lines-of more)
 
@@ -68,11 +49,11 @@ module _ {S : Type 0} (with-tokens : S → List Token → ℕ) (of-line : List T
   pub record Takes (c : Tape.Command) (before after : S) : Type 0 where
     pub adds : (more : List Tape.Command) → with-commands after more ≡ with-commands before (c ∷ more)
 
-  -- and a token
+  -- a token is counted, whatever comes behind it in its line
   pub record TakesToken (t : Token) (before after : S) : Type 0 where
     pub adds : (ts : List Token) → with-tokens after ts ≡ with-tokens before (t ∷ ts)
 
-  -- and the beginning of a line
+  -- the beginning of a line is counted, whatever tokens it has
   pub record TakesLine (before after : S) : Type 0 where
     pub adds : (ts : List Token) → with-tokens after ts ≡ with-tokens before [] + of-line ts
 

@@ -5,7 +5,7 @@ use mathlib.Core.Path.{_≡_}
 use mathlib.Core.List.{List, Sublistᴰ}
 use lib.ListN.{length}
 use Rattle.reference.specs.Claim.{Callee, calls, label-lines, token-count, text}
-use Rattle.tallies.specs.Held.{held}
+use Rattle.walk.specs.Held.{held}
 
 pub record Ticks (tape cleaned : List ℕ) (removed : ℕ) : Type 0 where
   pub calls-stay : (c : Callee) → calls c (held tape) ≤ calls c (held cleaned)

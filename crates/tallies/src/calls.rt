@@ -1,12 +1,12 @@
 // Calls of a name: Symbols before a Punct that begins `(`.
-use crate::walking::Next;
-use crate::walking::next_at;
 use lines::words::PUNCT;
 use lines::words::SYMBOL;
 use tape::commands::Command;
 use tape::reader::token_text;
 use text::begins_bracket;
 use text::same;
+use walk::Next;
+use walk::next_at;
 ghost use mathlib.Core.Path.{_≡_};
 ghost use mathlib.Core.List.{[], _∷_};
 ghost use mathlib.Core.Option.{some};
@@ -17,7 +17,7 @@ ghost use Rattle.reference.specs.Control.{_&&_};
 ghost use Rattle.reference.specs.Listing.{token};
 ghost use Rattle.reference.specs.Claim.{one-if, opens, calls, calls-in};
 ghost use Rattle.tape.specs.Commands.{command-in, size-of};
-ghost use Rattle.tallies.specs.Held.{held};
+ghost use Rattle.walk.specs.Held.{held};
 ghost use Rattle.tallies.specs.Counting.{is-name, calls-with, Takes, TakesToken, TakesLine};
 
 // So many so far, whether a line has begun, and whether its last token is the name.

@@ -1,10 +1,10 @@
 // Calls through a cast pointer: Keywords that begin `((void`.
-use crate::walking::Next;
-use crate::walking::next_at;
 use lines::words::KEYWORD;
 use tape::commands::Command;
 use tape::reader::token_text;
 use text::begins_void;
+use walk::Next;
+use walk::next_at;
 ghost use mathlib.Core.Path.{_≡_};
 ghost use mathlib.Core.Bool.{false};
 ghost use mathlib.Core.Option.{none};
@@ -14,7 +14,7 @@ ghost use Rattle.reference.specs.Contract.{was};
 ghost use Rattle.reference.specs.Listing.{token};
 ghost use Rattle.reference.specs.Claim.{is-call-mark, calls, calls-in};
 ghost use Rattle.tape.specs.Commands.{command-in, size-of};
-ghost use Rattle.tallies.specs.Held.{held};
+ghost use Rattle.walk.specs.Held.{held};
 ghost use Rattle.tallies.specs.Counting.{casts-with, Takes, TakesToken, TakesLine};
 
 // So many so far, and whether a line has begun.

@@ -1,10 +1,10 @@
 // Label lines: a Symbol and a `:`, and no more.
-use crate::walking::Next;
-use crate::walking::next_at;
 use lines::words::SYMBOL;
 use tape::commands::Command;
 use tape::reader::token_text;
 use text::is_colon;
+use walk::Next;
+use walk::next_at;
 ghost use mathlib.Core.Path.{_≡_};
 ghost use mathlib.Core.List.{[]};
 ghost use Prim.Native.Nat.{_+_, _^_, _<_, _≤_};
@@ -13,7 +13,7 @@ ghost use Rattle.reference.specs.Contract.{was};
 ghost use Rattle.reference.specs.Listing.{token};
 ghost use Rattle.reference.specs.Claim.{label-lines};
 ghost use Rattle.tape.specs.Commands.{command-in, size-of};
-ghost use Rattle.tallies.specs.Held.{held};
+ghost use Rattle.walk.specs.Held.{held};
 ghost use Rattle.tallies.specs.Counting.{BeginsWith, GoesOnWith, Shaped, label-in, labels-with, Takes, TakesToken, TakesLine};
 
 // What the last line is so far: nothing, a Symbol, a label, or what no label begins with (so too where no line has begun).

@@ -1,7 +1,7 @@
 // Lines, tokens and bytes of text.
-use crate::walking::Next;
-use crate::walking::next_at;
 use tape::commands::Command;
+use walk::Next;
+use walk::next_at;
 ghost use mathlib.Core.Path.{_≡_};
 ghost use Prim.Native.Nat.{_+_, _^_, _<_};
 ghost use lib.Dec.{eqb};
@@ -9,7 +9,7 @@ ghost use Rattle.reference.specs.Contract.{was};
 ghost use Rattle.reference.specs.Control.{if_then_else_};
 ghost use Rattle.tape.specs.Commands.{size-of};
 ghost use Rattle.tape.specs.Questions.{sizes-in};
-ghost use Rattle.tallies.specs.Held.{held};
+ghost use Rattle.walk.specs.Held.{held};
 ghost use Rattle.tallies.specs.Counting.{sizes-of, sized};
 
 pub struct Sizes {

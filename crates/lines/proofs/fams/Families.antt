@@ -27,7 +27,7 @@ use Rattle.lines.specs.Words.{kind-of, len-of, first-bytes, text-of, tok
 use Rattle.lines.specs.declared.fams.Named.{Named}
 use Rattle.lines.specs.declared.fams.Named.the-variants.{As, Nothing}
 use Rattle.lines.specs.Fams.{Fam, fam-text, fam-number, Known, Names}
-use Rattle.lines.proofs.words.Tokens.{text-length, first-bytes-means, first-bytes-points, points-prefix, text-prefix}
+use Rattle.lines.proofs.words.Tokens.{text-length, first-bytes-means, first-bytes-points}
 
 -- ---- a family: a row below 8, else a name
 
@@ -76,15 +76,6 @@ module _ (tape area : Text) {f g : Fam} (kf : Known tape area f) (kg : Known tap
 
   pub same-as-name : {x : Bool} → 8 ≤ f → 8 ≤ g → x ≡ (text-of tape area f == text-of tape area g) → x ≡ (fam-text tape area f == fam-text tape area g)
   same-as-name h i e = rw (fam-name tape area {f = f} h, fam-name tape area {f = g} i) e
-
--- a family that is known in the used part of the area
-pub known-prefix : (tape : Text) (n : ℕ) (area : Text) (f : Fam) → Known tape (take n area) f → Known tape area f
-known-prefix tape n area f k = record { points = λ h. points-prefix n area (k .points h); no-row = λ h. rw (text-prefix n area (k .points h)) at (k .no-row h) }
-
-pub fam-prefix : (tape : Text) (n : ℕ) (area : Text) (f : Fam) → Known tape (take n area) f → fam-text tape (take n area) f ≡ fam-text tape area f
-fam-prefix tape n area f k = row-or-name f
-    (λ h. fam-row tape (take n area) h ∙ sym (fam-row tape area h))
-    (λ h. fam-name tape (take n area) h ∙ text-prefix n area (k .points h) ∙ sym (fam-name tape area h))
 
 pub fam-overwritten : (tape area : Text) (c : ℕ) (f : Fam) → Known tape area f
     → has (volatile-of c) (name-numbered (fam-number tape area f)) ≡ has (volatile-of c) (fam-text tape area f)

@@ -67,11 +67,6 @@ module _ {A : Type 0} (f : ℕ → A) where
   map-drop (suc n) [] = refl
   map-drop (suc n) (l ∷ ls) = map-drop n ls
 
-  pub map-remove : (i : ℕ) (ls : List ℕ) → map f (remove i ls) ≡ remove i (map f ls)
-  map-remove i [] = refl
-  map-remove zero (l ∷ ls) = refl
-  map-remove (suc i) (l ∷ ls) = ap (λ (r : List A). f l ∷ r) (map-remove i ls)
-
   -- the number put at i means what g makes of the old one's meaning
   pub map-set : (g : A → A) (i : ℕ) (ls : List ℕ) (v : ℕ) → (i < length ls → f v ≡ g (f (getD ls i 0))) → map f (set ls i v) ≡ modify i g (map f ls)
   map-set g i [] v e = refl

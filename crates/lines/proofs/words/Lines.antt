@@ -16,7 +16,7 @@ use Rattle.reference.specs.Listing.{Token, _at_, with-tokens}
 use Rattle.laws.proofs.Parts.{part-below}
 use Rattle.lines.specs.Words.{tokens-of, Holds}
 use Rattle.lines.specs.Facts.{bit, Tells}
-use Rattle.lines.specs.Lines.{first-of, count-of, indent-of, addressed-of, origin-of, facts-of, with-facts, line-word, with-part, part-of, address-in, Reading, own, numbered, read-as, line-read, listing-read, line-in, listing-of, bare, bare-in, bare-listing, Lined, Listed}
+use Rattle.lines.specs.Lines.{first-of, count-of, indent-of, addressed-of, origin-of, facts-of, with-facts, line-word, with-part, part-of, address-in, Reading, own, numbered, read-as, line-read, listing-read, line-in, bare, bare-in, bare-listing, Lined, Listed}
 use Rattle.lines.proofs.words.Each.{each-none, each-one, each-take, each-drop, each-append, each-set, each-remove, map-at, map-same}
 use Rattle.lines.proofs.words.Tokens.{holds-take, holds-drop, holds-prefix, tokens-prefix}
 
@@ -222,25 +222,6 @@ module _ {tape : Text} (m : ℕ) (area : Text) (n : ℕ) (tokens : List ℕ) {li
   read-prefix addresses h =
       map-same (line-read tape (take m area) (take n tokens) addresses) (line-read tape area tokens addresses) lines
       (λ k b. line-prefix m area n tokens (h .at k b) addresses)
-
-  pub listing-prefix : (addresses : List ℕ) → Listed tape (take m area) (take n tokens) lines
-      → listing-of tape (take m area) (take n tokens) addresses lines ≡ listing-of tape area tokens addresses lines
-  listing-prefix addresses h = read-prefix (own addresses) h
-
-  pub bare-prefix : Listed tape (take m area) (take n tokens) lines
-      → bare-listing tape (take m area) (take n tokens) lines ≡ bare-listing tape area tokens lines
-  bare-prefix h =
-      bare-means tape (take m area) (take n tokens) numbered lines
-      ∙ ap (map bare) (read-prefix numbered h)
-      ∙ sym (bare-means tape area tokens numbered lines)
-
--- nothing but the used parts matters
-pub listing-same : {tape : Text} (m : ℕ) (area area′ : Text) (n : ℕ) (tokens tokens′ : List ℕ) (addresses : Reading) {lines : List ℕ}
-    → Listed tape (take m area) (take n tokens) lines → take m area ≡ take m area′ → take n tokens ≡ take n tokens′
-    → listing-read tape area tokens addresses lines ≡ listing-read tape area′ tokens′ addresses lines
-listing-same {tape} m area area′ n tokens tokens′ addresses {lines} h ea et =
-    sym (read-prefix m area n tokens addresses h)
-    ∙ rw (ea, et) (read-prefix m area′ n tokens′ addresses (rw (ea, et) at h))
 
 -- the area and the token words grow beyond their used parts
 module _ {tape used : Text} {tokens : List ℕ} (more : Text) (next : List ℕ) {lines : List ℕ} (h : Listed tape used tokens lines) where

@@ -184,22 +184,7 @@ module _ {tape : Text} (n : ℕ) (area : Text) {ws : List ℕ} (h : Holds tape (
   pub tokens-prefix : tokens-of tape (take n area) ws ≡ tokens-of tape area ws
   tokens-prefix = map-same (token-of tape (take n area)) (token-of tape area) ws (λ k l. ap (token (kind-of (getD ws k 0))) (text-prefix n area (h .at k l)))
 
--- nothing but the used part matters
-pub tokens-same : {tape : Text} (n : ℕ) (area area′ : Text) {ws : List ℕ} → Holds tape (take n area) ws → take n area ≡ take n area′
-    → tokens-of tape area ws ≡ tokens-of tape area′ ws
-tokens-same n area area′ h e = sym (tokens-prefix n area h) ∙ rw e (tokens-prefix n area′ (rw e at h))
-
 -- the area grows beyond its used part
-module _ {tape used : Text} (more : Text) {w : ℕ} (h : Points tape used w) where
-  word-front : Points tape (take (length used) (used ++ more)) w
-  word-front = rw take-append-seam h
-
-  pub points-grows : Points tape (used ++ more) w
-  points-grows = points-prefix (length used) (used ++ more) word-front
-
-  pub text-grows : text-of tape (used ++ more) w ≡ text-of tape used w
-  text-grows = sym (text-prefix (length used) (used ++ more) word-front) ∙ rw take-append-seam
-
 module _ {tape used : Text} (more : Text) {ws : List ℕ} (h : Holds tape used ws) where
   words-front : Holds tape (take (length used) (used ++ more)) ws
   words-front = rw take-append-seam h

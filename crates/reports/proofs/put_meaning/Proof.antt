@@ -1,6 +1,6 @@
 -- `reports::put_meaning` meets its contract. Assumes nothing.
 use Rattle.reports.specs.Reports.{meaning, meanings}
-use Rattle.arguments.specs.Words.{onto, split}
+use Rattle.words.specs.Splitting.{onto, split}
 use Rattle.reference.specs.Control.{if_then_else_}
 use lib.ListN.{length}
 use mathlib.Core.Path.{ap}

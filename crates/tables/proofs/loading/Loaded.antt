@@ -1,4 +1,5 @@
--- What a caller has of the tables that `load` filled, over the whole tables. Assumes nothing.
+-- What a caller has of the tables that `load` filled: they are within the limits, words that were coded hold the same listing, and the numbers of
+-- the input lines rise. Assumes nothing.
 use Prim.Native.Nat.{ℕ, suc, _+_, _≤_, _<_}
 use native.Mathlib.Omega.{arith}
 use mathlib.Core.Path.{_≡_, sym, ap, _∙_}
@@ -6,29 +7,19 @@ use mathlib.Core.List.{List, [], _∷_, map}
 use lib.ListN.{length, take, getD, length-map}
 use lib.Seq.{getD-take, length-take-le}
 use Rattle.reference.specs.Text.{Text}
-use Rattle.reference.specs.Questions.{Passed, read}
+use Rattle.reference.specs.Questions.{Passed}
 use Rattle.reference.proofs.Reading.{passed-inj, let-is}
 use Rattle.reference.proofs.Tapes.{read-limits}
 use Rattle.joining.specs.Carried.{Rising}
-use Rattle.lines.specs.Lines.{origin-of, listing-of, Listed}
+use Rattle.lines.specs.Lines.{origin-of, listing-of}
 use Rattle.lines.specs.Words.{Holds, Recodes}
 use Rattle.lines.proofs.words.Each.{map-at}
-use Rattle.lines.proofs.words.Lines.{listed-prefix, listing-prefix}
 use Rattle.lines.proofs.codes.Recoding.{recodes-take, listed-recoded, listing-recoded}
 use Rattle.tape.specs.Questions.{Sizes, sizes-of, sizes-in}
 use Rattle.tables.specs.Tables.{Loaded, LoadedMarks}
 use Rattle.tape.specs.declared.questions.Totals.{Totals}
 
 module _ {tape tokens lines addresses : List ℕ} {r : Totals} (l : Loaded tape tokens lines addresses r) where
-  module _ (area : Text) where
-    pub loaded-listed : Listed tape area tokens (take (r .lines) lines)
-    loaded-listed = listed-prefix (length area) area (r .tokens) tokens (l .listed (take (length area) area))
-
-    pub loaded-listing : read tape ≡ Passed (listing-of tape area tokens addresses (take (r .lines) lines))
-    loaded-listing =
-        l .listing (take (length area) area)
-        ∙ ap Passed (listing-prefix (length area) area (r .tokens) tokens addresses (l .listed (take (length area) area)))
-
   pub loaded-limits : (r .lines ≤ 256) × (r .tokens ≤ 1024) × (r .text ≤ 24576)
   loaded-limits =
       let e = l .listing [] in

@@ -3,8 +3,8 @@ use Prim.Native.Nat.{ℕ, _+_}
 use mathlib.Core.Path.{refl, ap, _∙_}
 use Rattle.laws.proofs.Parts.{to-end}
 use lib.ListN.{drop}
-use Rattle.arguments.proofs.Branches.{if-here, if-there, lt-at, le-at, lt-of, le-of}
-use Rattle.arguments.specs.Values.{integer-in}
+use Rattle.words.proofs.Branches.{if-here, if-there, lt-at, le-at, lt-of, le-of}
+use Rattle.words.specs.Numerals.{integer-in}
 use Rattle.arguments.specs.Entries.{entry-value}
 use borrow.Author.Needs.{needs}
 use Rattle.arguments.proofs.entries.entry_value.Statement.{statement}

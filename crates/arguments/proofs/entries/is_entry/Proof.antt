@@ -3,7 +3,7 @@ use Prim.Native.Nat.{ℕ}
 use mathlib.Core.Path.{refl, ap}
 use lib.Dec.{ltb}
 use lib.ListN.{length}
-use Rattle.arguments.proofs.Branches.{if-here, if-there, true-of, false-of}
+use Rattle.words.proofs.Branches.{if-here, if-there, true-of, false-of}
 use Rattle.arguments.specs.Entries.{is-entry}
 use borrow.Author.Needs.{needs}
 use Rattle.arguments.proofs.entries.is_entry.Statement.{statement}

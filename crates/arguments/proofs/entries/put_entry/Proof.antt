@@ -4,7 +4,7 @@ use mathlib.Core.Path.{sym, ap, _∙_}
 use lib.ListN.{length}
 use Prim.Native.Nat.{_<_, _≤_}
 use Rattle.arguments.proofs.Naming.{equals-within, entry-short, entry-put, entry-none}
-use Rattle.arguments.specs.Values.{option-of}
+use Rattle.words.specs.Numerals.{option-of}
 use Rattle.arguments.specs.Entries.{equals-at}
 use borrow.Author.Needs.{needs}
 use Rattle.arguments.proofs.entries.put_entry.Statement.{statement}

@@ -1,5 +1,5 @@
 -- `arguments::names::behind` meets its contract. Assumes nothing.
-use Rattle.arguments.proofs.Branches.{branches}
+use Rattle.words.proofs.Branches.{branches}
 use borrow.Author.Needs.{needs}
 use Rattle.arguments.proofs.names.behind.Statement.{statement}
 use Rattle.arguments.proofs.names.behind.Tie as tie

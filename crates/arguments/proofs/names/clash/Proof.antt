@@ -4,7 +4,7 @@ use native.Mathlib.Omega.{arith}
 use mathlib.Core.Path.{_≡_, sym, _∙_}
 use lib.ListN.{length, drop}
 use Rattle.arguments.proofs.Bases.{clash-here, clash-on, clash-end, clash-begin}
-use Rattle.arguments.specs.Words.{split}
+use Rattle.words.specs.Splitting.{split}
 use Rattle.arguments.specs.Names.{clash-from, clash-of}
 use borrow.Author.Needs.{needs}
 use Rattle.arguments.proofs.names.clash.Statement.{statement}

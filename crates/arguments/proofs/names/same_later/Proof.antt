@@ -4,7 +4,7 @@ use native.Mathlib.Omega.{arith}
 use mathlib.Core.Path.{_≡_, refl, sym, _∙_}
 use lib.ListN.{length, drop}
 use Rattle.arguments.proofs.Bases.{later-here, later-on, later-end}
-use Rattle.arguments.specs.Words.{split}
+use Rattle.words.specs.Splitting.{split}
 use Rattle.arguments.specs.Names.{same-later}
 use borrow.Author.Needs.{needs}
 use Rattle.arguments.proofs.names.same_later.Statement.{statement}

@@ -1,6 +1,6 @@
 -- `arguments::names::taken_later` meets its contract. Assumes nothing.
 use mathlib.Core.Path.{refl}
-use Rattle.arguments.proofs.Branches.{if-here, if-there}
+use Rattle.words.proofs.Branches.{if-here, if-there}
 use borrow.Author.Needs.{needs}
 use Rattle.arguments.proofs.names.taken_later.Statement.{statement}
 use Rattle.arguments.proofs.names.taken_later.Tie as tie

@@ -1,5 +1,5 @@
 -- `arguments::reading::judge` meets its contract. Assumes nothing.
-use Rattle.arguments.proofs.Branches.{branches}
+use Rattle.words.proofs.Branches.{branches}
 use Rattle.arguments.specs.Requests.{judged}
 use borrow.Author.Needs.{needs}
 use Rattle.arguments.proofs.reading.judge.Statement.{statement}

@@ -1,7 +1,7 @@
 -- `arguments::reading::judge_operands` meets its contract. Assumes nothing.
-use Rattle.arguments.proofs.Branches.{if-here, if-there, lt-at, le-at, lt-of, le-of}
+use Rattle.words.proofs.Branches.{if-here, if-there, lt-at, le-at, lt-of, le-of}
 use borrow.Author.Tests.{eq-eqb, ne-eqb}
-use Rattle.arguments.proofs.Branches.{branches, called}
+use Rattle.words.proofs.Branches.{branches, called}
 use Rattle.arguments.specs.Requests.{judge-operands}
 use borrow.Author.Needs.{needs}
 use Rattle.arguments.proofs.reading.judge_operands.Statement.{statement}

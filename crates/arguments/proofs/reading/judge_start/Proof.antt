@@ -1,5 +1,5 @@
 -- `arguments::reading::judge_start` meets its contract. Assumes nothing.
-use Rattle.arguments.proofs.Branches.{branches}
+use Rattle.words.proofs.Branches.{branches}
 use Rattle.arguments.specs.Requests.{judge-start}
 use borrow.Author.Needs.{needs}
 use Rattle.arguments.proofs.reading.judge_start.Statement.{statement}

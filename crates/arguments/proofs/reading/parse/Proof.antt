@@ -1,9 +1,10 @@
 -- `arguments::reading::parse` meets its contract. Assumes nothing.
 use Rattle.reference.specs.Text.{Text}
 use mathlib.Core.List.{List}
-use Rattle.arguments.proofs.Splitting.{next-step, no-word}
+use Rattle.words.proofs.FirstWord.{no-word}
+use Rattle.arguments.proofs.Taken.{next-step}
 use Rattle.arguments.specs.Requests.{none-yet, judged, steps-from, request-of}
-use Rattle.arguments.specs.Words.{split}
+use Rattle.words.specs.Splitting.{split}
 use Rattle.arguments.specs.declared.request.Request.{Request}
 use lib.ListN.{length, drop}
 use Prim.Native.Nat.{ℕ, _≤_, _+_, _-_}

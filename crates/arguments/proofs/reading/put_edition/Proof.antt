@@ -1,5 +1,5 @@
 -- `arguments::reading::put_edition` meets its contract. Assumes nothing.
-use Rattle.arguments.proofs.Branches.{branches}
+use Rattle.words.proofs.Branches.{branches}
 use Rattle.arguments.specs.Requests.{put-edition}
 use borrow.Author.Needs.{needs}
 use Rattle.arguments.proofs.reading.put_edition.Statement.{statement}

@@ -1,6 +1,6 @@
 -- `arguments::reading::put_option` meets its contract. Assumes nothing.
-use Rattle.arguments.proofs.Branches.{if-here, if-there, eq-of, ne-of}
-use Rattle.arguments.proofs.Branches.{branches}
+use Rattle.words.proofs.Branches.{if-here, if-there, eq-of, ne-of}
+use Rattle.words.proofs.Branches.{branches}
 use Rattle.arguments.specs.Requests.{put-option}
 use borrow.Author.Needs.{needs}
 use Rattle.arguments.proofs.reading.put_option.Statement.{statement}

@@ -1,5 +1,5 @@
 -- `arguments::reading::put_verb` meets its contract. Assumes nothing.
-use Rattle.arguments.proofs.Branches.{branches}
+use Rattle.words.proofs.Branches.{branches}
 use Rattle.arguments.specs.Requests.{put-verb}
 use borrow.Author.Needs.{needs}
 use Rattle.arguments.proofs.reading.put_verb.Statement.{statement}

@@ -1,7 +1,7 @@
 -- `arguments::reading::put_wanted` meets its contract. Assumes nothing.
 use mathlib.Core.Path.{sym, ap, _∙_}
-use Rattle.arguments.proofs.Branches.{wanted-taken, wanted-refused}
-use Rattle.arguments.specs.Values.{option-of}
+use Rattle.arguments.proofs.Taken.{wanted-taken, wanted-refused}
+use Rattle.words.specs.Numerals.{option-of}
 use borrow.Author.Needs.{needs}
 use Rattle.arguments.proofs.reading.put_wanted.Statement.{statement}
 use Rattle.arguments.proofs.reading.put_wanted.Tie as tie

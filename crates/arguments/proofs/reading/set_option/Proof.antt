@@ -1,5 +1,5 @@
 -- `arguments::reading::set_option` meets its contract. Assumes nothing.
-use Rattle.arguments.proofs.Branches.{branches}
+use Rattle.words.proofs.Branches.{branches}
 use Rattle.arguments.specs.Requests.{set-option}
 use borrow.Author.Needs.{needs}
 use Rattle.arguments.proofs.reading.set_option.Statement.{statement}

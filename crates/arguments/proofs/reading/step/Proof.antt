@@ -1,8 +1,8 @@
 -- `arguments::reading::step` meets its contract. Assumes nothing.
-use Rattle.arguments.proofs.Branches.{if-here, if-there, lt-of, le-of, true-of, false-of}
+use Rattle.words.proofs.Branches.{if-here, if-there, lt-of, le-of, true-of, false-of}
 use mathlib.Core.Path.{refl}
 use borrow.Author.Tests.{eq-eqb, ne-eqb}
-use Rattle.arguments.proofs.Branches.{branches, called}
+use Rattle.words.proofs.Branches.{branches, called}
 use Rattle.arguments.specs.Requests.{step-of}
 use borrow.Author.Needs.{needs}
 use Rattle.arguments.proofs.reading.step.Statement.{statement}

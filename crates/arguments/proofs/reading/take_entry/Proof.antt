@@ -1,7 +1,7 @@
 -- `arguments::reading::take_entry` meets its contract. Assumes nothing.
 use mathlib.Core.Path.{sym, ap, _∙_}
-use Rattle.arguments.proofs.Branches.{entry-taken, entry-refused}
-use Rattle.arguments.specs.Values.{option-of}
+use Rattle.arguments.proofs.Taken.{entry-taken, entry-refused}
+use Rattle.words.specs.Numerals.{option-of}
 use borrow.Author.Needs.{needs}
 use Rattle.arguments.proofs.reading.take_entry.Statement.{statement}
 use Rattle.arguments.proofs.reading.take_entry.Tie as tie

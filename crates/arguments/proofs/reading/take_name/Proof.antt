@@ -1,6 +1,6 @@
 -- `arguments::reading::take_name` meets its contract. Assumes nothing.
 use Rattle.arguments.specs.Requests.{take-name}
-use Rattle.arguments.proofs.Branches.{if-here, if-there, true-of, false-of}
+use Rattle.words.proofs.Branches.{if-here, if-there, true-of, false-of}
 use borrow.Author.Needs.{needs}
 use Rattle.arguments.proofs.reading.take_name.Statement.{statement}
 use Rattle.arguments.proofs.reading.take_name.Tie as tie

@@ -1,7 +1,7 @@
 -- `arguments::reading::take_number` meets its contract. Assumes nothing.
-use Rattle.arguments.specs.Values.{option-of}
+use Rattle.words.specs.Numerals.{option-of}
 use mathlib.Core.Path.{sym, ap, _∙_}
-use Rattle.arguments.proofs.Branches.{number-taken, number-refused}
+use Rattle.arguments.proofs.Taken.{number-taken, number-refused}
 use borrow.Author.Needs.{needs}
 use Rattle.arguments.proofs.reading.take_number.Statement.{statement}
 use Rattle.arguments.proofs.reading.take_number.Tie as tie

@@ -1,6 +1,6 @@
 -- `arguments::reading::take_operand` meets its contract. Assumes nothing.
 use borrow.Author.Tests.{eq-eqb, ne-eqb}
-use Rattle.arguments.proofs.Branches.{if-here, if-there, true-of, false-of}
+use Rattle.words.proofs.Branches.{if-here, if-there, true-of, false-of}
 use Rattle.arguments.specs.Requests.{take-operand}
 use borrow.Author.Needs.{needs}
 use Rattle.arguments.proofs.reading.take_operand.Statement.{statement}

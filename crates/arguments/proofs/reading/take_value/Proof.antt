@@ -1,5 +1,5 @@
 -- `arguments::reading::take_value` meets its contract. Assumes nothing.
-use Rattle.arguments.proofs.Branches.{branches}
+use Rattle.words.proofs.Branches.{branches}
 use Rattle.arguments.specs.Requests.{take-value}
 use borrow.Author.Needs.{needs}
 use Rattle.arguments.proofs.reading.take_value.Statement.{statement}

@@ -1,6 +1,6 @@
 -- `arguments::request::at_first` meets its contract. Assumes nothing.
 use borrow.Author.Needs.{needs}
-use Rattle.arguments.proofs.Branches.{branches}
+use Rattle.words.proofs.Branches.{branches}
 use Rattle.arguments.proofs.request.at_first.Statement.{statement}
 use Rattle.arguments.proofs.request.at_first.Tie as tie
 

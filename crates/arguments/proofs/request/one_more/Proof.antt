@@ -1,5 +1,5 @@
 -- `arguments::request::one_more` meets its contract. Assumes nothing.
-use Rattle.arguments.proofs.Branches.{branches}
+use Rattle.words.proofs.Branches.{branches}
 use borrow.Author.Needs.{needs}
 use Rattle.arguments.proofs.request.one_more.Statement.{statement}
 use Rattle.arguments.proofs.request.one_more.Tie as tie

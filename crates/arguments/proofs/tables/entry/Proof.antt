@@ -1,5 +1,5 @@
 -- `arguments::tables::entry` meets its contract. Assumes nothing.
-use Rattle.arguments.proofs.Branches.{past}
+use Rattle.arguments.proofs.Taken.{past}
 use borrow.Author.Needs.{needs}
 use Rattle.arguments.proofs.tables.entry.Statement.{statement}
 use Rattle.arguments.proofs.tables.entry.Tie as tie

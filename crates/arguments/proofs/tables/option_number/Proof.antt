@@ -1,6 +1,6 @@
 -- `arguments::tables::option_number` meets its contract. Assumes nothing.
 use Rattle.arguments.specs.Tables.{options}
-use Rattle.arguments.specs.Words.{onto, split}
+use Rattle.words.specs.Splitting.{onto, split}
 use Rattle.reference.specs.Control.{if_then_else_}
 use borrow.Author.Needs.{needs}
 use Rattle.arguments.proofs.tables.option_number.Statement.{statement}

@@ -1,5 +1,5 @@
 -- `arguments::tables::row_of` meets its contract. Assumes nothing.
-use Rattle.arguments.proofs.Branches.{branches}
+use Rattle.words.proofs.Branches.{branches}
 use borrow.Author.Needs.{needs}
 use Rattle.arguments.proofs.tables.row_of.Statement.{statement}
 use Rattle.arguments.proofs.tables.row_of.Tie as tie

@@ -4,7 +4,7 @@ use native.Mathlib.Omega.{arith}
 use Prim.Native.Nat.{ℕ, _+_, _*_, min}
 use mathlib.Core.Path.{ap, _∙_}
 use lib.ListN.{getD}
-use Rattle.arguments.proofs.Branches.{past}
+use Rattle.arguments.proofs.Taken.{past}
 use borrow.Author.Needs.{needs}
 use Rattle.arguments.proofs.tables.taking.Statement.{statement}
 use Rattle.arguments.proofs.tables.taking.Tie as tie

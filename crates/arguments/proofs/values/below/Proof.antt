@@ -1,6 +1,6 @@
 -- `arguments::values::below` meets its contract. Assumes nothing.
 use borrow.Author.Needs.{needs}
-use Rattle.arguments.proofs.Branches.{branches}
+use Rattle.words.proofs.Branches.{branches}
 use Rattle.arguments.specs.Values.{below}
 use Rattle.arguments.proofs.values.below.Statement.{statement}
 use Rattle.arguments.proofs.values.below.Tie as tie

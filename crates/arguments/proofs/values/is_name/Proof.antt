@@ -1,6 +1,6 @@
 -- `arguments::values::is_name` meets its contract. Assumes nothing.
 use borrow.Author.Needs.{needs}
-use Rattle.arguments.proofs.Branches.{branches}
+use Rattle.words.proofs.Branches.{branches}
 use Rattle.arguments.specs.Values.{is-name}
 use Rattle.arguments.proofs.values.is_name.Statement.{statement}
 use Rattle.arguments.proofs.values.is_name.Tie as tie

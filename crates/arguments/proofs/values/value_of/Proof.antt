@@ -1,5 +1,5 @@
 -- `arguments::values::value_of` meets its contract. Assumes nothing.
-use Rattle.arguments.proofs.Branches.{branches}
+use Rattle.words.proofs.Branches.{branches}
 use Rattle.arguments.specs.Values.{value-of}
 use borrow.Author.Needs.{needs}
 use Rattle.arguments.proofs.values.value_of.Statement.{statement}

@@ -4,7 +4,7 @@ use mathlib.Core.Path.{sym, _∙_}
 use lib.Seq.{length-take-le, length-front}
 use Rattle.rounds.proofs.Turning.{now-few}
 use Rattle.rounds.proofs.Running.{run-made}
-use Rattle.rounds.proofs.Marking.{runnable-same, rounded-same}
+use Rattle.rounds.proofs.Facts.{runnable-same, rounded-same}
 use Rattle.rounds.proofs.run.optimize.Statement.{statement}
 use Rattle.rounds.proofs.run.optimize.Tie as tie
 
@@ -12,10 +12,10 @@ use Rattle.rounds.proofs.run.optimize.Tie as tie
 abbrev before-slice-known8 : tie.After-slice-known8 → tie.Start
 before-slice-known8 c = c .before .before .before .before .before .before .before .before .before
 
-abbrev before-mark : tie.After-mark → tie.After-slice-known8
-before-mark c = c .before .before .before .before .before .before
+abbrev before-note-facts : tie.After-note-facts → tie.After-slice-known8
+before-note-facts c = c .before .before .before .before .before .before
 
-abbrev before-make-rounds-arg7 : tie.After-make-rounds-arg7 → tie.After-mark
+abbrev before-make-rounds-arg7 : tie.After-make-rounds-arg7 → tie.After-note-facts
 before-make-rounds-arg7 c = c .before .before .before .before .before .before .before .before .before
 
 abbrev before-make-rounds : tie.After-make-rounds → tie.After-make-rounds-arg7
@@ -28,11 +28,11 @@ before-slice-known20 c = c .before .before .before .before .before .before .befo
 abbrev before-lines3 : tie.After-lines3 → tie.After-slice-known20
 before-lines3 c = c .before .before .before .before .before .before .before .before .before
 
-mark-requires : tie.Need-mark-requires
-mark-requires c κs = before-slice-known8 (c .before .before .before .before .before) .pre .current
+note-facts-requires : tie.Need-note-facts-requires
+note-facts-requires c κs = before-slice-known8 (c .before .before .before .before .before) .pre .current
 
 make-rounds-requires : tie.Need-make-rounds-requires
-make-rounds-requires c κs = runnable-same (before-make-rounds-arg7 (c .before .before .before) .mark .ensures) (before-slice-known8 (before-mark (before-make-rounds-arg7 (c .before .before .before))) .pre)
+make-rounds-requires c κs = runnable-same (before-make-rounds-arg7 (c .before .before .before) .note-facts .ensures) (before-slice-known8 (before-note-facts (before-make-rounds-arg7 (c .before .before .before))) .pre)
 
 slice-reshare-prefix-drop-dead-results : tie.Need-slice-reshare-prefix-drop-dead-results
 slice-reshare-prefix-drop-dead-results c = before-slice-known20 (c .before .before .before) .make-rounds .ensures .current .text-fits
@@ -54,7 +54,7 @@ slice-aggregate-drop-dead-results-3 c = sym (length-take-le _ _ (before-slice-kn
 
 drop-dead-results-requires : tie.Need-drop-dead-results-requires
 drop-dead-results-requires c κs =
-    let p = before-slice-known8 (before-mark (before-make-rounds-arg7 (before-make-rounds (before-slice-known20 (c .before .before .before .before .before .before .before))))) .pre in
+    let p = before-slice-known8 (before-note-facts (before-make-rounds-arg7 (before-make-rounds (before-slice-known20 (c .before .before .before .before .before .before .before))))) .pre in
     let t = before-slice-known20 (c .before .before .before .before .before .before .before) .make-rounds in
     let now = t .ensures .current in
     let words = length-take-le (t .result .size .tokens) (t .last .1 .1 .0) (now .words-fit) in
@@ -79,7 +79,7 @@ same-length-3 c =
     let t = before-slice-known20 (before-lines3 (c .before .before .before .before)) .make-rounds in
     length-front (t .last .1 .1 .1 .0) (d .last .1 .1 .1 .0) (t .result .size .lines) (d .kept .1 .1 .1 .0)
     ∙ t .kept .1 .1 .1 .0
-    ∙ before-make-rounds-arg7 (before-make-rounds (before-slice-known20 (before-lines3 (c .before .before .before .before)))) .mark .kept .1 .1 .1 .0
+    ∙ before-make-rounds-arg7 (before-make-rounds (before-slice-known20 (before-lines3 (c .before .before .before .before)))) .note-facts .kept .1 .1 .1 .0
 
 same-length-4 : tie.Need-same-length-4
 same-length-4 c = before-slice-known20 (before-lines3 (c .before .before .before .before)) .make-rounds .kept .1 .1 .1 .1 .0
@@ -105,13 +105,13 @@ same-length-10 c = before-slice-known20 (before-lines3 (c .before .before .befor
 returns : tie.Need-returns
 returns c =
     let d = c .before .before .before .before .before .drop-dead-results in
-    run-made _ (rounded-same (before-make-rounds-arg7 (before-make-rounds (before-slice-known20 (before-lines3 (c .before .before .before .before)))) .mark .ensures) (before-slice-known20 (before-lines3 (c .before .before .before .before)) .make-rounds .ensures)) (d .ensures) (d .kept .1 .1 .1 .0) _ (c .tally-up .ensures)
+    run-made _ (rounded-same (before-make-rounds-arg7 (before-make-rounds (before-slice-known20 (before-lines3 (c .before .before .before .before)))) .note-facts .ensures) (before-slice-known20 (before-lines3 (c .before .before .before .before)) .make-rounds .ensures)) (d .ensures) (d .kept .1 .1 .1 .0) _ (c .tally-up .ensures)
 
 pub optimize-spec : {M : Type 1} → statement M
 optimize-spec =
     tie.close
     (tie.spec
-    mark-requires
+    note-facts-requires
     make-rounds-requires
     slice-reshare-prefix-drop-dead-results
     slice-aggregate-drop-dead-results

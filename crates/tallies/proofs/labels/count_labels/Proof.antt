@@ -3,7 +3,7 @@ use Prim.Native.Nat.{_+_, _-_, _≤_}
 use native.Mathlib.Omega.{arith}
 use mathlib.Core.Path.{_∙_}
 use lib.ListN.{length}
-use Rattle.tallies.specs.Held.{held}
+use Rattle.walk.specs.Held.{held}
 use Rattle.tallies.specs.Counting.{label-in, labels-with}
 use Rattle.tallies.proofs.Adding.{Adding, adding-begins, adding-ends, adding-on, labels-zero, label-sum}
 use borrow.Author.Needs.{needs}

@@ -1,0 +1,2 @@
+-- Laws of the cuts, which the functions' proofs cite; those of gathered labels serve a round too.
+pub mod Cutting

@@ -1,0 +1,2 @@
+-- What the cuts find and what they leave.
+pub mod Cuts
