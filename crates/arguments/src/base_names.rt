@@ -1,8 +1,7 @@
 // Files that would be written to one: with -d a result gets the base name of its file.
 ghost use Rattle.std.specs.Prelude.{◌≡◌, ◌+◌, ◌≤◌, length, drop, eqb};
-ghost use Rattle.reference.specs.Contract.{was};
-ghost use Rattle.reference.specs.Control.{◌&&◌, if◌then◌else◌};
-ghost use Rattle.reference.specs.Text.{◌==◌};
+ghost use Rattle.reference.specs.Control.{◌and◌, when◌then◌else◌};
+ghost use Rattle.reference.specs.Text.{◌≟◌};
 ghost use Rattle.words.specs.Splitting.{split};
 ghost use Rattle.arguments.specs.Names.{base_name, same_later, clash_of};
 
@@ -14,7 +13,7 @@ use words::word_end;
 // Where the next part begins, if the byte at i is a slash; otherwise where the last one did.
 fn behind(b: u8, i: usize, last: usize) -> usize
     requires { i + 1 ≤ 18446744073709551615 }
-    ensures { result ≡ (if eqb b 47 then i + 1 else last) }
+    ensures { result ≡ (when eqb b 47 then i + 1 else last) }
 {
     if b == b'/' {
         return i + 1;
@@ -24,7 +23,7 @@ fn behind(b: u8, i: usize, last: usize) -> usize
 
 // Where the base name of a path begins: behind its last slash.
 fn base_at(path: &[u8]) -> usize
-    ensures { (result ≤ length (was path)) × (drop result (was path) ≡ base_name (was path)) }
+    ensures { (result ≤ length path.now) × (drop result path.now ≡ base_name path.now) }
 {
     let mut at = 0;
     let mut i = 0;
@@ -37,7 +36,7 @@ fn base_at(path: &[u8]) -> usize
 
 // Whether two paths have one base name.
 fn same_base(a: &[u8], b: &[u8]) -> bool
-    ensures { result ≡ (base_name (was a) == base_name (was b)) }
+    ensures { result ≡ (base_name a.now ≟ base_name b.now) }
 {
     let i = base_at(a);
     let j = base_at(b);
@@ -46,7 +45,7 @@ fn same_base(a: &[u8], b: &[u8]) -> bool
 
 // Whether a word that was taken as an operand has the base name of a path.
 fn is_same(taken: bool, a: &[u8], b: &[u8]) -> bool
-    ensures { result ≡ (taken && base_name (was a) == base_name (was b)) }
+    ensures { result ≡ (taken and base_name a.now ≟ base_name b.now) }
 {
     if taken {
         return same_base(a, b);
@@ -58,7 +57,7 @@ fn is_same(taken: bool, a: &[u8], b: &[u8]) -> bool
 // none. s is what is known before it.
 fn same_later(path: &[u8], s: Request, k: u64, words: &[u8], from: usize) -> u64
     requires { (k ≤ from + 1) × (from ≤ length words.now + 1) }
-    ensures { result ≡ same_later (was path) s k (split (drop from (was words))) }
+    ensures { result ≡ same_later path.now s k (split (drop from words.now)) }
 {
     let mut t = s;
     let mut n = k;
@@ -78,7 +77,7 @@ fn same_later(path: &[u8], s: Request, k: u64, words: &[u8], from: usize) -> u64
 // The first later operand with the base name of a path, if that path was taken as an operand; otherwise 0.
 fn taken_later(taken: bool, path: &[u8], s: Request, k: u64, words: &[u8], from: usize) -> u64
     requires { (k ≤ from + 1) × (from ≤ length words.now + 1) }
-    ensures { result ≡ (if taken then same_later (was path) s k (split (drop from (was words))) else 0) }
+    ensures { result ≡ (when taken then same_later path.now s k (split (drop from words.now)) else 0) }
 {
     if taken {
         return same_later(path, s, k, words, from);
@@ -88,7 +87,7 @@ fn taken_later(taken: bool, path: &[u8], s: Request, k: u64, words: &[u8], from:
 
 // The number of an operand that has the base name of one before it; 0 if there is none.
 pub fn clash(words: &[u8]) -> u64
-    ensures { result ≡ clash_of (split (was words)) }
+    ensures { result ≡ clash_of (split words.now) }
 {
     let mut s = begin();
     let mut k: u64 = 1;

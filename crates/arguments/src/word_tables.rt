@@ -1,6 +1,5 @@
 // Which words, options and operands there are. A further verb is a word at the end of its row, and a row of each table.
 ghost use Rattle.std.specs.Prelude.{◌≡◌, length, get_or, ◌+◌, ◌*◌, ◌≤◌, min};
-ghost use Rattle.reference.specs.Contract.{was};
 ghost use Rattle.words.specs.Splitting.{number_of};
 ghost use Rattle.arguments.specs.Tables.{verbs, options, helps, conventions, editions, actions};
 ghost use Rattle.arguments.specs.Tables.{kind_of, taking, row_of, fewest, most};
@@ -9,7 +8,7 @@ use tape::little_endian::wide;
 use words::number_of;
 
 pub fn verb_number(word: &[u8]) -> u64
-    ensures { result ≡ number_of verbs (was word) }
+    ensures { result ≡ number_of verbs word.now }
 {
     number_of(
         b"clean\0counts\0check\0show\0tape\0addresses\0edition\0offsets\0laborious\0state\0help\0version\0--version\0page\0start\0",
@@ -18,7 +17,7 @@ pub fn verb_number(word: &[u8]) -> u64
 }
 
 pub fn option_number(word: &[u8]) -> u64
-    ensures { result ≡ number_of options (was word) }
+    ensures { result ≡ number_of options word.now }
 {
     number_of(
         b"-c\0-e\0--parts\0--profile\0--settle\0-o\0-d\0--exact\0--return\0--choose\0",
@@ -27,32 +26,32 @@ pub fn option_number(word: &[u8]) -> u64
 }
 
 pub fn help_number(word: &[u8]) -> u64
-    ensures { result ≡ number_of helps (was word) }
+    ensures { result ≡ number_of helps word.now }
 {
     number_of(b"-h\0--help\0", word)
 }
 
 pub fn convention_number(word: &[u8]) -> u64
-    ensures { result ≡ number_of conventions (was word) }
+    ensures { result ≡ number_of conventions word.now }
 {
     number_of(b"32\0sysv\0windows\0", word)
 }
 
 pub fn edition_number(word: &[u8]) -> u64
-    ensures { result ≡ number_of editions (was word) }
+    ensures { result ≡ number_of editions word.now }
 {
     number_of(b"2018\02024\0", word)
 }
 
 pub fn action_number(word: &[u8]) -> u64
-    ensures { result ≡ number_of actions (was word) }
+    ensures { result ≡ number_of actions word.now }
 {
     number_of(b"list\0save\0get\0delete\0", word)
 }
 
 // The byte of a table at a place; 0 past its end.
 fn entry(table: &[u8], i: u64) -> u8
-    ensures { result ≡ get_or (was table) i 0 }
+    ensures { result ≡ get_or table.now i 0 }
 {
     let at = i as usize;
     if at < table.len() {
