@@ -6,7 +6,7 @@
  * allocate nothing and call nothing of C but memset and memcpy. Not proved, but measured: the cleaning takes about 117,000 bytes of stack, without the profile. Calls in several
  * threads are safe where they share no memory that one of them writes.
  *
- * Link with target/staticlib/libpuchkewa.a, which `rt staticlib puchkewa` writes (x86-64 Linux). */
+ * Link with target/staticlib/libpuchkewa.a, which `bin/archive` makes (x86-64 Linux). */
 #ifndef PUCHKEWA_H
 #define PUCHKEWA_H
 

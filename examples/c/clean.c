@@ -1,5 +1,5 @@
 /* Cleans the tape of the scope paper's filter example, `rax = f();` `return;`, and prints the report and the new tape. From the repository's
- * root, after `rt staticlib puchkewa`:
+ * root, after `bin/archive`:
  *
  *     cc -Iinclude examples/c/clean.c target/staticlib/libpuchkewa.a -o target/clean-c && target/clean-c
  */

@@ -1,5 +1,5 @@
 //! Cleans the tape of the scope paper's filter example, `rax = f();` `return;`, and prints the report and the new tape. From the repository's
-//! root, after `rt staticlib puchkewa`:
+//! root, after `bin/archive`:
 //!
 //!     rustc -O -L target/staticlib -l static=puchkewa examples/rust/clean.rs -o target/clean-rust && target/clean-rust
 

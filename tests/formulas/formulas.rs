@@ -6,7 +6,7 @@
 //!     rustc --edition 2021 -O --extern oracle=ORACLE_BUILD/liboracle.rlib -L native=target/staticlib -l static=puchkewa -o OUT/formulas \
 //!         tests/formulas/formulas.rs
 //!
-//! where ORACLE_BUILD is the folder that the oracle was built in, and `rt staticlib puchkewa` made the library.
+//! where ORACLE_BUILD is the folder that the oracle was built in, and `bin/archive` made the library.
 
 use oracle::calls::{clean, Clean, Report};
 use oracle::gen::Rng;

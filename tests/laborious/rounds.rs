@@ -1,7 +1,7 @@
 //! The library's tape for every n from 0 to 256 on the real Rust: rounds
 //!
 //! Each must be accepted, have n lines, and make 0, 1 or 2n - 2 attempts in the Rust's first round under conventions 0, 1, 2. Prints the sums; the exit
-//! status is 1 if anything differs. Build it with the oracle at hand, after `rt staticlib puchkewa`:
+//! status is 1 if anything differs. Build it with the oracle at hand, after `bin/archive`:
 //!
 //!     rustc --edition 2021 -O --extern oracle=ORACLE_BUILD/liboracle.rlib -L native=target/staticlib -l static=puchkewa -o OUT/rounds
 //!         tests/laborious/rounds.rs

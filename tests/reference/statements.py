@@ -8,21 +8,21 @@ from listings import LETTERS
 
 HERE = Path(__file__).resolve().parent
 CRATE = HERE.parent.parent / "crates" / "reference"
-SPEC = "Rattle·reference·specs.specs."
+SPEC = "Rattle.reference.specs."
 
 # The modules that a statement speaks of, and the one that opens every definition: it is of the crate's proofs, and here stands behind the definitions.
 ROOTS = ["Run", "Rules", "Listing", "Text", "Opened"]
 
 HEAD = """use Prim.Native.Nat.{ℕ}
 use Prim.Native.String.{String}
-use mathlib.Core.Path.{_≡_, refl}
+use mathlib.Core.Path.{◌≡◌, refl}
 use mathlib.Core.Bool.{false}
-use mathlib.Core.List.{List, [], _∷_}
+use mathlib.Core.List.{List, [], ◌∷◌}
 use mathlib.Core.Option.{Option, none, some}
-use Rattle·reference.specs.Text.{bytes}
-use Rattle·reference.specs.Listing.{Token, token, Line, Listing}
-use Rattle·reference.specs.Rules.{Rules}
-use Rattle·reference.specs.Run.{run, listings, finished, three, Counts, counts}
+use Rattle.reference.specs.Text.{bytes}
+use Rattle.reference.specs.Listing.{Token, token, Line, Listing}
+use Rattle.reference.specs.Rules.{Rules}
+use Rattle.reference.specs.Run.{run, listings, finished, three, Counts, counts}
 """
 
 NOTATION = HEAD + "\n" + "\n".join(f"abbrev pub {c} : String → Token\n{c} s = token {k} (bytes s)\n" for k, c in enumerate(LETTERS)) + """
@@ -30,7 +30,7 @@ abbrev pub line : Option ℕ → ℕ → List Token → Line
 line a i ts = record { address = a; indent = i; tokens = ts }
 
 abbrev pub made : ℕ → ℕ → ℕ → ℕ → ℕ → Counts
-made a b c r x = record { tally = three a b c; lines-removed = r; results-cut = x }
+made a b c r x = record { tally = three a b c; lines_removed = r; results_cut = x }
 
 abbrev pub under : ℕ → Rules
 under c = record { convention = c; settle = false; edition = 0; parts = false; profile = false }
@@ -40,15 +40,16 @@ abbrev pub Runs : ℕ → Listing → List Listing → Listing → Counts → Ty
 Runs c input all last made = (listings (under c) input ≡ all) × (finished (under c) input ≡ last) × (counts (under c) (run (under c) input) ≡ made)
 """
 
-CASES = HEAD + f"""use Rattle·reference.specs.Opened.{{opened}}
-use Rattle·notation.specs.Notation.{{{', '.join(LETTERS)}, line, made, Runs}}
+CASES = HEAD + f"""use Rattle.reference.specs.Opened.{{opened}}
+use Rattle.notation.specs.Notation.{{{', '.join(LETTERS)}, line, made, Runs}}
 """
 
 
 # statements to a crate
 BLOCK = 100
 
-FAULT = re.compile(r": error: `case-(\d+)`")
+FAULT = re.compile(r": error: `case_(\d+)`")
+SECTION = re.compile(r"^== (\w+)\n(.*?)(?=^== )", re.M | re.S)
 
 
 def quoted(text):
@@ -65,19 +66,19 @@ def line_term(line):
 
 
 def statement(index, convention, listing, answer):
-    """What the Rust did with the listing, as the declaration `case-INDEX`; each different listing of the run is written once."""
+    """What the Rust did with the listing, as the declaration `case_INDEX`; each different listing of the run is written once."""
     out, names = [], {}
 
     def name(some):
         if some not in names:
-            names[some] = f"listing-{index}-{len(names)}"
+            names[some] = f"listing_{index}_{len(names)}"
             out.append(f"abbrev {names[some]} : Listing\n{names[some]} = {listed(map(line_term, some))}\n")
         return names[some]
 
     every = [name(l) for l in (listing, *answer.steps)]
     made = " ".join(map(str, answer.counts))
-    out.append(f"pub case-{index} : Runs {convention} {every[0]} {listed(every)} {every[-1]} (made {made})\n"
-               f"unfolding opened\ncase-{index} = (refl, refl, refl)\n")
+    out.append(f"pub case_{index} : Runs {convention} {every[0]} {listed(every)} {every[-1]} (made {made})\n"
+               f"unfolding opened\ncase_{index} = (refl, refl, refl)\n")
     return "\n".join(out)
 
 
@@ -85,7 +86,7 @@ def write_crate(root, name, modules):
     folder = root / "crates" / name
     (folder / "src").mkdir(parents=True)
     (folder / "specs").mkdir()
-    (folder / "src" / "lib.rt").write_text("// Statements only.\n")
+    (folder / "src" / "lib.rt").write_text("// Statements only.\n#![tactic(auto)]\n")
     for module, text in modules.items():
         (folder / "specs" / f"{module}.antt").write_text(text, encoding="utf-8")
     (folder / "specs" / "Lib.antt").write_text("".join(f"pub mod {m}\n" for m in modules))
@@ -125,14 +126,18 @@ def write_repository(root, cases, edit=None):
 
 def check(root, names):
     """Checks the crates with `rt`; answers the numbers of the statements that do not hold."""
-    ran = subprocess.run(["rt", "check", *names], cwd=root, stdout=subprocess.PIPE, stderr=subprocess.STDOUT, text=True)
+    words, folder = (["check"], root / "crates" / names[0]) if len(names) == 1 else (["all", "check"], root)
+    ran = subprocess.run(["rt", *words], cwd=folder, stdout=subprocess.PIPE, stderr=subprocess.STDOUT, text=True)
+    # `rt all check` puts `== NAME` before what it says of a crate
+    said = {names[0]: ran.stdout} if len(names) == 1 else dict(SECTION.findall(ran.stdout))
     wrong = set()
-    for name in ["reference", "notation", *names]:
-        text = (root / "target" / "log" / f"{name}.out").read_text(encoding="utf-8")
+    for name in names:
+        text = said.get(name, "")
         faults = FAULT.findall(text)
         wrong.update(map(int, faults))
-        if f"rt: {name} proved" not in text and (not faults or text.count(": error: ") != len(faults) or "step limit" in text):
-            raise RuntimeError(f"{name} could not be checked:\n{text[:4000]}")
+        last = text.rstrip("\n").rpartition("\n")[2]
+        if not last.startswith("logic=proved") and (not last.startswith("logic=not-proved") or text.count(": error: ") != len(faults)):
+            raise RuntimeError(f"{name} could not be checked:\n{(text or ran.stdout)[:4000]}")
     if (ran.returncode == 0) != (not wrong):
         raise RuntimeError(f"rt ended with status {ran.returncode}:\n{ran.stdout[-4000:]}")
     return wrong

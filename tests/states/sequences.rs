@@ -2,7 +2,7 @@
 //!
 //! A sequence has 1 to 40 calls, and now and then the store is damaged between two of them. After each call the answer is compared, every byte of the
 //! store and of the output, and 64 guard bytes on either side of each. Prints how often each number was answered, and the sums; the exit status is 1
-//! if anything differs. Build it with the oracle at hand, after `rt staticlib puchkewa`:
+//! if anything differs. Build it with the oracle at hand, after `bin/archive`:
 //!
 //!     rustc --edition 2021 -O --extern oracle=ORACLE_BUILD/liboracle.rlib -L native=target/staticlib -l static=puchkewa -o OUT/sequences
 //!         tests/states/sequences.rs

@@ -1,9 +1,11 @@
 // The answer of every call beside the cleaning, for Rattle and in numbers for C and Rust.
+#![tactic(auto)]
+
 ghost use Rattle.std.specs.Prelude.{◌≡◌};
 ghost use Rattle.answers.specs.Answers.{answer_of, in_numbers, numbers_of};
 
 // A question's number and place; or what the call answers: the length of the output, a start value, or 0.
-#[derive(Drop)]
+#[derive(Clone, Copy)]
 pub enum Answer {
     Refused { number: u64, place: usize },
     Passed(u64),
@@ -11,7 +13,7 @@ pub enum Answer {
 
 // `refusal` is 0 where the call was not refused, else the number of the question that refused, at `place`; then `value` is 0.
 #[repr(C)]
-#[derive(Drop)]
+#[derive(Clone, Copy)]
 pub struct Told {
     pub refusal: u64,
     pub place: u64,

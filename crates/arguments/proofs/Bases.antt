@@ -2,15 +2,15 @@
 use Prim.Native.Nat.{ℕ, suc, ◌+◌, ◌-◌, ◌≤◌, ◌<◌}
 use native.Mathlib.Omega.{arith}
 use native.Mathlib.Numerals.{add-one}
-use mathlib.Core.Path.{◌≡◌, refl, sym, ap, ◌∙◌}
+use mathlib.Core.Path.{◌≡◌, refl, ap, ◌∙◌}
 use mathlib.Core.Bool.{Bool, true, false}
-use mathlib.Core.List.{List, [], ◌∷◌}
+use mathlib.Core.List.{List}
 use lib.Dec.{eqb}
 use lib.ListN.{length, take, drop, get_or, drop_of_length-le}
 use lib.Seq.{drop-cons}
 use borrow.Author.Tests.{eq-eqb, ne_eqb}
-use Rattle.reference.specs.Control.{◌&&◌, if◌then◌else◌}
-use Rattle.reference.specs.Text.{Text, ◌==◌}
+use Rattle.reference.specs.Control.{◌and◌, when◌then◌else◌}
+use Rattle.reference.specs.Text.{Text, ◌≟◌}
 use Rattle.reference.proofs.Cases.{by-if}
 use Rattle.laws.proofs.Scans.{if-true, if-false}
 use Rattle.words.specs.Splitting.{split, EndsAt}
@@ -22,12 +22,12 @@ use Rattle.words.proofs.FirstWord.{first_word, no_word}
 -- ---- a base name
 
 choose : (t : Bool) (n m : ℕ) (path rest : Text)
-    → (if t then base_from (drop n path) rest else base_from (drop m path) rest) ≡ base_from (drop (if t then n else m) path) rest
-unfolding if◌then◌else◌
+    → (when t then base_from (drop n path) rest else base_from (drop m path) rest) ≡ base_from (drop (when t then n else m) path) rest
+unfolding when◌then◌else◌
 choose true n m path rest = refl
 choose false n m path rest = refl
 
-module _ (path : Text) (at i : ℕ) (h : i < length path) {r : ℕ} (e : r ≡ (if eqb (get_or path i 0) 47 then i + 1 else at)) where
+module _ (path : Text) (at i : ℕ) (h : i < length path) {r : ℕ} (e : r ≡ (when eqb (get_or path i 0) 47 then i + 1 else at)) where
   pub base_more : base_from (drop at path) (drop i path) ≡ base_from (drop r path) (drop (i + 1) path)
   unfolding base_from
   base_more =
@@ -51,28 +51,28 @@ base_begin path = refl
 module _ (words : List ℕ) {at e : ℕ} (h : at < length words) (ends : EndsAt words at e) (s : Request) (k : ℕ) {s' : Request}
     (steps : s' ≡ step_of s k (take (e - at) (drop at words))) where
   later_turn : (path : Text) → same_later path s k (split (drop at words))
-      ≡ (if eqb s'.last k && base_name path == base_name (take (e - at) (drop at words)) then k else same_later path s' (k + 1) (split (drop (e + 1) words)))
+      ≡ (when eqb s'.last k and base_name path ≟ base_name (take (e - at) (drop at words)) then k else same_later path s' (k + 1) (split (drop (e + 1) words)))
   unfolding same_later
   later_turn path = ap (λ (ws : List Text). same_later path s k ws) (first_word words h ends) ∙ rw steps refl
 
-  pub later_here : (path : Text) → (eqb s'.last k && base_name path == base_name (take (e - at) (drop at words))) ≡ true
+  pub later_here : (path : Text) → (eqb s'.last k and base_name path ≟ base_name (take (e - at) (drop at words))) ≡ true
       → same_later path s k (split (drop at words)) ≡ k
   later_here path t = later_turn path ∙ if-true _ _ t
 
-  pub later-on : (path : Text) → (eqb s'.last k && base_name path == base_name (take (e - at) (drop at words))) ≡ false
+  pub later-on : (path : Text) → (eqb s'.last k and base_name path ≟ base_name (take (e - at) (drop at words))) ≡ false
       → same_later path s k (split (drop at words)) ≡ same_later path s' (k + 1) (split (drop (e + 1) words))
   later-on path t = later_turn path ∙ if-false _ _ t
 
-  clash_turn : {n : ℕ} → n ≡ (if eqb s'.last k then same_later (take (e - at) (drop at words)) s' (k + 1) (split (drop (e + 1) words)) else 0)
-      → clash_from s k (split (drop at words)) ≡ (if eqb n 0 then clash_from s' (k + 1) (split (drop (e + 1) words)) else n)
+  clash_turn : {n : ℕ} → n ≡ (when eqb s'.last k then same_later (take (e - at) (drop at words)) s' (k + 1) (split (drop (e + 1) words)) else 0)
+      → clash_from s k (split (drop at words)) ≡ (when eqb n 0 then clash_from s' (k + 1) (split (drop (e + 1) words)) else n)
   unfolding clash_from
   clash_turn f = ap (λ (ws : List Text). clash_from s k ws) (first_word words h ends) ∙ rw (f, steps) refl
 
-  pub clash_here : {n : ℕ} → n ≡ (if eqb s'.last k then same_later (take (e - at) (drop at words)) s' (k + 1) (split (drop (e + 1) words)) else 0)
+  pub clash_here : {n : ℕ} → n ≡ (when eqb s'.last k then same_later (take (e - at) (drop at words)) s' (k + 1) (split (drop (e + 1) words)) else 0)
       → (n ≡ 0 → ⊥) → clash_from s k (split (drop at words)) ≡ n
   clash_here {n} f z = clash_turn f ∙ if-false _ _ (ne_eqb n 0 z)
 
-  pub clash_on : {n : ℕ} → n ≡ (if eqb s'.last k then same_later (take (e - at) (drop at words)) s' (k + 1) (split (drop (e + 1) words)) else 0)
+  pub clash_on : {n : ℕ} → n ≡ (when eqb s'.last k then same_later (take (e - at) (drop at words)) s' (k + 1) (split (drop (e + 1) words)) else 0)
       → n ≡ 0 → clash_from s k (split (drop at words)) ≡ clash_from s' (k + 1) (split (drop (e + 1) words))
   clash_on {n} f z = clash_turn f ∙ if-true _ _ (eq-eqb n 0 z)
 

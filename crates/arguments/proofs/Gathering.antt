@@ -2,11 +2,10 @@
 use Prim.Native.Nat.{ℕ, ◌+◌, ◌-◌, ◌≤◌, ◌<◌}
 use native.Mathlib.Omega.{arith}
 use mathlib.Core.Path.{◌≡◌, refl, sym, ap, ◌∙◌}
-use mathlib.Core.Bool.{Bool}
-use mathlib.Core.List.{List, [], ◌∷◌, ◌++◌, append_assoc, append-nil}
+use mathlib.Core.List.{List, [], ◌++◌, append_assoc, append-nil}
 use lib.Dec.{eqb}
 use lib.ListN.{length, take, drop}
-use Rattle.reference.specs.Control.{if◌then◌else◌}
+use Rattle.reference.specs.Control.{when◌then◌else◌}
 use Rattle.reference.specs.Text.{Text}
 use Rattle.numbers.specs.Writing.{Written}
 use Rattle.numbers.proofs.Writing.{written_then}
@@ -30,15 +29,15 @@ begun_first words out e = rw e (record { done = []; written = nothing_put out 0;
 module _ (words out₀ : Text) {at e : ℕ} (h : at < length words) (ends : EndsAt words at e) (s : Request) (k : ℕ) {s' : Request}
     (steps : s' ≡ step_of s k (take (e - at) (drop at words))) where
   next-entries : entries_from s k (split (drop at words))
-      ≡ (if eqb s'.entry_at k then entry_bytes (take (e - at) (drop at words)) else []) ++ entries_from s' (k + 1) (split (drop (e + 1) words))
+      ≡ (when eqb s'.entry_at k then entry_bytes (take (e - at) (drop at words)) else []) ++ entries_from s' (k + 1) (split (drop (e + 1) words))
   unfolding entries_from
   next-entries = ap (λ (ws : List Text). entries_from s k ws) (first_word words h ends) ∙ rw steps refl
 
   pub begun-next : {out out' : Text} {end end' : ℕ} → Begun words out₀ s k at out end
-      → Written out end (if eqb s'.entry_at k then entry_bytes (take (e - at) (drop at words)) else []) out' end' → end' ≤ length out₀
+      → Written out end (when eqb s'.entry_at k then entry_bytes (take (e - at) (drop at words)) else []) out' end' → end' ≤ length out₀
       → Begun words out₀ s' (k + 1) (e + 1) out' end'
   begun-next b w room =
-      let piece : Text = if eqb s'.entry_at k then entry_bytes (take (e - at) (drop at words)) else [] in
+      let piece : Text = when eqb s'.entry_at k then entry_bytes (take (e - at) (drop at words)) else [] in
       let d : Text = b.done in
       record {
         done = d ++ piece;

@@ -4,15 +4,14 @@ use native.Mathlib.Omega.{arith}
 use native.Mathlib.Decide.{dec_lt}
 use mathlib.Core.Logic.{by_cases}
 use mathlib.Core.Bool.{Bool, true, false}
-use mathlib.Core.Option.{Option, none, some}
+use mathlib.Core.Option.{none, some}
 use native.Mathlib.Numerals.{add-one}
-use mathlib.Core.Path.{◌≡◌, refl, sym, ap, ◌∙◌}
+use mathlib.Core.Path.{◌≡◌, sym, ap, ◌∙◌}
 use mathlib.Core.List.{List, [], ◌∷◌, ◌++◌}
-use lib.Dec.{eqb}
 use lib.ListN.{length, take, drop, get_or, drop_of_length-le, length-append, length-take}
 use lib.Seq.{drop-cons, paste-zero}
 use borrow.Author.Tests.{eq-eqb, ne_eqb, lt-ltb}
-use Rattle.reference.specs.Control.{if◌then◌else◌, let_some◌else◌then◌}
+use Rattle.reference.specs.Control.{when◌then◌else◌, let_some◌else◌then◌}
 use Rattle.reference.specs.Text.{Text}
 use Rattle.reference.specs.Tape.{to_le_bytes}
 use Rattle.reference.proofs.Cases.{by-if, by-some}
@@ -61,7 +60,7 @@ entry_length w =
     by-some (λ (t : Text). length t ≤ length w + 9) (λ e. omega arith)
     (λ v e. simp length-append (omega (arith, length-take (equals_at w) w, to_length 8 v)))
 
-pub taken-length : (t : Bool) (w : Text) → length (if t then entry_bytes w else []) ≤ length w + 9
+pub taken-length : (t : Bool) (w : Text) → length (when t then entry_bytes w else []) ≤ length w + 9
 taken-length t w = by-if (λ (s : Text). length s ≤ length w + 9) (λ e. entry_length w) (λ e. omega arith)
 
 -- ---- putting
@@ -74,8 +73,8 @@ module _ (w : Text) {out out' : Text} {at r : ℕ} where
   unfolding entry_bytes let_some◌else◌then◌
   entry_put e x = rw e x
 
-  pub taken-put : {t : Bool} → t ≡ true → Written out at (entry_bytes w) out' r → Written out at (if t then entry_bytes w else []) out' r
-  unfolding if◌then◌else◌
+  pub taken-put : {t : Bool} → t ≡ true → Written out at (entry_bytes w) out' r → Written out at (when t then entry_bytes w else []) out' r
+  unfolding when◌then◌else◌
   taken-put e x = rw e x
 
 module _ (w : Text) (out : Text) (at : ℕ) where
@@ -83,8 +82,8 @@ module _ (w : Text) (out : Text) (at : ℕ) where
   unfolding entry_bytes let_some◌else◌then◌
   entry_none e = rw e (nothing_put out at)
 
-  pub left_put : {t : Bool} → t ≡ false → Written out at (if t then entry_bytes w else []) out at
-  unfolding if◌then◌else◌
+  pub left_put : {t : Bool} → t ≡ false → Written out at (when t then entry_bytes w else []) out at
+  unfolding when◌then◌else◌
   left_put e = rw e (nothing_put out at)
 
 pub value_put : (out : Text) (at v : ℕ) {out' : Text} → out' ≡ put out at (to_le_bytes 8 v) → Written out at (to_le_bytes 8 v) out' (at + 8)

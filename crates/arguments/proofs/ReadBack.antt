@@ -1,15 +1,15 @@
 -- The library reads the list of the words' entries as what the words say. Assumes nothing.
 use Prim.Native.Nat.{ℕ, zero, suc, ◌+◌, ◌-◌, ◌^◌, ◌≤◌, ◌<◌}
 use native.Mathlib.Omega.{arith}
-use mathlib.Core.Path.{◌≡◌, refl, sym, ap, ◌∙◌}
+use mathlib.Core.Path.{◌≡◌, refl, ap, ◌∙◌}
 use mathlib.Core.Bool.{Bool, true, false}
 use mathlib.Core.List.{List, [], ◌∷◌, ◌++◌, append_assoc}
 use mathlib.Core.Option.{Option, none, some}
-use lib.Dec.{eqb, ltb, leb}
+use lib.Dec.{eqb, leb}
 use lib.ListN.{length, take, drop, length-append}
 use lib.Seq.{take_at, drop_at}
 use borrow.Author.Tests.{ltb-true, eqb-false, le-leb}
-use Rattle.reference.specs.Control.{if◌then◌else◌, let_some◌else◌then◌}
+use Rattle.reference.specs.Control.{when◌then◌else◌, let_some◌else◌then◌}
 use Rattle.reference.specs.Text.{Text}
 use Rattle.reference.specs.Tape.{to_le_bytes, from_le_bytes}
 use Rattle.reference.proofs.Cases.{by-if, by-some}
@@ -91,8 +91,8 @@ some_read (some v) name rest es b r zero h = absurd (omega arith)
 some_read (some v) name rest es b r (suc f) h =
     named-read name v rest f (b v refl) (r f (omega (arith, length-append (name ++ to_le_bytes 8 v) rest)))
 
-turn : (t : Bool) (w rest : Text) (es : List Entry) → Reads rest es → Reads ((if t then entry_bytes w else []) ++ rest) (if t then said w es else es)
-unfolding if◌then◌else◌ entry_bytes said
+turn : (t : Bool) (w rest : Text) (es : List Entry) → Reads rest es → Reads ((when t then entry_bytes w else []) ++ rest) (when t then said w es else es)
+unfolding when◌then◌else◌ entry_bytes said
 turn true w rest es r = some_read (entry_value w) (take (equals_at w) w) rest es (entry_below w) r
 turn false w rest es r = r
 

@@ -1,15 +1,15 @@
 -- A request with one thing changed: what each word does to what is known so far. Assumes nothing.
 use Rattle.std.specs.Prelude.{ℕ, ◌+◌, true, eqb, ltb}
-use Rattle.reference.specs.Control.{if◌then◌else◌}
+use Rattle.reference.specs.Control.{when◌then◌else◌}
 use Rattle.arguments.specs.declared.request.Request.{Request}
 
 -- how many operands, counted to 9
 abbrev pub one_more : ℕ → ℕ
-one_more n = if ltb n 9 then n + 1 else 9
+one_more n = when ltb n 9 then n + 1 else 9
 
 -- a word that so many operands stand before
 abbrev pub at_first : ℕ → ℕ → ℕ → ℕ → ℕ
-at_first n m was k = if eqb n m then k else was
+at_first n m was k = when eqb n m then k else was
 
 abbrev pub with_help : Request → Request
 with_help s =

@@ -1,6 +1,6 @@
 -- Which words, options and operands there are, from the help's grammar. Assumes nothing.
 use Rattle.std.specs.Prelude.{ℕ, ◌+◌, ◌*◌, min, List, [], ◌∷◌, ◌++◌, eqb, get_or}
-use Rattle.reference.specs.Control.{if◌then◌else◌}
+use Rattle.reference.specs.Control.{when◌then◌else◌}
 use Rattle.reference.specs.Text.{Text, bytes}
 
 -- ---- rows of words; a word is told by its place
@@ -79,7 +79,7 @@ taking verb option = get_or takings (verb * 11 + min option 10) 0
 
 -- how many operands it needs and takes; 9 as many as `kinds` has. The last four rows are those of `state`, by its action
 abbrev pub row_of : ℕ → ℕ → ℕ
-row_of verb value = if eqb verb 10 then 16 + min value 3 else verb
+row_of verb value = when eqb verb 10 then 16 + min value 3 else verb
 
 unfoldable pub fewest : ℕ → ℕ → ℕ
 fewest verb value = get_or (0 ∷ 0 ∷ 0 ∷ 0 ∷ 0 ∷ 0 ∷ 0 ∷ 1 ∷ 1 ∷ 1 ∷ 0 ∷ 0 ∷ 0 ∷ 0 ∷ 0 ∷ 0 ∷ 2 ∷ 3 ∷ 3 ∷ 3 ∷ []) (row_of verb value) 0

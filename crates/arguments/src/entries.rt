@@ -1,7 +1,6 @@
 // Operands REG=VALUE: the registers of `start` and what they start with. Their list is the one that crate start takes.
 ghost use Rattle.std.specs.Prelude.{◌≡◌, [], ◌∷◌, ◌+◌, ◌≤◌, ◌<◌, length, take};
-ghost use Rattle.reference.specs.Contract.{was};
-ghost use Rattle.reference.specs.Control.{if◌then◌else◌};
+ghost use Rattle.reference.specs.Control.{when◌then◌else◌};
 ghost use Rattle.reference.specs.Tape.{to_le_bytes};
 ghost use Rattle.numbers.specs.Writing.{Written};
 ghost use Rattle.words.specs.Numerals.{option_of};
@@ -13,7 +12,7 @@ use words::{Value, integer_in};
 
 // Where the first = stands; past the last byte, if there is none.
 fn equals_at(word: &[u8]) -> usize
-    ensures { result ≡ equals_at (was word) }
+    ensures { result ≡ equals_at word.now }
 {
     let mut i = 0;
     while i < word.len() {
@@ -27,7 +26,7 @@ fn equals_at(word: &[u8]) -> usize
 
 // Whether an operand has a =, and does not begin as the path of a file.
 pub fn is_entry(word: &[u8]) -> bool
-    ensures { result ≡ is_entry (was word) }
+    ensures { result ≡ is_entry word.now }
 {
     if starts(word, b".") {
         return false;
@@ -40,7 +39,7 @@ pub fn is_entry(word: &[u8]) -> bool
 
 // The value of an entry, if it has one and its name is not too long.
 pub fn entry_value(word: &[u8]) -> Value
-    ensures { option_of result ≡ entry_value (was word) }
+    ensures { option_of result ≡ entry_value word.now }
 {
     let n = equals_at(word);
     if 255 < n {
@@ -55,7 +54,7 @@ pub fn entry_value(word: &[u8]) -> Value
 // Puts a byte.
 fn put_byte(b: u8, out: &mut [u8], at: usize) -> usize
     requires { at < length out.old }
-    ensures { Written (was out) at (b ∷ []) out.new result }
+    ensures { Written out.old at (b ∷ []) out.new result }
 {
     out[at] = b;
     at + 1
@@ -64,7 +63,7 @@ fn put_byte(b: u8, out: &mut [u8], at: usize) -> usize
 // Puts a text.
 fn put_text(s: &[u8], out: &mut [u8], at: usize) -> usize
     requires { at + length s.now ≤ length out.old }
-    ensures { Written (was out) at (was s) out.new result }
+    ensures { Written out.old at s.now out.new result }
 {
     copy_bytes(s, out, at);
     at + s.len()
@@ -73,7 +72,7 @@ fn put_text(s: &[u8], out: &mut [u8], at: usize) -> usize
 // Puts a value in 8 bytes.
 fn put_value(v: u64, out: &mut [u8], at: usize) -> usize
     requires { at + 8 ≤ length out.old }
-    ensures { Written (was out) at (to_le_bytes 8 v) out.new result }
+    ensures { Written out.old at (to_le_bytes 8 v) out.new result }
 {
     put_number(v, 8, out, at);
     at + 8
@@ -82,7 +81,7 @@ fn put_value(v: u64, out: &mut [u8], at: usize) -> usize
 // Puts a name and its value.
 fn put_named(name: &[u8], v: u64, out: &mut [u8], at: usize) -> usize
     requires { (length name.now < 256) × (at + length name.now + 9 ≤ length out.old) }
-    ensures { Written (was out) at (named_value (was name) v) out.new result }
+    ensures { Written out.old at (named_value name.now v) out.new result }
 {
     let a = put_byte((name.len() % 256) as u8, out, at);
     let b = put_text(name, out, a);
@@ -92,7 +91,7 @@ fn put_named(name: &[u8], v: u64, out: &mut [u8], at: usize) -> usize
 // Puts the first n bytes of a word as a name, and its value.
 fn put_front(word: &[u8], n: usize, v: u64, out: &mut [u8], at: usize) -> usize
     requires { (n < 256) × (n ≤ length word.now) × (at + length word.now + 9 ≤ length out.old) }
-    ensures { Written (was out) at (named_value (take n (was word)) v) out.new result }
+    ensures { Written out.old at (named_value (take n word.now) v) out.new result }
 {
     put_named(&word[..n], v, out, at)
 }
@@ -100,7 +99,7 @@ fn put_front(word: &[u8], n: usize, v: u64, out: &mut [u8], at: usize) -> usize
 // Puts the entry of a word; nothing of a word that is none.
 fn put_entry(word: &[u8], out: &mut [u8], at: usize) -> usize
     requires { at + length word.now + 9 ≤ length out.old }
-    ensures { Written (was out) at (entry_bytes (was word)) out.new result }
+    ensures { Written out.old at (entry_bytes word.now) out.new result }
 {
     match entry_value(word) {
         Value::Is(v) => put_front(word, equals_at(word), v, out, at),
@@ -111,7 +110,7 @@ fn put_entry(word: &[u8], out: &mut [u8], at: usize) -> usize
 // Puts the entry of a word that was taken as one; nothing of any other word.
 pub fn put_taken(taken: bool, word: &[u8], out: &mut [u8], at: usize) -> usize
     requires { at + length word.now + 9 ≤ length out.old }
-    ensures { Written (was out) at (if taken then entry_bytes (was word) else []) out.new result }
+    ensures { Written out.old at (when taken then entry_bytes word.now else []) out.new result }
 {
     if taken {
         return put_entry(word, out, at);

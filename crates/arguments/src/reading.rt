@@ -1,6 +1,5 @@
 // The words of a request, one after the other.
 ghost use Rattle.std.specs.Prelude.{◌≡◌, ◌+◌, ◌*◌, ◌≤◌, length};
-ghost use Rattle.reference.specs.Contract.{was};
 ghost use Rattle.words.specs.Splitting.{split, number_of};
 ghost use Rattle.arguments.specs.Tables.{verbs, options, conventions, editions, kind_of};
 ghost use Rattle.arguments.specs.Requests.{none_yet, is_option, put_verb, take_goal, put_convention, put_edition};
@@ -12,11 +11,11 @@ ghost use Rattle.numbers.specs.Writing.{Written};
 
 use crate::entries::{entry_value, is_entry, put_taken};
 use crate::request::Request;
-use crate::tables::{
+use crate::values::{is_name, value_of};
+use crate::word_tables::{
     convention_number, edition_number, fewest, help_number, kind_of, most, option_number, taking,
     verb_number,
 };
-use crate::values::{is_name, value_of};
 use words::{Value, integer_in, word_end};
 
 // Before the first word: nothing is asked for; the settings are System V and the edition of 2018.
@@ -60,7 +59,7 @@ fn put_verb(s: Request, k: u64, n: u64) -> Request
 }
 
 fn take_verb(s: Request, k: u64, word: &[u8]) -> Request
-    ensures { result ≡ put_verb s k (number_of verbs (was word)) }
+    ensures { result ≡ put_verb s k (number_of verbs word.now) }
 {
     put_verb(s, k, verb_number(word))
 }
@@ -85,7 +84,7 @@ fn put_convention(s: Request, k: u64, n: u64) -> Request
 }
 
 fn take_convention(s: Request, k: u64, word: &[u8]) -> Request
-    ensures { result ≡ put_convention s k (number_of conventions (was word)) }
+    ensures { result ≡ put_convention s k (number_of conventions word.now) }
 {
     put_convention(s, k, convention_number(word))
 }
@@ -100,14 +99,14 @@ fn put_edition(s: Request, k: u64, n: u64) -> Request
 }
 
 fn take_edition(s: Request, k: u64, word: &[u8]) -> Request
-    ensures { result ≡ put_edition s k (number_of editions (was word)) }
+    ensures { result ≡ put_edition s k (number_of editions word.now) }
 {
     put_edition(s, k, edition_number(word))
 }
 
 // Word k is the value that is to be returned.
 fn put_wanted(s: Request, k: u64, word: &[u8]) -> Request
-    ensures { result ≡ put_wanted s k (was word) }
+    ensures { result ≡ put_wanted s k word.now }
 {
     match integer_in(word) {
         Value::Is(v) => s.with_wanted(v, k),
@@ -116,7 +115,7 @@ fn put_wanted(s: Request, k: u64, word: &[u8]) -> Request
 }
 
 fn take_wanted(s: Request, k: u64, word: &[u8]) -> Request
-    ensures { result ≡ take_wanted s k (was word) }
+    ensures { result ≡ take_wanted s k word.now }
 {
     if s.wanted_at == 0 {
         return put_wanted(s, k, word);
@@ -136,7 +135,7 @@ fn take_chosen(s: Request, k: u64) -> Request
 
 // Word k is the value of the option before it: -c, -e, -o, -d, --return or --choose.
 fn take_value(s: Request, k: u64, word: &[u8]) -> Request
-    ensures { result ≡ take_value s k (was word) }
+    ensures { result ≡ take_value s k word.now }
 {
     if s.pending == 1 {
         return take_convention(s, k, word);
@@ -189,14 +188,14 @@ fn put_option(s: Request, k: u64, n: u64) -> Request
 }
 
 fn take_option(s: Request, k: u64, word: &[u8]) -> Request
-    ensures { result ≡ put_option s k (number_of options (was word)) }
+    ensures { result ≡ put_option s k (number_of options word.now) }
 {
     put_option(s, k, option_number(word))
 }
 
 // Word k is an operand that stands for a number.
 fn take_number(s: Request, k: u64, kind: u8, word: &[u8]) -> Request
-    ensures { result ≡ take_number s k kind (was word) }
+    ensures { result ≡ take_number s k kind word.now }
 {
     match value_of(kind, word) {
         Value::Is(v) => s.with_operand(k).with_value(v),
@@ -206,7 +205,7 @@ fn take_number(s: Request, k: u64, kind: u8, word: &[u8]) -> Request
 
 // Word k is the name of a state.
 fn take_name(s: Request, k: u64, word: &[u8]) -> Request
-    ensures { result ≡ take_name s k (was word) }
+    ensures { result ≡ take_name s k word.now }
 {
     if is_name(word) {
         return s.with_operand(k);
@@ -216,7 +215,7 @@ fn take_name(s: Request, k: u64, word: &[u8]) -> Request
 
 // Word k is an operand of a kind.
 fn put_operand(s: Request, k: u64, kind: u8, word: &[u8]) -> Request
-    ensures { result ≡ put_operand s k kind (was word) }
+    ensures { result ≡ put_operand s k kind word.now }
 {
     if kind == b'f' {
         return s.with_operand(k);
@@ -231,14 +230,14 @@ fn put_operand(s: Request, k: u64, kind: u8, word: &[u8]) -> Request
 }
 
 fn next_operand(s: Request, k: u64, word: &[u8]) -> Request
-    ensures { result ≡ put_operand s k (kind_of s.verb s.operands) (was word) }
+    ensures { result ≡ put_operand s k (kind_of s.verb s.operands) word.now }
 {
     put_operand(s, k, kind_of(s.verb, s.operands), word)
 }
 
 // Word k is REG=VALUE.
 fn take_entry(s: Request, k: u64, word: &[u8]) -> Request
-    ensures { result ≡ take_entry s k (was word) }
+    ensures { result ≡ take_entry s k word.now }
 {
     match entry_value(word) {
         Value::Is(v) => s.with_entry(k),
@@ -248,7 +247,7 @@ fn take_entry(s: Request, k: u64, word: &[u8]) -> Request
 
 // Word k is an operand; of `start` it may be an entry.
 fn take_operand(s: Request, k: u64, word: &[u8]) -> Request
-    ensures { result ≡ take_operand s k (was word) }
+    ensures { result ≡ take_operand s k word.now }
 {
     if s.verb != 15 {
         return next_operand(s, k, word);
@@ -261,7 +260,7 @@ fn take_operand(s: Request, k: u64, word: &[u8]) -> Request
 
 // An option begins with a -; a - alone is standard input.
 fn is_option(word: &[u8]) -> bool
-    ensures { result ≡ is_option (was word) }
+    ensures { result ≡ is_option word.now }
 {
     if word.len() < 2 {
         return false;
@@ -271,7 +270,7 @@ fn is_option(word: &[u8]) -> bool
 
 // Takes word k. Help is asked for by -h or --help wherever it stands, and what comes behind a fault is not looked at.
 pub fn step(s: Request, k: u64, word: &[u8]) -> Request
-    ensures { result ≡ step_of s k (was word) }
+    ensures { result ≡ step_of s k word.now }
 {
     if help_number(word) < 2 {
         return s.with_help();
@@ -366,7 +365,7 @@ fn judge(s: Request) -> Request
 
 // What a slice of words asks for.
 pub fn parse(words: &[u8]) -> Request
-    ensures { result ≡ request_of (split (was words)) }
+    ensures { result ≡ request_of (split words.now) }
 {
     let mut s = begin();
     let mut k: u64 = 1;
@@ -383,7 +382,7 @@ pub fn parse(words: &[u8]) -> Request
 // Puts the entries of a slice of words at the front, as the list that crate start takes, and says how long it is.
 pub fn put_entries(words: &[u8], out: &mut [u8]) -> usize
     requires { 9 * length words.now + 9 ≤ length out.old }
-    ensures { Written (was out) 0 (entries_of (split (was words))) out.new result }
+    ensures { Written out.old 0 (entries_of (split words.now)) out.new result }
 {
     let mut s = begin();
     let mut k: u64 = 1;

@@ -4,7 +4,7 @@ ghost use Rattle.arguments.specs.Request.{with_help, with_fault, with_verb, with
 ghost use Rattle.arguments.specs.Request.{with_parts, with_profile, with_settle, with_exact, with_goal, with_operand, with_value};
 ghost use Rattle.arguments.specs.Request.{with_wanted, with_chosen, with_entry, one_more, at_first};
 
-#[derive(Drop)]
+#[derive(Clone, Copy)]
 pub struct Request {
     pub verb: u64, // what is to be done, by its place in the row of verbs, from 1
     pub help: bool, // -h or --help stands somewhere

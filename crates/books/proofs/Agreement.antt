@@ -7,7 +7,7 @@ use mathlib.Core.Option.{Option, none, some}
 use lib.Dec.{ltb}
 use lib.IntN.{pos}
 use borrow.Author.Tests.{lt-ltb}
-use Rattle.reference.specs.Control.{if◌then◌else◌}
+use Rattle.reference.specs.Control.{when◌then◌else◌}
 use Rattle.reference.specs.Text.{Text}
 use Rattle.reference.specs.Names.{Fam, family}
 use Rattle.reference.specs.Numbers.{parse_c_number}
@@ -31,8 +31,8 @@ unfolding opened
 every_name = refl
 
 -- a number below the bound is read
-kept {ℓ} : {A : Type ℓ} (n bound : ℕ) (a : A) → n < bound → (if ltb n bound then some a else none) ≡ some a
-unfolding if◌then◌else◌
+kept {ℓ} : {A : Type ℓ} (n bound : ℕ) (a : A) → n < bound → (when ltb n bound then some a else none) ≡ some a
+unfolding when◌then◌else◌
 kept n bound a h = rw (lt-ltb n bound h)
 
 octal-below : {s : Text} {n : ℕ} → Octal s n → n < 8 → parse_c_number s ≡ some (pos n)

@@ -7,7 +7,7 @@ use mathlib.Core.Option.{none, some}
 use lib.Dec.{ltb}
 use lib.IntN.{pos}
 use borrow.Author.Tests.{le-ltb}
-use Rattle.reference.specs.Control.{if◌then◌else◌}
+use Rattle.reference.specs.Control.{when◌then◌else◌}
 use Rattle.reference.specs.Text.{Text, bytes}
 use Rattle.reference.specs.Numbers.{parse_c_number}
 use Rattle.books.specs.Registers.{register, the}
@@ -17,12 +17,12 @@ use Rattle.books.specs.Differences.{Differences}
 use Rattle.books.proofs.Grammar.{decimal_is, hexadecimal_is, octal_is, signed_is_none, zero-eight_is_none, capital_x-unread, suffixed-unread}
 
 -- a number from the bound on is not read
-refused {ℓ} : {A : Type ℓ} (n bound : ℕ) (a : A) → bound ≤ n → (if ltb n bound then some a else none) ≡ none
-unfolding if◌then◌else◌
+refused {ℓ} : {A : Type ℓ} (n bound : ℕ) (a : A) → bound ≤ n → (when ltb n bound then some a else none) ≡ none
+unfolding when◌then◌else◌
 refused n bound a h = rw (le-ltb n bound h)
 
-other : (m n : ℕ) (b : Bool) → n < m → (if b then some (pos m) else none) ≡ some (pos n) → ⊥
-unfolding if◌then◌else◌
+other : (m n : ℕ) (b : Bool) → n < m → (when b then some (pos m) else none) ≡ some (pos n) → ⊥
+unfolding when◌then◌else◌
 other m n true h w = let e : m ≡ n = cc in omega arith
 other m n false h w = let z : ◌≡◌ {A = ℕ} 0 1 = cc in omega arith
 

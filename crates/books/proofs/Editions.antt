@@ -8,9 +8,9 @@ use mathlib.Core.Option.{none, some}
 use lib.Dec.{ltb}
 use lib.IntN.{pos}
 use borrow.Author.Tests.{eqb-true, le-ltb, lt-ltb, ltb-true}
-use Rattle.reference.specs.Control.{if◌then◌else◌}
+use Rattle.reference.specs.Control.{when◌then◌else◌}
 use Rattle.reference.specs.Lists.{any}
-use Rattle.reference.specs.Text.{Text, bytes, ◌==◌, starts_with}
+use Rattle.reference.specs.Text.{Text, bytes, ◌≟◌, starts_with}
 use Rattle.reference.specs.Numbers.{as_i64, parse_c_number, read_constant, read_number}
 use Rattle.reference.proofs.Opened.{opened}
 use Rattle.reference.proofs.Cases.{both, either, some_inj, if_some}
@@ -31,12 +31,12 @@ unquoted_as : (G : Text → Type 0) (s : Text) (c : ℕ) → G (s ++ [] ++ (c �
 unquoted_as G s c g = rw append-nil at g
 
 pub still_decimal : {s : Text} {n : ℕ} → edition-2018.Decimal s n → Decimal s n
-still_decimal (edition-2018.nonzero-digit h) = nonzero_digit h
-still_decimal (edition-2018.then-digit {s} {n} {c} {d} r h) = unquoted_as (λ t. Decimal t (n * 10 + d)) s c (then_digit (still_decimal r) (0, refl) h)
+still_decimal (edition-2018.nonzero_digit h) = nonzero_digit h
+still_decimal (edition-2018.then_digit {s} {n} {c} {d} r h) = unquoted_as (λ t. Decimal t (n * 10 + d)) s c (then_digit (still_decimal r) (0, refl) h)
 
 pub still_octal : {s : Text} {n : ℕ} → edition-2018.Octal s n → Octal s n
-still_octal edition-2018.zero-digit = zero_digit
-still_octal (edition-2018.then-octal {s} {n} {c} {d} r h) = unquoted_as (λ t. Octal t (n * 8 + d)) s c (then_octal (still_octal r) (0, refl) h)
+still_octal edition-2018.zero_digit = zero_digit
+still_octal (edition-2018.then_octal {s} {n} {c} {d} r h) = unquoted_as (λ t. Octal t (n * 8 + d)) s c (then_octal (still_octal r) (0, refl) h)
 
 -- the prefix, and the digits behind it
 record Split (prefix s : Text) (n : ℕ) : Type 0 where
@@ -46,7 +46,7 @@ record Split (prefix s : Text) (n : ℕ) : Type 0 where
 
 split : {prefix s : Text} {n : ℕ} → edition-2018.Hexadecimal prefix s n → Split prefix s n
 split (edition-2018.prefix_then {c} h) = record { rest = c ∷ []; whole = refl; digits = hexadecimal_digit h }
-split {prefix} (edition-2018.then-hexadecimal {s} {n} {c} {d} r h) = one_more (split r)
+split {prefix} (edition-2018.then_hexadecimal {s} {n} {c} {d} r h) = one_more (split r)
   where
     one_more : Split prefix s n → Split prefix (s ++ (c ∷ [])) (n * 16 + d)
     one_more q =
@@ -56,7 +56,7 @@ split {prefix} (edition-2018.then-hexadecimal {s} {n} {c} {d} r h) = one_more (s
           digits = unquoted_as (λ t. HexadecimalDigits t (n * 16 + d)) q.rest c (then_hexadecimal q.digits (0, refl) h);
         }
 
-pub still_hexadecimal : {p s : Text} {n : ℕ} → p ∈ edition-2018.hexadecimal-prefixes → edition-2018.Hexadecimal p s n → Hexadecimal s n
+pub still_hexadecimal : {p s : Text} {n : ℕ} → p ∈ edition-2018.hexadecimal_prefixes → edition-2018.Hexadecimal p s n → Hexadecimal s n
 still_hexadecimal {n = n} m r = let q = split r in subst⁻¹ (λ (t : Text). Hexadecimal t n) q.whole (prefix_digits m q.digits)
 
 still_unsuffixed : {s : Text} {n : ℕ} → edition-2018.Unsuffixed s n → Unsuffixed s n
@@ -66,13 +66,13 @@ still_unsuffixed (edition-2018.hexadecimal m r) = hexadecimal (still_hexadecimal
 
 -- the suffixes of 2018 are among those of 2024
 abbrev stands_in : List Text → Text → Bool
-stands_in xs t = any (◌== t) xs
+stands_in xs t = any (◌≟ t) xs
 
-still_suffixes : map (stands_in integer_suffix) edition-2018.integer-suffix ≡ map (λ t. true) edition-2018.integer-suffix
+still_suffixes : map (stands_in integer_suffix) edition-2018.integer_suffix ≡ map (λ t. true) edition-2018.integer_suffix
 unfolding opened
 still_suffixes = refl
 
-same_text : (s t : Text) → (s == t) ≡ true → s ≡ t
+same_text : (s t : Text) → (s ≟ t) ≡ true → s ≡ t
 same_text [] [] h = refl
 same_text [] (y ∷ t) h = absurd (false≢true h)
 same_text (x ∷ s) [] h = absurd (false≢true h)
@@ -86,48 +86,48 @@ stands (x ∷ xs) t h =
 still_constant : {s : Text} {n : ℕ} → edition-2018.Constant s n → Constant s n
 still_constant (edition-2018.unsuffixed u) = unsuffixed (still_unsuffixed u)
 still_constant (edition-2018.suffixed {t = t} u m) =
-    suffixed (still_unsuffixed u) (stands integer_suffix t (at_each (stands_in integer_suffix) (λ t. true) edition-2018.integer-suffix still_suffixes m))
+    suffixed (still_unsuffixed u) (stands integer_suffix t (at_each (stands_in integer_suffix) (λ t. true) edition-2018.integer_suffix still_suffixes m))
 
 -- ---- where they agree
 
 module _ (s : Text) (n : starts_with s (bytes "-") ≡ false) where
   edition_1 : read_number 1 s ≡ read_constant s
-  unfolding read_number if◌then◌else◌
+  unfolding read_number when◌then◌else◌
   edition_1 = plain_1 s n
 
   edition_0 : read_number 0 s ≡ parse_c_number s
-  unfolding read_number if◌then◌else◌
+  unfolding read_number when◌then◌else◌
   edition_0 = refl
 
   alike : parse_c_number s ≡ read_constant s → Alike s
-  unfolding read_number if◌then◌else◌
+  unfolding read_number when◌then◌else◌
   alike e = (e ∙ sym (plain_1 s n), minus_0 s n ∙ ap negated e ∙ sym (minus_1 s))
 
 -- one value below the bound, another from it on
-within {ℓ} : {A : Type ℓ} (n bound : ℕ) (a b : A) → (n < bound → a ≡ b) → (if ltb n bound then some a else none) ≡ (if ltb n bound then some b else none)
-unfolding if◌then◌else◌
+within {ℓ} : {A : Type ℓ} (n bound : ℕ) (a b : A) → (n < bound → a ≡ b) → (when ltb n bound then some a else none) ≡ (when ltb n bound then some b else none)
+unfolding when◌then◌else◌
 within n bound a b f = by (ltb n bound) refl
   where
-    by : (t : Bool) → ltb n bound ≡ t → (if t then some a else none) ≡ (if t then some b else none)
+    by : (t : Bool) → ltb n bound ≡ t → (when t then some a else none) ≡ (when t then some b else none)
     by true e = ap some (f (ltb-true n bound e))
     by false e = refl
 
 decimal_same : {s : Text} {n : ℕ} → edition-2018.Decimal s n → Alike s
 decimal_same {s} {n} r =
     alike s (unsuffixed-plain (decimal (still_decimal r)))
-    (old.decimal-is r ∙ within n (2 ^ 63) (pos n) (as_i64 n) (λ h. sym (pos_is n h)) ∙ sym (decimal_is (still_decimal r)))
+    (old.decimal_is r ∙ within n (2 ^ 63) (pos n) (as_i64 n) (λ h. sym (pos_is n h)) ∙ sym (decimal_is (still_decimal r)))
 
 hexadecimal_same : {s : Text} {n : ℕ} → edition-2018.Hexadecimal (bytes "0x") s n → Alike s
 hexadecimal_same {s} r =
     let q = still_hexadecimal (0, refl) r in
-    alike s (unsuffixed-plain (hexadecimal q)) (old.hexadecimal-is r ∙ sym (hexadecimal_is q))
+    alike s (unsuffixed-plain (hexadecimal q)) (old.hexadecimal_is r ∙ sym (hexadecimal_is q))
 
-below {ℓ} : {A : Type ℓ} (n bound : ℕ) (a : A) → n < bound → (if ltb n bound then some a else none) ≡ some a
-unfolding if◌then◌else◌
+below {ℓ} : {A : Type ℓ} (n bound : ℕ) (a : A) → n < bound → (when ltb n bound then some a else none) ≡ some a
+unfolding when◌then◌else◌
 below n bound a h = rw (lt-ltb n bound h)
 
-refused {ℓ} : {A : Type ℓ} (n bound : ℕ) (a : A) → bound ≤ n → (if ltb n bound then some a else none) ≡ none
-unfolding if◌then◌else◌
+refused {ℓ} : {A : Type ℓ} (n bound : ℕ) (a : A) → bound ≤ n → (when ltb n bound then some a else none) ≡ none
+unfolding when◌then◌else◌
 refused n bound a h = rw (le-ltb n bound h)
 
 module _ {s : Text} {n : ℕ} (r : edition-2018.Octal s n) where
@@ -136,7 +136,7 @@ module _ {s : Text} {n : ℕ} (r : edition-2018.Octal s n) where
 
   octal_same : n < 8 → Alike s
   octal_same h =
-      let q = old.octal-is r in
+      let q = old.octal_is r in
       let e : q.0 ≡ n = q.2 h in
       alike s octal-plain
       (q.1
@@ -146,9 +146,9 @@ module _ {s : Text} {n : ℕ} (r : edition-2018.Octal s n) where
 
   octal-other : 8 ≤ n → n < 2 ^ 64 → read_number 0 s ≡ read_number 1 s → ⊥
   octal-other l h e =
-      let q = old.octal-is r in
+      let q = old.octal_is r in
       let less : n < q.0 = q.3 l in
-      let same : (if ltb q.0 (2 ^ 63) then some (pos q.0) else none) ≡ some (as_i64 n) =
+      let same : (when ltb q.0 (2 ^ 63) then some (pos q.0) else none) ≡ some (as_i64 n) =
       sym q.1 ∙ sym (edition_0 s octal-plain) ∙ e ∙ edition_1 s octal-plain ∙ octal_is (still_octal r) ∙ below n (2 ^ 64) (as_i64 n) h in
       let k = if_some same in
       let small : q.0 < 2 ^ 63 = ltb-true q.0 (2 ^ 63) k.0 in
@@ -159,7 +159,7 @@ module _ {s : Text} {n : ℕ} (r : edition-2018.Octal s n) where
 -- ---- all together
 
 module _ {s : Text} {n : ℕ} where
-  large : Unsuffixed s n → (bound : ℕ) → read_constant s ≡ (if ltb n bound then some (as_i64 n) else none) → bound ≤ n → read_number 1 s ≡ none
+  large : Unsuffixed s n → (bound : ℕ) → read_constant s ≡ (when ltb n bound then some (as_i64 n) else none) → bound ≤ n → read_number 1 s ≡ none
   large u bound e h = edition_1 s (unsuffixed-plain u) ∙ e ∙ refused n bound (as_i64 n) h
 
 pub editions : Editions

@@ -9,7 +9,7 @@ use mathlib.Core.Option.{Option, none, some}
 use lib.Dec.{eqb, ltb}
 use lib.IntN.{pos}
 use borrow.Author.Tests.{ltb-true}
-use Rattle.reference.specs.Control.{◌&&◌, ◌||◌, if◌then◌else◌, let_some◌else◌then◌}
+use Rattle.reference.specs.Control.{◌and◌, ◌or◌, when◌then◌else◌, let_some◌else◌then◌}
 use Rattle.reference.specs.Lists.{any, is_empty}
 use Rattle.reference.specs.Text.{Text, bytes, starts_with, contains}
 use Rattle.reference.specs.Numbers.{to_digit, digits_value, as_i64, parse_c_number}
@@ -67,11 +67,11 @@ pub no_zero : map (λ e. eqb e.0 48) nonzero_digits ≡ map (λ e. false) nonzer
 no_zero = refl
 
 decimal-begins : {s : Text} {n : ℕ} → Decimal s n → (p t : Text) → starts_with (s ++ t) (48 ∷ p) ≡ false
-unfolding ◌&&◌
+unfolding ◌and◌
 decimal-begins (nonzero_digit h) p t = rw (at_each (λ e. eqb e.0 48) (λ e. false) nonzero_digits no_zero h)
 decimal-begins (then_digit {s} {c = c} r h) p t = rw append_assoc (decimal-begins r p (c ∷ t))
 
-pub decimal_is : {s : Text} {n : ℕ} → Decimal s n → parse_c_number s ≡ (if ltb n (2 ^ 63) then some (pos n) else none)
+pub decimal_is : {s : Text} {n : ℕ} → Decimal s n → parse_c_number s ≡ (when ltb n (2 ^ 63) then some (pos n) else none)
 decimal_is {s} r =
     read-decimal s (decimal-filled r) (rw append-nil at (decimal-begins r (bytes "x") [])) (decimal_value r)
 
@@ -98,7 +98,7 @@ spelled {prefix} (then_hexadecimal {s} {n} {c} {d} r h) = one_more (spelled r)
           comes_to = value_more 16 c (at_each (read_as 16) value hexadecimal_digits hexadecimal-digits-are h) 0 q.rest q.comes_to;
         }
 
-pub hexadecimal_is : {s : Text} {n : ℕ} → Hexadecimal (bytes "0x") s n → parse_c_number s ≡ (if ltb n (2 ^ 64) then some (as_i64 n) else none)
+pub hexadecimal_is : {s : Text} {n : ℕ} → Hexadecimal (bytes "0x") s n → parse_c_number s ≡ (when ltb n (2 ^ 64) then some (as_i64 n) else none)
 hexadecimal_is r = let q = spelled r in rw q.whole (read-hexadecimal q.rest q.some_digit q.comes_to)
 
 -- ---- octal
@@ -142,7 +142,7 @@ octal-begins : (s rest : Text) {m : ℕ} → s ≡ 48 ∷ rest → digits_value 
 unfolding opened
 octal-begins s rest e v = rw e (begins-with_digit 10 0 120 [] rest refl (rw e at v))
 
-pub octal_is : {s : Text} {n : ℕ} → Octal s n → (m : ℕ) × (parse_c_number s ≡ (if ltb m (2 ^ 63) then some (pos m) else none)) × (n < 8 → m ≡ n) × (8 ≤ n → n < m)
+pub octal_is : {s : Text} {n : ℕ} → Octal s n → (m : ℕ) × (parse_c_number s ≡ (when ltb m (2 ^ 63) then some (pos m) else none)) × (n < 8 → m ≡ n) × (8 ≤ n → n < m)
 octal_is {s} r =
     let q = as_decimal r in
     let z = begins_with-zero r in
@@ -155,10 +155,10 @@ module _ (p : ℕ → Bool) where
   any_left s t h = any_append p s t ∙ or_true (any p t) h
 
   pub any-right : (s t : Text) → any p t ≡ true → any p (s ++ t) ≡ true
-  unfolding ◌||◌
+  unfolding ◌or◌
   any-right s t h = any_append p s t ∙ step (any p s) h
     where
-      step : (b : Bool) {c : Bool} → c ≡ true → (b || c) ≡ true
+      step : (b : Bool) {c : Bool} → c ≡ true → (b or c) ≡ true
       step true e = refl
       step false e = e
 

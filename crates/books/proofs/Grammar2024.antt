@@ -10,7 +10,7 @@ use lib.Dec.{eqb, ltb}
 use lib.ListN.{length, drop}
 use lib.IntN.{ℤ, pos}
 use borrow.Author.Tests.{eqb-true, lt-ltb, ltb-true}
-use Rattle.reference.specs.Control.{◌&&◌, ◌||◌, if◌then◌else◌, let_some◌else◌then◌}
+use Rattle.reference.specs.Control.{◌and◌, ◌or◌, when◌then◌else◌, let_some◌else◌then◌}
 use Rattle.reference.specs.Lists.{any}
 use Rattle.reference.specs.Text.{Text, bytes, starts_with, contains, strip_prefix}
 use Rattle.reference.specs.Numbers.{to_digit, digits_value, as_i64, base_of, prefix_size, unquoted, constant_digits, constant_value, value_limit, read_constant, parse_2024, read_number}
@@ -92,12 +92,12 @@ binary-spells (then_binary {s} {q} {n} {c} {d} r m h) = one_more (binary-spells 
 -- ---- from the grammar: bases
 
 decimal-begins : {s : Text} {n : ℕ} → Decimal s n → (p t : Text) → starts_with (s ++ t) (48 ∷ p) ≡ false
-unfolding ◌&&◌
+unfolding ◌and◌
 decimal-begins (nonzero_digit h) p t = rw (at_each (λ e. eqb e.0 48) (λ e. false) nonzero_digits no_zero h)
 decimal-begins (then_digit {s} {q} {c = c} r m h) p t = rw (append_assoc (s ++ q) (c ∷ []) t, append_assoc s q (c ∷ t)) (decimal-begins r p (q ++ c ∷ t))
 
 pub decimal-base : {s : Text} {n : ℕ} → Decimal s n → base_of s ≡ 10
-unfolding base_of if◌then◌else◌ ◌||◌
+unfolding base_of when◌then◌else◌ ◌or◌
 decimal-base {s} r =
     let b : (p : Text) → starts_with s (48 ∷ p) ≡ false = λ p. rw append-nil at (decimal-begins r p []) in
     rw (b (bytes "x"), b (bytes "X"), b (bytes "b"), b (bytes "B"), b []) refl
@@ -133,16 +133,16 @@ module _ (p : ℕ → Bool) (f : any p (bytes "'") ≡ false) where
 
 -- no letter behind the first byte
 second : (p : ℕ → Bool) (x : ℕ) (s : Text) → p x ≡ true → any p s ≡ false → starts_with s (48 ∷ x ∷ []) ≡ false
-unfolding ◌&&◌
+unfolding ◌and◌
 second p x [] h f = refl
 second p x (c ∷ []) h f = by (eqb c 48)
   where
-    by : (b : Bool) → (b && false) ≡ false
+    by : (b : Bool) → (b and false) ≡ false
     by true = refl
     by false = refl
 second p x (c ∷ y ∷ s) h f = by (eqb c 48) (eqb y x) refl
   where
-    by : (a b : Bool) → eqb y x ≡ b → (a && b && true) ≡ false
+    by : (a b : Bool) → eqb y x ≡ b → (a and b and true) ≡ false
     by false b e = refl
     by true false e = refl
     by true true e = absurd (true-false h (subst (λ (k : ℕ). p k ≡ false) (eqb-true y x e) (neither (neither f).1).0))
@@ -155,7 +155,7 @@ begins_with-zero zero_digit = ([], refl)
 begins_with-zero (then_octal {q = q} {c = c} r m h) = let z = begins_with-zero r in (z.0 ++ q ++ (c ∷ []), ap (λ (t : Text). t ++ q ++ (c ∷ [])) z.1)
 
 starts_with-zero : (s rest : Text) → s ≡ 48 ∷ rest → starts_with s (bytes "0") ≡ true
-unfolding ◌&&◌
+unfolding ◌and◌
 starts_with-zero s rest e = rw e refl
 
 octal-letters : {s : Text} {n : ℕ} → Octal s n → any prefix_letter s ≡ false
@@ -167,7 +167,7 @@ unfolding opened
 letters = refl
 
 pub octal-base : {s : Text} {n : ℕ} → Octal s n → base_of s ≡ 8
-unfolding base_of if◌then◌else◌ ◌||◌
+unfolding base_of when◌then◌else◌ ◌or◌
 octal-base {s} r =
     let z = begins_with-zero r in
     let b : (x : ℕ) → prefix_letter x ≡ true → starts_with s (48 ∷ x ∷ []) ≡ false = λ x h. second prefix_letter x s h (octal-letters r) in
@@ -176,7 +176,7 @@ octal-base {s} r =
 -- ---- THE GRAMMAR'S NUMBERS ARE READ
 
 read-row : (s : Text) (base : ℕ) {n : ℕ} → base_of s ≡ base → Spells base (drop (prefix_size base) s) n
-    → read_constant s ≡ (if ltb n (value_limit base) then some (as_i64 n) else none)
+    → read_constant s ≡ (when ltb n (value_limit base) then some (as_i64 n) else none)
 unfolding constant_digits
 read-row s base {n} b r = read-constant_is s r.digits {n = n} (rw b r.without_quotes) (rw b r.comes_to) ∙ rw b refl
 
@@ -194,30 +194,30 @@ base-binary p s (suc zero, e) = rw (← (some_inj e)) (base_0B s, refl)
 base-binary p s (suc (suc i), e) = absurd (none-some e)
 
 module _ {s : Text} {n : ℕ} where
-  pub decimal_is : Decimal s n → read_constant s ≡ (if ltb n (2 ^ 63) then some (as_i64 n) else none)
-  unfolding prefix_size value_limit if◌then◌else◌ ◌||◌
+  pub decimal_is : Decimal s n → read_constant s ≡ (when ltb n (2 ^ 63) then some (as_i64 n) else none)
+  unfolding prefix_size value_limit when◌then◌else◌ ◌or◌
   decimal_is r = read-row s 10 (decimal-base r) (decimal-spells r)
 
-  pub octal_is : Octal s n → read_constant s ≡ (if ltb n (2 ^ 64) then some (as_i64 n) else none)
-  unfolding prefix_size value_limit if◌then◌else◌ ◌||◌
+  pub octal_is : Octal s n → read_constant s ≡ (when ltb n (2 ^ 64) then some (as_i64 n) else none)
+  unfolding prefix_size value_limit when◌then◌else◌ ◌or◌
   octal_is r = read-row s 8 (octal-base r) (octal-spells r)
 
-  pub binary_is : Binary s n → read_constant s ≡ (if ltb n (2 ^ 64) then some (as_i64 n) else none)
-  unfolding prefix_size value_limit if◌then◌else◌ ◌||◌
+  pub binary_is : Binary s n → read_constant s ≡ (when ltb n (2 ^ 64) then some (as_i64 n) else none)
+  unfolding prefix_size value_limit when◌then◌else◌ ◌or◌
   binary_is r =
       let q = binary-spells r in
       let b = base-binary q.prefix q.rest q.known in
       rw q.whole (read-row (q.prefix ++ q.rest) 2 {n = n} b.0 (rw b.1 q.spells))
 
-pub hexadecimal_is : {s : Text} {n : ℕ} → Hexadecimal s n → read_constant s ≡ (if ltb n (2 ^ 64) then some (as_i64 n) else none)
-unfolding prefix_size value_limit if◌then◌else◌ ◌||◌
+pub hexadecimal_is : {s : Text} {n : ℕ} → Hexadecimal s n → read_constant s ≡ (when ltb n (2 ^ 64) then some (as_i64 n) else none)
+unfolding prefix_size value_limit when◌then◌else◌ ◌or◌
 hexadecimal_is {n = n} (prefix_digits {p} {s} m r) =
     let b = base-hexadecimal p s m in
     read-row (p ++ s) 16 {n = n} b.0 (rw b.1 (hexadecimal-spells r))
 
 -- a number below the bound is read
-below {ℓ} : {A : Type ℓ} (n bound : ℕ) (a : A) → n < bound → (if ltb n bound then some a else none) ≡ some a
-unfolding if◌then◌else◌
+below {ℓ} : {A : Type ℓ} (n bound : ℕ) (a : A) → n < bound → (when ltb n bound then some a else none) ≡ some a
+unfolding when◌then◌else◌
 below n bound a h = rw (lt-ltb n bound h)
 
 pub sized-is_read : {s : Text} {z : ℤ} → Sized s z → read_constant s ≡ some z
@@ -250,11 +250,11 @@ unfolding opened
 unsuffixed-unsigned = unsuffixed-free sign refl refl refl refl refl refl refl refl refl
 
 no_minus : (s : Text) → any sign s ≡ false → starts_with s (bytes "-") ≡ false
-unfolding ◌&&◌
+unfolding ◌and◌
 no_minus [] f = refl
 no_minus (c ∷ s) f = by (eqb c 45) refl
   where
-    by : (b : Bool) → eqb c 45 ≡ b → (b && true) ≡ false
+    by : (b : Bool) → eqb c 45 ≡ b → (b and true) ≡ false
     by false e = refl
     by true e = absurd (true-false (rw (eqb-true c 45 e) refl) (neither f).0)
 
@@ -262,7 +262,7 @@ pub unsuffixed-plain : {s : Text} {n : ℕ} → Unsuffixed s n → starts_with s
 unsuffixed-plain {s} r = no_minus s (unsuffixed-unsigned r)
 
 pub in_edition_1 : (s : Text) → read_number 1 s ≡ parse_2024 s
-unfolding read_number if◌then◌else◌
+unfolding read_number when◌then◌else◌
 in_edition_1 s = refl
 
 pub numeral_is_read : {s : Text} {z : ℤ} → Numeral s z → read_number 1 s ≡ some z
@@ -312,7 +312,7 @@ based s =
 -- rows that are read, in the grammar
 module _ (s : Text) {ds : Text} {n : ℕ} (u : unquoted false s ≡ some ds) where
   decimal-row : starts_with s (bytes "0") ≡ false → digits_value 10 0 ds ≡ some n → Decimal s n
-  unfolding ◌&&◌
+  unfolding ◌and◌
   decimal-row z e = grown 10 Decimal (λ s q n c d g m h. then_digit g m (in_digits h)) s first u e
     where
       nonzero : (c d : ℕ) (rest : Text) → s ≡ c ∷ rest → (c, d) ∈ digits → (c, d) ∈ nonzero_digits
@@ -347,7 +347,7 @@ module _ (s : Text) {ds : Text} {n : ℕ} (u : unquoted false s ≡ some ds) whe
 module _ (s : Text) {ds : Text} {n : ℕ} where
   in_grammar : (base : ℕ) → Based s base → unquoted false (drop (prefix_size base) s) ≡ some ds → digits_value base 0 ds ≡ some n → n < value_limit base
       → Sized s (as_i64 n)
-  unfolding prefix_size value_limit if◌then◌else◌ ◌||◌
+  unfolding prefix_size value_limit when◌then◌else◌ ◌or◌
   in_grammar base (sixteen p m w) u e h =
       subst⁻¹ (Sized s) (as_i64_is n h) (small_hexadecimal (subst⁻¹ (λ (t : Text). Hexadecimal t n) w (prefix_digits m (hexadecimal-row (drop 2 s) u e))) h)
   in_grammar base (two p m w) u e h = subst⁻¹ (Sized s) (as_i64_is n h) (small_binary (subst⁻¹ (λ (t : Text). Binary t n) w (binary-row (drop 2 s) u p m e)) h)

@@ -7,7 +7,7 @@ use mathlib.Core.Option.{Option, some}
 use lib.ListN.{get_or, drop, length}
 use lib.Seq.{get_or-drop}
 use Rattle.reference.specs.Lists.{position, get, is_empty}
-use Rattle.reference.specs.Text.{Text, bytes, has, ◌==◌, starts_with, strip_prefix}
+use Rattle.reference.specs.Text.{Text, bytes, has, ◌≟◌, starts_with, strip_prefix}
 use Rattle.reference.specs.Names.{Fam, LEGACY, legacy, high_byte, numbered, stack_slot, digits_of, is_digit, family}
 use Rattle.reference.proofs.Opened.{opened}
 use Rattle.reference.proofs.Cases.{by-if, by-some, either, none-some}
@@ -18,7 +18,7 @@ use Rattle.books.specs.Agreement.{Known, in_the_manual, with_number, stack}
 use Rattle.books.proofs.Entries.{at_each, aligned}
 
 -- a search among names finds the name at its place
-found : (s : Text) (names : List Text) {i : ℕ} → position (◌== s) names ≡ some i → get names i ≡ some s
+found : (s : Text) (names : List Text) {i : ℕ} → position (◌≟ s) names ≡ some i → get names i ≡ some s
 found s [] e = cc
 found s (n ∷ ns) {i} e =
     by-if (λ o. o ≡ some i → get (n ∷ ns) i ≡ some s)

@@ -9,7 +9,7 @@ use lib.Dec.{ltb}
 use lib.ListN.{length, drop}
 use lib.IntN.{pos, negsuc}
 use borrow.Author.Tests.{eqb-true, lt-ltb}
-use Rattle.reference.specs.Control.{not, ◌&&◌, ◌||◌, if◌then◌else◌, let_some◌else◌then◌}
+use Rattle.reference.specs.Control.{not, ◌and◌, ◌or◌, when◌then◌else◌, let_some◌else◌then◌}
 use Rattle.reference.specs.Lists.{any, is_some}
 use Rattle.reference.specs.Text.{Text, bytes, starts_with, contains, strip_prefix}
 use Rattle.reference.specs.Numbers.{to_digit, digits_value, unsigned, read_u64, read_i64, as_i64, parse_c_number}
@@ -22,10 +22,10 @@ use Rattle.books.proofs.Entries.{at_each}
 
 -- `n as i64` is two's complement
 pub as_i64_is : (n : ℕ) → n < 2 ^ 64 → as_i64 n ≡ twos_complement n
-unfolding as_i64 if◌then◌else◌
+unfolding as_i64 when◌then◌else◌
 as_i64_is n h = rw (mod-eq_of_lt h, lt-ltb n (2 ^ 64) h) (step (ltb n (2 ^ 63)))
   where
-    step : (b : Bool) → (if b then pos n else negsuc (2 ^ 64 - suc n)) ≡ cond b (pos n) (negsuc (2 ^ 64 - suc n))
+    step : (b : Bool) → (when b then pos n else negsuc (2 ^ 64 - suc n)) ≡ cond b (pos n) (negsuc (2 ^ 64 - suc n))
     step true = refl
     step false = refl
 
@@ -33,7 +33,7 @@ as_i64_is n h = rw (mod-eq_of_lt h, lt-ltb n (2 ^ 64) h) (step (ltb n (2 ^ 63)))
 
 -- a byte that is no digit, no sign and no x
 abbrev pub stranger : ℕ → Bool
-stranger c = not (is_some (to_digit 10 c)) && not (is_some (to_digit 16 c)) && not (contains (bytes "+-x") c)
+stranger c = not (is_some (to_digit 10 c)) and not (is_some (to_digit 16 c)) and not (contains (bytes "+-x") c)
 
 -- a stranger behind a prefix that holds none is there without it
 behind : (p s : Text) → any stranger p ≡ false → starts_with s p ≡ true → any stranger s ≡ true → any stranger (drop (length p) s) ≡ true
@@ -57,11 +57,11 @@ none_there {o = some v} e = absurd (false≢true e)
 
 module _ (radix : ℕ) (strange : (c : ℕ) → stranger c ≡ true → to_digit radix c ≡ none) where
   digits-unread : (a : ℕ) (s : Text) → any stranger s ≡ true → digits_value radix a s ≡ none
-  unfolding digits_value let_some◌else◌then◌ ◌||◌
+  unfolding digits_value let_some◌else◌then◌ ◌or◌
   digits-unread a [] h = absurd (false≢true h)
   digits-unread a (x ∷ xs) h = step (stranger x) refl h (to_digit radix x) refl (λ b. digits-unread b xs)
     where
-      step : (t : Bool) → stranger x ≡ t → (t || any stranger xs) ≡ true → (o : Option ℕ) → to_digit radix x ≡ o
+      step : (t : Bool) → stranger x ≡ t → (t or any stranger xs) ≡ true → (o : Option ℕ) → to_digit radix x ≡ o
           → ((b : ℕ) → any stranger xs ≡ true → digits_value radix b xs ≡ none)
           → (let_some o else none then λ v. digits_value radix (a * radix + v) xs) ≡ none
       step t q w none r more = refl
@@ -69,7 +69,7 @@ module _ (radix : ℕ) (strange : (c : ℕ) → stranger c ≡ true → to_digit
       step false q w (some v) r more = more (a * radix + v) w
 
   unsigned-unread : (s : Text) → any stranger s ≡ true → unsigned radix s ≡ none
-  unfolding unsigned if◌then◌else◌
+  unfolding unsigned when◌then◌else◌
   unsigned-unread [] h = refl
   unsigned-unread (x ∷ xs) h = digits-unread 0 (x ∷ xs) h
 

@@ -1,6 +1,6 @@
 -- Rows of digits with single quotes between them, as the 2024 edition writes them, to any base: what the grammar builds from the right is what
 -- `unquoted` and `digits_value` read from the left. Assumes nothing.
-use Prim.Native.Nat.{ℕ, zero, suc, ◌+◌, ◌*◌, ◌-◌, ◌<◌, ◌≤◌}
+use Prim.Native.Nat.{ℕ, zero, suc, ◌+◌, ◌*◌, ◌<◌, ◌≤◌}
 use native.Mathlib.Omega.{arith}
 use native.Mathlib.Decide.{dec_lt}
 use mathlib.Core.Path.{◌≡◌, refl, sym, ap, ◌∙◌, subst, subst⁻¹}
@@ -10,7 +10,7 @@ use mathlib.Core.List.{List, [], ◌∷◌, ◌++◌, append_assoc, append-nil}
 use mathlib.Core.Option.{Option, none, some}
 use lib.Dec.{eqb}
 use borrow.Author.Tests.{eqb-true, le-ltb, lt-leb, le-leb}
-use Rattle.reference.specs.Control.{◌&&◌, if◌then◌else◌, let_some◌else◌then◌}
+use Rattle.reference.specs.Control.{◌and◌, when◌then◌else◌, let_some◌else◌then◌}
 use Rattle.reference.specs.Lists.{any}
 use Rattle.reference.specs.Text.{Text, bytes}
 use Rattle.reference.specs.Numbers.{to_digit, digits_value, unquoted}
@@ -24,14 +24,14 @@ use Rattle.books.specs.Constants2024.{quote_opt}
 -- what a test says of each number below k
 abbrev all-below : (ℕ → Bool) → ℕ → Bool
 all-below p zero = true
-all-below p (suc k) = let r = all-below p k in p k && r
+all-below p (suc k) = let r = all-below p k in p k and r
 
 at_below : (p : ℕ → Bool) (k : ℕ) → all-below p k ≡ true → (c : ℕ) → c < k → p c ≡ true
 at_below p zero e c h = absurd (omega arith)
 at_below p (suc k) e c h = by_cases (dec_lt c k) (at_below p k (both e).1 c) (λ l. (let s : c ≡ k = omega arith in rw s (both e).0))
 
 abbrev entry : ℕ → ℕ → ℕ × ℕ → Bool
-entry c d e = eqb e.0 c && eqb e.1 d
+entry c d e = eqb e.0 c and eqb e.1 d
 
 in_any : (c d : ℕ) (table : List (ℕ × ℕ)) → any (entry c d) table ≡ true → (c, d) ∈ table
 in_any c d [] h = absurd (false≢true h)
@@ -45,7 +45,7 @@ abbrev pub is_entry : ℕ → List (ℕ × ℕ) → ℕ → Bool
 is_entry base table c = let_some (to_digit base c) else true then λ d. any (entry c d) table
 
 too_large : (base c : ℕ) → base ≤ 99 → 123 ≤ c → to_digit base c ≡ none
-unfolding to_digit if◌then◌else◌ ◌&&◌
+unfolding to_digit when◌then◌else◌ ◌and◌
 too_large base c b h =
     rw (le-leb 48 c (omega arith), lt-leb c 57 (omega arith), le-leb 97 c (omega arith), lt-leb c 122 (omega arith), le-leb 65 c (omega arith), lt-leb c 90 (omega arith), le-ltb 99 base b) refl
 
@@ -75,7 +75,7 @@ after c r (some es) = refl
 
 -- a row, and what follows it
 unquoted_append : (b : Bool) (s t : Text) {ds : Text} → unquoted b s ≡ some ds → unquoted b (s ++ t) ≡ (let_some (unquoted true t) else none then λ es. some (ds ++ es))
-unfolding unquoted let_some◌else◌then◌ if◌then◌else◌
+unfolding unquoted let_some◌else◌then◌ when◌then◌else◌
 unquoted_append true [] t {ds} e = rw (← (some_inj e)) (same (unquoted true t))
   where
     same : (o : Option Text) → o ≡ (let_some o else none then λ es. some ([] ++ es))
@@ -86,8 +86,8 @@ unquoted_append b (c ∷ cs) t {ds} e = step (eqb c 39) b (λ x r. unquoted_appe
   where
     step : (q b : Bool)
         → ((x : Bool) (r : Text) → unquoted x cs ≡ some r → unquoted x (cs ++ t) ≡ (let_some (unquoted true t) else none then λ es. some (r ++ es)))
-        → (if q then (if b then unquoted false cs else none) else let_some (unquoted true cs) else none then λ es. some (c ∷ es)) ≡ some ds
-        → (if q then (if b then unquoted false (cs ++ t) else none) else let_some (unquoted true (cs ++ t)) else none then λ es. some (c ∷ es))
+        → (when q then (when b then unquoted false cs else none) else let_some (unquoted true cs) else none then λ es. some (c ∷ es)) ≡ some ds
+        → (when q then (when b then unquoted false (cs ++ t) else none) else let_some (unquoted true (cs ++ t)) else none then λ es. some (c ∷ es))
         ≡ (let_some (unquoted true t) else none then λ es. some (ds ++ es))
     step true true more e = more false ds e
     step true false more e = absurd (none-some e)
@@ -107,11 +107,11 @@ pub record Spells (base : ℕ) (s : Text) (n : ℕ) : Type 0 where
 
 module _ (base : ℕ) (z : to_digit base 39 ≡ none) (c : ℕ) {d : ℕ} (h : to_digit base c ≡ some d) where
   one_more : (b : Bool) → unquoted b (c ∷ []) ≡ some (c ∷ [])
-  unfolding unquoted let_some◌else◌then◌ if◌then◌else◌
+  unfolding unquoted let_some◌else◌then◌ when◌then◌else◌
   one_more b = rw (other_than-quote base c z h) refl
 
   quoted_one : unquoted true (39 ∷ c ∷ []) ≡ some (c ∷ [])
-  unfolding unquoted let_some◌else◌then◌ if◌then◌else◌
+  unfolding unquoted let_some◌else◌then◌ when◌then◌else◌
   quoted_one = rw (other_than-quote base c z h) refl
 
   with_quote : {q : Text} → q ∈ quote_opt → unquoted true (q ++ (c ∷ [])) ≡ some (c ∷ [])
@@ -153,7 +153,7 @@ module _ (base : ℕ) (G : Text → ℕ → Type 0)
 
   -- a row after a digit, or after a digit and a quote
   grows : (b : Bool) (front : Text) (a : ℕ) (t : Text) {ds : Text} {n : ℕ} → G front a → unquoted b t ≡ some ds → digits_value base a ds ≡ some n → G (front ++ (quote_of b ++ t)) n
-  unfolding unquoted if◌then◌else◌ let_some◌else◌then◌ digits_value
+  unfolding unquoted when◌then◌else◌ let_some◌else◌then◌ digits_value
   grows true front a [] {ds} {n} g u e =
       let d : [] ≡ ds = some_inj u in
       let k : a ≡ n = some_inj (rw (← d) at e) in
@@ -162,7 +162,7 @@ module _ (base : ℕ) (G : Text → ℕ → Type 0)
   grows b front a (c ∷ cs) {ds} {n} g u e = step (eqb c 39) refl b u (λ b f m es h v w. grows b f m cs {ds = es} {n = n} h v w)
     where
       step : (t : Bool) → eqb c 39 ≡ t → (b : Bool)
-          → (if t then (if b then unquoted false cs else none) else let_some (unquoted true cs) else none then λ es. some (c ∷ es)) ≡ some ds
+          → (when t then (when b then unquoted false cs else none) else let_some (unquoted true cs) else none then λ es. some (c ∷ es)) ≡ some ds
           → ((b : Bool) (f : Text) (m : ℕ) (es : Text) → G f m → unquoted b cs ≡ some es → digits_value base m es ≡ some n → G (f ++ (quote_of b ++ cs)) n)
           → G (front ++ (quote_of b ++ c ∷ cs)) n
       step true q true u next = rw (eqb-true c 39 q) (next false front a ds g u e)
@@ -177,11 +177,11 @@ module _ (base : ℕ) (G : Text → ℕ → Type 0)
   -- a whole row, whose first digit the grammar takes
   pub grown : (s : Text) {ds : Text} {n : ℕ} → ((c d : ℕ) (rest : Text) → s ≡ c ∷ rest → to_digit base c ≡ some d → G (c ∷ []) d)
       → unquoted false s ≡ some ds → digits_value base 0 ds ≡ some n → G s n
-  unfolding unquoted if◌then◌else◌ let_some◌else◌then◌
+  unfolding unquoted when◌then◌else◌ let_some◌else◌then◌
   grown [] first u e = absurd (none-some u)
   grown (c ∷ cs) {ds} {n} first u e = step (eqb c 39) u
     where
-      step : (t : Bool) → (if t then none else let_some (unquoted true cs) else none then λ es. some (c ∷ es)) ≡ some ds → G (c ∷ cs) n
+      step : (t : Bool) → (when t then none else let_some (unquoted true cs) else none then λ es. some (c ∷ es)) ≡ some ds → G (c ∷ cs) n
       step true u = absurd (none-some u)
       step false u =
           let r = bind-some {o = unquoted true cs} {k = λ es. some (c ∷ es)} u in

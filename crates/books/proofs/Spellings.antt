@@ -1,22 +1,22 @@
 -- Which texts are read as numbers: from the reader's answer back to the spelling. Assumes nothing.
 use Prim.Native.Nat.{ℕ, zero, suc, ◌+◌, ◌-◌, ◌*◌, ◌<◌, ◌≤◌}
 use native.Mathlib.Omega.{arith}
-use mathlib.Core.Path.{◌≡◌, refl, sym, ap, ◌∙◌}
+use mathlib.Core.Path.{◌≡◌, refl, ap, ◌∙◌}
 use mathlib.Core.Bool.{Bool, true, false, true≢false, false≢true}
 use mathlib.Core.List.{List, [], ◌∷◌, ◌++◌, map, append_assoc}
 use mathlib.Core.Option.{Option, none, some}
-use lib.Dec.{eqb, ltb}
+use lib.Dec.{eqb}
 use lib.ListN.{length, drop}
 use lib.IntN.{ℤ}
 use borrow.Author.Tests.{leb-true, ltb-true}
-use Rattle.reference.specs.Control.{◌&&◌, ◌||◌, if◌then◌else◌, let_some◌else◌then◌}
-use Rattle.reference.specs.Lists.{any, get, is_empty}
+use Rattle.reference.specs.Control.{when◌then◌else◌, let_some◌else◌then◌}
+use Rattle.reference.specs.Lists.{any, get}
 use Rattle.reference.specs.Text.{Text, bytes, starts_with, contains, strip_prefix}
 use Rattle.reference.specs.Numbers.{to_digit, digits_value, unsigned, read_u64, read_i64, as_i64, parse_c_number}
 use Rattle.reference.proofs.Opened.{opened}
 use Rattle.reference.proofs.Cases.{by-if, both, neither, same_number, some_inj, none-some, if_some, unless-some, bind-some}
 use Rattle.books.specs.Tables.{words, ◌∈◌}
-use Rattle.books.specs.Constants.{digits, nonzero_digits, octal_digits, hexadecimal_digits, Decimal, nonzero_digit, then_digit, Octal, zero_digit, then_octal, Hexadecimal, prefix_then, then_hexadecimal, Unsuffixed, decimal, octal, hexadecimal, Constant}
+use Rattle.books.specs.Constants.{digits, nonzero_digits, octal_digits, hexadecimal_digits, Decimal, nonzero_digit, then_digit, Octal, zero_digit, then_octal, Hexadecimal, prefix_then, then_hexadecimal, decimal, octal, hexadecimal, Constant}
 use Rattle.books.specs.Spellings.{Digits, one, more, eight_or_nine, Spelling, constant, signed, signed_hexadecimal, no_octal, Spellings}
 use Rattle.books.proofs.Entries.{at_each}
 use Rattle.laws.proofs.Scans.{or_true, or_false, any_append}
@@ -112,7 +112,7 @@ module _ (radix : ℕ) (table : List (ℕ × ℕ)) (in_table : (c d : ℕ) → t
   digits-read : (a c : ℕ) (t : Text) {n : ℕ} → digits_value radix a (c ∷ t) ≡ some n → Digits table (c ∷ t)
   unfolding digits_value
   digits-read a c [] e = let q = bind-some e in one (in_table c q.0 q.1)
-  digits-read a c (x ∷ xs) e = let q = bind-some e in more (in_table c q.0 q.1) (digits-read _ x xs q.2)
+  digits-read a c (x ∷ xs) e = let q = bind-some e in more (in_table c q.0 q.1) (digits-read (a * radix + q.0) x xs q.2)
 
   unsigned-read : (s : Text) {n : ℕ} → unsigned radix s ≡ some n → Digits table s
   unfolding unsigned
@@ -168,11 +168,11 @@ i64_read s {z} e =
 
 decimal_grow : {s t : Text} {n : ℕ} → Decimal s n → Digits digits t → (m : ℕ) × Decimal (s ++ t) m
 decimal_grow r (one h) = (_, then_digit r h)
-decimal_grow r (more h g) = let q = decimal_grow (then_digit r h) g in (q.0, rw append_assoc at q.1)
+decimal_grow {s = s} r (more {c = c} h g) = let q = decimal_grow {s = s ++ (c ∷ [])} (then_digit r h) g in (q.0, rw append_assoc at q.1)
 
 hexadecimal_grow : {p s t : Text} {n : ℕ} → Hexadecimal p s n → Digits hexadecimal_digits t → (m : ℕ) × Hexadecimal p (s ++ t) m
 hexadecimal_grow r (one h) = (_, then_hexadecimal r h)
-hexadecimal_grow r (more h g) = let q = hexadecimal_grow (then_hexadecimal r h) g in (q.0, rw append_assoc at q.1)
+hexadecimal_grow {s = s} r (more {c = c} h g) = let q = hexadecimal_grow {s = s ++ (c ∷ [])} (then_hexadecimal r h) g in (q.0, rw append_assoc at q.1)
 
 octal-digit : (i : ℕ) {c d : ℕ} → get digits i ≡ some (c, d) → eight_or_nine c ≡ false → (c, d) ∈ octal_digits
 unfolding opened
@@ -190,8 +190,8 @@ octal-digit (suc (suc (suc (suc (suc (suc (suc (suc (suc (suc i)))))))))) e f = 
 
 octal_grow : {s t : Text} {n : ℕ} → Octal s n → Digits digits t → any eight_or_nine t ≡ false → (m : ℕ) × Octal (s ++ t) m
 octal_grow r (one h) f = (_, then_octal r (octal-digit h.0 h.1 (neither f).0))
-octal_grow r (more h g) f =
-    let q = octal_grow (then_octal r (octal-digit h.0 h.1 (neither f).0)) g (neither f).1 in (q.0, rw append_assoc at q.1)
+octal_grow {s = s} r (more {c = c} h g) f =
+    let q = octal_grow {s = s ++ (c ∷ [])} (then_octal r (octal-digit h.0 h.1 (neither f).0)) g (neither f).1 in (q.0, rw append_assoc at q.1)
 
 hexadecimal-constant : {t : Text} → Digits hexadecimal_digits t → Spelling (bytes "0x" ++ t)
 hexadecimal-constant (one h) = constant (hexadecimal {p = bytes "0x"} (0, refl) (prefix_then h))

@@ -3,7 +3,7 @@
 use Rattle.std.specs.Prelude.{ℕ, suc, ◌≡◌, Bool, true, false, List, [], ◌∷◌, map, eqb, leb, get_or}
 use Prim.Native.String.{String}
 use Rattle.std.proofs.Math.Option.{none}
-use Rattle.reference.specs.Control.{not, ◌&&◌, ◌||◌, if◌then◌else◌}
+use Rattle.reference.specs.Control.{not, ◌and◌, ◌or◌, when◌then◌else◌}
 use Rattle.reference.specs.Lists.{is_some}
 use Rattle.reference.specs.Text.{Text, bytes, has}
 use Rattle.reference.specs.Listing.{Token, token, Register, Number, Keyword, Symbol, Punct, Line, Listing}
@@ -17,12 +17,12 @@ use Rattle.books.specs.Tables.{words}
 unfoldable pub is_word : Text → Bool
 is_word s =
     let c : ℕ = get_or s 0 0 in
-    (leb 97 c && leb c 122) || (leb 65 c && leb c 90) || is_digit c || eqb c 95 || (eqb c 45 && is_digit (get_or s 1 0))
+    (leb 97 c and leb c 122) or (leb 65 c and leb c 90) or is_digit c or eqb c 95 or (eqb c 45 and is_digit (get_or s 1 0))
 
 -- c in front of what follows it: in the same run if both are of a word, or neither is
 unfoldable pub run_on : ℕ → Bool → List Text → List Text
 run_on c w [] = (c ∷ []) ∷ []
-run_on c w (r ∷ rs) = if (w && is_word r) || (not w && not (is_word r)) then (c ∷ r) ∷ rs else (c ∷ []) ∷ r ∷ rs
+run_on c w (r ∷ rs) = when (w and is_word r) or (not w and not (is_word r)) then (c ∷ r) ∷ rs else (c ∷ []) ∷ r ∷ rs
 
 unfoldable pub runs : Text → List Text
 runs [] = []
@@ -30,10 +30,10 @@ runs (c ∷ cs) = run_on c (is_word (c ∷ cs)) (runs cs)
 
 unfoldable pub kind_of : Text → ℕ
 kind_of w =
-    if not (is_word w) then Punct
-    else if is_digit (get_or w 0 0) || eqb (get_or w 0 0) 45 then Number
-    else if is_some (family w) then Register
-    else if has (words "do while for if else goto return break continue switch case") w then Keyword
+    when not (is_word w) then Punct
+    else when is_digit (get_or w 0 0) or eqb (get_or w 0 0) 45 then Number
+    else when is_some (family w) then Register
+    else when has (words "do while for if else goto return break continue switch case") w then Keyword
     else Symbol
 
 unfoldable pub tokens_of : Text → List Token
@@ -43,7 +43,7 @@ unfoldable pub line_at : ℕ → Text → Line
 line_at indent [] = record { address = none; indent = indent; tokens = [] }
 line_at indent (c ∷ cs) =
     let deeper = line_at (suc indent) cs in
-    if eqb c 32 then deeper else record { address = none; indent = indent; tokens = tokens_of (c ∷ cs) }
+    when eqb c 32 then deeper else record { address = none; indent = indent; tokens = tokens_of (c ∷ cs) }
 
 unfoldable pub listing : List String → Listing
 listing ls = map (λ l. line_at 0 (bytes l)) ls

@@ -5,7 +5,7 @@ use Rattle.std.specs.Prelude.{ℕ, ◌+◌, ◌*◌, ◌/◌, ◌%◌, ◌^◌, 
 use Prim.Native.String.{String}
 use Rattle.std.proofs.Math.Option.{Option, none, some}
 use Rattle.reference.specs.Control.{let_some◌else◌then◌}
-use Rattle.reference.specs.Text.{Text, bytes, ◌==◌}
+use Rattle.reference.specs.Text.{Text, bytes, ◌≟◌}
 use Rattle.reference.specs.Lists.{find}
 use Rattle.reference.specs.Names.{Fam}
 use Rattle.books.specs.Tables.{words}
@@ -40,7 +40,7 @@ registers =
 
 -- the register of this name, and the 64-bit register that it is a part of
 unfoldable pub register : Text → Option Register
-register name = find (λ r. r.name == name) registers
+register name = find (λ r. r.name ≟ name) registers
 
 unfoldable pub family_of : Text → Text
 family_of name = let_some (register name) else [] then λ r. r.family

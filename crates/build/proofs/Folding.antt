@@ -9,8 +9,8 @@ use mathlib.Core.Option.{Option, none, some}
 use lib.IntN.{ℤ, ◌+ℤ◌, ◌-ℤ◌}
 use lib.ListN.{length, get_or, take, drop, drop_of_length-le, length-map, length-drop}
 use lib.Seq.{take-suc, drop-cons, get_or-drop}
-use Rattle.reference.specs.Control.{◌&&◌, ◌||◌, if◌then◌else◌, let_some◌else◌then◌}
-use Rattle.reference.specs.Text.{Text, bytes, ◌==◌, starts_with, ends_with}
+use Rattle.reference.specs.Control.{◌and◌, ◌or◌, when◌then◌else◌, let_some◌else◌then◌}
+use Rattle.reference.specs.Text.{Text, bytes, ◌≟◌, starts_with, ends_with}
 use Rattle.reference.specs.Listing.{Token, token, is, Number}
 use Rattle.reference.specs.Numbers.{read_number, wrap, show, delim_before, delim_after, folded, fold_at, fold}
 use Rattle.reference.specs.Claim.{size}
@@ -35,24 +35,24 @@ module _ (plus : Bool) {o : Option ℤ} (p : Option ℤ) where
   -- the operands and the result as the machine reads them back
   module _ {x y x' y' r r' : ℤ} (e : o ≡ some x) (f : p ≡ some y) (ex : x' ≡ x) (ey : y' ≡ y) (er : r' ≡ r) where
     pub read-sum : plus ≡ true → r ≡ wrap (x' +ℤ y') → some r' ≡ operated plus o p
-    unfolding operated let_some◌else◌then◌ if◌then◌else◌
+    unfolding operated let_some◌else◌then◌ when◌then◌else◌
     read-sum g h = rw (e, f, g, er, h, ex, ey)
 
     pub read-difference : plus ≡ false → r ≡ wrap (x' -ℤ y') → some r' ≡ operated plus o p
-    unfolding operated let_some◌else◌then◌ if◌then◌else◌
+    unfolding operated let_some◌else◌then◌ when◌then◌else◌
     read-difference g h = rw (e, f, g, er, h, ex, ey)
 
 -- ---- three tokens
 
 -- the tests around the three first
 folded-shape : (d e n m s plus : Bool) (o p : Option ℤ)
-    → (if d && e && n && m && s
-    then (let_some o else none then λ x. let_some p else none then λ y. some (token Number (show (wrap (if plus then x +ℤ y else x -ℤ y)))))
+    → (when d and e and n and m and s
+    then (let_some o else none then λ x. let_some p else none then λ y. some (token Number (show (wrap (when plus then x +ℤ y else x -ℤ y)))))
     else none)
-    ≡ (if d && e
-    then number_token (if n && m && s then (let_some o else none then λ x. let_some p else none then λ y. some (wrap (if plus then x +ℤ y else x -ℤ y))) else none)
+    ≡ (when d and e
+    then number_token (when n and m and s then (let_some o else none then λ x. let_some p else none then λ y. some (wrap (when plus then x +ℤ y else x -ℤ y))) else none)
     else none)
-unfolding ◌&&◌ if◌then◌else◌ let_some◌else◌then◌
+unfolding ◌and◌ when◌then◌else◌ let_some◌else◌then◌
 folded-shape false e n m s plus o p = refl
 folded-shape true false n m s plus o p = refl
 folded-shape true true false m s plus o p = refl
@@ -73,21 +73,21 @@ module _ (edition : ℕ) (a b c : Token) where
     sum-right f = sym (if-false _ _ (and_true _ (sym e) ∙ and_false _ (sym f)))
 
     -- x is what a call answered of the sign
-    module _ {x : Bool} (f : true ≡ is Number c) (g : x ≡ ((b.text == bytes " + ") || (b.text == bytes " - "))) where
+    module _ {x : Bool} (f : true ≡ is Number c) (g : x ≡ ((b.text ≟ bytes " + ") or (b.text ≟ bytes " - "))) where
       pub sum-sign : x ≡ false → none ≡ sum_of edition a b c
       unfolding sum_of is_sign
       sum-sign h = sym (if-false _ _ (and_true _ (sym e) ∙ and_true _ (sym f) ∙ sym g ∙ h))
 
-      pub sum_is : x ≡ true → operated (b.text == bytes " + ") (read_number edition a.text) (read_number edition c.text) ≡ sum_of edition a b c
+      pub sum_is : x ≡ true → operated (b.text ≟ bytes " + ") (read_number edition a.text) (read_number edition c.text) ≡ sum_of edition a b c
       unfolding sum_of is_sign
       sum_is h = sym (if-true _ _ (and_true _ (sym e) ∙ and_true _ (sym f) ∙ sym g ∙ h))
 
   module _ (before : Option Token) (rest : List Token) where
-    folded_is : folded edition before a b c rest ≡ (if delim_before before && delim_after rest then number_token (sum_of edition a b c) else none)
+    folded_is : folded edition before a b c rest ≡ (when delim_before before and delim_after rest then number_token (sum_of edition a b c) else none)
     unfolding folded sum_of operated is_sign
     folded_is =
-        folded-shape (delim_before before) (delim_after rest) (is Number a) (is Number c) ((b.text == bytes " + ") || (b.text == bytes " - "))
-        (b.text == bytes " + ") (read_number edition a.text) (read_number edition c.text)
+        folded-shape (delim_before before) (delim_after rest) (is Number a) (is Number c) ((b.text ≟ bytes " + ") or (b.text ≟ bytes " - "))
+        (b.text ≟ bytes " + ") (read_number edition a.text) (read_number edition c.text)
 
     pub folded_open : delim_before before ≡ false → none ≡ folded edition before a b c rest
     folded_open e = sym (folded_is ∙ if-false _ _ (and_false _ e))
@@ -106,7 +106,8 @@ fold-few edition before (a ∷ []) h = refl
 fold-few edition before (a ∷ b ∷ []) h = refl
 fold-few edition before (a ∷ b ∷ c ∷ rest) h = absurd (omega arith)
 
-pub fold-kept : (edition : ℕ) (before : Option Token) (a : Token) (rest : List Token) → fold_next edition before (a ∷ rest) ≡ none → fold_behind edition before (a ∷ rest) ≡ a ∷ fold_behind edition (some a) rest
+pub fold-kept : (edition : ℕ) (before : Option Token) (a : Token) (rest : List Token)
+    → fold_next edition before (a ∷ rest) ≡ none → fold_behind edition before (a ∷ rest) ≡ a ∷ fold_behind edition (some a) rest
 unfolding fold_at let_some◌else◌then◌
 fold-kept edition before a [] e = refl
 fold-kept edition before a (b ∷ []) e = refl
@@ -161,7 +162,7 @@ module _ (tape area : Text) (line : List ℕ) where
       ap last_of split ∙ last_snoc (tokens_of tape area (take (k - 1) line)) (token_of tape area (get_or line (k - 1) 0))
 
   pub before_at : (k : ℕ) {x : Bool} {s : Text} → 0 < k → k ≤ length line → s ≡ text_of tape area (get_or line (k - 1) 0)
-      → x ≡ (ends_with s (bytes "(") || ends_with s (bytes ", ") || ends_with s (bytes " = "))
+      → x ≡ (ends_with s (bytes "(") or ends_with s (bytes ", ") or ends_with s (bytes " = "))
       → x ≡ delim_before (last_of (tokens_of tape area (take k line)))
   unfolding delim_before
   before_at k h b es e = rw (last_at k h b, ← es) e
@@ -171,7 +172,7 @@ module _ (tape area : Text) (line : List ℕ) where
   after_last k h = rw (drop_of_length-le line h)
 
   pub after_at : (k : ℕ) {x : Bool} {s : Text} → k < length line → s ≡ text_of tape area (get_or line k 0)
-      → x ≡ (starts_with s (bytes ")") || starts_with s (bytes ",") || starts_with s (bytes ";"))
+      → x ≡ (starts_with s (bytes ")") or starts_with s (bytes ",") or starts_with s (bytes ";"))
       → x ≡ delim_after (tokens_of tape area (drop k line))
   unfolding delim_after
   after_at k h es e = rw (drop-cons line k 0 h, ← es) e

@@ -62,7 +62,8 @@ module _ (tape old : Text) (ws : List ℕ) (i : ℕ) (h : i < length ws) (p : Po
       ap text_in (tokens_more tape old ws i h) ∙ sum-append size (tokens_of tape old (take i ws)) (token_of tape old (get_or ws i 0) ∷ []) ∙ omega (arith, text_length p)
 
   pub line_added_next : {area : Text} {tokens : List ℕ} {at : Size} {area' : Text} {tokens' : List ℕ} {at' : Size}
-      → LineAdded tape area tokens at (tokens_of tape old (take i ws) ++ (token_of tape old (get_or ws i 0) ∷ [])) (text_in (tokens_of tape old (take i ws)) + len_of (get_or ws i 0)) (i + 1) area' tokens' at'
+      → LineAdded tape area tokens at (tokens_of tape old (take i ws) ++ (token_of tape old (get_or ws i 0) ∷ []))
+      (text_in (tokens_of tape old (take i ws)) + len_of (get_or ws i 0)) (i + 1) area' tokens' at'
       → LineAdded tape area tokens at (tokens_of tape old (take (i + 1) ws)) (text_in (tokens_of tape old (take (i + 1) ws))) (i + 1) area' tokens' at'
   line_added_next l = rw (text_next, tokens_more tape old ws i h) l
 

@@ -4,7 +4,7 @@ use mathlib.Core.Bool.{Bool, true, false}
 use mathlib.Core.List.{List, [], ◌∷◌, ◌++◌, append_assoc}
 use lib.Dec.{eqb}
 use borrow.Author.Tests.{eq-eqb, ne_eqb}
-use Rattle.reference.specs.Control.{◌&&◌, if◌then◌else◌}
+use Rattle.reference.specs.Control.{◌and◌, when◌then◌else◌}
 use Rattle.reference.specs.Listing.{Token, token, is}
 use Rattle.reference.specs.Numbers.{joins, merge_into, merge}
 use Rattle.laws.proofs.Scans.{if-true, if-false, and_true, and_false}
@@ -12,7 +12,7 @@ use Rattle.build.specs.State.{push_token, pushes, joinable}
 
 -- ---- whether two tokens are joined
 
-joins_is : (a b : Token) → joins a b ≡ (eqb a.kind b.kind && joinable b.kind)
+joins_is : (a b : Token) → joins a b ≡ (eqb a.kind b.kind and joinable b.kind)
 unfolding joins joinable is
 joins_is a b = refl
 
@@ -21,10 +21,10 @@ module _ (a t : Token) where
   no_join_kind n = joins_is a t ∙ and_false _ (ne_eqb _ _ n)
 
   pub no_join_ever : joinable t.kind ≡ false → joins a t ≡ false
-  unfolding ◌&&◌
+  unfolding ◌and◌
   no_join_ever e = joins_is a t ∙ rw e (last (eqb a.kind t.kind))
     where
-      last : (b : Bool) → (b && false) ≡ false
+      last : (b : Bool) → (b and false) ≡ false
       last true = refl
       last false = refl
 
@@ -61,14 +61,14 @@ pushes_append out [] us = refl
 pushes_append out (t ∷ ts) us = pushes_append (push_token out t) ts us
 
 pushes-into : (cur : List Token) (a : Token) (ts : List Token) → pushes (cur ++ (a ∷ [])) ts ≡ cur ++ merge_into a ts
-unfolding pushes merge_into if◌then◌else◌
+unfolding pushes merge_into when◌then◌else◌
 pushes-into cur a [] = refl
 pushes-into cur a (t ∷ ts) = step (pushes-into cur (token a.kind (a.text ++ t.text)) ts) (pushes-into (cur ++ (a ∷ [])) t ts) (joins a t) refl
   where
     step : pushes (cur ++ (token a.kind (a.text ++ t.text) ∷ [])) ts ≡ cur ++ merge_into (token a.kind (a.text ++ t.text)) ts
         → pushes (cur ++ (a ∷ []) ++ (t ∷ [])) ts ≡ cur ++ (a ∷ []) ++ merge_into t ts
         → (b : Bool) → joins a t ≡ b
-        → pushes (push_token (cur ++ (a ∷ [])) t) ts ≡ cur ++ (if b then merge_into (token a.kind (a.text ++ t.text)) ts else a ∷ merge_into t ts)
+        → pushes (push_token (cur ++ (a ∷ [])) t) ts ≡ cur ++ (when b then merge_into (token a.kind (a.text ++ t.text)) ts else a ∷ merge_into t ts)
     step joined on true e = rw (push_joined cur a t e) joined
     step joined on false e = rw (push_added cur a t e) (on ∙ append_assoc cur (a ∷ []) (merge_into t ts))
 

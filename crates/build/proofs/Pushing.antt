@@ -11,7 +11,7 @@ use lib.Dec.{eqb}
 use lib.ListN.{length, get_or}
 use lib.Seq.{slice, slice_empty}
 use borrow.Author.Tests.{eq-eqb, ne_eqb, ltb-true, eqb-true, lt-ltb, le-ltb}
-use Rattle.reference.specs.Control.{◌&&◌, ◌||◌}
+use Rattle.reference.specs.Control.{◌and◌, ◌or◌}
 use Rattle.reference.specs.Text.{Text}
 use Rattle.reference.specs.Listing.{Token, token, Punct, Plain}
 use Rattle.reference.specs.Numbers.{joins}
@@ -26,20 +26,20 @@ use Rattle.build.proofs.Merging.{push_joined, push_added, push_first, pushes_one
 -- ---- the tests
 
 pub joined_here : (k : ℕ) → k ≡ Punct → true ≡ joinable k
-unfolding joinable ◌||◌
+unfolding joinable ◌or◌
 joined_here k e = rw (eq-eqb k Punct e)
 
 pub joined_else : (k : ℕ) → (k ≡ Punct → ⊥) → eqb k Plain ≡ joinable k
-unfolding joinable ◌||◌
+unfolding joinable ◌or◌
 joined_else k n = rw (ne_eqb k Punct n)
 
 module _ (kind : ℕ) (tokens : List ℕ) (from : ℕ) (at : Size) where
   pub extends-not : at.tokens ≤ from → false ≡ extends kind tokens from at
-  unfolding extends ◌&&◌
+  unfolding extends ◌and◌
   extends-not h = rw (le-ltb from at.tokens h)
 
   pub extends_is : {k : ℕ} → from < at.tokens → k ≡ kind_of (get_or tokens (at.tokens - 1) 0) → eqb k kind ≡ extends kind tokens from at
-  unfolding extends ◌&&◌
+  unfolding extends ◌and◌
   extends_is h e = rw (lt-ltb from at.tokens h, e)
 
   pub extends-true : extends kind tokens from at ≡ true → (from < at.tokens) × (kind_of (get_or tokens (at.tokens - 1) 0) ≡ kind)
@@ -92,7 +92,8 @@ module _ {tape area : Text} {tokens : List ℕ} {from : ℕ} {at : Size} (b : Bu
       → Pushed tape area tokens from at (t ∷ []) area' tokens' at'
   pushed_added a room p j = pushed b a b.after (le_refl _) la lt more room p hn (unjoined b t j)
 
-  pub pushed_joined : Appends tape area tokens at (at.tokens - 1) (token (kind_of (get_or tokens (at.tokens - 1) 0)) (text_of tape (used area at) (get_or tokens (at.tokens - 1) 0) ++ t.text)) n area' tokens' at'
+  pub pushed_joined : Appends tape area tokens at (at.tokens - 1) (token (kind_of (get_or tokens (at.tokens - 1) 0)) (text_of tape (used area at) (get_or tokens (at.tokens - 1) 0) ++ t.text))
+      n area' tokens' at'
       → from < at.tokens → buffer_of (get_or tokens' (at.tokens - 1) 0) ≡ 1
       → joins (token_of tape (used area at) (get_or tokens (at.tokens - 1) 0)) t ≡ true
       → Pushed tape area tokens from at (t ∷ []) area' tokens' at'
@@ -110,5 +111,5 @@ extendable-last {kind} {tokens} {from} {at} j x e =
     (l.0, l.1, p, x.at_end l.0 p)
 
 pub punct-joins : joinable Punct ≡ true
-unfolding joinable ◌||◌
+unfolding joinable ◌or◌
 punct-joins = refl

@@ -7,7 +7,7 @@ use lib.ListN.{length, get_or, take, drop}
 use lib.Seq.{slice_empty}
 use native.Mathlib.Nat.{le_refl}
 use native.Mathlib.Omega.{arith}
-use Rattle.reference.specs.Control.{if◌then◌else◌}
+use Rattle.reference.specs.Control.{when◌then◌else◌}
 use Rattle.reference.specs.Text.{Text}
 use Rattle.reference.specs.Listing.{Token}
 use Rattle.reference.specs.Names.{of_family}
@@ -51,10 +51,10 @@ module _ (tape area : Text) (source : List ℕ) (j : Substitution) where
   right = right_of tape area source j
 
   one : (t : Token) (us : List Token) → substitute name right (t ∷ us) ≡ used_as tape area source j t ++ substitute name right us
-  unfolding substitute used_as if◌then◌else◌
+  unfolding substitute used_as when◌then◌else◌
   one t us = choose (of_family name t) right (substitute name right us)
     where
-      choose : (b : Bool) (r s : List Token) → (if b then r ++ s else t ∷ s) ≡ (if b then r else t ∷ []) ++ s
+      choose : (b : Bool) (r s : List Token) → (when b then r ++ s else t ∷ s) ≡ (when b then r else t ∷ []) ++ s
       choose true r s = refl
       choose false r s = refl
 
@@ -70,7 +70,8 @@ module _ (tape area : Text) (source : List ℕ) (j : Substitution) where
     here = used_as tape area source j (token_of tape area (get_or line k 0))
 
     pub substituted-split : substituted tape area source j line ≡ substituted tape area source j (take k line) ++ (here ++ substituted tape area source j (drop (k + 1) line))
-    substituted-split = ap (substitute name right) (tokens-split tape area line k h) ∙ split (tokens_of tape area (take k line)) (token_of tape area (get_or line k 0)) (tokens_of tape area (drop (k + 1) line))
+    substituted-split = ap (substitute name right) (tokens-split tape area line k h) ∙ split (tokens_of tape area (take k line)) (token_of tape area (get_or line k 0))
+        (tokens_of tape area (drop (k + 1) line))
 
     pub substituted_more : substituted tape area source j (take (k + 1) line) ≡ substituted tape area source j (take k line) ++ here
     unfolding substitute

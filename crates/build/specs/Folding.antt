@@ -1,8 +1,8 @@
 -- A line that is folded in place: its first `kept` words are done, those from `next` on are still to be seen. Assumes nothing.
 use Rattle.std.specs.Prelude.{ℕ, ◌+◌, ◌*◌, ◌≤◌, ◌<◌, ◌≡◌, Bool, List, [], ◌∷◌, ◌++◌, ℤ, ◌+ℤ◌, ◌-ℤ◌, length, take, drop}
 use Rattle.std.proofs.Math.Option.{Option, none, some}
-use Rattle.reference.specs.Control.{◌&&◌, if◌then◌else◌, let_some◌else◌then◌}
-use Rattle.reference.specs.Text.{Text, bytes, ◌==◌}
+use Rattle.reference.specs.Control.{◌and◌, when◌then◌else◌, let_some◌else◌then◌}
+use Rattle.reference.specs.Text.{Text, bytes, ◌≟◌}
 use Rattle.reference.specs.Listing.{Token, token, is, Number}
 use Rattle.reference.specs.Numbers.{read_number, wrap, show, folded, fold_at, fold}
 use Rattle.joining.proofs.Room.{is_sign, signs}
@@ -14,12 +14,12 @@ use Rattle.build.specs.State.{line_now, Fresh, Built, Grows}
 -- ---- what a fold makes
 
 unfoldable pub operated : Bool → Option ℤ → Option ℤ → Option ℤ
-operated plus o p = let_some o else none then λ x. let_some p else none then λ y. some (wrap (if plus then x +ℤ y else x -ℤ y))
+operated plus o p = let_some o else none then λ x. let_some p else none then λ y. some (wrap (when plus then x +ℤ y else x -ℤ y))
 
 unfoldable pub sum_of : ℕ → Token → Token → Token → Option ℤ
 sum_of edition a b c =
-    if is Number a && is Number c && is_sign b
-    then operated (b.text == bytes " + ") (read_number edition a.text) (read_number edition c.text)
+    when is Number a and is Number c and is_sign b
+    then operated (b.text ≟ bytes " + ") (read_number edition a.text) (read_number edition c.text)
     else none
 
 abbrev pub number_token : Option ℤ → Option Token

@@ -2,7 +2,7 @@
 -- Nothing is said of what stands below: a set may be begun at any marks. Assumes nothing.
 use Rattle.std.specs.Prelude.{ℕ, ◌+◌, ◌-◌, ◌≤◌, ◌<◌, ◌≡◌, Bool, true, List, [], ◌∷◌, ◌++◌, eqb, ltb, length, get_or, take}
 use Rattle.std.proofs.Math.Seq.{slice}
-use Rattle.reference.specs.Control.{◌&&◌, ◌||◌, if◌then◌else◌}
+use Rattle.reference.specs.Control.{◌and◌, ◌or◌, when◌then◌else◌}
 use Rattle.reference.specs.Text.{Text}
 use Rattle.reference.specs.Listing.{Token, token, Plain, Punct}
 use Rattle.reference.specs.Numbers.{joins}
@@ -14,7 +14,7 @@ use Rattle.build.specs.declared.used.Size.{Size}
 
 unfoldable pub push_token : List Token → Token → List Token
 push_token [] t = t ∷ []
-push_token (a ∷ []) t = if joins a t then token a.kind (a.text ++ t.text) ∷ [] else a ∷ t ∷ []
+push_token (a ∷ []) t = when joins a t then token a.kind (a.text ++ t.text) ∷ [] else a ∷ t ∷ []
 push_token (a ∷ b ∷ rest) t = a ∷ push_token (b ∷ rest) t
 
 unfoldable pub pushes : List Token → List Token → List Token
@@ -23,7 +23,7 @@ pushes out (t ∷ ts) = pushes (push_token out t) ts
 
 -- the kinds that are joined
 unfoldable pub joinable : ℕ → Bool
-joinable k = eqb k Punct || eqb k Plain
+joinable k = eqb k Punct or eqb k Plain
 
 -- so much text and so many words more can be appended
 pub record Room (area : Text) (tokens : List ℕ) (at : Size) (text count : ℕ) : Type 0 where
@@ -73,7 +73,7 @@ pub record Ready (tape area : Text) (tokens : List ℕ) (from : ℕ) (at : Size)
 
 -- whether a token of this kind is joined to the last token of the line that began at `from`
 unfoldable pub extends : ℕ → List ℕ → ℕ → Size → Bool
-extends kind tokens from at = ltb from at.tokens && eqb (kind_of (last_word tokens at)) kind
+extends kind tokens from at = ltb from at.tokens and eqb (kind_of (last_word tokens at)) kind
 
 -- ---- what is left
 

@@ -1,6 +1,6 @@
 -- What a substitution puts in the place of a token of its family. Assumes nothing.
 use Rattle.std.specs.Prelude.{ℕ, List, [], ◌∷◌, ◌++◌}
-use Rattle.reference.specs.Control.{if◌then◌else◌}
+use Rattle.reference.specs.Control.{when◌then◌else◌}
 use Rattle.reference.specs.Text.{Text, bytes}
 use Rattle.reference.specs.Listing.{Token, token, Punct}
 use Rattle.reference.specs.Names.{of_family}
@@ -16,13 +16,13 @@ bracketed expr = token Punct (bytes "(") ∷ expr ++ (token Punct (bytes ")") �
 -- the right side of the line `source`, in brackets or without
 unfoldable pub right_of : Text → Text → List ℕ → Substitution → List Token
 right_of tape area source j =
-    if j.brackets
+    when j.brackets
     then bracketed (tokens_of tape area (expr_words source j.expr))
     else tokens_of tape area (expr_words source j.expr)
 
 -- what a token becomes
 unfoldable pub used_as : Text → Text → List ℕ → Substitution → Token → List Token
-used_as tape area source j t = if of_family (fam_text tape area j.family) t then right_of tape area source j else t ∷ []
+used_as tape area source j t = when of_family (fam_text tape area j.family) t then right_of tape area source j else t ∷ []
 
 -- what a line becomes, before it is merged
 abbrev pub substituted : Text → Text → List ℕ → Substitution → List ℕ → List Token

@@ -1,6 +1,5 @@
 // Appending to a set: a word, a text, more text for the last token, a token of the old listing as it is.
 ghost use Rattle.std.specs.Prelude.{◌≡◌, ◌++◌, ◌+◌, ◌-◌, ◌<◌, length, get_or};
-ghost use Rattle.reference.specs.Contract.{was};
 ghost use Rattle.reference.specs.Text.{Text};
 ghost use Rattle.reference.specs.Listing.{token};
 ghost use Rattle.lines.specs.Words.{kind_of, buffer_of, start_of, len_of, text_of, token_of, Points};
@@ -13,7 +12,7 @@ use text::copy_bytes;
 // Appends a token whose text is in the tape.
 fn add_word(w: u64, tokens: &mut [u64], size: Size) -> Size
     requires { (buffer_of w ≡ 0) × (size.tokens < length tokens.old) }
-    ensures { (tape old area : Text) → Points tape old w → Appends tape area (was tokens) size size.tokens
+    ensures { (tape old area : Text) → Points tape old w → Appends tape area tokens.old size size.tokens
         (token_of tape old w) 0 area tokens.new result }
 {
     let n = size.tokens;
@@ -28,7 +27,7 @@ fn add_word(w: u64, tokens: &mut [u64], size: Size) -> Size
 // Appends a token with a copy of its text.
 pub fn add_text(kind: u64, s: &[u8], area: &mut [u8], tokens: &mut [u64], size: Size) -> Size
     requires { (kind < 8) × Room area.old tokens.old size (length s.now) 1 }
-    ensures { ((tape : Text) → Appends tape (was area) (was tokens) size size.tokens (token kind (was s)) (length (was s))
+    ensures { ((tape : Text) → Appends tape area.old tokens.old size size.tokens (token kind s.now) (length s.now)
         area.new tokens.new result) × (buffer_of (get_or tokens.new size.tokens 0) ≡ 1) }
 {
     let n = size.tokens;
@@ -46,9 +45,9 @@ pub fn add_text(kind: u64, s: &[u8], area: &mut [u8], tokens: &mut [u64], size: 
 pub fn extend_last(s: &[u8], area: &mut [u8], tokens: &mut [u64], size: Size) -> Size
     requires { (0 < size.tokens) × Room area.old tokens.old size (length s.now) 0 × (buffer_of (last_word tokens.old size) ≡ 1)
         × (start_of (last_word tokens.old size) + len_of (last_word tokens.old size) ≡ size.text) }
-    ensures { ((tape : Text) → Appends tape (was area) (was tokens) size (size.tokens - 1)
-        (token (kind_of (last_word (was tokens) size)) (text_of tape (used (was area) size) (last_word (was tokens) size) ++ was s))
-        (length (was s)) area.new tokens.new result) × (buffer_of (get_or tokens.new (size.tokens - 1) 0) ≡ 1) }
+    ensures { ((tape : Text) → Appends tape area.old tokens.old size (size.tokens - 1)
+        (token (kind_of (last_word tokens.old size)) (text_of tape (used area.old size) (last_word tokens.old size) ++ s.now))
+        (length s.now) area.new tokens.new result) × (buffer_of (get_or tokens.new (size.tokens - 1) 0) ≡ 1) }
 {
     let n = size.tokens - 1;
     let at = size.text;
@@ -77,8 +76,8 @@ pub fn keep<'a>(
     size: Size,
 ) -> Size
     requires { Points tape.now old.now w × Room area.old tokens.old size (len_of w) 1 }
-    ensures { Appends (was tape) (was area) (was tokens) size size.tokens
-        (token_of (was tape) (was old) w) (len_of w) area.new tokens.new result }
+    ensures { Appends tape.now area.old tokens.old size size.tokens
+        (token_of tape.now old.now w) (len_of w) area.new tokens.new result }
 {
     if words::buffer(w) == words::IN_TAPE {
         return add_word(w, tokens, size);

@@ -1,9 +1,8 @@
 // Numbers folded in place (`fold` of the Rust): `n + m` and `n - m` between plain delimiters, with a read and a write index. What a fold
 // makes is put at the end of the text in use, and looked at again.
 ghost use Rattle.std.specs.Prelude.{◌≡◌, ◌+◌, ◌≤◌, ◌<◌, length, take, drop};
-ghost use Rattle.reference.specs.Contract.{was};
-ghost use Rattle.reference.specs.Control.{◌||◌};
-ghost use Rattle.reference.specs.Text.{bytes, ◌==◌};
+ghost use Rattle.reference.specs.Control.{◌or◌};
+ghost use Rattle.reference.specs.Text.{bytes, ◌≟◌};
 ghost use Rattle.reference.specs.Numbers.{delim_before, delim_after};
 ghost use Rattle.lines.specs.Words.{token_of, tokens_of, Points, Holds};
 ghost use Rattle.numbers.specs.Reading.{meaning};
@@ -33,7 +32,7 @@ fn operate(plus: bool, a: Number, b: Number) -> Number
 
 // Whether a token between two numbers is an operator that folds.
 fn is_sign(s: &[u8]) -> bool
-    ensures { result ≡ ((was s == bytes " + ") || (was s == bytes " - ")) }
+    ensures { result ≡ ((s.now ≟ bytes " + ") or (s.now ≟ bytes " - ")) }
 {
     text::is_plus(s) || text::is_minus(s)
 }
@@ -48,8 +47,8 @@ fn sum_of<'a>(
     edition: u8,
 ) -> Number
     requires { Points tape.now area.now left × Points tape.now area.now operator × Points tape.now area.now right }
-    ensures { meaning result ≡ sum_of edition (token_of (was tape) (was area) left)
-        (token_of (was tape) (was area) operator) (token_of (was tape) (was area) right) }
+    ensures { meaning result ≡ sum_of edition (token_of tape.now area.now left)
+        (token_of tape.now area.now operator) (token_of tape.now area.now right) }
 {
     if words::kind(left) != words::NUMBER {
         return Number::Unread;
@@ -71,7 +70,7 @@ fn sum_of<'a>(
 // Whether the first `kept` tokens end with a delimiter, or are none.
 fn delimited_before<'a>(tape: &'a [u8], area: &'a [u8], line: &'a [u64], kept: usize) -> bool
     requires { (kept ≤ length line.now) × Holds tape.now area.now (take kept line.now) }
-    ensures { result ≡ delim_before (last_of (tokens_of (was tape) (was area) (take kept (was line)))) }
+    ensures { result ≡ delim_before (last_of (tokens_of tape.now area.now (take kept line.now))) }
 {
     if kept == 0 {
         return true;
@@ -82,7 +81,7 @@ fn delimited_before<'a>(tape: &'a [u8], area: &'a [u8], line: &'a [u64], kept: u
 // Whether the tokens from `at` on begin with a delimiter, or are none.
 fn delimited_after<'a>(tape: &'a [u8], area: &'a [u8], line: &'a [u64], at: usize) -> bool
     requires { Holds tape.now area.now (drop at line.now) }
-    ensures { result ≡ delim_after (tokens_of (was tape) (was area) (drop at (was line))) }
+    ensures { result ≡ delim_after (tokens_of tape.now area.now (drop at line.now)) }
 {
     if line.len() <= at {
         return true;
@@ -101,8 +100,8 @@ fn fold_value<'a>(
 ) -> Number
     requires { (kept ≤ length line.now) × (next ≤ length line.now) × Holds tape.now area.now (take kept line.now)
         × Holds tape.now area.now (drop next line.now) }
-    ensures { number_token (meaning result) ≡ fold_next edition (last_of (tokens_of (was tape) (was area) (take kept (was line))))
-        (tokens_of (was tape) (was area) (drop next (was line))) }
+    ensures { number_token (meaning result) ≡ fold_next edition (last_of (tokens_of tape.now area.now (take kept line.now)))
+        (tokens_of tape.now area.now (drop next line.now)) }
 {
     if line.len() - next < 3 {
         return Number::Unread;
@@ -125,7 +124,7 @@ fn fold_value<'a>(
 
 // How far the folding of a line has come: its first `kept` words are done, those from `next` on are still to be seen; `text` is the text in
 // use.
-#[derive(Drop)]
+#[derive(Clone, Copy)]
 pub struct Folding {
     pub kept: usize,
     pub next: usize,
@@ -135,7 +134,7 @@ pub struct Folding {
 // One step: three tokens become a Number, which is looked at again, or a token is kept.
 fn fold_step(tape: &[u8], area: &mut [u8], line: &mut [u64], f: Folding, edition: u8) -> Folding
     requires { Foldable tape.now area.old line.old f × (f.next < length line.old) }
-    ensures { Stepped edition (was tape) (was area) (was line) f area.new line.new result }
+    ensures { Stepped edition tape.now area.old line.old f area.new line.new result }
 {
     let kept = f.kept;
     let next = f.next;
@@ -165,7 +164,7 @@ fn fold_step(tape: &[u8], area: &mut [u8], line: &mut [u64], f: Folding, edition
 // Folds a line's words, with `text` bytes in use.
 fn fold(tape: &[u8], area: &mut [u8], line: &mut [u64], text: usize, edition: u8) -> Folding
     requires { Foldable tape.now area.old line.old (record { kept = 0; next = 0; text = text }) }
-    ensures { Folded edition (was tape) (was area) (was line) text area.new line.new result }
+    ensures { Folded edition tape.now area.old line.old text area.new line.new result }
 {
     let mut f = Folding {
         kept: 0,
@@ -189,7 +188,7 @@ pub fn fold_last(
 ) -> Size
     requires { Built tape.now area.old tokens.old from size
         × Room area.old tokens.old size (signs_room (line_now tape.now area.old tokens.old from size)) 0 }
-    ensures { FoldedLast edition (was tape) (was area) (was tokens) from size area.new tokens.new result }
+    ensures { FoldedLast edition tape.now area.old tokens.old from size area.new tokens.new result }
 {
     let to = size.tokens;
     let f = fold(tape, area, &mut tokens[from..to], size.text, edition);

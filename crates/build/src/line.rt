@@ -1,6 +1,5 @@
 // A line of the old listing, kept as it is or rewritten, at the end of the set that is being built.
 ghost use Rattle.std.specs.Prelude.{length};
-ghost use Rattle.reference.specs.Contract.{was};
 ghost use Rattle.reference.specs.Claim.{text_in};
 ghost use Rattle.lines.specs.Words.{tokens_of, Holds};
 ghost use Rattle.build.specs.State.{Room, LineAdded};
@@ -23,8 +22,8 @@ fn keep_tokens<'a>(
 ) -> Size
     requires { Holds tape.now old.now line.now
         × Room area.old tokens.old size (text_in (tokens_of tape.now old.now line.now)) (length line.now) }
-    ensures { LineAdded (was tape) (was area) (was tokens) size (tokens_of (was tape) (was old) (was line))
-        (text_in (tokens_of (was tape) (was old) (was line))) (length (was line)) area.new tokens.new result }
+    ensures { LineAdded tape.now area.old tokens.old size (tokens_of tape.now old.now line.now)
+        (text_in (tokens_of tape.now old.now line.now)) (length line.now) area.new tokens.new result }
 {
     let mut s = size;
     let mut k = 0;
@@ -36,7 +35,7 @@ fn keep_tokens<'a>(
 }
 
 // A line that was appended: its word, and how much of the set is then in use.
-#[derive(Drop)]
+#[derive(Clone, Copy)]
 pub struct Appended {
     pub line: u64,
     pub size: Size,
@@ -53,7 +52,7 @@ pub fn keep_line<'a>(
     size: Size,
 ) -> Appended
     requires { Keepable tape.now old.now old_tokens.now l area.old tokens.old size }
-    ensures { Kept (was tape) (was old) (was old_tokens) l (was area) (was tokens)
+    ensures { Kept tape.now old.now old_tokens.now l area.old tokens.old
         size area.new tokens.new result }
 {
     let from = size.tokens;
@@ -79,8 +78,8 @@ pub fn rewrite_line<'a>(
     edition: u8,
 ) -> Appended
     requires { Rewritable tape.now old.now old_tokens.now source j l area.old tokens.old size }
-    ensures { Rewritten edition (was tape) (was old) (was old_tokens) source j l (was area)
-        (was tokens) size area.new tokens.new result }
+    ensures { Rewritten edition tape.now old.now old_tokens.now source j l area.old
+        tokens.old size area.new tokens.new result }
 {
     let from = size.tokens;
     let merged = merge(

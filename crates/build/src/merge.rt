@@ -1,7 +1,6 @@
 // Tokens joined one by one (`merge` of the Rust): Punct to Punct and Text to Text. While a line is merged, what may be joined has its text
 // in the area, so that joining only extends the end.
 ghost use Rattle.std.specs.Prelude.{◌≡◌, true, [], ◌∷◌, ◌≤◌, ◌<◌, length};
-ghost use Rattle.reference.specs.Contract.{was};
 ghost use Rattle.reference.specs.Text.{Text};
 ghost use Rattle.reference.specs.Listing.{token};
 ghost use Rattle.reference.specs.Claim.{text_in};
@@ -30,7 +29,7 @@ fn is_joined(kind: u64) -> bool
 // Whether a token of this kind is joined to the last token of the line that began at `from`.
 fn extends(kind: u64, tokens: &[u64], from: usize, size: Size) -> bool
     requires { size.tokens ≤ length tokens.now }
-    ensures { result ≡ state.extends kind (was tokens) from size }
+    ensures { result ≡ state.extends kind tokens.now from size }
 {
     let n = size.tokens;
     if n <= from {
@@ -50,8 +49,8 @@ fn push_text(
 ) -> Size
     requires { (joinable kind ≡ true) × (kind < 8) × Extendable tokens.old from size
         × Room area.old tokens.old size (length s.now) 1 }
-    ensures { (tape : Text) → Built tape (was area) (was tokens) from size → Pushed tape (was area) (was tokens) from size
-        (token kind (was s) ∷ []) area.new tokens.new result }
+    ensures { (tape : Text) → Built tape area.old tokens.old from size → Pushed tape area.old tokens.old from size
+        (token kind s.now ∷ []) area.new tokens.new result }
 {
     if extends(kind, tokens, from, size) {
         return extend_last(s, area, tokens, size);
@@ -71,8 +70,8 @@ fn push<'a>(
 ) -> Size
     requires { Points tape.now old.now w × Ready tape.now area.old tokens.old from size (token_of tape.now old.now w
         ∷ []) }
-    ensures { Pushed (was tape) (was area) (was tokens) from size
-        (token_of (was tape) (was old) w ∷ []) area.new tokens.new result }
+    ensures { Pushed tape.now area.old tokens.old from size
+        (token_of tape.now old.now w ∷ []) area.new tokens.new result }
 {
     let kind = words::kind(w);
     if is_joined(kind) {
@@ -94,7 +93,7 @@ fn push_expr<'a>(
 ) -> Size
     requires { Holds tape.now old.now source.now × Expression source.now x × Ready tape.now area.old tokens.old from size
         (tokens_of tape.now old.now (expr_words source.now x)) }
-    ensures { Pushed (was tape) (was area) (was tokens) from size (tokens_of (was tape) (was old) (expr_words (was source) x))
+    ensures { Pushed tape.now area.old tokens.old from size (tokens_of tape.now old.now (expr_words source.now x))
         area.new tokens.new result }
 {
     let n = x.count;
@@ -120,8 +119,8 @@ fn push_bracketed<'a>(
 ) -> Size
     requires { Holds tape.now old.now source.now × Expression source.now x × Ready tape.now area.old tokens.old from size
         (bracketed (tokens_of tape.now old.now (expr_words source.now x))) }
-    ensures { Pushed (was tape) (was area) (was tokens) from size
-        (bracketed (tokens_of (was tape) (was old) (expr_words (was source) x))) area.new tokens.new result }
+    ensures { Pushed tape.now area.old tokens.old from size
+        (bracketed (tokens_of tape.now old.now (expr_words source.now x))) area.new tokens.new result }
 {
     let opened = push_text(words::PUNCT, b"(", area, tokens, from, size);
     let filled = push_expr(tape, old, source, x, area, tokens, from, opened);
@@ -129,7 +128,7 @@ fn push_bracketed<'a>(
 }
 
 // What takes the place of each token of a family: the right side of the line that is joined, in brackets or without.
-#[derive(Drop)]
+#[derive(Clone, Copy)]
 pub struct Substitution {
     pub family: Fam,
     pub expr: Expr,
@@ -151,8 +150,8 @@ fn push_used<'a>(
     requires { Substitutes tape.now old.now source.now j × Points tape.now old.now w
         × Ready tape.now area.old tokens.old from size
         (used_as tape.now old.now source.now j (token_of tape.now old.now w)) }
-    ensures { Pushed (was tape) (was area) (was tokens) from size (used_as (was tape) (was old) (was source) j
-        (token_of (was tape) (was old) w)) area.new tokens.new result }
+    ensures { Pushed tape.now area.old tokens.old from size (used_as tape.now old.now source.now j
+        (token_of tape.now old.now w)) area.new tokens.new result }
 {
     let f = j.family;
     let x = j.expr;
@@ -180,10 +179,10 @@ pub fn merge<'a>(
     requires { Substitutes tape.now old.now source.now j × Holds tape.now old.now line.now
         × Room area.old tokens.old size (text_in (substituted tape.now old.now source.now j line.now))
         (length (substituted tape.now old.now source.now j line.now)) }
-    ensures { LineAdded (was tape) (was area) (was tokens) size
-        (numbers.merge (substituted (was tape) (was old) (was source) j (was line)))
-        (text_in (substituted (was tape) (was old) (was source) j (was line)))
-        (length (substituted (was tape) (was old) (was source) j (was line))) area.new tokens.new result }
+    ensures { LineAdded tape.now area.old tokens.old size
+        (numbers.merge (substituted tape.now old.now source.now j line.now))
+        (text_in (substituted tape.now old.now source.now j line.now))
+        (length (substituted tape.now old.now source.now j line.now)) area.new tokens.new result }
 {
     let from = size.tokens;
     let mut s = size;

@@ -3,14 +3,13 @@ use Prim.Native.Nat.{ℕ}
 use native.Mathlib.Omega.{arith}
 use mathlib.Core.Path.{◌≡◌, refl, sym, ap, subst, ◌∙◌}
 use mathlib.Core.Bool.{Bool, true, false}
-use mathlib.Core.Option.{Option, none, some}
 use mathlib.Core.List.{List, [], ◌∷◌}
 use lib.ListN.{length}
 use borrow.Author.Tests.{leb-true}
-use Rattle.reference.specs.Control.{if◌then◌else◌, let_some◌else◌then◌}
+use Rattle.reference.specs.Control.{when◌then◌else◌, let_some◌else◌then◌}
 use Rattle.reference.specs.Listing.{Listing}
 use Rattle.reference.specs.Rules.{Rules}
-use Rattle.reference.specs.Questions.{is_convention, is_edition, has_room_by, has_room, Answer, Refused, Passed, let_passed◌then◌, read}
+use Rattle.reference.specs.Questions.{is_convention, is_edition, has_room_by, has_room, Refused, Passed, let_passed◌then◌, read}
 use Rattle.reference.specs.Straight.{breaks}
 use Rattle.reference.specs.Reply.{Cleaned, Reply, Told, told, Report, ask_profile, reply_by, reply, output_after, work_after, report}
 use Rattle.reference.proofs.Cases.{both}
@@ -122,10 +121,10 @@ module _ (rules : Rules) (tape work_a work_b out : List ℕ) where
       asked r input o = go rules.profile refl
         where
           go : (b : Bool) → rules.profile ≡ b
-              → (if rules.profile then (let_some (breaks input) else cleaned rules tape input then λ n. Refused 14 n) else cleaned rules tape input)
+              → (when rules.profile then (let_some (breaks input) else cleaned rules tape input then λ n. Refused 14 n) else cleaned rules tape input)
               ≡ (let_some (found r) else cleaned rules tape input then λ n. Refused 14 n)
-          go true e = unfold if◌then◌else◌ in rw (o, e) refl
-          go false e = unfold if◌then◌else◌ in rw (o, e) refl
+          go true e = unfold when◌then◌else◌ in rw (o, e) refl
+          go false e = unfold when◌then◌else◌ in rw (o, e) refl
 
       pub refused_in_profile : (a : AcceptedTape tape) (r : Position) → ((input : Listing) → read tape ≡ Passed input → found r ≡ outside rules input)
           → (n : ℕ) → r ≡ At n → Promise work_a work_b out (Said.Refused 14 n)

@@ -1,12 +1,12 @@
 -- From the tables of an accepted tape to its new tape: what was loaded can be run, what the run left can be written, and what was written is
 -- the reply's; and a work area that was worked in and wiped. Assumes nothing.
-use Prim.Native.Nat.{ℕ, suc, ◌≤◌, ◌<◌, ◌+◌, ◌-◌, zero-le}
+use Prim.Native.Nat.{ℕ, suc, ◌≤◌, ◌<◌, ◌+◌, zero-le}
 use native.Mathlib.Omega.{arith}
-use native.Mathlib.Nat.{le_trans, le_of_eq, min-le_left}
+use native.Mathlib.Nat.{le_trans, min-le_left}
 use mathlib.Core.Path.{◌≡◌, refl, sym, ap, ◌∙◌}
 use mathlib.Core.List.{List, [], ◌∷◌, ◌++◌, map}
 use lib.ListN.{length, drop, take, get_or, length-map, length-take, replicate}
-use lib.Seq.{length-take-le, length_front, get_or-take, drop_at}
+use lib.Seq.{length-take-le, get_or-take, drop_at}
 use Rattle.reference.specs.Text.{Text}
 use Rattle.reference.specs.Listing.{Token, Listing}
 use Rattle.reference.specs.Rules.{Rules}

@@ -1,7 +1,7 @@
 -- What the code's replies mean, and what a call promises. Assumes nothing.
 use Rattle.std.specs.Prelude.{ℕ, ◌≡◌, true, List, length}
 use Rattle.std.proofs.Math.Option.{Option, none}
-use Rattle.reference.specs.Control.{if◌then◌else◌}
+use Rattle.reference.specs.Control.{when◌then◌else◌}
 use Rattle.reference.specs.Rules.{Rules}
 use Rattle.reference.specs.Listing.{Listing}
 use Rattle.reference.specs.Run.{run, finished, three, Counts, counts}
@@ -89,4 +89,4 @@ cleaned rules tape input =
 
 -- M-106: the first line that breaks the profile, where it is asked for
 abbrev pub outside : Rules → Listing → Option ℕ
-outside rules input = if rules.profile then breaks input else none
+outside rules input = when rules.profile then breaks input else none

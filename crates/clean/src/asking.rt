@@ -1,6 +1,5 @@
 // The question of the profile (request M-106), asked once the tape is read, where the profile is asked for.
 ghost use Rattle.std.specs.Prelude.{◌≡◌};
-ghost use Rattle.reference.specs.Contract.{was};
 ghost use Rattle.reference.specs.Listing.{Listing};
 ghost use Rattle.reference.specs.Questions.{Passed, read};
 ghost use Rattle.reference.specs.Straight.{breaks};
@@ -15,7 +14,7 @@ use lines::shapes::Position;
 // The first line that breaks the profile. The tables are this function's own, so a call without the profile has no part in them.
 fn broken(tape: &[u8]) -> Position
     requires { AcceptedTape tape.now }
-    ensures { (input : Listing) → read (was tape) ≡ Passed input → found result ≡ breaks input }
+    ensures { (input : Listing) → read tape.now ≡ Passed input → found result ≡ breaks input }
 {
     let mut tokens = [0u64; 1024];
     let mut lines = [0u64; 256];
@@ -38,7 +37,7 @@ fn broken(tape: &[u8]) -> Position
 // The first line that breaks the profile, where the profile is asked for.
 pub fn outside_profile(rules: Rules, tape: &[u8]) -> Position
     requires { AcceptedTape tape.now }
-    ensures { (input : Listing) → read (was tape) ≡ Passed input → found result ≡ outside (rules_of rules) input }
+    ensures { (input : Listing) → read tape.now ≡ Passed input → found result ≡ outside (rules_of rules) input }
 {
     if !rules.profile {
         return Position::Nothing;

@@ -1,6 +1,5 @@
 // The cleaning of a tape that passed all questions.
 ghost use Rattle.std.specs.Prelude.{◌≡◌};
-ghost use Rattle.reference.specs.Contract.{was};
 ghost use Rattle.reference.specs.Listing.{Listing};
 ghost use Rattle.reference.specs.Questions.{WORK, Passed, read};
 ghost use Rattle.lines.specs.Rules.{rules_of};
@@ -14,7 +13,7 @@ use rounds::{Outcome, Tally, optimize};
 use text::wipe;
 
 // What a cleaning did: the output's length, what is told of the rounds, the lines removed and the results cut.
-#[derive(Drop)]
+#[derive(Clone, Copy)]
 pub struct Finished {
     pub length: usize,
     pub tally: Tally,
@@ -35,7 +34,7 @@ fn optimized(
     rules: Rules,
 ) -> Outcome
     requires { Loadable tape.now area.old tokens.old lines.old area2.old lows.old highs.old size }
-    ensures { Ran (rules_of rules) (was tape) (was area) (was tokens) (was lines) (was lows) (was highs) size area.new
+    ensures { Ran (rules_of rules) tape.now area.old tokens.old lines.old lows.old highs.old size area.new
         tokens.new lines.new lows.new highs.new result }
 {
     let mut tokens2 = [0u64; 2048];
@@ -62,8 +61,8 @@ fn optimized(
 // Cleans a tape that passed all questions into the output. The areas are only worked in.
 fn written(rules: Rules, tape: &[u8], area: &mut [u8], area2: &mut [u8], out: &mut [u8]) -> Finished
     requires { Writable tape.now area.old area2.old out.old }
-    ensures { (input : Listing) → read (was tape) ≡ Passed input
-        → ReplyWritten (cleaned (rules_of rules) (was tape) input) (was out) out.new result }
+    ensures { (input : Listing) → read tape.now ≡ Passed input
+        → ReplyWritten (cleaned (rules_of rules) tape.now input) out.old out.new result }
 {
     let mut tokens = [0u64; 2048];
     let mut lines = [0u64; 256];
@@ -134,8 +133,8 @@ pub fn finish(
     out: &mut [u8],
 ) -> Finished
     requires { Cleanable tape.now work_a.old work_b.old out.old }
-    ensures { (input : Listing) → read (was tape) ≡ Passed input → Finishes (cleaned (rules_of rules) (was tape) input)
-        (was work_a) (was work_b) (was out) work_a.new work_b.new out.new result }
+    ensures { (input : Listing) → read tape.now ≡ Passed input → Finishes (cleaned (rules_of rules) tape.now input)
+        work_a.old work_b.old out.old work_a.new work_b.new out.new result }
 {
     let size = work_bytes();
     let r = written(rules, tape, &mut work_a[..size], &mut work_b[..size], out);

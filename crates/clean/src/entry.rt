@@ -1,6 +1,5 @@
 // The questions, then the cleaning.
 ghost use Rattle.std.specs.Prelude.{◌≡◌, length};
-ghost use Rattle.reference.specs.Contract.{was};
 ghost use Rattle.reference.specs.Reply.{reply};
 ghost use Rattle.lines.specs.Rules.{rules_of};
 ghost use Rattle.clean.specs.Replies.{report_of, answer_of, summary, Cleans};
@@ -12,7 +11,7 @@ use lines::shapes::Position;
 use tape::questions::Checked;
 
 // The answer: a question's number and place, or what the cleaning did.
-#[derive(Drop)]
+#[derive(Clone, Copy)]
 pub enum Reply {
     Refused { number: u64, place: usize },
     Finished(Finished),
@@ -27,10 +26,10 @@ pub fn clean(
     work_b: &mut [u8],
     out: &mut [u8],
 ) -> Reply
-    ensures cleans { Cleans (rules_of rules) (was tape) (was work_a) (was work_b) (was out) work_a.new
+    ensures cleans { Cleans (rules_of rules) tape.now work_a.old work_b.old out.old work_a.new
         work_b.new out.new (report_of result) }
-    ensures result_value { answer_of result ≡ summary (reply (rules_of rules) (was tape)
-        (length (was work_a)) (length (was work_b)) (length (was out))) }
+    ensures result_value { answer_of result ≡ summary (reply (rules_of rules) tape.now
+        (length work_a.old) (length work_b.old) (length out.old)) }
 {
     let number = tape::asked(rules, work_a.len(), work_b.len(), out.len());
     if number != 0 {

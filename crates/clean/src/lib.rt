@@ -1,4 +1,6 @@
 // The public entry: a tape in, the cleaned tape out (document 01).
+#![tactic(auto)]
+
 mod asking; // the question of the profile
 mod cleaning; // the whole cleaning of an accepted tape
 mod entry; // the questions, then the cleaning

@@ -7,7 +7,7 @@ ghost use Rattle.clean.specs.Replies.{told_of};
 use rounds::Tally;
 
 // The attempts of each of three rounds, or the number of rounds and the attempts in all: the numbers of the other setting are 0.
-#[derive(Drop)]
+#[derive(Clone, Copy)]
 pub struct Told {
     pub first: u64,
     pub second: u64,

@@ -1,7 +1,6 @@
 // The help, and what is said of wrong use.
-use crate::files::tell;
+use crate::files::{STDERR, STDOUT, tell};
 use arguments::Request;
-use libc::{STDERR_FILENO, STDOUT_FILENO};
 use words::nth_word;
 
 // The first lines of the help.
@@ -45,7 +44,7 @@ fn put_verb(fd: i32, verb: u64) {
 // What every verb has in common.
 fn put_rest() {
     io::write_all(
-        STDOUT_FILENO,
+        STDOUT,
         b"SETTINGS\n\
           \x20 -c 32|sysv|windows  the calling convention (sysv)\n\
           \x20 -e 2018|2024        the edition of C by which numbers are read (2018)\n\
@@ -63,14 +62,14 @@ fn put_rest() {
 
 // The whole help.
 fn help_all() {
-    put_front(STDOUT_FILENO);
-    put_verb(STDOUT_FILENO, 1);
-    put_verb(STDOUT_FILENO, 2);
-    put_verb(STDOUT_FILENO, 14);
-    put_verb(STDOUT_FILENO, 15);
+    put_front(STDOUT);
+    put_verb(STDOUT, 1);
+    put_verb(STDOUT, 2);
+    put_verb(STDOUT, 14);
+    put_verb(STDOUT, 15);
     let mut verb = 3;
     while verb < 13 {
-        put_verb(STDOUT_FILENO, verb);
+        put_verb(STDOUT, verb);
         verb += 1;
     }
     put_rest();
@@ -90,7 +89,7 @@ pub(crate) fn help(verb: u64) {
         help_all();
         return;
     }
-    put_verb(STDOUT_FILENO, verb);
+    put_verb(STDOUT, verb);
     put_rest();
 }
 
@@ -128,6 +127,6 @@ pub(crate) fn tell_wrong(words: &[u8], s: Request) {
         tell_fault(s.fault);
     }
     tell(b"\n");
-    put_front(STDERR_FILENO);
-    put_verb(STDERR_FILENO, s.verb);
+    put_front(STDERR);
+    put_verb(STDERR, s.verb);
 }

@@ -3,6 +3,8 @@
 // What the words ask for is read by crate arguments, and what is written of a reply is made by crate reports; the work is the library's.
 // Here stands only what reads, writes and prints. A program has no exit status: whatever is written to standard error is an error, and the
 // wrapper says 1 then.
+#![tactic(auto)]
+
 mod files; // reading and writing files
 mod help; // the help, and wrong use
 mod sink; // the file that the page goes to
@@ -11,31 +13,28 @@ use answers::Answer;
 use arguments::Request;
 use clean::Reply;
 use files::{
-    NOTHING, append, base_of, front, read_file, read_present, tell, tell_name, write_file,
-    write_output,
+    NOTHING, STDERR, STDOUT, append, base_of, front, read_file, read_present, tell, tell_name,
+    tell_unwritten, write_file, write_output,
 };
-use libc::{STDERR_FILENO, STDOUT_FILENO};
 use lines::rules::Rules;
 use listing_text::{Made, put_listing, put_tape};
 use render::{Counts, Sink, put_page};
 use rounds::Tally;
-use sink::{close_goal, open_goal};
+use sink::{close_goal, number_of, open_goal};
+use std::env::FillError;
+use std::rt::Env;
 use tape::questions::Checked;
 use text::same;
 use words::{nth_word, word_end};
 
 // ---- words
 
-// Puts argument i and a 0 at `at`, and answers where they end; NOTHING where they do not fit.
-fn add_word(i: usize, words: &mut [u8], at: usize) -> usize {
+// Puts a 0 behind the n bytes that stand at `at`, and answers where they end; NOTHING where they do not fit.
+fn end_word(n: usize, words: &mut [u8], at: usize) -> usize {
     if words.len() <= at {
         return NOTHING;
     }
     let rest = &mut words[at..];
-    let n = os::arg(i, rest);
-    if os::errno() != 0 {
-        return NOTHING;
-    }
     if rest.len() <= n {
         return NOTHING;
     }
@@ -46,14 +45,35 @@ fn add_word(i: usize, words: &mut [u8], at: usize) -> usize {
     at + n + 1
 }
 
+// Where argument i ends; none where there is no such argument.
+fn add_word(rt: &HostRuntime, i: usize, words: &mut [u8], at: usize) -> Option<usize> {
+    if words.len() <= at {
+        return past_last(rt, i);
+    }
+    match rt.arg(i, &mut words[at..]) {
+        Ok(n) => Some(end_word(n, words, at)),
+        Err(FillError::TooLong) => Some(NOTHING),
+        Err(FillError::NotPresent) => None,
+    }
+}
+
+// With no room left: none where there is no argument i.
+fn past_last(rt: &HostRuntime, i: usize) -> Option<usize> {
+    let mut no_room = [0u8; 1];
+    match rt.arg(i, &mut no_room) {
+        Err(FillError::NotPresent) => None,
+        _ => Some(NOTHING),
+    }
+}
+
 // Puts all arguments but the program's name, and answers where they end.
-fn gather(words: &mut [u8]) -> usize {
-    let count = os::arg_count();
+fn gather(rt: &HostRuntime, words: &mut [u8]) -> usize {
     let mut at = 0;
-    let mut i = 1;
-    while i < count {
-        at = add_word(i, words, at);
-        i += 1;
+    for i in 1..usize::MAX {
+        match add_word(rt, i, words, at) {
+            Some(end) => at = end,
+            None => return at,
+        }
     }
     at
 }
@@ -76,7 +96,7 @@ fn put_path(dir: &[u8], base: &[u8], path: &mut [u8]) -> usize {
 }
 
 // To the file of the same name in the folder DIR.
-fn deliver_into(dir: &[u8], name: &[u8], bytes: &[u8]) {
+fn deliver_into(rt: &HostRuntime, dir: &[u8], name: &[u8], bytes: &[u8]) {
     if same(name, b"-") {
         tell(b"puchkewa: -d needs the names of files\n");
         return;
@@ -92,21 +112,21 @@ fn deliver_into(dir: &[u8], name: &[u8], bytes: &[u8]) {
         tell(b"the name is too long\n");
         return;
     }
-    write_file(front(&path, n), bytes);
+    write_file(rt, front(&path, n), bytes);
 }
 
 // The result of a file.
-fn deliver(words: &[u8], s: Request, name: &[u8], bytes: &[u8]) {
+fn deliver(rt: &HostRuntime, words: &[u8], s: Request, name: &[u8], bytes: &[u8]) {
     if s.goal == 0 {
-        write_output(bytes);
+        write_output(rt, bytes);
         return;
     }
     let goal = word(words, s.goal_at);
     if s.goal == 1 {
-        write_file(goal, bytes);
+        write_file(rt, goal, bytes);
         return;
     }
-    deliver_into(goal, name, bytes);
+    deliver_into(rt, goal, name, bytes);
 }
 
 // ---- what is told of a reply
@@ -123,29 +143,40 @@ fn tell_refusal(name: &[u8], number: u64, place: u64) {
 }
 
 // The answer of a call beside the cleaning: the front of its output, or a refusal.
-fn tell_answer(words: &[u8], s: Request, name: &[u8], out: &[u8], answer: Answer) {
+fn tell_answer(
+    rt: &HostRuntime,
+    words: &[u8],
+    s: Request,
+    name: &[u8],
+    out: &[u8],
+    answer: Answer,
+) {
     match answer {
         Answer::Refused { number, place } => tell_refusal(name, number, place as u64),
-        Answer::Passed(n) => deliver(words, s, name, front(out, n as usize)),
+        Answer::Passed(n) => deliver(rt, words, s, name, front(out, n as usize)),
     }
 }
 
 // The name of a file in front of its line; none where no file was named.
-fn print_name(s: Request, name: &[u8]) {
+fn print_name(rt: &HostRuntime, s: Request, name: &[u8]) {
     if s.operands != 0 {
-        write_output(name);
-        write_output(b": ");
+        write_output(rt, name);
+        write_output(rt, b": ");
     }
 }
 
-fn print_counts(length: u64, tally: Tally, removed: u64, cut: u64) {
+fn print_counts(rt: &HostRuntime, length: u64, tally: Tally, removed: u64, cut: u64) {
     let mut line = [0u8; 256];
     let n = reports::put_counts(length, tally, removed, cut, &mut line);
-    write_output(front(&line, n));
+    write_output(rt, front(&line, n));
 }
 
 fn print_decimal(n: u64) {
-    io::print_decimal(STDOUT_FILENO, n);
+    io::print_decimal(STDOUT, n);
+}
+
+fn tell_no_memory() {
+    tell(b"puchkewa: no memory is left\n");
 }
 
 // ---- one file
@@ -160,84 +191,84 @@ fn rules_of(s: Request) -> Rules {
     }
 }
 
-fn clean_one(words: &[u8], s: Request, name: &[u8], tape: &[u8]) {
+fn clean_one(rt: &HostRuntime, words: &[u8], s: Request, name: &[u8], tape: &[u8]) {
     let mut work_a = [0u8; 49152];
     let mut work_b = [0u8; 49152];
     let mut out = [0u8; 59137];
     match clean::clean(rules_of(s), tape, &mut work_a, &mut work_b, &mut out) {
         Reply::Refused { number, place } => tell_refusal(name, number, place as u64),
-        Reply::Finished(f) => deliver(words, s, name, front(&out, f.length)),
+        Reply::Finished(f) => deliver(rt, words, s, name, front(&out, f.length)),
     }
 }
 
-fn count_one(s: Request, name: &[u8], tape: &[u8]) {
+fn count_one(rt: &HostRuntime, s: Request, name: &[u8], tape: &[u8]) {
     let mut work_a = [0u8; 49152];
     let mut work_b = [0u8; 49152];
     let mut out = [0u8; 59137];
     match clean::clean(rules_of(s), tape, &mut work_a, &mut work_b, &mut out) {
         Reply::Refused { number, place } => tell_refusal(name, number, place as u64),
         Reply::Finished(f) => {
-            print_name(s, name);
+            print_name(rt, s, name);
             let tally = f.tally;
-            print_counts(f.length as u64, tally, f.removed, f.cut);
+            print_counts(rt, f.length as u64, tally, f.removed, f.cut);
         }
     }
 }
 
-fn check_one(s: Request, name: &[u8], tape: &[u8]) {
+fn check_one(rt: &HostRuntime, s: Request, name: &[u8], tape: &[u8]) {
     match tape::check(tape) {
         Checked::Refused { number, place } => tell_refusal(name, number, place as u64),
         Checked::Passed(t) => {
-            print_name(s, name);
-            write_output(b"accepted, lines ");
+            print_name(rt, s, name);
+            write_output(rt, b"accepted, lines ");
             print_decimal(t.lines as u64);
-            write_output(b", tokens ");
+            write_output(rt, b", tokens ");
             print_decimal(t.tokens as u64);
-            write_output(b", bytes of text ");
+            write_output(rt, b", bytes of text ");
             print_decimal(t.text as u64);
-            write_output(b"\n");
+            write_output(rt, b"\n");
         }
     }
 }
 
-fn older_one(words: &[u8], s: Request, name: &[u8], tape: &[u8]) {
+fn older_one(rt: &HostRuntime, words: &[u8], s: Request, name: &[u8], tape: &[u8]) {
     let mut out = [0u8; 131072];
     let answer = editions::to_2018(tape, &mut out);
-    tell_answer(words, s, name, &out, answer);
+    tell_answer(rt, words, s, name, &out, answer);
 }
 
-fn newer_one(words: &[u8], s: Request, name: &[u8], tape: &[u8]) {
+fn newer_one(rt: &HostRuntime, words: &[u8], s: Request, name: &[u8], tape: &[u8]) {
     let mut out = [0u8; 131072];
     let answer = editions::to_2024(tape, &mut out);
-    tell_answer(words, s, name, &out, answer);
+    tell_answer(rt, words, s, name, &out, answer);
 }
 
-fn edition_one(words: &[u8], s: Request, name: &[u8], tape: &[u8]) {
+fn edition_one(rt: &HostRuntime, words: &[u8], s: Request, name: &[u8], tape: &[u8]) {
     if s.value == 0 {
-        older_one(words, s, name, tape);
+        older_one(rt, words, s, name, tape);
     } else {
-        newer_one(words, s, name, tape);
+        newer_one(rt, words, s, name, tape);
     }
 }
 
-fn offsets_one(words: &[u8], s: Request, name: &[u8], tape: &[u8]) {
+fn offsets_one(rt: &HostRuntime, words: &[u8], s: Request, name: &[u8], tape: &[u8]) {
     let mut out = [0u8; 59146];
     let answer = offsets::to_offsets(s.value, tape, &mut out);
-    tell_answer(words, s, name, &out, answer);
+    tell_answer(rt, words, s, name, &out, answer);
 }
 
-fn addresses_one(words: &[u8], s: Request, name: &[u8], tape: &[u8]) {
+fn addresses_one(rt: &HostRuntime, words: &[u8], s: Request, name: &[u8], tape: &[u8]) {
     let mut out = [0u8; 59146];
     let answer = offsets::from_offsets(tape, &mut out);
-    tell_answer(words, s, name, &out, answer);
+    tell_answer(rt, words, s, name, &out, answer);
 }
 
 // A bare tape is shown up to the command that is wrong.
-fn show_one(s: Request, name: &[u8], tape: &[u8]) {
+fn show_one(rt: &HostRuntime, s: Request, name: &[u8], tape: &[u8]) {
     let mut out = [0u8; 262144];
     let shown = put_listing(tape, s.exact, &mut out);
     if shown.whole {
-        write_output(front(&out, shown.length));
+        write_output(rt, front(&out, shown.length));
     }
     if shown.number != 0 {
         tell_refusal(name, shown.number, shown.place as u64);
@@ -245,7 +276,7 @@ fn show_one(s: Request, name: &[u8], tape: &[u8]) {
 }
 
 // A tape that was made of a text; what is no tape is refused as one.
-fn deliver_made(words: &[u8], s: Request, name: &[u8], tape: &[u8]) {
+fn deliver_made(rt: &HostRuntime, words: &[u8], s: Request, name: &[u8], tape: &[u8]) {
     let mut again = [0u8; 262144];
     let shown = put_listing(tape, true, &mut again);
     if shown.number != 0 {
@@ -254,11 +285,11 @@ fn deliver_made(words: &[u8], s: Request, name: &[u8], tape: &[u8]) {
         tell_refusal_line(shown.number, shown.place as u64);
         return;
     }
-    deliver(words, s, name, tape);
+    deliver(rt, words, s, name, tape);
 }
 
 // The tape of a text in the exact form.
-fn tape_one(words: &[u8], s: Request, name: &[u8], text: &[u8]) {
+fn tape_one(rt: &HostRuntime, words: &[u8], s: Request, name: &[u8], text: &[u8]) {
     if 131072 <= text.len() {
         tell_name(name);
         tell(b"the text is too long\n");
@@ -266,7 +297,7 @@ fn tape_one(words: &[u8], s: Request, name: &[u8], text: &[u8]) {
     }
     let mut out = [0u8; 131072];
     match put_tape(text, &mut out) {
-        Made::Whole(length) => deliver_made(words, s, name, front(&out, length)),
+        Made::Whole(length) => deliver_made(rt, words, s, name, front(&out, length)),
         Made::Full => {
             tell_name(name);
             tell(b"the tape of this text is too long\n");
@@ -274,48 +305,65 @@ fn tape_one(words: &[u8], s: Request, name: &[u8], text: &[u8]) {
         Made::Wrong(line) => {
             tell_name(name);
             tell(b"line ");
-            io::print_decimal(STDERR_FILENO, line);
+            io::print_decimal(STDERR, line);
             tell(b", counted from 0, is not as show --exact prints it\n");
         }
     }
 }
 
 // The page of a cleaning, to standard output.
-fn print_page(s: Request, name: &[u8], tape: &[u8], fin: &[u8], counts: Counts) {
+fn print_page(rt: &HostRuntime, s: Request, name: &[u8], tape: &[u8], fin: &[u8], counts: Counts) {
     let sink = Sink {
-        fd: STDOUT_FILENO,
+        fd: STDOUT,
         done: true,
     };
     let after = put_page(sink, s, rules_of(s), name, tape, fin, counts);
     if !after.done {
-        os::fail(b"standard output");
+        tell_unwritten(rt, &mut rt.stdout(), b"standard output");
     }
 }
 
 // The page of a cleaning, to a file, which is there whole or not at all.
-fn write_page(path: &[u8], s: Request, name: &[u8], tape: &[u8], fin: &[u8], counts: Counts) {
+fn write_page(
+    rt: &HostRuntime,
+    path: &[u8],
+    s: Request,
+    name: &[u8],
+    tape: &[u8],
+    fin: &[u8],
+    counts: Counts,
+) {
     let mut beside = [0u8; 4200];
-    let goal = open_goal(path, &mut beside);
-    if goal.fd < 0 {
-        return;
+    match open_goal(rt, path, &mut beside) {
+        Some(goal) => {
+            let sink = Sink {
+                fd: number_of(&goal),
+                done: true,
+            };
+            let after = put_page(sink, s, rules_of(s), name, tape, fin, counts);
+            close_goal(rt, goal, path, &beside, after.done);
+        }
+        None => {}
     }
-    let sink = Sink {
-        fd: goal.fd,
-        done: true,
-    };
-    let after = put_page(sink, s, rules_of(s), name, tape, fin, counts);
-    close_goal(goal, path, &beside, after.done);
 }
 
-fn page_of(words: &[u8], s: Request, name: &[u8], tape: &[u8], fin: &[u8], counts: Counts) {
+fn page_of(
+    rt: &HostRuntime,
+    words: &[u8],
+    s: Request,
+    name: &[u8],
+    tape: &[u8],
+    fin: &[u8],
+    counts: Counts,
+) {
     if s.goal == 0 {
-        print_page(s, name, tape, fin, counts);
+        print_page(rt, s, name, tape, fin, counts);
     } else {
-        write_page(word(words, s.goal_at), s, name, tape, fin, counts);
+        write_page(rt, word(words, s.goal_at), s, name, tape, fin, counts);
     }
 }
 
-fn page_one(words: &[u8], s: Request, name: &[u8], tape: &[u8]) {
+fn page_one(rt: &HostRuntime, words: &[u8], s: Request, name: &[u8], tape: &[u8]) {
     let mut work_a = [0u8; 49152];
     let mut work_b = [0u8; 49152];
     let mut out = [0u8; 59137];
@@ -328,19 +376,19 @@ fn page_one(words: &[u8], s: Request, name: &[u8], tape: &[u8]) {
                 removed: f.removed,
                 cut: f.cut,
             };
-            page_of(words, s, name, tape, front(&out, f.length), counts);
+            page_of(rt, words, s, name, tape, front(&out, f.length), counts);
         }
     }
 }
 
 // The line of a start value.
-fn print_start(chosen: &[u8], v: u64) {
+fn print_start(rt: &HostRuntime, chosen: &[u8], v: u64) {
     let mut line = [0u8; 65581];
     if 65536 < chosen.len() {
         return;
     }
     let n = reports::put_start(chosen, v, &mut line);
-    write_output(front(&line, n));
+    write_output(rt, front(&line, n));
 }
 
 // Puts the list of the words' entries, and answers how long it is; NOTHING where there is no room for those of so many words.
@@ -355,35 +403,48 @@ fn put_list(words: &[u8], list: &mut [u8]) -> usize {
     arguments::put_entries(words, list)
 }
 
-// The smallest start value of the chosen register.
-fn start_one<'a>(words: &'a [u8], s: Request, name: &[u8], tape: &'a [u8]) {
-    let mut list = [0u8; 589833];
-    let n = put_list(words, &mut list);
+// The smallest start value of the chosen register, by way of a buffer for the list.
+fn start_by<'a>(
+    rt: &HostRuntime,
+    words: &'a [u8],
+    s: Request,
+    name: &[u8],
+    tape: &'a [u8],
+    list: &mut [u8],
+) {
+    let n = put_list(words, list);
     if n == NOTHING {
         tell(b"puchkewa: the words of start have more than 65,536 bytes\n");
         return;
     }
     let chosen = word(words, s.chosen_at);
-    match start::start_value(tape, chosen, front(&list, n), s.wanted) {
+    match start::start_value(tape, chosen, front(list, n), s.wanted) {
         Answer::Refused { number, place } => tell_refusal(name, number, place as u64),
-        Answer::Passed(v) => print_start(chosen, v),
+        Answer::Passed(v) => print_start(rt, chosen, v),
+    }
+}
+
+fn start_one<'a>(rt: &HostRuntime, words: &'a [u8], s: Request, name: &[u8], tape: &'a [u8]) {
+    match vec![in rt.alloc(); 0u8; 589833] {
+        Ok(mut list) => start_by(rt, words, s, name, tape, &mut list),
+        Err(_) => tell_no_memory(),
     }
 }
 
 // What is done with the bytes of a file.
-fn work<'a>(words: &'a [u8], s: Request, name: &[u8], tape: &'a [u8]) {
+fn work<'a>(rt: &HostRuntime, words: &'a [u8], s: Request, name: &[u8], tape: &'a [u8]) {
     let verb = s.verb;
     match verb {
-        1 => clean_one(words, s, name, tape),
-        2 => count_one(s, name, tape),
-        3 => check_one(s, name, tape),
-        4 => show_one(s, name, tape),
-        5 => tape_one(words, s, name, tape),
-        6 => addresses_one(words, s, name, tape),
-        7 => edition_one(words, s, name, tape),
-        8 => offsets_one(words, s, name, tape),
-        14 => page_one(words, s, name, tape),
-        15 => start_one(words, s, name, tape),
+        1 => clean_one(rt, words, s, name, tape),
+        2 => count_one(rt, s, name, tape),
+        3 => check_one(rt, s, name, tape),
+        4 => show_one(rt, s, name, tape),
+        5 => tape_one(rt, words, s, name, tape),
+        6 => addresses_one(rt, words, s, name, tape),
+        7 => edition_one(rt, words, s, name, tape),
+        8 => offsets_one(rt, words, s, name, tape),
+        14 => page_one(rt, words, s, name, tape),
+        15 => start_one(rt, words, s, name, tape),
         _ => {}
     }
 }
@@ -391,26 +452,26 @@ fn work<'a>(words: &'a [u8], s: Request, name: &[u8], tape: &'a [u8]) {
 // Reads a file and does what is asked with it. At most 131,072 bytes are read: an accepted tape has at most 34,561 bytes and no command
 // more than 65,538, so a longer tape is refused at a command that ends before that, and whatever follows, the refusal is the whole file's.
 // (`show`, which does not ask the totals, shows of a longer file the front.)
-fn one_file(words: &[u8], s: Request, name: &[u8]) {
+fn one_file(rt: &HostRuntime, words: &[u8], s: Request, name: &[u8]) {
     let mut input = [0u8; 131072];
-    let n = read_file(name, &mut input);
+    let n = read_file(rt, name, &mut input);
     if n == NOTHING {
         return;
     }
-    work(words, s, name, front(&input, n));
+    work(rt, words, s, name, front(&input, n));
 }
 
 // The file of a verb that takes one: the last operand, where there are more than so many; otherwise standard input.
-fn only_file(words: &[u8], s: Request, before: u64) {
+fn only_file(rt: &HostRuntime, words: &[u8], s: Request, before: u64) {
     if s.operands <= before {
-        one_file(words, s, b"-");
+        one_file(rt, words, s, b"-");
     } else {
-        one_file(words, s, word(words, s.last));
+        one_file(rt, words, s, word(words, s.last));
     }
 }
 
 // Every operand is a file: the words are taken once more, and each that is an operand is done.
-fn each_file(words: &[u8], s: Request) {
+fn each_file(rt: &HostRuntime, words: &[u8], s: Request) {
     let mut t = arguments::begin();
     let mut k: u64 = 1;
     let mut at = 0;
@@ -418,7 +479,7 @@ fn each_file(words: &[u8], s: Request) {
         let e = word_end(words, at);
         t = arguments::step(t, k, &words[at..e]);
         if t.last == k {
-            one_file(words, s, &words[at..e]);
+            one_file(rt, words, s, &words[at..e]);
         }
         k += 1;
         at = e + 1;
@@ -440,26 +501,26 @@ fn go_apart(words: &[u8], s: Request) -> bool {
     false
 }
 
-fn all_files(words: &[u8], s: Request) {
+fn all_files(rt: &HostRuntime, words: &[u8], s: Request) {
     if s.operands == 0 {
-        one_file(words, s, b"-");
+        one_file(rt, words, s, b"-");
         return;
     }
     if go_apart(words, s) {
-        each_file(words, s);
+        each_file(rt, words, s);
     }
 }
 
 // ---- no file is read
 
-fn laborious(words: &[u8], s: Request) {
+fn laborious(rt: &HostRuntime, words: &[u8], s: Request) {
     let mut out = [0u8; 59137];
     let answer = laborious::laborious(s.value, &mut out);
-    tell_answer(words, s, b"laborious", &out, answer);
+    tell_answer(rt, words, s, b"laborious", &out, answer);
 }
 
-fn version() {
-    write_output(b"puchkewa 0.15.0\n");
+fn version(rt: &HostRuntime) {
+    write_output(rt, b"puchkewa 0.15.0\n");
 }
 
 // ---- named states
@@ -477,36 +538,36 @@ fn name_of(word: &[u8]) -> [u8; 8] {
 }
 
 // The bytes of a name before its first 0; those that cannot be printed as \xHH.
-fn print_state_name(name: &[u8]) {
+fn print_state_name(rt: &HostRuntime, name: &[u8]) {
     let bytes = front(name, word_end(name, 0));
     if 8 < bytes.len() {
         return;
     }
     let mut shown = [0u8; 32];
     let n = reports::put_visible(bytes, &mut shown);
-    write_output(front(&shown, n));
+    write_output(rt, front(&shown, n));
 }
 
 // One cell, if it is held: its name and the length of its tape.
-fn print_cell(cell: &[u8]) {
+fn print_cell(rt: &HostRuntime, cell: &[u8]) {
     if cell.len() < 13 {
         return;
     }
     if cell[0] == 0 {
         return;
     }
-    print_state_name(&cell[1..9]);
-    write_output(b" ");
+    print_state_name(rt, &cell[1..9]);
+    write_output(rt, b" ");
     print_decimal(tape::little_endian::number_at(cell, 9, 4));
-    write_output(b"\n");
+    write_output(rt, b"\n");
 }
 
-fn print_cells(store: &[u8]) {
+fn print_cells(rt: &HostRuntime, store: &[u8]) {
     let mut i = 0;
     while i < 8 {
         let at = i * 65536;
         if at < store.len() {
-            print_cell(&store[at..]);
+            print_cell(rt, &store[at..]);
         }
         i += 1;
     }
@@ -528,22 +589,29 @@ fn is_whole(name: &[u8], store: &[u8]) -> bool {
     }
 }
 
-fn list_states(name: &[u8], store: &[u8]) {
+fn list_states(rt: &HostRuntime, name: &[u8], store: &[u8]) {
     if is_whole(name, store) {
-        print_cells(store);
+        print_cells(rt, store);
     }
 }
 
 // What a call on the store answered: a changed store is written.
-fn keep_store(name: &[u8], store: &[u8], answer: Answer) {
+fn keep_store(rt: &HostRuntime, name: &[u8], store: &[u8], answer: Answer) {
     match answer {
         Answer::Refused { number, place } => tell_refusal(name, number, place as u64),
-        Answer::Passed(_) => write_file(name, store),
+        Answer::Passed(_) => write_file(rt, name, store),
     }
 }
 
 // 2 to 19 are refusals of the tape, the others of the store.
-fn save_tape(store_name: &[u8], store: &mut [u8], name: &[u8; 8], file: &[u8], tape: &[u8]) {
+fn save_tape(
+    rt: &HostRuntime,
+    store_name: &[u8],
+    store: &mut [u8],
+    name: &[u8; 8],
+    file: &[u8],
+    tape: &[u8],
+) {
     match states::save(store, name, tape) {
         Answer::Refused { number, place } => {
             if number < 20 {
@@ -552,51 +620,58 @@ fn save_tape(store_name: &[u8], store: &mut [u8], name: &[u8; 8], file: &[u8], t
                 tell_refusal(store_name, number, place as u64);
             }
         }
-        Answer::Passed(_) => write_file(store_name, store),
+        Answer::Passed(_) => write_file(rt, store_name, store),
     }
 }
 
-fn save_state(store_name: &[u8], store: &mut [u8], name: &[u8; 8], file: &[u8]) {
+fn save_state(rt: &HostRuntime, store_name: &[u8], store: &mut [u8], name: &[u8; 8], file: &[u8]) {
     let mut input = [0u8; 131072];
-    let n = read_file(file, &mut input);
+    let n = read_file(rt, file, &mut input);
     if n == NOTHING {
         return;
     }
-    save_tape(store_name, store, name, file, front(&input, n));
+    save_tape(rt, store_name, store, name, file, front(&input, n));
 }
 
-fn get_state(words: &[u8], s: Request, store_name: &[u8], store: &[u8], name: &[u8; 8]) {
+fn get_state(
+    rt: &HostRuntime,
+    words: &[u8],
+    s: Request,
+    store_name: &[u8],
+    store: &[u8],
+    name: &[u8; 8],
+) {
     let mut out = [0u8; 65523];
     let answer = states::restore(store, name, &mut out);
-    tell_answer(words, s, store_name, &out, answer);
+    tell_answer(rt, words, s, store_name, &out, answer);
 }
 
 // A store that was read: its bytes, or none of a new one.
-fn act(words: &[u8], s: Request, store_name: &[u8], store: &mut [u8]) {
+fn act(rt: &HostRuntime, words: &[u8], s: Request, store_name: &[u8], store: &mut [u8]) {
     let name = name_of(word(words, s.third));
     let action = s.value;
     match action {
-        0 => list_states(store_name, store),
+        0 => list_states(rt, store_name, store),
         1 => {
             if s.operands < 4 {
-                save_state(store_name, store, &name, b"-");
+                save_state(rt, store_name, store, &name, b"-");
             } else {
-                save_state(store_name, store, &name, word(words, s.last));
+                save_state(rt, store_name, store, &name, word(words, s.last));
             }
         }
-        2 => get_state(words, s, store_name, store, &name),
+        2 => get_state(rt, words, s, store_name, store, &name),
         _ => {
             let answer = states::delete(store, &name);
-            keep_store(store_name, store, answer);
+            keep_store(rt, store_name, store, answer);
         }
     }
 }
 
-fn read_store(s: Request, name: &[u8], store: &mut [u8]) -> usize {
+fn read_store(rt: &HostRuntime, s: Request, name: &[u8], store: &mut [u8]) -> usize {
     if s.value != 1 {
-        return read_file(name, store);
+        return read_file(rt, name, store);
     }
-    let n = read_present(name, store);
+    let n = read_present(rt, name, store);
     if n == 0 {
         return STORE;
     }
@@ -604,7 +679,7 @@ fn read_store(s: Request, name: &[u8], store: &mut [u8]) -> usize {
 }
 
 // Does what is asked with the store in the first n bytes of a buffer; nothing where none were read.
-fn act_front(words: &[u8], s: Request, name: &[u8], store: &mut [u8], n: usize) {
+fn act_front(rt: &HostRuntime, words: &[u8], s: Request, name: &[u8], store: &mut [u8], n: usize) {
     if n == NOTHING {
         return;
     }
@@ -614,27 +689,31 @@ fn act_front(words: &[u8], s: Request, name: &[u8], store: &mut [u8], n: usize) 
         return;
     }
     if n <= store.len() {
-        act(words, s, name, &mut store[..n]);
+        act(rt, words, s, name, &mut store[..n]);
     }
 }
 
-fn state(words: &[u8], s: Request) {
+fn state(rt: &HostRuntime, words: &[u8], s: Request) {
     let name = word(words, s.first);
-    let mut store = [0u8; 524289];
-    let n = read_store(s, name, &mut store);
-    act_front(words, s, name, &mut store, n);
+    match vec![in rt.alloc(); 0u8; 524289] {
+        Ok(mut store) => {
+            let n = read_store(rt, s, name, &mut store);
+            act_front(rt, words, s, name, &mut store, n);
+        }
+        Err(_) => tell_no_memory(),
+    }
 }
 
 // ---- all verbs
 
-fn run(words: &[u8], s: Request) {
+fn run(rt: &HostRuntime, words: &[u8], s: Request) {
     let verb = s.verb;
     match verb {
-        1 | 2 | 3 => all_files(words, s),
-        4 | 5 | 6 | 14 | 15 => only_file(words, s, 0),
-        7 | 8 => only_file(words, s, 1),
-        9 => laborious(words, s),
-        10 => state(words, s),
+        1 | 2 | 3 => all_files(rt, words, s),
+        4 | 5 | 6 | 14 | 15 => only_file(rt, words, s, 0),
+        7 | 8 => only_file(rt, words, s, 1),
+        9 => laborious(rt, words, s),
+        10 => state(rt, words, s),
         11 => {
             if s.operands == 0 {
                 help::help(0);
@@ -642,11 +721,11 @@ fn run(words: &[u8], s: Request) {
                 help::help(s.value + 1);
             }
         }
-        _ => version(),
+        _ => version(rt),
     }
 }
 
-fn begin(words: &[u8]) {
+fn begin(rt: &HostRuntime, words: &[u8]) {
     let s = arguments::parse(words);
     if s.help {
         help::help(s.verb);
@@ -656,15 +735,22 @@ fn begin(words: &[u8]) {
         help::tell_wrong(words, s);
         return;
     }
-    run(words, s);
+    run(rt, words, s);
 }
 
-fn main() {
-    let mut words = [0u8; 524288];
-    let n = gather(&mut words);
+// What the words ask for, by way of a buffer for them.
+fn begin_by(rt: &HostRuntime, words: &mut [u8]) {
+    let n = gather(rt, words);
     if n == NOTHING {
         tell(b"puchkewa: the words have more than 524,288 bytes\n");
         return;
     }
-    begin(front(&words, n));
+    begin(rt, front(words, n));
+}
+
+fn main(rt: HostRuntime) {
+    match vec![in rt.alloc(); 0u8; 524288] {
+        Ok(mut words) => begin_by(&rt, &mut words),
+        Err(_) => tell_no_memory(),
+    }
 }

@@ -1,77 +1,96 @@
 // The file that a page goes to: there whole or not at all (as in files.rt).
-use crate::files::{NOTHING, front, put_part_name, tell, tell_name};
-use text::starts;
+use crate::files::{
+    NOTHING, create_new, front, is_stream, open_update, put_part_name, rename_to, tell, tell_name,
+    tell_unwritten, tell_write_error, unlink,
+};
+use std::fs::File;
+use std::io::{Error, ErrorKind};
+use std::os::fd::AsRawFd;
 
 // An open file: a new one beside the path, whose name has `part` bytes, or with 0 what the path itself names.
 #[derive(Drop)]
 pub(crate) struct Goal {
-    pub fd: i32,
+    pub file: File,
     pub part: usize,
 }
 
-fn none() -> Goal {
-    Goal { fd: -1, part: 0 }
-}
-
-// A new file beside the path. Its name is put into `name`.
-fn open_beside(path: &[u8], name: &mut [u8]) -> Goal {
-    let n = put_part_name(path, name);
+// A new file beside the path. Its name is put into `name`. None where it cannot be made, which is told.
+fn open_beside(rt: &HostRuntime, path: &[u8], name: &mut [u8]) -> Option<Goal> {
+    let n = put_part_name(rt, path, name);
     if n == NOTHING {
         tell_name(path);
         tell(b"the name is too long\n");
-        return none();
+        return None;
     }
-    let fd = os::create(front(name, n));
-    if fd < 0 {
-        os::fail(path);
-        return none();
+    match create_new(rt, front(name, n)) {
+        Ok(file) => Some(Goal { file, part: n }),
+        Err(error) => {
+            tell_write_error(rt, path, &error);
+            None
+        }
     }
-    Goal { fd, part: n }
 }
 
-// Opens a path to be written; below 0 where it cannot be, which is told. (As `write_file`.)
-pub(crate) fn open_goal(path: &[u8], name: &mut [u8]) -> Goal {
-    let fd = os::open_update(path);
-    if fd < 0 {
-        if os::errno() == libc::ENOENT {
-            return open_beside(path, name);
+// Opens a path to be written; none where it cannot be, which is told. (As `write_file`.)
+pub(crate) fn open_goal(rt: &HostRuntime, path: &[u8], name: &mut [u8]) -> Option<Goal> {
+    match open_update(rt, path) {
+        Ok(mut file) => {
+            if is_stream(&mut file, path) {
+                return Some(Goal { file, part: 0 });
+            }
+            open_beside(rt, path, name)
         }
-        os::fail(path);
-        return none();
+        Err(error) => {
+            if error.kind() == ErrorKind::NotFound {
+                return open_beside(rt, path, name);
+            }
+            tell_write_error(rt, path, &error);
+            None
+        }
     }
-    if starts(path, b"/dev/") {
-        return Goal { fd, part: 0 };
-    }
-    if libc::lseek(fd, 0, libc::SEEK_CUR) < 0 {
-        return Goal { fd, part: 0 };
-    }
-    libc::close(fd);
-    open_beside(path, name)
+}
+
+// The number of the open file.
+pub(crate) fn number_of(g: &Goal) -> i32 {
+    g.file.as_raw_fd()
 }
 
 // What could not be written is told, and the new file goes.
-fn undo(g: Goal, path: &[u8], name: &[u8]) {
-    os::fail(path);
+fn undo(rt: &HostRuntime, mut g: Goal, path: &[u8], name: &[u8]) {
+    tell_unwritten(rt, &mut g.file, path);
     if 0 < g.part {
-        os::unlink(front(name, g.part));
+        unlink(rt, front(name, g.part));
     }
 }
 
+// The new file gets the path's name.
+fn give_name(rt: &HostRuntime, part: &[u8], path: &[u8]) -> Result<(), Error> {
+    match rename_to(rt, part, path) {
+        Ok(_) => Ok(()),
+        Err(error) => {
+            unlink(rt, part);
+            Err(error)
+        }
+    }
+}
+
+// Closes the file, and answers how long the name of a new one is.
+fn close(g: Goal) -> usize {
+    g.part
+}
+
 // Closes what is written: the new file gets the path's name, if all is there.
-pub(crate) fn close_goal(g: Goal, path: &[u8], name: &[u8], done: bool) {
+pub(crate) fn close_goal(rt: &HostRuntime, g: Goal, path: &[u8], name: &[u8], done: bool) {
     if !done {
-        undo(g, path, name);
-        libc::close(g.fd);
+        undo(rt, g, path, name);
         return;
     }
-    if libc::close(g.fd) < 0 {
-        undo(g, path, name);
+    let part = close(g);
+    if part == 0 {
         return;
     }
-    if g.part == 0 {
-        return;
-    }
-    if os::rename(front(name, g.part), path) < 0 {
-        undo(g, path, name);
+    match give_name(rt, front(name, part), path) {
+        Ok(_) => {}
+        Err(error) => tell_write_error(rt, path, &error),
     }
 }

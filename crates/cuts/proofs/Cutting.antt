@@ -11,9 +11,9 @@ use mathlib.Core.Option.{some}
 use lib.ListN.{length, take, drop, get_or, set, length-map, length-take, length-append}
 use lib.Seq.{drop-drop, append_snoc, take_at}
 use borrow.Author.Tests.{ne_eqb}
-use Rattle.reference.specs.Control.{◌&&◌, ◌||◌, let_some◌else◌then◌}
+use Rattle.reference.specs.Control.{◌and◌, ◌or◌, let_some◌else◌then◌}
 use Rattle.reference.specs.Lists.{windows}
-use Rattle.reference.specs.Text.{Text, bytes, ◌==◌}
+use Rattle.reference.specs.Text.{Text, bytes, ◌≟◌}
 use Rattle.reference.specs.Listing.{Token, Listing, with_tokens}
 use Rattle.reference.specs.Rules.{Rules, volatile}
 use Rattle.reference.specs.Shapes.{calls_here, call_in}
@@ -61,12 +61,12 @@ called-long ts e = long ts (find_at calls_here (windows ts) 2 (blank-token, blan
 
 module _ (tape area : Text) (ws : List ℕ) {r : Position} (h : found r ≡ call_in (tokens_of tape area ws)) where
   pub keeps_uncalled : r ≡ Nothing → false ≡ keeps_result (tokens_of tape area ws)
-  unfolding keeps_result let_some◌else◌then◌ ◌&&◌
+  unfolding keeps_result let_some◌else◌then◌ ◌and◌
   keeps_uncalled e = rw (found-not h e)
 
   module _ {k : ℕ} (e : r ≡ At k) where
     pub keeps_elsewhere : (k ≡ 2 → ⊥) → false ≡ keeps_result (tokens_of tape area ws)
-    unfolding keeps_result let_some◌else◌then◌ ◌&&◌
+    unfolding keeps_result let_some◌else◌then◌ ◌and◌
     keeps_elsewhere n = rw (found_is h e, ne_eqb k 2 n)
 
     module _ (q : k ≡ 2) where
@@ -74,24 +74,24 @@ module _ (tape area : Text) (ws : List ℕ) {r : Position} (h : found r ≡ call
       called-inside = rw (length-map ws (token_of tape area)) at (called-long (tokens_of tape area ws) (found_is h e ∙ ap some q))
 
       keeps_at : keeps_result (tokens_of tape area ws)
-          ≡ (((text_of tape area (get_or ws 0 0) == bytes "rax") || (text_of tape area (get_or ws 0 0) == bytes "eax")) && (text_of tape area (get_or ws 1 0) == bytes " = "))
-      unfolding keeps_result let_some◌else◌then◌ ◌&&◌
+          ≡ (((text_of tape area (get_or ws 0 0) ≟ bytes "rax") or (text_of tape area (get_or ws 0 0) ≟ bytes "eax")) and (text_of tape area (get_or ws 1 0) ≟ bytes " = "))
+      unfolding keeps_result let_some◌else◌then◌ ◌and◌
       keeps_at =
           let first = get_at (token_of tape area) ws 0 (omega (arith, called-inside)) in
           let second = get_at (token_of tape area) ws 1 (omega (arith, called-inside)) in
           rw (found_is h e, q, first, second)
 
-      module _ {s : Text} (es : s ≡ text_of tape area (get_or ws 0 0)) {x : Bool} (ex : x ≡ ((s == bytes "rax") || (s == bytes "eax"))) where
+      module _ {s : Text} (es : s ≡ text_of tape area (get_or ws 0 0)) {x : Bool} (ex : x ≡ ((s ≟ bytes "rax") or (s ≟ bytes "eax"))) where
         pub keeps_other : x ≡ false → false ≡ keeps_result (tokens_of tape area ws)
         keeps_other f = and_here _ (rw es at ex) f ∙ sym keeps_at
 
-        pub keeps_assigned : x ≡ true → {t : Text} → t ≡ text_of tape area (get_or ws 1 0) → {y : Bool} → y ≡ (t == bytes " = ") → y ≡ keeps_result (tokens_of tape area ws)
+        pub keeps_assigned : x ≡ true → {t : Text} → t ≡ text_of tape area (get_or ws 1 0) → {y : Bool} → y ≡ (t ≟ bytes " = ") → y ≡ keeps_result (tokens_of tape area ws)
         keeps_assigned f et ey = and_second (rw es at ex) f (rw et at ey) ∙ sym keeps_at
 
 -- ---- a result that is never read
 
-regroup : (a b c d : Bool) → (a && b && c && d) ≡ ((a && b && c) && d)
-unfolding ◌&&◌
+regroup : (a b c d : Bool) → (a and b and c and d) ≡ ((a and b and c) and d)
+unfolding ◌and◌
 regroup true true c d = refl
 regroup true false c d = refl
 regroup false b c d = refl
@@ -99,7 +99,7 @@ regroup false b c d = refl
 module _ (rules : Rules) (tape area : Text) (tokens lines labels : List ℕ) (i : ℕ) (h : i < length lines) where
   dead_is : dead_at rules tape area tokens lines labels i
       ≡ (keeps_result (tokens_of tape area (part_of tokens (get_or lines i 0)))
-      && dead_after (bare_listing tape area tokens lines) i (bytes "rax") (indent_of (get_or lines i 0)) (labels_now tape area tokens lines labels) i (volatile rules))
+      and dead_after (bare_listing tape area tokens lines) i (bytes "rax") (indent_of (get_or lines i 0)) (labels_now tape area tokens lines labels) i (volatile rules))
   unfolding dead_result keeps_result
   dead_is = rw (bare_at tape area tokens [] lines i h) (regroup _ _ _ _)
 

@@ -1,8 +1,8 @@
 -- What the cuts find and what they leave. Assumes nothing.
 use Rattle.std.specs.Prelude.{ℕ, ◌≤◌, ◌≡◌, Bool, true, false, List, eqb, length}
-use Rattle.reference.specs.Control.{◌&&◌, ◌||◌, let_some◌else◌then◌}
+use Rattle.reference.specs.Control.{◌and◌, ◌or◌, let_some◌else◌then◌}
 use Rattle.reference.specs.Lists.{get}
-use Rattle.reference.specs.Text.{Text, bytes, ◌==◌}
+use Rattle.reference.specs.Text.{Text, bytes, ◌≟◌}
 use Rattle.reference.specs.Listing.{Token, Listing}
 use Rattle.reference.specs.Rules.{Rules}
 use Rattle.reference.specs.Shapes.{call_in}
@@ -17,8 +17,8 @@ use Rattle.lines.specs.Lines.{Reading, listing_read, bare_listing, Listed}
 unfoldable pub keeps_result : List Token → Bool
 keeps_result ts =
     (let_some (call_in ts) else false then λ c. eqb c 2)
-    && ((text_or_empty (get ts 0) == bytes "rax") || (text_or_empty (get ts 0) == bytes "eax"))
-    && (text_or_empty (get ts 1) == bytes " = ")
+    and ((text_or_empty (get ts 0) ≟ bytes "rax") or (text_or_empty (get ts 0) ≟ bytes "eax"))
+    and (text_or_empty (get ts 1) ≟ bytes " = ")
 
 -- a listing that can be read, with few enough token words that a line's first token can be moved on, and the places of its labels
 pub record Cuttable (tape area : Text) (tokens lines labels : List ℕ) : Type 0 where

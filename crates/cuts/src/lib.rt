@@ -1,6 +1,7 @@
 // The cuts: `drop_dead_results` of the Rust. The `rax = ` or `eax = ` of a call whose result is never read is cut off, after the rounds.
+#![tactic(auto)]
+
 ghost use Rattle.std.specs.Prelude.{◌≡◌, ◌<◌, ◌≤◌, length};
-ghost use Rattle.reference.specs.Contract.{was};
 ghost use Rattle.reference.specs.Run.{drop_dead_results};
 ghost use Rattle.joining.specs.Rounds.{cuts};
 ghost use Rattle.lines.specs.Rules.{rules_of};
@@ -18,7 +19,7 @@ use text::{is_assign, is_result_name};
 // Whether a line assigns the result of a call to rax or eax.
 fn keeps_result<'a>(tape: &'a [u8], area: &'a [u8], line: &'a [u64]) -> bool
     requires { Holds tape.now area.now line.now }
-    ensures { result ≡ keeps_result (tokens_of (was tape) (was area) (was line)) }
+    ensures { result ≡ keeps_result (tokens_of tape.now area.now line.now) }
 {
     let Position::At(at) = shapes::call_at(tape, area, line) else {
         return false;
@@ -43,7 +44,7 @@ fn is_dead_result<'a>(
     rules: Rules,
 ) -> bool
     requires { Cuttable tape.now area.now tokens.now lines.now labels.now × (i < length lines.now) }
-    ensures { result ≡ dead_at (rules_of rules) (was tape) (was area) (was tokens) (was lines) (was labels) i }
+    ensures { result ≡ dead_at (rules_of rules) tape.now area.now tokens.now lines.now labels.now i }
 {
     let l = lines[i];
     if !keeps_result(tape, area, words::line_of(tokens, l)) {
@@ -69,7 +70,7 @@ fn drop_at<'a>(
     rules: Rules,
 ) -> u64
     requires { Cuttable tape.now area.now tokens.now lines.old labels.now × (i < length lines.old) }
-    ensures { Dropped (rules_of rules) (was tape) (was area) (was tokens) (was lines) (was labels) i lines.new result }
+    ensures { Dropped (rules_of rules) tape.now area.now tokens.now lines.old labels.now i lines.new result }
 {
     if !is_dead_result(tape, area, tokens, lines, labels, i, rules) {
         return 0;
@@ -89,8 +90,8 @@ fn drop_results<'a>(
     rules: Rules,
 ) -> u64
     requires { Cuttable tape.now area.now tokens.now lines.old labels.now }
-    ensures { Cut (cuts (rules_of rules) (labels_now (was tape) (was area) (was tokens) (was lines) (was labels)) 0) (was tape)
-        (was area) (was tokens) (was lines) lines.new result }
+    ensures { Cut (cuts (rules_of rules) (labels_now tape.now area.now tokens.now lines.old labels.now) 0) tape.now
+        area.now tokens.now lines.old lines.new result }
 {
     let mut cut = 0;
     let mut i = 0;
@@ -112,7 +113,7 @@ pub fn drop_dead_results<'a>(
 ) -> u64
     requires { Listed tape.now area.now tokens.now lines.old × (length tokens.now ≤ 65536)
         × (length lines.old ≤ length labels.old) }
-    ensures { Cut (drop_dead_results (rules_of rules)) (was tape) (was area) (was tokens) (was lines) lines.new result }
+    ensures { Cut (drop_dead_results (rules_of rules)) tape.now area.now tokens.now lines.old lines.new result }
 {
     let known = gather_labels(tape, area, tokens, lines, labels);
     drop_results(tape, area, tokens, lines, &labels[..known], rules)

@@ -8,8 +8,8 @@ use mathlib.Core.Option.{none, some}
 use lib.ListN.{length, take, drop}
 use lib.IntN.{ℤ}
 use borrow.Author.Tests.{ne_eqb}
-use Rattle.reference.specs.Control.{not, ◌&&◌, ◌||◌, if◌then◌else◌, let_some◌else◌then◌}
-use Rattle.reference.specs.Text.{Text, bytes, starts_with, has, ◌==◌, strip_prefix}
+use Rattle.reference.specs.Control.{not, ◌and◌, ◌or◌, when◌then◌else◌, let_some◌else◌then◌}
+use Rattle.reference.specs.Text.{Text, bytes, starts_with, has, ◌≟◌, strip_prefix}
 use Rattle.reference.specs.Numbers.{read_number}
 use Rattle.reference.specs.Listing.{token, is}
 use Rattle.reference.specs.Tape as Tape
@@ -35,17 +35,17 @@ use Rattle.editions.specs.Asking.{keywords_1, keywords_2, keywords_3, earns}
 
 -- ---- texts
 
-pub by_rows : (s : Text) → has new_keywords s ≡ (has keywords_1 s || (has keywords_2 s || has keywords_3 s))
+pub by_rows : (s : Text) → has new_keywords s ≡ (has keywords_1 s or (has keywords_2 s or has keywords_3 s))
 by_rows s =
-    any_append (◌== s) keywords_1 (keywords_2 ++ keywords_3)
-    ∙ ap (λ (b : Bool). has keywords_1 s || b) (any_append (◌== s) keywords_2 keywords_3)
+    any_append (◌≟ s) keywords_1 (keywords_2 ++ keywords_3)
+    ∙ ap (λ (b : Bool). has keywords_1 s or b) (any_append (◌≟ s) keywords_2 keywords_3)
 
-behind-minus : (r : Text) → begins_binary (bytes "-" ++ r) ≡ (starts_with r (bytes "0b") || starts_with r (bytes "0B"))
-unfolding begins_binary let_some◌else◌then◌ strip_prefix if◌then◌else◌ ◌&&◌
+behind-minus : (r : Text) → begins_binary (bytes "-" ++ r) ≡ (starts_with r (bytes "0b") or starts_with r (bytes "0B"))
+unfolding begins_binary let_some◌else◌then◌ strip_prefix when◌then◌else◌ ◌and◌
 behind-minus r = refl
 
 module _ (s : Text) {m : Bool} (e : m ≡ starts_with s (bytes "-")) where
-  pub binary-plain : {x : Bool} → m ≡ false → x ≡ (starts_with s (bytes "0b") || starts_with s (bytes "0B")) → x ≡ begins_binary s
+  pub binary-plain : {x : Bool} → m ≡ false → x ≡ (starts_with s (bytes "0b") or starts_with s (bytes "0B")) → x ≡ begins_binary s
   unfolding begins_binary let_some◌else◌then◌
   binary-plain f u = u ∙ sym (rw (no_prefix (bytes "-") s (sym e ∙ f)) refl)
 
@@ -53,7 +53,7 @@ module _ (s : Text) {m : Bool} (e : m ≡ starts_with s (bytes "-")) where
   minus-first t = starts_with_length s (bytes "-") (sym e ∙ t)
 
   pub binary-minus : {x : Bool} → m ≡ true
-      → x ≡ (starts_with (take (length s - 1) (drop 1 s)) (bytes "0b") || starts_with (take (length s - 1) (drop 1 s)) (bytes "0B"))
+      → x ≡ (starts_with (take (length s - 1) (drop 1 s)) (bytes "0b") or starts_with (take (length s - 1) (drop 1 s)) (bytes "0B"))
       → x ≡ begins_binary s
   binary-minus t u =
       let whole : s ≡ bytes "-" ++ take (length s - 1) (drop 1 s) =
@@ -62,34 +62,34 @@ module _ (s : Text) {m : Bool} (e : m ≡ starts_with s (bytes "-")) where
 
 module _ (s : Text) {x : Bool} (e : x ≡ is_newer s) where
   pub older : x ≡ false → false ≡ has_no_older s
-  unfolding has_no_older ◌&&◌
+  unfolding has_no_older ◌and◌
   older f = rw (sym e ∙ f) refl
 
   pub newer_unread : x ≡ true → none ≡ read_number 1 s → true ≡ has_no_older s
-  unfolding has_no_older ◌&&◌ not
+  unfolding has_no_older ◌and◌ not
   newer_unread t u = rw (sym e ∙ t, ← u) refl
 
   pub newer_read : {z : ℤ} → x ≡ true → some z ≡ read_number 1 s → false ≡ has_no_older s
-  unfolding has_no_older ◌&&◌ not
+  unfolding has_no_older ◌and◌ not
   newer_read t u = rw (sym e ∙ t, ← u) refl
 
 -- ---- tokens
 
 module _ (kind : ℕ) (s : Text) {up : Bool} where
   pub up-other : up ≡ true → (kind ≡ 4 → ⊥) → false ≡ earns up (token kind s)
-  unfolding earns_12 is ◌&&◌
+  unfolding earns_12 is ◌and◌
   up-other t n = rw (t, ne_eqb kind 4 n) refl
 
   pub up-symbol : {x : Bool} → up ≡ true → kind ≡ 4 → x ≡ has new_keywords s → x ≡ earns up (token kind s)
-  unfolding earns_12 is ◌&&◌
+  unfolding earns_12 is ◌and◌
   up-symbol t k e = rw (t, k) e
 
   pub down-other : up ≡ false → (kind ≡ 2 → ⊥) → false ≡ earns up (token kind s)
-  unfolding earns_13 is ◌&&◌
+  unfolding earns_13 is ◌and◌
   down-other f n = rw (f, ne_eqb kind 2 n) refl
 
   pub down_number : {x : Bool} → up ≡ false → kind ≡ 2 → x ≡ has_no_older s → x ≡ earns up (token kind s)
-  unfolding earns_13 is ◌&&◌
+  unfolding earns_13 is ◌and◌
   down_number f k e = rw (f, k) e
 
 -- ---- commands
@@ -150,13 +150,13 @@ module _ {up : Bool} {tape : List ℕ} {at : ℕ} (u : Unearned up tape at) {c :
       by (suc n) h = (n, refl)
 
   step : (n : ℕ) → first_place (of_command (earns up)) (suc n) tape at
-      ≡ (if of_command (earns up) (command_in tape at c) then some at else if is_end (command_in tape at c) then none
+      ≡ (when of_command (earns up) (command_in tape at c) then some at else when is_end (command_in tape at c) then none
       else first_place (of_command (earns up)) n tape (at + size_of c))
   unfolding first_place
   step n = rw (s.same, s.size) refl
 
   pub unrolled : first_place (of_command (earns up)) (length tape) tape 0
-      ≡ (if of_command (earns up) (command_in tape at c) then some at else if is_end (command_in tape at c) then none
+      ≡ (when of_command (earns up) (command_in tape at c) then some at else when is_end (command_in tape at c) then none
       else first_place (of_command (earns up)) some_fuel.0 tape (at + size_of c))
   unrolled = u.same ∙ ap (λ (f : ℕ). first_place (of_command (earns up)) f tape at) some_fuel.1 ∙ step some_fuel.0
 

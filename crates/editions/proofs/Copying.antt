@@ -9,7 +9,7 @@ use mathlib.Core.Option.{Option}
 use lib.ListN.{length, set, take, drop, length-append, length-drop}
 use lib.Seq.{length-take-le, take-append-le, take-take, drop_at, sets-eq, paste}
 use borrow.Author.Tests.{eq-eqb, ne_eqb, leb-true}
-use Rattle.reference.specs.Control.{if◌then◌else◌}
+use Rattle.reference.specs.Control.{when◌then◌else◌}
 use Rattle.reference.specs.Lists.{modify}
 use Rattle.reference.specs.Text.{Text}
 use Rattle.reference.specs.Listing.{Token, token, is, Number, Line, Listing, with_tokens}
@@ -98,7 +98,7 @@ module _ {tape : List ℕ} {at : ℕ} {c : Command} {out : List ℕ} {to : ℕ} 
   copy-puts {out'} {n} e p = rw (e, l.copied) p
 
 other-token : (kind : ℕ) (s : Text) → (kind ≡ 2 → ⊥) → down_token (token kind s) ≡ token kind s
-unfolding down_token is if◌then◌else◌
+unfolding down_token is when◌then◌else◌
 other-token kind s n = rw (ne_eqb kind 2 n) refl
 
 pub other-command : (tape : List ℕ) (at kind count : ℕ) → (kind ≡ 2 → ⊥)
@@ -114,7 +114,7 @@ unfolding is
 is_number kind s k = eq-eqb kind 2 k
 
 down_number : (kind : ℕ) (s : Text) → kind ≡ 2 → new_token (down_token (token kind s)) ≡ new_token (token 2 (down_text s))
-unfolding down_token is if◌then◌else◌
+unfolding down_token is when◌then◌else◌
 down_number kind s k = rw k refl
 
 module _ {tape : List ℕ} {at kind count : ℕ} {out : List ℕ} {to : ℕ} (l : Lowers tape at (NewToken kind count) out to) (k : kind ≡ 2) where

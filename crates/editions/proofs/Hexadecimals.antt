@@ -10,7 +10,7 @@ use mathlib.Core.Option.{some}
 use lib.Dec.{ltb}
 use lib.ListN.{length, length-append}
 use borrow.Author.Tests.{ltb-true, ltb-false}
-use Rattle.reference.specs.Control.{◌||◌, let_some◌else◌then◌, if◌then◌else◌}
+use Rattle.reference.specs.Control.{◌or◌, let_some◌else◌then◌, when◌then◌else◌}
 use Rattle.reference.specs.Text.{Text, bytes, contains}
 use Rattle.reference.specs.Numbers.{base_of, prefix_size, constant_digits, constant_value, digit_byte, digits}
 use Rattle.reference.proofs.Cases.{by-if}
@@ -35,7 +35,7 @@ module _ (n : ℕ) (h : n < 2 ^ 64) where
   hexadecimal_2018 =
       let g : old.Hexadecimal (bytes "0x") (bytes "0x" ++ without_quotes (hexadecimal n)) n =
       grown 16 (λ t m. old.Hexadecimal (bytes "0x") (bytes "0x" ++ without_quotes t) m)
-      (λ s q m c d g k e. rw (without_more s q c k (other_than-quote 16 c no_quote e)) (old.then-hexadecimal g (in_hexadecimal_digits e)))
+      (λ s q m c d g k e. rw (without_more s q c k (other_than-quote 16 c no_quote e)) (old.then_hexadecimal g (in_hexadecimal_digits e)))
       (hexadecimal n)
       (λ c d rest w e. rw (without_one c (other_than-quote 16 c no_quote e)) (old.prefix_then (in_hexadecimal_digits e)))
       (unquoted-row (hexadecimal n) (some_digit n h) no_quote_in)
@@ -59,16 +59,16 @@ pub record Front (s : Text) (n : ℕ) : Type 0 where
   pub long : 3 + more ≤ length s
   pub small : n < 16 ^ suc more
 
-two_long : {p : Text} → p ∈ new.binary-prefixes → length p ≡ 2
-two_long m = at_each length (λ p. 2) new.binary-prefixes refl m
+two_long : {p : Text} → p ∈ new.binary_prefixes → length p ≡ 2
+two_long m = at_each length (λ p. 2) new.binary_prefixes refl m
 
-bit : {c d : ℕ} → (c, d) ∈ new.binary-digits → d < 2
-bit {d = d} m = ltb-true d 2 (at_each (λ e. ltb e.1 2) (λ e. true) new.binary-digits refl m)
+bit : {c d : ℕ} → (c, d) ∈ new.binary_digits → d < 2
+bit {d = d} m = ltb-true d 2 (at_each (λ e. ltb e.1 2) (λ e. true) new.binary_digits refl m)
 
 pub front : {s : Text} {n : ℕ} → new.Binary s n → Front s n
-front (new.prefix-digit {p} {c} m h) =
+front (new.prefix_digit {p} {c} m h) =
     record { more = 0; long = omega (arith, length-append p (c ∷ []), two_long m); small = omega (arith, bit h) }
-front (new.then-binary {s} {q} {n} {c} {d} r m h) = one_more (front r)
+front (new.then_binary {s} {q} {n} {c} {d} r m h) = one_more (front r)
   where
     one_more : Front s n → Front (s ++ q ++ (c ∷ [])) (n * 2 + d)
     one_more f =
@@ -89,7 +89,7 @@ pub binary-base : {s : Text} {n : ℕ} → new.Binary s n → base_of s ≡ 2
 binary-base r = let q = binary-spells r in rw q.whole (base-binary q.prefix q.rest q.known).0
 
 pub binary_value : {s : Text} {n : ℕ} → new.Binary s n → constant_value s ≡ some n
-unfolding constant_value constant_digits prefix_size let_some◌else◌then◌ if◌then◌else◌ ◌||◌
+unfolding constant_value constant_digits prefix_size let_some◌else◌then◌ when◌then◌else◌ ◌or◌
 binary_value r =
     let q = binary-spells r in
     let b = base-binary q.prefix q.rest q.known in

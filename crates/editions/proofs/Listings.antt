@@ -7,7 +7,7 @@ use mathlib.Core.Path.{◌≡◌, refl, ap}
 use mathlib.Core.Bool.{Bool, true, false}
 use mathlib.Core.List.{List, [], ◌∷◌, map, flat_map}
 use lib.ListN.{length, drop, length-map, length-append}
-use Rattle.reference.specs.Control.{◌&&◌, ◌||◌}
+use Rattle.reference.specs.Control.{◌and◌, ◌or◌}
 use Rattle.reference.specs.Lists.{any}
 use Rattle.reference.specs.Listing.{Token, token, is, Number, Listing}
 use Rattle.reference.specs.Spans.{Marks}
@@ -21,8 +21,8 @@ use Rattle.editions.specs.Numbers.{is_newer, has_no_older}
 use Rattle.editions.specs.Conversion.{down_token, is_newer_number, earns_13, change, holds}
 use Rattle.editions.proofs.Lowering.{no_longer, kept, none_newer, still_printable, still_some}
 
-pub or_both : {a b : Bool} → a ≡ false → b ≡ false → (a || b) ≡ false
-unfolding ◌||◌
+pub or_both : {a b : Bool} → a ≡ false → b ≡ false → (a or b) ≡ false
+unfolding ◌or◌
 or_both {a = true} e f = e
 or_both {a = false} e f = f
 
@@ -152,7 +152,7 @@ down_same t h = by-if (λ (u : Token). u ≡ t) (λ e. ap (token t.kind) (kept t
 pub down_clear : (t : Token) → earns_13 t ≡ false → is_newer_number (down_token t) ≡ false
 unfolding down_token is_newer_number earns_13 is
 down_clear t h =
-    by-if (λ (u : Token). (is Number u && is_newer u.text) ≡ false)
+    by-if (λ (u : Token). (is Number u and is_newer u.text) ≡ false)
     (λ e. fails (λ k. true-false (both k).1 (none_newer t.text (fails (λ m. true-false (pair e m) h)))))
     (λ e. fails (λ k. true-false (both k).0 e))
 

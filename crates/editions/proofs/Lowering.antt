@@ -1,6 +1,6 @@
 -- A Number gone down: of the same value by the 2024 rules, a numeral of the 2018 edition, no longer, and nothing newer is left in it. What
 -- is not newer is kept. Assumes nothing.
-use Prim.Native.Nat.{ℕ, zero, suc, ◌+◌, ◌^◌, ◌<◌, ◌≤◌}
+use Prim.Native.Nat.{ℕ, zero, suc, ◌^◌, ◌<◌, ◌≤◌}
 use native.Mathlib.Omega.{arith}
 use native.Mathlib.Nat.{le_refl}
 use mathlib.Core.Path.{◌≡◌, refl, sym, ap, ◌∙◌}
@@ -11,7 +11,7 @@ use lib.Dec.{eqb, ltb}
 use lib.ListN.{length, drop}
 use lib.IntN.{ℤ}
 use borrow.Author.Tests.{eqb-true, ne_eqb, ltb-true}
-use Rattle.reference.specs.Control.{not, ◌&&◌, ◌||◌, if◌then◌else◌, let_some◌else◌then◌}
+use Rattle.reference.specs.Control.{not, ◌and◌, ◌or◌, when◌then◌else◌, let_some◌else◌then◌}
 use Rattle.reference.specs.Lists.{is_some, any}
 use Rattle.reference.specs.Text.{Text, bytes, starts_with, contains, strip_prefix}
 use Rattle.reference.specs.Numbers.{base_of, constant_value, value_limit, read_constant, read_number}
@@ -35,29 +35,29 @@ use Rattle.editions.proofs.Hexadecimals.{no_quote_in, hexadecimal_2018, shorter,
 
 -- whether a constant begins as a binary one does
 abbrev binary-front : Text → Bool
-binary-front s = starts_with s (bytes "0b") || starts_with s (bytes "0B")
+binary-front s = starts_with s (bytes "0b") or starts_with s (bytes "0B")
 
 -- by the base
 other-base : (s : Text) (b : ℕ) → base_of s ≡ b → eqb b 16 ≡ false → eqb b 2 ≡ false → binary-front s ≡ false
-unfolding base_of if◌then◌else◌
-other-base s b e f g = by (starts_with s (bytes "0x") || starts_with s (bytes "0X")) (binary-front s) e
+unfolding base_of when◌then◌else◌
+other-base s b e f g = by (starts_with s (bytes "0x") or starts_with s (bytes "0X")) (binary-front s) e
   where
-    by : (x y : Bool) → (if x then 16 else if y then 2 else if starts_with s (bytes "0") then 8 else 10) ≡ b → y ≡ false
+    by : (x y : Bool) → (when x then 16 else when y then 2 else when starts_with s (bytes "0") then 8 else 10) ≡ b → y ≡ false
     by true y e = absurd (false≢true (sym f ∙ rw (← e) refl))
     by false true e = absurd (false≢true (sym g ∙ rw (← e) refl))
     by false false e = refl
 
-hexadecimal-front : (p s : Text) → p ∈ old.hexadecimal-prefixes → binary-front (p ++ s) ≡ false
-unfolding ◌&&◌ ◌||◌
+hexadecimal-front : (p s : Text) → p ∈ old.hexadecimal_prefixes → binary-front (p ++ s) ≡ false
+unfolding ◌and◌ ◌or◌
 hexadecimal-front p s (zero, e) = rw (← (some_inj e)) refl
 hexadecimal-front p s (suc zero, e) = rw (← (some_inj e)) refl
 hexadecimal-front p s (suc (suc i), e) = absurd (none-some e)
 
 -- a constant of the 2018 edition is one of the 2024 edition
 still_sized : {s : Text} {z : ℤ} → Sized s z → new.Sized s z
-still_sized (small_decimal r h) = new.small-decimal (still_decimal r) h
-still_sized (small_octal r h) = new.small-octal (still_octal r) h
-still_sized (small_hexadecimal m r h) = new.small-hexadecimal (still_hexadecimal m r) h
+still_sized (small_decimal r h) = new.small_decimal (still_decimal r) h
+still_sized (small_octal r h) = new.small_octal (still_octal r) h
+still_sized (small_hexadecimal m r h) = new.small_hexadecimal (still_hexadecimal m r) h
 
 -- that begins as none that is binary
 sized-front : {s : Text} {z : ℤ} → Sized s z → binary-front s ≡ false
@@ -66,7 +66,7 @@ sized-front (small_octal {s} r h) = other-base s 8 (octal-base (still_octal r)) 
 sized-front (small_hexadecimal m r h) = by (still_hexadecimal m r)
   where
     by : {s : Text} {n : ℕ} → new.Hexadecimal s n → binary-front s ≡ false
-    by (new.prefix-digits {p} {s} m r) = hexadecimal-front p s m
+    by (new.prefix_digits {p} {s} m r) = hexadecimal-front p s m
 
 -- what a constant that is read becomes
 record Lowered (s t : Text) (z : ℤ) : Type 0 where
@@ -77,37 +77,37 @@ record Lowered (s t : Text) (z : ℤ) : Type 0 where
 -- with any base but 2
 unquoted-down : (s : Text) {z : ℤ} → read_constant s ≡ some z → (b : ℕ) → base_of s ≡ b → eqb b 2 ≡ false
     → down_constant s ≡ without_quotes s
-unfolding down_constant if◌then◌else◌
+unfolding down_constant when◌then◌else◌
 unquoted-down s e b f g = rw (e, f, g) refl
 
 -- with base 2
 hexadecimal-down : (s : Text) {z : ℤ} {n : ℕ} → read_constant s ≡ some z → base_of s ≡ 2 → constant_value s ≡ some n
     → down_constant s ≡ bytes "0x" ++ hexadecimal n
-unfolding down_constant as_hexadecimal if◌then◌else◌ let_some◌else◌then◌ hexadecimal
+unfolding down_constant as_hexadecimal when◌then◌else◌ let_some◌else◌then◌ hexadecimal
 hexadecimal-down s e f g = rw (e, f, g) refl
 
 base_of-hexadecimal : {s : Text} {n : ℕ} → new.Hexadecimal s n → base_of s ≡ 16
-base_of-hexadecimal (new.prefix-digits {p} {s} m r) = (base-hexadecimal p s m).0
+base_of-hexadecimal (new.prefix_digits {p} {s} m r) = (base-hexadecimal p s m).0
 
 without : (s : Text) {z : ℤ} → down_constant s ≡ without_quotes s → Sized (without_quotes s) z → Lowered s (down_constant s) z
 without s e r = rw e (record { older = r; no_quote = none_left s; no_longer = without_shorter s })
 
 behind-prefix : (s : Text) → contains s 39 ≡ false → contains (bytes "0x" ++ s) 39 ≡ false
-unfolding ◌||◌
+unfolding ◌or◌
 behind-prefix s e = e
 
 lowered : {s : Text} {z : ℤ} → new.Sized s z → Lowered s (down_constant s) z
-lowered (new.small-decimal {s} r h) =
-    without s (unquoted-down s (sized-is_read (new.small-decimal r h)) 10 (decimal-base r) refl) (small_decimal (older-decimal r) h)
-lowered (new.small-octal {s} r h) =
-    without s (unquoted-down s (sized-is_read (new.small-octal r h)) 8 (octal-base r) refl) (small_octal (older-octal r) h)
-lowered (new.small-hexadecimal {s} r h) =
+lowered (new.small_decimal {s} r h) =
+    without s (unquoted-down s (sized-is_read (new.small_decimal r h)) 10 (decimal-base r) refl) (small_decimal (older-decimal r) h)
+lowered (new.small_octal {s} r h) =
+    without s (unquoted-down s (sized-is_read (new.small_octal r h)) 8 (octal-base r) refl) (small_octal (older-octal r) h)
+lowered (new.small_hexadecimal {s} r h) =
     let o = older-hexadecimal r in
     without s
-    (unquoted-down s (sized-is_read (new.small-hexadecimal r h)) 16 (base_of-hexadecimal r) refl)
+    (unquoted-down s (sized-is_read (new.small_hexadecimal r h)) 16 (base_of-hexadecimal r) refl)
     (small_hexadecimal o.1 o.2 h)
-lowered (new.small-binary {s} {n} r h) =
-    rw (hexadecimal-down s (sized-is_read (new.small-binary r h)) (binary-base r) (binary_value r))
+lowered (new.small_binary {s} {n} r h) =
+    rw (hexadecimal-down s (sized-is_read (new.small_binary r h)) (binary-base r) (binary_value r))
     (record {
       older = small_hexadecimal (0, refl) (hexadecimal_2018 n h) h;
       no_quote = behind-prefix (hexadecimal n) (no_quote_in n h);
@@ -116,15 +116,15 @@ lowered (new.small-binary {s} {n} r h) =
 
 -- what is not read is kept
 unread-constant : (s : Text) → read_constant s ≡ none → down_constant s ≡ s
-unfolding down_constant if◌then◌else◌
+unfolding down_constant when◌then◌else◌
 unread-constant s e = rw e refl
 
 -- and what is not newer
 not_two : (s : Text) → binary-front s ≡ false → base_of s ≡ 2 → ⊥
-unfolding base_of if◌then◌else◌
-not_two s f e = by (starts_with s (bytes "0x") || starts_with s (bytes "0X")) (binary-front s) f (starts_with s (bytes "0")) e
+unfolding base_of when◌then◌else◌
+not_two s f e = by (starts_with s (bytes "0x") or starts_with s (bytes "0X")) (binary-front s) f (starts_with s (bytes "0")) e
   where
-    by : (x y : Bool) → y ≡ false → (z : Bool) → ◌≡◌ {A = ℕ} (if x then 16 else if y then 2 else if z then 8 else 10) 2 → ⊥
+    by : (x y : Bool) → y ≡ false → (z : Bool) → ◌≡◌ {A = ℕ} (when x then 16 else when y then 2 else when z then 8 else 10) 2 → ⊥
     by true y g z e = omega arith
     by false true g z e = true-false refl g
     by false false g true e = omega arith
@@ -156,15 +156,15 @@ unfolding down_text let_some◌else◌then◌
 down-plain s e = rw (no_prefix (bytes "-") s e) refl
 
 pub down-minus : (s : Text) → down_text (bytes "-" ++ s) ≡ bytes "-" ++ down_constant s
-unfolding down_text let_some◌else◌then◌ strip_prefix if◌then◌else◌ ◌&&◌
+unfolding down_text let_some◌else◌then◌ strip_prefix when◌then◌else◌ ◌and◌
 down-minus s = refl
 
-newer_plain : (s : Text) → starts_with s (bytes "-") ≡ false → is_newer s ≡ (binary-front s || contains s 39)
+newer_plain : (s : Text) → starts_with s (bytes "-") ≡ false → is_newer s ≡ (binary-front s or contains s 39)
 unfolding is_newer begins_binary let_some◌else◌then◌
 newer_plain s e = rw (no_prefix (bytes "-") s e) refl
 
-newer_minus : (s : Text) → is_newer (bytes "-" ++ s) ≡ (binary-front s || contains s 39)
-unfolding is_newer begins_binary let_some◌else◌then◌ strip_prefix if◌then◌else◌ ◌&&◌ ◌||◌
+newer_minus : (s : Text) → is_newer (bytes "-" ++ s) ≡ (binary-front s or contains s 39)
+unfolding is_newer begins_binary let_some◌else◌then◌ strip_prefix when◌then◌else◌ ◌and◌ ◌or◌
 newer_minus s = refl
 
 -- ---- Numbers that are read
@@ -175,8 +175,8 @@ record Gone (s t : Text) (z : ℤ) : Type 0 where
   none_newer : is_newer t ≡ false
   no_longer : length t ≤ length s
 
-no_front : (s : Text) → binary-front s ≡ false → contains s 39 ≡ false → (binary-front s || contains s 39) ≡ false
-unfolding ◌||◌
+no_front : (s : Text) → binary-front s ≡ false → contains s 39 ≡ false → (binary-front s or contains s 39) ≡ false
+unfolding ◌or◌
 no_front s e f = rw e f
 
 gone : {s : Text} {z : ℤ} → new.Numeral s z → Gone s (down_text s) z
@@ -222,8 +222,8 @@ unread s e = by (signed s)
 
 -- ---- all Numbers
 
-alone : (b : Bool) → (b && true) ≡ false → b ≡ false
-unfolding ◌&&◌
+alone : (b : Bool) → (b and true) ≡ false → b ≡ false
+unfolding ◌and◌
 alone true e = e
 alone false e = e
 
@@ -280,7 +280,7 @@ none_newer s h = by (reading s)
 
 -- question 7's bytes
 abbrev unprintable : ℕ → Bool
-unprintable b = ltb b 0x20 || ltb 0x7E b
+unprintable b = ltb b 0x20 or ltb 0x7E b
 
 numeral_printable : {s : Text} {z : ℤ} → new.Numeral s z → any unprintable s ≡ false
 unfolding opened
@@ -357,11 +357,11 @@ unfolding read_constant
 in_range s e = let v = bind-some e in (v.0, v.1, ltb-true v.0 (value_limit (base_of s)) (if_some v.2).0)
 
 in_64 : (s : Text) (n : ℕ) → base_of s ≡ 2 → n < value_limit (base_of s) → n < 2 ^ 64
-unfolding value_limit if◌then◌else◌
+unfolding value_limit when◌then◌else◌
 in_64 s n b h = rw b at h
 
 pub binary_is : (s : Text) → Ready s → binary-front s ≡ true → Binary s
-unfolding not ◌||◌ ◌&&◌
+unfolding not ◌or◌ ◌and◌
 binary_is s r f = by (constant s)
   where
     by : Constant s → Binary s

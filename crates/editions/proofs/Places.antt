@@ -7,7 +7,7 @@ use mathlib.Core.List.{List, [], ◌∷◌, ◌++◌}
 use mathlib.Core.Option.{Option, none, some}
 use lib.ListN.{length, drop, length-append}
 use borrow.Author.Tests.{leb-true}
-use Rattle.reference.specs.Control.{◌||◌, if◌then◌else◌}
+use Rattle.reference.specs.Control.{◌or◌, when◌then◌else◌}
 use Rattle.reference.specs.Lists.{any, modify}
 use Rattle.reference.specs.Listing.{Token, Listing}
 use Rattle.reference.specs.Tape.{Command, new_line, marked, new_token, end, command_size, command_of}
@@ -20,8 +20,8 @@ use Rattle.laws.proofs.Scans.{any_append, if-true, if-false}
 use Rattle.editions.specs.Conversion.{holds, of_command, first_place}
 use Rattle.editions.proofs.Listings.{or_both}
 
-pub if_none {ℓ} : {A : Type ℓ} (x : A) {b : Bool} {o : Option A} → (if b then some x else o) ≡ none → (b ≡ false) × (o ≡ none)
-unfolding if◌then◌else◌
+pub if_none {ℓ} : {A : Type ℓ} (x : A) {b : Bool} {o : Option A} → (when b then some x else o) ≡ none → (b ≡ false) × (o ≡ none)
+unfolding when◌then◌else◌
 if_none x {b = true} e = absurd (none-some (sym e))
 if_none x {b = false} e = (refl, e)
 
@@ -74,7 +74,7 @@ module _ (p : Token → Bool) where
   of_modify (suc i) t (l ∷ ls) le h = let o = of_modify i t ls (omega arith) (neither h).1 in (or_both (neither h).0 o.0, o.1)
 
   holds-add : (c : Command) (lines : Listing) → holds p lines ≡ false → of_command p c ≡ false → holds p (add c lines) ≡ false
-  unfolding add of_command holds ◌||◌
+  unfolding add of_command holds ◌or◌
   holds-add (new_line address indent) lines h e = any_append (λ l. any p l.tokens) lines _ ∙ or_both h refl
   holds-add (marked s) lines h e = h
   holds-add (new_token t) lines h e = in_modify _ t lines h e

@@ -9,7 +9,7 @@ use mathlib.Core.Option.{none, some}
 use lib.ListN.{length, set, take, drop, get_or, length-append, length-drop, drop_of_length-le}
 use lib.Seq.{drop-cons}
 use borrow.Author.Tests.{ne_eqb}
-use Rattle.reference.specs.Control.{◌||◌, if◌then◌else◌}
+use Rattle.reference.specs.Control.{◌or◌, when◌then◌else◌}
 use Rattle.reference.specs.Text.{Text, bytes, starts_with}
 use Rattle.reference.specs.Numbers.{prefix_size, constant_digits, constant_value}
 use Rattle.reference.proofs.Cases.{either, some_inj, none-some}
@@ -33,7 +33,7 @@ use Rattle.editions.proofs.Lowering.{plain_ready, minus_ready, down-plain, down-
 -- ---- without quotes
 
 quote-gone : (b : ℕ) → b ≡ 39 → without_quotes (b ∷ []) ≡ []
-unfolding without_quotes if◌then◌else◌
+unfolding without_quotes when◌then◌else◌
 quote-gone b e = rw e refl
 
 module _ (out : List ℕ) (at b : ℕ) where
@@ -99,7 +99,7 @@ same_hexadecimal n = refl
 
 -- ---- a constant
 
-module _ (s : Text) {x : Bool} (e : x ≡ (starts_with s (bytes "0b") || starts_with s (bytes "0B"))) (r : Ready s) where
+module _ (s : Text) {x : Bool} (e : x ≡ (starts_with s (bytes "0b") or starts_with s (bytes "0B"))) (r : Ready s) where
   pub plain-put : {out out' : List ℕ} {at n : ℕ} → x ≡ false → Puts out at (without_quotes s) out' n → Puts out at (down_constant s) out' n
   plain-put f p = rw (plain_is s r (sym e ∙ f)) p
 
@@ -111,7 +111,7 @@ module _ (s : Text) {x : Bool} (e : x ≡ (starts_with s (bytes "0b") || starts_
     binary = binary_is s r (sym e ∙ t)
 
     the_row : constant_value s ≡ row 2 (drop 2 s)
-    unfolding constant_value constant_digits row_after prefix_size if◌then◌else◌ ◌||◌
+    unfolding constant_value constant_digits row_after prefix_size when◌then◌else◌ ◌or◌
     the_row = rw binary.base refl
 
     row_is : at_most (2 ^ 64 - 1) (row 2 (take (length s - 2) (drop 2 s))) ≡ some binary.value

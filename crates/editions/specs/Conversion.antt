@@ -1,7 +1,7 @@
 -- Request M-103 on listings and tapes: two calls, each with a tape and an output. Words in quotes are the request's. Assumes nothing.
 use Rattle.std.specs.Prelude.{ℕ, zero, suc, ◌+◌, Bool, false, List, [], ◌∷◌, map, leb, length, drop}
 use Rattle.std.proofs.Math.Option.{Option, none, some}
-use Rattle.reference.specs.Control.{◌&&◌, if◌then◌else◌, let_some◌else◌then◌}
+use Rattle.reference.specs.Control.{◌and◌, when◌then◌else◌, let_some◌else◌then◌}
 use Rattle.reference.specs.Lists.{any}
 use Rattle.reference.specs.Text.{has}
 use Rattle.reference.specs.Listing.{Token, token, is, Number, Symbol, Listing, with_tokens}
@@ -13,7 +13,7 @@ use Rattle.editions.specs.Numbers.{down_text, is_newer, has_no_older, new_keywor
 
 -- "Kinds .. and all other texts are kept."
 unfoldable pub down_token : Token → Token
-down_token t = if is Number t then token t.kind (down_text t.text) else t
+down_token t = when is Number t then token t.kind (down_text t.text) else t
 
 -- "Going up leaves numbers": and all else
 unfoldable pub up_token : Token → Token
@@ -21,15 +21,15 @@ up_token t = t
 
 -- the Numbers of the condition "when no Number begins `0b` or `0B` after at most one minus, or holds a quote"
 unfoldable pub is_newer_number : Token → Bool
-is_newer_number t = is Number t && is_newer t.text
+is_newer_number t = is Number t and is_newer t.text
 
 -- 13, "a Number beginning `0b` or `0B`, after at most one minus, or holding a quote, that the 2024 rules do not read, going down"
 unfoldable pub earns_13 : Token → Bool
-earns_13 t = is Number t && has_no_older t.text
+earns_13 t = is Number t and has_no_older t.text
 
 -- 12, "a Symbol that is one of these words, going up"
 unfoldable pub earns_12 : Token → Bool
-earns_12 t = is Symbol t && has new_keywords t.text
+earns_12 t = is Symbol t and has new_keywords t.text
 
 -- ---- listings
 
@@ -56,7 +56,7 @@ first_place p zero tape at = none
 first_place p (suc fuel) tape at =
     let c : Command = command_of (drop at tape) in
     let more = first_place p fuel tape (at + command_size (drop at tape)) in
-    if p c then some at else if is_end c then none else more
+    when p c then some at else when is_end c then none else more
 
 -- ---- tapes
 

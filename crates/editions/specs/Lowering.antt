@@ -1,7 +1,7 @@
 -- What the code that goes down finds. Assumes nothing.
 use Rattle.std.specs.Prelude.{ℕ, ◌+◌, ◌≤◌, ◌≡◌, true, false, List, length, take, drop}
 use Rattle.std.proofs.Math.Option.{none}
-use Rattle.reference.specs.Control.{not, ◌&&◌, ◌||◌}
+use Rattle.reference.specs.Control.{not, ◌and◌, ◌or◌}
 use Rattle.reference.specs.Lists.{is_some}
 use Rattle.reference.specs.Text.{Text, bytes, starts_with, contains}
 use Rattle.reference.specs.Numbers.{read_constant}
@@ -14,7 +14,7 @@ use Rattle.editions.specs.Conversion.{down_token, earns_13, of_command, first_pl
 
 -- a Number without its minus that does not earn 13
 abbrev pub Ready : Text → Type 0
-Ready s = (((starts_with s (bytes "0b") || starts_with s (bytes "0B")) || contains s 39) && not (is_some (read_constant s))) ≡ false
+Ready s = (((starts_with s (bytes "0b") or starts_with s (bytes "0B")) or contains s 39) and not (is_some (read_constant s))) ≡ false
 
 -- a command gone down: others than tokens as they stand
 abbrev pub down_command : Tape.Command → Tape.Command

@@ -1,7 +1,6 @@
 // The two calls of request M-103: a tape in, its listing by the other edition out. A refusal changes nothing that was lent; otherwise the
 // output is the new tape, and past that as before. The answer is the new tape's length.
 ghost use Rattle.std.specs.Prelude.{◌≤◌, length};
-ghost use Rattle.reference.specs.Contract.{was};
 ghost use Rattle.answers.specs.Answers.{answer_of, Writes};
 ghost use Rattle.tape.specs.Questions.{AcceptedTape};
 ghost use Rattle.editions.specs.Conversion.{to_2018, to_2024};
@@ -15,7 +14,7 @@ use text::copy_bytes;
 // Once the tape is read.
 fn lowered(tape: &[u8], out: &mut [u8]) -> Answer
     requires { AcceptedTape tape.now × (length tape.now ≤ length out.old) }
-    ensures { Writes (to_2018 (was tape) (length (was out))) (was out) out.new (answer_of result) }
+    ensures { Writes (to_2018 tape.now (length out.old)) out.old out.new (answer_of result) }
 {
     match first_place(false, tape) {
         Place::At(place) => Answer::Refused { number: 13, place },
@@ -25,7 +24,7 @@ fn lowered(tape: &[u8], out: &mut [u8]) -> Answer
 
 fn raised(tape: &[u8], out: &mut [u8]) -> Answer
     requires { AcceptedTape tape.now × (length tape.now ≤ length out.old) }
-    ensures { Writes (to_2024 (was tape) (length (was out))) (was out) out.new (answer_of result) }
+    ensures { Writes (to_2024 tape.now (length out.old)) out.old out.new (answer_of result) }
 {
     match first_place(true, tape) {
         Place::At(place) => Answer::Refused { number: 12, place },
@@ -38,7 +37,7 @@ fn raised(tape: &[u8], out: &mut [u8]) -> Answer
 
 // From the 2024 edition down to the 2018 edition.
 pub fn to_2018(tape: &[u8], out: &mut [u8]) -> Answer
-    ensures { Writes (to_2018 (was tape) (length (was out))) (was out) out.new (answer_of result) }
+    ensures { Writes (to_2018 tape.now (length out.old)) out.old out.new (answer_of result) }
 {
     if out.len() < tape.len() {
         return Answer::Refused {
@@ -54,7 +53,7 @@ pub fn to_2018(tape: &[u8], out: &mut [u8]) -> Answer
 
 // From the 2018 edition up to the 2024 edition.
 pub fn to_2024(tape: &[u8], out: &mut [u8]) -> Answer
-    ensures { Writes (to_2024 (was tape) (length (was out))) (was out) out.new (answer_of result) }
+    ensures { Writes (to_2024 tape.now (length out.old)) out.old out.new (answer_of result) }
 {
     if out.len() < tape.len() {
         return Answer::Refused {

@@ -1,4 +1,6 @@
 // Between the two C editions: request M-103.
+#![tactic(auto)]
+
 mod entry; // the two calls
 mod questions; // 12 and 13
 mod texts; // a Number going down

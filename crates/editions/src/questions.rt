@@ -1,6 +1,5 @@
 // 12 and 13, asked of each command from the left once the tape is read. Nothing is written.
 ghost use Rattle.std.specs.Prelude.{◌≡◌, ◌+◌, ◌≤◌, length};
-ghost use Rattle.reference.specs.Contract.{was};
 ghost use Rattle.reference.specs.Text.{has};
 ghost use Rattle.reference.specs.Listing.{token};
 ghost use Rattle.tape.specs.Commands.{size_of, command_in};
@@ -19,7 +18,7 @@ use text::{begins_minus, has_byte, same};
 const QUOTE: u8 = 39;
 
 // The offset of the leftmost command that earns a refusal, if there is one.
-#[derive(Drop)]
+#[derive(Clone, Copy)]
 pub enum Place {
     At(usize),
     Nowhere,
@@ -29,7 +28,7 @@ pub enum Place {
 
 // Whether a Number begins as a binary constant, after at most one minus.
 fn is_binary(s: &[u8]) -> bool
-    ensures { result ≡ begins_binary (was s) }
+    ensures { result ≡ begins_binary s.now }
 {
     if !begins_minus(s) {
         return begins_binary(s);
@@ -38,14 +37,14 @@ fn is_binary(s: &[u8]) -> bool
 }
 
 fn is_newer(s: &[u8]) -> bool
-    ensures { result ≡ is_newer (was s) }
+    ensures { result ≡ is_newer s.now }
 {
     is_binary(s) || has_byte(s, QUOTE)
 }
 
 // Whether a Number earns 13.
 fn has_no_older(s: &[u8]) -> bool
-    ensures { result ≡ has_no_older (was s) }
+    ensures { result ≡ has_no_older s.now }
 {
     if !is_newer(s) {
         return false;
@@ -58,27 +57,27 @@ fn has_no_older(s: &[u8]) -> bool
 
 // The eleven words, a few at a time.
 fn is_first_keyword(s: &[u8]) -> bool
-    ensures { result ≡ has keywords_1 (was s) }
+    ensures { result ≡ has keywords_1 s.now }
 {
     same(b"alignas", s) || (same(b"alignof", s) || (same(b"bool", s) || same(b"constexpr", s)))
 }
 
 fn is_second_keyword(s: &[u8]) -> bool
-    ensures { result ≡ has keywords_2 (was s) }
+    ensures { result ≡ has keywords_2 s.now }
 {
     same(b"false", s)
         || (same(b"nullptr", s) || (same(b"static_assert", s) || same(b"thread_local", s)))
 }
 
 fn is_third_keyword(s: &[u8]) -> bool
-    ensures { result ≡ has keywords_3 (was s) }
+    ensures { result ≡ has keywords_3 s.now }
 {
     same(b"true", s) || (same(b"typeof", s) || same(b"typeof_unqual", s))
 }
 
 // Whether a Symbol earns 12.
 fn is_new_keyword(s: &[u8]) -> bool
-    ensures { result ≡ has new_keywords (was s) }
+    ensures { result ≡ has new_keywords s.now }
 {
     is_first_keyword(s) || (is_second_keyword(s) || is_third_keyword(s))
 }
@@ -86,7 +85,7 @@ fn is_new_keyword(s: &[u8]) -> bool
 // ---- one command
 
 fn token_earns(up: bool, kind: u64, s: &[u8]) -> bool
-    ensures { result ≡ earns up (token kind (was s)) }
+    ensures { result ≡ earns up (token kind s.now) }
 {
     if up {
         if kind != SYMBOL {
@@ -102,7 +101,7 @@ fn token_earns(up: bool, kind: u64, s: &[u8]) -> bool
 
 fn command_earns(up: bool, tape: &[u8], at: usize, command: Command) -> bool
     requires { at + size_of command ≤ length tape.now }
-    ensures { result ≡ of_command (earns up) (command_in (was tape) at command) }
+    ensures { result ≡ of_command (earns up) (command_in tape.now at command) }
 {
     match command {
         Command::Addressed {
@@ -121,7 +120,7 @@ fn command_earns(up: bool, tape: &[u8], at: usize, command: Command) -> bool
 // The leftmost command that earns 12 going up, or 13 going down.
 pub fn first_place(up: bool, tape: &[u8]) -> Place
     requires { AcceptedTape tape.now }
-    ensures { place_of result ≡ leftmost up (was tape) }
+    ensures { place_of result ≡ leftmost up tape.now }
 {
     let mut at = 0;
     loop {

@@ -1,6 +1,5 @@
 // The text of a Number going down: each function writes its bytes into `out` from `at` on and says where they end.
 ghost use Rattle.std.specs.Prelude.{◌≡◌, false, [], ◌∷◌, ◌++◌, ◌+◌, ◌≤◌, length};
-ghost use Rattle.reference.specs.Contract.{was};
 ghost use Rattle.reference.specs.Text.{bytes};
 ghost use Rattle.numbers.specs.Writing.{hexadecimal};
 ghost use Rattle.tape.specs.Bytes.{Puts};
@@ -15,7 +14,7 @@ const QUOTE: u8 = 39;
 // Writes a byte that is no quote.
 fn put_byte(b: u8, out: &mut [u8], at: usize) -> usize
     requires { at + 1 ≤ length out.old }
-    ensures { Puts (was out) at (without_quotes (b ∷ [])) out.new result }
+    ensures { Puts out.old at (without_quotes (b ∷ [])) out.new result }
 {
     if b == QUOTE {
         return at;
@@ -27,7 +26,7 @@ fn put_byte(b: u8, out: &mut [u8], at: usize) -> usize
 // Writes a text without its quotes.
 fn put_unquoted(s: &[u8], out: &mut [u8], at: usize) -> usize
     requires { at + length s.now ≤ length out.old }
-    ensures { Puts (was out) at (without_quotes (was s)) out.new result }
+    ensures { Puts out.old at (without_quotes s.now) out.new result }
 {
     let mut to = at;
     let mut i = 0;
@@ -41,7 +40,7 @@ fn put_unquoted(s: &[u8], out: &mut [u8], at: usize) -> usize
 // Writes a number in hexadecimal behind `0x`, without leading zeros.
 fn put_hexadecimal(v: u64, out: &mut [u8], at: usize) -> usize
     requires { at + 2 + length (hexadecimal v) ≤ length out.old }
-    ensures { Puts (was out) at (bytes "0x" ++ hexadecimal v) out.new result }
+    ensures { Puts out.old at (bytes "0x" ++ hexadecimal v) out.new result }
 {
     out[at] = b'0';
     out[at + 1] = b'x';
@@ -51,7 +50,7 @@ fn put_hexadecimal(v: u64, out: &mut [u8], at: usize) -> usize
 // Writes a Number without its minus, gone down. One that begins as a binary constant or holds a quote is known to be read.
 fn put_constant(s: &[u8], out: &mut [u8], at: usize) -> usize
     requires { Ready s.now × (at + length s.now ≤ length out.old) }
-    ensures { Puts (was out) at (down_constant (was s)) out.new result }
+    ensures { Puts out.old at (down_constant s.now) out.new result }
 {
     if !begins_binary(s) {
         return put_unquoted(s, out, at);
@@ -65,7 +64,7 @@ fn put_constant(s: &[u8], out: &mut [u8], at: usize) -> usize
 // Writes a Number gone down, which does not earn 13.
 pub fn put_down(s: &[u8], out: &mut [u8], at: usize) -> usize
     requires { (has_no_older s.now ≡ false) × (at + length s.now ≤ length out.old) }
-    ensures { Puts (was out) at (down_text (was s)) out.new result }
+    ensures { Puts out.old at (down_text s.now) out.new result }
 {
     if !begins_minus(s) {
         return put_constant(s, out, at);

@@ -1,7 +1,6 @@
 // A tape that goes down, written: each function writes its bytes into `out` and says where they end. Commands are copied as they stand, but
 // for Numbers.
 ghost use Rattle.std.specs.Prelude.{◌≡◌, false, ◌+◌, ◌≤◌, length, take, drop};
-ghost use Rattle.reference.specs.Contract.{was};
 ghost use Rattle.reference.specs.Listing.{token, Listing};
 ghost use Rattle.reference.specs.Tape.{new_token, write_command, write};
 ghost use Rattle.reference.specs.Questions.{Passed, read, marks_in};
@@ -21,7 +20,7 @@ use text::copy_bytes;
 // Copies a part of the tape.
 fn put_part(tape: &[u8], from: usize, size: usize, out: &mut [u8], at: usize) -> usize
     requires { (from + size ≤ length tape.now) × (at + size ≤ length out.old) }
-    ensures { Puts (was out) at (take size (drop from (was tape))) out.new result }
+    ensures { Puts out.old at (take size (drop from tape.now)) out.new result }
 {
     copy_bytes(text_of(tape, from, size), out, at);
     at + size
@@ -30,7 +29,7 @@ fn put_part(tape: &[u8], from: usize, size: usize, out: &mut [u8], at: usize) ->
 // Writes the command of a Number gone down.
 fn put_number(s: &[u8], out: &mut [u8], at: usize) -> usize
     requires { (has_no_older s.now ≡ false) × (length s.now ≤ 24) × (at + 3 + length s.now ≤ length out.old) }
-    ensures { Puts (was out) at (write_command (new_token (token 2 (down_text (was s))))) out.new result }
+    ensures { Puts out.old at (write_command (new_token (token 2 (down_text s.now)))) out.new result }
 {
     let end = put_down(s, out, at + 3);
     out[at] = 18;
@@ -42,7 +41,7 @@ fn put_number(s: &[u8], out: &mut [u8], at: usize) -> usize
 // Writes the command at an offset of the tape, gone down.
 fn put_command(tape: &[u8], at: usize, command: Command, out: &mut [u8], to: usize) -> usize
     requires { Lowers tape.now at command out.old to }
-    ensures { Puts (was out) to (write_command (down_command (command_in (was tape) at command))) out.new result }
+    ensures { Puts out.old to (write_command (down_command (command_in tape.now at command))) out.new result }
 {
     match command {
         Command::Addressed {
@@ -64,8 +63,8 @@ fn put_command(tape: &[u8], at: usize, command: Command, out: &mut [u8], to: usi
 // Writes the tape gone down to the front of `out`, and says how long it is. No command of it earns 13.
 pub fn lower(tape: &[u8], out: &mut [u8]) -> usize
     requires { Lowerable tape.now × (length tape.now ≤ length out.old) }
-    ensures { (lines : Listing) → read (was tape) ≡ Passed lines
-        → Puts (was out) 0 (write (change down_token lines) (marks_in (was tape))) out.new result }
+    ensures { (lines : Listing) → read tape.now ≡ Passed lines
+        → Puts out.old 0 (write (change down_token lines) (marks_in tape.now)) out.new result }
 {
     let mut at = 0;
     let mut to = 0;

@@ -5,7 +5,7 @@ use native.Mathlib.Omega.{arith}
 use mathlib.Core.Path.{◌≡◌, refl, sym, ap, ◌∙◌}
 use mathlib.Core.List.{List, [], ◌∷◌, ◌++◌, append_assoc}
 use lib.ListN.{length, take, drop, get_or, length-append}
-use lib.Seq.{take_all, take-take, take-length, length-take-le}
+use lib.Seq.{take_all, take-length, length-take-le}
 use Rattle.reference.specs.Text.{Text, bytes}
 use Rattle.reference.specs.Rules.{Rules}
 use Rattle.reference.specs.Questions.{WORK, OUTPUT, Answer, Refused, Passed}
@@ -65,12 +65,13 @@ finished-shows (Passed c) e out o = record { holds = o; ends = ap (λ (s : Summa
 
 module _ (rules : Rules) (tape work_a work_b out : List ℕ) (a : length work_a ≡ WORK) (b : length work_b ≡ WORK) (o : length out ≡ OUTPUT)
     {work-a' work-b' after : List ℕ} (r : C.Reply)
-    (h : Cleans rules tape work_a work_b out work-a' work-b' after (report_of r) × (answer_of r ≡ summary (reply rules tape (length work_a) (length work_b) (length out)))) where
+    (h : Cleans rules tape work_a work_b out work-a' work-b' after (report_of r))
+    (v : answer_of r ≡ summary (reply rules tape (length work_a) (length work_b) (length out))) where
   same_answer : {s : Answer Summary} → answer_of r ≡ s → s ≡ summary (reply rules tape WORK WORK OUTPUT)
-  same_answer e = sym e ∙ (rw (a, b, o) at h.1)
+  same_answer e = sym e ∙ (rw (a, b, o) at v)
 
   left : after ≡ output_after (reply rules tape WORK WORK OUTPUT) out
-  left = rw (a, b, o) at h.0.leaves.output_is
+  left = rw (a, b, o) at h.leaves.output_is
 
   pub shows-refusal : {n p : ℕ} → r ≡ Said.Refused n p → {printed : List ℕ} {k : ℕ} → Shows (refusal n p) after printed k
       → Shows (shown (reply rules tape WORK WORK OUTPUT)) out printed k

@@ -1,6 +1,5 @@
 // What the program answers to an input, put into an output of 59,137 bytes.
 ghost use Rattle.std.specs.Prelude.{◌≡◌, false, ◌≤◌, length, take};
-ghost use Rattle.reference.specs.Contract.{was};
 ghost use Rattle.reference.specs.Questions.{WORK, OUTPUT};
 ghost use Rattle.reference.specs.Reply.{reply};
 ghost use Rattle.filter.specs.Response.{refusal, shown, settings, LONGEST, response, Shows};
@@ -12,7 +11,7 @@ use printing::{put, put_decimal};
 // Puts the line of a refusal, and says how long it is.
 fn put_refusal(number: u64, place: u64, out: &mut [u8]) -> usize
     requires { 53 ≤ length out.old }
-    ensures { Shows (refusal number place) (was out) out.new result }
+    ensures { Shows (refusal number place) out.old out.new result }
 {
     let a = put(b"refused ", out, 0);
     let b = put_decimal(number, out, a);
@@ -24,7 +23,7 @@ fn put_refusal(number: u64, place: u64, out: &mut [u8]) -> usize
 // Cleans a tape, every setting off, and says how long the answer is.
 fn answer(convention: u8, tape: &[u8], out: &mut [u8]) -> usize
     requires { length out.old ≡ OUTPUT }
-    ensures { Shows (shown (reply (settings convention) (was tape) WORK WORK OUTPUT)) (was out) out.new result }
+    ensures { Shows (shown (reply (settings convention) tape.now WORK WORK OUTPUT)) out.old out.new result }
 {
     let mut work_a = [0u8; 49152];
     let mut work_b = [0u8; 49152];
@@ -51,8 +50,8 @@ fn longest() -> usize
 // Cleans a tape, or the front of a longer one.
 fn answer_front(convention: u8, tape: &[u8], out: &mut [u8]) -> usize
     requires { length out.old ≡ OUTPUT }
-    ensures { Shows (shown (reply (settings convention) (take LONGEST (was tape)) WORK WORK OUTPUT))
-        (was out) out.new result }
+    ensures { Shows (shown (reply (settings convention) (take LONGEST tape.now) WORK WORK OUTPUT))
+        out.old out.new result }
 {
     let most = longest();
     if tape.len() <= most {
@@ -64,7 +63,7 @@ fn answer_front(convention: u8, tape: &[u8], out: &mut [u8]) -> usize
 // Answers an input of any length: a convention byte and a tape.
 pub fn respond(input: &[u8], out: &mut [u8]) -> usize
     requires { length out.old ≡ OUTPUT }
-    ensures { Shows (response (was input)) (was out) out.new result }
+    ensures { Shows (response input.now) out.old out.new result }
 {
     if input.len() == 0 {
         return put_refusal(1, 0, out);

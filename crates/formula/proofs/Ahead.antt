@@ -1,23 +1,22 @@
 -- The answers of `behind_byte`, `behind` and `operator`. Assumes nothing.
-use Rattle.std.proofs.Common.{◌≡◌, ℕ, zero, suc, ◌+◌, ◌<◌, ◌≤◌, Bool, true, false, eqb, List, [], ◌∷◌, ◌++◌, length, get_or, drop, sym, refl, ap, ◌∙◌, add-one, arith, drop-cons, eq-eqb, ne_eqb}
+use Rattle.std.proofs.Common.{◌≡◌, ℕ, suc, ◌+◌, ◌<◌, ◌≤◌, Bool, true, false, eqb, List, [], ◌∷◌, ◌++◌, length, get_or, drop, sym, refl, ap, ◌∙◌, add-one, arith, drop-cons, eq-eqb, ne_eqb}
 use mathlib.Core.Option.{Option, none, some}
-use Rattle.reference.specs.Control.{if◌then◌else◌, let_some◌else◌then◌}
+use Rattle.reference.specs.Control.{when◌then◌else◌, let_some◌else◌then◌}
 use Rattle.reference.specs.Text.{Text, bytes}
 use Rattle.reference.specs.Listing.{Token, Punct}
-use Rattle.reference.specs.Evaluators.{Lexeme, sign, reg, num, junk, lexemes_of, behind, adds, takes, operator}
+use Rattle.reference.specs.Evaluators.{Lexeme, sign, reg, num, junk, lexemes_of, behind, operator}
 use Rattle.laws.proofs.Scans.{if-true, if-false}
 use Rattle.lines.specs.Words.{kind_of, len_of, text_of, token_of, tokens_of, Points}
 use Rattle.lines.proofs.words.Tokens.{len_below, text_length}
-use Rattle.formula.specs.Places.{left, size_of, Placed, Readable, ahead_of, Leads, operated_of, Operates}
+use Rattle.formula.specs.Places.{left, Placed, Readable, ahead_of, Leads, Operates}
 use Rattle.formula.specs.declared.places.Ahead.{Ahead}
 use Rattle.formula.specs.declared.places.Ahead.TheVariants.{At, Nothing}
-use Rattle.formula.specs.declared.places.Operated.{Operated}
 use Rattle.formula.specs.declared.places.Operated.TheVariants.{Adds, Takes, Nothing as Unoperated}
 use Rattle.formula.proofs.Left.{drop_past, left_end, left_sign, left_over, size_punct, left_other, no_punct, One, a_register, a_number, a_junk, one_of, placed-whole}
 
 -- ---- one byte
 
-behind-sign : (c d : ℕ) (xs : List Lexeme) → behind (c ∷ []) (sign d ∷ xs) ≡ (if eqb d c then some xs else none)
+behind-sign : (c d : ℕ) (xs : List Lexeme) → behind (c ∷ []) (sign d ∷ xs) ≡ (when eqb d c then some xs else none)
 unfolding behind
 behind-sign c d xs = refl
 
@@ -65,7 +64,7 @@ module _ (tape : Text) (line : List ℕ) (h : Readable tape line) (k b : ℕ) (p
       pub byte_short : b < 65536
       byte_short = omega (arith, inside, len_below (get_or line k 0))
 
-      found : (c : ℕ) → behind (c ∷ []) (left (tokens_of tape tape line) k b) ≡ (if eqb (get_or s b 0) c then some (left (tokens_of tape tape line) k (b + 1)) else none)
+      found : (c : ℕ) → behind (c ∷ []) (left (tokens_of tape tape line) k b) ≡ (when eqb (get_or s b 0) c then some (left (tokens_of tape tape line) k (b + 1)) else none)
       found c = ap (behind (c ∷ [])) (left_sign tape line k l points kind b inside) ∙ behind-sign c _ _ ∙ rw es refl
 
       pub byte_differs : (c : ℕ) → (get_or s b 0 ≡ c → ⊥) → Leads tape line (behind (c ∷ []) (left (tokens_of tape tape line) k b)) Nothing
@@ -93,9 +92,9 @@ behind_two c cs (num z ∷ xs) = refl
 behind_two c cs (junk ∷ xs) = refl
 behind_two c cs (sign b ∷ xs) = go (eqb b c)
   where
-    go : (t : Bool) → (if t then behind cs xs else none) ≡ (let_some (if t then some xs else none) else none then λ r. behind cs r)
-    go true = unfold if◌then◌else◌ in refl
-    go false = unfold if◌then◌else◌ in refl
+    go : (t : Bool) → (when t then behind cs xs else none) ≡ (let_some (when t then some xs else none) else none then λ r. behind cs r)
+    go true = unfold when◌then◌else◌ in refl
+    go false = unfold when◌then◌else◌ in refl
 
 module _ (tape : Text) (line t : List ℕ) (k b i : ℕ) {o : Option (List Lexeme)} (inv : o ≡ behind (drop i t) (left (tokens_of tape tape line) k b)) where
   pub text_over : length t ≤ i → Placed line k b → Leads tape line o (At k b)

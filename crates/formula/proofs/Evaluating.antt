@@ -3,7 +3,7 @@ use Rattle.std.proofs.Common.{◌≡◌, ℕ, ◌+◌, ◌*◌, ◌<◌, ◌≤�
 use mathlib.Core.Bool.{false≢true}
 use mathlib.Core.Option.{Option, none, some}
 use lib.ListN.{length-map}
-use Rattle.reference.specs.Control.{◌||◌, if◌then◌else◌, let_some◌else◌then◌}
+use Rattle.reference.specs.Control.{◌or◌, when◌then◌else◌, let_some◌else◌then◌}
 use Rattle.reference.specs.Lists.{any}
 use Rattle.reference.specs.Text.{Text, bytes}
 use Rattle.reference.specs.Listing.{Token, Punct}
@@ -37,10 +37,10 @@ module _ (number : ℤ → Pair) (σ : Text → Pair) where
   term-opened d ys = term-sign (pairs number) σ d ys ∙ go (eqb d 40)
     where
       go : (b : Bool)
-          → (if b then (let_some (expression_of (pairs number) σ ys) else none then λ r. let_some (behind (bytes ")") r.1) else none then λ rest. some (r.0, rest)) else none)
-          ≡ (let_some (if b then some ys else none) else none then λ zs. bracket (expression_of (pairs number) σ zs))
-      go true = unfold bracket if◌then◌else◌ let_some◌else◌then◌ in refl
-      go false = unfold if◌then◌else◌ let_some◌else◌then◌ in refl
+          → (when b then (let_some (expression_of (pairs number) σ ys) else none then λ r. let_some (behind (bytes ")") r.1) else none then λ rest. some (r.0, rest)) else none)
+          ≡ (let_some (when b then some ys else none) else none then λ zs. bracket (expression_of (pairs number) σ zs))
+      go true = unfold bracket when◌then◌else◌ let_some◌else◌then◌ in refl
+      go false = unfold when◌then◌else◌ let_some◌else◌then◌ in refl
 
 -- ---- an expression on the way: where it began, the sum so far, how the next term joins it, and the place of that term
 
@@ -146,7 +146,7 @@ module _ (tape : Text) (line values : List ℕ) where
           go number σ v (a_junk w n e) = absurd (false≢true (sym (no_junk_at tape line free k l) ∙ junked))
             where
               junked : any is_junk (lexemes_of (token_of tape tape (get_or line k 0))) ≡ true
-              junked = unfold is_junk ◌||◌ in rw e refl
+              junked = unfold is_junk ◌or◌ in rw e refl
 
       -- a Punct: a bracket, or nothing
       module _ (ep : x ≡ Punct) {r : Ahead} (q : Leads tape line (behind (bytes "(") (left ts k b)) r) where

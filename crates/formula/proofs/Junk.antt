@@ -2,7 +2,7 @@
 use Rattle.std.proofs.Common.{◌≡◌, ℕ, zero, suc, ◌+◌, ◌<◌, ◌≤◌, Bool, true, false, not as flip, List, [], ◌∷◌, map, length, get_or, drop, sym, refl, ap, ◌∙◌, add-one, arith, drop-cons, eq-eqb, ne_eqb}
 use mathlib.Core.Bool.{false≢true}
 use mathlib.Core.Option.{Option, none, some}
-use Rattle.reference.specs.Control.{◌||◌}
+use Rattle.reference.specs.Control.{◌or◌}
 use Rattle.reference.specs.Lists.{any, is_some, is_empty}
 use Rattle.reference.specs.Text.{Text, bytes}
 use Rattle.reference.specs.Listing.{is, Punct}
@@ -18,7 +18,7 @@ use Rattle.formula.proofs.Left.{drop_past, punct-lexemes, One, a_register, a_num
 -- ---- what is read has none
 
 behind-junk : (t : Text) (xs rest : List Lexeme) → behind t xs ≡ some rest → any is_junk xs ≡ any is_junk rest
-unfolding behind is_junk ◌||◌
+unfolding behind is_junk ◌or◌
 behind-junk [] xs rest e = ap (any is_junk) (some_inj e)
 behind-junk (c ∷ cs) [] rest e = absurd (none-some e)
 behind-junk (c ∷ cs) (sign b ∷ xs) rest e = behind-junk cs xs rest (if_some e).1
@@ -40,7 +40,7 @@ module _ {X : Type 0} (a : Arithmetic X) (σ : Text → X) where
   same_rest r s e = ap (λ (q : X × List Lexeme). any is_junk q.1) (some_inj e)
 
   mutual
-    unfolding expression is_junk ◌||◌
+    unfolding expression is_junk ◌or◌
 
     expression-junk : (fuel : ℕ) (xs : List Lexeme) (r : X × List Lexeme) → expression a σ fuel xs ≡ some r → any is_junk xs ≡ any is_junk r.1
     expression-junk zero xs r e = absurd (none-some e)
@@ -93,7 +93,7 @@ no_junk tape line e h = sym e ∙ h
 -- ---- a token
 
 signs_clean : (s : Text) → any is_junk (map sign s) ≡ false
-unfolding is_junk ◌||◌
+unfolding is_junk ◌or◌
 signs_clean [] = refl
 signs_clean (c ∷ cs) = signs_clean cs
 
@@ -101,13 +101,13 @@ module _ (tape : Text) (w : ℕ) {x : ℕ} (ex : x ≡ kind_of w) where
   pub junk-punct : x ≡ Punct → false ≡ any is_junk (lexemes_of (token_of tape tape w))
   junk-punct ep = sym (ap (any is_junk) (punct-lexemes (token_of tape tape w) (unfold is in eq-eqb _ _ (sym ex ∙ ep))) ∙ signs_clean (text_of tape tape w))
 
-  pub junk-other : (x ≡ Punct → ⊥) → {y : Bool} → y ≡ (is_some (wide (token_of tape tape w)) || is_some (number_of (token_of tape tape w)))
+  pub junk-other : (x ≡ Punct → ⊥) → {y : Bool} → y ≡ (is_some (wide (token_of tape tape w)) or is_some (number_of (token_of tape tape w)))
       → flip y ≡ any is_junk (lexemes_of (token_of tape tape w))
-  unfolding is_junk ◌||◌
+  unfolding is_junk ◌or◌
   junk-other n {y} ey = ap flip ey ∙ sym (go (one_of (token_of tape tape w) (unfold is in ne_eqb _ _ (λ e. n (ex ∙ e)))))
     where
       go : One (token_of tape tape w)
-          → any is_junk (lexemes_of (token_of tape tape w)) ≡ flip (is_some (wide (token_of tape tape w)) || is_some (number_of (token_of tape tape w)))
+          → any is_junk (lexemes_of (token_of tape tape w)) ≡ flip (is_some (wide (token_of tape tape w)) or is_some (number_of (token_of tape tape w)))
       go (a_register z p e) = rw (e, p) refl
       go (a_number z p q e) = rw (e, p, q) refl
       go (a_junk p q e) = rw (e, p, q) refl
@@ -115,7 +115,7 @@ module _ (tape : Text) (w : ℕ) {x : ℕ} (ex : x ≡ kind_of w) where
 -- ---- the scan of a line
 
 module _ (tape : Text) where
-  first-junk : (w : ℕ) (ws : List ℕ) → has_junk tape (w ∷ ws) ≡ (any is_junk (lexemes_of (token_of tape tape w)) || has_junk tape ws)
+  first-junk : (w : ℕ) (ws : List ℕ) → has_junk tape (w ∷ ws) ≡ (any is_junk (lexemes_of (token_of tape tape w)) or has_junk tape ws)
   unfolding lexemes
   first-junk w ws = any_append is_junk (lexemes_of (token_of tape tape w)) (lexemes (tokens_of tape tape ws))
 
@@ -132,7 +132,7 @@ module _ (tape : Text) where
     scan-over l = sym (inv ∙ ap (has_junk tape) (drop_past i line l))
 
     module _ (l : i < length line) {y : Bool} (ey : y ≡ any is_junk (lexemes_of (token_of tape tape (get_or line i 0)))) where
-      here : o ≡ (y || has_junk tape (drop (i + 1) line))
+      here : o ≡ (y or has_junk tape (drop (i + 1) line))
       here = inv ∙ ap (has_junk tape) (drop-cons line i 0 l) ∙ first-junk (get_or line i 0) (drop (suc i) line) ∙ rw (← ey, add-one i) refl
 
       pub scan_hits : y ≡ true → true ≡ o

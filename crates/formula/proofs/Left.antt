@@ -1,13 +1,12 @@
 -- The lexemes that are left at a place: the end of a line, a byte of a Punct, another token. Assumes nothing.
 use Rattle.std.proofs.Common.{◌≡◌, ℕ, zero, suc, ◌+◌, ◌<◌, ◌≤◌, Bool, true, false, eqb, List, [], ◌∷◌, ◌++◌, map, length, get_or, drop, ℤ, sym, refl, ap, ◌∙◌, add-one, arith, drop-cons, eq-eqb, ne_eqb}
 use mathlib.Core.Option.{Option, none, some}
-use lib.ListN.{length-map}
-use Rattle.reference.specs.Control.{if◌then◌else◌, let_some◌else◌then◌}
+use Rattle.reference.specs.Control.{when◌then◌else◌, let_some◌else◌then◌}
 use Rattle.reference.specs.Text.{Text}
 use Rattle.reference.specs.Listing.{Token, is, Punct}
 use Rattle.reference.specs.Evaluators.{wide, number_of, Lexeme, sign, reg, num, junk, lexemes_of, lexemes}
 use Rattle.laws.proofs.Scans.{if-true, if-false}
-use Rattle.lines.specs.Words.{kind_of, len_of, text_of, token_of, tokens_of, Holds, Points}
+use Rattle.lines.specs.Words.{kind_of, len_of, text_of, token_of, tokens_of, Points}
 use Rattle.lines.proofs.words.Tokens.{text_length}
 use Rattle.formula.specs.Places.{left_of, left, size_of, Placed, Readable}
 
@@ -132,9 +131,9 @@ module _ (tape : Text) (line : List ℕ) where
 
 -- every place at the beginning of a token is one
 pub placed-whole : (tape : Text) (line : List ℕ) → Readable tape line → (k : ℕ) → Placed line k 0
-unfolding size_of if◌then◌else◌
+unfolding size_of when◌then◌else◌
 placed-whole tape line h k l = go (eqb (kind_of (get_or line k 0)) Punct)
   where
-    go : (b : Bool) → 0 < (if b then len_of (get_or line k 0) else 1)
+    go : (b : Bool) → 0 < (when b then len_of (get_or line k 0) else 1)
     go true = h.filled k l
     go false = omega arith

@@ -6,7 +6,7 @@ use Rattle.reference.specs.Straight.{breaks}
 use Rattle.reference.proofs.Limits.{All, TokenFits, LineFits}
 use Rattle.reference.proofs.Reading.{passed_inj}
 use Rattle.reference.proofs.Tapes.{read-limits}
-use Rattle.lines.specs.Words.{len_of, token_of, Holds}
+use Rattle.lines.specs.Words.{token_of, Holds}
 use Rattle.lines.specs.Lines.{part_of, Reading, own, line_read, listing_read}
 use Rattle.lines.specs.Shapes.{found}
 use Rattle.lines.specs.declared.shapes.Position.{Position}

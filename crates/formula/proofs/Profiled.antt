@@ -1,21 +1,18 @@
 -- The profile of a line and of a listing, case by case. Assumes nothing.
-use Rattle.std.proofs.Common.{◌≡◌, ℕ, zero, suc, ◌+◌, ◌-◌, ◌<◌, ◌≤◌, Bool, true, false, not as flip, eqb, List, [], ◌∷◌, map, length, get_or, take, drop, sym, refl, ap, ◌∙◌, subst, pos_of_ne-zero, add-one, arith, length-drop, drop-cons, eq-eqb, ne_eqb}
+use Rattle.std.proofs.Common.{◌≡◌, ℕ, suc, ◌+◌, ◌-◌, ◌<◌, ◌≤◌, Bool, true, false, not as flip, eqb, List, [], ◌∷◌, length, get_or, take, drop, sym, refl, ap, ◌∙◌, pos_of_ne-zero, add-one, arith, length-drop, drop-cons, eq-eqb, ne_eqb}
 use mathlib.Core.Path.{subst⁻¹}
-use mathlib.Core.Option.{Option, none, some}
+use mathlib.Core.Option.{none, some}
 use borrow.Author.Tests.{not-true, not-false}
-use Rattle.reference.specs.Control.{◌&&◌, if◌then◌else◌}
+use Rattle.reference.specs.Control.{◌and◌, when◌then◌else◌}
 use Rattle.reference.specs.Lists.{is_some}
 use Rattle.reference.specs.Text.{Text, bytes}
-use Rattle.reference.specs.Listing.{Token, Line, Listing}
 use Rattle.reference.specs.Shapes.{is_kw}
 use Rattle.reference.specs.Evaluators.{modulo, wide}
 use Rattle.reference.specs.Straight.{zeros, assigned_value, returned_value, puncts_apart, assigns_wide, returns_value, breaks_from, breaks}
 use Rattle.laws.proofs.Parts.{to_end}
 use Rattle.laws.proofs.Scans.{if-true, if-false, and_true, and_false}
 use Rattle.lines.specs.Words.{token_of, tokens_of, Points}
-use Rattle.lines.specs.Lines.{first_of, count_of, indent_of, part_of, Reading, line_read, listing_read, Listed}
-use Rattle.lines.specs.Shapes.{found}
-use Rattle.lines.specs.declared.shapes.Position.TheVariants.{At, Nothing}
+use Rattle.lines.specs.Lines.{first_of, count_of, indent_of, part_of, Reading, line_read, listing_read}
 use Rattle.formula.specs.Places.{Readable}
 use Rattle.formula.specs.Profile.{Filled}
 
@@ -98,14 +95,14 @@ module _ (tape : Text) where
 
 -- ---- with its indent
 
-pub here_other : (l indent : ℕ) (b : Bool) {x : ℕ} → x ≡ indent_of l → (x ≡ indent → ⊥) → false ≡ (eqb (indent_of l) indent && b)
+pub here_other : (l indent : ℕ) (b : Bool) {x : ℕ} → x ≡ indent_of l → (x ≡ indent → ⊥) → false ≡ (eqb (indent_of l) indent and b)
 here_other l indent b ex n = sym (and_false b (ne_eqb _ _ (λ e. n (ex ∙ e))))
 
 module _ (tape : Text) (tokens : List ℕ) (l indent : ℕ) {x : ℕ} (ex : x ≡ indent_of l) (e : x ≡ indent) {us : List ℕ} (eu : us ≡ part_of tokens l) {y : Bool} where
-  pub here_assigns : y ≡ assigns_wide (tokens_of tape tape us) → y ≡ (eqb (indent_of l) indent && assigns_wide (tokens_of tape tape (part_of tokens l)))
+  pub here_assigns : y ≡ assigns_wide (tokens_of tape tape us) → y ≡ (eqb (indent_of l) indent and assigns_wide (tokens_of tape tape (part_of tokens l)))
   here_assigns ey = ey ∙ ap (λ (vs : List ℕ). assigns_wide (tokens_of tape tape vs)) eu ∙ sym (and_true _ (eq-eqb _ _ (sym ex ∙ e)))
 
-  pub here_returns : y ≡ returns_value (tokens_of tape tape us) → y ≡ (eqb (indent_of l) indent && returns_value (tokens_of tape tape (part_of tokens l)))
+  pub here_returns : y ≡ returns_value (tokens_of tape tape us) → y ≡ (eqb (indent_of l) indent and returns_value (tokens_of tape tape (part_of tokens l)))
   here_returns ey = ey ∙ ap (λ (vs : List ℕ). returns_value (tokens_of tape tape vs)) eu ∙ sym (and_true _ (eq-eqb _ _ (sym ex ∙ e)))
 
 -- ---- a listing
@@ -139,7 +136,7 @@ module _ (tape : Text) (tokens lines : List ℕ) where
 
     step : (reading : Reading) → i + 1 < length lines
         → breaks (listing_read tape tape tokens reading lines)
-        ≡ (if eqb (indent_of (get_or lines i 0)) indent && assigns_wide (tokens_of tape tape (part_of tokens (get_or lines i 0)))
+        ≡ (when eqb (indent_of (get_or lines i 0)) indent and assigns_wide (tokens_of tape tape (part_of tokens (get_or lines i 0)))
         then breaks_from indent (i + 1) (listing_read tape tape tokens reading (drop (i + 1) lines)) else some i)
     step reading l = inv reading ∙ ap (breaks_from indent i) (line_at reading (omega arith)) ∙ go (drop (i + 1) lines) (long lines i l)
       where
@@ -148,25 +145,25 @@ module _ (tape : Text) (tokens lines : List ℕ) where
 
         go : (ms : List ℕ) → 0 < length ms
             → breaks_from indent i (line_read tape tape tokens reading (get_or lines i 0) ∷ listing_read tape tape tokens reading ms)
-            ≡ (if eqb (indent_of (get_or lines i 0)) indent && assigns_wide (tokens_of tape tape (part_of tokens (get_or lines i 0)))
+            ≡ (when eqb (indent_of (get_or lines i 0)) indent and assigns_wide (tokens_of tape tape (part_of tokens (get_or lines i 0)))
             then breaks_from indent (i + 1) (listing_read tape tape tokens reading ms) else some i)
         go [] h = absurd (omega arith)
         go (m ∷ ms) h = unfold breaks_from in rw (add-one i) refl
 
-    module _ (l : i + 1 < length lines) {x : Bool} (ex : x ≡ (eqb (indent_of (get_or lines i 0)) indent && assigns_wide (tokens_of tape tape (part_of tokens (get_or lines i 0))))) where
+    module _ (l : i + 1 < length lines) {x : Bool} (ex : x ≡ (eqb (indent_of (get_or lines i 0)) indent and assigns_wide (tokens_of tape tape (part_of tokens (get_or lines i 0))))) where
       pub step-breaks : flip x ≡ true → (reading : Reading) → some i ≡ breaks (listing_read tape tape tokens reading lines)
       step-breaks h reading = sym (step reading l ∙ if-false _ _ (sym ex ∙ not-true _ h))
 
       pub step-goes : flip x ≡ false → From indent (i + 1)
       step-goes h reading = step reading l ∙ if-true _ _ (sym ex ∙ not-false _ h)
 
-    module _ (l : i + 1 ≡ length lines) {x : Bool} (ex : x ≡ (eqb (indent_of (get_or lines i 0)) indent && returns_value (tokens_of tape tape (part_of tokens (get_or lines i 0))))) where
-      last_is : (reading : Reading) → breaks (listing_read tape tape tokens reading lines) ≡ (if x then none else some i)
+    module _ (l : i + 1 ≡ length lines) {x : Bool} (ex : x ≡ (eqb (indent_of (get_or lines i 0)) indent and returns_value (tokens_of tape tape (part_of tokens (get_or lines i 0))))) where
+      last_is : (reading : Reading) → breaks (listing_read tape tape tokens reading lines) ≡ (when x then none else some i)
       last_is reading =
           inv reading ∙ ap (breaks_from indent i) (line_at reading (omega arith)) ∙ go (drop (i + 1) lines) (omega (arith, length-drop (i + 1) lines))
         where
           go : (ms : List ℕ) → length ms ≡ 0
-              → breaks_from indent i (line_read tape tape tokens reading (get_or lines i 0) ∷ listing_read tape tape tokens reading ms) ≡ (if x then none else some i)
+              → breaks_from indent i (line_read tape tape tokens reading (get_or lines i 0) ∷ listing_read tape tape tokens reading ms) ≡ (when x then none else some i)
           go [] h = unfold breaks_from in rw ex refl
           go (m ∷ ms) h = absurd (omega arith)
 

@@ -1,18 +1,18 @@
 -- The answers of `evaluate`: a whole line. Assumes nothing.
-use Rattle.std.proofs.Common.{◌≡◌, ℕ, ◌+◌, ◌<◌, ◌≤◌, Bool, true, false, List, [], ◌∷◌, ◌++◌, length, get_or, ℤ, sym, refl, ap, ◌∙◌, arith}
+use Rattle.std.proofs.Common.{◌≡◌, ℕ, ◌+◌, ◌<◌, ◌≤◌, Bool, true, false, List, [], ◌++◌, length, get_or, ℤ, sym, refl, ap, ◌∙◌, arith}
 use mathlib.Core.Logic.{by_cases}
 use native.Mathlib.Decide.{ℕ_discrete}
-use mathlib.Core.Option.{Option, none, some}
-use Rattle.reference.specs.Control.{if◌then◌else◌, let_some◌else◌then◌}
+use mathlib.Core.Option.{none, some}
+use Rattle.reference.specs.Control.{when◌then◌else◌, let_some◌else◌then◌}
 use Rattle.reference.specs.Lists.{is_some, is_empty}
 use Rattle.reference.specs.Text.{Text, bytes}
 use Rattle.reference.specs.Listing.{Token, Punct}
-use Rattle.reference.specs.Evaluators.{modulo, Lexeme, lexemes_of, lexemes, behind, fuel_for, expression, evaluate}
+use Rattle.reference.specs.Evaluators.{modulo, lexemes_of, lexemes, behind, fuel_for, expression, evaluate}
 use Rattle.reference.specs.Straight.{zeros, assigned_value, returned_value}
 use Rattle.laws.proofs.Scans.{if-true, if-false}
 use Rattle.straight.proofs.Values.{read_alike}
-use Rattle.lines.specs.Words.{kind_of, token_of, tokens_of, Points}
-use Rattle.formula.specs.Places.{left, size_of, Placed, Readable, Leads}
+use Rattle.lines.specs.Words.{kind_of, token_of, tokens_of}
+use Rattle.formula.specs.Places.{left, Placed, Readable, Leads}
 use Rattle.formula.specs.Values.{Pair, pairs, Valued, told, Expression, value_of, Evaluates}
 use Rattle.formula.specs.declared.places.Ahead.{Ahead}
 use Rattle.formula.specs.declared.places.Ahead.TheVariants.{At, Nothing}
@@ -53,7 +53,7 @@ module _ (tape : Text) (line values before : List ℕ) (h : Readable tape line) 
       → evaluate (pairs number) σ before (lexemes ts)
       ≡ (let_some (behind before (left ts 0 0)) else none then λ ys.
       let_some (expression (pairs number) σ (fuel_for ys) ys) else none then λ r.
-      let_some (behind (bytes ";") r.1) else none then λ rest. if is_empty rest then some r.0 else none)
+      let_some (behind (bytes ";") r.1) else none then λ rest. when is_empty rest then some r.0 else none)
   unfolding evaluate
   begun number σ = rw (left_whole tape line 0) refl
 
@@ -73,7 +73,7 @@ module _ (tape : Text) (line values before : List ℕ) (h : Readable tape line) 
 
       module _ (i' j' : ℕ) (g : u ≡ At i' j') where
         ended : (number : ℤ → Pair) (σ : Text → Pair) → Valued number σ ts values
-            → evaluate (pairs number) σ before (lexemes ts) ≡ (if is_empty (left ts i' j') then some (get_or out 0 0, get_or out 1 0) else none)
+            → evaluate (pairs number) σ before (lexemes ts) ≡ (when is_empty (left ts i' j') then some (get_or out 0 0, get_or out 1 0) else none)
         unfolding let_some◌else◌then◌
         ended number σ v = begun number σ ∙ rw (leads_some i j q e, worth_some tape line values out w f number σ v, leads_some i' j' z g) refl
 
@@ -86,7 +86,7 @@ module _ (tape : Text) (line values before : List ℕ) (h : Readable tape line) 
 -- ---- whether a line is worth anything
 
 nothing-valued : (ts : List Token) → Valued (λ z. (0, 0)) (λ x. (0, 0)) ts []
-nothing-valued ts = record { register = λ k x l e. refl; number_is = λ k z l e. refl }
+nothing-valued _ = record { register = λ k x l e. refl; number_is = λ k z l e. refl }
 
 module _ (tape : Text) (line before : List ℕ) (w : Worth) (q : Evaluates tape line [] before w) {x : Bool} (e : x ≡ is_some (value_of w)) where
   read_so : x ≡ is_some (evaluate modulo zeros before (lexemes (tokens_of tape tape line)))

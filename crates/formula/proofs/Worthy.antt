@@ -1,20 +1,19 @@
 -- Which tokens are worth something: the cases of `is_wide`, `is_tidy` and `is_number`. Assumes nothing.
-use Rattle.std.proofs.Common.{◌≡◌, ℕ, zero, suc, ◌+◌, ◌-◌, ◌%◌, ◌^◌, ◌<◌, ◌≤◌, Bool, true, false, not as flip, eqb, leb, List, [], ◌∷◌, length, get_or, take, drop, ℤ, sym, refl, ap, ◌∙◌, add-one, arith, drop-cons, eq-eqb, ne_eqb, le-leb}
+use Rattle.std.proofs.Common.{◌≡◌, ℕ, zero, suc, ◌+◌, ◌-◌, ◌%◌, ◌^◌, ◌<◌, ◌≤◌, Bool, true, false, not as flip, eqb, List, [], ◌∷◌, length, get_or, take, drop, ℤ, sym, refl, ap, ◌∙◌, add-one, arith, drop-cons, eq-eqb, ne_eqb, le-leb}
 use mathlib.Core.Bool.{false≢true}
-use mathlib.Core.Option.{Option, none, some}
+use mathlib.Core.Option.{some}
 use borrow.Author.Tests.{lt-leb}
-use Rattle.reference.specs.Control.{not, ◌&&◌, ◌||◌, if◌then◌else◌, let_some◌else◌then◌}
+use Rattle.reference.specs.Control.{not, ◌and◌, when◌then◌else◌, let_some◌else◌then◌}
 use Rattle.reference.specs.Lists.{count, is_some}
-use Rattle.reference.specs.Text.{Text, bytes, ◌==◌, starts_with, strip_prefix, contains}
-use Rattle.reference.specs.Listing.{Token, is, Number, Keyword, Punct}
+use Rattle.reference.specs.Text.{Text, bytes, ◌≟◌, starts_with, strip_prefix, contains}
+use Rattle.reference.specs.Listing.{is, Number, Keyword, Punct}
 use Rattle.reference.specs.Shapes.{is_kw}
 use Rattle.reference.specs.Names.{fam_of}
 use Rattle.reference.specs.Numbers.{parse_c_number}
 use Rattle.reference.specs.Evaluators.{plus, minus, wide, is_tidy, number_of}
 use Rattle.reference.specs.Straight.{puncts_apart}
-use Rattle.reference.proofs.Cases.{not-true}
 use Rattle.laws.proofs.Parts.{to_end}
-use Rattle.laws.proofs.Scans.{if-true, if-false, and_true, and_false}
+use Rattle.laws.proofs.Scans.{and_true, and_false}
 use Rattle.numbers.specs.declared.parse.Number.{Number as Reading}
 use Rattle.numbers.specs.declared.parse.Number.TheVariants.{Read, Unread}
 use Rattle.numbers.specs.Reading.{meaning}
@@ -40,7 +39,7 @@ module _ (tape : Text) (w : ℕ) {r : Named} (n : Names tape tape (fam_of (token
     known = sym n.is ∙ ap (named tape tape) e
 
     pub wide-narrow : (k ≡ 64 → ⊥) → false ≡ is_some (wide (token_of tape tape w))
-    unfolding wide let_some◌else◌then◌ ◌&&◌ if◌then◌else◌
+    unfolding wide let_some◌else◌then◌ ◌and◌ when◌then◌else◌
     wide-narrow h = rw (known, ne_eqb k 64 h) refl
 
     pub wide_by : {x : Bool} {s : Text} → (k ≡ 64) → s ≡ text_of tape tape w → x ≡ starts_with s (bytes "var_") → flip x ≡ is_some (wide (token_of tape tape w))
@@ -48,8 +47,8 @@ module _ (tape : Text) (w : ℕ) {r : Named} (n : Names tape tape (fam_of (token
       where
         by : (b : Bool) → starts_with (text_of tape tape w) (bytes "var_") ≡ b → (x : Bool) → x ≡ starts_with (text_of tape tape w) (bytes "var_")
             → is_some (wide (token_of tape tape w)) ≡ flip x
-        by true q x p = unfold wide let_some◌else◌then◌ ◌&&◌ not if◌then◌else◌ in rw (known, eq-eqb k 64 h, p, q) refl
-        by false q x p = unfold wide let_some◌else◌then◌ ◌&&◌ not if◌then◌else◌ in rw (known, eq-eqb k 64 h, p, q) refl
+        by true q x p = unfold wide let_some◌else◌then◌ ◌and◌ not when◌then◌else◌ in rw (known, eq-eqb k 64 h, p, q) refl
+        by false q x p = unfold wide let_some◌else◌then◌ ◌and◌ not when◌then◌else◌ in rw (known, eq-eqb k 64 h, p, q) refl
 
 -- ---- tidy numbers
 
@@ -71,19 +70,19 @@ module _ (s : Text) where
     tidy_minus l em hm ey = ey ∙ ap is_plain (to_end 1 s) ∙ sym (rest l ∙ ap is_plain (stripped (sym em ∙ hm)))
       where
         stripped : starts_with s (bytes "-") ≡ true → (let_some (strip_prefix (bytes "-") s) else s then λ r. r) ≡ drop 1 s
-        stripped q = unfold strip_prefix let_some◌else◌then◌ if◌then◌else◌ in rw q refl
+        stripped q = unfold strip_prefix let_some◌else◌then◌ when◌then◌else◌ in rw q refl
 
     pub tidy_plain : {m y : Bool} → n ≤ 1 → m ≡ starts_with s (bytes "-") → m ≡ false → y ≡ is_plain s → y ≡ is_tidy s
     tidy_plain l em hm ey = ey ∙ sym (rest l ∙ ap is_plain (whole (sym em ∙ hm)))
       where
         whole : starts_with s (bytes "-") ≡ false → (let_some (strip_prefix (bytes "-") s) else s then λ r. r) ≡ s
-        whole q = unfold strip_prefix let_some◌else◌then◌ if◌then◌else◌ in rw q refl
+        whole q = unfold strip_prefix let_some◌else◌then◌ when◌then◌else◌ in rw q refl
 
 -- ---- numbers
 
 module _ (tape : Text) (w : ℕ) {k : ℕ} (ek : k ≡ kind_of w) where
   pub number_kind : (k ≡ Number → ⊥) → false ≡ is_some (number_of (token_of tape tape w))
-  unfolding number_of is ◌&&◌ if◌then◌else◌
+  unfolding number_of is ◌and◌ when◌then◌else◌
   number_kind h = rw (ne_eqb (kind_of w) Number (λ e. h (ek ∙ e))) refl
 
   module _ (hk : k ≡ Number) {s : Text} (es : s ≡ text_of tape tape w) {x : Bool} (ex : x ≡ is_tidy s) where
@@ -92,12 +91,12 @@ module _ (tape : Text) (w : ℕ) {k : ℕ} (ek : k ≡ kind_of w) where
     same_kind = eq-eqb _ _ (sym ek ∙ hk)
 
     pub number_untidy : x ≡ false → false ≡ is_some (number_of (token_of tape tape w))
-    unfolding number_of ◌&&◌ if◌then◌else◌
+    unfolding number_of ◌and◌ when◌then◌else◌
     number_untidy h = rw (same_kind, ← es, ← ex, h) refl
 
     module _ (h : x ≡ true) (r : Reading) (er : meaning r ≡ parse_c_number s) where
       parsed : number_of (token_of tape tape w) ≡ meaning r
-      unfolding number_of ◌&&◌ if◌then◌else◌
+      unfolding number_of ◌and◌ when◌then◌else◌
       parsed = rw (same_kind, ← es, ← ex, h, er) refl
 
       pub number_read : (v : ℤ) → r ≡ Read v → true ≡ is_some (number_of (token_of tape tape w))
@@ -133,11 +132,11 @@ module _ (line : List ℕ) (i : ℕ) (tape area : Text) where
 
   module _ (h : i < length line) (behind : Bool) where
     apart_at : puncts_apart behind (tokens_of tape area (drop i line))
-        ≡ (not (behind && is Punct (token_of tape area (get_or line i 0))) && puncts_apart (is Punct (token_of tape area (get_or line i 0))) (tokens_of tape area (drop (i + 1) line)))
+        ≡ (not (behind and is Punct (token_of tape area (get_or line i 0))) and puncts_apart (is Punct (token_of tape area (get_or line i 0))) (tokens_of tape area (drop (i + 1) line)))
     unfolding puncts_apart
     apart_at = rw (add-one, drop-cons line i 0 h)
 
-    module _ {x : ℕ} (ex : x ≡ kind_of (get_or line i 0)) {y : Bool} (ey : y ≡ (behind && eqb x Punct)) where
+    module _ {x : ℕ} (ex : x ≡ kind_of (get_or line i 0)) {y : Bool} (ey : y ≡ (behind and eqb x Punct)) where
       pub apart-fails : y ≡ true → puncts_apart behind (tokens_of tape area (drop i line)) ≡ false
       unfolding is not
       apart-fails q = apart_at ∙ and_false _ (rw (← ex, sym ey ∙ q))
@@ -153,7 +152,7 @@ pub return_kind : (tape : Text) (w : ℕ) {x : ℕ} → x ≡ kind_of w → (x �
 unfolding is_kw is
 return_kind tape w ex n = sym (and_false _ (ne_eqb _ _ (λ e. n (ex ∙ e))))
 
-pub return_text : (tape : Text) (w : ℕ) {x : ℕ} {s : Text} {y : Bool} → x ≡ kind_of w → x ≡ Keyword → s ≡ text_of tape tape w → y ≡ (s == bytes "return")
+pub return_text : (tape : Text) (w : ℕ) {x : ℕ} {s : Text} {y : Bool} → x ≡ kind_of w → x ≡ Keyword → s ≡ text_of tape tape w → y ≡ (s ≟ bytes "return")
     → y ≡ is_kw (bytes "return") (token_of tape tape w)
 unfolding is_kw is
 return_text tape w ex n es ey = ey ∙ rw es refl ∙ sym (and_true _ (eq-eqb _ _ (sym ex ∙ n)))

@@ -1,7 +1,7 @@
 -- What a place in a line means: the lexemes that are left there. Assumes nothing.
 use Rattle.std.specs.Prelude.{◌≡◌, ℕ, ◌<◌, ◌≤◌, List, [], ◌∷◌, ◌++◌, length, drop, ◌==◌, slice_index}
 use Rattle.std.proofs.Math.Option.{Option, none, some}
-use Rattle.reference.specs.Control.{if◌then◌else◌}
+use Rattle.reference.specs.Control.{when◌then◌else◌}
 use Rattle.reference.specs.Text.{Text}
 use Rattle.reference.specs.Listing.{Token, Punct}
 use Rattle.reference.specs.Evaluators as E
@@ -23,7 +23,7 @@ left ts k b = left_of b (drop k ts)
 
 -- how many lexemes a token is
 unfoldable pub size_of : ℕ → ℕ
-size_of w = if kind_of w == Punct then len_of w else 1
+size_of w = when kind_of w == Punct then len_of w else 1
 
 -- the end of the line, or a lexeme of a token
 abbrev pub Placed : List ℕ → ℕ → ℕ → Type 0

@@ -9,7 +9,6 @@
 // levels share; `term` is called at one place, so that the compiler lays both in one frame; and whether the tokens are registers and
 // numbers of the profile is asked before (`has_junk`), not on the way down.
 ghost use Rattle.std.specs.Prelude.{◌≡◌, false, [], ◌∷◌, slice_index};
-ghost use Rattle.reference.specs.Contract.{was};
 ghost use Rattle.reference.specs.Evaluators.{plus, minus};
 ghost use Rattle.formula.specs.Places.{Placed, Readable};
 ghost use Rattle.formula.specs.Terms.{has_junk};
@@ -22,7 +21,7 @@ use lines::words;
 use std::num::{wrapping_add_u64, wrapping_sub_u64};
 
 // A value and the place behind it, or that the profile is broken.
-#[derive(Drop)]
+#[derive(Clone, Copy)]
 pub enum Worth {
     Is {
         multiplier: u64,
@@ -34,7 +33,7 @@ pub enum Worth {
 }
 
 fn value_at(values: &[u64], i: usize) -> u64
-    ensures { result ≡ slice_index (was values) i }
+    ensures { result ≡ slice_index values.now i }
 {
     if values.len() <= i {
         return 0;
@@ -55,7 +54,7 @@ fn minus(v: u64, w: u64) -> u64
 }
 
 // How a term joins the sum before it.
-#[derive(Drop)]
+#[derive(Clone, Copy)]
 pub enum Joins {
     Begins,
     Adds,
@@ -90,7 +89,7 @@ pub fn term<'a>(
     out: &mut [u64; 4],
 ) -> bool
     requires { Readable tape.now line.now × (has_junk tape.now line.now ≡ false) × Placed line.now token byte }
-    ensures { Term (was tape) (was line) (was values) token byte (told result out.new) }
+    ensures { Term tape.now line.now values.now token byte (told result out.new) }
 {
     if line.len() <= token {
         return false;
@@ -127,7 +126,7 @@ pub fn expression<'a>(
     out: &mut [u64; 4],
 ) -> bool
     requires { Readable tape.now line.now × (has_junk tape.now line.now ≡ false) × Placed line.now token byte }
-    ensures { Expression (was tape) (was line) (was values) token byte (told result out.new) }
+    ensures { Expression tape.now line.now values.now token byte (told result out.new) }
 {
     let mut how = Joins::Begins;
     let mut m = 0;
@@ -165,7 +164,7 @@ pub fn expression<'a>(
 // end.
 pub fn evaluate<'a>(tape: &'a [u8], line: &'a [u64], values: &'a [u64], before: &'a [u8]) -> Worth
     requires { Readable tape.now line.now }
-    ensures { Evaluates (was tape) (was line) (was values) (was before) result }
+    ensures { Evaluates tape.now line.now values.now before.now result }
 {
     if has_junk(tape, line) {
         return Worth::Breaks;

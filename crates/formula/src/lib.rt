@@ -1,4 +1,6 @@
 // Straight pieces (request M-106): whether a listing is in the profile, by the evaluators of expressions.
+#![tactic(auto)]
+
 pub mod evaluators;
 pub mod places;
 pub mod profile;

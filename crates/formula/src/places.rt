@@ -1,6 +1,5 @@
 // Places in a line: a token's number and a byte of its text, which is 0 in a token that is no Punct. The tokens' texts are all in the tape.
 ghost use Rattle.std.specs.Prelude.{[], ◌∷◌};
-ghost use Rattle.reference.specs.Contract.{was};
 ghost use Rattle.reference.specs.Text.{bytes};
 ghost use Rattle.reference.specs.Evaluators.{behind, operator};
 ghost use Rattle.lines.specs.Words.{tokens_of};
@@ -8,7 +7,7 @@ ghost use Rattle.formula.specs.Places.{left, Placed, Readable, Leads, Operates};
 
 use lines::words;
 
-#[derive(Drop)]
+#[derive(Clone, Copy)]
 pub enum Ahead {
     At(usize, usize),
     Nothing,
@@ -17,7 +16,7 @@ pub enum Ahead {
 // The place behind the byte c of a Punct, if it stands here.
 fn behind_byte<'a>(tape: &'a [u8], line: &'a [u64], token: usize, byte: usize, c: u8) -> Ahead
     requires { Readable tape.now line.now × Placed line.now token byte }
-    ensures { Leads (was tape) (was line) (behind (c ∷ []) (left (tokens_of (was tape) (was tape) (was line)) token byte)) result }
+    ensures { Leads tape.now line.now (behind (c ∷ []) (left (tokens_of tape.now tape.now line.now) token byte)) result }
 {
     if line.len() <= token {
         return Ahead::Nothing;
@@ -39,7 +38,7 @@ fn behind_byte<'a>(tape: &'a [u8], line: &'a [u64], token: usize, byte: usize, c
 // The place behind a text of Puncts, if it stands here.
 pub fn behind<'a>(tape: &'a [u8], line: &'a [u64], token: usize, byte: usize, t: &'a [u8]) -> Ahead
     requires { Readable tape.now line.now × Placed line.now token byte }
-    ensures { Leads (was tape) (was line) (behind (was t) (left (tokens_of (was tape) (was tape) (was line)) token byte)) result }
+    ensures { Leads tape.now line.now (behind t.now (left (tokens_of tape.now tape.now line.now) token byte)) result }
 {
     let mut k = token;
     let mut b = byte;
@@ -60,7 +59,7 @@ pub fn behind<'a>(tape: &'a [u8], line: &'a [u64], token: usize, byte: usize, t:
 }
 
 // Whether ` + ` or ` - ` stands at a place, and the place behind it.
-#[derive(Drop)]
+#[derive(Clone, Copy)]
 pub enum Operated {
     Adds(usize, usize),
     Takes(usize, usize),
@@ -69,7 +68,7 @@ pub enum Operated {
 
 pub fn operator<'a>(tape: &'a [u8], line: &'a [u64], token: usize, byte: usize) -> Operated
     requires { Readable tape.now line.now × Placed line.now token byte }
-    ensures { Operates (was tape) (was line) (operator (left (tokens_of (was tape) (was tape) (was line)) token byte)) result }
+    ensures { Operates tape.now line.now (operator (left (tokens_of tape.now tape.now line.now) token byte)) result }
 {
     if let Ahead::At(k, b) = behind(tape, line, token, byte, b" + ") {
         return Operated::Adds(k, b);
@@ -82,14 +81,14 @@ pub fn operator<'a>(tape: &'a [u8], line: &'a [u64], token: usize, byte: usize) 
 
 pub fn behind_open<'a>(tape: &'a [u8], line: &'a [u64], token: usize, byte: usize) -> Ahead
     requires { Readable tape.now line.now × Placed line.now token byte }
-    ensures { Leads (was tape) (was line) (behind (bytes "(") (left (tokens_of (was tape) (was tape) (was line)) token byte)) result }
+    ensures { Leads tape.now line.now (behind (bytes "(") (left (tokens_of tape.now tape.now line.now) token byte)) result }
 {
     behind(tape, line, token, byte, b"(")
 }
 
 pub fn behind_close<'a>(tape: &'a [u8], line: &'a [u64], token: usize, byte: usize) -> Ahead
     requires { Readable tape.now line.now × Placed line.now token byte }
-    ensures { Leads (was tape) (was line) (behind (bytes ")") (left (tokens_of (was tape) (was tape) (was line)) token byte)) result }
+    ensures { Leads tape.now line.now (behind (bytes ")") (left (tokens_of tape.now tape.now line.now) token byte)) result }
 {
     behind(tape, line, token, byte, b")")
 }

@@ -1,7 +1,6 @@
 // The profile of straight pieces, asked of a loaded listing: its first line that breaks it.
 ghost use Rattle.std.specs.Prelude.{◌≡◌, ◌+◌, ◌<◌, ◌≤◌, false, length, ◌==◌};
-ghost use Rattle.reference.specs.Contract.{was};
-ghost use Rattle.reference.specs.Control.{◌&&◌};
+ghost use Rattle.reference.specs.Control.{◌and◌};
 ghost use Rattle.reference.specs.Lists.{is_some};
 ghost use Rattle.reference.specs.Text.{Text, bytes};
 ghost use Rattle.reference.specs.Shapes.{is_kw};
@@ -36,7 +35,7 @@ fn is_worth(w: Worth) -> bool
 // Whether tokens are ` = `, an expression and `;`. An empty table of values serves.
 fn assigns<'a>(tape: &'a [u8], rest: &'a [u64]) -> bool
     requires { Readable tape.now rest.now }
-    ensures { result ≡ is_some (assigned_value modulo zeros (tokens_of (was tape) (was tape) (was rest))) }
+    ensures { result ≡ is_some (assigned_value modulo zeros (tokens_of tape.now tape.now rest.now)) }
 {
     is_worth(evaluate(tape, rest, &rest[..0], b" = "))
 }
@@ -44,20 +43,20 @@ fn assigns<'a>(tape: &'a [u8], rest: &'a [u64]) -> bool
 // Whether they are a space, an expression and `;`.
 fn returns<'a>(tape: &'a [u8], rest: &'a [u64]) -> bool
     requires { Readable tape.now rest.now }
-    ensures { result ≡ is_some (returned_value modulo zeros (tokens_of (was tape) (was tape) (was rest))) }
+    ensures { result ≡ is_some (returned_value modulo zeros (tokens_of tape.now tape.now rest.now)) }
 {
     is_worth(evaluate(tape, rest, &rest[..0], b" "))
 }
 
 fn side_by_side(before: bool, here: bool) -> bool
-    ensures { result ≡ (before && here) }
+    ensures { result ≡ (before and here) }
 {
     before && here
 }
 
 // Whether no two Puncts stand side by side.
 fn puncts_apart(line: &[u64]) -> bool
-    ensures { (tape area : Text) → result ≡ puncts_apart false (tokens_of tape area (was line)) }
+    ensures { (tape area : Text) → result ≡ puncts_apart false (tokens_of tape area line.now) }
 {
     let mut behind = false;
     let mut i = 0;
@@ -74,7 +73,7 @@ fn puncts_apart(line: &[u64]) -> bool
 
 fn is_return(tape: &[u8], w: u64) -> bool
     requires { Points tape.now tape.now w }
-    ensures { result ≡ is_kw (bytes "return") (token_of (was tape) (was tape) w) }
+    ensures { result ≡ is_kw (bytes "return") (token_of tape.now tape.now w) }
 {
     if words::kind(w) != words::KEYWORD {
         return false;
@@ -84,7 +83,7 @@ fn is_return(tape: &[u8], w: u64) -> bool
 
 fn assigns_wide<'a>(tape: &'a [u8], line: &'a [u64]) -> bool
     requires { Readable tape.now line.now }
-    ensures { result ≡ assigns_wide (tokens_of (was tape) (was tape) (was line)) }
+    ensures { result ≡ assigns_wide (tokens_of tape.now tape.now line.now) }
 {
     if line.len() == 0 {
         return false;
@@ -100,7 +99,7 @@ fn assigns_wide<'a>(tape: &'a [u8], line: &'a [u64]) -> bool
 
 fn returns_value<'a>(tape: &'a [u8], line: &'a [u64]) -> bool
     requires { Readable tape.now line.now }
-    ensures { result ≡ returns_value (tokens_of (was tape) (was tape) (was line)) }
+    ensures { result ≡ returns_value (tokens_of tape.now tape.now line.now) }
 {
     if line.len() == 0 {
         return false;
@@ -117,7 +116,7 @@ fn returns_value<'a>(tape: &'a [u8], line: &'a [u64]) -> bool
 // Whether a line but the last is in the profile; `indent` is the first line's.
 fn assigns_here<'a>(tape: &'a [u8], tokens: &'a [u64], l: u64, indent: u64) -> bool
     requires { (first_of l + count_of l ≤ length tokens.now) × Readable tape.now (part_of tokens.now l) }
-    ensures { result ≡ (indent_of l == indent && assigns_wide (tokens_of (was tape) (was tape) (part_of (was tokens) l))) }
+    ensures { result ≡ (indent_of l == indent and assigns_wide (tokens_of tape.now tape.now (part_of tokens.now l))) }
 {
     if words::indent(l) != indent {
         return false;
@@ -127,7 +126,7 @@ fn assigns_here<'a>(tape: &'a [u8], tokens: &'a [u64], l: u64, indent: u64) -> b
 
 fn returns_here<'a>(tape: &'a [u8], tokens: &'a [u64], l: u64, indent: u64) -> bool
     requires { (first_of l + count_of l ≤ length tokens.now) × Readable tape.now (part_of tokens.now l) }
-    ensures { result ≡ (indent_of l == indent && returns_value (tokens_of (was tape) (was tape) (part_of (was tokens) l))) }
+    ensures { result ≡ (indent_of l == indent and returns_value (tokens_of tape.now tape.now (part_of tokens.now l))) }
 {
     if words::indent(l) != indent {
         return false;
@@ -138,7 +137,7 @@ fn returns_here<'a>(tape: &'a [u8], tokens: &'a [u64], l: u64, indent: u64) -> b
 // The first line that breaks the profile; the lines' texts are all in the tape.
 pub fn breaks<'a>(tape: &'a [u8], tokens: &'a [u64], lines: &'a [u64]) -> Position
     requires { Filled tape.now tokens.now lines.now }
-    ensures { (reading : Reading) → found result ≡ breaks (listing_read (was tape) (was tape) (was tokens) reading (was lines)) }
+    ensures { (reading : Reading) → found result ≡ breaks (listing_read tape.now tape.now tokens.now reading lines.now) }
 {
     if lines.len() == 0 {
         return Position::At(0);

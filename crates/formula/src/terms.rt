@@ -1,7 +1,6 @@
 // The tokens that an expression may have beside its Puncts: 64-bit registers, and numbers as the profile wants them.
 ghost use Rattle.std.specs.Prelude.{◌≡◌, nat_eq};
-ghost use Rattle.reference.specs.Contract.{was};
-ghost use Rattle.reference.specs.Control.{◌||◌};
+ghost use Rattle.reference.specs.Control.{◌or◌};
 ghost use Rattle.reference.specs.Lists.{any, count, is_some};
 ghost use Rattle.reference.specs.Evaluators.{wide, is_tidy, number_of, lexemes_of};
 ghost use Rattle.lines.specs.Words.{token_of, Holds, Points};
@@ -14,7 +13,7 @@ use numbers::{Number, parse_c_number};
 // Whether a token is a 64-bit register and no stack slot.
 pub fn is_wide(tape: &[u8], w: u64) -> bool
     requires { Points tape.now tape.now w }
-    ensures { result ≡ is_some (wide (token_of (was tape) (was tape) w)) }
+    ensures { result ≡ is_some (wide (token_of tape.now tape.now w)) }
 {
     let Named::As(_, width, _) = fams::fam_of(tape, tape, w) else {
         return false;
@@ -27,7 +26,7 @@ pub fn is_wide(tape: &[u8], w: u64) -> bool
 
 // How often a byte stands in a text.
 fn count_byte(s: &[u8], b: u8) -> usize
-    ensures { result ≡ count (nat_eq b) (was s) }
+    ensures { result ≡ count (nat_eq b) s.now }
 {
     let mut n = 0;
     let mut i = 0;
@@ -42,14 +41,14 @@ fn count_byte(s: &[u8], b: u8) -> usize
 
 // Whether a number without its minus is hexadecimal, or has no zero in front, or is 0.
 fn is_plain(s: &[u8]) -> bool
-    ensures { result ≡ is_plain (was s) }
+    ensures { result ≡ is_plain s.now }
 {
     text::begins_hex(s) || (!text::starts(s, b"0") || text::same(s, b"0"))
 }
 
 // "no plus, at most one minus, no leading zero in decimal except `0`"
 fn is_tidy(s: &[u8]) -> bool
-    ensures { result ≡ is_tidy (was s) }
+    ensures { result ≡ is_tidy s.now }
 {
     if text::has_byte(s, b'+') {
         return false;
@@ -66,7 +65,7 @@ fn is_tidy(s: &[u8]) -> bool
 // Whether a token is a number of the profile.
 pub fn is_number(tape: &[u8], w: u64) -> bool
     requires { Points tape.now tape.now w }
-    ensures { result ≡ is_some (number_of (token_of (was tape) (was tape) w)) }
+    ensures { result ≡ is_some (number_of (token_of tape.now tape.now w)) }
 {
     if words::kind(w) != words::NUMBER {
         return false;
@@ -84,7 +83,7 @@ pub fn is_number(tape: &[u8], w: u64) -> bool
 // Whether a token is worth something by itself.
 pub fn is_term(tape: &[u8], w: u64) -> bool
     requires { Points tape.now tape.now w }
-    ensures { result ≡ (is_some (wide (token_of (was tape) (was tape) w)) || is_some (number_of (token_of (was tape) (was tape) w))) }
+    ensures { result ≡ (is_some (wide (token_of tape.now tape.now w)) or is_some (number_of (token_of tape.now tape.now w))) }
 {
     is_wide(tape, w) || is_number(tape, w)
 }
@@ -92,7 +91,7 @@ pub fn is_term(tape: &[u8], w: u64) -> bool
 // Whether a token can stand in no expression.
 fn is_junk(tape: &[u8], w: u64) -> bool
     requires { Points tape.now tape.now w }
-    ensures { result ≡ any is_junk (lexemes_of (token_of (was tape) (was tape) w)) }
+    ensures { result ≡ any is_junk (lexemes_of (token_of tape.now tape.now w)) }
 {
     if words::kind(w) == words::PUNCT {
         return false;
@@ -103,7 +102,7 @@ fn is_junk(tape: &[u8], w: u64) -> bool
 // Whether a line has a token that can stand in no expression, wherever it stands.
 pub fn has_junk<'a>(tape: &'a [u8], line: &'a [u64]) -> bool
     requires { Holds tape.now tape.now line.now }
-    ensures { result ≡ has_junk (was tape) (was line) }
+    ensures { result ≡ has_junk tape.now line.now }
 {
     let mut i = 0;
     while i < line.len() {

@@ -61,7 +61,8 @@ brought {area2} {tokens2} {part} {size} b area tokens rest ha ht ea et =
 -- what was written behind the used marks
 pub settled : {rules : Rules} {tape : Text} (area : Text) (tokens : List ℕ) {lines : List ℕ} {j : Join} {from : Size} {area2 : Text} {tokens2 part : List ℕ} {size : Size}
     → Patched rules tape (take from.text area) (take from.tokens tokens) lines j from area2 tokens2 part size
-    → Spare area tokens from (need_from (take from.tokens tokens) lines j (j.line + 1)) → Spare area2 tokens2 from (need_from (take from.tokens tokens) lines j (j.line + 1)) → (rest : List ℕ) {area' : Text} {tokens' : List ℕ} → length area' ≡ length area → length tokens' ≡ length tokens
+    → Spare area tokens from (need_from (take from.tokens tokens) lines j (j.line + 1)) → Spare area2 tokens2 from (need_from (take from.tokens tokens) lines j (j.line + 1))
+    → (rest : List ℕ) {area' : Text} {tokens' : List ℕ} → length area' ≡ length area → length tokens' ≡ length tokens
     → area' ≡ paste area from.text (take (size.text - from.text) (drop from.text area2)) (length (take (size.text - from.text) (drop from.text area2)))
     → tokens' ≡ paste tokens from.tokens (take (size.tokens - from.tokens) (drop from.tokens tokens2)) (length (take (size.tokens - from.tokens) (drop from.tokens tokens2)))
     → Acted rules tape (take from.text area) (take from.tokens tokens) lines j area' tokens' (part ++ rest) size

@@ -10,7 +10,7 @@ use lib.ListN.{length, get_or, set, take, drop, length-set, length-map}
 use lib.Seq.{drop-drop, drop-set-lt, get_or-drop, take-suc-set}
 use Rattle.reference.specs.Text.{Text}
 use Rattle.reference.specs.Listing.{blank}
-use Rattle.reference.specs.Rules.{Rules, volatile}
+use Rattle.reference.specs.Rules.{Rules}
 use Rattle.joining.specs.Plan.{Plan, acted_line}
 use Rattle.joining.proofs.Building.{built_begin, built_turn, built-skip, act-built}
 use Rattle.lines.specs.Lines.{Reading, listing_read}

@@ -4,10 +4,9 @@ use native.Mathlib.Omega.{arith}
 use native.Mathlib.Numerals.{add-one}
 use mathlib.Core.Path.{◌≡◌, refl, sym, ap, ◌∙◌}
 use mathlib.Core.Bool.{Bool, true, false}
-use mathlib.Core.List.{List, [], ◌∷◌, ◌++◌, map, map-append, append-nil}
+use mathlib.Core.List.{List, [], ◌∷◌, ◌++◌, map-append, append-nil}
 use lib.ListN.{length, get_or, set, drop, length-map}
 use lib.Seq.{drop-cons, append_snoc}
-use Rattle.reference.specs.Control.{if◌then◌else◌}
 use Rattle.reference.specs.Text.{Text}
 use Rattle.reference.specs.Listing.{Line, Listing, blank}
 use Rattle.reference.specs.Rules.{Rules, volatile}
@@ -19,8 +18,8 @@ use Rattle.lines.specs.Lines.{origin_of, part_of, bare_in, bare_listing}
 use Rattle.lines.proofs.words.Lines.{origin_below, bare_at}
 use Rattle.plan.specs.declared.plans.Join.{Join}
 use Rattle.plan.specs.Plans.{join_in}
-use Rattle.join.specs.Building.{plan_of, Plannable}
-use Rattle.join.specs.Carrying.{lowered, raised, origins_at, picked, changed_by, Handed, Carried}
+use Rattle.join.specs.Building.{plan_of}
+use Rattle.join.specs.Carrying.{lowered, raised, origins_at, picked, changed_by, Carried}
 use Rattle.join.proofs.Placing.{past_last}
 
 -- ---- the places that are picked out

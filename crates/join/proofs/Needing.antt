@@ -9,7 +9,7 @@ use mathlib.Core.Path.{◌≡◌, refl, sym, ap, ◌∙◌}
 use mathlib.Core.Bool.{Bool, true, false}
 use mathlib.Core.List.{List, [], ◌∷◌}
 use lib.ListN.{length, get_or, length-map}
-use Rattle.reference.specs.Control.{if◌then◌else◌}
+use Rattle.reference.specs.Control.{when◌then◌else◌}
 use Rattle.reference.specs.Text.{Text}
 use Rattle.reference.specs.Listing.{Token, is, Number, Line, Listing, blank, with_tokens, ◌at◌}
 use Rattle.reference.specs.Rules.{Rules, volatile}
@@ -37,10 +37,10 @@ use Rattle.join.specs.Patching.{words_room, line_need}
 -- ---- rooms as weights
 
 one_room : (t : Token) → room t ≡ weigh plain t + 24 * weigh count t
-unfolding weigh if◌then◌else◌
+unfolding weigh when◌then◌else◌
 one_room t = go (is Number t)
   where
-    go : (b : Bool) → (if b then 0 else size t) + 24 ≡ (if b then plain.number (size t) else plain.other (size t)) + 24 * (if b then count.number (size t) else count.other (size t))
+    go : (b : Bool) → (when b then 0 else size t) + 24 ≡ (when b then plain.number (size t) else plain.other (size t)) + 24 * (when b then count.number (size t) else count.other (size t))
     go true = omega arith
     go false = omega arith
 

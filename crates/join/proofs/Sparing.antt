@@ -5,12 +5,12 @@ use native.Mathlib.Decide.{dec_lt}
 use native.Mathlib.Numerals.{add-one}
 use mathlib.Core.Logic.{by_cases}
 use mathlib.Core.Path.{◌≡◌, sym, ap, ◌∙◌}
-use mathlib.Core.Bool.{Bool, false, not}
+use mathlib.Core.Bool.{Bool, true, false}
 use mathlib.Core.List.{List, [], ◌∷◌}
 use lib.Dec.{ltb}
 use lib.ListN.{length, get_or, take, drop, length-take, drop_of_length-le}
 use lib.Seq.{slice, drop-cons}
-use borrow.Author.Tests.{lt-ltb, le-ltb, ltb-true, not-false}
+use borrow.Author.Tests.{lt-ltb, le-ltb, ltb-true}
 use Rattle.reference.specs.Text.{Text}
 use Rattle.laws.proofs.Parts.{drop-take}
 use Rattle.lines.specs.Words.{len_of}
@@ -78,8 +78,8 @@ part_need words source from end ls = ap (needs words source) (sym (drop-take fro
 
 -- ---- enough
 
-pub enough : {r : Bool} (n m : ℕ) → r ≡ ltb n m → not r ≡ false → n < m
-enough {r} n m is left = ltb-true n m (sym is ∙ not-false r left)
+pub enough : {r : Bool} (n m : ℕ) → r ≡ ltb n m → r ≡ true → n < m
+enough n m is left = ltb-true n m (sym is ∙ left)
 
 pub is_spare : {area : Text} {tokens : List ℕ} {size : Size} {n m : ℕ} → n < m → m ≤ free (length area) (length tokens) size → Spare area tokens size n
 unfolding free behind

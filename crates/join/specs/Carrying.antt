@@ -2,7 +2,7 @@
 -- into others.
 -- Assumes nothing.
 use Rattle.std.specs.Prelude.{ℕ, suc, min, max, ◌≡◌, Bool, List, [], ◌∷◌, map, get_or, set, drop}
-use Rattle.reference.specs.Control.{if◌then◌else◌}
+use Rattle.reference.specs.Control.{when◌then◌else◌}
 use Rattle.reference.specs.Text.{Text}
 use Rattle.reference.specs.Listing.{Line, Listing}
 use Rattle.reference.specs.Rules.{Rules, volatile}
@@ -28,7 +28,7 @@ origins_at lines places = map (λ k. origin_of (get_or lines k 0)) places
 -- the places, from k on, that p picks out
 unfoldable pub picked : (ℕ → Line → Bool) → ℕ → Listing → List ℕ
 picked p k [] = []
-picked p k (l ∷ ls) = let r = picked p (suc k) ls in if p k l then k ∷ r else r
+picked p k (l ∷ ls) = let r = picked p (suc k) ls in when p k l then k ∷ r else r
 
 -- the places of the lines that the plan changes
 abbrev pub changed_by : Rules → Text → Text → List ℕ → List ℕ → Join → List ℕ

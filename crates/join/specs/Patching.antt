@@ -4,7 +4,7 @@ use Rattle.std.specs.Prelude.{ℕ, ◌+◌, ◌-◌, ◌*◌, ◌≤◌, ◌<◌
 use Rattle.std.proofs.Math.Seq.{slice}
 use Rattle.reference.specs.Text.{Text}
 use Rattle.reference.specs.Listing.{Line, Listing}
-use Rattle.reference.specs.Rules.{Rules, volatile}
+use Rattle.reference.specs.Rules.{Rules}
 use Rattle.reference.specs.Claim.{sum}
 use Rattle.joining.specs.Plan.{map_from, acted_line, act}
 use Rattle.lines.specs.Words.{len_of}

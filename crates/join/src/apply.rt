@@ -1,5 +1,4 @@
 // A plan carried out: in place where there is room behind the used marks, else by writing the whole listing anew.
-ghost use Rattle.reference.specs.Contract.{was};
 ghost use Rattle.lines.specs.Rules.{rules_of};
 ghost use Rattle.build.specs.State.{used};
 ghost use Rattle.build.specs.Added.{used_words};
@@ -27,8 +26,8 @@ pub fn apply(
 ) -> Size
     requires { Plannable (rules_of rules) tape.now (used area.old size) (used_words tokens.old size) (used_lines lines.old size) j
         × Current tape.now area.old tokens.old lines.old size × Lent area.old tokens.old area2.old tokens2.old }
-    ensures { Acted (rules_of rules) (was tape) (used (was area) size) (used_words (was tokens) size)
-        (used_lines (was lines) size) j area.new tokens.new lines.new result }
+    ensures { Acted (rules_of rules) tape.now (used area.old size) (used_words tokens.old size)
+        (used_lines lines.old size) j area.new tokens.new lines.new result }
 {
     let n = size.lines;
     let words = size.tokens;

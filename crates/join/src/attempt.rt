@@ -1,6 +1,5 @@
 // One attempt. The listing is always in the first set, area, tokens and lines, as far as its Size says; in the second a successful attempt
 // builds the new one.
-ghost use Rattle.reference.specs.Contract.{was};
 ghost use Rattle.lines.specs.Rules.{rules_of};
 ghost use Rattle.join.specs.Attempts.{Attemptable, Attempted};
 
@@ -11,7 +10,7 @@ use lines::rules::Rules;
 use plan::plans::{Plan, decide};
 
 // Whether the attempt succeeded, and the size of the listing that it left.
-#[derive(Drop)]
+#[derive(Clone, Copy)]
 pub struct Tried {
     pub joined: bool,
     pub size: Size,
@@ -37,8 +36,8 @@ pub fn try_at<'a>(
 ) -> Tried
     requires { Attemptable tape.now area.old tokens.old lines.old area2.old tokens2.old lows.old highs.old
         labels.now slots.now slot_words.now i size }
-    ensures { Attempted (rules_of rules) (was tape) (was area) (was tokens) (was lines)
-        (was lows) (was highs) (was labels) (was slots) (was slot_words) i size
+    ensures { Attempted (rules_of rules) tape.now area.old tokens.old lines.old
+        lows.old highs.old labels.now slots.now slot_words.now i size
         area.new tokens.new lines.new lows.new highs.new result }
 {
     let n = size.lines;

@@ -1,6 +1,5 @@
 // A line that a plan changes.
 ghost use Rattle.std.specs.Prelude.{◌≡◌, List, ℕ};
-ghost use Rattle.reference.specs.Contract.{was};
 ghost use Rattle.reference.specs.Rules.{volatile};
 ghost use Rattle.joining.specs.Plan.{changes};
 ghost use Rattle.lines.specs.Rules.{rules_of};
@@ -28,8 +27,8 @@ pub fn is_changed<'a>(
     rules: Rules,
 ) -> bool
     requires { Lined tape.now area.now tokens.now l × Known tape.now area.now j.family }
-    ensures { (source : List ℕ) → result ≡ changes (volatile (rules_of rules)) j.line (join_in (was tape) (was area) source j) k
-        (bare_in (was tape) (was area) (was tokens) l) }
+    ensures { (source : List ℕ) → result ≡ changes (volatile (rules_of rules)) j.line (join_in tape.now area.now source j) k
+        (bare_in tape.now area.now tokens.now l) }
 {
     if k <= j.line {
         return false;
@@ -55,8 +54,8 @@ pub fn rewrite<'a>(
     edition: u8,
 ) -> Appended
     requires { Rewritable tape.now area.now tokens.now source (substitution_of j) l area2.old tokens2.old size }
-    ensures { Rewritten edition (was tape) (was area) (was tokens) source (substitution_of j) l
-        (was area2) (was tokens2) size area2.new tokens2.new result }
+    ensures { Rewritten edition tape.now area.now tokens.now source (substitution_of j) l
+        area2.old tokens2.old size area2.new tokens2.new result }
 {
     let family = j.family;
     let expr = j.expr;

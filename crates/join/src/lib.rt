@@ -1,4 +1,6 @@
 // One attempt (`try_at` of the Rust): decided by crate plan, carried out here.
+#![tactic(auto)]
+
 mod apply; // a plan carried out, one way or the other
 pub mod attempt; // the decision, and what follows it
 mod changing; // a line that a plan changes

@@ -1,7 +1,6 @@
 // The marks of lines, kept by the number of the input line that a line was: the lowest and the highest address of the line and of all
 // that was joined into it. A line that is joined into others hands its own on to each; a removal moves none.
 ghost use Rattle.std.specs.Prelude.{◌≡◌, ◌≤◌, ◌<◌, min, max, length, get_or, set};
-ghost use Rattle.reference.specs.Contract.{was};
 ghost use Rattle.lines.specs.Rules.{rules_of};
 ghost use Rattle.join.specs.Building.{Plannable};
 ghost use Rattle.join.specs.Carrying.{Carried};
@@ -15,8 +14,8 @@ use plan::plans::Join;
 // Line `at` of the input takes in the addresses from `low` to `high`.
 fn take_in(at: usize, low: u64, high: u64, lows: &mut [u64], highs: &mut [u64])
     requires { (at < length lows.old) × (at < length highs.old) }
-    ensures lows_after { lows.new ≡ set (was lows) at (min (get_or (was lows) at 0) low) }
-    ensures highs_after { highs.new ≡ set (was highs) at (max (get_or (was highs) at 0) high) }
+    ensures lows_after { lows.new ≡ set lows.old at (min (get_or lows.old at 0) low) }
+    ensures highs_after { highs.new ≡ set highs.old at (max (get_or highs.old at 0) high) }
 {
     lows[at] = lower(lows[at], low);
     highs[at] = higher(highs[at], high);
@@ -35,8 +34,8 @@ pub fn carry_marks<'a>(
 )
     requires { Plannable (rules_of rules) tape.now area.now tokens.now lines.now j
         × (256 ≤ length lows.old) × (256 ≤ length highs.old) }
-    ensures { Carried (rules_of rules) (was tape) (was area) (was tokens) (was lines) j
-        (was lows) (was highs) lows.new highs.new }
+    ensures { Carried (rules_of rules) tape.now area.now tokens.now lines.now j
+        lows.old highs.old lows.new highs.new }
 {
     let gone = j.line;
     let last = j.last;

@@ -1,6 +1,5 @@
 // A plan carried out in place: the lines that change are written behind the used marks, and everything else stays where it is.
 ghost use Rattle.std.specs.Prelude.{◌≡◌, ◌+◌, length};
-ghost use Rattle.reference.specs.Contract.{was};
 ghost use Rattle.lines.specs.Rules.{rules_of};
 ghost use Rattle.build.specs.State.{used};
 ghost use Rattle.build.specs.Added.{used_words};
@@ -31,7 +30,7 @@ fn patch_lines<'a>(
     requires { Plannable (rules_of rules) tape.now area.now tokens.now lines.old j × (length area.now ≡ size.text)
         × (length tokens.now ≡ size.tokens)
         × Spare area2.old tokens2.old size (need_from tokens.now lines.old j (j.line + 1)) }
-    ensures { Patched (rules_of rules) (was tape) (was area) (was tokens) (was lines) j size
+    ensures { Patched (rules_of rules) tape.now area.now tokens.now lines.old j size
         area2.new tokens2.new lines.new result }
 {
     let gone = j.line;
@@ -84,8 +83,8 @@ pub fn patch(
         × Current tape.now area.old tokens.old lines.old size
         × Spare area.old tokens.old size (need_from (used_words tokens.old size) (used_lines lines.old size) j (j.line + 1))
         × Spare area2.old tokens2.old size (need_from (used_words tokens.old size) (used_lines lines.old size) j (j.line + 1)) }
-    ensures { Acted (rules_of rules) (was tape) (used (was area) size) (used_words (was tokens) size)
-        (used_lines (was lines) size) j area.new tokens.new lines.new result }
+    ensures { Acted (rules_of rules) tape.now (used area.old size) (used_words tokens.old size)
+        (used_lines lines.old size) j area.new tokens.new lines.new result }
 {
     let n = size.lines;
     let words = size.tokens;

@@ -1,6 +1,5 @@
 // A plan carried out by writing the whole listing anew: it is built in the second set, line after line, and brought back to the first.
 ghost use Rattle.std.specs.Prelude.{◌≤◌, ◌<◌, length};
-ghost use Rattle.reference.specs.Contract.{was};
 ghost use Rattle.lines.specs.Rules.{rules_of};
 ghost use Rattle.build.specs.State.{used};
 ghost use Rattle.build.specs.Added.{used_words};
@@ -30,8 +29,8 @@ fn build_line<'a>(
     size: Size,
 ) -> Appended
     requires { Placeable (rules_of rules) tape.now area.now tokens.now source j k l area2.old tokens2.old size }
-    ensures { Placed (rules_of rules) (was tape) (was area) (was tokens) source j k l (was area2)
-        (was tokens2) size area2.new tokens2.new result }
+    ensures { Placed (rules_of rules) tape.now area.now tokens.now source j k l area2.old
+        tokens2.old size area2.new tokens2.new result }
 {
     if is_changed(tape, area, tokens, l, k, j, rules) {
         return rewrite(
@@ -53,7 +52,7 @@ fn build_line<'a>(
 // The word of the line that was appended takes its place behind the lines in use.
 fn put_line(a: Appended, lines: &mut [u64]) -> Size
     requires { a.size.lines < length lines.old }
-    ensures { Put a (was lines) lines.new result }
+    ensures { Put a lines.old lines.new result }
 {
     let s = a.size;
     let n = s.lines;
@@ -78,7 +77,7 @@ fn build<'a>(
 ) -> Size
     requires { Plannable (rules_of rules) tape.now area.now tokens.now lines.old j × (49152 ≤ length area2.old)
         × (1024 ≤ length tokens2.old) }
-    ensures { Rebuilt (rules_of rules) (was tape) (was area) (was tokens) (was lines) j
+    ensures { Rebuilt (rules_of rules) tape.now area.now tokens.now lines.old j
         area2.new tokens2.new lines.new result }
 {
     let gone = j.line;
@@ -117,8 +116,8 @@ pub fn rebuild(
 ) -> Size
     requires { Plannable (rules_of rules) tape.now (used area.old size) (used_words tokens.old size) (used_lines lines.old size) j
         × Current tape.now area.old tokens.old lines.old size × Lent area.old tokens.old area2.old tokens2.old }
-    ensures { Acted (rules_of rules) (was tape) (used (was area) size) (used_words (was tokens) size)
-        (used_lines (was lines) size) j area.new tokens.new lines.new result }
+    ensures { Acted (rules_of rules) tape.now (used area.old size) (used_words tokens.old size)
+        (used_lines lines.old size) j area.new tokens.new lines.new result }
 {
     let n = size.lines;
     let words = size.tokens;

@@ -1,7 +1,6 @@
 // The room behind the used marks of a set, and the room that the changed lines of a plan take at most.
 ghost use Rattle.std.specs.Prelude.{◌≡◌, ℕ, ◌+◌, ◌≤◌, ◌<◌, min, ltb, length, get_or};
 ghost use Rattle.std.proofs.Math.Seq.{slice};
-ghost use Rattle.reference.specs.Contract.{was};
 ghost use Rattle.lines.specs.Lines.{first_of, count_of, part_of};
 ghost use Rattle.join.specs.Patching.{words_room, needs, behind, free};
 
@@ -30,7 +29,7 @@ fn behind(length: usize, used: usize) -> usize
 
 // What is free in a set.
 pub fn free<'a>(area: &'a [u8], tokens: &'a [u64], size: Size) -> usize
-    ensures { result ≡ free (length (was area)) (length (was tokens)) size }
+    ensures { result ≡ free (length area.now) (length tokens.now) size }
 {
     let text = behind(area.len(), size.text);
     let count = behind(tokens.len(), size.tokens);
@@ -40,7 +39,7 @@ pub fn free<'a>(area: &'a [u8], tokens: &'a [u64], size: Size) -> usize
 // A bound on the room of the tokens of these words.
 fn room_of(line: &[u64]) -> usize
     requires { length line.now < 2048 }
-    ensures { result ≡ words_room (was line) }
+    ensures { result ≡ words_room line.now }
 {
     let mut sum: usize = 0;
     let mut k = 0;
@@ -54,7 +53,7 @@ fn room_of(line: &[u64]) -> usize
 // A bound on the room of the tokens of the line l.
 fn line_room(tokens: &[u64], l: u64) -> usize
     requires { first_of l + count_of l ≤ length tokens.now }
-    ensures { result ≡ words_room (part_of (was tokens) l) }
+    ensures { result ≡ words_room (part_of tokens.now l) }
 {
     room_of(words::line_of(tokens, l))
 }
@@ -63,7 +62,7 @@ fn line_room(tokens: &[u64], l: u64) -> usize
 pub fn is_enough<'a>(tokens: &'a [u64], lines: &'a [u64], source: u64, n: usize) -> bool
     requires { (first_of source + count_of source ≤ length tokens.now)
         × ((k : ℕ) → k < length lines.now → first_of (get_or lines.now k 0) + count_of (get_or lines.now k 0) ≤ length tokens.now) }
-    ensures { result ≡ ltb (needs (was tokens) source (was lines)) n }
+    ensures { result ≡ ltb (needs tokens.now source lines.now) n }
 {
     let base = line_room(tokens, source);
     let mut left = n;
@@ -83,7 +82,7 @@ pub fn is_enough<'a>(tokens: &'a [u64], lines: &'a [u64], source: u64, n: usize)
 pub fn is_short<'a>(tokens: &'a [u64], lines: &'a [u64], gone: usize, last: usize, n: usize) -> bool
     requires { (gone < length lines.now) × (last < length lines.now)
         × ((k : ℕ) → k < length lines.now → first_of (get_or lines.now k 0) + count_of (get_or lines.now k 0) ≤ length tokens.now) }
-    ensures { result ≡ ltb (needs (was tokens) (get_or (was lines) gone 0) (slice (gone + 1) (last + 1) (was lines))) n }
+    ensures { result ≡ ltb (needs tokens.now (get_or lines.now gone 0) (slice (gone + 1) (last + 1) lines.now)) n }
 {
     let from = gone + 1;
     let end = last + 1;

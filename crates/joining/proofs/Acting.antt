@@ -9,7 +9,7 @@ use lib.Dec.{leb}
 use lib.ListN.{length, take, drop, length-append, take-append-drop}
 use lib.Seq.{length-take-le}
 use borrow.Author.Tests.{lt-ltb, le-ltb}
-use Rattle.reference.specs.Control.{◌&&◌, if◌then◌else◌}
+use Rattle.reference.specs.Control.{◌and◌, when◌then◌else◌}
 use Rattle.reference.specs.Lists.{modify}
 use Rattle.reference.specs.Text.{Text}
 use Rattle.reference.specs.Listing.{Token, Line, Listing}
@@ -32,7 +32,7 @@ rewrites edition fam expr [] lines = refl
 rewrites edition fam expr (j ∷ js) lines = rewrites edition fam expr js (modify j (rewrite_use edition fam expr) lines)
 
 module _ (vol : List Text) (i : ℕ) (p : Plan) where
-  pub changes-later : (k : ℕ) (l : Line) → i < k → changes vol i p k l ≡ (leb k p.last && is_use (touch l p.fam vol))
+  pub changes-later : (k : ℕ) (l : Line) → i < k → changes vol i p k l ≡ (leb k p.last and is_use (touch l p.fam vol))
   unfolding changes
   changes-later k l h = and_true _ (lt-ltb i k h)
 
@@ -51,19 +51,19 @@ module _ (vol : List Text) (i : ℕ) (p : Plan) where
 
     changed-from : (front : Listing) (j : ℕ) (ls : Listing) → i < j → length front ≡ j
         → modifies g (uses_upto p.fam vol p.last j ls) (front ++ ls) ≡ front ++ map_from (where_used vol i p g) j ls
-    unfolding modifies uses_upto where_used if◌then◌else◌
+    unfolding modifies uses_upto where_used when◌then◌else◌
     changed-from front j [] h e = refl
     changed-from front j (l ∷ ls) h e =
-        go (leb j p.last && is_use (touch l p.fam vol)) refl
+        go (leb j p.last and is_use (touch l p.fam vol)) refl
         (λ l'. rw (← (append_assoc front (l' ∷ []) ls), ← (append_assoc front (l' ∷ []) (map_from (where_used vol i p g) (suc j) ls)))
         (changed-from (front ++ (l' ∷ [])) (suc j) ls (omega arith) (length-append front (l' ∷ []) ∙ omega arith)))
       where
         others : List ℕ
         others = uses_upto p.fam vol p.last (suc j) ls
 
-        go : (b : Bool) → (leb j p.last && is_use (touch l p.fam vol)) ≡ b
+        go : (b : Bool) → (leb j p.last and is_use (touch l p.fam vol)) ≡ b
             → ((l' : Line) → modifies g others (front ++ l' ∷ ls) ≡ front ++ l' ∷ map_from (where_used vol i p g) (suc j) ls)
-            → modifies g (if leb j p.last && is_use (touch l p.fam vol) then j ∷ others else others) (front ++ l ∷ ls)
+            → modifies g (when leb j p.last and is_use (touch l p.fam vol) then j ∷ others else others) (front ++ l ∷ ls)
             ≡ front ++ where_used vol i p g j l ∷ map_from (where_used vol i p g) (suc j) ls
         go true t next = rw (changes-later j l h, t) (ap (modifies g others) (modify_seam g front l ls j e) ∙ next (g l))
         go false t next = rw (changes-later j l h, t) (next l)

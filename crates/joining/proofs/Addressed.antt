@@ -3,7 +3,7 @@ use mathlib.Core.Path.{◌≡◌, refl, sym, ap, ◌∙◌}
 use mathlib.Core.Bool.{false}
 use mathlib.Core.List.{List, [], ◌∷◌}
 use Rattle.reference.specs.Lists.{windows}
-use Rattle.reference.specs.Text.{Text, bytes, has, ◌==◌, starts_with}
+use Rattle.reference.specs.Text.{Text, bytes, has, ◌≟◌, starts_with}
 use Rattle.reference.specs.Listing.{Token, Listing}
 use Rattle.reference.specs.Run.{addressed_here, addressed_in}
 use Rattle.reference.proofs.Cases.{by-if, both, fails, true-false}
@@ -24,4 +24,4 @@ module _ (name : Text) (other : starts_with name (bytes "var_") ≡ false) where
   unfolding addressed_in
   addressed_slots [] = refl
   addressed_slots (l ∷ ls) =
-      any_append (◌== name) (addressed_here (windows l.tokens)) (addressed_in ls) ∙ or_false _ (here (windows l.tokens)) ∙ addressed_slots ls
+      any_append (◌≟ name) (addressed_here (windows l.tokens)) (addressed_in ls) ∙ or_false _ (here (windows l.tokens)) ∙ addressed_slots ls

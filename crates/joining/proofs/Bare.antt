@@ -7,7 +7,7 @@ use mathlib.Core.List.{List, [], ◌∷◌, map}
 use mathlib.Core.Option.{Option, none, some}
 use lib.ListN.{drop}
 use lib.Seq.{slice}
-use Rattle.reference.specs.Control.{if◌then◌else◌, let_some◌else◌then◌}
+use Rattle.reference.specs.Control.{when◌then◌else◌, let_some◌else◌then◌}
 use Rattle.reference.specs.Lists.{get, remove, modify}
 use Rattle.reference.specs.Text.{Text}
 use Rattle.reference.specs.Listing.{Token, Line, Listing, ◌at◌}
@@ -23,7 +23,7 @@ use Rattle.joining.specs.Rounds.{cut_at}
 use Rattle.joining.specs.Plan.{Definition, Plan, Reach, reach_at, reach_from, reach_of, refuses, all_take, ends_at, plan_reach, plan_constant, use_of, plan_use, plan_single, plan_for, decide, map_from, right_side_of, changes, where_used, acted_line, act}
 use Rattle.joining.proofs.BareLife.{at_bare, drop-map, slice-map, dead-after-bare}
 use Rattle.joining.proofs.Uses.{uses_upto}
-use Rattle.joining.proofs.Deciding.{try_at_is, tried, changed_places, targets-are}
+use Rattle.joining.proofs.Deciding.{try_at_is, tried, targets-are}
 
 -- ---- the decision
 
@@ -104,10 +104,10 @@ same_map f g e k [] = refl
 same_map f g e k (x ∷ xs) = λ t. e k x t ∷ same_map f g e (suc k) xs t
 
 line_bare : (rules : Rules) (i : ℕ) (p : Plan) (k : ℕ) (l : Line) → acted_line rules i p k (bare l) ≡ bare (acted_line rules i p k l)
-unfolding where_used changes if◌then◌else◌ rewrite_use
+unfolding where_used changes when◌then◌else◌ rewrite_use
 line_bare rules i p k l = go (changes (volatile rules) i p k l)
   where
-    go : (b : Bool) → (if b then rewrite_use rules.edition p.fam (right_side_of p) (bare l) else bare l) ≡ bare (if b then rewrite_use rules.edition p.fam (right_side_of p) l else l)
+    go : (b : Bool) → (when b then rewrite_use rules.edition p.fam (right_side_of p) (bare l) else bare l) ≡ bare (when b then rewrite_use rules.edition p.fam (right_side_of p) l else l)
     go true = refl
     go false = refl
 

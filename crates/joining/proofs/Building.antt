@@ -10,7 +10,7 @@ use lib.ListN.{length, get_or, take}
 use lib.Seq.{take-suc, take_all, length-take-le}
 use Rattle.reference.specs.Lists.{remove}
 use Rattle.reference.specs.Listing.{Listing}
-use Rattle.reference.specs.Rules.{Rules, volatile}
+use Rattle.reference.specs.Rules.{Rules}
 use Rattle.joining.specs.Plan.{Plan, map_from, acted_line, built, act}
 use Rattle.joining.proofs.Indexed.{length-map-from, map-from_append}
 

@@ -1,19 +1,16 @@
 -- Marks in tables: two numbers joined are the marks joined (`joined-marks`); and where the origins rise, the line at place j is changed by changing the
 -- table at its origin (`changed_at`), and removed by removing its origin (`rising-remove`), the table staying as it is. So a removal moves no mark.
 -- Assumes nothing.
-use Prim.Native.Nat.{ℕ, zero, suc, pred, ◌+◌, ◌≤◌, ◌<◌, min, max}
+use Prim.Native.Nat.{ℕ, zero, suc, ◌≤◌, ◌<◌, min, max}
 use native.Mathlib.Omega.{arith}
-use mathlib.Core.Path.{◌≡◌, refl, sym, ap, ◌∙◌}
-use mathlib.Core.Logic.{◌⊎◌, ⊎_elim, inl, inr}
-use mathlib.Core.Bool.{Bool, true, false}
+use mathlib.Core.Path.{◌≡◌, refl, ap, ◌∙◌}
+use mathlib.Core.Logic.{⊎_elim, inl, inr}
 use mathlib.Core.List.{List, [], ◌∷◌, map}
 use mathlib.Core.Option.{none, some}
-use lib.Dec.{leb}
 use lib.ListN.{length, get_or}
 use borrow.Author.Tests.{le-leb, lt-leb}
-use Rattle.reference.specs.Control.{if◌then◌else◌}
 use Rattle.reference.specs.Lists.{remove, modify}
-use Rattle.reference.specs.Spans.{Marks, hull}
+use Rattle.reference.specs.Spans.{hull}
 use Rattle.laws.proofs.Scans.{if-true, if-false}
 use Rattle.joining.specs.Carried.{TOP, Pair, marks_of, Kept, joined, Rising}
 

@@ -5,7 +5,7 @@ use mathlib.Core.Bool.{Bool, true, false}
 use mathlib.Core.List.{List, [], ◌∷◌}
 use mathlib.Core.Option.{Option, none, some}
 use lib.ListN.{length, drop}
-use Rattle.reference.specs.Control.{not, ◌&&◌, ◌||◌, if◌then◌else◌, let_some◌else◌then◌}
+use Rattle.reference.specs.Control.{not, ◌and◌, ◌or◌, when◌then◌else◌, let_some◌else◌then◌}
 use Rattle.reference.specs.Lists.{any, position, is_some, is_empty, remove, modify}
 use Rattle.reference.specs.Text.{Text, has}
 use Rattle.reference.specs.Listing.{Token, Listing, blank, ◌at◌, with_tokens}
@@ -70,14 +70,14 @@ module _ (rules : Rules) (lines : Listing) (i : ℕ) where
   carried (some a) f g h = h a refl
 
   chosen : (b : Bool) (x x' : Option Listing) (y y' : Option Plan) → (b ≡ true → x ≡ done y) → (b ≡ false → x' ≡ done y')
-      → (if b then x else x') ≡ done (if b then y else y')
-  unfolding if◌then◌else◌
+      → (when b then x else x') ≡ done (when b then y else y')
+  unfolding when◌then◌else◌
   chosen true x x' y y' f g = f refl
   chosen false x x' y y' f g = g refl
 
   tests : (x : Listing) (p : Plan) → x ≡ act rules lines i p → (e dead kill bad : Bool)
-      → (if e || not dead && not kill then none else if bad then none else some x) ≡ done (if not e && (dead || kill) && not bad then some p else none)
-  unfolding done if◌then◌else◌ let_some◌else◌then◌ not ◌&&◌ ◌||◌
+      → (when e or not dead and not kill then none else when bad then none else some x) ≡ done (when not e and (dead or kill) and not bad then some p else none)
+  unfolding done when◌then◌else◌ let_some◌else◌then◌ not ◌and◌ ◌or◌
   tests x p h true dead kill bad = refl
   tests x p h false true kill true = refl
   tests x p h false true kill false = ap {B = Option Listing} some h
@@ -95,7 +95,7 @@ module _ (rules : Rules) (lines : Listing) (i : ℕ) where
     within = inside lines i d known
 
     constant_is : propagate_constant rules.edition lines i d.fam.name d.expr labels (volatile rules) ≡ done (plan_constant lines i d labels (volatile rules))
-    unfolding propagate_constant plan_constant plan_reach gathered ends_at all_take right_side_of if◌then◌else◌ act
+    unfolding propagate_constant plan_constant plan_reach gathered ends_at all_take right_side_of when◌then◌else◌ act
     constant_is =
         let fam : Text = d.fam.name in
         let g : Uses = gathered lines i fam (volatile rules) in
@@ -142,11 +142,11 @@ module _ (rules : Rules) (lines : Listing) (i : ℕ) where
         (λ b. refl)
         (λ b. carried _ _ _ (λ pos hp. chosen _ _ _ _ _ (λ c. ap {B = Option Listing} some (replaced j pos h hp)) (λ c. refl)))))
 
-    plan_is : (let_some (if lone_number d.expr then propagate_constant rules.edition lines i d.fam.name d.expr labels (volatile rules) else none)
+    plan_is : (let_some (when lone_number d.expr then propagate_constant rules.edition lines i d.fam.name d.expr labels (volatile rules) else none)
         else join_one rules lines i d.fam d.expr labels (volatile rules) then λ l. some l) ≡ done (plan_for rules lines i d labels (volatile rules))
     unfolding plan_for
     plan_is =
-        first_of _ _ (if lone_number d.expr then plan_constant lines i d labels (volatile rules) else none) (plan_single rules lines i d labels (volatile rules))
+        first_of _ _ (when lone_number d.expr then plan_constant lines i d labels (volatile rules) else none) (plan_single rules lines i d labels (volatile rules))
         (chosen (lone_number d.expr) _ _ (plan_constant lines i d labels (volatile rules)) none (λ b. constant_is) (λ b. done_none)) single_is
 
 -- where there is none, and where there may be one
@@ -160,7 +160,7 @@ module _ (ts : List Token) where
   no_family a ha h = rw (ha, h)
 
   defined : (a : Assignment) (f : Fam) → assignment_of ts ≡ some a → family a.lhs.text ≡ some f
-      → definition_of ts ≡ (if any (of_family f.name) a.expr then none else some (record { fam = f; expr = a.expr; calls = is_some (call_in ts) }))
+      → definition_of ts ≡ (when any (of_family f.name) a.expr then none else some (record { fam = f; expr = a.expr; calls = is_some (call_in ts) }))
   unfolding definition_of let_some◌else◌then◌
   defined a f ha hf = rw (ha, hf)
 
@@ -170,7 +170,7 @@ module _ (rules : Rules) (lines : Listing) (i : ℕ) (labels : Labels) (addresse
   undecided h = rw h
 
   decided : (d : Definition) → definition_of (lines at i).tokens ≡ some d
-      → decide rules lines i labels addressed ≡ (if has addressed d.fam.name then none else plan_for rules lines i d labels (volatile rules))
+      → decide rules lines i labels addressed ≡ (when has addressed d.fam.name then none else plan_for rules lines i d labels (volatile rules))
   unfolding decide let_some◌else◌then◌
   decided d h = rw h
 
@@ -197,7 +197,7 @@ module _ (rules : Rules) (lines : Listing) (i : ℕ) (labels : Labels) (addresse
       ts = (lines at i).tokens
 
       -- the name is addressed, or the right side mentions it
-      refuse : {m : Bool} (d : Definition) → (has addressed d.fam.name || m) ≡ true
+      refuse : {m : Bool} (d : Definition) → (has addressed d.fam.name or m) ≡ true
           → (m ≡ true → definition_of ts ≡ none) → (m ≡ false → definition_of ts ≡ some d) → decide rules lines i labels addressed ≡ none
       refuse {m = true} d t gone known = undecided (gone refl)
       refuse {m = false} d t gone known = decided d (known refl) ∙ if-true _ _ (or_only refl ∙ t)

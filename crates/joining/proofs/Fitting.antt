@@ -7,7 +7,7 @@ use mathlib.Core.List.{List, [], ◌∷◌}
 use mathlib.Core.Option.{Option, some}
 use lib.ListN.{length, get_or}
 use borrow.Author.Tests.{eq-eqb, ne_eqb}
-use Rattle.reference.specs.Control.{◌&&◌, ◌||◌}
+use Rattle.reference.specs.Control.{◌and◌, ◌or◌}
 use Rattle.reference.specs.Lists.{position}
 use Rattle.reference.specs.Text.{Text}
 use Rattle.reference.specs.Listing.{Token}
@@ -39,9 +39,9 @@ module _ (toks : List Token) (pos : ℕ) where
 
   -- at either end of the line it does not stand alone
   pub first-not-standalone : pos ≡ 0 → standalone (text_before toks pos) (text_after toks pos) ≡ false
-  unfolding text_before standalone ◌||◌ ◌&&◌
+  unfolding text_before standalone ◌or◌ ◌and◌
   first-not-standalone e = rw (if-true {A = Text} [] _ (eq-eqb pos 0 e))
 
   pub last-not-standalone : length toks ≤ suc pos → standalone (text_before toks pos) (text_after toks pos) ≡ false
-  unfolding text_after standalone ◌||◌
+  unfolding text_after standalone ◌or◌
   last-not-standalone h = rw (text_past toks (suc pos) h) (fails (λ u. true-false (both u).1 refl))

@@ -9,9 +9,9 @@ use mathlib.Core.Option.{Option, none, some}
 use lib.Dec.{eqb}
 use lib.ListN.{length, get_or, drop, drop_of_length-le}
 use lib.Seq.{drop-cons}
-use Rattle.reference.specs.Control.{◌||◌, if◌then◌else◌, let_some◌else◌then◌}
+use Rattle.reference.specs.Control.{◌or◌, when◌then◌else◌, let_some◌else◌then◌}
 use Rattle.reference.specs.Lists.{any, get}
-use Rattle.reference.specs.Text.{Text, has, ◌==◌}
+use Rattle.reference.specs.Text.{Text, has, ◌≟◌}
 use Rattle.reference.specs.Listing.{Token, Line, Listing, blank, ◌at◌}
 use Rattle.reference.specs.Names.{Fam, fam_of, of_family}
 use Rattle.reference.specs.Shapes.{is_label}
@@ -50,9 +50,9 @@ mentions [] name = refl
 mentions (t ∷ ts) name = go (fam_of t) (mentions ts name)
   where
     go : (o : Option Fam) → has (expr_fams ts) name ≡ any (of_family name) ts
-        → has (let_some o else expr_fams ts then λ f. f.name ∷ expr_fams ts) name ≡ ((let_some o else false then λ f. f.name == name) || any (of_family name) ts)
+        → has (let_some o else expr_fams ts then λ f. f.name ∷ expr_fams ts) name ≡ ((let_some o else false then λ f. f.name ≟ name) or any (of_family name) ts)
     go none ih = ih ∙ sym (or_false _ refl)
-    go (some f) ih = ap (λ (b : Bool). (f.name == name) || b) ih
+    go (some f) ih = ap (λ (b : Bool). (f.name ≟ name) or b) ih
 
 -- the token behind which the token k stands
 abbrev pub before_of : List Token → ℕ → Option Token
@@ -61,7 +61,7 @@ before_of expr (suc k) = get expr k
 
 module _ (expr : List Token) (k : ℕ) (d : Token) where
   reads-cons : k < length expr → reads_after (before_of expr k) (drop k expr)
-      ≡ (reads_here (before_of expr k) (get_or expr k d) || reads_after (before_of expr (k + 1)) (drop (k + 1) expr))
+      ≡ (reads_here (before_of expr k) (get_or expr k d) or reads_after (before_of expr (k + 1)) (drop (k + 1) expr))
   unfolding reads_after
   reads-cons h = rw (add-one k, drop-cons expr k d h, get_at expr k d h)
 
@@ -91,19 +91,19 @@ module _ {ℓ} {A : Type ℓ} where
 module _ (base-indent : ℕ) (d : Definition) (volatile : List Text) where
   looked : (j : ℕ) (l : Line) (ls : Listing) → use_from base-indent d.fam.name d.expr d.calls volatile j (l ∷ ls)
       ≡ match_look (look base-indent d volatile l) (some j) (use_from base-indent d.fam.name d.expr d.calls volatile (suc j) ls) none
-  unfolding use_from look if◌then◌else◌ match_touch match_look
+  unfolding use_from look when◌then◌else◌ match_touch match_look
   looked j l ls = go (is_label l) (touch l d.fam.name volatile) (harmless base-indent d.fam.name d.expr d.calls volatile l)
     where
       next : Option ℕ
       next = use_from base-indent d.fam.name d.expr d.calls volatile (suc j) ls
 
-      once : (b : Bool) → (if b then some j else none) ≡ match_look (if b then found else stops) (some j) next none
+      once : (b : Bool) → (when b then some j else none) ≡ match_look (when b then found else stops) (some j) next none
       once true = refl
       once false = refl
 
       go : (label : Bool) (t : Touch) (safe : Bool)
-          → (if label then none else match_touch t (if safe then next else none) none (λ n. if eqb n 1 then some j else none))
-          ≡ match_look (if label then stops else match_touch t (if safe then passes else stops) stops (λ n. if eqb n 1 then found else stops)) (some j) next none
+          → (when label then none else match_touch t (when safe then next else none) none (λ n. when eqb n 1 then some j else none))
+          ≡ match_look (when label then stops else match_touch t (when safe then passes else stops) stops (λ n. when eqb n 1 then found else stops)) (some j) next none
       go true t safe = refl
       go false None true = refl
       go false None false = refl

@@ -12,7 +12,7 @@ use mathlib.Core.Option.{none, some}
 use lib.Dec.{ltb, eqb}
 use lib.ListN.{length, get_or, length-map}
 use borrow.Author.Tests.{lt-ltb, le-ltb, lt-leb}
-use Rattle.reference.specs.Control.{if◌then◌else◌, let_some◌else◌then◌}
+use Rattle.reference.specs.Control.{when◌then◌else◌, let_some◌else◌then◌}
 use Rattle.reference.specs.Lists.{remove, get}
 use Rattle.reference.specs.Text.{Text}
 use Rattle.reference.specs.Listing.{Token, Line, Listing, blank, ◌at◌}
@@ -70,13 +70,13 @@ labels_move lines lines' f (p ∷ ps) same =
 -- ---- a line gone
 
 shift_is : (i : ℕ) (labels : Labels) → shift i labels ≡ map (λ l. record { name = l.name; place = shift_place i l.place }) labels
-unfolding shift if◌then◌else◌
+unfolding shift when◌then◌else◌
 shift_is i [] = refl
 shift_is i (l ∷ ls) = go (ltb i l.place) (shift_is i ls)
   where
     go : (b : Bool) → shift i ls ≡ map (λ l. record { name = l.name; place = shift_place i l.place }) ls
-        → (if b then record { name = l.name; place = pred l.place } else l) ∷ shift i ls
-        ≡ record { name = l.name; place = if b then pred l.place else l.place } ∷ map (λ l. record { name = l.name; place = shift_place i l.place }) ls
+        → (when b then record { name = l.name; place = pred l.place } else l) ∷ shift i ls
+        ≡ record { name = l.name; place = when b then pred l.place else l.place } ∷ map (λ l. record { name = l.name; place = shift_place i l.place }) ls
     go true ih = ap {B = Labels} (λ r. record { name = l.name; place = pred l.place } ∷ r) ih
     go false ih = ap {B = Labels} (λ r. l ∷ r) ih
 
@@ -124,12 +124,12 @@ module _ (rules : Rules) (lines : Listing) (i : ℕ) (labels : Labels) (addresse
 
 -- the line of a cut is no label
 cut-plain : (ts : List Token) → (let_some (call_in ts) else false then λ c. eqb c 2) ≡ true → label_tokens ts ≡ false
-unfolding label_tokens call_in let_some◌else◌then◌ if◌then◌else◌
+unfolding label_tokens call_in let_some◌else◌then◌ when◌then◌else◌
 cut-plain [] e = refl
 cut-plain (a ∷ []) e = refl
 cut-plain (a ∷ b ∷ []) e = absurd (go (calls_here (a, b)) e)
   where
-    go : (c : Bool) → (let_some (if c then some 0 else none) else false then λ c. eqb c 2) ≡ true → ⊥
+    go : (c : Bool) → (let_some (when c then some 0 else none) else false then λ c. eqb c 2) ≡ true → ⊥
     go true e = false≢true e
     go false e = false≢true e
 cut-plain (a ∷ b ∷ c ∷ rest) e = refl

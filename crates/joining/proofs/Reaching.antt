@@ -7,7 +7,7 @@ use mathlib.Core.Bool.{Bool, true, false}
 use mathlib.Core.List.{List, [], ◌∷◌}
 use lib.ListN.{length, drop, drop_of_length-le}
 use lib.Seq.{drop-cons}
-use Rattle.reference.specs.Control.{not, ◌||◌, if◌then◌else◌}
+use Rattle.reference.specs.Control.{not, ◌or◌, when◌then◌else◌}
 use Rattle.reference.specs.Lists.{is_empty}
 use Rattle.reference.specs.Text.{Text}
 use Rattle.reference.specs.Listing.{Listing, blank, ◌at◌}
@@ -19,14 +19,14 @@ use Rattle.joining.specs.Plan.{Reach, reach_at, reach_from, reach_of}
 use Rattle.joining.proofs.Uses.{uses_upto, gather_uses}
 use Rattle.joining.proofs.Straight.{Reached, gather-reached}
 
-or_always : (a : Bool) → (a || true) ≡ true
-unfolding ◌||◌
+or_always : (a : Bool) → (a or true) ≡ true
+unfolding ◌or◌
 or_always true = refl
 or_always false = refl
 
 module _ (base-indent : ℕ) (fam : Text) (volatile : List Text) where
   pub reach-ended : (j : ℕ) (ls : Listing) (r : Reach) → r.ended ≡ true → reach_from base-indent fam volatile j ls r ≡ r
-  unfolding reach_from if◌then◌else◌
+  unfolding reach_from when◌then◌else◌
   reach-ended j [] r e = refl
   reach-ended j (l ∷ ls) r e = rw e
 
@@ -37,17 +37,17 @@ module _ (base-indent : ℕ) (fam : Text) (volatile : List Text) where
   pub reach_turn : (lines : Listing) (j : ℕ) (r : Reach) → j < length lines → r.ended ≡ false
       → reach_from base-indent fam volatile j (drop j lines) r
       ≡ reach_from base-indent fam volatile (j + 1) (drop (j + 1) lines) (reach_at base-indent fam volatile j (lines at j) r)
-  unfolding reach_from if◌then◌else◌
+  unfolding reach_from when◌then◌else◌
   reach_turn lines j r h e = rw (add-one, drop-cons lines j blank h, e)
 
   -- ---- `gather`
 
   abbrev Same : Reach → Bool → Uses → Type 0
-  Same r used u = (r.used ≡ (used || not (is_empty u.uses))) × (r.last ≡ u.last)
+  Same r used u = (r.used ≡ (used or not (is_empty u.uses))) × (r.last ≡ u.last)
 
   ended : (j : ℕ) (ls : Listing) (used : Bool) (last : ℕ)
       → Same (reach_from base-indent fam volatile j ls (record { used = used; last = last; ended = true })) used (record { uses = []; last = last })
-  unfolding ◌||◌ not
+  unfolding ◌or◌ not
   ended j ls used last = rw (reach-ended j ls (record { used = used; last = last; ended = true }) refl) (or_only refl, refl)
 
   -- by what the tests say of the line j: whether it ends the run, how it touches the family, whether it has a brace
@@ -57,19 +57,19 @@ module _ (base-indent : ℕ) (fam : Text) (volatile : List Text) where
       → (ends : Bool) (t : Touch) (brace : Bool)
       → Same
       (reach_from base-indent fam volatile (suc j) ls
-      (if ends then record { used = used; last = last; ended = true }
+      (when ends then record { used = used; last = last; ended = true }
       else match_touch t
       (record { used = used; last = last; ended = brace })
       (record { used = used; last = j; ended = true })
       (λ n. record { used = true; last = j; ended = brace })))
       used
-      (if ends then record { uses = []; last = last }
+      (when ends then record { uses = []; last = last }
       else match_touch t
-      (if brace then record { uses = []; last = last } else gather base-indent fam volatile (suc j) ls last)
+      (when brace then record { uses = []; last = last } else gather base-indent fam volatile (suc j) ls last)
       (record { uses = []; last = j })
-      (λ n. if brace then record { uses = j ∷ []; last = j }
+      (λ n. when brace then record { uses = j ∷ []; last = j }
       else record { uses = j ∷ (gather base-indent fam volatile (suc j) ls j).uses; last = (gather base-indent fam volatile (suc j) ls j).last }))
-  unfolding if◌then◌else◌ match_touch not ◌||◌
+  unfolding when◌then◌else◌ match_touch not ◌or◌
   turn j ls used last ih true t brace = ended (suc j) ls used last
   turn j ls used last ih false None true = ended (suc j) ls used last
   turn j ls used last ih false None false = ih used last
@@ -79,7 +79,7 @@ module _ (base-indent : ℕ) (fam : Text) (volatile : List Text) where
 
   reach-gather : (j : ℕ) (ls : Listing) (used : Bool) (last : ℕ)
       → Same (reach_from base-indent fam volatile j ls (record { used = used; last = last; ended = false })) used (gather base-indent fam volatile j ls last)
-  unfolding reach_from reach_at gather if◌then◌else◌ not
+  unfolding reach_from reach_at gather when◌then◌else◌ not
   reach-gather j [] used last = (or_only refl, refl)
   reach-gather j (l ∷ ls) used last =
       turn j ls used last (λ u k. reach-gather (suc j) ls u k) (ends_run base-indent l) (touch l fam volatile) (opens_or_closes l)
@@ -92,7 +92,7 @@ module _ (lines : Listing) (i : ℕ) (fam : Text) (volatile : List Text) where
   gathered = gather (lines at i).indent fam volatile (suc i) (drop (suc i) lines) i
 
   pub reach-used : (reach_of lines i fam volatile).used ≡ not (is_empty gathered.uses)
-  unfolding reach_of gathered ◌||◌
+  unfolding reach_of gathered ◌or◌
   reach-used = (reach-gather (lines at i).indent fam volatile (suc i) (drop (suc i) lines) false i).0
 
   pub reach-last : (reach_of lines i fam volatile).last ≡ gathered.last

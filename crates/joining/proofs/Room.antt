@@ -6,9 +6,9 @@ use mathlib.Core.Path.{◌≡◌, refl, ap, ◌∙◌}
 use mathlib.Core.Bool.{Bool, true, false}
 use mathlib.Core.List.{List, [], ◌∷◌, ◌++◌}
 use lib.ListN.{length, get_or, length-append}
-use Rattle.reference.specs.Control.{◌||◌, if◌then◌else◌}
+use Rattle.reference.specs.Control.{◌or◌, when◌then◌else◌}
 use Rattle.reference.specs.Lists.{count}
-use Rattle.reference.specs.Text.{bytes, ◌==◌}
+use Rattle.reference.specs.Text.{bytes, ◌≟◌}
 use Rattle.reference.specs.Listing.{Token, token, is, Number}
 use Rattle.reference.specs.Numbers.{joins, merge_into, merge}
 use Rattle.reference.specs.Claim.{sum, size, text_in}
@@ -29,7 +29,7 @@ built-sum F f i xs k d h n = ap (sum F) (built_turn f i xs k d h n) ∙ sum-appe
 -- ---- signs
 
 unfoldable pub is_sign : Token → Bool
-is_sign t = (t.text == bytes " + ") || (t.text == bytes " - ")
+is_sign t = (t.text ≟ bytes " + ") or (t.text ≟ bytes " - ")
 
 abbrev pub signs : List Token → ℕ
 signs = count is_sign
@@ -40,25 +40,25 @@ sign_size t e = either (size t ≡ 3) e (λ h. ap length (same_text t.text (byte
 
 -- a token's text, with 19 bytes more if it is a sign
 charge : Token → ℕ
-charge t = size t + (if is_sign t then 19 else 0)
+charge t = size t + (when is_sign t then 19 else 0)
 
 charge_room : (t : Token) → over t ≡ 0 → charge t ≤ room t
-unfolding charge if◌then◌else◌
+unfolding charge when◌then◌else◌
 charge_room t = go (is Number t) (is_sign t) (sign_size t)
   where
-    go : (b s : Bool) → (s ≡ true → size t ≡ 3) → (if b then size t - 24 else 0) ≡ 0 → size t + (if s then 19 else 0) ≤ (if b then 0 else size t) + 24
+    go : (b s : Bool) → (s ≡ true → size t ≡ 3) → (when b then size t - 24 else 0) ≡ 0 → size t + (when s then 19 else 0) ≤ (when b then 0 else size t) + 24
     go true true h e = omega (arith, h refl)
     go true false h e = omega arith
     go false true h e = omega arith
     go false false h e = omega arith
 
 charges : (ts : List Token) → sum charge ts ≡ text_in ts + 19 * signs ts
-unfolding charge if◌then◌else◌
+unfolding charge when◌then◌else◌
 charges [] = refl
 charges (t ∷ ts) = go (is_sign t) (charges ts)
   where
     go : (s : Bool) → sum charge ts ≡ text_in ts + 19 * signs ts
-        → size t + (if s then 19 else 0) + sum charge ts ≡ size t + text_in ts + 19 * (if s then suc (signs ts) else signs ts)
+        → size t + (when s then 19 else 0) + sum charge ts ≡ size t + text_in ts + 19 * (when s then suc (signs ts) else signs ts)
     go true e = omega arith
     go false e = omega arith
 

@@ -6,7 +6,7 @@ use mathlib.Core.Bool.{Bool, true, false}
 use mathlib.Core.List.{List, [], ◌∷◌, ◌++◌}
 use mathlib.Core.Option.{Option, none, some}
 use lib.ListN.{take, drop}
-use Rattle.reference.specs.Control.{if◌then◌else◌, let_some◌else◌then◌}
+use Rattle.reference.specs.Control.{when◌then◌else◌, let_some◌else◌then◌}
 use Rattle.reference.specs.Lists.{count, position}
 use Rattle.reference.specs.Text.{Text}
 use Rattle.reference.specs.Listing.{Token}
@@ -30,27 +30,27 @@ use_count ts fam volatile n =
 
 module _ (fam : Text) (expr : List Token) where
   nothing : (ts : List Token) → count (of_family fam) ts ≡ 0 → substitute fam expr ts ≡ ts
-  unfolding substitute if◌then◌else◌
+  unfolding substitute when◌then◌else◌
   nothing [] = λ e. refl
   nothing (t ∷ ts) = go (of_family fam t) (nothing ts)
     where
       go : (b : Bool) → (count (of_family fam) ts ≡ 0 → substitute fam expr ts ≡ ts)
-          → (if b then suc (count (of_family fam) ts) else count (of_family fam) ts) ≡ 0
-          → (if b then expr ++ substitute fam expr ts else t ∷ substitute fam expr ts) ≡ t ∷ ts
+          → (when b then suc (count (of_family fam) ts) else count (of_family fam) ts) ≡ 0
+          → (when b then expr ++ substitute fam expr ts else t ∷ substitute fam expr ts) ≡ t ∷ ts
       go true ih e = absurd (omega arith)
       go false ih e = ap {B = List Token} (λ r. t ∷ r) (ih e)
 
   pub substitute_one : (ts : List Token) (pos : ℕ) → position (of_family fam) ts ≡ some pos → count (of_family fam) ts ≡ 1
       → substitute fam expr ts ≡ take pos ts ++ expr ++ drop (suc pos) ts
-  unfolding substitute if◌then◌else◌ let_some◌else◌then◌
+  unfolding substitute when◌then◌else◌ let_some◌else◌then◌
   substitute_one [] pos = λ e. absurd (none-some e)
   substitute_one (t ∷ ts) pos = go (of_family fam t) (substitute_one ts)
     where
       go : (b : Bool)
           → ((i : ℕ) → position (of_family fam) ts ≡ some i → count (of_family fam) ts ≡ 1 → substitute fam expr ts ≡ take i ts ++ expr ++ drop (suc i) ts)
-          → (if b then some 0 else (let_some (position (of_family fam) ts) else none then λ i. some (suc i))) ≡ some pos
-          → (if b then suc (count (of_family fam) ts) else count (of_family fam) ts) ≡ 1
-          → (if b then expr ++ substitute fam expr ts else t ∷ substitute fam expr ts) ≡ take pos (t ∷ ts) ++ expr ++ drop (suc pos) (t ∷ ts)
+          → (when b then some 0 else (let_some (position (of_family fam) ts) else none then λ i. some (suc i))) ≡ some pos
+          → (when b then suc (count (of_family fam) ts) else count (of_family fam) ts) ≡ 1
+          → (when b then expr ++ substitute fam expr ts else t ∷ substitute fam expr ts) ≡ take pos (t ∷ ts) ++ expr ++ drop (suc pos) (t ∷ ts)
       go true ih e n =
           subst (λ (k : ℕ). expr ++ substitute fam expr ts ≡ take k (t ∷ ts) ++ expr ++ drop (suc k) (t ∷ ts)) (some_inj e)
           (ap (λ (r : List Token). expr ++ r) (nothing ts (omega arith)))

@@ -9,7 +9,7 @@ use mathlib.Core.List.{List, [], ◌∷◌}
 use lib.ListN.{length, take, drop}
 use lib.Seq.{slice, take-nil, length-take-le, get_or-take}
 use borrow.Author.Tests.{le-leb}
-use Rattle.reference.specs.Control.{not, ◌&&◌, ◌||◌, if◌then◌else◌}
+use Rattle.reference.specs.Control.{not, ◌and◌, ◌or◌, when◌then◌else◌}
 use Rattle.reference.specs.Lists.{any}
 use Rattle.reference.specs.Text.{Text}
 use Rattle.reference.specs.Listing.{Line, Listing, blank, ◌at◌}
@@ -23,8 +23,8 @@ use Rattle.joining.proofs.Uses.{uses_upto, uses_past}
 
 module _ (fam : Text) (volatile : List Text) (q : Line → Bool) (lines : Listing) (last : ℕ) where
   any_uses : (j : ℕ) (ls : Listing) → drop j lines ≡ ls
-      → any (λ k. q (lines at k)) (uses_upto fam volatile last j ls) ≡ any (λ l. is_use (touch l fam volatile) && q l) (take (suc last - j) ls)
-  unfolding uses_upto if◌then◌else◌ ◌&&◌ ◌||◌
+      → any (λ k. q (lines at k)) (uses_upto fam volatile last j ls) ≡ any (λ l. is_use (touch l fam volatile) and q l) (take (suc last - j) ls)
+  unfolding uses_upto when◌then◌else◌ ◌and◌ ◌or◌
   any_uses j [] e = rw (take-nil {A = Line} (suc last - j))
   any_uses j (l ∷ ls) e =
       let d = drop-step j lines l ls e in
@@ -39,9 +39,9 @@ module _ (fam : Text) (volatile : List Text) (q : Line → Bool) (lines : Listin
       rw zero_left (ap (any (λ k. q (lines at k))) (uses_past fam volatile last j (l ∷ ls) (omega arith)))))
     where
       step : (b c : Bool) → q (lines at j) ≡ c
-          → any (λ k. q (lines at k)) (uses_upto fam volatile last (suc j) ls) ≡ any (λ l. is_use (touch l fam volatile) && q l) (take (last - j) ls)
-          → any (λ k. q (lines at k)) (if true && b then j ∷ uses_upto fam volatile last (suc j) ls else uses_upto fam volatile last (suc j) ls)
-          ≡ (b && c || any (λ l. is_use (touch l fam volatile) && q l) (take (last - j) ls))
+          → any (λ k. q (lines at k)) (uses_upto fam volatile last (suc j) ls) ≡ any (λ l. is_use (touch l fam volatile) and q l) (take (last - j) ls)
+          → any (λ k. q (lines at k)) (when true and b then j ∷ uses_upto fam volatile last (suc j) ls else uses_upto fam volatile last (suc j) ls)
+          ≡ (b and c or any (λ l. is_use (touch l fam volatile) and q l) (take (last - j) ls))
       step true c same ih = rw (same, ih)
       step false c same ih = ih
 

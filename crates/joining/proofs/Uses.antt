@@ -7,7 +7,7 @@ use mathlib.Core.List.{List, [], ◌∷◌}
 use mathlib.Core.Option.{Option, some}
 use lib.Dec.{leb}
 use borrow.Author.Tests.{le-leb, lt-leb}
-use Rattle.reference.specs.Control.{◌&&◌, if◌then◌else◌}
+use Rattle.reference.specs.Control.{◌and◌, when◌then◌else◌}
 use Rattle.reference.specs.Text.{Text}
 use Rattle.reference.specs.Listing.{Token, Line, Listing}
 use Rattle.reference.specs.Life.{None, Kill, Use, touch, match_touch, is_use}
@@ -21,10 +21,10 @@ module _ (fam : Text) (volatile : List Text) where
   uses_upto last j [] = []
   uses_upto last j (l ∷ ls) =
       let r = uses_upto last (suc j) ls in
-      if leb j last && is_use (touch l fam volatile) then j ∷ r else r
+      when leb j last and is_use (touch l fam volatile) then j ∷ r else r
 
   pub uses_past : (last j : ℕ) (ls : Listing) → last < j → uses_upto last j ls ≡ []
-  unfolding uses_upto if◌then◌else◌ ◌&&◌
+  unfolding uses_upto when◌then◌else◌ ◌and◌
   uses_past last j [] h = refl
   uses_past last j (l ∷ ls) h = rw (lt-leb j last h) (uses_past last (suc j) ls (omega arith))
 

@@ -1,9 +1,9 @@
 -- Marks in tables, as code keeps them (M-105): two numbers for each line of the input, and a list of the lines' numbers in the input
 -- ("origins"), which a line word holds. No marks are the two numbers that join nothing: the highest there is as lowest, and 0 as highest.
 -- Assumes nothing.
-use Rattle.std.specs.Prelude.{ℕ, suc, ◌≤◌, ◌<◌, min, max, ◌≡◌, ◌⊎◌, List, [], ◌∷◌, map, leb, get_or}
+use Rattle.std.specs.Prelude.{ℕ, suc, ◌≤◌, min, max, ◌≡◌, ◌⊎◌, List, [], ◌∷◌, map, leb, get_or}
 use Rattle.std.proofs.Math.Option.{none, some}
-use Rattle.reference.specs.Control.{if◌then◌else◌}
+use Rattle.reference.specs.Control.{when◌then◌else◌}
 use Rattle.reference.specs.Spans.{Marks}
 
 -- ---- two numbers
@@ -16,7 +16,7 @@ Pair = ℕ × ℕ
 
 -- the marks that two numbers stand for
 unfoldable pub marks_of : Pair → Marks
-marks_of p = if leb p.0 p.1 then some (record { lowest = p.0; highest = p.1 }) else none
+marks_of p = when leb p.0 p.1 then some (record { lowest = p.0; highest = p.1 }) else none
 
 -- such pairs are kept: an address or more, or none
 pub record Kept (p : Pair) : Type 0 where

@@ -4,7 +4,7 @@
 use Rattle.std.specs.Prelude.{ℕ, suc, Bool, true, false, List, [], ◌∷◌, ◌++◌, leb, ltb, eqb, drop, take}
 use Rattle.std.proofs.Math.Option.{Option, none, some}
 use Rattle.std.proofs.Math.Seq.{slice}
-use Rattle.reference.specs.Control.{not, ◌&&◌, ◌||◌, if◌then◌else◌, let_some◌else◌then◌}
+use Rattle.reference.specs.Control.{not, ◌and◌, ◌or◌, when◌then◌else◌, let_some◌else◌then◌}
 use Rattle.reference.specs.Lists.{any, position, is_some, remove}
 use Rattle.reference.specs.Text.{Text, bytes, has}
 use Rattle.reference.specs.Listing.{Token, token, Punct, Line, Listing, ◌at◌, with_tokens}
@@ -27,7 +27,7 @@ unfoldable pub definition_of : List Token → Option Definition
 definition_of ts =
     let_some (assignment_of ts) else none then λ a.
     let_some (family a.lhs.text) else none then λ f.
-    if any (of_family f.name) a.expr then none
+    when any (of_family f.name) a.expr then none
     else some (record { fam = f; expr = a.expr; calls = is_some (call_in ts) })
 
 -- in each line up to `last` that uses the family `fam`, the right side takes its place, in brackets or without
@@ -49,7 +49,7 @@ module _ (base-indent : ℕ) (fam : Text) (volatile : List Text) where
   -- the reach `r`, with the line j looked at
   unfoldable pub reach_at : ℕ → Line → Reach → Reach
   reach_at j l r =
-      if ends_run base-indent l then record { used = r.used; last = r.last; ended = true }
+      when ends_run base-indent l then record { used = r.used; last = r.last; ended = true }
       else match_touch (touch l fam volatile)
       (record { used = r.used; last = r.last; ended = opens_or_closes l })
       (record { used = r.used; last = j; ended = true })
@@ -58,7 +58,7 @@ module _ (base-indent : ℕ) (fam : Text) (volatile : List Text) where
   -- the search from the line j on
   unfoldable pub reach_from : ℕ → Listing → Reach → Reach
   reach_from j [] r = r
-  reach_from j (l ∷ rest) r = let next = reach_from (suc j) rest (reach_at j l r) in if r.ended then r else next
+  reach_from j (l ∷ rest) r = let next = reach_from (suc j) rest (reach_at j l r) in when r.ended then r else next
 
 -- how far a constant of line i reaches
 unfoldable pub reach_of : Listing → ℕ → Text → List Text → Reach
@@ -67,7 +67,7 @@ reach_of lines i fam volatile =
 
 -- a line that uses the family and cannot take a constant for it
 unfoldable pub refuses : Text → List Text → Line → Bool
-refuses fam volatile l = is_use (touch l fam volatile) && bad_use fam l.tokens
+refuses fam volatile l = is_use (touch l fam volatile) and bad_use fam l.tokens
 
 -- each of the lines that uses the family takes a constant for it
 unfoldable pub all_take : Text → List Text → Listing → Bool
@@ -76,13 +76,13 @@ all_take fam volatile ls = not (any (refuses fam volatile) ls)
 -- whether the family's value of line i is never read after the line `last`
 unfoldable pub ends_at : Listing → ℕ → Text → Labels → List Text → ℕ → Bool
 ends_at lines i fam labels volatile last =
-    dead_after lines last fam (lines at i).indent labels i volatile || is_kill (touch (lines at last) fam volatile)
+    dead_after lines last fam (lines at i).indent labels i volatile or is_kill (touch (lines at last) fam volatile)
 
 -- `propagate_constant`, with the reach found
 unfoldable pub plan_reach : Listing → ℕ → Definition → Labels → List Text → Reach → Option Plan
 plan_reach lines i d labels volatile r =
-    if r.used && ends_at lines i d.fam.name labels volatile r.last
-    && all_take d.fam.name volatile (slice (suc i) (suc r.last) lines)
+    when r.used and ends_at lines i d.fam.name labels volatile r.last
+    and all_take d.fam.name volatile (slice (suc i) (suc r.last) lines)
     then some (record { fam = d.fam.name; expr = d.expr; last = r.last; brackets = false })
     else none
 
@@ -97,11 +97,11 @@ pub data Look : Type 0 where
 
 unfoldable pub look : ℕ → Definition → List Text → Line → Look
 look base-indent d volatile l =
-    if is_label l then stops
+    when is_label l then stops
     else match_touch (touch l d.fam.name volatile)
-    (if harmless base-indent d.fam.name d.expr d.calls volatile l then passes else stops)
+    (when harmless base-indent d.fam.name d.expr d.calls volatile l then passes else stops)
     stops
-    (λ n. if eqb n 1 then found else stops)
+    (λ n. when eqb n 1 then found else stops)
 
 -- the line with the single use of the definition of line i
 unfoldable pub use_of : Listing → ℕ → Definition → List Text → Option ℕ
@@ -110,14 +110,14 @@ use_of lines i d volatile =
 
 -- whether the right side wants brackets at `pos`
 unfoldable pub wants_brackets : Rules → List Token → List Token → ℕ → Bool
-wants_brackets rules expr toks pos = is_bracketed rules expr && not (standalone (text_before toks pos) (text_after toks pos))
+wants_brackets rules expr toks pos = is_bracketed rules expr and not (standalone (text_before toks pos) (text_after toks pos))
 
 -- the plan for the use on line j
 unfoldable pub plan_use : Rules → Listing → ℕ → Definition → Labels → List Text → ℕ → Option Plan
 plan_use rules lines i d labels volatile j =
-    if has_kw (lines at j) "while" || not (dead_after lines j d.fam.name (lines at i).indent labels i volatile) then none
+    when has_kw (lines at j) "while" or not (dead_after lines j d.fam.name (lines at i).indent labels i volatile) then none
     else let_some (position (of_family d.fam.name) (lines at j).tokens) else none then λ pos.
-    if replaceable rules.parts d.fam (lines at j).tokens pos
+    when replaceable rules.parts d.fam (lines at j).tokens pos
     then some (record {
       fam = d.fam.name;
       expr = d.expr;
@@ -134,13 +134,13 @@ plan_single rules lines i d labels volatile =
 
 unfoldable pub plan_for : Rules → Listing → ℕ → Definition → Labels → List Text → Option Plan
 plan_for rules lines i d labels volatile =
-    let_some (if lone_number d.expr then plan_constant lines i d labels volatile else none)
+    let_some (when lone_number d.expr then plan_constant lines i d labels volatile else none)
     else plan_single rules lines i d labels volatile then λ p. some p
 
 unfoldable pub decide : Rules → Listing → ℕ → Labels → List Text → Option Plan
 decide rules lines i labels addressed =
     let_some (definition_of (lines at i).tokens) else none then λ d.
-    if has addressed d.fam.name then none else plan_for rules lines i d labels (volatile rules)
+    when has addressed d.fam.name then none else plan_for rules lines i d labels (volatile rules)
 
 -- ---- the change
 
@@ -152,16 +152,16 @@ module _ {ℓ κ} {A : Type ℓ} {B : Type κ} where
 
 -- what takes the place of a token of the family
 unfoldable pub right_side_of : Plan → List Token
-right_side_of p = if p.brackets then token Punct (bytes "(") ∷ p.expr ++ (token Punct (bytes ")") ∷ []) else p.expr
+right_side_of p = when p.brackets then token Punct (bytes "(") ∷ p.expr ++ (token Punct (bytes ")") ∷ []) else p.expr
 
 module _ (volatile : List Text) (i : ℕ) (p : Plan) where
   -- whether the line k is changed
   unfoldable pub changes : ℕ → Line → Bool
-  changes k l = ltb i k && leb k p.last && is_use (touch l p.fam volatile)
+  changes k l = ltb i k and leb k p.last and is_use (touch l p.fam volatile)
 
   -- the line k, by g where it is changed
   unfoldable pub where_used : (Line → Line) → ℕ → Line → Line
-  where_used g k l = if changes k l then g l else l
+  where_used g k l = when changes k l then g l else l
 
   -- before its tokens are merged and folded
   abbrev pub unmerged_line : ℕ → Line → Line

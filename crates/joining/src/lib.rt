@@ -1,1 +1,2 @@
 // Laws and definitions only.
+#![tactic(auto)]

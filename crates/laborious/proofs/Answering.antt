@@ -4,7 +4,7 @@ use mathlib.Core.Path.{◌≡◌, refl, ap, subst}
 use mathlib.Core.List.{List}
 use lib.ListN.{length}
 use borrow.Author.Tests.{leb-true, le-leb, lt-leb}
-use Rattle.reference.specs.Control.{if◌then◌else◌}
+use Rattle.reference.specs.Control.{when◌then◌else◌}
 use Rattle.reference.specs.Questions.{Refused, Passed, ask}
 use Rattle.reference.proofs.Reading.{passed_inj, ask_passed}
 use Rattle.answers.specs.Answers.{Writes}
@@ -14,17 +14,17 @@ use Rattle.laborious.proofs.Tape.{most-laborious}
 
 module _ (n : ℕ) (out : List ℕ) where
   pub many : 256 < n → Writes (laborious_reply n (length out)) out out (Refused 17 0)
-  unfolding laborious_reply ask if◌then◌else◌
+  unfolding laborious_reply ask when◌then◌else◌
   many h = rw (lt-leb n 256 h) (record { reply_is = refl; output_is = refl })
 
   module _ (few : n ≤ 256) where
     pub short : length out < 59137 → Writes (laborious_reply n (length out)) out out (Refused 2 0)
-    unfolding laborious_reply ask if◌then◌else◌
+    unfolding laborious_reply ask when◌then◌else◌
     short h = rw (le-leb n 256 few, lt-leb 59137 (length out) h) (record { reply_is = refl; output_is = refl })
 
     pub enough : {out' : List ℕ} {k : ℕ} → 59137 ≤ length out → Front out (laborious_tape n) out' k
         → Writes (laborious_reply n (length out)) out out' (Passed k)
-    unfolding laborious_reply ask if◌then◌else◌
+    unfolding laborious_reply ask when◌then◌else◌
     enough h f =
         rw (le-leb n 256 few, le-leb 59137 (length out) h)
         (record { reply_is = ap Passed f.end_is; output_is = f.bytes_are })

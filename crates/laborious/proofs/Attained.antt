@@ -9,7 +9,7 @@ use mathlib.Core.List.{List, [], ◌∷◌}
 use mathlib.Core.Option.{none, some}
 use lib.ListN.{length}
 use borrow.Author.Tests.{lt-ltb, le-ltb}
-use Rattle.reference.specs.Control.{if◌then◌else◌, let_some◌else◌then◌}
+use Rattle.reference.specs.Control.{when◌then◌else◌, let_some◌else◌then◌}
 use Rattle.reference.specs.Text.{Text, bytes}
 use Rattle.reference.specs.Listing.{Listing}
 use Rattle.reference.specs.Rules.{Rules}
@@ -26,19 +26,19 @@ module _ (rules : Rules) (addressed : List Text) (i : ℕ) (lines : Listing) (la
   fails : (fuel : ℕ) → i < length lines → try_at rules lines i labels addressed ≡ none
       → length (attempts_from rules addressed (suc fuel) i lines labels) ≡ suc
       (length (attempts_from rules addressed fuel (suc i) lines labels))
-  unfolding attempts_from if◌then◌else◌ let_some◌else◌then◌
-  fails fuel lt e = rw (lt-ltb i (length lines) lt, if◌then◌else◌, e, let_some◌else◌then◌)
+  unfolding attempts_from when◌then◌else◌ let_some◌else◌then◌
+  fails fuel lt e = rw (lt-ltb i (length lines) lt, when◌then◌else◌, e, let_some◌else◌then◌)
 
   removes : (fuel : ℕ) {lines' : Listing} → i < length lines → try_at rules lines i labels addressed ≡ some lines'
       → length (attempts_from rules addressed (suc fuel) i lines labels) ≡ suc
       (length (attempts_from rules addressed fuel (pred i) lines' (shift i labels)))
-  unfolding attempts_from if◌then◌else◌ let_some◌else◌then◌
-  removes fuel lt e = rw (lt-ltb i (length lines) lt, if◌then◌else◌, e, let_some◌else◌then◌)
+  unfolding attempts_from when◌then◌else◌ let_some◌else◌then◌
+  removes fuel lt e = rw (lt-ltb i (length lines) lt, when◌then◌else◌, e, let_some◌else◌then◌)
 
   ends : (fuel : ℕ) → length lines ≤ i → length (attempts_from rules addressed fuel i lines labels) ≡ 0
-  unfolding attempts_from if◌then◌else◌
+  unfolding attempts_from when◌then◌else◌
   ends zero le = refl
-  ends (suc fuel) le = rw (le-ltb i (length lines) le, if◌then◌else◌)
+  ends (suc fuel) le = rw (le-ltb i (length lines) le, when◌then◌else◌)
 
 -- ---- what the attempts of this round find
 
@@ -104,7 +104,7 @@ back = record { stays = λ rules n. refl; joined = joins; last = λ rules. refl;
 module _ (rules : Rules) where
   turns : (x y : String) → Moves x y → Moves y x → (n fuel : ℕ) → n + n + 2 ≤ fuel
       → length (attempts_from rules [] fuel 0 (label_and_moves x y n) marks) ≡ n + n + 2
-  unfolding to_and_fro shift if◌then◌else◌
+  unfolding to_and_fro shift when◌then◌else◌
   turns x y p q n zero le = omega arith
   turns x y p q n (suc zero) le = omega arith
   turns x y p q zero (suc (suc fuel)) le =

@@ -17,7 +17,6 @@ use Rattle.reference.specs.Demand.{Attempts, over, failed, succeeded}
 use Rattle.reference.proofs.Cases.{by-if}
 use Rattle.reference.proofs.Changes.{removed-length}
 use Rattle.reference.specs.Join.{try_at, targets}
-use Rattle.reference.proofs.Limits.{All}
 use Rattle.reference.proofs.Attempts.{attempt_removed, Joined, attempt_joined}
 use Rattle.reference.proofs.Rounds.{round_taken}
 use Rattle.laborious.specs.Most.{first_attempts, most_attempts}

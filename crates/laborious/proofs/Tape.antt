@@ -3,13 +3,13 @@
 use Prim.Native.Nat.{ℕ, zero, suc, ◌*◌, ◌≤◌, ◌<◌}
 use Prim.Native.String.{String}
 use native.Mathlib.Omega.{arith}
-use mathlib.Core.Path.{◌≡◌, refl, ap, ◌∙◌, subst}
+use mathlib.Core.Path.{◌≡◌, refl, ◌∙◌, subst}
 use mathlib.Core.Bool.{false}
-use mathlib.Core.List.{List, [], ◌∷◌, ◌++◌}
+use mathlib.Core.List.{List, [], ◌∷◌}
 use mathlib.Core.Option.{none}
 use lib.Dec.{ltb}
 use lib.ListN.{length, replicate, length-replicate}
-use Rattle.reference.specs.Control.{◌||◌}
+use Rattle.reference.specs.Control.{◌or◌}
 use Rattle.reference.specs.Lists.{any}
 use Rattle.reference.specs.Text.{bytes}
 use Rattle.reference.specs.Listing.{Token, token, Register, Listing}
@@ -20,19 +20,19 @@ use Rattle.reference.specs.Tape.{write_lines, write_by, write_lines_by}
 use Rattle.reference.proofs.Limits.{All, MarksFit, TokenFits, LineFits, TapeFits}
 use Rattle.reference.proofs.Commands.{AddressFits}
 use Rattle.reference.proofs.Written.{read-write}
-use Rattle.laborious.specs.Most.{first_attempts, most_attempts}
+use Rattle.laborious.specs.Most.{most_attempts}
 use Rattle.laborious.specs.Listing.{label, move, to_and_fro, laborious, laborious_tape, MostLaborious}
 use Rattle.laborious.proofs.Most.{at_most, first_round}
 use Rattle.laborious.proofs.Attained.{to_and_fro-length, laborious-length, makes_most}
 
 -- ---- each line
 
-fits : (t : Token) → t.kind < 8 → 1 ≤ length t.text → length t.text ≤ 24 → any (λ b. ltb b 0x20 || ltb 0x7E b) t.text ≡ false
+fits : (t : Token) → t.kind < 8 → 1 ≤ length t.text → length t.text ≤ 24 → any (λ b. ltb b 0x20 or ltb 0x7E b) t.text ≡ false
     → TokenFits t
 fits t k some_text short p = record { kind = k; some_text = some_text; number = λ e. short; printable = p }
 
 label-fits : LineFits label
-unfolding ◌||◌
+unfolding ◌or◌
 label-fits =
     record {
       indent = omega arith;
@@ -40,7 +40,7 @@ label-fits =
     }
 
 move-fits : (to from : String) → TokenFits (token Register (bytes to)) → TokenFits (token Register (bytes from)) → LineFits (move to from)
-unfolding ◌||◌
+unfolding ◌or◌
 move-fits to from p q =
     record {
       indent = omega arith;
@@ -56,15 +56,15 @@ record Name (s : String) : Type 0 where
   three : length (bytes s) ≡ 3
 
 rbx : Name "rbx"
-unfolding ◌||◌
+unfolding ◌or◌
 rbx = record { token_fits = fits _ (omega arith) (omega arith) (omega arith) refl; three = refl }
 
 rbp : Name "rbp"
-unfolding ◌||◌
+unfolding ◌or◌
 rbp = record { token_fits = fits _ (omega arith) (omega arith) (omega arith) refl; three = refl }
 
 rsi : Name "rsi"
-unfolding ◌||◌
+unfolding ◌or◌
 rsi = record { token_fits = fits _ (omega arith) (omega arith) (omega arith) refl; three = refl }
 
 record Moves (lines : Listing) (n : ℕ) : Type 0 where

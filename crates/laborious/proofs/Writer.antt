@@ -13,7 +13,7 @@ use lib.Dec.{eqb}
 use lib.ListN.{length, take, drop, set, length-append, length-drop}
 use lib.Seq.{paste, paste-zero, paste-suc, take_at, take-length, drop-append-add, drop-drop}
 use borrow.Author.Tests.{eq-eqb, ne_eqb}
-use Rattle.reference.specs.Control.{if◌then◌else◌}
+use Rattle.reference.specs.Control.{when◌then◌else◌}
 use Rattle.reference.specs.Listing.{Line, Listing}
 use Rattle.reference.specs.Tape.{write_line, write_lines, write, write_by, write_command_by, write_lines_by}
 use Rattle.reference.proofs.Cases.{by-if}
@@ -33,7 +33,7 @@ module _ (i : ℕ) where
   unfolding line_of
   second_line e = if-false _ _ (ne_eqb i 0 (λ z. omega arith)) ∙ if-true _ _ (eq-eqb i 1 e)
 
-  later_line : 2 ≤ i → line_of i ≡ (if eqb (i % 2) 0 then move "rbp" "rbx" else move "rbx" "rbp")
+  later_line : 2 ≤ i → line_of i ≡ (when eqb (i % 2) 0 then move "rbp" "rbx" else move "rbx" "rbp")
   unfolding line_of
   later_line h = if-false _ _ (ne_eqb i 0 (λ z. omega arith)) ∙ if-false _ _ (ne_eqb i 1 (λ z. omega arith))
 
@@ -46,7 +46,7 @@ module _ (i : ℕ) where
 -- ---- one line more
 
 abbrev turn : String → String → ℕ → Line
-turn x y n = if eqb (n % 2) 0 then move y x else move x y
+turn x y n = when eqb (n % 2) 0 then move y x else move x y
 
 turn_next : (x y : String) (n : ℕ) → turn y x n ≡ turn x y (suc n)
 turn_next x y n =
@@ -55,7 +55,7 @@ turn_next x y n =
     (λ h. if-false _ _ (ne_eqb (n % 2) 0 (λ z. omega arith)) ∙ sym (if-true _ _ (eq-eqb (suc n % 2) 0 (omega arith))))
 
 to_and_fro_snoc : (x y : String) (n : ℕ) → to_and_fro x y (suc n) ≡ to_and_fro x y n ++ (turn x y n ∷ [])
-unfolding to_and_fro if◌then◌else◌
+unfolding to_and_fro when◌then◌else◌
 to_and_fro_snoc x y zero = refl
 to_and_fro_snoc x y (suc n) =
     ap (λ (r : Listing). move y x ∷ r) (to_and_fro_snoc y x n)
@@ -68,7 +68,7 @@ laborious_snoc (suc zero) = ap (λ (l : Line). label ∷ l ∷ []) (sym (second_
 laborious_snoc (suc (suc n)) =
     let same : suc (suc n) % 2 ≡ n % 2 = omega arith in
     let last : turn "rbx" "rbp" n ≡ line_of (suc (suc n)) =
-    ap (λ (k : ℕ). if eqb k 0 then move "rbp" "rbx" else move "rbx" "rbp") (sym same) ∙ sym (later_line (suc (suc n)) (omega arith)) in
+    ap (λ (k : ℕ). when eqb k 0 then move "rbp" "rbx" else move "rbx" "rbp") (sym same) ∙ sym (later_line (suc (suc n)) (omega arith)) in
     ap (λ (r : Listing). label ∷ move "rbx" "rsi" ∷ r) (to_and_fro_snoc "rbx" "rbp" n)
     ∙ ap (λ (l : Line). label ∷ move "rbx" "rsi" ∷ (to_and_fro "rbx" "rbp" n ++ (l ∷ []))) last
 

@@ -2,7 +2,7 @@
 use Rattle.std.specs.Prelude.{ℕ, zero, suc, ◌%◌, ◌≤◌, ◌≡◌, List, [], ◌∷◌, leb, eqb, length}
 use Prim.Native.String.{String}
 use Rattle.std.proofs.Math.Option.{none}
-use Rattle.reference.specs.Control.{if◌then◌else◌}
+use Rattle.reference.specs.Control.{when◌then◌else◌}
 use Rattle.reference.specs.Text.{bytes}
 use Rattle.reference.specs.Listing.{Token, token, Register, Symbol, Punct, Line, Listing}
 use Rattle.reference.specs.Rules.{Rules}
@@ -39,9 +39,9 @@ laborious (suc (suc n)) = label_and_moves "rbx" "rbp" n
 -- the line i of every such listing that is longer
 unfoldable pub line_of : ℕ → Line
 line_of i =
-    if eqb i 0 then label
-    else if eqb i 1 then move "rbx" "rsi"
-    else if eqb (i % 2) 0 then move "rbp" "rbx"
+    when eqb i 0 then label
+    else when eqb i 1 then move "rbx" "rsi"
+    else when eqb (i % 2) 0 then move "rbp" "rbx"
     else move "rbx" "rbp"
 
 -- "The tool writes such a tape": no line has an address, so there are no marks

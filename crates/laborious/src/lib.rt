@@ -1,7 +1,8 @@
 // Request M-108: the tape of the most laborious listing of n lines.
+#![tactic(auto)]
+
 ghost use Rattle.std.specs.Prelude.{◌≡◌, ◌+◌, ◌≤◌, length};
 ghost use Rattle.std.proofs.Math.Option.{none};
-ghost use Rattle.reference.specs.Contract.{was};
 ghost use Rattle.reference.specs.Tape.{write_line};
 ghost use Rattle.answers.specs.Answers.{answer_of, Writes};
 ghost use Rattle.laborious.specs.Listing.{line_of, laborious_tape, laborious_reply};
@@ -13,7 +14,7 @@ use text::copy_bytes;
 // Puts line i at `at`, and says where it ends.
 fn put_line(i: usize, out: &mut [u8], at: usize) -> usize
     requires { at + 24 ≤ length out.old }
-    ensures { Put (was out) at (write_line (line_of i) none) out.new result }
+    ensures { Put out.old at (write_line (line_of i) none) out.new result }
 {
     if i == 0 {
         copy_bytes(b"\x02\x00\x14\x01\x00L\x16\x01\x00:", out, at);
@@ -46,7 +47,7 @@ fn put_line(i: usize, out: &mut [u8], at: usize) -> usize
 // Writes the tape of the listing of n lines, and says how long it is.
 fn write_laborious(n: usize, out: &mut [u8]) -> usize
     requires { (n ≤ 256) × (6145 ≤ length out.old) }
-    ensures { Front (was out) (laborious_tape n) out.new result }
+    ensures { Front out.old (laborious_tape n) out.new result }
 {
     let mut at = 0;
     let mut i = 0;
@@ -60,7 +61,7 @@ fn write_laborious(n: usize, out: &mut [u8]) -> usize
 
 // Answers the most laborious listing of n lines: its tape at the front of the output, and its length. A refusal changes nothing.
 pub fn laborious(n: u64, out: &mut [u8]) -> Answer
-    ensures { Writes (laborious_reply n (length (was out))) (was out) out.new (answer_of result) }
+    ensures { Writes (laborious_reply n (length out.old)) out.old out.new (answer_of result) }
 {
     if 256 < n {
         return Answer::Refused {

@@ -10,9 +10,9 @@ use lib.Dec.{leb, ltb}
 use lib.ListN.{length, get_or, take, drop, length-map}
 use lib.Seq.{take-suc, take-length, length-take-le}
 use borrow.Author.Tests.{le-leb, lt-leb, lt-ltb, le-ltb, eq-eqb, ne_eqb}
-use Rattle.reference.specs.Control.{not, ◌&&◌, if◌then◌else◌, let_some◌else◌then◌}
+use Rattle.reference.specs.Control.{not, ◌and◌, when◌then◌else◌, let_some◌else◌then◌}
 use Rattle.reference.specs.Lists.{position, last_position, find, get}
-use Rattle.reference.specs.Text.{Text, bytes, ◌==◌}
+use Rattle.reference.specs.Text.{Text, bytes, ◌≟◌}
 use Rattle.reference.specs.Listing.{is, Symbol, Line, Listing, ◌at◌}
 use Rattle.reference.specs.Shapes.{is_kw, kw_in, is_label, label_tokens}
 use Rattle.reference.specs.Join.{text_or_empty}
@@ -35,16 +35,16 @@ use Rattle.life.specs.Jumps.{jump}
 -- ---- the last that passes, from the end back: o is what the whole search is to find
 
 module _ {ℓ} {A : Type ℓ} (p : A → Bool) where
-  last_snoc : (xs : List A) (x : A) → last_position p (xs ++ (x ∷ [])) ≡ (if p x then some (length xs) else last_position p xs)
-  unfolding let_some◌else◌then◌ if◌then◌else◌
+  last_snoc : (xs : List A) (x : A) → last_position p (xs ++ (x ∷ [])) ≡ (when p x then some (length xs) else last_position p xs)
+  unfolding let_some◌else◌then◌ when◌then◌else◌
   last_snoc [] x = refl
   last_snoc (y ∷ ys) x = rw (last_snoc ys x) (go (p x))
     where
       here : Option ℕ
-      here = if p y then some 0 else none
+      here = when p y then some 0 else none
 
-      go : (b : Bool) → (let_some (if b then some (length ys) else last_position p ys) else here then λ i. some (suc i))
-          ≡ (if b then some (suc (length ys)) else (let_some (last_position p ys) else here then λ i. some (suc i)))
+      go : (b : Bool) → (let_some (when b then some (length ys) else last_position p ys) else here then λ i. some (suc i))
+          ≡ (when b then some (suc (length ys)) else (let_some (last_position p ys) else here then λ i. some (suc i)))
       go true = refl
       go false = refl
 
@@ -54,7 +54,7 @@ module _ {A : Type 0} (p : A → Bool) (f : ℕ → A) (ws : List ℕ) where
 
   module _ (n : ℕ) {o : Option ℕ} (inv : o ≡ last_position p (map f (take n ws))) where
     module _ (h : 0 < n) (b : n ≤ length ws) {x : Bool} (ex : x ≡ p (f (get_or ws (n - 1) 0))) where
-      last_turn : o ≡ (if x then some (n - 1) else last_position p (map f (take (n - 1) ws)))
+      last_turn : o ≡ (when x then some (n - 1) else last_position p (map f (take (n - 1) ws)))
       last_turn =
           let e : n ≡ suc (n - 1) = omega arith in
           let size : length (map f (take (n - 1) ws)) ≡ n - 1 = length-map (take (n - 1) ws) f ∙ length-take-le (n - 1) ws (omega arith) in
@@ -78,12 +78,12 @@ module _ {A : Type 0} (p : A → Bool) (f : ℕ → A) (ws : List ℕ) where
 
 module _ (tape area : Text) (tokens : List ℕ) (l indent : ℕ) {k : ℕ} (ek : k ≡ indent_of l) where
   pub do_other : (k ≡ indent → ⊥) → false ≡ is_do indent (bare_in tape area tokens l)
-  unfolding is_do ◌&&◌
+  unfolding is_do ◌and◌
   do_other n = rw (← ek, ne_eqb k indent n)
 
   pub do_here : {x : Bool} {ws : List ℕ} → k ≡ indent → ws ≡ part_of tokens l → x ≡ kw_in (tokens_of tape area ws) (bytes "do")
       → x ≡ is_do indent (bare_in tape area tokens l)
-  unfolding is_do ◌&&◌
+  unfolding is_do ◌and◌
   do_here h ew e = rw (← ek, eq-eqb k indent h, ← ew) e
 
 -- ---- a label's name
@@ -119,8 +119,8 @@ module _ (tape area : Text) (tokens lines places : List ℕ) (ok : Labelled (bar
   -- o is what the whole search is to find, from the last label back
   module _ (name : Text) (n : ℕ) {o : Option ℕ} (inv : o ≡ lookup (labels_at (bare_listing tape area tokens lines) (take n places)) name) where
     module _ (h : 0 < n) (b : n ≤ length places) {p : ℕ} (ep : p ≡ get_or places (n - 1) 0) {x : Bool}
-        (ex : x ≡ (text_of tape area (get_or (part_of tokens (get_or lines p 0)) 0 0) == name)) where
-      told : {y : Bool} → x ≡ y → ((label_at (bare_listing tape area tokens lines) (get_or places (n - 1) 0)).name == name) ≡ y
+        (ex : x ≡ (text_of tape area (get_or (part_of tokens (get_or lines p 0)) 0 0) ≟ name)) where
+      told : {y : Bool} → x ≡ y → ((label_at (bare_listing tape area tokens lines) (get_or places (n - 1) 0)).name ≟ name) ≡ y
       told e = rw (← ep, name_is (n - 1) (omega arith) ep) (sym ex ∙ e)
 
       before : o ≡ lookup (labels_at (bare_listing tape area tokens lines) (take (n - 1 + 1) places)) name
@@ -179,8 +179,8 @@ module _ (tape area : Text) (labels : Labels) (line : List ℕ) {ws : List ℕ} 
 
 -- ---- whether the scan goes on
 
-unless : (a b : Bool) → not (a && not b) ≡ (if a then b else true)
-unfolding not ◌&&◌ if◌then◌else◌
+unless : (a b : Bool) → not (a and not b) ≡ (when a then b else true)
+unfolding not ◌and◌ when◌then◌else◌
 unless true true = refl
 unless true false = refl
 unless false b = refl
@@ -202,7 +202,7 @@ module _ (lines : List ℕ) (tape area : Text) (tokens : List ℕ) (fam : Text) 
     passes_unknown e = rw (← er, e)
 
     module _ {to : ℕ} (e : r ≡ To to) where
-      at_target : goes ≡ (if leb to start then rerun_kills listing fam start vs to (listing at to).indent else true)
+      at_target : goes ≡ (when leb to start then rerun_kills listing fam start vs to (listing at to).indent else true)
       unfolding goto_passes let_some◌else◌then◌
       at_target = rw (← er, e) (unless (leb to start) (rerun_kills listing fam start vs to (listing at to).indent))
 
@@ -220,12 +220,12 @@ module _ (lines : List ℕ) (tape area : Text) (tokens : List ℕ) (fam : Text) 
     loops = while_passes listing fam start vs w (bare_in tape area tokens l)
 
     pub loop_uses : x ≡ true → false ≡ loops
-    unfolding while_passes if◌then◌else◌
+    unfolding while_passes when◌then◌else◌
     loop_uses t = rw (← ew, ← ex, t)
 
     module _ (t : x ≡ false) {k : ℕ} (ek : k ≡ indent_of l) (r : Position) (er : found r ≡ last_position (is_do k) (bare_listing tape area tokens (take w lines))) where
-      at_do : loops ≡ (let_some (found r) else false then λ d. not (ltb d start && not (rerun_kills listing fam start vs d k)))
-      unfolding while_passes if◌then◌else◌
+      at_do : loops ≡ (let_some (found r) else false then λ d. not (ltb d start and not (rerun_kills listing fam start vs d k)))
+      unfolding while_passes when◌then◌else◌
       at_do = rw (← ew, ← ex, t, ← ek, ← map-take (bare_in tape area tokens) w lines, ← er)
 
       pub loop_none : r ≡ Nothing → false ≡ loops
@@ -233,7 +233,7 @@ module _ (lines : List ℕ) (tape area : Text) (tokens : List ℕ) (fam : Text) 
       loop_none e = sym (at_do ∙ rw e)
 
       module _ {d : ℕ} (e : r ≡ At d) where
-        at_head : loops ≡ (if ltb d start then rerun_kills listing fam start vs d k else true)
+        at_head : loops ≡ (when ltb d start then rerun_kills listing fam start vs d k else true)
         unfolding let_some◌else◌then◌
         at_head = at_do ∙ rw e (unless (ltb d start) (rerun_kills listing fam start vs d k))
 

@@ -8,9 +8,8 @@ use mathlib.Core.List.{List, [], ◌∷◌, ◌++◌, map, map-append, append-ni
 use lib.ListN.{length, get_or, set, take, drop, length-map, length-append, length-drop, drop_of_length-le}
 use lib.Seq.{take-suc, take_all, drop-cons, length-take-le, set_at, get_or_at, append_snoc}
 use borrow.Author.Tests.{lt-ltb, le-ltb}
-use Rattle.reference.specs.Control.{if◌then◌else◌}
+use Rattle.reference.specs.Control.{when◌then◌else◌}
 use Rattle.reference.specs.Text.{Text}
-use Rattle.reference.specs.Listing.{◌at◌}
 use Rattle.reference.specs.Shapes.{label_tokens}
 use Rattle.laws.proofs.Scans.{if-true, if-false}
 use Rattle.joining.specs.Places.{label_places, shift_place}
@@ -29,7 +28,7 @@ module _ (tape area : Text) (tokens lines : List ℕ) where
   found_in k = label_places 0 (bare_listing tape area tokens (take k lines))
 
   found-next : (k : ℕ) → k < length lines → {x : Bool} → x ≡ label_tokens (tokens_of tape area (part_of tokens (get_or lines k 0)))
-      → found_in (k + 1) ≡ found_in k ++ (if x then k ∷ [] else [])
+      → found_in (k + 1) ≡ found_in k ++ (when x then k ∷ [] else [])
   found-next k h {x} ex =
       ap (label_places 0) (map-take (bare_in tape area tokens) (k + 1) lines)
       ∙ places_turn (bare_listing tape area tokens lines) k (rw (length-map lines (bare_in tape area tokens)) h)
@@ -45,7 +44,7 @@ module _ (tape area : Text) (tokens lines : List ℕ) where
       gathered_length h = rw (g.is, length-append) (omega (arith, g.size, length-drop n before))
 
       module _ (h : k < length lines) {x : Bool} {ws : List ℕ} (ew : ws ≡ part_of tokens (get_or lines k 0)) (ex : x ≡ label_tokens (tokens_of tape area ws)) where
-        next : found_in (k + 1) ≡ found_in k ++ (if x then k ∷ [] else [])
+        next : found_in (k + 1) ≡ found_in k ++ (when x then k ∷ [] else [])
         next = found-next k h (rw ew at ex)
 
         pub gathered_hit : x ≡ true → n < length before → Gathered (found_in (k + 1)) before (set after n k) (n + 1)

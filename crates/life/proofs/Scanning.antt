@@ -8,7 +8,7 @@ use lib.Dec.{leb}
 use lib.ListN.{length, get_or, take, drop, drop_of_length-le}
 use lib.Seq.{drop-cons}
 use borrow.Author.Tests.{le-leb, lt-leb}
-use Rattle.reference.specs.Control.{◌&&◌, if◌then◌else◌, let_some◌else◌then◌}
+use Rattle.reference.specs.Control.{◌and◌, when◌then◌else◌, let_some◌else◌then◌}
 use Rattle.reference.specs.Text.{Text, bytes, has}
 use Rattle.reference.specs.Listing.{Line, Listing}
 use Rattle.reference.specs.Shapes.{has_kw, kw_in}
@@ -31,7 +31,7 @@ use Rattle.life.specs.Liveness.{decided, line_liveness, returns_at, or_returns, 
 
 module _ (tape area : Text) (tokens : List ℕ) (l : ℕ) (fam : Text) (deep : ℕ) (vs : List Text) {ws : List ℕ} (ew : ws ≡ part_of tokens l)
     (t : Touched) (h : touched t ≡ touch_of (tokens_of tape area ws) fam vs) where
-  by_touch : line_liveness fam deep vs (bare_in tape area tokens l) ≡ match_touch (touched t) Open (if leb (indent_of l) deep then Dead else Open) (λ n. Live)
+  by_touch : line_liveness fam deep vs (bare_in tape area tokens l) ≡ match_touch (touched t) Open (when leb (indent_of l) deep then Dead else Open) (λ n. Live)
   unfolding line_liveness
   by_touch = rw (← ew, ← h)
 
@@ -45,24 +45,24 @@ module _ (tape area : Text) (tokens : List ℕ) (l : ℕ) (fam : Text) (deep : �
 
   module _ (e : t ≡ Kills) {k : ℕ} (ek : k ≡ indent_of l) where
     pub liveness_kill : k ≤ deep → Dead ≡ line_liveness fam deep vs (bare_in tape area tokens l)
-    unfolding match_touch if◌then◌else◌
+    unfolding match_touch when◌then◌else◌
     liveness_kill b = sym (by_touch ∙ rw (e, ← ek, le-leb k deep b))
 
     pub liveness_deep : deep < k → Open ≡ line_liveness fam deep vs (bare_in tape area tokens l)
-    unfolding match_touch if◌then◌else◌
+    unfolding match_touch when◌then◌else◌
     liveness_deep b = sym (by_touch ∙ rw (e, ← ek, lt-leb k deep b))
 
 -- ---- `killed_first`
 
 module _ (fam : Text) (deep : ℕ) (vs : List Text) where
   killed_line : (l : Line) (ls : Listing) → killed_first (l ∷ ls) fam deep vs ≡ decided (line_liveness fam deep vs l) (killed_first ls fam deep vs)
-  unfolding killed_first line_liveness match_touch if◌then◌else◌
+  unfolding killed_first line_liveness match_touch when◌then◌else◌
   killed_line l ls = go (touch l fam vs) (leb l.indent deep)
     where
       next : Bool
       next = killed_first ls fam deep vs
 
-      go : (t : Touch) (b : Bool) → match_touch t next (if b then true else next) (λ n. false) ≡ decided (match_touch t Open (if b then Dead else Open) (λ n. Live)) next
+      go : (t : Touch) (b : Bool) → match_touch t next (when b then true else next) (λ n. false) ≡ decided (match_touch t Open (when b then Dead else Open) (λ n. Live)) next
       go None b = refl
       go Kill true = refl
       go Kill false = refl
@@ -100,19 +100,19 @@ rerun_part tape area tokens lines fam start vs to indent e =
 -- a line that returns, where the indent is looked at first
 module _ (tape area : Text) (tokens : List ℕ) (l base : ℕ) {k : ℕ} (ek : k ≡ indent_of l) where
   pub returns_deep : base < k → false ≡ returns_at base (bare_in tape area tokens l)
-  unfolding returns_at ◌&&◌
+  unfolding returns_at ◌and◌
   returns_deep h = rw (← ek, lt-leb k base h) (last (kw_in (tokens_of tape area (part_of tokens l)) (bytes "return")))
     where
-      last : (b : Bool) → false ≡ (b && false)
+      last : (b : Bool) → false ≡ (b and false)
       last true = refl
       last false = refl
 
   pub returns_here : {x : Bool} {ws : List ℕ} → k ≤ base → ws ≡ part_of tokens l → x ≡ kw_in (tokens_of tape area ws) (bytes "return")
       → x ≡ returns_at base (bare_in tape area tokens l)
-  unfolding returns_at ◌&&◌
+  unfolding returns_at ◌and◌
   returns_here {x} h ew e = rw (← ek, le-leb k base h, ← ew, ← e) (last x)
     where
-      last : (b : Bool) → b ≡ (b && true)
+      last : (b : Bool) → b ≡ (b and true)
       last true = refl
       last false = refl
 
@@ -127,20 +127,20 @@ module _ (fam : Text) (base : ℕ) (vs : List Text) (l : Line) {r : Liveness} (e
 
   module _ (e : r ≡ Open) {x : Bool} (ex : x ≡ returns_at base l) where
     pub scan-returns : x ≡ true → Dead ≡ scan_liveness fam base vs l
-    unfolding scan_liveness if◌then◌else◌
+    unfolding scan_liveness when◌then◌else◌
     scan-returns t = rw (← er, e, ← ex, t)
 
     pub scan_open : x ≡ false → Open ≡ scan_liveness fam base vs l
-    unfolding scan_liveness if◌then◌else◌
+    unfolding scan_liveness when◌then◌else◌
     scan_open t = rw (← er, e, ← ex, t)
 
 scan_is : (fam : Text) (base : ℕ) (vs : List Text) (l : Line) (next : Bool) → scan fam base vs l next ≡ decided (scan_liveness fam base vs l) next
-unfolding scan scan_liveness line_liveness returns_at match_touch if◌then◌else◌
-scan_is fam base vs l next = go (touch l fam vs) (leb l.indent base) (has_kw l "return" && leb l.indent base)
+unfolding scan scan_liveness line_liveness returns_at match_touch when◌then◌else◌
+scan_is fam base vs l next = go (touch l fam vs) (leb l.indent base) (has_kw l "return" and leb l.indent base)
   where
     go : (t : Touch) (b c : Bool)
-        → match_touch t (if c then true else next) (if b then true else (if c then true else next)) (λ n. false)
-        ≡ decided (or_returns (match_touch t Open (if b then Dead else Open) (λ n. Live)) c) next
+        → match_touch t (when c then true else next) (when b then true else (when c then true else next)) (λ n. false)
+        ≡ decided (or_returns (match_touch t Open (when b then Dead else Open) (λ n. Live)) c) next
     go None b true = refl
     go None b false = refl
     go Kill true c = refl
@@ -151,15 +151,15 @@ scan_is fam base vs l next = go (touch l fam vs) (leb l.indent base) (has_kw l "
 module _ (lines : Listing) (fam : Text) (base : ℕ) (labels : Labels) (start : ℕ) (vs : List Text) where
   dead_line : (w : ℕ) (l : Line) (ls : Listing)
       → dead_from lines fam base labels start vs w (l ∷ ls) ≡ decided (liveness_after lines fam base labels start vs w l) (dead_from lines fam base labels start vs (suc w) ls)
-  unfolding dead_from liveness_after if◌then◌else◌
+  unfolding dead_from liveness_after when◌then◌else◌
   dead_line w l ls = rw (scan_is fam base vs l next) (go (has_kw l "while") (while_passes lines fam start vs w l) (goto_passes lines fam start vs labels l))
     where
       next : Bool
       next = dead_from lines fam base labels start vs (suc w) ls
 
       go : (a b c : Bool)
-          → (if a then (if b then next else false) else if c then decided (scan_liveness fam base vs l) next else false)
-          ≡ decided (if a then (if b then Open else Live) else if c then scan_liveness fam base vs l else Live) next
+          → (when a then (when b then next else false) else when c then decided (scan_liveness fam base vs l) next else false)
+          ≡ decided (when a then (when b then Open else Live) else when c then scan_liveness fam base vs l else Live) next
       go true true c = refl
       go true false c = refl
       go false b true = refl
@@ -205,20 +205,20 @@ module _ (lines : List ℕ) (tape area : Text) (tokens : List ℕ) (fam : Text) 
 
   module _ (t : x ≡ true) {y : Bool} (ey : y ≡ while_passes (bare_listing tape area tokens lines) fam start vs w (bare_in tape area tokens l)) where
     pub after_while : y ≡ true → Open ≡ after
-    unfolding liveness_after if◌then◌else◌
+    unfolding liveness_after when◌then◌else◌
     after_while u = rw (← loops, t, ← ey, u)
 
     pub after-loop : y ≡ false → Live ≡ after
-    unfolding liveness_after if◌then◌else◌
+    unfolding liveness_after when◌then◌else◌
     after-loop u = rw (← loops, t, ← ey, u)
 
   module _ (t : x ≡ false) {y : Bool} (ey : y ≡ goto_passes (bare_listing tape area tokens lines) fam start vs labels (bare_in tape area tokens l)) where
     pub after_goto : y ≡ false → Live ≡ after
-    unfolding liveness_after if◌then◌else◌
+    unfolding liveness_after when◌then◌else◌
     after_goto u = rw (← loops, t, ← ey, u)
 
     pub after-scan : {r : Liveness} → y ≡ true → r ≡ scan_liveness fam base vs (bare_in tape area tokens l) → r ≡ after
-    unfolding liveness_after if◌then◌else◌
+    unfolding liveness_after when◌then◌else◌
     after-scan u e = e ∙ rw (← loops, t, ← ey, u)
 
 -- a line that lacks the family and control flow decides only by how it touches the family
@@ -228,7 +228,7 @@ module _ (lines : List ℕ) (tape area : Text) (tokens : List ℕ) (fam : Text) 
   by_facts = liveness_after (bare_listing tape area tokens lines) fam base labels start vs w (bare_in tape area tokens l)
 
   after-save-calls : is_transparent_save_calls l n ≡ true → {r : Liveness} → r ≡ line_liveness fam base vs (bare_in tape area tokens l) → r ≡ by_facts
-  unfolding liveness_after goto_passes goto_target scan_liveness returns_at if◌then◌else◌ let_some◌else◌then◌ ◌&&◌
+  unfolding liveness_after goto_passes goto_target scan_liveness returns_at when◌then◌else◌ let_some◌else◌then◌ ◌and◌
   after-save-calls st {r} e =
       let kw = save-calls_kw fam h en st in
       rw (kw (bytes "while"), save-calls_goto fam h en st, kw (bytes "return"), ← e) (last r)

@@ -7,9 +7,9 @@ use mathlib.Core.List.{List, [], ◌∷◌}
 use lib.Dec.{leb}
 use lib.ListN.{length, get_or}
 use borrow.Author.Tests.{lt-ltb, le-ltb, le-leb, lt-leb}
-use Rattle.reference.specs.Control.{not, ◌&&◌, if◌then◌else◌, let_some◌else◌then◌}
+use Rattle.reference.specs.Control.{not, ◌and◌, when◌then◌else◌, let_some◌else◌then◌}
 use Rattle.reference.specs.Lists.{any, count, is_some}
-use Rattle.reference.specs.Text.{Text, has, ◌==◌}
+use Rattle.reference.specs.Text.{Text, has, ◌≟◌}
 use Rattle.reference.specs.Listing.{Token}
 use Rattle.reference.specs.Names.{family, of_family}
 use Rattle.reference.specs.Shapes.{call_in}
@@ -56,9 +56,9 @@ module _ (tape area : Text) (ws : List ℕ) (x : Expr) (fam : Text) {r : Named} 
   unfolding kills_by let_some◌else◌then◌
   by_none e = rw (named-not h e)
 
-  module _ {g : Fam} {k m : ℕ} (e : r ≡ As g k m) {b : Bool} (eb : b ≡ (fam_text tape area g == fam)) where
+  module _ {g : Fam} {k m : ℕ} (e : r ≡ As g k m) {b : Bool} (eb : b ≡ (fam_text tape area g ≟ fam)) where
     by_name : kills_by tape area ws x fam
-        ≡ ((fam_text tape area g == fam) && leb 32 k && not (any (of_family fam) (tokens_of tape area (expr_words ws x))))
+        ≡ ((fam_text tape area g ≟ fam) and leb 32 k and not (any (of_family fam) (tokens_of tape area (expr_words ws x))))
     unfolding kills_by let_some◌else◌then◌
     by_name = rw (named_as h e)
 
@@ -75,26 +75,26 @@ module _ (tape area : Text) (ws : List ℕ) (x : Expr) (fam : Text) {r : Named} 
 
 module _ (ts : List Token) (fam : Text) (vs : List Text) {x : Bool} (ex : x ≡ kills ts fam) where
   pub touch_kill : x ≡ true → Kill ≡ touch_of ts fam vs
-  unfolding touch_of if◌then◌else◌
+  unfolding touch_of when◌then◌else◌
   touch_kill t = rw (← ex, t)
 
   module _ (fx : x ≡ false) {n : ℕ} (en : n ≡ count (of_family fam) ts) where
     pub touch_use : 0 < n → Use n ≡ touch_of ts fam vs
-    unfolding touch_of if◌then◌else◌
+    unfolding touch_of when◌then◌else◌
     touch_use h = rw (← ex, fx, ← en, lt-ltb 0 n h)
 
     module _ (zn : n ≤ 0) {c : Bool} (ec : c ≡ is_some (call_in ts)) where
       pub touch_plain : c ≡ false → None ≡ touch_of ts fam vs
-      unfolding touch_of if◌then◌else◌ ◌&&◌
+      unfolding touch_of when◌then◌else◌ ◌and◌
       touch_plain f = rw (← ex, fx, ← en, le-ltb 0 n zn, ← ec, f)
 
       module _ (tc : c ≡ true) {v : Bool} (ev : v ≡ has vs fam) where
         pub touch-call : v ≡ true → Kill ≡ touch_of ts fam vs
-        unfolding touch_of if◌then◌else◌ ◌&&◌
+        unfolding touch_of when◌then◌else◌ ◌and◌
         touch-call t = rw (← ex, fx, ← en, le-ltb 0 n zn, ← ec, tc, ← ev, t)
 
         pub touch-kept : v ≡ false → None ≡ touch_of ts fam vs
-        unfolding touch_of if◌then◌else◌ ◌&&◌
+        unfolding touch_of when◌then◌else◌ ◌and◌
         touch-kept f = rw (← ex, fx, ← en, le-ltb 0 n zn, ← ec, tc, ← ev, f)
 
 pub ruleset touching = (touch_kill, touch_use, touch_plain, touch-call, touch-kept)

@@ -1,6 +1,5 @@
 // Whether a family's value is never read again: `dead_after` of the Rust.
 ghost use Rattle.std.specs.Prelude.{◌≡◌, ◌<◌, length, get_or};
-ghost use Rattle.reference.specs.Contract.{was};
 ghost use Rattle.reference.specs.Text.{has};
 ghost use Rattle.reference.specs.Rules.{volatile};
 ghost use Rattle.reference.specs.Life.{dead_after};
@@ -27,7 +26,7 @@ fn returns_at<'a>(
     base_indent: u64,
 ) -> bool
     requires { Lined tape.now area.now tokens.now l }
-    ensures { result ≡ returns_at base_indent (bare_in (was tape) (was area) (was tokens) l) }
+    ensures { result ≡ returns_at base_indent (bare_in tape.now area.now tokens.now l) }
 {
     if base_indent < words::indent(l) {
         return false;
@@ -46,8 +45,8 @@ fn scan<'a>(
     rules: Rules,
 ) -> Liveness
     requires { Lined tape.now area.now tokens.now l × Known tape.now area.now f }
-    ensures { result ≡ scan_liveness (fam_text (was tape) (was area) f) base_indent (volatile (rules_of rules))
-        (bare_in (was tape) (was area) (was tokens) l) }
+    ensures { result ≡ scan_liveness (fam_text tape.now area.now f) base_indent (volatile (rules_of rules))
+        (bare_in tape.now area.now tokens.now l) }
 {
     match liveness_at(tape, area, tokens, l, f, base_indent, rules) {
         Liveness::Dead => Liveness::Dead,
@@ -74,10 +73,10 @@ fn liveness_after<'a>(
     requires { Listed tape.now area.now tokens.now lines.now
         × Labelled (bare_listing tape.now area.now tokens.now lines.now) labels.now × Known tape.now area.now v.family
         × (w < length lines.now) × (v.start < length lines.now) }
-    ensures { result ≡ liveness_after (bare_listing (was tape) (was area) (was tokens) (was lines))
-        (fam_text (was tape) (was area) v.family) v.indent
-        (labels_at (bare_listing (was tape) (was area) (was tokens) (was lines)) (was labels)) v.start
-        (volatile (rules_of v.rules)) w (bare_in (was tape) (was area) (was tokens) (get_or (was lines) w 0)) }
+    ensures { result ≡ liveness_after (bare_listing tape.now area.now tokens.now lines.now)
+        (fam_text tape.now area.now v.family) v.indent
+        (labels_at (bare_listing tape.now area.now tokens.now lines.now) labels.now) v.start
+        (volatile (rules_of v.rules)) w (bare_in tape.now area.now tokens.now (get_or lines.now w 0)) }
 {
     let l = lines[w];
     if shapes::has_while(tape, area, words::line_of(tokens, l)) {
@@ -109,10 +108,10 @@ fn liveness_by_facts<'a>(
         × Labelled (bare_listing tape.now area.now tokens.now lines.now) labels.now × Known tape.now area.now v.family
         × (w < length lines.now) × (v.start < length lines.now) × (n ≡ family_number (fam_text tape.now area.now v.family))
         × (overwritten ≡ has (volatile (rules_of v.rules)) (fam_text tape.now area.now v.family)) }
-    ensures { result ≡ liveness_after (bare_listing (was tape) (was area) (was tokens) (was lines))
-        (fam_text (was tape) (was area) v.family) v.indent
-        (labels_at (bare_listing (was tape) (was area) (was tokens) (was lines)) (was labels)) v.start
-        (volatile (rules_of v.rules)) w (bare_in (was tape) (was area) (was tokens) (get_or (was lines) w 0)) }
+    ensures { result ≡ liveness_after (bare_listing tape.now area.now tokens.now lines.now)
+        (fam_text tape.now area.now v.family) v.indent
+        (labels_at (bare_listing tape.now area.now tokens.now lines.now) labels.now) v.start
+        (volatile (rules_of v.rules)) w (bare_in tape.now area.now tokens.now (get_or lines.now w 0)) }
 {
     let l = lines[w];
     if is_transparent(l, n) {
@@ -143,9 +142,9 @@ pub fn dead_after<'a>(
     requires { Listed tape.now area.now tokens.now lines.now
         × Labelled (bare_listing tape.now area.now tokens.now lines.now) labels.now × Known tape.now area.now v.family
         × (from < length lines.now) × (v.start < length lines.now) }
-    ensures { result ≡ dead_after (bare_listing (was tape) (was area) (was tokens) (was lines)) from
-        (fam_text (was tape) (was area) v.family) v.indent
-        (labels_at (bare_listing (was tape) (was area) (was tokens) (was lines)) (was labels)) v.start
+    ensures { result ≡ dead_after (bare_listing tape.now area.now tokens.now lines.now) from
+        (fam_text tape.now area.now v.family) v.indent
+        (labels_at (bare_listing tape.now area.now tokens.now lines.now) labels.now) v.start
         (volatile (rules_of v.rules)) }
 {
     let n = number_of(tape, area, v.family);

@@ -1,8 +1,7 @@
 // Jumps: what a `while` and a `goto` of a line after a definition let the value's scan do.
 ghost use Rattle.std.specs.Prelude.{◌≡◌, ◌<◌, length, get_or};
-ghost use Rattle.reference.specs.Contract.{was};
 ghost use Rattle.reference.specs.Lists.{last_position};
-ghost use Rattle.reference.specs.Text.{◌==◌};
+ghost use Rattle.reference.specs.Text.{◌≟◌};
 ghost use Rattle.reference.specs.Listing.{◌at◌};
 ghost use Rattle.reference.specs.Rules.{volatile};
 ghost use Rattle.reference.specs.Life.{lookup, is_do, goto_target, while_passes, goto_passes};
@@ -26,7 +25,7 @@ use lines::{shapes, words};
 // Whether a line has this indent and the Keyword `do`.
 fn is_do<'a>(tape: &'a [u8], area: &'a [u8], tokens: &'a [u64], l: u64, indent: u64) -> bool
     requires { Lined tape.now area.now tokens.now l }
-    ensures { result ≡ is_do indent (bare_in (was tape) (was area) (was tokens) l) }
+    ensures { result ≡ is_do indent (bare_in tape.now area.now tokens.now l) }
 {
     if words::indent(l) != indent {
         return false;
@@ -43,7 +42,7 @@ fn do_before<'a>(
     indent: u64,
 ) -> Position
     requires { Listed tape.now area.now tokens.now lines.now }
-    ensures { found result ≡ last_position (is_do indent) (bare_listing (was tape) (was area) (was tokens) (was lines)) }
+    ensures { found result ≡ last_position (is_do indent) (bare_listing tape.now area.now tokens.now lines.now) }
 {
     let mut n = lines.len();
     while 0 < n {
@@ -66,9 +65,9 @@ pub fn while_passes<'a>(
 ) -> bool
     requires { Listed tape.now area.now tokens.now lines.now × Known tape.now area.now v.family
         × (w < length lines.now) × (v.start < length lines.now) }
-    ensures { result ≡ while_passes (bare_listing (was tape) (was area) (was tokens) (was lines))
-        (fam_text (was tape) (was area) v.family) v.start (volatile (rules_of v.rules)) w
-        (bare_in (was tape) (was area) (was tokens) (get_or (was lines) w 0)) }
+    ensures { result ≡ while_passes (bare_listing tape.now area.now tokens.now lines.now)
+        (fam_text tape.now area.now v.family) v.start (volatile (rules_of v.rules)) w
+        (bare_in tape.now area.now tokens.now (get_or lines.now w 0)) }
 {
     let l = lines[w];
     if touches::uses(tape, area, words::line_of(tokens, l), v.family, v.rules) {
@@ -89,7 +88,7 @@ pub fn while_passes<'a>(
 // Whether the label line l has the name that the token word w has for its text.
 fn is_named<'a>(tape: &'a [u8], area: &'a [u8], tokens: &'a [u64], l: u64, w: u64) -> bool
     requires { Lined tape.now area.now tokens.now l × Points tape.now area.now w × (0 < length (part_of tokens.now l)) }
-    ensures { result ≡ (text_of (was tape) (was area) (get_or (part_of (was tokens) l) 0 0) == text_of (was tape) (was area) w) }
+    ensures { result ≡ (text_of tape.now area.now (get_or (part_of tokens.now l) 0 0) ≟ text_of tape.now area.now w) }
 {
     let line = words::line_of(tokens, l);
     text::same(words::text(tape, area, line[0]), words::text(tape, area, w))
@@ -98,7 +97,7 @@ fn is_named<'a>(tape: &'a [u8], area: &'a [u8], tokens: &'a [u64], l: u64, w: u6
 // The line of label n.
 fn place_at(labels: &[u64], n: usize) -> usize
     requires { n < length labels.now }
-    ensures { result ≡ get_or (was labels) n 0 }
+    ensures { result ≡ get_or labels.now n 0 }
 {
     labels[n] as usize
 }
@@ -114,8 +113,8 @@ fn label_named<'a>(
 ) -> Position
     requires { Listed tape.now area.now tokens.now lines.now
         × Labelled (bare_listing tape.now area.now tokens.now lines.now) labels.now × Points tape.now area.now w }
-    ensures { found result ≡ lookup (labels_at (bare_listing (was tape) (was area) (was tokens) (was lines)) (was labels))
-        (text_of (was tape) (was area) w) }
+    ensures { found result ≡ lookup (labels_at (bare_listing tape.now area.now tokens.now lines.now) labels.now)
+        (text_of tape.now area.now w) }
 {
     let mut n = labels.len();
     while 0 < n {
@@ -129,7 +128,7 @@ fn label_named<'a>(
 }
 
 // Where a line jumps to: it has no `goto`, one to no known label, or one to the label on that line.
-#[derive(Drop)]
+#[derive(Clone, Copy)]
 pub enum Jump {
     Nothing,
     Unknown,
@@ -147,8 +146,8 @@ fn goto_target<'a>(
     requires { Listed tape.now area.now tokens.now lines.now
         × Labelled (bare_listing tape.now area.now tokens.now lines.now) labels.now
         × Lined tape.now area.now tokens.now l }
-    ensures { jump result ≡ goto_target (tokens_of (was tape) (was area) (part_of (was tokens) l))
-        (labels_at (bare_listing (was tape) (was area) (was tokens) (was lines)) (was labels)) }
+    ensures { jump result ≡ goto_target (tokens_of tape.now area.now (part_of tokens.now l))
+        (labels_at (bare_listing tape.now area.now tokens.now lines.now) labels.now) }
 {
     let line = words::line_of(tokens, l);
     let Position::At(g) = shapes::goto_at(tape, area, line) else {
@@ -176,10 +175,10 @@ pub fn goto_passes<'a>(
     requires { Listed tape.now area.now tokens.now lines.now
         × Labelled (bare_listing tape.now area.now tokens.now lines.now) labels.now × Lined tape.now area.now tokens.now l
         × Known tape.now area.now v.family × (v.start < length lines.now) }
-    ensures { result ≡ goto_passes (bare_listing (was tape) (was area) (was tokens) (was lines))
-        (fam_text (was tape) (was area) v.family) v.start (volatile (rules_of v.rules))
-        (labels_at (bare_listing (was tape) (was area) (was tokens) (was lines)) (was labels))
-        (bare_in (was tape) (was area) (was tokens) l) }
+    ensures { result ≡ goto_passes (bare_listing tape.now area.now tokens.now lines.now)
+        (fam_text tape.now area.now v.family) v.start (volatile (rules_of v.rules))
+        (labels_at (bare_listing tape.now area.now tokens.now lines.now) labels.now)
+        (bare_in tape.now area.now tokens.now l) }
 {
     match goto_target(tape, area, tokens, lines, labels, l) {
         Jump::Nothing => true,

@@ -1,6 +1,5 @@
 // The labels of a round: the places of the label lines, in their order. The names are read off the lines, which never change in a round.
 ghost use Rattle.std.specs.Prelude.{◌≡◌, ◌≤◌, length};
-ghost use Rattle.reference.specs.Contract.{was};
 ghost use Rattle.joining.specs.Places.{label_places, shift_place, shift_places};
 ghost use Rattle.lines.specs.Lines.{bare_listing, Listed};
 ghost use Rattle.life.specs.Labels.{Gathered};
@@ -16,7 +15,7 @@ pub fn gather_labels<'a>(
     labels: &mut [u64],
 ) -> usize
     requires { Listed tape.now area.now tokens.now lines.now × (length lines.now ≤ length labels.old) }
-    ensures { Gathered (label_places 0 (bare_listing (was tape) (was area) (was tokens) (was lines))) (was labels)
+    ensures { Gathered (label_places 0 (bare_listing tape.now area.now tokens.now lines.now)) labels.old
         labels.new result }
 {
     let mut n = 0;
@@ -44,7 +43,7 @@ fn shifted(place: u64, i: usize) -> u64
 
 // The places when line i is gone.
 pub fn shift_labels(labels: &mut [u64], i: usize)
-    ensures { labels.new ≡ shift_places i (was labels) }
+    ensures { labels.new ≡ shift_places i labels.old }
 {
     let mut k = 0;
     while k < labels.len() {

@@ -1,6 +1,5 @@
 // What one line decides of a family's value, and whether the lines that a jump back runs again overwrite it: `killed_first` of the Rust.
 ghost use Rattle.std.specs.Prelude.{◌≡◌, ◌≤◌, ◌<◌, length};
-ghost use Rattle.reference.specs.Contract.{was};
 ghost use Rattle.reference.specs.Rules.{volatile};
 ghost use Rattle.reference.specs.Life.{killed_first, rerun_kills};
 ghost use Rattle.lines.specs.Rules.{rules_of};
@@ -15,7 +14,7 @@ use lines::rules::Rules;
 use lines::words;
 
 // What is known of the value at a line: overwritten or never read again, read, or neither yet.
-#[derive(Drop)]
+#[derive(Clone, Copy)]
 pub enum Liveness {
     Dead,
     Live,
@@ -23,7 +22,7 @@ pub enum Liveness {
 }
 
 // A value that is followed through the lines: the family that holds it, the line that defines it and that line's indent; the settings.
-#[derive(Drop)]
+#[derive(Clone, Copy)]
 pub struct Followed {
     pub family: Fam,
     pub indent: u64,
@@ -42,8 +41,8 @@ pub fn liveness_at<'a>(
     rules: Rules,
 ) -> Liveness
     requires { Lined tape.now area.now tokens.now l × Known tape.now area.now f }
-    ensures { result ≡ line_liveness (fam_text (was tape) (was area) f) deep (volatile (rules_of rules))
-        (bare_in (was tape) (was area) (was tokens) l) }
+    ensures { result ≡ line_liveness (fam_text tape.now area.now f) deep (volatile (rules_of rules))
+        (bare_in tape.now area.now tokens.now l) }
 {
     match touches::touch(tape, area, words::line_of(tokens, l), f, rules) {
         Touched::Use(_) => Liveness::Live,
@@ -68,8 +67,8 @@ pub fn killed_first<'a>(
     rules: Rules,
 ) -> bool
     requires { Listed tape.now area.now tokens.now lines.now × Known tape.now area.now f }
-    ensures { result ≡ killed_first (bare_listing (was tape) (was area) (was tokens) (was lines))
-        (fam_text (was tape) (was area) f) deep (volatile (rules_of rules)) }
+    ensures { result ≡ killed_first (bare_listing tape.now area.now tokens.now lines.now)
+        (fam_text tape.now area.now f) deep (volatile (rules_of rules)) }
 {
     let mut k = 0;
     while k < lines.len() {
@@ -100,8 +99,8 @@ pub fn rerun_kills<'a>(
 ) -> bool
     requires { Listed tape.now area.now tokens.now lines.now × Known tape.now area.now v.family × (to ≤ v.start)
         × (v.start < length lines.now) × (indent < 64) }
-    ensures { result ≡ rerun_kills (bare_listing (was tape) (was area) (was tokens) (was lines))
-        (fam_text (was tape) (was area) v.family) v.start (volatile (rules_of v.rules)) to indent }
+    ensures { result ≡ rerun_kills (bare_listing tape.now area.now tokens.now lines.now)
+        (fam_text tape.now area.now v.family) v.start (volatile (rules_of v.rules)) to indent }
 {
     let from = to + 1;
     let end = v.start + 1;

@@ -1,6 +1,5 @@
 // How a line touches a family: `touch` of the Rust.
 ghost use Rattle.std.specs.Prelude.{◌≡◌};
-ghost use Rattle.reference.specs.Contract.{was};
 ghost use Rattle.reference.specs.Rules.{volatile};
 ghost use Rattle.reference.specs.Life.{kills, touch_of, is_use, is_kill};
 ghost use Rattle.lines.specs.Rules.{rules_of};
@@ -15,7 +14,7 @@ use lines::shapes::{Assigned, Expr};
 use lines::{fams, shapes};
 
 // An overwriting of 32 bits or more that does not read the family, or by a call; or so many tokens of the family.
-#[derive(Drop)]
+#[derive(Clone, Copy)]
 pub enum Touched {
     Nothing,
     Kill,
@@ -25,7 +24,7 @@ pub enum Touched {
 // Whether a line that assigns the right side x to its first token overwrites the family.
 fn overwrites_by<'a>(tape: &'a [u8], area: &'a [u8], line: &'a [u64], x: Expr, f: Fam) -> bool
     requires { Holds tape.now area.now line.now × Expression line.now x × Known tape.now area.now f }
-    ensures { result ≡ kills_by (was tape) (was area) (was line) x (fam_text (was tape) (was area) f) }
+    ensures { result ≡ kills_by tape.now area.now line.now x (fam_text tape.now area.now f) }
 {
     let Named::As(g, width, _) = fams::name_of(tape, area, line[0]) else {
         return false;
@@ -42,7 +41,7 @@ fn overwrites_by<'a>(tape: &'a [u8], area: &'a [u8], line: &'a [u64], x: Expr, f
 // Whether a line is an assignment to the family, at width 32 or more, whose right side lacks it.
 fn is_overwriting<'a>(tape: &'a [u8], area: &'a [u8], line: &'a [u64], f: Fam) -> bool
     requires { Holds tape.now area.now line.now × Known tape.now area.now f }
-    ensures { result ≡ kills (tokens_of (was tape) (was area) (was line)) (fam_text (was tape) (was area) f) }
+    ensures { result ≡ kills (tokens_of tape.now area.now line.now) (fam_text tape.now area.now f) }
 {
     let Assigned::To(x) = shapes::assignment(tape, area, line) else {
         return false;
@@ -53,7 +52,7 @@ fn is_overwriting<'a>(tape: &'a [u8], area: &'a [u8], line: &'a [u64], f: Fam) -
 // Whether a line overwrites the family whole (`is_overwriting`): the first token tells most lines apart.
 fn overwrites<'a>(tape: &'a [u8], area: &'a [u8], line: &'a [u64], f: Fam) -> bool
     requires { Holds tape.now area.now line.now × Known tape.now area.now f }
-    ensures { result ≡ kills (tokens_of (was tape) (was area) (was line)) (fam_text (was tape) (was area) f) }
+    ensures { result ≡ kills (tokens_of tape.now area.now line.now) (fam_text tape.now area.now f) }
 {
     if line.len() == 0 {
         return false;
@@ -66,8 +65,8 @@ fn overwrites<'a>(tape: &'a [u8], area: &'a [u8], line: &'a [u64], f: Fam) -> bo
 
 pub fn touch<'a>(tape: &'a [u8], area: &'a [u8], line: &'a [u64], f: Fam, rules: Rules) -> Touched
     requires { Holds tape.now area.now line.now × Known tape.now area.now f }
-    ensures { touched result ≡ touch_of (tokens_of (was tape) (was area) (was line))
-        (fam_text (was tape) (was area) f) (volatile (rules_of rules)) }
+    ensures { touched result ≡ touch_of (tokens_of tape.now area.now line.now)
+        (fam_text tape.now area.now f) (volatile (rules_of rules)) }
 {
     if overwrites(tape, area, line, f) {
         return Touched::Kill;
@@ -87,8 +86,8 @@ pub fn touch<'a>(tape: &'a [u8], area: &'a [u8], line: &'a [u64], f: Fam, rules:
 
 pub fn uses<'a>(tape: &'a [u8], area: &'a [u8], line: &'a [u64], f: Fam, rules: Rules) -> bool
     requires { Holds tape.now area.now line.now × Known tape.now area.now f }
-    ensures { result ≡ is_use (touch_of (tokens_of (was tape) (was area) (was line))
-        (fam_text (was tape) (was area) f) (volatile (rules_of rules))) }
+    ensures { result ≡ is_use (touch_of (tokens_of tape.now area.now line.now)
+        (fam_text tape.now area.now f) (volatile (rules_of rules))) }
 {
     match touch(tape, area, line, f, rules) {
         Touched::Use(_) => true,
@@ -99,8 +98,8 @@ pub fn uses<'a>(tape: &'a [u8], area: &'a [u8], line: &'a [u64], f: Fam, rules: 
 
 pub fn kills<'a>(tape: &'a [u8], area: &'a [u8], line: &'a [u64], f: Fam, rules: Rules) -> bool
     requires { Holds tape.now area.now line.now × Known tape.now area.now f }
-    ensures { result ≡ is_kill (touch_of (tokens_of (was tape) (was area) (was line))
-        (fam_text (was tape) (was area) f) (volatile (rules_of rules))) }
+    ensures { result ≡ is_kill (touch_of (tokens_of tape.now area.now line.now)
+        (fam_text tape.now area.now f) (volatile (rules_of rules))) }
 {
     match touch(tape, area, line, f, rules) {
         Touched::Use(_) => false,

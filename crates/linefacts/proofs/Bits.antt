@@ -8,7 +8,7 @@ use lib.Bits.{bit_or, bit_xor, differ, or_shr, or_step, xor_shr, xor_step}
 use lib.Dec.{eqb}
 use lib.Pow.{pow_pos, shl_exact, field, mod-mod-pow}
 use borrow.Author.Tests.{eqb-true}
-use Rattle.reference.specs.Control.{◌&&◌}
+use Rattle.reference.specs.Control.{◌and◌}
 use Rattle.names.proofs.Searches.{all-below, below_at}
 use Rattle.lines.specs.Facts.{bit}
 
@@ -54,7 +54,7 @@ set_below m k i e h = eqb-true (bit m i) 1 (below_at k (λ i. eqb (bit m i) 1) i
 
 -- the 18 bits of the facts
 all_set : all-below 18 (λ i. eqb (bit 262143 i) 1) ≡ true
-unfolding all-below bit ◌&&◌
+unfolding all-below bit ◌and◌
 all_set = refl
 
 pub turn_bit : (m i : ℕ) → i < 18 → bit (bit_xor m 262143) i ≡ 1 → bit m i ≡ 0

@@ -7,9 +7,9 @@ use mathlib.Core.Bool.{Bool, true, false}
 use mathlib.Core.List.{List, [], ◌∷◌}
 use mathlib.Core.Option.{none}
 use borrow.Author.Tests.{eqb-true, eq-eqb}
-use Rattle.reference.specs.Control.{◌&&◌, ◌||◌, if◌then◌else◌, let_some◌else◌then◌}
+use Rattle.reference.specs.Control.{◌and◌, ◌or◌, when◌then◌else◌, let_some◌else◌then◌}
 use Rattle.reference.specs.Lists.{any, count, position, pairs_from, is_some}
-use Rattle.reference.specs.Text.{Text, bytes, has, ◌==◌}
+use Rattle.reference.specs.Text.{Text, bytes, has, ◌≟◌}
 use Rattle.reference.specs.Listing.{Token, is, Keyword, Symbol}
 use Rattle.reference.specs.Names.{family, fam_of, of_family}
 use Rattle.reference.specs.Shapes.{Assignment, label_tokens, is_kw, kw_in, has_brace, braces_in, calls_here, call_in, assignment_of}
@@ -28,7 +28,7 @@ use Rattle.linefacts.proofs.Tokens.{control_fact, number_fact}
 -- ---- tests of tokens that imply others
 
 pub any-less : {A : Type 0} (p q : A → Bool) → ((a : A) → p a ≡ true → q a ≡ true) → (l : List A) → any q l ≡ false → any p l ≡ false
-unfolding ◌||◌
+unfolding ◌or◌
 any-less p q f [] e = refl
 any-less p q f (a ∷ l) e =
     let n = neither e in
@@ -36,22 +36,22 @@ any-less p q f (a ∷ l) e =
     rw z (any-less p q f l n.1)
 
 keyword_control : (t : Token) → is Keyword t ≡ true → is_control t ≡ true
-unfolding is_control ◌||◌
+unfolding is_control ◌or◌
 keyword_control t e = rw e
 
 brace_control : (t : Token) → has_brace t ≡ true → is_control t ≡ true
-unfolding is_control ◌||◌
+unfolding is_control ◌or◌
 brace_control t e = step (is Keyword t)
   where
-    step : (b : Bool) → (b || has_brace t || (t.text == bytes ":")) ≡ true
+    step : (b : Bool) → (b or has_brace t or (t.text ≟ bytes ":")) ≡ true
     step true = refl
     step false = rw e
 
-colon_control : (t : Token) → (t.text == bytes ":") ≡ true → is_control t ≡ true
-unfolding is_control ◌||◌
+colon_control : (t : Token) → (t.text ≟ bytes ":") ≡ true → is_control t ≡ true
+unfolding is_control ◌or◌
 colon_control t e = step (is Keyword t) (has_brace t)
   where
-    step : (b c : Bool) → (b || c || (t.text == bytes ":")) ≡ true
+    step : (b c : Bool) → (b or c or (t.text ≟ bytes ":")) ≡ true
     step true c = refl
     step false true = refl
     step false false = e
@@ -63,11 +63,11 @@ kw_control kw t e = keyword_control t (both e).0
 of_number_too : (fam : Text) (t : Token) → of_family fam t ≡ true → of_number (family_number fam) t ≡ true
 unfolding of_family of_number let_some◌else◌then◌
 of_number_too fam t e =
-    let s = some-true {o = fam_of t} {p = λ f. f.name == fam} e in
+    let s = some-true {o = fam_of t} {p = λ f. f.name ≟ fam} e in
     rw s.1 (eq-eqb (family_number s.0.name) (family_number fam) (ap family_number (same_true s.0.name fam s.2)))
 
 any-position : {A : Type 0} (p : A → Bool) (l : List A) → any p l ≡ false → position p l ≡ none
-unfolding if◌then◌else◌ let_some◌else◌then◌
+unfolding when◌then◌else◌ let_some◌else◌then◌
 any-position p [] e = refl
 any-position p (a ∷ l) e = rw ((neither e).0, any-position p l (neither e).1)
 
@@ -90,7 +90,7 @@ plain_label (a ∷ b ∷ c ∷ rest) h = refl
 
 -- with no Symbol either there is no call
 pairs-call : (t : Token) (ts : List Token) → any is_control (t ∷ ts) ≡ false → any (is Symbol) (t ∷ ts) ≡ false → position calls_here (pairs_from t ts) ≡ none
-unfolding calls_here if◌then◌else◌ let_some◌else◌then◌
+unfolding calls_here when◌then◌else◌ let_some◌else◌then◌
 pairs-call t [] h s = refl
 pairs-call t (u ∷ ts) h s =
     let z : calls_here (t, u) ≡ false = fails (λ e. either ⊥ e (λ a. true-false (both a).0 (neither s).0) (λ a. true-false (keyword_control t (both a).0) (neither h).0)) in
@@ -104,8 +104,8 @@ plain-call (t ∷ ts) h s = rw (pairs-call t ts h s)
 -- ---- tokens without the family
 
 first_is : {ts : List Token} {a : Assignment} {t : Token} (fam : Text) → Assigning (t ∷ ts) a
-    → (let_some (family a.lhs.text) else false then λ f. f.name == fam) ≡ true → of_family fam t ≡ true
-unfolding of_family fam_of if◌then◌else◌
+    → (let_some (family a.lhs.text) else false then λ f. f.name ≟ fam) ≡ true → of_family fam t ≡ true
+unfolding of_family fam_of when◌then◌else◌
 first_is fam (assigning r p s c) e = rw r e
 
 -- a line whose first token is of another family does not overwrite the family
@@ -125,12 +125,12 @@ lacks-kills [] fam e = kills-empty fam
 lacks-kills (t ∷ ts) fam e = kills-other t ts fam (neither e).0
 
 count_none : (fam : Text) (ts : List Token) → any (of_family fam) ts ≡ false → count (of_family fam) ts ≡ 0
-unfolding if◌then◌else◌
+unfolding when◌then◌else◌
 count_none fam [] e = refl
 count_none fam (t ∷ ts) e = rw (neither e).0 (count_none fam ts (neither e).1)
 
-lacks-touch : (ts : List Token) (fam : Text) (vs : List Text) → any (of_family fam) ts ≡ false → touch_of ts fam vs ≡ (if is_some (call_in ts) && has vs fam then Kill else None)
-unfolding touch_of if◌then◌else◌
+lacks-touch : (ts : List Token) (fam : Text) (vs : List Text) → any (of_family fam) ts ≡ false → touch_of ts fam vs ≡ (when is_some (call_in ts) and has vs fam then Kill else None)
+unfolding touch_of when◌then◌else◌
 lacks-touch ts fam vs f = rw (lacks-kills ts fam f, count_none fam ts f)
 
 -- ---- what the facts of a line say
@@ -179,7 +179,7 @@ module _ {tape area : Text} {tokens : List ℕ} {l n : ℕ} (fam : Text) (h : Li
     transparent_call = h.facts.no_call (noted-bit l 16 (both {a = is_transparent_save_calls l n} (sym ex ∙ t)).1)
 
     pub transparent_touch : (vs : List Text) → touch_of ts fam vs ≡ None
-    unfolding if◌then◌else◌ ◌&&◌
+    unfolding when◌then◌else◌ ◌and◌
     transparent_touch vs = lacks-touch ts fam vs (save-calls-family transparent_save_calls) ∙ rw transparent_call
 
   -- a calling line: x is the answer of `is_calling`
@@ -192,18 +192,18 @@ module _ {tape area : Text} {tokens : List ℕ} {l n : ℕ} (fam : Text) (h : Li
     unfolding is_calling
     calling-call = h.facts.calling (noted-bit l 17 (both {a = is_transparent_save_calls l n} (sym ex ∙ t)).1)
 
-    calling-touch : (vs : List Text) → touch_of ts fam vs ≡ (if has vs fam then Kill else None)
-    unfolding ◌&&◌
+    calling-touch : (vs : List Text) → touch_of ts fam vs ≡ (when has vs fam then Kill else None)
+    unfolding ◌and◌
     calling-touch vs = lacks-touch ts fam vs (save-calls-family calling-save-calls) ∙ rw calling-call
 
     -- v is whether calls overwrite the family
     module _ (vs : List Text) {v : Bool} (ev : v ≡ has vs fam) where
       pub calling-kills : v ≡ true → touch_of ts fam vs ≡ Kill
-      unfolding if◌then◌else◌
+      unfolding when◌then◌else◌
       calling-kills e = calling-touch vs ∙ rw (← ev, e)
 
       pub calling_keeps : v ≡ false → touch_of ts fam vs ≡ None
-      unfolding if◌then◌else◌
+      unfolding when◌then◌else◌
       calling_keeps e = calling-touch vs ∙ rw (← ev, e)
 
 -- the number of a family is that of a fact

@@ -9,7 +9,6 @@ use mathlib.Core.List.{List}
 use lib.Bits.{bit_or, bit_xor, or_lt, xor_lt}
 use lib.ListN.{length, drop, get_or, set, length-set}
 use lib.Seq.{get_or-set_same, get_or-set_other}
-use Rattle.reference.specs.Control.{if◌then◌else◌}
 use Rattle.reference.specs.Lists.{any, is_some}
 use Rattle.reference.specs.Text.{Text}
 use Rattle.reference.specs.Listing.{Token, is, Symbol}

@@ -9,8 +9,8 @@ use mathlib.Core.Option.{none}
 use lib.Dec.{eqb}
 use lib.Pow.{pow-lt}
 use borrow.Author.Tests.{eq-eqb, ne_eqb}
-use Rattle.reference.specs.Control.{◌&&◌, ◌||◌, if◌then◌else◌, let_some◌else◌then◌}
-use Rattle.reference.specs.Text.{Text, bytes, strip_prefix, ◌==◌}
+use Rattle.reference.specs.Control.{◌and◌, ◌or◌, when◌then◌else◌, let_some◌else◌then◌}
+use Rattle.reference.specs.Text.{Text, bytes, strip_prefix, ◌≟◌}
 use Rattle.reference.specs.Listing.{Token, is, Symbol}
 use Rattle.reference.specs.Names.{legacy, stack_slot, numbered, high_byte, family, fam_of}
 use Rattle.reference.specs.Shapes.{has_brace}
@@ -28,19 +28,19 @@ use Rattle.linefacts.proofs.Bits.{power_bit, set_below, one_shifted}
 -- ---- what a bit is about
 
 pub control_fact : (t : Token) (i : ℕ) → i ≡ 15 → concerns i t ≡ is_control t
-unfolding concerns if◌then◌else◌
+unfolding concerns when◌then◌else◌
 control_fact t i e = rw (eq-eqb i 15 e)
 
 pub number_fact : (t : Token) (i : ℕ) → (i ≡ 15 → ⊥) → concerns i t ≡ of_number i t
-unfolding concerns if◌then◌else◌
+unfolding concerns when◌then◌else◌
 number_fact t i n = rw (ne_eqb i 15 n)
 
 pub symbol_seen : (t : Token) (i : ℕ) → i ≡ 16 → seen_by i t ≡ is Symbol t
-unfolding seen_by if◌then◌else◌
+unfolding seen_by when◌then◌else◌
 symbol_seen t i e = rw (eq-eqb i 16 e)
 
 pub fact_seen : (t : Token) (i : ℕ) → (i ≡ 16 → ⊥) → seen_by i t ≡ concerns i t
-unfolding seen_by if◌then◌else◌
+unfolding seen_by when◌then◌else◌
 fact_seen t i n = rw (ne_eqb i 16 n)
 
 by_bit : (t : Token) (i : ℕ) → (i ≡ 16 → is Symbol t ≡ false) → (i ≡ 15 → is_control t ≡ false) → of_number i t ≡ false → seen_by i t ≡ false
@@ -52,23 +52,23 @@ by_bit t i f g h = by_cases (ℕ_discrete i 16)
 
 module _ (t : Token) {x : ℕ} (e : x ≡ t.kind) where
   pub control_keyword : x ≡ 3 → true ≡ is_control t
-  unfolding is_control ◌||◌
+  unfolding is_control ◌or◌
   control_keyword h = rw (← is_it t 3 e h)
 
   module _ (n : x ≡ 3 → ⊥) {y : Bool} (ey : y ≡ has_brace t) where
     pub control_brace : y ≡ true → true ≡ is_control t
-    unfolding is_control ◌||◌
+    unfolding is_control ◌or◌
     control_brace h = rw (← is_not t 3 e n, ← ey, h)
 
-    pub control_colon : {s : Text} {z : Bool} → y ≡ false → s ≡ t.text → z ≡ (s == bytes ":") → z ≡ is_control t
-    unfolding is_control ◌||◌
+    pub control_colon : {s : Text} {z : Bool} → y ≡ false → s ≡ t.text → z ≡ (s ≟ bytes ":") → z ≡ is_control t
+    unfolding is_control ◌or◌
     control_colon f es ez = ez ∙ rw (← is_not t 3 e n, ← ey, f, es)
 
 -- ---- a token that is no Register: x is the kind that was read, y whether it is of control flow
 
 module _ (t : Token) {x : ℕ} (e : x ≡ t.kind) (n : x ≡ 1 → ⊥) {y : Bool} (ey : y ≡ is_control t) where
   other_number : (i : ℕ) → of_number i t ≡ false
-  unfolding of_number fam_of if◌then◌else◌ let_some◌else◌then◌
+  unfolding of_number fam_of when◌then◌else◌ let_some◌else◌then◌
   other_number i = rw (← is_not t 1 e n)
 
   pub control_bits : y ≡ true → Bits 98304 (λ i. seen_by i t)
@@ -94,12 +94,12 @@ module _ (t : Token) {x : ℕ} (e : x ≡ t.kind) (n : x ≡ 1 → ⊥) {y : Boo
 -- ---- a Register
 
 all_set : all-below 16 (λ i. eqb (bit 65535 i) 1) ≡ true
-unfolding all-below bit ◌&&◌
+unfolding all-below bit ◌and◌
 all_set = refl
 
 -- a `:` has no family
 colon_none : family (bytes ":") ≡ none
-unfolding family legacy high_byte numbered stack_slot strip_prefix if◌then◌else◌ let_some◌else◌then◌ ◌&&◌ ◌||◌
+unfolding family legacy high_byte numbered stack_slot strip_prefix when◌then◌else◌ let_some◌else◌then◌ ◌and◌ ◌or◌
 colon_none = refl
 
 module _ {tape area : Text} {w : ℕ} (p : Points tape area w) (k : kind_of w ≡ 1) where
@@ -128,15 +128,15 @@ module _ {tape area : Text} {w : ℕ} (p : Points tape area w) (k : kind_of w �
     pub has_number : 4 ≤ c
     has_number = rw ec s.least
 
-    no_colon : (text_of tape area w == bytes ":") ≡ false
+    no_colon : (text_of tape area w ≟ bytes ":") ≡ false
     no_colon = fails (λ e. none-some (sym colon_none ∙ ap family (sym (same_true (text_of tape area w) (bytes ":") e)) ∙ s.family_is))
 
     named-save-calls : is_control t ≡ false
-    unfolding is_control has_brace ◌||◌ ◌&&◌
+    unfolding is_control has_brace ◌or◌ ◌and◌
     named-save-calls = rw (← is_not t 3 refl (λ z. omega arith), ← is_not t 6 refl (λ z. omega arith), no_colon)
 
     pub one_family : {x : ℕ} → x ≡ (1 * 2 ^ (c / 4 - 1)) % 2 ^ 64 → Bits x (λ i. seen_by i t)
-    unfolding of_number fam_of if◌then◌else◌ let_some◌else◌then◌
+    unfolding of_number fam_of when◌then◌else◌ let_some◌else◌then◌
     one_family ex = rw (ex ∙ one_shifted (c / 4 - 1) number_small) (record {
       small = let h : 2 ^ (c / 4 - 1) < 2 ^ 15 = pow-lt number_small in omega arith;
       fails = λ i b z. by_bit t i (λ q. no_symbol) (λ q. named-save-calls)

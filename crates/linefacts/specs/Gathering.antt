@@ -1,6 +1,6 @@
 -- Bits of what there is, and lines with facts. Assumes nothing.
 use Rattle.std.specs.Prelude.{ℕ, ◌<◌, ◌≡◌, Bool, true, false, List, eqb, length, get_or}
-use Rattle.reference.specs.Control.{if◌then◌else◌}
+use Rattle.reference.specs.Control.{when◌then◌else◌}
 use Rattle.reference.specs.Text.{Text}
 use Rattle.reference.specs.Listing.{Token, is, Symbol}
 use Rattle.lines.specs.Lines.{Reading, line_read, first_of, count_of, Lined}
@@ -8,7 +8,7 @@ use Rattle.lines.specs.Facts.{bit, concerns}
 
 -- what bit i of a token is about: what the fact i is, and at 16 the Symbols
 unfoldable pub seen_by : ℕ → Token → Bool
-seen_by i t = if eqb i 16 then is Symbol t else concerns i t
+seen_by i t = when eqb i 16 then is Symbol t else concerns i t
 
 -- a bit of m that is not set tells that the test by its number fails
 pub record Bits (m : ℕ) (test : ℕ → Bool) : Type 0 where

@@ -1,6 +1,5 @@
 // The facts of lines, made from their tokens once, before the rounds.
 ghost use Rattle.std.specs.Prelude.{◌≡◌, ℕ, ◌<◌};
-ghost use Rattle.reference.specs.Contract.{was};
 ghost use Rattle.reference.specs.Lists.{any, is_some};
 ghost use Rattle.reference.specs.Shapes.{call_in};
 ghost use Rattle.lines.specs.Words.{kind_of, token_of, tokens_of, Points, Holds};
@@ -25,7 +24,7 @@ const NO_CALL: u64 = 131072;
 // Whether a token may make its line a jump, a label, the edge of a block or a call of an address.
 fn is_control<'a>(tape: &'a [u8], area: &'a [u8], w: u64) -> bool
     requires { Points tape.now area.now w }
-    ensures { result ≡ is_control (token_of (was tape) (was area) w) }
+    ensures { result ≡ is_control (token_of tape.now area.now w) }
 {
     if words::kind(w) == words::KEYWORD {
         return true;
@@ -39,7 +38,7 @@ fn is_control<'a>(tape: &'a [u8], area: &'a [u8], w: u64) -> bool
 // The bit of a Register's family, as its code says; one without a code may be anything.
 fn family_bits<'a>(tape: &'a [u8], area: &'a [u8], w: u64) -> u64
     requires { Points tape.now area.now w × (kind_of w ≡ 1) }
-    ensures { Bits result (λ (i : ℕ). seen_by i (token_of (was tape) (was area) w)) }
+    ensures { Bits result (λ (i : ℕ). seen_by i (token_of tape.now area.now w)) }
 {
     let c = words::code(w);
     if c == 0 {
@@ -51,7 +50,7 @@ fn family_bits<'a>(tape: &'a [u8], area: &'a [u8], w: u64) -> u64
 // The bits of what a token is.
 fn token_bits<'a>(tape: &'a [u8], area: &'a [u8], w: u64) -> u64
     requires { Points tape.now area.now w }
-    ensures { Bits result (λ (i : ℕ). seen_by i (token_of (was tape) (was area) w)) }
+    ensures { Bits result (λ (i : ℕ). seen_by i (token_of tape.now area.now w)) }
 {
     let kind = words::kind(w);
     if kind == words::REGISTER {
@@ -69,7 +68,7 @@ fn token_bits<'a>(tape: &'a [u8], area: &'a [u8], w: u64) -> u64
 // The bits of what a line has.
 fn bits_of<'a>(tape: &'a [u8], area: &'a [u8], line: &'a [u64]) -> u64
     requires { Holds tape.now area.now line.now }
-    ensures { Bits result (λ (i : ℕ). any (seen_by i) (tokens_of (was tape) (was area) (was line))) }
+    ensures { Bits result (λ (i : ℕ). any (seen_by i) (tokens_of tape.now area.now line.now)) }
 {
     let mut has = 0u64;
     let mut k = 0;
@@ -84,7 +83,7 @@ fn bits_of<'a>(tape: &'a [u8], area: &'a [u8], line: &'a [u64]) -> u64
 fn call_bits<'a>(tape: &'a [u8], area: &'a [u8], line: &'a [u64], has: u64) -> u64
     requires { Holds tape.now area.now line.now
         × Bits has (λ (i : ℕ). any (seen_by i) (tokens_of tape.now area.now line.now)) }
-    ensures { CallBits result (is_some (call_in (tokens_of (was tape) (was area) (was line)))) }
+    ensures { CallBits result (is_some (call_in (tokens_of tape.now area.now line.now))) }
 {
     if CONTROL <= has % 65536 {
         return CALLS + NO_CALL;
@@ -101,7 +100,7 @@ fn call_bits<'a>(tape: &'a [u8], area: &'a [u8], line: &'a [u64], has: u64) -> u
 // The facts of a line: the bits of what it has and of whether it calls, turned over, so that a bit that is set says what is not.
 fn facts_of<'a>(tape: &'a [u8], area: &'a [u8], line: &'a [u64]) -> u64
     requires { Holds tape.now area.now line.now }
-    ensures { (result < 4194304) × Tells 1 result (tokens_of (was tape) (was area) (was line)) }
+    ensures { (result < 4194304) × Tells 1 result (tokens_of tape.now area.now line.now) }
 {
     let has = bits_of(tape, area, line);
     (has % 65536 | call_bits(tape, area, line, has)) ^ 262143
@@ -110,7 +109,7 @@ fn facts_of<'a>(tape: &'a [u8], area: &'a [u8], line: &'a [u64]) -> u64
 // The line with its facts.
 fn with_its_facts<'a>(tape: &'a [u8], area: &'a [u8], tokens: &'a [u64], l: u64) -> u64
     requires { Lined tape.now area.now tokens.now l }
-    ensures { Noted (was tape) (was area) (was tokens) l result }
+    ensures { Noted tape.now area.now tokens.now l result }
 {
     words::with_facts(l, facts_of(tape, area, words::line_of(tokens, l)))
 }
@@ -118,7 +117,7 @@ fn with_its_facts<'a>(tape: &'a [u8], area: &'a [u8], tokens: &'a [u64], l: u64)
 // Notes the facts of each line in its word.
 pub fn gather_facts<'a>(tape: &'a [u8], area: &'a [u8], tokens: &'a [u64], lines: &mut [u64])
     requires { Listed tape.now area.now tokens.now lines.old }
-    ensures { AllNoted (was tape) (was area) (was tokens) (was lines) lines.new }
+    ensures { AllNoted tape.now area.now tokens.now lines.old lines.new }
 {
     let mut k = 0;
     while k < lines.len() {

@@ -3,6 +3,8 @@
 //
 // Bits 0 to 14 are the families by their numbers. Bit 15 is control flow: all that can make a line a jump, a label, the edge of a block or
 // a call of an address. Bit 16 tells that the line has no call mark, bit 17 that it has one. A bit that is not set says nothing.
+#![tactic(auto)]
+
 mod gathering; // the facts of lines, made from their tokens
 mod transparent; // lines without the family, control flow and calls, and calling lines, by their facts
 

@@ -1,6 +1,5 @@
 // Transparent and calling lines: their facts say that they lack a family and control flow, and whether they call.
 ghost use Rattle.std.specs.Prelude.{◌≡◌, false, ◌<◌};
-ghost use Rattle.reference.specs.Contract.{was};
 ghost use Rattle.names.specs.Families.{is_row};
 ghost use Rattle.lines.specs.Codes.{family_number};
 ghost use Rattle.lines.specs.Words.{text_of, Points};
@@ -60,7 +59,7 @@ pub fn is_calling(l: u64, n: u64) -> bool
 
 fn name_number<'a>(tape: &'a [u8], area: &'a [u8], w: u64) -> u64
     requires { Points tape.now area.now w × (is_row (text_of tape.now area.now w) ≡ false) }
-    ensures { result ≡ family_number (text_of (was tape) (was area) w) }
+    ensures { result ≡ family_number (text_of tape.now area.now w) }
 {
     let c = words::code(w);
     if 36 <= c {
@@ -74,7 +73,7 @@ fn name_number<'a>(tape: &'a [u8], area: &'a [u8], w: u64) -> u64
 // The number of a family: its row, or 8 and the bucket of its name.
 pub fn number_of<'a>(tape: &'a [u8], area: &'a [u8], f: Fam) -> u64
     requires { Known tape.now area.now f }
-    ensures { result ≡ family_number (fam_text (was tape) (was area) f) }
+    ensures { result ≡ family_number (fam_text tape.now area.now f) }
 {
     if f < 8 {
         return f;

@@ -2,9 +2,9 @@
 -- nothing.
 -- Assumes nothing.
 use Rattle.std.specs.Prelude.{ℕ, ◌/◌, ◌%◌, ◌^◌, ◌<◌, ◌≡◌, Bool, true, false, List, eqb}
-use Rattle.reference.specs.Control.{◌||◌, if◌then◌else◌, let_some◌else◌then◌}
+use Rattle.reference.specs.Control.{◌or◌, when◌then◌else◌, let_some◌else◌then◌}
 use Rattle.reference.specs.Lists.{any, is_some}
-use Rattle.reference.specs.Text.{bytes, ◌==◌}
+use Rattle.reference.specs.Text.{bytes, ◌≟◌}
 use Rattle.reference.specs.Listing.{Token, is, Keyword}
 use Rattle.reference.specs.Names.{fam_of}
 use Rattle.reference.specs.Shapes.{has_brace, call_in}
@@ -20,11 +20,11 @@ of_number i t = let_some (fam_of t) else false then λ f. eqb (family_number f.n
 
 -- whether a token may make its line a jump, a label, the edge of a block or a call of an address: a Keyword, a brace, a `:`
 unfoldable pub is_control : Token → Bool
-is_control t = is Keyword t || has_brace t || (t.text == bytes ":")
+is_control t = is Keyword t or has_brace t or (t.text ≟ bytes ":")
 
 -- what fact i is about, below 16: the families of that number, and at 15 the tokens of control flow
 unfoldable pub concerns : ℕ → Token → Bool
-concerns i t = if eqb i 15 then is_control t else of_number i t
+concerns i t = when eqb i 15 then is_control t else of_number i t
 
 -- what a bit of m with the value v tells of the tokens: below 16 that they lack what its fact is about, at 16 that they have no call
 -- mark (document 01's term), at 17 that they have one

@@ -1,7 +1,7 @@
 -- What the code's families mean. Assumes nothing.
 use Rattle.std.specs.Prelude.{ℕ, ◌≤◌, ◌≡◌, false, ltb}
 use Rattle.std.proofs.Math.Option.{Option, none, some}
-use Rattle.reference.specs.Control.{if◌then◌else◌}
+use Rattle.reference.specs.Control.{when◌then◌else◌}
 use Rattle.reference.specs.Text.{Text}
 use Rattle.reference.specs.Names as N
 use Rattle.names.specs.Families.{row_name, is_row}
@@ -16,7 +16,7 @@ Fam = ℕ
 
 -- the family's name
 unfoldable pub fam_text : Text → Text → Fam → Text
-fam_text tape area f = if ltb f 8 then row_name f else text_of tape area f
+fam_text tape area f = when ltb f 8 then row_name f else text_of tape area f
 
 -- a row of the table of names, or a name in the tape or the area that is no row's
 pub record Known (tape area : Text) (f : Fam) : Type 0 where
@@ -24,7 +24,7 @@ pub record Known (tape area : Text) (f : Fam) : Type 0 where
   pub no_row : 8 ≤ f → is_row (text_of tape area f) ≡ false
 
 unfoldable pub fam_number : Text → Text → Fam → ℕ
-fam_number tape area f = if ltb f 8 then f else number_of (text_of tape area f)
+fam_number tape area f = when ltb f 8 then f else number_of (text_of tape area f)
 
 abbrev pub named : Text → Text → Named → Option N.Fam
 named tape area (As f k l) = some (record { name = fam_text tape area f; width = k; lowest = l })

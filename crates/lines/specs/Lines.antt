@@ -1,8 +1,8 @@
 -- What a line word means, and the listing of line words. A line's tokens are any part of the token words: what stands between the parts is
 -- never looked at. Assumes nothing.
-use Rattle.std.specs.Prelude.{ℕ, ◌+◌, ◌*◌, ◌/◌, ◌%◌, ◌≤◌, ◌<◌, ◌≡◌, List, map, eqb, length, take, drop, get_or}
+use Rattle.std.specs.Prelude.{ℕ, ◌+◌, ◌*◌, ◌/◌, ◌%◌, ◌≤◌, ◌<◌, List, map, eqb, length, take, drop, get_or}
 use Rattle.std.proofs.Math.Option.{Option, none, some}
-use Rattle.reference.specs.Control.{if◌then◌else◌}
+use Rattle.reference.specs.Control.{when◌then◌else◌}
 use Rattle.reference.specs.Text.{Text}
 use Rattle.reference.specs.Listing.{Line, Listing}
 use Rattle.lines.specs.Words.{tokens_of, Holds}
@@ -48,7 +48,7 @@ part_of tokens l = take (count_of l) (drop (first_of l) tokens)
 
 -- `addresses` has the addresses by the number of the input line
 unfoldable pub address_in : List ℕ → ℕ → Option ℕ
-address_in addresses l = if eqb (addressed_of l) 1 then some (get_or addresses (origin_of l) 0) else none
+address_in addresses l = when eqb (addressed_of l) 1 then some (get_or addresses (origin_of l) 0) else none
 
 -- What is read as a line's address: its own, if it has one; or, of every line, the number of the input line that it was. What is said of
 -- every reading says therefore which lines stand where.

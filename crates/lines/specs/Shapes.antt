@@ -1,7 +1,7 @@
 -- What the code's answers on shapes mean, and the right side of an assignment as words. Assumes nothing.
 use Rattle.std.specs.Prelude.{ℕ, ◌+◌, ◌-◌, ◌≤◌, ◌<◌, ◌≡◌, Bool, true, List, [], ◌∷◌, length, get_or, set, take, drop}
 use Rattle.std.proofs.Math.Option.{Option, none, some}
-use Rattle.reference.specs.Control.{◌&&◌, if◌then◌else◌, let_some◌else◌then◌}
+use Rattle.reference.specs.Control.{◌and◌, when◌then◌else◌, let_some◌else◌then◌}
 use Rattle.reference.specs.Lists.{position, is_empty}
 use Rattle.reference.specs.Text.{Text, bytes, starts_with}
 use Rattle.reference.specs.Listing.{Token, is, Symbol, Punct}
@@ -23,7 +23,7 @@ symbol_from ts from = let_some (position (is Symbol) (drop from ts)) else none t
 
 -- the first of the two tests of `calls_here`
 unfoldable pub is_called : Token → Token → Bool
-is_called t next = is Symbol t && is Punct next && starts_with next.text (bytes "(")
+is_called t next = is Symbol t and is Punct next and starts_with next.text (bytes "(")
 
 -- ---- the right side of an assignment, as words
 
@@ -39,7 +39,7 @@ cut_last (w ∷ u ∷ us) = w ∷ cut_last (u ∷ us)
 
 unfoldable pub expr_words : List ℕ → Expr → List ℕ
 expr_words ws x =
-    if x.cut then cut_last (take x.count (drop x.first (opened ws))) else take x.count (drop x.first (opened ws))
+    when x.cut then cut_last (take x.count (drop x.first (opened ws))) else take x.count (drop x.first (opened ws))
 
 -- x is a part of the line that can be read as a right side
 pub record Expression (ws : List ℕ) (x : Expr) : Type 0 where
@@ -68,7 +68,7 @@ pub record Opens (tape area : Text) (ws : List ℕ) : Type 0 where
 -- what `assignment_of` makes of the tokens after ` = ` without their `;`
 abbrev pub sided : Text → Text → List ℕ → Option (List Token) → Option Assignment
 sided tape area ws o =
-    let_some o else none then λ expr. if is_empty expr then none else some (record { lhs = token_of tape area (get_or ws 0 0); expr = expr })
+    let_some o else none then λ expr. when is_empty expr then none else some (record { lhs = token_of tape area (get_or ws 0 0); expr = expr })
 
 -- the answer of `right_side`
 pub record Sides (tape area : Text) (ws : List ℕ) (first : ℕ) (r : Assigned) : Type 0 where

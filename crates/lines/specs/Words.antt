@@ -1,6 +1,6 @@
 -- What a token word means, and the words that point into their texts. Assumes nothing.
 use Rattle.std.specs.Prelude.{ℕ, ◌+◌, ◌-◌, ◌*◌, ◌/◌, ◌%◌, ◌≤◌, ◌<◌, ◌⊎◌, ◌≡◌, List, map, eqb, length, take, drop, get_or}
-use Rattle.reference.specs.Control.{if◌then◌else◌}
+use Rattle.reference.specs.Control.{when◌then◌else◌}
 use Rattle.reference.specs.Text.{Text}
 use Rattle.reference.specs.Listing.{Token, token}
 use Rattle.lines.specs.Codes.{Says}
@@ -42,7 +42,7 @@ without_last w = first_bytes w (len_of w - 1)
 
 -- where the text of a buffer stands: 0 is the tape, 1 the area
 unfoldable pub source : Text → Text → ℕ → Text
-source tape area buffer = if eqb buffer 0 then tape else area
+source tape area buffer = when eqb buffer 0 then tape else area
 
 unfoldable pub text_of : Text → Text → ℕ → Text
 text_of tape area w = take (len_of w) (drop (start_of w) (source tape area (buffer_of w)))

@@ -1,8 +1,7 @@
 // Codes: the family and the width of a token's text that begins at bit 0, found once and kept in its word. A high byte has none, and is
 // read.
 ghost use Rattle.std.specs.Prelude.{◌≡◌, ◌+◌, ◌*◌, ◌%◌};
-ghost use Rattle.reference.specs.Contract.{was};
-ghost use Rattle.reference.specs.Text.{◌==◌};
+ghost use Rattle.reference.specs.Text.{◌≟◌};
 ghost use Rattle.reference.specs.Names.{family};
 ghost use Rattle.names.specs.Families.{Spells};
 ghost use Rattle.names.specs.declared.families.Spelled.TheVariants.{Row, Front};
@@ -22,7 +21,7 @@ fn mixed(a: u8, b: u8) -> u64
 
 // A number below 7 of a name.
 pub fn bucket(s: &[u8]) -> u64
-    ensures { result ≡ bucket (was s) }
+    ensures { result ≡ bucket s.now }
 {
     let n = s.len();
     if n < 2 {
@@ -47,7 +46,7 @@ fn width_of(c: u64) -> u64
 // The family and the width that the code of a word says; the lowest bit is 0.
 pub fn decoded<'a>(tape: &'a [u8], area: &'a [u8], w: u64) -> Named
     requires { Points tape.now area.now w × (code_of w ≡ 0 → ⊥) }
-    ensures { Names (was tape) (was area) (family (text_of (was tape) (was area) w)) result }
+    ensures { Names tape.now area.now (family (text_of tape.now area.now w)) result }
 {
     let c = words::code(w);
     let width = width_of(c);
@@ -63,7 +62,7 @@ pub fn decoded<'a>(tape: &'a [u8], area: &'a [u8], w: u64) -> Named
 // Whether two tokens have one text: codes that differ tell at once.
 pub fn same_text<'a>(tape: &'a [u8], area: &'a [u8], v: u64, w: u64) -> bool
     requires { Points tape.now area.now v × Points tape.now area.now w }
-    ensures { result ≡ (text_of (was tape) (was area) v == text_of (was tape) (was area) w) }
+    ensures { result ≡ (text_of tape.now area.now v ≟ text_of tape.now area.now w) }
 {
     let a = words::code(v);
     let b = words::code(w);
@@ -82,7 +81,7 @@ pub fn same_text<'a>(tape: &'a [u8], area: &'a [u8], v: u64, w: u64) -> bool
 // The code of a row and a width from bit 0; 0 for another width.
 fn row_code(s: &[u8], row: u64, width: u64) -> u64
     requires { Spells s.now (family s.now) (Row row width 0) }
-    ensures { Codes (was s) result }
+    ensures { Codes s.now result }
 {
     let base = 4 + 4 * row;
     if s.len() == 0 {
@@ -100,7 +99,7 @@ fn row_code(s: &[u8], row: u64, width: u64) -> u64
 // The code of a text that is its family's name.
 fn whole_code(s: &[u8], n: usize) -> u64
     requires { Spells s.now (family s.now) (Front n 64) }
-    ensures { Codes (was s) result }
+    ensures { Codes s.now result }
 {
     if n == 0 {
         return 0;
@@ -114,7 +113,7 @@ fn whole_code(s: &[u8], n: usize) -> u64
 // The code of a text that is its family's name and one byte more; 0 for a width of 64 bits.
 fn front_code(s: &[u8], n: usize, width: u64) -> u64
     requires { Spells s.now (family s.now) (Front n width) }
-    ensures { Codes (was s) result }
+    ensures { Codes s.now result }
 {
     if n + 1 != s.len() {
         return 0;
@@ -130,7 +129,7 @@ fn front_code(s: &[u8], n: usize, width: u64) -> u64
 
 // The code of a name; 0 where it has no family, and for a high byte.
 fn code_of(s: &[u8]) -> u64
-    ensures { Codes (was s) result }
+    ensures { Codes s.now result }
 {
     match names::family(s) {
         Spelled::Row(row, width, lowest) => {
@@ -151,7 +150,7 @@ fn code_of(s: &[u8]) -> u64
 
 // The word with the code of its text, where it is a Register in the tape.
 pub fn coded(tape: &[u8], w: u64) -> u64
-    ensures { Recoded (was tape) w result }
+    ensures { Recoded tape.now w result }
 {
     if words::kind(w) != words::REGISTER {
         return w;

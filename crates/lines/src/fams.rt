@@ -1,9 +1,8 @@
 // The families of a listing's tokens (`fam_of` of the Rust), and what a line does with one.
 ghost use Rattle.std.specs.Prelude.{◌≡◌, ◌<◌, length, get_or};
-ghost use Rattle.reference.specs.Contract.{was};
-ghost use Rattle.reference.specs.Control.{◌&&◌};
+ghost use Rattle.reference.specs.Control.{◌and◌};
 ghost use Rattle.reference.specs.Lists.{any, count, position};
-ghost use Rattle.reference.specs.Text.{◌==◌, has};
+ghost use Rattle.reference.specs.Text.{◌≟◌, has};
 ghost use Rattle.reference.specs.Names.{family, fam_of, of_family};
 ghost use Rattle.reference.specs.Rules.{volatile};
 ghost use Rattle.reference.specs.Shapes.{is_written};
@@ -22,7 +21,7 @@ use names::Spelled;
 pub type Fam = u64;
 
 // A family, a width and a lowest bit.
-#[derive(Drop)]
+#[derive(Clone, Copy)]
 pub enum Named {
     As(Fam, u64, u64),
     Nothing,
@@ -31,7 +30,7 @@ pub enum Named {
 // The family, the width and the lowest bit of a token's text, read from its bytes.
 fn spelled<'a>(tape: &'a [u8], area: &'a [u8], w: u64) -> Named
     requires { Points tape.now area.now w }
-    ensures { Names (was tape) (was area) (family (text_of (was tape) (was area) w)) result }
+    ensures { Names tape.now area.now (family (text_of tape.now area.now w)) result }
 {
     match names::family(words::text(tape, area, w)) {
         Spelled::Row(row, width, lowest) => Named::As(row, width, lowest),
@@ -43,7 +42,7 @@ fn spelled<'a>(tape: &'a [u8], area: &'a [u8], w: u64) -> Named
 // The family, the width and the lowest bit of a token's text, whatever its kind.
 pub fn name_of<'a>(tape: &'a [u8], area: &'a [u8], w: u64) -> Named
     requires { Points tape.now area.now w }
-    ensures { Names (was tape) (was area) (family (text_of (was tape) (was area) w)) result }
+    ensures { Names tape.now area.now (family (text_of tape.now area.now w)) result }
 {
     if words::code(w) == 0 {
         return spelled(tape, area, w);
@@ -54,7 +53,7 @@ pub fn name_of<'a>(tape: &'a [u8], area: &'a [u8], w: u64) -> Named
 // The family, the width and the lowest bit of a token: of a Register alone.
 pub fn fam_of<'a>(tape: &'a [u8], area: &'a [u8], w: u64) -> Named
     requires { Points tape.now area.now w }
-    ensures { Names (was tape) (was area) (fam_of (token_of (was tape) (was area) w)) result }
+    ensures { Names tape.now area.now (fam_of (token_of tape.now area.now w)) result }
 {
     if words::kind(w) != words::REGISTER {
         return Named::Nothing;
@@ -64,7 +63,7 @@ pub fn fam_of<'a>(tape: &'a [u8], area: &'a [u8], w: u64) -> Named
 
 pub fn same_family<'a>(tape: &'a [u8], area: &'a [u8], f: Fam, g: Fam) -> bool
     requires { Known tape.now area.now f × Known tape.now area.now g }
-    ensures { result ≡ (fam_text (was tape) (was area) f == fam_text (was tape) (was area) g) }
+    ensures { result ≡ (fam_text tape.now area.now f ≟ fam_text tape.now area.now g) }
 {
     if f < 8 {
         return f == g;
@@ -78,7 +77,7 @@ pub fn same_family<'a>(tape: &'a [u8], area: &'a [u8], f: Fam, g: Fam) -> bool
 // Whether a token is a Register of the family. A code tells a row at once.
 pub fn is_of<'a>(tape: &'a [u8], area: &'a [u8], w: u64, f: Fam) -> bool
     requires { Points tape.now area.now w × Known tape.now area.now f }
-    ensures { result ≡ of_family (fam_text (was tape) (was area) f) (token_of (was tape) (was area) w) }
+    ensures { result ≡ of_family (fam_text tape.now area.now f) (token_of tape.now area.now w) }
 {
     if words::kind(w) != words::REGISTER {
         return false;
@@ -98,7 +97,7 @@ pub fn is_of<'a>(tape: &'a [u8], area: &'a [u8], w: u64, f: Fam) -> bool
 // Whether a token is a Register of the family, of less than 32 bits.
 pub fn is_narrow_of<'a>(tape: &'a [u8], area: &'a [u8], w: u64, f: Fam) -> bool
     requires { Points tape.now area.now w × Known tape.now area.now f }
-    ensures { result ≡ is_narrow (fam_text (was tape) (was area) f) (token_of (was tape) (was area) w) }
+    ensures { result ≡ is_narrow (fam_text tape.now area.now f) (token_of tape.now area.now w) }
 {
     match fam_of(tape, area, w) {
         Named::As(g, width, _) => {
@@ -114,7 +113,7 @@ pub fn is_narrow_of<'a>(tape: &'a [u8], area: &'a [u8], w: u64, f: Fam) -> bool
 // The family by its number.
 fn number_of<'a>(tape: &'a [u8], area: &'a [u8], f: Fam) -> u64
     requires { Known tape.now area.now f }
-    ensures { result ≡ fam_number (was tape) (was area) f }
+    ensures { result ≡ fam_number tape.now area.now f }
 {
     if f < 8 {
         return f;
@@ -125,7 +124,7 @@ fn number_of<'a>(tape: &'a [u8], area: &'a [u8], f: Fam) -> u64
 // Whether a call overwrites the family.
 pub fn is_volatile<'a>(tape: &'a [u8], area: &'a [u8], f: Fam, rules: Rules) -> bool
     requires { Known tape.now area.now f }
-    ensures { result ≡ has (volatile (rules_of rules)) (fam_text (was tape) (was area) f) }
+    ensures { result ≡ has (volatile (rules_of rules)) (fam_text tape.now area.now f) }
 {
     let n = number_of(tape, area, f);
     names::overwritten(n, rules.convention)
@@ -136,8 +135,8 @@ pub fn is_volatile<'a>(tape: &'a [u8], area: &'a [u8], f: Fam, rules: Rules) -> 
 // Whether the right side x of a line has a token of the family.
 pub fn mentions<'a>(tape: &'a [u8], area: &'a [u8], line: &'a [u64], x: Expr, f: Fam) -> bool
     requires { Holds tape.now area.now line.now × Expression line.now x × Known tape.now area.now f }
-    ensures { result ≡ any (of_family (fam_text (was tape) (was area) f))
-        (tokens_of (was tape) (was area) (expr_words (was line) x)) }
+    ensures { result ≡ any (of_family (fam_text tape.now area.now f))
+        (tokens_of tape.now area.now (expr_words line.now x)) }
 {
     let n = x.count;
     let mut k = 0;
@@ -153,7 +152,7 @@ pub fn mentions<'a>(tape: &'a [u8], area: &'a [u8], line: &'a [u64], x: Expr, f:
 // How many tokens of the family a line has.
 pub fn count_of<'a>(tape: &'a [u8], area: &'a [u8], line: &'a [u64], f: Fam) -> usize
     requires { Holds tape.now area.now line.now × Known tape.now area.now f }
-    ensures { result ≡ count (of_family (fam_text (was tape) (was area) f)) (tokens_of (was tape) (was area) (was line)) }
+    ensures { result ≡ count (of_family (fam_text tape.now area.now f)) (tokens_of tape.now area.now line.now) }
 {
     let mut n = 0;
     let mut k = 0;
@@ -169,7 +168,7 @@ pub fn count_of<'a>(tape: &'a [u8], area: &'a [u8], line: &'a [u64], f: Fam) -> 
 // The place of the first token of the family.
 pub fn first_of<'a>(tape: &'a [u8], area: &'a [u8], line: &'a [u64], f: Fam) -> Position
     requires { Holds tape.now area.now line.now × Known tape.now area.now f }
-    ensures { found result ≡ position (of_family (fam_text (was tape) (was area) f)) (tokens_of (was tape) (was area) (was line)) }
+    ensures { found result ≡ position (of_family (fam_text tape.now area.now f)) (tokens_of tape.now area.now line.now) }
 {
     let mut k = 0;
     while k < line.len() {
@@ -184,7 +183,7 @@ pub fn first_of<'a>(tape: &'a [u8], area: &'a [u8], line: &'a [u64], f: Fam) -> 
 // Whether a token of the family has less than 32 bits.
 pub fn has_narrow<'a>(tape: &'a [u8], area: &'a [u8], line: &'a [u64], f: Fam) -> bool
     requires { Holds tape.now area.now line.now × Known tape.now area.now f }
-    ensures { result ≡ any (is_narrow (fam_text (was tape) (was area) f)) (tokens_of (was tape) (was area) (was line)) }
+    ensures { result ≡ any (is_narrow (fam_text tape.now area.now f)) (tokens_of tape.now area.now line.now) }
 {
     let mut k = 0;
     while k < line.len() {
@@ -198,8 +197,8 @@ pub fn has_narrow<'a>(tape: &'a [u8], area: &'a [u8], line: &'a [u64], f: Fam) -
 
 fn writes_at<'a>(tape: &'a [u8], area: &'a [u8], line: &'a [u64], k: usize, f: Fam) -> bool
     requires { Holds tape.now area.now line.now × Known tape.now area.now f × (k < length line.now) }
-    ensures { result ≡ (of_family (fam_text (was tape) (was area) f) (token_of (was tape) (was area) (get_or (was line) k 0)) &&
-        is_written (tokens_of (was tape) (was area) (was line)) k) }
+    ensures { result ≡ (of_family (fam_text tape.now area.now f) (token_of tape.now area.now (get_or line.now k 0)) and
+        is_written (tokens_of tape.now area.now line.now) k) }
 {
     if !is_of(tape, area, line[k], f) {
         return false;
@@ -210,7 +209,7 @@ fn writes_at<'a>(tape: &'a [u8], area: &'a [u8], line: &'a [u64], k: usize, f: F
 // Whether a token of the family is the target of an assignment.
 pub fn writes<'a>(tape: &'a [u8], area: &'a [u8], line: &'a [u64], f: Fam) -> bool
     requires { Holds tape.now area.now line.now × Known tape.now area.now f }
-    ensures { result ≡ written_from (fam_text (was tape) (was area) f) (tokens_of (was tape) (was area) (was line)) }
+    ensures { result ≡ written_from (fam_text tape.now area.now f) (tokens_of tape.now area.now line.now) }
 {
     let mut k = 0;
     while k < line.len() {

@@ -1,4 +1,6 @@
 // A listing's tokens and lines: how they are held, the families of tokens, and the shapes of lines.
+#![tactic(auto)]
+
 pub mod codes; // the families and widths that words keep
 pub mod fams; // the families of tokens, and what a line does with one
 pub mod rules; // the settings of a call

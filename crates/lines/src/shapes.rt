@@ -2,7 +2,6 @@
 //
 // A line is the part of the token words that its line word says; each function says of it what the definition says of its tokens.
 ghost use Rattle.std.specs.Prelude.{◌≡◌, ◌+◌, ◌≤◌, ◌<◌, length, get_or};
-ghost use Rattle.reference.specs.Contract.{was};
 ghost use Rattle.reference.specs.Lists.{position, is_some};
 ghost use Rattle.reference.specs.Text.{Text, bytes};
 ghost use Rattle.reference.specs.Shapes.{label_tokens, is_kw, kw_in, has_brace, braces_in, calls_here, call_in, begins_assignment};
@@ -14,7 +13,7 @@ ghost use Rattle.lines.specs.Shapes.{found, symbol_from, is_called, opened, expr
 use crate::words;
 
 // A place in a line or in a listing.
-#[derive(Drop)]
+#[derive(Clone, Copy)]
 pub enum Position {
     At(usize),
     Nothing,
@@ -23,7 +22,7 @@ pub enum Position {
 // Two tokens, a Symbol and `:`.
 pub fn is_label<'a>(tape: &'a [u8], area: &'a [u8], line: &'a [u64]) -> bool
     requires { Holds tape.now area.now line.now }
-    ensures { result ≡ label_tokens (tokens_of (was tape) (was area) (was line)) }
+    ensures { result ≡ label_tokens (tokens_of tape.now area.now line.now) }
 {
     if line.len() != 2 {
         return false;
@@ -38,7 +37,7 @@ pub fn is_label<'a>(tape: &'a [u8], area: &'a [u8], line: &'a [u64]) -> bool
 
 fn is_kw<'a>(tape: &'a [u8], area: &'a [u8], w: u64, kw: &'a [u8]) -> bool
     requires { Points tape.now area.now w }
-    ensures { result ≡ is_kw (was kw) (token_of (was tape) (was area) w) }
+    ensures { result ≡ is_kw kw.now (token_of tape.now area.now w) }
 {
     if words::kind(w) != words::KEYWORD {
         return false;
@@ -49,7 +48,7 @@ fn is_kw<'a>(tape: &'a [u8], area: &'a [u8], w: u64, kw: &'a [u8]) -> bool
 // The place of the first Keyword with that text.
 fn kw_at<'a>(tape: &'a [u8], area: &'a [u8], line: &'a [u64], kw: &'a [u8]) -> Position
     requires { Holds tape.now area.now line.now }
-    ensures { found result ≡ position (is_kw (was kw)) (tokens_of (was tape) (was area) (was line)) }
+    ensures { found result ≡ position (is_kw kw.now) (tokens_of tape.now area.now line.now) }
 {
     let mut k = 0;
     while k < line.len() {
@@ -63,7 +62,7 @@ fn kw_at<'a>(tape: &'a [u8], area: &'a [u8], line: &'a [u64], kw: &'a [u8]) -> P
 
 fn has_kw<'a>(tape: &'a [u8], area: &'a [u8], line: &'a [u64], kw: &'a [u8]) -> bool
     requires { Holds tape.now area.now line.now }
-    ensures { result ≡ kw_in (tokens_of (was tape) (was area) (was line)) (was kw) }
+    ensures { result ≡ kw_in (tokens_of tape.now area.now line.now) kw.now }
 {
     match kw_at(tape, area, line, kw) {
         Position::At(_) => true,
@@ -73,42 +72,42 @@ fn has_kw<'a>(tape: &'a [u8], area: &'a [u8], line: &'a [u64], kw: &'a [u8]) -> 
 
 pub fn has_do<'a>(tape: &'a [u8], area: &'a [u8], line: &'a [u64]) -> bool
     requires { Holds tape.now area.now line.now }
-    ensures { result ≡ kw_in (tokens_of (was tape) (was area) (was line)) (bytes "do") }
+    ensures { result ≡ kw_in (tokens_of tape.now area.now line.now) (bytes "do") }
 {
     has_kw(tape, area, line, b"do")
 }
 
 pub fn has_while<'a>(tape: &'a [u8], area: &'a [u8], line: &'a [u64]) -> bool
     requires { Holds tape.now area.now line.now }
-    ensures { result ≡ kw_in (tokens_of (was tape) (was area) (was line)) (bytes "while") }
+    ensures { result ≡ kw_in (tokens_of tape.now area.now line.now) (bytes "while") }
 {
     has_kw(tape, area, line, b"while")
 }
 
 pub fn has_goto<'a>(tape: &'a [u8], area: &'a [u8], line: &'a [u64]) -> bool
     requires { Holds tape.now area.now line.now }
-    ensures { result ≡ kw_in (tokens_of (was tape) (was area) (was line)) (bytes "goto") }
+    ensures { result ≡ kw_in (tokens_of tape.now area.now line.now) (bytes "goto") }
 {
     has_kw(tape, area, line, b"goto")
 }
 
 pub fn has_return<'a>(tape: &'a [u8], area: &'a [u8], line: &'a [u64]) -> bool
     requires { Holds tape.now area.now line.now }
-    ensures { result ≡ kw_in (tokens_of (was tape) (was area) (was line)) (bytes "return") }
+    ensures { result ≡ kw_in (tokens_of tape.now area.now line.now) (bytes "return") }
 {
     has_kw(tape, area, line, b"return")
 }
 
 pub fn goto_at<'a>(tape: &'a [u8], area: &'a [u8], line: &'a [u64]) -> Position
     requires { Holds tape.now area.now line.now }
-    ensures { found result ≡ position (is_kw (bytes "goto")) (tokens_of (was tape) (was area) (was line)) }
+    ensures { found result ≡ position (is_kw (bytes "goto")) (tokens_of tape.now area.now line.now) }
 {
     kw_at(tape, area, line, b"goto")
 }
 
 // The place of the first Symbol from `from` on, whatever the texts are.
 pub fn symbol_from(line: &[u64], from: usize) -> Position
-    ensures { (tape area : Text) → found result ≡ symbol_from (tokens_of tape area (was line)) from }
+    ensures { (tape area : Text) → found result ≡ symbol_from (tokens_of tape area line.now) from }
 {
     let mut k = from;
     while k < line.len() {
@@ -124,7 +123,7 @@ pub fn symbol_from(line: &[u64], from: usize) -> Position
 
 pub fn has_brace<'a>(tape: &'a [u8], area: &'a [u8], w: u64) -> bool
     requires { Points tape.now area.now w }
-    ensures { result ≡ has_brace (token_of (was tape) (was area) w) }
+    ensures { result ≡ has_brace (token_of tape.now area.now w) }
 {
     if words::kind(w) != words::PUNCT {
         return false;
@@ -134,7 +133,7 @@ pub fn has_brace<'a>(tape: &'a [u8], area: &'a [u8], w: u64) -> bool
 
 pub fn opens_or_closes<'a>(tape: &'a [u8], area: &'a [u8], line: &'a [u64]) -> bool
     requires { Holds tape.now area.now line.now }
-    ensures { result ≡ braces_in (tokens_of (was tape) (was area) (was line)) }
+    ensures { result ≡ braces_in (tokens_of tape.now area.now line.now) }
 {
     let mut k = 0;
     while k < line.len() {
@@ -149,7 +148,7 @@ pub fn opens_or_closes<'a>(tape: &'a [u8], area: &'a [u8], line: &'a [u64]) -> b
 // Whether a token is a Symbol with a bracket after it.
 fn is_called<'a>(tape: &'a [u8], area: &'a [u8], w: u64, next: u64) -> bool
     requires { Points tape.now area.now next }
-    ensures { result ≡ is_called (token_of (was tape) (was area) w) (token_of (was tape) (was area) next) }
+    ensures { result ≡ is_called (token_of tape.now area.now w) (token_of tape.now area.now next) }
 {
     if words::kind(w) != words::SYMBOL {
         return false;
@@ -163,7 +162,7 @@ fn is_called<'a>(tape: &'a [u8], area: &'a [u8], w: u64, next: u64) -> bool
 // Whether a token, with the one after it, is a call mark.
 fn is_call_mark<'a>(tape: &'a [u8], area: &'a [u8], w: u64, next: u64) -> bool
     requires { Points tape.now area.now w × Points tape.now area.now next }
-    ensures { result ≡ calls_here (token_of (was tape) (was area) w, token_of (was tape) (was area) next) }
+    ensures { result ≡ calls_here (token_of tape.now area.now w, token_of tape.now area.now next) }
 {
     if is_called(tape, area, w, next) {
         return true;
@@ -177,7 +176,7 @@ fn is_call_mark<'a>(tape: &'a [u8], area: &'a [u8], w: u64, next: u64) -> bool
 // The place of the first call mark.
 pub fn call_at<'a>(tape: &'a [u8], area: &'a [u8], line: &'a [u64]) -> Position
     requires { Holds tape.now area.now line.now }
-    ensures { found result ≡ call_in (tokens_of (was tape) (was area) (was line)) }
+    ensures { found result ≡ call_in (tokens_of tape.now area.now line.now) }
 {
     let mut k = 0;
     while k + 1 < line.len() {
@@ -191,7 +190,7 @@ pub fn call_at<'a>(tape: &'a [u8], area: &'a [u8], line: &'a [u64]) -> Position
 
 pub fn has_call<'a>(tape: &'a [u8], area: &'a [u8], line: &'a [u64]) -> bool
     requires { Holds tape.now area.now line.now }
-    ensures { result ≡ is_some (call_in (tokens_of (was tape) (was area) (was line))) }
+    ensures { result ≡ is_some (call_in (tokens_of tape.now area.now line.now)) }
 {
     match call_at(tape, area, line) {
         Position::At(_) => true,
@@ -204,14 +203,14 @@ pub fn has_call<'a>(tape: &'a [u8], area: &'a [u8], line: &'a [u64]) -> bool
 // The right side of an assignment: the place in the line of its first token (1 where text follows the ` = ` of token 1, which its first
 // token then lacks), how many tokens it has, and whether the last of them lacks the `;` at its end. (A `;` that is a token by itself is
 // not counted.)
-#[derive(Drop)]
+#[derive(Clone, Copy)]
 pub struct Expr {
     pub first: usize,
     pub count: usize,
     pub cut: bool,
 }
 
-#[derive(Drop)]
+#[derive(Clone, Copy)]
 pub enum Assigned {
     To(Expr),
     Nothing,
@@ -221,7 +220,7 @@ pub enum Assigned {
 fn right_word(line: &[u64], at: usize) -> u64
     requires { (at < length line.now) × (3 ≤ len_of (get_or line.now 1 0))
         × (start_of (get_or line.now 1 0) + len_of (get_or line.now 1 0) < 65536) }
-    ensures { result ≡ get_or (opened (was line)) at 0 }
+    ensures { result ≡ get_or (opened line.now) at 0 }
 {
     let w = line[at];
     if at == 1 {
@@ -233,7 +232,7 @@ fn right_word(line: &[u64], at: usize) -> u64
 // Token k of the right side x of a line.
 pub fn expr_word(line: &[u64], x: Expr, k: usize) -> u64
     requires { Expression line.now x × (k < x.count) }
-    ensures { result ≡ get_or (expr_words (was line) x) k 0 }
+    ensures { result ≡ get_or (expr_words line.now x) k 0 }
 {
     let w = right_word(line, x.first + k);
     if x.cut {
@@ -247,7 +246,7 @@ pub fn expr_word(line: &[u64], x: Expr, k: usize) -> u64
 // Whether two tokens are a Register and a Punct that begins with ` = `.
 fn begins_assignment<'a>(tape: &'a [u8], area: &'a [u8], lhs: u64, eq: u64) -> bool
     requires { Points tape.now area.now eq }
-    ensures { result ≡ begins_assignment (token_of (was tape) (was area) lhs) (token_of (was tape) (was area) eq) }
+    ensures { result ≡ begins_assignment (token_of tape.now area.now lhs) (token_of tape.now area.now eq) }
 {
     if words::kind(lhs) != words::REGISTER {
         return false;
@@ -261,7 +260,7 @@ fn begins_assignment<'a>(tape: &'a [u8], area: &'a [u8], lhs: u64, eq: u64) -> b
 // The right side of a line whose second token begins with ` = `, from the token at `first` on.
 fn right_side<'a>(tape: &'a [u8], area: &'a [u8], line: &'a [u64], first: usize) -> Assigned
     requires { Opens tape.now area.now line.now × (1 ≤ first) × (first ≤ 2) }
-    ensures { Sides (was tape) (was area) (was line) first result }
+    ensures { Sides tape.now area.now line.now first result }
 {
     let n = line.len();
     if n <= first {
@@ -291,7 +290,7 @@ fn right_side<'a>(tape: &'a [u8], area: &'a [u8], line: &'a [u64], first: usize)
 // `reg = expr;`: its right side; token 0 is the register. Another assignment is none.
 pub fn assignment<'a>(tape: &'a [u8], area: &'a [u8], line: &'a [u64]) -> Assigned
     requires { Holds tape.now area.now line.now }
-    ensures { Assigns (was tape) (was area) (was line) result }
+    ensures { Assigns tape.now area.now line.now result }
 {
     if line.len() < 2 {
         return Assigned::Nothing;
@@ -309,7 +308,7 @@ pub fn assignment<'a>(tape: &'a [u8], area: &'a [u8], line: &'a [u64]) -> Assign
 // Whether the right side x of a line is a Number alone, whatever the texts are.
 pub fn is_lone_number(line: &[u64], x: Expr) -> bool
     requires { Expression line.now x }
-    ensures { (tape area : Text) → result ≡ lone_number (tokens_of tape area (expr_words (was line) x)) }
+    ensures { (tape area : Text) → result ≡ lone_number (tokens_of tape area (expr_words line.now x)) }
 {
     if x.count != 1 {
         return false;
@@ -322,7 +321,7 @@ pub fn is_lone_number(line: &[u64], x: Expr) -> bool
 // Whether the token at `pos` is the target of an assignment (`x = ..`, `x += ..`, `x++`).
 pub fn is_written<'a>(tape: &'a [u8], area: &'a [u8], line: &'a [u64], pos: usize) -> bool
     requires { Holds tape.now area.now line.now × (pos < length line.now) }
-    ensures { result ≡ is_written (tokens_of (was tape) (was area) (was line)) pos }
+    ensures { result ≡ is_written (tokens_of tape.now area.now line.now) pos }
 {
     let at = pos + 1;
     if line.len() <= at {
@@ -342,7 +341,7 @@ pub fn is_written<'a>(tape: &'a [u8], area: &'a [u8], line: &'a [u64], pos: usiz
 // Whether a token is a Punct with a space at an edge, and no comma between its edge spaces.
 fn is_operator<'a>(tape: &'a [u8], area: &'a [u8], w: u64) -> bool
     requires { Points tape.now area.now w }
-    ensures { result ≡ is_operator (token_of (was tape) (was area) w) }
+    ensures { result ≡ is_operator (token_of tape.now area.now w) }
 {
     if words::kind(w) != words::PUNCT {
         return false;
@@ -358,7 +357,7 @@ fn is_operator<'a>(tape: &'a [u8], area: &'a [u8], w: u64) -> bool
 // Whether the right side x of a line has an operator among its tokens, of which there are several.
 pub fn is_operator_expr<'a>(tape: &'a [u8], area: &'a [u8], line: &'a [u64], x: Expr) -> bool
     requires { Holds tape.now area.now line.now × Expression line.now x }
-    ensures { result ≡ is_operator_expr (tokens_of (was tape) (was area) (expr_words (was line) x)) }
+    ensures { result ≡ is_operator_expr (tokens_of tape.now area.now (expr_words line.now x)) }
 {
     let n = x.count;
     if n <= 1 {

@@ -7,7 +7,6 @@
 // address in 1 bit, and its origin, the number of the input line that it was, in 8 bits; above them
 // its facts (crate linefacts).
 ghost use Rattle.std.specs.Prelude.{◌≡◌, ◌+◌, ◌≤◌, ◌<◌, length};
-ghost use Rattle.reference.specs.Contract.{was};
 ghost use Rattle.lines.specs.Words.{kind_of, buffer_of, start_of, len_of, code_of, word, with_code, without_first, first_bytes};
 ghost use Rattle.lines.specs.Words.{without_last, text_of, Points};
 ghost use Rattle.lines.specs.Lines.{first_of, count_of, indent_of, addressed_of, origin_of, facts_of, with_facts, line_word};
@@ -104,7 +103,7 @@ pub fn without_last(w: u64) -> u64
 // The text of a token: a part of the tape, or of the area once it was rewritten.
 pub fn text<'a>(tape: &'a [u8], area: &'a [u8], w: u64) -> &'a [u8]
     requires { Points tape.now area.now w }
-    ensures { result.now ≡ text_of (was tape) (was area) w }
+    ensures { result.now ≡ text_of tape.now area.now w }
 {
     let from = start(w);
     let to = from + len(w);
@@ -181,7 +180,7 @@ pub fn with_tokens(l: u64, first: usize, count: usize) -> u64
 // The tokens of a line.
 pub fn line_of(tokens: &[u64], l: u64) -> &[u64]
     requires { first_of l + count_of l ≤ length tokens.now }
-    ensures { result.now ≡ part_of (was tokens) l }
+    ensures { result.now ≡ part_of tokens.now l }
 {
     let from = first(l);
     let to = from + count(l);

@@ -12,10 +12,10 @@ use mathlib.Core.Option.{Option, none, some}
 use lib.Dec.{eqb, ltb}
 use lib.ListN.{length, take, drop, get_or}
 use borrow.Author.Tests.{eq-eqb, ne_eqb, lt-ltb, le-ltb}
-use Rattle.reference.specs.Control.{if◌then◌else◌, let_some◌else◌then◌}
+use Rattle.reference.specs.Control.{when◌then◌else◌, let_some◌else◌then◌}
 use Rattle.reference.specs.Lists.{position}
-use Rattle.reference.specs.Text.{Text, bytes, ◌==◌}
-use Rattle.reference.specs.Tape.{Command, new_line, marked, end, write_command, write_command_by, to_le_bytes}
+use Rattle.reference.specs.Text.{Text, bytes, ◌≟◌}
+use Rattle.reference.specs.Tape.{Command, new_line, marked, write_command, write_command_by, to_le_bytes}
 use Rattle.laws.proofs.Scans.{if-true, if-false}
 use Rattle.words.specs.Numerals.{number_in}
 use Rattle.listing_text.specs.Room.{laid, Page, put_one, puts, Adds, empty}
@@ -31,7 +31,7 @@ use Rattle.listing_text.proofs.Spelling.{tag}
 
 -- ---- the first two fields
 
-module _ (f : Text) {x : Bool} (e : x ≡ (f == bytes "-")) where
+module _ (f : Text) {x : Bool} (e : x ≡ (f ≟ bytes "-")) where
   pub address_missing : x ≡ true → some none ≡ address_in f
   unfolding address_in
   address_missing t = sym (if-true _ _ (sym e ∙ t))
@@ -60,38 +60,38 @@ module _ (a i : Text) where
 
   module _ {n : ℕ} (e : some n ≡ number_in 10 i) where
     pub line_large : 255 < n → nothing false ≡ read_of (line_command a i)
-    unfolding indent_in let_some◌else◌then◌ read_of if◌then◌else◌
+    unfolding indent_in let_some◌else◌then◌ read_of when◌then◌else◌
     line_large h = rw (no_indent (rw (← e, lt-ltb 255 n h)))
 
     pub line_known : {x : Option (Option ℕ)} → n ≤ 255 → x ≡ address_in a → line_with x n ≡ line_command a i
-    unfolding line_with line_command indent_in let_some◌else◌then◌ if◌then◌else◌
+    unfolding line_with line_command indent_in let_some◌else◌then◌ when◌then◌else◌
     line_known h f = rw (f, ← e, le-ltb 255 n h)
 
 -- ---- the others
 
 module _ (t : Text) where
   pub span_short : (length t ≡ 34 → ⊥) → nothing false ≡ read_of (span_command t)
-  unfolding span_command read_of if◌then◌else◌
+  unfolding span_command read_of when◌then◌else◌
   span_short n = rw (ne_eqb (length t) 34 n)
 
-  module _ (l : length t ≡ 34) {x : Bool} (e : x ≡ (take 2 (drop 16 t) == bytes "..")) where
+  module _ (l : length t ≡ 34) {x : Bool} (e : x ≡ (take 2 (drop 16 t) ≟ bytes "..")) where
     pub span_undotted : x ≡ false → nothing false ≡ read_of (span_command t)
-    unfolding span_command read_of if◌then◌else◌
+    unfolding span_command read_of when◌then◌else◌
     span_undotted n = rw (eq-eqb (length t) 34 l, sym e ∙ n)
 
     module _ (d : x ≡ true) where
       pub span_no_low : none ≡ number_in 16 (take 16 t) → nothing false ≡ read_of (span_command t)
-      unfolding span_command read_of if◌then◌else◌ let_some◌else◌then◌
+      unfolding span_command read_of when◌then◌else◌ let_some◌else◌then◌
       span_no_low u = rw (eq-eqb (length t) 34 l, sym e ∙ d, ← u)
 
       module _ {low : ℕ} (u : some low ≡ number_in 16 (take 16 t)) where
         pub span_no_high : none ≡ number_in 16 (drop 18 t) → nothing false ≡ read_of (span_command t)
-        unfolding span_command read_of if◌then◌else◌ let_some◌else◌then◌
+        unfolding span_command read_of when◌then◌else◌ let_some◌else◌then◌
         span_no_high v = rw (eq-eqb (length t) 34 l, sym e ∙ d, ← u, ← v)
 
         pub span_right : {high : ℕ} → some high ≡ number_in 16 (drop 18 t)
             → record { bytes = write_command (marked (record { lowest = low; highest = high })); right = true } ≡ read_of (span_command t)
-        unfolding span_command read_of if◌then◌else◌ let_some◌else◌then◌
+        unfolding span_command read_of when◌then◌else◌ let_some◌else◌then◌
         span_right v = rw (eq-eqb (length t) 34 l, sym e ∙ d, ← u, ← v)
 
 tag_zero : (o : Option ℕ) → 0 ≡ (let_some o else 0 then λ kind. 16 + kind) → o ≡ none
@@ -106,7 +106,7 @@ tag_some (some k) e n = (k, refl, e)
 
 token-known : (l : ℕ) (t : Text) (k : ℕ) → position (eqb l) letters ≡ some k → length t ≤ 65535
     → record { bytes = (16 + k) ∷ to_le_bytes 2 (length t) ++ t; right = true } ≡ read_of (token_command l t)
-unfolding token_command read_of let_some◌else◌then◌ if◌then◌else◌ write_command_by
+unfolding token_command read_of let_some◌else◌then◌ when◌then◌else◌ write_command_by
 token-known l t k e h = rw (e, le-ltb 65535 (length t) h)
 
 module _ (l : ℕ) (t : Text) {r : ℕ} (e : r ≡ tag l) where
@@ -116,7 +116,7 @@ module _ (l : ℕ) (t : Text) {r : ℕ} (e : r ≡ tag l) where
 
   module _ (n : r ≡ 0 → ⊥) where
     pub token-long : 65535 < length t → nothing false ≡ read_of (token_command l t)
-    unfolding token_command read_of let_some◌else◌then◌ if◌then◌else◌
+    unfolding token_command read_of let_some◌else◌then◌ when◌then◌else◌
     token-long h = rw ((tag_some (position (eqb l) letters) e n).1, lt-ltb 65535 (length t) h)
 
     pub token-right : length t ≤ 65535 → record { bytes = r ∷ to_le_bytes 2 (length t) ++ t; right = true } ≡ read_of (token_command l t)
@@ -126,21 +126,21 @@ module _ (l : ℕ) (t : Text) {r : ℕ} (e : r ≡ tag l) where
 
 module _ (f : Text) where
   pub field-short : length f < 2 → nothing false ≡ read_of (field_command f)
-  unfolding field_command read_of if◌then◌else◌
+  unfolding field_command read_of when◌then◌else◌
   field-short h = rw (lt-ltb (length f) 2 h)
 
   module _ (h : 2 ≤ length f) where
     pub field_no_colon : (get_or f 1 0 ≡ 58 → ⊥) → nothing false ≡ read_of (field_command f)
-    unfolding field_command read_of if◌then◌else◌
+    unfolding field_command read_of when◌then◌else◌
     field_no_colon n = rw (le-ltb (length f) 2 h, ne_eqb (get_or f 1 0) 58 n)
 
     module _ (c : get_or f 1 0 ≡ 58) where
       pub field-marks : get_or f 0 0 ≡ 109 → span_command (drop 2 f) ≡ field_command f
-      unfolding field_command if◌then◌else◌
+      unfolding field_command when◌then◌else◌
       field-marks m = rw (le-ltb (length f) 2 h, eq-eqb (get_or f 1 0) 58 c, eq-eqb (get_or f 0 0) 109 m)
 
       pub field-token : (get_or f 0 0 ≡ 109 → ⊥) → token_command (get_or f 0 0) (drop 2 f) ≡ field_command f
-      unfolding field_command if◌then◌else◌
+      unfolding field_command when◌then◌else◌
       field-token m = rw (le-ltb (length f) 2 h, eq-eqb (get_or f 1 0) 58 c, ne_eqb (get_or f 0 0) 109 m)
 
 -- ---- put onto a page
@@ -229,13 +229,13 @@ ending g t = record { where_to = puts g t.bytes; wrong = t.wrong }
 module _ (g : Page) (t : Text) (n : ℕ) {at e : ℕ} (h : at < length t) (ends : EndsAt 10 t at e) {l : Lies}
     (a : Lays g (line_read (apart 9 (take (e - at) (drop at t)))) l) where
   pub line_wrong : l.right ≡ false → record { where_to = l.where_to; wrong = some n } ≡ ending g (lines_read n (ended 10 (drop at t)))
-  unfolding ending lines_read then_lines if◌then◌else◌ onto_page
+  unfolding ending lines_read then_lines when◌then◌else◌ onto_page
   line_wrong f =
       let right : (line_read (apart 9 (take (e - at) (drop at t)))).right ≡ false = sym (ap (λ (k : Lies). k.right) a.same) ∙ f in
       rw (first_ended 10 t ends h, right) (λ i. record { where_to = (a.same i).where_to; wrong = some n })
 
   pub line_right : l.right ≡ true → ending l.where_to (lines_read (n + 1) (ended 10 (drop (e + 1) t))) ≡ ending g (lines_read n (ended 10 (drop at t)))
-  unfolding ending lines_read then_lines if◌then◌else◌ onto_page
+  unfolding ending lines_read then_lines when◌then◌else◌ onto_page
   line_right f =
       let r : Read = line_read (apart 9 (take (e - at) (drop at t))) in
       let right : r.right ≡ true = sym (ap (λ (k : Lies). k.right) a.same) ∙ f in
@@ -245,7 +245,7 @@ module _ (g : Page) (t : Text) (n : ℕ) {at e : ℕ} (h : at < length t) (ends 
 
 -- what fits has its own length
 all-fits : (room : ℕ) (b : List ℕ)
-    → (if ltb room (length b) then Full else Whole (length (take room b))) ≡ (if ltb room (length b) then Full else Whole (length b))
+    → (when ltb room (length b) then Full else Whole (length (take room b))) ≡ (when ltb room (length b) then Full else Whole (length b))
 all-fits room b =
     by_cases (dec_lt room (length b)) (λ h. if-true _ _ (lt-ltb room (length b) h) ∙ sym (if-true _ _ (lt-ltb room (length b) h)))
     (λ h.

@@ -1,5 +1,5 @@
 -- Digits that are written read back as their number, and hold no tab and no newline. Assumes nothing.
-use Prim.Native.Nat.{ℕ, zero, suc, ◌+◌, ◌-◌, ◌*◌, ◌/◌, ◌%◌, ◌^◌, ◌≤◌, ◌<◌}
+use Prim.Native.Nat.{ℕ, zero, suc, ◌+◌, ◌*◌, ◌/◌, ◌%◌, ◌^◌, ◌≤◌, ◌<◌}
 use native.Mathlib.Omega.{arith}
 use native.Mathlib.Nat.{pow-suc, div-lt_iff_lt-mul}
 use native.Mathlib.Decide.{dec_lt}
@@ -11,7 +11,7 @@ use mathlib.Core.Option.{Option, none, some}
 use lib.Dec.{leb}
 use lib.ListN.{length, length-append}
 use borrow.Author.Tests.{lt-ltb, le-ltb, lt-leb, ne_eqb}
-use Rattle.reference.specs.Control.{if◌then◌else◌}
+use Rattle.reference.specs.Control.{when◌then◌else◌}
 use Rattle.reference.specs.Text.{Text}
 use Rattle.reference.specs.Numbers as Numbers
 use Rattle.reference.proofs.Cases.{none-some}
@@ -84,8 +84,8 @@ module _ (d : ℕ) where
 
 -- ---- hexadecimal digits
 
-more_after : {o p : Option ℕ} {w u : ℕ} (b : Bool) → (o ≡ some w → p ≡ some u) → (if b then none else o) ≡ some w → (if b then none else p) ≡ some u
-unfolding if◌then◌else◌
+more_after : {o p : Option ℕ} {w u : ℕ} (b : Bool) → (o ≡ some w → p ≡ some u) → (when b then none else o) ≡ some w → (when b then none else p) ≡ some u
+unfolding when◌then◌else◌
 more_after true f e = absurd (none-some e)
 more_after false f e = f e
 
@@ -133,19 +133,19 @@ module _ (n : ℕ) where
 
 module _ (n : ℕ) where
   one_digit : n < 10 → decimal n ≡ (48 + n) ∷ []
-  unfolding decimal Numbers.digits if◌then◌else◌
+  unfolding decimal Numbers.digits when◌then◌else◌
   one_digit h =
       let m : n % 10 ≡ n = omega arith in
       rw (lt-ltb n 10 h, m, lt-ltb n 10 h)
 
   two_digits : 10 ≤ n → n < 100 → decimal n ≡ (48 + n / 10) ∷ (48 + n % 10) ∷ []
-  unfolding decimal Numbers.digits if◌then◌else◌
+  unfolding decimal Numbers.digits when◌then◌else◌
   two_digits l h =
       let m : n / 10 % 10 ≡ n / 10 = omega arith in
       rw (le-ltb n 10 l, lt-ltb (n / 10) 10 (omega arith), m, lt-ltb (n / 10) 10 (omega arith), lt-ltb (n % 10) 10 (omega arith))
 
   pub indent-reads : n < 100 → number_in 10 (decimal n) ≡ some n
-  unfolding number_in digits_from if◌then◌else◌
+  unfolding number_in digits_from when◌then◌else◌
   indent-reads h =
       by_cases (dec_lt n 10)
       (λ l. rw (one_digit l, low_digit n l, lt-leb 10 n l) (ap some (omega arith)))

@@ -11,7 +11,7 @@ use lib.Dec.{eqb}
 use lib.ListN.{length, take, drop, get_or, take-append-drop, length-take, length-drop, drop_of_length-le}
 use lib.Seq.{drop-cons, drop-drop, get_or-take, get_or-drop, take_all}
 use borrow.Author.Tests.{eq-eqb, ne_eqb, lt-ltb, le-ltb}
-use Rattle.reference.specs.Control.{if◌then◌else◌}
+use Rattle.reference.specs.Control.{when◌then◌else◌}
 use Rattle.reference.specs.Text.{Text}
 use Rattle.laws.proofs.Scans.{if-true, if-false}
 use Rattle.words.specs.Splitting.{onto}
@@ -31,12 +31,12 @@ module _ (b : ℕ) where
   same_byte = eq-eqb b b refl
 
   pub ended_then : (t rest : Text) → Without b t → ended b (t ++ b ∷ rest) ≡ t ∷ ended b rest
-  unfolding ended onto if◌then◌else◌
+  unfolding ended onto when◌then◌else◌
   ended_then [] rest n = rw same_byte
   ended_then (x ∷ t) rest n = rw (ne_eqb x b (n 0 (omega arith)), ended_then t rest (tail_of b x t n))
 
   ended-last : (x : ℕ) (t : Text) → Without b (x ∷ t) → ended b (x ∷ t) ≡ (x ∷ t) ∷ []
-  unfolding ended onto if◌then◌else◌
+  unfolding ended onto when◌then◌else◌
   ended-last x [] n = rw (ne_eqb x b (n 0 (omega arith)))
   ended-last x (y ∷ t) n = rw (ne_eqb x b (n 0 (omega arith)), ended-last y t (tail_of b x (y ∷ t) n))
 
@@ -45,12 +45,12 @@ module _ (b : ℕ) where
   ended-only (x ∷ t) h n = ended-last x t n
 
   pub apart_then : (t rest : Text) → Without b t → apart b (t ++ b ∷ rest) ≡ t ∷ apart b rest
-  unfolding apart onto if◌then◌else◌
+  unfolding apart onto when◌then◌else◌
   apart_then [] rest n = rw same_byte
   apart_then (x ∷ t) rest n = rw (ne_eqb x b (n 0 (omega arith)), apart_then t rest (tail_of b x t n))
 
   pub apart-only : (t : Text) → Without b t → apart b t ≡ t ∷ []
-  unfolding apart onto if◌then◌else◌
+  unfolding apart onto when◌then◌else◌
   apart-only [] n = refl
   apart-only (x ∷ t) n = rw (ne_eqb x b (n 0 (omega arith)), apart-only t (tail_of b x t n))
 

@@ -1,6 +1,6 @@
 -- Issue 28: show --exact and then tape give the tape itself. Of every tape that is shown without a refusal (`read_back`), and so of every
 -- accepted one (`accepted-read-back`). Assumes nothing.
-use Prim.Native.Nat.{ℕ, zero, suc, ◌+◌, ◌-◌, ◌^◌, ◌≤◌, ◌<◌}
+use Prim.Native.Nat.{ℕ, zero, suc, ◌+◌, ◌^◌, ◌≤◌, ◌<◌}
 use native.Mathlib.Omega.{arith}
 use native.Mathlib.Decide.{dec_lt}
 use mathlib.Core.Logic.{by_cases}
@@ -11,7 +11,7 @@ use mathlib.Core.Option.{Option, none, some}
 use lib.ListN.{length, drop, take-append-drop}
 use lib.Seq.{drop-drop}
 use borrow.Author.Tests.{ne_eqb, le-leb, leb-true}
-use Rattle.reference.specs.Control.{if◌then◌else◌, ◌&&◌}
+use Rattle.reference.specs.Control.{when◌then◌else◌, ◌and◌}
 use Rattle.reference.specs.Lists.{is_empty}
 use Rattle.reference.specs.Text.{Text}
 use Rattle.reference.specs.Listing.{Listing}
@@ -38,7 +38,7 @@ abbrev Reads : ℕ → Text → List ℕ → Type 0
 Reads n text b = lines_read n (ended 10 text) ≡ record { bytes = b; wrong = none }
 
 first_line : (n : ℕ) (l : Text) (b : List ℕ) (text : Text) (c : List ℕ) → Line l b → Reads (suc n) text c → Reads n (l ++ 10 ∷ text) (b ++ c)
-unfolding lines_read then_lines if◌then◌else◌
+unfolding lines_read then_lines when◌then◌else◌
 first_line n l b text c k e = rw (ended_then 10 l text (avoids_without 10 l k.one), k.right, e)
 
 reads_as : (n : ℕ) {s t : Text} {b c : List ℕ} → s ≡ t → b ≡ c → Reads n s b → Reads n t c
@@ -119,12 +119,12 @@ module _ (tape : List ℕ) (bytes : Bytes tape) where
       → Reads n (l ++ (shown_from true fuel tape at fresh).text) (b ++ drop at tape)
 
   newline : (at : ℕ) → 0 < at → line_end at ≡ 10 ∷ []
-  unfolding line_end if◌then◌else◌
+  unfolding line_end when◌then◌else◌
   newline at h = rw (ne_eqb at 0 (λ e. omega arith))
 
   -- the text of a command, and what follows it
   abbrev after : ℕ → Command → Shown → Shown
-  after at c more = in_front (exact_command at c) (if is_end c then record { text = []; number = 0; place = 0 } else more)
+  after at c more = in_front (exact_command at c) (when is_end c then record { text = []; number = 0; place = 0 } else more)
 
   module _ (fuel : ℕ) (goes : Goes fuel) (at next : ℕ) (fresh : Bool) (n : ℕ) (l : Text) (b : List ℕ) (pos : 0 < at) (later : at < next) (k : Line l b) where
     abbrev more : Shown
@@ -132,7 +132,7 @@ module _ (tape : List ℕ) (bytes : Bytes tape) where
 
     turn : (c : Command) → Good (drop next tape) c → drop at tape ≡ write_command c ++ drop next tape → (after at c more).number ≡ 0
         → Reads n (l ++ (after at c more).text) (b ++ drop at tape)
-    unfolding exact_command if◌then◌else◌ front_text span_field token-field lines_read ended
+    unfolding exact_command when◌then◌else◌ front_text span_field token-field lines_read ended
     turn (new_line a indent) g e z =
         let c : Command = new_line a indent in
         let r = goes next fresh (suc n) (front_text a indent) (write_command c) (omega arith) (front_line a indent g.0 g.1) z in
@@ -177,7 +177,7 @@ module _ (tape : List ℕ) (bytes : Bytes tape) where
   first_turn : (fuel next : ℕ) (fresh : Bool) (c : Command) → 0 < next → Good (drop next tape) c → tape ≡ write_command c ++ drop next tape
       → has_line (begun 0 false) c ≡ true → (after 0 c (shown_from true fuel tape next fresh)).number ≡ 0
       → Reads 0 (after 0 c (shown_from true fuel tape next fresh)).text tape
-  unfolding exact_command line_end if◌then◌else◌ front_text has_line begun ◌&&◌ lines_read ended
+  unfolding exact_command line_end when◌then◌else◌ front_text has_line begun ◌and◌ lines_read ended
   first_turn fuel next fresh (new_line a indent) pos g e h z =
       reads_as 0 {s = front_text a indent ++ (shown_from true fuel tape next fresh).text} refl (sym e)
       (goes_on fuel next fresh 0 (front_text a indent) (write_command (new_line a indent)) pos (front_line a indent g.0 g.1) z)
@@ -210,7 +210,7 @@ module _ (tape : List ℕ) (bytes : Bytes tape) where
 
 module _ (at : ℕ) (t : Totals) (fresh : Bool) (first : at ≡ 0 → t.lines ≡ 0) (same : t.fresh ≡ fresh) where
   begun_one : 0 < at → (begun at fresh).lines ≡ 1
-  unfolding begun if◌then◌else◌
+  unfolding begun when◌then◌else◌
   begun_one h = rw (ne_eqb at 0 (λ e. omega arith))
 
   begun-few : (begun at fresh).lines ≤ 1
@@ -266,7 +266,7 @@ by_test false f g = g refl
 module _ (tape : List ℕ) where
   shows : (exact : Bool) (fuel at : ℕ) (t : Totals) (lines result : Listing) (fresh : Bool) → (at ≡ 0 → t.lines ≡ 0) → t.fresh ≡ fresh
       → read_from fuel tape at t lines ≡ Passed result → (shown_from exact fuel tape at fresh).number ≡ 0
-  unfolding read_from_by shown_from shown_at if◌then◌else◌
+  unfolding read_from_by shown_from shown_at when◌then◌else◌
   shows exact zero at t lines result fresh f s = λ e. absurd (refused_passed e)
   shows exact (suc fuel) at t lines result fresh f s =
       by_passed (λ (x : Answer Listing). x ≡ Passed result → (shown_from exact (suc fuel) tape at fresh).number ≡ 0)

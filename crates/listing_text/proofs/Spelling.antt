@@ -9,7 +9,7 @@ use mathlib.Core.List.{[], ◌∷◌}
 use lib.Dec.{eqb}
 use lib.ListN.{get_or}
 use borrow.Author.Tests.{lt-ltb, le-ltb, ne_eqb}
-use Rattle.reference.specs.Control.{if◌then◌else◌, let_some◌else◌then◌}
+use Rattle.reference.specs.Control.{when◌then◌else◌, let_some◌else◌then◌}
 use Rattle.reference.specs.Lists.{position}
 use Rattle.laws.proofs.Scans.{if-true, if-false}
 use Rattle.io.specs.Digits.{last_digits, IsDigitCount}
@@ -70,11 +70,11 @@ unfolding blanks puts
 blanks-last g left e = rw e
 
 pub no_line_end : (g : Page) (at : ℕ) → at ≡ 0 → Adds g (line_end at) g
-unfolding line_end if◌then◌else◌
+unfolding line_end when◌then◌else◌
 no_line_end g at e = rw e adds_none
 
 pub some_line_end : (at : ℕ) → (at ≡ 0 → ⊥) → 10 ∷ [] ≡ line_end at
-unfolding line_end if◌then◌else◌
+unfolding line_end when◌then◌else◌
 some_line_end at n = rw (ne_eqb at 0 n)
 
 -- ---- letters
@@ -97,40 +97,40 @@ tag l = let_some (position (eqb l) letters) else 0 then λ kind. 16 + kind
 
 module _ {l : ℕ} where
   pub tag_t : l ≡ 116 → 16 ≡ tag l
-  unfolding if◌then◌else◌ let_some◌else◌then◌
+  unfolding when◌then◌else◌ let_some◌else◌then◌
   tag_t e = rw e
 
   pub tag_r : l ≡ 114 → 17 ≡ tag l
-  unfolding if◌then◌else◌ let_some◌else◌then◌
+  unfolding when◌then◌else◌ let_some◌else◌then◌
   tag_r e = rw e
 
   pub tag_n : l ≡ 110 → 18 ≡ tag l
-  unfolding if◌then◌else◌ let_some◌else◌then◌
+  unfolding when◌then◌else◌ let_some◌else◌then◌
   tag_n e = rw e
 
   pub tag_k : l ≡ 107 → 19 ≡ tag l
-  unfolding if◌then◌else◌ let_some◌else◌then◌
+  unfolding when◌then◌else◌ let_some◌else◌then◌
   tag_k e = rw e
 
   pub tag_s : l ≡ 115 → 20 ≡ tag l
-  unfolding if◌then◌else◌ let_some◌else◌then◌
+  unfolding when◌then◌else◌ let_some◌else◌then◌
   tag_s e = rw e
 
   pub tag_a : l ≡ 97 → 21 ≡ tag l
-  unfolding if◌then◌else◌ let_some◌else◌then◌
+  unfolding when◌then◌else◌ let_some◌else◌then◌
   tag_a e = rw e
 
   pub tag_p : l ≡ 112 → 22 ≡ tag l
-  unfolding if◌then◌else◌ let_some◌else◌then◌
+  unfolding when◌then◌else◌ let_some◌else◌then◌
   tag_p e = rw e
 
   pub tag_x : l ≡ 120 → 23 ≡ tag l
-  unfolding if◌then◌else◌ let_some◌else◌then◌
+  unfolding when◌then◌else◌ let_some◌else◌then◌
   tag_x e = rw e
 
   pub tag_none : (l ≡ 116 → ⊥) → (l ≡ 114 → ⊥) → (l ≡ 110 → ⊥) → (l ≡ 107 → ⊥) → (l ≡ 115 → ⊥) → (l ≡ 97 → ⊥) → (l ≡ 112 → ⊥) → (l ≡ 120 → ⊥)
       → 0 ≡ tag l
-  unfolding if◌then◌else◌ let_some◌else◌then◌
+  unfolding when◌then◌else◌ let_some◌else◌then◌
   tag_none t r n k s a p x = rw (ne_eqb l 116 t, ne_eqb l 114 r, ne_eqb l 110 n, ne_eqb l 107 k, ne_eqb l 115 s, ne_eqb l 97 a, ne_eqb l 112 p, ne_eqb l 120 x)
 
 pub ruleset tags = (tag_t, tag_r, tag_n, tag_k, tag_s, tag_a, tag_p, tag_x, tag_none)

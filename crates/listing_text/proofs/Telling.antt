@@ -10,7 +10,7 @@ use mathlib.Core.Option.{some}
 use lib.Dec.{eqb, leb, ltb}
 use lib.ListN.{length, take, drop, length-drop}
 use borrow.Author.Tests.{ne_eqb, lt-ltb, le-ltb, le-leb, lt-leb}
-use Rattle.reference.specs.Control.{if◌then◌else◌, ◌&&◌}
+use Rattle.reference.specs.Control.{when◌then◌else◌, ◌and◌}
 use Rattle.reference.specs.Text.{Text}
 use Rattle.reference.specs.Spans.{Span}
 use Rattle.reference.specs.Listing.{token}
@@ -31,15 +31,15 @@ use Rattle.listing_text.proofs.Pages.{puts_append, all-put, adds_none}
 
 -- ---- marks to read
 
-module _ {g : Page} (low high lowest highest : ℕ) {x : Bool} (e : x ≡ (eqb lowest low && eqb highest high)) where
+module _ {g : Page} (low high lowest highest : ℕ) {x : Bool} (e : x ≡ (eqb lowest low and eqb highest high)) where
   pub same_span : x ≡ true → Adds g (span_text (record { lowest = low; highest = high }) (some (record { lowest = lowest; highest = highest }))) g
-  unfolding span_text if◌then◌else◌
+  unfolding span_text when◌then◌else◌
   same_span t = rw (sym e ∙ t) adds_none
 
   pub other_span : {g₁ : Page} → x ≡ false
       → Adds g (short_hex lowest ++ (46 ∷ 46 ∷ []) ++ short_hex highest ++ (32 ∷ [])) g₁
       → Adds g (span_text (record { lowest = low; highest = high }) (some (record { lowest = lowest; highest = highest }))) g₁
-  unfolding span_text if◌then◌else◌
+  unfolding span_text when◌then◌else◌
   other_span t a = rw (sym e ∙ t) a
 
 span_same : (tape : List ℕ) (at : ℕ) (c : Command) → span_in (command_in [] 0 c) ≡ span_in (command_in tape at c)
@@ -116,14 +116,14 @@ module _ (g : Page) (exact : Bool) (tape : List ℕ) (at : ℕ) (fresh : Bool) (
 
     module _ {x : Advance} (e : Passed x ≡ read_command tape at t) {g₁ : Page} (a : Adds g (command_text exact tape at x.next x.command) g₁) where
       pub told_end : is_end x.command ≡ true → record { where_to = g₁; number = 0; place = 0 } ≡ tells g (shown_from exact turns tape at fresh)
-      unfolding tells shown_at if◌then◌else◌
+      unfolding tells shown_at when◌then◌else◌
       told_end n =
           let s : Text = command_text exact tape at x.next x.command in
           rw (← turn e, n) (λ i. record { where_to = (a.same ∙ ap (puts g) (sym (append-nil s))) i; number = 0; place = 0 })
 
       pub told-on : is_end x.command ≡ false
           → tells g₁ (shown_from exact (turns - 1) tape x.next x.totals.fresh) ≡ tells g (shown_from exact turns tape at fresh)
-      unfolding tells shown_at if◌then◌else◌
+      unfolding tells shown_at when◌then◌else◌
       told-on n =
           let s : Text = command_text exact tape at x.next x.command in
           let r : Shown = shown_from exact (turns - 1) tape x.next x.totals.fresh in
@@ -134,11 +134,11 @@ module _ (g : Page) (exact : Bool) (tape : List ℕ) (at : ℕ) (fresh : Bool) (
 
 module _ (at : ℕ) (fresh : Bool) where
   pub begun_first : at ≡ 0 → record { lines = 0; tokens = 0; text = 0; fresh = fresh } ≡ begun at fresh
-  unfolding begun if◌then◌else◌
+  unfolding begun when◌then◌else◌
   begun_first e = rw e
 
   pub begun-later : (at ≡ 0 → ⊥) → record { lines = 1; tokens = 0; text = 0; fresh = fresh } ≡ begun at fresh
-  unfolding begun if◌then◌else◌
+  unfolding begun when◌then◌else◌
   begun-later n = rw (ne_eqb at 0 n)
 
 -- ---- the end

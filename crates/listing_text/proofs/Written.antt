@@ -1,5 +1,5 @@
 -- Fields of the exact form, as they are written, read back as their commands; and a line with a field more. Assumes nothing.
-use Prim.Native.Nat.{ℕ, zero, suc, ◌+◌, ◌-◌, ◌^◌, ◌≤◌, ◌<◌}
+use Prim.Native.Nat.{ℕ, zero, suc, ◌^◌, ◌≤◌, ◌<◌}
 use native.Mathlib.Omega.{arith}
 use mathlib.Core.Path.{◌≡◌, refl, sym, ap, ◌∙◌}
 use mathlib.Core.Bool.{Bool, true, false, false≢true}
@@ -9,10 +9,10 @@ use lib.Dec.{eqb, ltb}
 use lib.ListN.{length, take, drop, get_or, length-append}
 use lib.Seq.{take_at, drop_at}
 use borrow.Author.Tests.{eq-eqb, le-ltb, ltb-false}
-use Rattle.reference.specs.Control.{if◌then◌else◌, let_some◌else◌then◌, ◌&&◌}
+use Rattle.reference.specs.Control.{when◌then◌else◌, let_some◌else◌then◌, ◌and◌}
 use Rattle.reference.specs.Lists.{any, position}
 use Rattle.reference.specs.Listing.{token}
-use Rattle.reference.specs.Text.{Text, bytes, ◌==◌}
+use Rattle.reference.specs.Text.{Text, bytes, ◌≟◌}
 use Rattle.reference.specs.Tape.{Command, new_line, marked, new_token, write_command}
 use Rattle.reference.specs.Questions.{is_offending}
 use Rattle.reference.proofs.Cases.{neither}
@@ -29,7 +29,7 @@ use Rattle.listing_text.proofs.Numerals.{Above, above_append, above_without, Avo
 -- a token's letter
 letter_back : (k : ℕ) → k < 8
     → (eqb (get_or letters k 0) 109 ≡ false) × (position (eqb (get_or letters k 0)) letters ≡ some k) × (11 ≤ get_or letters k 0)
-unfolding if◌then◌else◌ let_some◌else◌then◌
+unfolding when◌then◌else◌ let_some◌else◌then◌
 letter_back zero h = (refl, refl, omega arith)
 letter_back (suc zero) h = (refl, refl, omega arith)
 letter_back (suc (suc zero)) h = (refl, refl, omega arith)
@@ -48,7 +48,7 @@ span_field low high = 109 ∷ 58 ∷ (hexadecimal 16 low ++ bytes ".." ++ hexade
 
 module _ (kind : ℕ) (t : Text) (h : kind < 8) where
   pub token_back : length t < 2 ^ 16 → field_command (token-field kind t) ≡ some (new_token (token kind t))
-  unfolding token-field field_command token_command if◌then◌else◌ let_some◌else◌then◌
+  unfolding token-field field_command token_command when◌then◌else◌ let_some◌else◌then◌
   token_back l =
       let b = letter_back kind h in
       rw (le-ltb (suc (suc (length t))) 2 (omega arith), b.0, b.1, le-ltb 65535 (length t) (omega arith))
@@ -64,7 +64,7 @@ module _ (low high : ℕ) where
       ∙ omega (arith, length-append (hexadecimal 16 low) (bytes ".."), sixteen-long low, sixteen-long high)
 
   pub span_back : low < 16 ^ 16 → high < 16 ^ 16 → field_command (span_field low high) ≡ some (marked (record { lowest = low; highest = high }))
-  unfolding span_field field_command span_command if◌then◌else◌ let_some◌else◌then◌ ◌&&◌
+  unfolding span_field field_command span_command when◌then◌else◌ let_some◌else◌then◌ ◌and◌
   span_back l h =
       let a : Text = hexadecimal 16 low in
       let b : Text = hexadecimal 16 high in
@@ -89,13 +89,13 @@ module _ (low high : ℕ) where
 
 -- ---- the front of a line
 
-not_dash : (s : Text) → 2 ≤ length s → (s == bytes "-") ≡ false
-unfolding ◌&&◌
+not_dash : (s : Text) → 2 ≤ length s → (s ≟ bytes "-") ≡ false
+unfolding ◌and◌
 not_dash [] h = absurd (omega arith)
 not_dash (x ∷ []) h = absurd (omega arith)
 not_dash (x ∷ y ∷ s) h = step (eqb x 45)
   where
-    step : (b : Bool) → (b && false) ≡ false
+    step : (b : Bool) → (b and false) ≡ false
     step true = refl
     step false = refl
 
@@ -104,7 +104,7 @@ Fits none = Unit {0}
 Fits (some n) = n < 16 ^ 16
 
 pub address-back : (a : Option ℕ) → Fits a → address_in (exact_address a) ≡ some a
-unfolding address_in exact_address if◌then◌else◌ let_some◌else◌then◌ ◌&&◌
+unfolding address_in exact_address when◌then◌else◌ let_some◌else◌then◌ ◌and◌
 address-back none f = refl
 address-back (some n) f = rw (not_dash (hexadecimal 16 n) (omega (arith, sixteen-long n)), sixteen-reads n f)
 
@@ -114,7 +114,7 @@ address_above none = (omega arith, tt)
 address_above (some n) = sixteen-above n
 
 pub indent-back : (n : ℕ) → n ≤ 63 → indent_in (decimal n) ≡ some n
-unfolding indent_in if◌then◌else◌ let_some◌else◌then◌
+unfolding indent_in when◌then◌else◌ let_some◌else◌then◌
 indent-back n h = rw (indent-reads n (omega arith), le-ltb 255 n (omega arith))
 
 unfoldable pub front_text : Option ℕ → ℕ → Text
@@ -149,14 +149,14 @@ by_test true f g = f refl
 by_test false f g = g refl
 
 apart_some : (t : Text) → (p : Text) × (ps : List Text) × (apart 9 t ≡ p ∷ ps)
-unfolding apart onto if◌then◌else◌
+unfolding apart onto when◌then◌else◌
 apart_some [] = ([], [], refl)
 apart_some (x ∷ t) =
     let k = apart_some t in
     by_test (eqb x 9) (λ e. ([], apart 9 t, rw e)) (λ e. (x ∷ k.0, k.1, rw (e, k.2)))
 
 apart_more : (t f : Text) → Without 9 f → apart 9 (t ++ (9 ∷ f)) ≡ apart 9 t ++ (f ∷ [])
-unfolding apart onto if◌then◌else◌
+unfolding apart onto when◌then◌else◌
 apart_more [] f n = ap (λ (r : List Text). [] ∷ r) (apart-only 9 f n)
 apart_more (x ∷ t) f n =
     let k = apart_some t in

@@ -2,9 +2,9 @@
 -- apart by tabs: the address, the indent, then marks and tokens. Assumes nothing.
 use Rattle.std.specs.Prelude.{ℕ, suc, ◌≡◌, Bool, true, false, List, [], ◌∷◌, ◌++◌, eqb, ltb, length, take, drop, get_or}
 use Rattle.std.proofs.Math.Option.{Option, none, some}
-use Rattle.reference.specs.Control.{if◌then◌else◌, let_some◌else◌then◌}
+use Rattle.reference.specs.Control.{when◌then◌else◌, let_some◌else◌then◌}
 use Rattle.reference.specs.Lists.{position}
-use Rattle.reference.specs.Text.{Text, bytes, ◌==◌}
+use Rattle.reference.specs.Text.{Text, bytes, ◌≟◌}
 use Rattle.reference.specs.Listing.{token}
 use Rattle.reference.specs.Tape.{Command, new_line, marked, new_token, end, write_command}
 use Rattle.words.specs.Splitting.{onto}
@@ -19,22 +19,22 @@ use Rattle.listing_text.specs.declared.reading.Made.TheVariants.{Whole, Full, Wr
 -- texts that each end with the byte b, the last one there or with the whole
 unfoldable pub ended : ℕ → Text → List Text
 ended b [] = []
-ended b (x ∷ t) = let rest = ended b t in if eqb x b then [] ∷ rest else onto x rest
+ended b (x ∷ t) = let rest = ended b t in when eqb x b then [] ∷ rest else onto x rest
 
 -- texts between the bytes b: one more than there are of these
 unfoldable pub apart : ℕ → Text → List Text
 apart b [] = [] ∷ []
-apart b (x ∷ t) = let rest = apart b t in if eqb x b then [] ∷ rest else onto x rest
+apart b (x ∷ t) = let rest = apart b t in when eqb x b then [] ∷ rest else onto x rest
 
 -- ---- a field
 
 -- -: no address; otherwise 1 to 16 hexadecimal digits
 unfoldable pub address_in : Text → Option (Option ℕ)
-address_in f = if f == bytes "-" then some none else let_some (number_in 16 f) else none then λ n. some (some n)
+address_in f = when f ≟ bytes "-" then some none else let_some (number_in 16 f) else none then λ n. some (some n)
 
 -- 1 to 16 decimal digits, at most 255: what a byte holds
 unfoldable pub indent_in : Text → Option ℕ
-indent_in f = let_some (number_in 10 f) else none then λ n. if ltb 255 n then none else some n
+indent_in f = let_some (number_in 10 f) else none then λ n. when ltb 255 n then none else some n
 
 -- the command of a line
 unfoldable pub line_command : Text → Text → Option Command
@@ -46,8 +46,8 @@ line_command a i =
 -- LOWEST..HIGHEST, 16 digits each
 unfoldable pub span_command : Text → Option Command
 span_command t =
-    if eqb (length t) 34 then
-    (if take 2 (drop 16 t) == bytes ".." then
+    when eqb (length t) 34 then
+    (when take 2 (drop 16 t) ≟ bytes ".." then
     (let_some (number_in 16 (take 16 t)) else none then λ low.
     let_some (number_in 16 (drop 18 t)) else none then λ high.
     some (marked (record { lowest = low; highest = high })))
@@ -58,14 +58,14 @@ span_command t =
 unfoldable pub token_command : ℕ → Text → Option Command
 token_command letter t =
     let_some (position (eqb letter) letters) else none then λ kind.
-    if ltb 65535 (length t) then none else some (new_token (token kind t))
+    when ltb 65535 (length t) then none else some (new_token (token kind t))
 
 -- a letter, a colon, and marks or a text
 unfoldable pub field_command : Text → Option Command
 field_command f =
-    if ltb (length f) 2 then none
-    else if eqb (get_or f 1 0) 58 then
-    (if eqb (get_or f 0 0) 109 then span_command (drop 2 f) else token_command (get_or f 0 0) (drop 2 f))
+    when ltb (length f) 2 then none
+    else when eqb (get_or f 1 0) 58 then
+    (when eqb (get_or f 0 0) 109 then span_command (drop 2 f) else token_command (get_or f 0 0) (drop 2 f))
     else none
 
 -- ---- a line
@@ -102,7 +102,7 @@ pub record Tape : Type 0 where
 
 unfoldable pub then_lines : ℕ → Read → Tape → Tape
 then_lines n r rest =
-    if r.right then record { bytes = r.bytes ++ rest.bytes; wrong = rest.wrong } else record { bytes = r.bytes; wrong = some n }
+    when r.right then record { bytes = r.bytes ++ rest.bytes; wrong = rest.wrong } else record { bytes = r.bytes; wrong = some n }
 
 unfoldable pub lines_read : ℕ → List Text → Tape
 lines_read n [] = record { bytes = write_command end; wrong = none }
@@ -116,7 +116,7 @@ tape_of text = lines_read 0 (ended 10 text)
 
 -- with room for so many bytes: the tape's length; a wrong line's number; or that the tape does not fit
 unfoldable pub made_of : ℕ → Tape → Made
-made_of room t = let_some t.wrong else (if ltb room (length t.bytes) then Full else Whole (length t.bytes)) then λ n. Wrong n
+made_of room t = let_some t.wrong else (when ltb room (length t.bytes) then Full else Whole (length t.bytes)) then λ n. Wrong n
 
 -- the slice holds as much of the bytes as it has room for
 pub record Makes (t : Tape) (out out' : List ℕ) (r : Made) : Type 0 where

@@ -1,9 +1,10 @@
 -- A command of a tape as text, in two forms. To read: the marks where they say more than the address, the address in hexadecimal or blanks,
 -- two blanks an indent, the texts of the tokens. Exact: fields apart by tabs, ADDRESS INDENT [m:LOWEST..HIGHEST] [KIND:TEXT].., which says
 -- all that the tape says. Assumes nothing.
-use Rattle.std.specs.Prelude.{ℕ, zero, suc, ◌+◌, ◌-◌, ◌^◌, ◌≤◌, ◌≡◌, Bool, true, false, List, [], ◌∷◌, ◌++◌, eqb, ltb, length, take, drop, get_or}
+use Rattle.std.specs.Prelude.{ℕ, zero, suc, ◌+◌, ◌-◌, ◌^◌, ◌≤◌, ◌≡◌, Bool, true, false, List, [], ◌∷◌, ◌++◌, eqb, ltb, length, take, drop}
+use Rattle.std.specs.Prelude.{get_or}
 use Rattle.std.proofs.Math.Option.{Option, none, some}
-use Rattle.reference.specs.Control.{◌&&◌, if◌then◌else◌}
+use Rattle.reference.specs.Control.{◌and◌, when◌then◌else◌}
 use Rattle.reference.specs.Text.{Text, bytes}
 use Rattle.reference.specs.Spans.{Span}
 use Rattle.reference.specs.Tape.{Command, new_line, marked, new_token, end}
@@ -18,7 +19,7 @@ use Rattle.io.specs.Digits.{last_digits}
 
 -- a newline ends the line before, if there is one: not in front of the first command
 unfoldable pub line_end : ℕ → Text
-line_end at = if eqb at 0 then [] else 10 ∷ []
+line_end at = when eqb at 0 then [] else 10 ∷ []
 
 -- the last k hexadecimal digits of a number, in lower case
 unfoldable pub hexadecimal : ℕ → ℕ → Text
@@ -27,7 +28,7 @@ hexadecimal k n = last_digits 16 k n
 -- the fewest digits from k on that hold n, at most `more` more
 unfoldable pub enough : ℕ → ℕ → ℕ → ℕ
 enough zero k n = k
-enough (suc more) k n = let r = enough more (suc k) n in if ltb n (16 ^ k) then k else r
+enough (suc more) k n = let r = enough more (suc k) n in when ltb n (16 ^ k) then k else r
 
 -- an address to read: eight digits, or as many more as it takes
 unfoldable pub short_hex : ℕ → Text
@@ -66,7 +67,7 @@ own_span (some address) = record { lowest = address; highest = address }
 unfoldable pub span_text : Span → Option Span → Text
 span_text own none = []
 span_text own (some s) =
-    if eqb s.lowest own.lowest && eqb s.highest own.highest then []
+    when eqb s.lowest own.lowest and eqb s.highest own.highest then []
     else short_hex s.lowest ++ bytes ".." ++ short_hex s.highest ++ bytes " "
 
 unfoldable pub read_address : Option ℕ → Text

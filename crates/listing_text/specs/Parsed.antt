@@ -1,7 +1,7 @@
 -- What the code's values mean while it reads the exact form. Assumes nothing.
 use Rattle.std.specs.Prelude.{ℕ, ◌+◌, ◌≤◌, ◌<◌, ◌≡◌, Bool, true, false, List, [], ◌∷◌, ◌++◌, ltb, length, drop, get_or}
 use Rattle.std.proofs.Math.Option.{Option, none, some}
-use Rattle.reference.specs.Control.{if◌then◌else◌, let_some◌else◌then◌}
+use Rattle.reference.specs.Control.{when◌then◌else◌, let_some◌else◌then◌}
 use Rattle.reference.specs.Text.{Text}
 use Rattle.reference.specs.Tape.{Command, new_line, marked, write_command, to_le_bytes}
 use Rattle.listing_text.specs.Room.{Page, page, puts}
@@ -71,7 +71,7 @@ PutsRead out p r out' l = Lays (page out p) r (lies out' l)
 
 -- the answer where all is put
 unfoldable pub made_on : Page → Made
-made_on g = if g.cut then Full else Whole g.at
+made_on g = when g.cut then Full else Whole g.at
 
 -- ---- parts of a text
 
@@ -84,4 +84,4 @@ pub record EndsAt (b : ℕ) (t : Text) (at e : ℕ) : Type 0 where
 
 -- the fields behind a place where a field ends
 unfoldable pub fields_behind : Text → ℕ → List Text
-fields_behind t e = if ltb e (length t) then apart 9 (drop (e + 1) t) else []
+fields_behind t e = when ltb e (length t) then apart 9 (drop (e + 1) t) else []

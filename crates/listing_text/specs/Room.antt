@@ -1,6 +1,6 @@
 -- Bytes put into a lent slice as far as they fit. Assumes nothing.
 use Rattle.std.specs.Prelude.{ℕ, ◌+◌, ◌≡◌, Bool, true, false, List, [], ◌∷◌, ◌++◌, ltb, length, take, drop, set}
-use Rattle.reference.specs.Control.{if◌then◌else◌}
+use Rattle.reference.specs.Control.{when◌then◌else◌}
 use Rattle.reference.specs.Text.{Text}
 use Rattle.listing_text.specs.declared.room.Place.{Place}
 
@@ -21,7 +21,7 @@ page out p = record { bytes = out; at = p.at; cut = p.cut }
 
 unfoldable pub put_one : Page → ℕ → Page
 put_one g b =
-    if ltb g.at (length g.bytes) then record { bytes = set g.bytes g.at b; at = g.at + 1; cut = g.cut }
+    when ltb g.at (length g.bytes) then record { bytes = set g.bytes g.at b; at = g.at + 1; cut = g.cut }
     else record { bytes = g.bytes; at = g.at; cut = true }
 
 unfoldable pub puts : Page → Text → Page

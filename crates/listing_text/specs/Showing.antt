@@ -1,7 +1,7 @@
 -- A tape as text: command after command up to the end, or to the first that a question refuses. The limits of a whole listing (10, 11) are
 -- not asked, since cleaning may lengthen a text. Assumes nothing.
 use Rattle.std.specs.Prelude.{ℕ, zero, suc, ◌≡◌, Bool, false, List, [], ◌++◌, eqb, leb, length, take}
-use Rattle.reference.specs.Control.{if◌then◌else◌}
+use Rattle.reference.specs.Control.{when◌then◌else◌}
 use Rattle.reference.specs.Text.{Text}
 use Rattle.reference.specs.Questions.{Totals, Answer, Refused, Passed, Advance, read_command, is_end}
 use Rattle.listing_text.specs.Room.{laid}
@@ -20,7 +20,7 @@ in_front t s = record { text = t ++ s.text; number = s.number; place = s.place }
 
 -- what is asked of a command: whether a line has begun before it, and whether that is the command just before
 unfoldable pub begun : ℕ → Bool → Totals
-begun at fresh = record { lines = if eqb at 0 then 0 else 1; tokens = 0; text = 0; fresh = fresh }
+begun at fresh = record { lines = when eqb at 0 then 0 else 1; tokens = 0; text = 0; fresh = fresh }
 
 -- what an answer at an offset gives; `rest` is the text from an offset on
 unfoldable pub shown_at : Bool → List ℕ → ℕ → (ℕ → Bool → Shown) → Answer Advance → Shown
@@ -28,7 +28,7 @@ shown_at exact tape at rest (Refused number place) = record { text = line_end at
 shown_at exact tape at rest (Passed a) =
     let more = rest a.next a.totals.fresh in
     in_front (command_text exact tape at a.next a.command)
-    (if is_end a.command then record { text = []; number = 0; place = 0 } else more)
+    (when is_end a.command then record { text = []; number = 0; place = 0 } else more)
 
 -- the commands from an offset on. `fuel` bounds them: a command has a byte or more
 unfoldable pub shown_from : Bool → ℕ → List ℕ → ℕ → Bool → Shown

@@ -1,7 +1,6 @@
 // A field of the exact form: what it says, and its bytes on the tape.
 ghost use Rattle.std.specs.Prelude.{◌≡◌, [], ◌+◌, eqb};
 ghost use Rattle.std.proofs.Math.Option.{none, some};
-ghost use Rattle.reference.specs.Contract.{was};
 ghost use Rattle.reference.specs.Control.{let_some◌else◌then◌};
 ghost use Rattle.reference.specs.Lists.{position};
 ghost use Rattle.reference.specs.Tape.{write_command, new_line, marked};
@@ -15,7 +14,7 @@ use text::same;
 use words::{Value, number_in};
 
 // What the field of an address says.
-#[derive(Drop)]
+#[derive(Clone, Copy)]
 pub enum Address {
     Is(u64),
     Missing,
@@ -23,7 +22,7 @@ pub enum Address {
 }
 
 // What a field says, or the first two of a line; a token's tag is its first byte on the tape.
-#[derive(Drop)]
+#[derive(Clone, Copy)]
 pub enum Parsed {
     Addressed { address: u64, indent: u8 },
     Plain { indent: u8 },
@@ -33,7 +32,7 @@ pub enum Parsed {
 }
 
 // How far the output is filled, and whether what was read is right.
-#[derive(Drop)]
+#[derive(Clone, Copy)]
 pub struct Laid {
     pub place: Place,
     pub right: bool,
@@ -42,7 +41,7 @@ pub struct Laid {
 // ---- the first two fields
 
 fn address_of(field: &[u8]) -> Address
-    ensures { addressed result ≡ address_in (was field) }
+    ensures { addressed result ≡ address_in field.now }
 {
     if same(field, b"-") {
         return Address::Missing;
@@ -65,7 +64,7 @@ fn line_with(address: Address, indent: u8) -> Parsed
 }
 
 fn line_of(a: &[u8], i: &[u8]) -> Parsed
-    ensures { read_in [] result ≡ read_of (line_command (was a) (was i)) }
+    ensures { read_in [] result ≡ read_of (line_command a.now i.now) }
 {
     let address = address_of(a);
     match number_in(i, 10) {
@@ -83,7 +82,7 @@ fn line_of(a: &[u8], i: &[u8]) -> Parsed
 
 // Marks: LOWEST..HIGHEST, 16 digits each.
 fn span_of(span: &[u8]) -> Parsed
-    ensures { read_in [] result ≡ read_of (span_command (was span)) }
+    ensures { read_in [] result ≡ read_of (span_command span.now) }
 {
     if span.len() != 34 {
         return Parsed::Wrong;
@@ -118,7 +117,7 @@ fn tag_of(letter: u8) -> u8
 }
 
 fn token_of(letter: u8, text: &[u8]) -> Parsed
-    ensures { read_in (was text) result ≡ read_of (token_command letter (was text)) }
+    ensures { read_in text.now result ≡ read_of (token_command letter text.now) }
 {
     let tag = tag_of(letter);
     if tag == 0 {
@@ -148,7 +147,7 @@ fn is_right(q: Parsed) -> bool
 }
 
 fn put_line(address: u64, indent: u8, out: &mut [u8], p: Place) -> Place
-    ensures { Puts (was out) p (write_command (new_line (some address) indent)) out.new result }
+    ensures { Puts out.old p (write_command (new_line (some address) indent)) out.new result }
 {
     let a = put_byte(1, out, p);
     let b = put_le(address, 8, out, a);
@@ -156,14 +155,14 @@ fn put_line(address: u64, indent: u8, out: &mut [u8], p: Place) -> Place
 }
 
 fn put_plain(indent: u8, out: &mut [u8], p: Place) -> Place
-    ensures { Puts (was out) p (write_command (new_line none indent)) out.new result }
+    ensures { Puts out.old p (write_command (new_line none indent)) out.new result }
 {
     let a = put_byte(2, out, p);
     put_byte(indent, out, a)
 }
 
 fn put_span(low: u64, high: u64, out: &mut [u8], p: Place) -> Place
-    ensures { Puts (was out) p (write_command (marked (record { lowest = low; highest = high }))) out.new result }
+    ensures { Puts out.old p (write_command (marked (record { lowest = low; highest = high }))) out.new result }
 {
     let a = put_byte(3, out, p);
     let b = put_le(low, 8, out, a);
@@ -171,7 +170,7 @@ fn put_span(low: u64, high: u64, out: &mut [u8], p: Place) -> Place
 }
 
 fn put_token(tag: u8, text: &[u8], out: &mut [u8], p: Place) -> Place
-    ensures { Puts (was out) p (bytes_in (was text) (Parsed.Token tag)) out.new result }
+    ensures { Puts out.old p (bytes_in text.now (Parsed.Token tag)) out.new result }
 {
     let a = put_byte(tag, out, p);
     let b = put_le(text.len() as u64, 2, out, a);
@@ -180,7 +179,7 @@ fn put_token(tag: u8, text: &[u8], out: &mut [u8], p: Place) -> Place
 
 // Puts the bytes of what a field says; `text` is a token's.
 fn put_bytes(q: Parsed, text: &[u8], out: &mut [u8], p: Place) -> Place
-    ensures { Puts (was out) p (bytes_in (was text) q) out.new result }
+    ensures { Puts out.old p (bytes_in text.now q) out.new result }
 {
     match q {
         Parsed::Addressed { address, indent } => put_line(address, indent, out, p),
@@ -192,7 +191,7 @@ fn put_bytes(q: Parsed, text: &[u8], out: &mut [u8], p: Place) -> Place
 }
 
 fn put_parsed(q: Parsed, text: &[u8], out: &mut [u8], p: Place) -> Laid
-    ensures { PutsRead (was out) p (read_in (was text) q) out.new result }
+    ensures { PutsRead out.old p (read_in text.now q) out.new result }
 {
     let right = is_right(q);
     let place = put_bytes(q, text, out, p);
@@ -203,14 +202,14 @@ fn put_parsed(q: Parsed, text: &[u8], out: &mut [u8], p: Place) -> Laid
 
 // Puts the command of a line's first two fields.
 pub fn put_head(a: &[u8], i: &[u8], out: &mut [u8], p: Place) -> Laid
-    ensures { PutsRead (was out) p (read_of (line_command (was a) (was i))) out.new result }
+    ensures { PutsRead out.old p (read_of (line_command a.now i.now)) out.new result }
 {
     put_parsed(line_of(a, i), b"", out, p)
 }
 
 // Puts the command of a further field.
 pub fn put_field(field: &[u8], out: &mut [u8], p: Place) -> Laid
-    ensures { PutsRead (was out) p (read_of (field_command (was field))) out.new result }
+    ensures { PutsRead out.old p (read_of (field_command field.now)) out.new result }
 {
     if field.len() < 2 {
         return Laid {

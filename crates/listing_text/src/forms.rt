@@ -1,8 +1,7 @@
 // A command of a tape as text, to read and in the exact form.
 ghost use Rattle.std.specs.Prelude.{◌≡◌, ◌∷◌, [], ◌++◌, eqb, get_or};
 ghost use Rattle.std.proofs.Math.Option.{none, some};
-ghost use Rattle.reference.specs.Contract.{was};
-ghost use Rattle.reference.specs.Control.{◌&&◌};
+ghost use Rattle.reference.specs.Control.{◌and◌};
 ghost use Rattle.printing.specs.Decimals.{decimal};
 ghost use Rattle.tape.specs.Commands.{command_in};
 ghost use Rattle.listing_text.specs.Room.{Puts};
@@ -17,7 +16,7 @@ use tape::reader::command_from;
 
 // Puts 16 hexadecimal digits.
 fn put_hex(n: u64, out: &mut [u8], p: Place) -> Place
-    ensures { Puts (was out) p (hexadecimal 16 n) out.new result }
+    ensures { Puts out.old p (hexadecimal 16 n) out.new result }
 {
     let mut digits = [0u8; 16];
     let k = io::hex(n, 16, &mut digits);
@@ -26,7 +25,7 @@ fn put_hex(n: u64, out: &mut [u8], p: Place) -> Place
 
 // Puts eight hexadecimal digits, or as many more as it takes.
 fn put_short_hex(n: u64, out: &mut [u8], p: Place) -> Place
-    ensures { Puts (was out) p (short_hex n) out.new result }
+    ensures { Puts out.old p (short_hex n) out.new result }
 {
     let mut digits = [0u8; 16];
     let k = io::hex(n, 8, &mut digits);
@@ -34,7 +33,7 @@ fn put_short_hex(n: u64, out: &mut [u8], p: Place) -> Place
 }
 
 fn put_decimal(n: u64, out: &mut [u8], p: Place) -> Place
-    ensures { Puts (was out) p (decimal n) out.new result }
+    ensures { Puts out.old p (decimal n) out.new result }
 {
     let mut digits = [0u8; 20];
     let k = io::decimal(n, &mut digits);
@@ -43,7 +42,7 @@ fn put_decimal(n: u64, out: &mut [u8], p: Place) -> Place
 
 // Ends the line before, if there is one.
 pub fn put_line_end(at: usize, out: &mut [u8], p: Place) -> Place
-    ensures { Puts (was out) p (line_end at) out.new result }
+    ensures { Puts out.old p (line_end at) out.new result }
 {
     if at == 0 {
         return p;
@@ -53,7 +52,7 @@ pub fn put_line_end(at: usize, out: &mut [u8], p: Place) -> Place
 
 // Puts two blanks for each indent.
 fn put_blanks(indent: u64, out: &mut [u8], p: Place) -> Place
-    ensures { Puts (was out) p (blanks indent) out.new result }
+    ensures { Puts out.old p (blanks indent) out.new result }
 {
     let mut q = p;
     let mut left = indent;
@@ -85,7 +84,7 @@ fn letter_of(kind: u64) -> u8
 
 // Puts a tab, the letter of a kind, a colon and a text.
 fn put_token(kind: u64, text: &[u8], out: &mut [u8], p: Place) -> Place
-    ensures { Puts (was out) p ((9 ∷ get_or letters kind 0 ∷ 58 ∷ []) ++ was text) out.new result }
+    ensures { Puts out.old p ((9 ∷ get_or letters kind 0 ∷ 58 ∷ []) ++ text.now) out.new result }
 {
     let front = [b'\t', letter_of(kind), b':'];
     let a = put(&front, out, p);
@@ -94,7 +93,7 @@ fn put_token(kind: u64, text: &[u8], out: &mut [u8], p: Place) -> Place
 
 // Puts a tab, and marks.
 fn put_marks(low: u64, high: u64, out: &mut [u8], p: Place) -> Place
-    ensures { Puts (was out) p
+    ensures { Puts out.old p
         ((9 ∷ 109 ∷ 58 ∷ []) ++ hexadecimal 16 low ++ (46 ∷ 46 ∷ []) ++ hexadecimal 16 high) out.new result }
 {
     let a = put(b"\tm:", out, p);
@@ -105,7 +104,7 @@ fn put_marks(low: u64, high: u64, out: &mut [u8], p: Place) -> Place
 
 // Puts a tab and an indent.
 fn put_indent(indent: u64, out: &mut [u8], p: Place) -> Place
-    ensures { Puts (was out) p ((9 ∷ []) ++ decimal indent) out.new result }
+    ensures { Puts out.old p ((9 ∷ []) ++ decimal indent) out.new result }
 {
     let a = put(b"\t", out, p);
     put_decimal(indent, out, a)
@@ -121,7 +120,7 @@ fn put_exact(
     p: Place,
 ) -> Place
     requires { TokenEnds tape.now at next command }
-    ensures { Puts (was out) p (exact_command at (command_in (was tape) at command)) out.new result }
+    ensures { Puts out.old p (exact_command at (command_in tape.now at command)) out.new result }
 {
     match command {
         Command::Addressed { address, indent } => {
@@ -147,7 +146,7 @@ fn put_exact(
 
 // Whether marks are from `low` to `high`.
 fn is_span(lowest: u64, highest: u64, low: u64, high: u64) -> bool
-    ensures { result ≡ (eqb lowest low && eqb highest high) }
+    ensures { result ≡ (eqb lowest low and eqb highest high) }
 {
     if lowest != low {
         return false;
@@ -157,7 +156,7 @@ fn is_span(lowest: u64, highest: u64, low: u64, high: u64) -> bool
 
 // Puts marks, unless they are from `low` to `high`.
 fn put_span(lowest: u64, highest: u64, low: u64, high: u64, out: &mut [u8], p: Place) -> Place
-    ensures { Puts (was out) p
+    ensures { Puts out.old p
         (span_text (record { lowest = low; highest = high }) (some (record { lowest = lowest; highest = highest })))
         out.new result }
 {
@@ -172,7 +171,7 @@ fn put_span(lowest: u64, highest: u64, low: u64, high: u64, out: &mut [u8], p: P
 
 // Puts the marks of a command, unless they are from `low` to `high`; nothing of a command that is no marks.
 fn put_span_of(command: Command, low: u64, high: u64, out: &mut [u8], p: Place) -> Place
-    ensures { Puts (was out) p
+    ensures { Puts out.old p
         (span_text (record { lowest = low; highest = high }) (span_in (command_in [] 0 command))) out.new result }
 {
     match command {
@@ -192,8 +191,8 @@ fn put_span_of(command: Command, low: u64, high: u64, out: &mut [u8], p: Place) 
 
 // Puts the marks that stand at an offset, if any, unless they are from `low` to `high`.
 fn put_marks_at(tape: &[u8], at: usize, low: u64, high: u64, out: &mut [u8], p: Place) -> Place
-    ensures { Puts (was out) p
-        (span_text (record { lowest = low; highest = high }) (marks_at (was tape) at)) out.new result }
+    ensures { Puts out.old p
+        (span_text (record { lowest = low; highest = high }) (marks_at tape.now at)) out.new result }
 {
     match command_from(tape, at) {
         Found::Whole(command) => put_span_of(command, low, high, out, p),
@@ -212,8 +211,8 @@ fn put_addressed(
     out: &mut [u8],
     p: Place,
 ) -> Place
-    ensures { Puts (was out) p
-        (line_end at ++ span_text (own_span (some address)) (marks_at (was tape) next)
+    ensures { Puts out.old p
+        (line_end at ++ span_text (own_span (some address)) (marks_at tape.now next)
         ++ (short_hex address ++ (32 ∷ 32 ∷ [])) ++ blanks indent) out.new result }
 {
     let a = put_line_end(at, out, p);
@@ -224,8 +223,8 @@ fn put_addressed(
 }
 
 fn put_plain(tape: &[u8], at: usize, next: usize, indent: u64, out: &mut [u8], p: Place) -> Place
-    ensures { Puts (was out) p
-        (line_end at ++ span_text (own_span none) (marks_at (was tape) next)
+    ensures { Puts out.old p
+        (line_end at ++ span_text (own_span none) (marks_at tape.now next)
         ++ (32 ∷ 32 ∷ 32 ∷ 32 ∷ 32 ∷ 32 ∷ 32 ∷ 32 ∷ 32 ∷ 32 ∷ []) ++ blanks indent) out.new result }
 {
     let a = put_line_end(at, out, p);
@@ -244,8 +243,8 @@ fn put_readable(
     p: Place,
 ) -> Place
     requires { TokenEnds tape.now at next command }
-    ensures { Puts (was out) p
-        (read_command_text at (marks_at (was tape) next) (command_in (was tape) at command)) out.new result }
+    ensures { Puts out.old p
+        (read_command_text at (marks_at tape.now next) (command_in tape.now at command)) out.new result }
 {
     match command {
         Command::Addressed { address, indent } => {
@@ -274,8 +273,8 @@ pub fn put_command(
     p: Place,
 ) -> Place
     requires { TokenEnds tape.now at next command }
-    ensures { Puts (was out) p
-        (command_text exact (was tape) at next (command_in (was tape) at command)) out.new result }
+    ensures { Puts out.old p
+        (command_text exact tape.now at next (command_in tape.now at command)) out.new result }
 {
     if exact {
         return put_exact(tape, at, next, command, out, p);

@@ -1,6 +1,5 @@
 // The exact form read, line by line and field by field.
 ghost use Rattle.std.specs.Prelude.{◌≡◌, ◌≤◌, length};
-ghost use Rattle.reference.specs.Contract.{was};
 ghost use Rattle.listing_text.specs.Room.{page, put_one};
 ghost use Rattle.listing_text.specs.Exact.{apart, fields_read, line_read, tape_of, Makes};
 ghost use Rattle.listing_text.specs.Parsed.{PutsRead, EndsAt, fields_behind, made_on};
@@ -11,7 +10,7 @@ use crate::room::{Place, put_byte};
 // Where the part that begins at `at` ends: at the first byte b from there on, or with the text.
 fn part_end(text: &[u8], at: usize, b: u8) -> usize
     requires { at ≤ length text.now }
-    ensures { EndsAt b (was text) at result }
+    ensures { EndsAt b text.now at result }
 {
     let mut e = at;
     while e < text.len() {
@@ -26,7 +25,7 @@ fn part_end(text: &[u8], at: usize, b: u8) -> usize
 // Puts the fields behind the one that ends at `from`, up to the first that is wrong.
 fn put_fields(line: &[u8], from: usize, out: &mut [u8], p: Place) -> Laid
     requires { from ≤ length line.now }
-    ensures { PutsRead (was out) p (fields_read (fields_behind (was line) from)) out.new result }
+    ensures { PutsRead out.old p (fields_read (fields_behind line.now from)) out.new result }
 {
     let mut q = p;
     let mut e = from;
@@ -48,7 +47,7 @@ fn put_fields(line: &[u8], from: usize, out: &mut [u8], p: Place) -> Laid
 
 // Puts a line, up to the first field that is wrong.
 fn put_line(line: &[u8], out: &mut [u8], p: Place) -> Laid
-    ensures { PutsRead (was out) p (line_read (apart 9 (was line))) out.new result }
+    ensures { PutsRead out.old p (line_read (apart 9 line.now)) out.new result }
 {
     let a = part_end(line, 0, b'\t');
     if line.len() <= a {
@@ -68,7 +67,7 @@ fn put_line(line: &[u8], out: &mut [u8], p: Place) -> Laid
 }
 
 // The length of the tape; that it does not fit; or the number of the first line that is not in the exact form, from 0.
-#[derive(Drop)]
+#[derive(Clone, Copy)]
 pub enum Made {
     Whole(usize),
     Full,
@@ -77,8 +76,8 @@ pub enum Made {
 
 // Ends the tape.
 fn finish(out: &mut [u8], p: Place) -> Made
-    ensures { (out.new ≡ (put_one (page (was out) p) 255).bytes)
-        × (result ≡ made_on (put_one (page (was out) p) 255)) }
+    ensures { (out.new ≡ (put_one (page out.old p) 255).bytes)
+        × (result ≡ made_on (put_one (page out.old p) 255)) }
 {
     let q = put_byte(255, out, p);
     if q.cut {
@@ -89,7 +88,7 @@ fn finish(out: &mut [u8], p: Place) -> Made
 
 // Reads the exact form: puts the tape of a text.
 pub fn put_tape(text: &[u8], out: &mut [u8]) -> Made
-    ensures { Makes (tape_of (was text)) (was out) out.new result }
+    ensures { Makes (tape_of text.now) out.old out.new result }
 {
     let mut p = Place { at: 0, cut: false };
     let mut at = 0;

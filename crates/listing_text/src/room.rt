@@ -1,11 +1,10 @@
 // Bytes put into a lent slice one after the other, as far as they fit: no function needs to know how long what it puts may be.
 ghost use Rattle.std.specs.Prelude.{[], ◌∷◌};
-ghost use Rattle.reference.specs.Contract.{was};
 ghost use Rattle.reference.specs.Tape.{to_le_bytes};
 ghost use Rattle.listing_text.specs.Room.{Puts};
 
 // How far the slice is filled, and whether a byte did not fit.
-#[derive(Drop)]
+#[derive(Clone, Copy)]
 pub struct Place {
     pub at: usize,
     pub cut: bool,
@@ -13,7 +12,7 @@ pub struct Place {
 
 // Puts a byte.
 pub fn put_byte(b: u8, out: &mut [u8], p: Place) -> Place
-    ensures { Puts (was out) p (b ∷ []) out.new result }
+    ensures { Puts out.old p (b ∷ []) out.new result }
 {
     let at = p.at;
     if at < out.len() {
@@ -28,7 +27,7 @@ pub fn put_byte(b: u8, out: &mut [u8], p: Place) -> Place
 
 // Puts a text.
 pub fn put(s: &[u8], out: &mut [u8], p: Place) -> Place
-    ensures { Puts (was out) p (was s) out.new result }
+    ensures { Puts out.old p s.now out.new result }
 {
     let mut q = p;
     let mut i = 0;
@@ -41,7 +40,7 @@ pub fn put(s: &[u8], out: &mut [u8], p: Place) -> Place
 
 // Puts the lowest n bytes of a number, the lowest first.
 pub fn put_le(v: u64, n: usize, out: &mut [u8], p: Place) -> Place
-    ensures { Puts (was out) p (to_le_bytes n v) out.new result }
+    ensures { Puts out.old p (to_le_bytes n v) out.new result }
 {
     let mut q = p;
     let mut rest = v;

@@ -1,6 +1,5 @@
 // A whole tape as text.
 ghost use Rattle.std.specs.Prelude.{◌≡◌, not};
-ghost use Rattle.reference.specs.Contract.{was};
 ghost use Rattle.tape.specs.Questions.{totals_of};
 ghost use Rattle.listing_text.specs.Showing.{begun, shown, Shows};
 
@@ -9,7 +8,7 @@ use crate::room::Place;
 use tape::questions::{Stepped, Totals, is_end, step};
 
 // How much of the text stands in the slice, whether it is all, and the refusal that ended it; number 0: none.
-#[derive(Drop)]
+#[derive(Clone, Copy)]
 pub struct Shown {
     pub length: usize,
     pub whole: bool,
@@ -52,7 +51,7 @@ fn begun(at: usize, fresh: bool) -> Totals
 // Puts the commands of a tape up to the end, or to the first that a question refuses: in the exact form, or to read. Each turn takes a byte
 // of the tape at least.
 pub fn put_listing(tape: &[u8], exact: bool, out: &mut [u8]) -> Shown
-    ensures { Shows (shown exact (was tape)) (was out) out.new result }
+    ensures { Shows (shown exact tape.now) out.old out.new result }
 {
     let mut p = Place { at: 0, cut: false };
     let mut at = 0;

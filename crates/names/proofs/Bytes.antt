@@ -8,7 +8,7 @@ use mathlib.Core.Option.{Option, some}
 use lib.Dec.{leb}
 use lib.ListN.{length, get_or}
 use borrow.Author.Tests.{leb-true}
-use Rattle.reference.specs.Control.{◌&&◌}
+use Rattle.reference.specs.Control.{◌and◌}
 use Rattle.reference.specs.Text.{Text, bytes, starts_with}
 use Rattle.reference.specs.Names.{Fam, LEGACY, legacy, stack_slot, numbered, high_byte, family}
 use Rattle.reference.proofs.Cases.{by-if, by-some, both, some_inj, none-some}
@@ -42,7 +42,7 @@ module _ (s : Text) where
       (λ rest e. by-if Named (λ t. of_slot) (λ t. by-some Named (λ q f h. absurd (none-some h)) (λ w q. named _ (omega arith))))
 
   pub some_byte : (f : Fam) → family s ≡ some f → 1 ≤ length f.name
-  unfolding family high_byte ◌&&◌
+  unfolding family high_byte ◌and◌
   some_byte =
       by-some Named (λ e. by-if Named (λ t. named _ (omega arith)) (λ t. of_number))
       (λ g e f h. in_rows LEGACY refl f (e ∙ h))

@@ -10,9 +10,9 @@ use lib.Dec.{eqb, leb}
 use lib.ListN.{length, get_or, get_or-map}
 use lib.Seq.{take-length}
 use borrow.Author.Tests.{eqb-true, leb-true}
-use Rattle.reference.specs.Control.{◌&&◌, if◌then◌else◌, let_some◌else◌then◌}
+use Rattle.reference.specs.Control.{◌and◌, when◌then◌else◌, let_some◌else◌then◌}
 use Rattle.reference.specs.Lists.{position}
-use Rattle.reference.specs.Text.{Text, bytes, starts_with, ◌==◌}
+use Rattle.reference.specs.Text.{Text, bytes, starts_with, ◌≟◌}
 use Rattle.reference.specs.Names.{LEGACY, legacy, stack_slot, numbered, high_byte, family}
 use Rattle.laws.proofs.Scans.{if-true, if-false, same_lengths}
 use Rattle.reference.proofs.Cases.{both, fails}
@@ -25,10 +25,10 @@ use Rattle.names.proofs.Texts.{same_true, has_all}
 -- ---- texts that are no row's family: each of these begins with r and a letter
 
 letters : Text → Bool
-letters t = eqb (get_or t 0 0) 114 && leb 97 (get_or t 1 0)
+letters t = eqb (get_or t 0 0) 114 and leb 97 (get_or t 1 0)
 
 row-letters : (t : Text) → is_row t ≡ true → letters t ≡ true
-unfolding is_row letters ◌&&◌
+unfolding is_row letters ◌and◌
 row-letters t e = has_all letters ROWS t refl e
 
 pub low_second : (t : Text) → get_or t 1 0 < 97 → is_row t ≡ false
@@ -67,23 +67,23 @@ high_name name = bytes "r" ++ (get_or name 0 0 ∷ []) ++ bytes "x"
 
 -- the high byte at k is of the row k: one test of the whole row
 high_row : (k : ℕ) → k < 4 → high_name (get_or HIGH k []) ≡ row_name k
-unfolding high_name all-below ◌&&◌
-high_row k h = same_true (high_name (get_or HIGH k [])) (row_name k) (below_at 4 (λ k. high_name (get_or HIGH k []) == row_name k) k refl h)
+unfolding high_name all-below ◌and◌
+high_row k h = same_true (high_name (get_or HIGH k [])) (row_name k) (below_at 4 (λ k. high_name (get_or HIGH k []) ≟ row_name k) k refl h)
 
 module _ (s : Text) where
-  pub high : {k : ℕ} → position (◌== s) HIGH ≡ some k → Spells s (high_byte s) (Row k 8 8)
+  pub high : {k : ℕ} → position (◌≟ s) HIGH ≡ some k → Spells s (high_byte s) (Row k 8 8)
   unfolding high_byte high_name
   high {k} e =
-      let f : (k < 4) × ((get_or HIGH k [] == s) ≡ true) = position_at (◌== s) HIGH [] e in
+      let f : (k < 4) × ((get_or HIGH k [] ≟ s) ≡ true) = position_at (◌≟ s) HIGH [] e in
       let t : get_or HIGH k [] ≡ s = same_true (get_or HIGH k []) s f.1 in
       record {
-        is = ap (λ (l : Text). some (record { name = l; width = 8; lowest = 8 })) (sym (high_row k f.0) ∙ ap high_name t) ∙ sym (if-true _ _ (any_at (◌== s) HIGH [] k f.0 f.1));
+        is = ap (λ (l : Text). some (record { name = l; width = 8; lowest = 8 })) (sym (high_row k f.0) ∙ ap high_name t) ∙ sym (if-true _ _ (any_at (◌≟ s) HIGH [] k f.0 f.1));
         sound = omega arith;
       }
 
-  pub not_high : position (◌== s) HIGH ≡ none → high_byte s ≡ numbered s
+  pub not_high : position (◌≟ s) HIGH ≡ none → high_byte s ≡ numbered s
   unfolding high_byte
-  not_high e = if-false _ _ (position_none (◌== s) HIGH e)
+  not_high e = if-false _ _ (position_none (◌≟ s) HIGH e)
 
   -- ---- the table first
 
@@ -103,11 +103,11 @@ module _ (s : Text) where
   short t = leb (length t) 3
 
   module _ (h : 3 < length s) where
-    long-position : (l : List Text) → all short l ≡ true → position (◌== s) l ≡ none
-    unfolding short if◌then◌else◌ let_some◌else◌then◌
+    long-position : (l : List Text) → all short l ≡ true → position (◌≟ s) l ≡ none
+    unfolding short when◌then◌else◌ let_some◌else◌then◌
     long-position [] e = refl
     long-position (x ∷ l) e =
-        let f : (x == s) ≡ false = same_lengths x s (λ g. omega (arith, leb-true (length x) 3 (both e).0)) in
+        let f : (x ≟ s) ≡ false = same_lengths x s (λ g. omega (arith, leb-true (length x) 3 (both e).0)) in
         rw (f, long-position l (both e).1)
 
     long-legacy : (table : List (List Text)) → all (all short) table ≡ true → legacy table s ≡ none
@@ -116,5 +116,5 @@ module _ (s : Text) where
     long-legacy (names ∷ table) e = rw (long-position names (both e).0) (long-legacy table (both e).1)
 
     pub long : family s ≡ numbered s
-    unfolding family let_some◌else◌then◌ short ◌&&◌
+    unfolding family let_some◌else◌then◌ short ◌and◌
     long = rw (long-legacy LEGACY refl) (not_high (long-position HIGH refl))

@@ -12,9 +12,9 @@ use lib.Dec.{eqb, ltb}
 use lib.ListN.{get_or}
 use lib.Seq.{get_or-append-add}
 use borrow.Author.Tests.{eq-eqb, ne_eqb, ltb-true}
-use Rattle.reference.specs.Control.{◌&&◌, if◌then◌else◌, let_some◌else◌then◌}
+use Rattle.reference.specs.Control.{◌and◌, when◌then◌else◌, let_some◌else◌then◌}
 use Rattle.reference.specs.Lists.{any, position}
-use Rattle.reference.specs.Text.{Text, ◌==◌, has}
+use Rattle.reference.specs.Text.{Text, ◌≟◌, has}
 use Rattle.reference.specs.Names.{volatile_of}
 use Rattle.laws.proofs.Scans.{or_false, any-map, any_append}
 use Rattle.names.specs.Tables.{found}
@@ -39,30 +39,30 @@ turn : (a b : ℕ) → eqb a b ≡ eqb b a
 turn a b = by_cases (ℕ_discrete a b) (λ e. eq-eqb a b e ∙ sym (eq-eqb b a (sym e))) (λ n. ne_eqb a b n ∙ sym (ne_eqb b a (λ e. n (sym e))))
 
 module _ {volatile : List Text} {numbers : List ℕ} (h : Numbers volatile numbers) where
-  by_name : (s : Text) → has volatile s ≡ any (λ k. name_numbered k == s) numbers
-  by_name s = ap (λ (l : List Text). has l s) (sym h.named) ∙ any-map (◌== s) name_numbered numbers
+  by_name : (s : Text) → has volatile s ≡ any (λ k. name_numbered k ≟ s) numbers
+  by_name s = ap (λ (l : List Text). has l s) (sym h.named) ∙ any-map (◌≟ s) name_numbered numbers
 
   pub by_number : (n : ℕ) → any (eqb n) numbers ≡ has volatile (name_numbered n)
   by_number n =
-      any-agree known (eqb n) (λ k. name_numbered k == name_numbered n) numbers h.known_all (λ k e. sym (same_name k n (ltb-true k 12 e) ∙ turn k n))
+      any-agree known (eqb n) (λ k. name_numbered k ≟ name_numbered n) numbers h.known_all (λ k e. sym (same_name k n (ltb-true k 12 e) ∙ turn k n))
       ∙ sym (by_name (name_numbered n))
 
 module _ (c : ℕ) where
   pub volatile_0 : c ≡ 0 → Numbers (volatile_of c) (0 ∷ 2 ∷ 3 ∷ [])
-  unfolding volatile_of if◌then◌else◌ ◌&&◌
+  unfolding volatile_of when◌then◌else◌ ◌and◌
   volatile_0 e = record { known_all = refl; named = rw e }
 
   pub volatile_1 : c ≡ 1 → Numbers (volatile_of c) (0 ∷ 2 ∷ 3 ∷ 4 ∷ 5 ∷ 8 ∷ 9 ∷ 10 ∷ 11 ∷ [])
-  unfolding volatile_of if◌then◌else◌ ◌&&◌
+  unfolding volatile_of when◌then◌else◌ ◌and◌
   volatile_1 e = record { known_all = refl; named = rw e }
 
   pub volatile_2 : (c ≡ 0 → ⊥) → (c ≡ 1 → ⊥) → Numbers (volatile_of c) (0 ∷ 2 ∷ 3 ∷ 8 ∷ 9 ∷ 10 ∷ 11 ∷ [])
-  unfolding volatile_of if◌then◌else◌ ◌&&◌
+  unfolding volatile_of when◌then◌else◌ ◌and◌
   volatile_2 m n = record { known_all = refl; named = rw (ne_eqb c 0 m, ne_eqb c 1 n) }
 
 -- ---- the number of a text
 
-pub numbered : (s : Text) {r : ℕ} → r ≤ 4 → found r ≡ position (◌== s) NEW → 8 + r ≡ number_of s
+pub numbered : (s : Text) {r : ℕ} → r ≤ 4 → found r ≡ position (◌≟ s) NEW → 8 + r ≡ number_of s
 unfolding number_of let_some◌else◌then◌
 numbered s {r} h e =
     by_cases (dec_lt r 4)
@@ -73,28 +73,28 @@ numbered s {r} h e =
 
 module _ (s : Text) (other : is_row s ≡ false) where
   -- a text with a number has that number's name
-  named_new : {i : ℕ} → position (◌== s) NEW ≡ some i → name_numbered (number_of s) ≡ s
+  named_new : {i : ℕ} → position (◌≟ s) NEW ≡ some i → name_numbered (number_of s) ≡ s
   unfolding number_of let_some◌else◌then◌
   named_new {i} e =
-      let f : (i < 4) × ((get_or NEW i [] == s) ≡ true) = position_at (◌== s) NEW [] e in
+      let f : (i < 4) × ((get_or NEW i [] ≟ s) ≡ true) = position_at (◌≟ s) NEW [] e in
       rw e (get_or-append-add ROWS NEW i [] ∙ same_true (get_or NEW i []) s f.1)
 
   -- a text with no number is no name of a list, and neither is the empty one
-  unnamed_new : position (◌== s) NEW ≡ none → (k : ℕ) → k < 12 → (name_numbered k == s) ≡ false
+  unnamed_new : position (◌≟ s) NEW ≡ none → (k : ℕ) → k < 12 → (name_numbered k ≟ s) ≡ false
   unfolding is_row
-  unnamed_new e k h = none_at (◌== s) (ROWS ++ NEW) [] k (any_append (◌== s) ROWS NEW ∙ or_false _ other ∙ position_none (◌== s) NEW e) h
+  unnamed_new e k h = none_at (◌≟ s) (ROWS ++ NEW) [] k (any_append (◌≟ s) ROWS NEW ∙ or_false _ other ∙ position_none (◌≟ s) NEW e) h
 
   new_overwritten : {volatile : List Text} {numbers : List ℕ} → Numbers volatile numbers → has volatile (name_numbered (number_of s)) ≡ has volatile s
   unfolding number_of let_some◌else◌then◌
-  new_overwritten {volatile} {numbers} h = step (position (◌== s) NEW) refl
+  new_overwritten {volatile} {numbers} h = step (position (◌≟ s) NEW) refl
     where
-      step : (o : Option ℕ) → position (◌== s) NEW ≡ o → has volatile (name_numbered (number_of s)) ≡ has volatile s
+      step : (o : Option ℕ) → position (◌≟ s) NEW ≡ o → has volatile (name_numbered (number_of s)) ≡ has volatile s
       step (some i) e = ap (has volatile) (named_new e)
       step none e =
           let z : name_numbered (number_of s) ≡ [] = rw e in
           ap (has volatile) z
           ∙ by_name h []
-          ∙ any-agree known (λ k. name_numbered k == []) (λ k. name_numbered k == s) numbers h.known_all (λ k f. has-name k (ltb-true k 12 f) ∙ sym (unnamed_new e k (ltb-true k 12 f)))
+          ∙ any-agree known (λ k. name_numbered k ≟ []) (λ k. name_numbered k ≟ s) numbers h.known_all (λ k f. has-name k (ltb-true k 12 f) ∙ sym (unnamed_new e k (ltb-true k 12 f)))
           ∙ sym (by_name h s)
 
 -- ---- what `overwritten` answers of a family: a row, and a text that is no row's

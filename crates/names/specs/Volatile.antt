@@ -2,7 +2,7 @@
 use Rattle.std.specs.Prelude.{ℕ, ◌+◌, List, [], ◌∷◌, ◌++◌, get_or}
 use Rattle.reference.specs.Control.{let_some◌else◌then◌}
 use Rattle.reference.specs.Lists.{position}
-use Rattle.reference.specs.Text.{Text, bytes, ◌==◌}
+use Rattle.reference.specs.Text.{Text, bytes, ◌≟◌}
 use Rattle.names.specs.Families.{ROWS}
 
 abbrev pub NEW : List Text
@@ -14,4 +14,4 @@ name_numbered n = get_or (ROWS ++ NEW) n []
 
 -- the number of a family that is no row's
 unfoldable pub number_of : Text → ℕ
-number_of s = let_some (position (◌== s) NEW) else 12 then λ i. 8 + i
+number_of s = let_some (position (◌≟ s) NEW) else 12 then λ i. 8 + i

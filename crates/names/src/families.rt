@@ -1,6 +1,5 @@
 // `family` of the Rust, in the order of its tests: the table, the high bytes, r with digits, stack slots. No text is copied.
 ghost use Rattle.std.specs.Prelude.{◌+◌, ◌<◌, ◌≡◌, [], ◌∷◌, map, length, get_or, drop};
-ghost use Rattle.reference.specs.Contract.{was};
 ghost use Rattle.reference.specs.Names.{LEGACY, is_digit, digits_of, stack_slot, numbered, high_byte, family};
 ghost use Rattle.names.specs.Tables.{unpadded};
 ghost use Rattle.names.specs.Families.{Spells, Lists, suffix_width};
@@ -30,7 +29,7 @@ const HIGH: [[u8; 3]; 4] = [*b"ah\0", *b"bh\0", *b"ch\0", *b"dh\0"];
 
 // What the bytes of a name say: a row of the table, its width and its lowest bit; or how many of its bytes name its family, and its
 // width, from bit 0.
-#[derive(Drop)]
+#[derive(Clone, Copy)]
 pub enum Spelled {
     Row(u64, u64, u64),
     Front(usize, u64),
@@ -38,7 +37,7 @@ pub enum Spelled {
 }
 
 // A row and a width.
-#[derive(Drop)]
+#[derive(Clone, Copy)]
 enum Listed {
     At(u64, u64),
     Nothing,
@@ -54,7 +53,7 @@ fn column_width(column: usize) -> u64
 
 // The first row that has s among its names, and s's width there.
 fn legacy_in(s: &[u8], names: &[[[u8; 3]; 4]]) -> Listed
-    ensures { Lists (map (map unpadded) (was names)) (was s) result }
+    ensures { Lists (map (map unpadded) names.now) s.now result }
 {
     let mut row = 0;
     while row < names.len() {
@@ -69,7 +68,7 @@ fn legacy_in(s: &[u8], names: &[[[u8; 3]; 4]]) -> Listed
 
 // A name of the table, which is laid out once here and lent.
 fn legacy(s: &[u8]) -> Listed
-    ensures { Lists LEGACY (was s) result }
+    ensures { Lists LEGACY s.now result }
 {
     let names = NAMES;
     legacy_in(s, &names)
@@ -83,7 +82,7 @@ fn is_digit(b: u8) -> bool
 
 // Where the digits that stand from place 1 on end.
 fn digits_end(s: &[u8]) -> usize
-    ensures { result ≡ 1 + length (digits_of (drop 1 (was s))) }
+    ensures { result ≡ 1 + length (digits_of (drop 1 s.now)) }
 {
     let mut i = 1;
     while i < s.len() {
@@ -97,7 +96,7 @@ fn digits_end(s: &[u8]) -> usize
 
 // The width that a numbered register's suffix says; 0 for none.
 fn suffix(s: &[u8]) -> u64
-    ensures { result ≡ suffix_width (was s) }
+    ensures { result ≡ suffix_width s.now }
 {
     if s.len() == 0 {
         return 64;
@@ -116,7 +115,7 @@ fn suffix(s: &[u8]) -> u64
 
 // Stack variables behave like registers.
 fn stack_slot(s: &[u8]) -> Spelled
-    ensures { Spells (was s) (stack_slot (was s)) result }
+    ensures { Spells s.now (stack_slot s.now) result }
 {
     if begins_slot(s) {
         return Spelled::Front(s.len(), 64);
@@ -126,7 +125,7 @@ fn stack_slot(s: &[u8]) -> Spelled
 
 // r with digits and a suffix, and what follows it.
 fn numbered(s: &[u8]) -> Spelled
-    ensures { Spells (was s) (numbered (was s)) result }
+    ensures { Spells s.now (numbered s.now) result }
 {
     if !starts(s, b"r") {
         return stack_slot(s);
@@ -144,7 +143,7 @@ fn numbered(s: &[u8]) -> Spelled
 
 // ah, bh, ch, dh, which begin at bit 8, and what follows them.
 fn high_byte(s: &[u8]) -> Spelled
-    ensures { Spells (was s) (high_byte (was s)) result }
+    ensures { Spells s.now (high_byte s.now) result }
 {
     let row = column_in(s, HIGH);
     if row < 4 {
@@ -155,7 +154,7 @@ fn high_byte(s: &[u8]) -> Spelled
 
 // The family, the width and the lowest bit of a name.
 pub fn family(s: &[u8]) -> Spelled
-    ensures { Spells (was s) (family (was s)) result }
+    ensures { Spells s.now (family s.now) result }
 {
     // no name of the tables is longer
     if 3 < s.len() {

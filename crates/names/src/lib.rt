@@ -1,4 +1,6 @@
 // Register names: families and widths, and the families that a call overwrites.
+#![tactic(auto)]
+
 mod families; // `family` of the Rust: the table, the high bytes, r with digits, stack slots
 mod rows; // a row of fixed-width names
 mod volatile; // the volatile lists

@@ -1,6 +1,5 @@
 // The families that a call overwrites: three constant lists of family numbers, chosen by convention.
 ghost use Rattle.std.specs.Prelude.{◌≡◌, eqb};
-ghost use Rattle.reference.specs.Contract.{was};
 ghost use Rattle.reference.specs.Lists.{any};
 ghost use Rattle.reference.specs.Text.{has};
 ghost use Rattle.reference.specs.Names.{volatile_of};
@@ -20,7 +19,7 @@ const VOLATILE_2: [u64; 7] = [0, 2, 3, 8, 9, 10, 11];
 
 // The number of a family that has no row.
 pub fn number_of(s: &[u8]) -> u64
-    ensures { result ≡ number_of (was s) }
+    ensures { result ≡ number_of s.now }
 {
     let place = column_in(s, NEW);
     8 + place as u64
@@ -28,7 +27,7 @@ pub fn number_of(s: &[u8]) -> u64
 
 // Whether n is on the list.
 fn among(list: &[u64], n: u64) -> bool
-    ensures { result ≡ any (eqb n) (was list) }
+    ensures { result ≡ any (eqb n) list.now }
 {
     let mut i = 0;
     while i < list.len() {

@@ -1,7 +1,7 @@
 -- Rows of digits with quotes, and constants: each way that a reading function of the 2024 edition returns. Assumes nothing.
-use Rattle.std.proofs.Common.{◌≡◌, ℕ, suc, ◌+◌, ◌-◌, ◌*◌, ◌^◌, ◌<◌, ◌≤◌, Bool, true, false, eqb, [], ◌∷◌, length, get_or, take, drop, ℤ, neg_ℤ, sym, refl, ap, ◌∙◌, add-one, arith, drop_of_length-le, drop-cons, le-ltb, eq-eqb, ne_eqb, eqb-true}
+use Rattle.std.proofs.Common.{◌≡◌, ℕ, suc, ◌+◌, ◌-◌, ◌*◌, ◌^◌, ◌<◌, ◌≤◌, Bool, true, false, eqb, [], ◌∷◌, length, get_or, take, drop, ℤ, neg_ℤ, sym, refl, ◌∙◌, add-one, arith, drop_of_length-le, drop-cons, le-ltb, eq-eqb, ne_eqb, eqb-true}
 use mathlib.Core.Option.{Option, none, some}
-use Rattle.reference.specs.Control.{◌&&◌, ◌||◌, if◌then◌else◌, let_some◌else◌then◌}
+use Rattle.reference.specs.Control.{◌and◌, ◌or◌, when◌then◌else◌, let_some◌else◌then◌}
 use Rattle.reference.specs.Text.{Text, bytes, starts_with}
 use Rattle.reference.specs.Numbers.{to_digit, digits_value, as_i64, wrap, parse_c_number, base_of, prefix_size, unquoted, constant_digits, constant_value, value_limit, read_constant, parse_2024, read_number}
 use Rattle.reference.proofs.Cases.{either}
@@ -16,29 +16,29 @@ use Rattle.numbers.proofs.Parsing.{stripped, unstripped, below, then_some, then_
 -- ---- a row, byte by byte
 
 quote_is_none : (radix : ℕ) → radix ≤ 36 → to_digit radix 39 ≡ none
-unfolding to_digit if◌then◌else◌ ◌&&◌
+unfolding to_digit when◌then◌else◌ ◌and◌
 quote_is_none radix h = rw (le-ltb 99 radix (omega arith)) refl
 
 module _ (radix v : ℕ) where
   row_end : row_after radix true v [] ≡ some v
-  unfolding row_after unquoted if◌then◌else◌ let_some◌else◌then◌ digits_value
+  unfolding row_after unquoted when◌then◌else◌ let_some◌else◌then◌ digits_value
   row_end = refl
 
   row_cut : row_after radix false v [] ≡ none
-  unfolding row_after unquoted if◌then◌else◌ let_some◌else◌then◌
+  unfolding row_after unquoted when◌then◌else◌ let_some◌else◌then◌
   row_cut = refl
 
   row-quote : (c : ℕ) (s : Text) → c ≡ 39 → row_after radix true v (c ∷ s) ≡ row_after radix false v s
-  unfolding row_after unquoted if◌then◌else◌
+  unfolding row_after unquoted when◌then◌else◌
   row-quote c s e = rw e refl
 
   row_same : (c : ℕ) (s : Text) → (c ≡ 39 → ⊥) → row_after radix true v (c ∷ s) ≡ row_after radix false v (c ∷ s)
-  unfolding row_after unquoted if◌then◌else◌
+  unfolding row_after unquoted when◌then◌else◌
   row_same c s e = rw (ne_eqb c 39 e) refl
 
   row-digit : radix ≤ 36 → (c : ℕ) (s : Text)
       → row_after radix false v (c ∷ s) ≡ (let_some (to_digit radix c) else none then λ d. row_after radix true (v * radix + d) s)
-  unfolding row_after unquoted if◌then◌else◌ let_some◌else◌then◌ digits_value
+  unfolding row_after unquoted when◌then◌else◌ let_some◌else◌then◌ digits_value
   row-digit h c s = first (eqb c 39) refl
     where
       both_ways : (o : Option Text) (d : Option ℕ)
@@ -56,7 +56,7 @@ module _ (radix v : ℕ) where
       same (some ds) = refl
 
       first : (q : Bool) → eqb c 39 ≡ q
-          → (let_some (if q then none else let_some (unquoted true s) else none then λ ds. some (c ∷ ds)) else none then λ ds. digits_value radix v ds)
+          → (let_some (when q then none else let_some (unquoted true s) else none then λ ds. some (c ∷ ds)) else none then λ ds. digits_value radix v ds)
           ≡ (let_some (to_digit radix c) else none then λ d. let_some (unquoted true s) else none then λ ds. digits_value radix (v * radix + d) ds)
       first true q = let z : to_digit radix c ≡ none = rw (eqb-true c 39 q) (quote_is_none radix h) in rw z refl
       first false q = same (unquoted true s) ∙ both_ways (unquoted true s) (to_digit radix c)
@@ -128,29 +128,29 @@ unfolding sized read_constant constant_value constant_digits row_after
 constant_by s base most e l = rw (e, l) (sym (below as_i64 most (row base (drop (prefix_size base) s))))
 
 -- where calls answered of the prefixes
-module _ (s : Text) {x : Bool} (e : x ≡ (starts_with s (bytes "0x") || starts_with s (bytes "0X"))) where
+module _ (s : Text) {x : Bool} (e : x ≡ (starts_with s (bytes "0x") or starts_with s (bytes "0X"))) where
   pub fits_16 : x ≡ true → 2 ≤ length s
   fits_16 t = either (2 ≤ length s) (sym e ∙ t) (starts_with_length s (bytes "0x")) (starts_with_length s (bytes "0X"))
 
   pub read_16 : x ≡ true → sized 16 (2 ^ 64 - 1) (take (length s - 2) (drop 2 s)) ≡ read_constant s
-  unfolding base_of value_limit prefix_size if◌then◌else◌ ◌||◌
+  unfolding base_of value_limit prefix_size when◌then◌else◌ ◌or◌
   read_16 t = rw to_end (constant_by s 16 (2 ^ 64 - 1) (if-true _ _ (sym e ∙ t)) refl)
 
-  module _ (n : x ≡ false) {y : Bool} (f : y ≡ (starts_with s (bytes "0b") || starts_with s (bytes "0B"))) where
+  module _ (n : x ≡ false) {y : Bool} (f : y ≡ (starts_with s (bytes "0b") or starts_with s (bytes "0B"))) where
     pub fits_2 : y ≡ true → 2 ≤ length s
     fits_2 t = either (2 ≤ length s) (sym f ∙ t) (starts_with_length s (bytes "0b")) (starts_with_length s (bytes "0B"))
 
     pub read_2 : y ≡ true → sized 2 (2 ^ 64 - 1) (take (length s - 2) (drop 2 s)) ≡ read_constant s
-    unfolding base_of value_limit prefix_size if◌then◌else◌ ◌||◌
+    unfolding base_of value_limit prefix_size when◌then◌else◌ ◌or◌
     read_2 t = rw to_end (constant_by s 2 (2 ^ 64 - 1) (if-false _ _ (sym e ∙ n) ∙ if-true _ _ (sym f ∙ t)) refl)
 
     module _ (m : y ≡ false) {z : Bool} (g : z ≡ starts_with s (bytes "0")) where
       pub read_8 : z ≡ true → sized 8 (2 ^ 64 - 1) s ≡ read_constant s
-      unfolding base_of value_limit prefix_size if◌then◌else◌ ◌||◌
+      unfolding base_of value_limit prefix_size when◌then◌else◌ ◌or◌
       read_8 t = constant_by s 8 (2 ^ 64 - 1) (if-false _ _ (sym e ∙ n) ∙ if-false _ _ (sym f ∙ m) ∙ if-true _ _ (sym g ∙ t)) refl
 
       pub read_10 : z ≡ false → sized 10 (2 ^ 63 - 1) s ≡ read_constant s
-      unfolding base_of value_limit prefix_size if◌then◌else◌ ◌||◌
+      unfolding base_of value_limit prefix_size when◌then◌else◌ ◌or◌
       read_10 t = constant_by s 10 (2 ^ 63 - 1) (if-false _ _ (sym e ∙ n) ∙ if-false _ _ (sym f ∙ m) ∙ if-false _ _ (sym g ∙ t)) refl
 
 -- ---- with a sign, where r is what a call answered of the minus

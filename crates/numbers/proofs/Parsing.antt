@@ -2,7 +2,7 @@
 use Rattle.std.proofs.Common.{◌≡◌, ℕ, suc, ◌-◌, ◌^◌, ◌≤◌, Bool, true, false, ltb, leb, length, take, drop, ℤ, pos, neg_ℤ, sym, refl, ap, ◌∙◌, arith}
 use mathlib.Core.Option.{Option, none, some}
 use lib.Dec.{leb-suc-suc}
-use Rattle.reference.specs.Control.{if◌then◌else◌, let_some◌else◌then◌}
+use Rattle.reference.specs.Control.{when◌then◌else◌, let_some◌else◌then◌}
 use Rattle.reference.specs.Text.{Text, bytes, starts_with, strip_prefix}
 use Rattle.reference.specs.Numbers.{unsigned, read_u64, read_i64, as_i64, wrap, parse_c_number}
 use Rattle.reference.proofs.Shapes.{starts_with_length}
@@ -30,16 +30,16 @@ module _ (p s : Text) {r : Bool} (e : r ≡ starts_with s p) where
 -- ---- a definition that tests the bound itself
 
 module _ {A : Type 0} (f : ℕ → A) (most : ℕ) where
-  up_to : (o : Option ℕ) → (let_some o else none then λ n. if leb n most then some (f n) else none) ≡ (let_some (at_most most o) else none then λ n. some (f n))
-  unfolding at_most let_some◌else◌then◌ if◌then◌else◌
+  up_to : (o : Option ℕ) → (let_some o else none then λ n. when leb n most then some (f n) else none) ≡ (let_some (at_most most o) else none then λ n. some (f n))
+  unfolding at_most let_some◌else◌then◌ when◌then◌else◌
   up_to none = refl
   up_to (some n) = by (leb n most)
     where
-      by : (b : Bool) → (if b then some (f n) else none) ≡ (let_some (if b then some n else none) else none then λ n. some (f n))
+      by : (b : Bool) → (when b then some (f n) else none) ≡ (let_some (when b then some n else none) else none then λ n. some (f n))
       by true = refl
       by false = refl
 
-  pub below : (o : Option ℕ) → (let_some o else none then λ n. if ltb n (suc most) then some (f n) else none) ≡ (let_some (at_most most o) else none then λ n. some (f n))
+  pub below : (o : Option ℕ) → (let_some o else none then λ n. when ltb n (suc most) then some (f n) else none) ≡ (let_some (at_most most o) else none then λ n. some (f n))
   below o = simp leb-suc-suc (up_to o)
 
 -- ---- without the sign in front
@@ -97,8 +97,8 @@ module _ (s : Text) where
 -- `parse_c_number`, where b tells whether there is a minus
 parse_by : Text → Bool → Option ℤ
 parse_by s b =
-    let_some (unnegated (let_some (if b then some (drop 1 s) else none) else s then λ r. r)) else none then λ n.
-    if b then some (wrap (neg_ℤ n)) else some n
+    let_some (unnegated (let_some (when b then some (drop 1 s) else none) else s then λ r. r)) else none then λ n.
+    when b then some (wrap (neg_ℤ n)) else some n
 
 -- r is what a call answered of the prefix
 module _ (s : Text) {r : Bool} where
@@ -136,11 +136,11 @@ module _ (s : Text) {r : Bool} where
     parse_is = rw e refl
 
     pub parse_plain : r ≡ false → unnegated s ≡ parse_c_number s
-    unfolding parse_by let_some◌else◌then◌ if◌then◌else◌
+    unfolding parse_by let_some◌else◌then◌ when◌then◌else◌
     parse_plain t = sym (parse_is ∙ ap (parse_by s) t ∙ same_some (unnegated s))
 
     parse_minus : r ≡ true → (let_some (unnegated (take (length s - 1) (drop 1 s))) else none then λ n. some (wrap (neg_ℤ n))) ≡ parse_c_number s
-    unfolding parse_by let_some◌else◌then◌ if◌then◌else◌
+    unfolding parse_by let_some◌else◌then◌ when◌then◌else◌
     parse_minus t = rw to_end (sym (parse_is ∙ ap (parse_by s) t))
 
     pub parse_read : {v : ℤ} → r ≡ true → some v ≡ unnegated (take (length s - 1) (drop 1 s)) → some (wrap (neg_ℤ v)) ≡ parse_c_number s

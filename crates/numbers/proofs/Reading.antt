@@ -4,7 +4,7 @@ use mathlib.Core.Logic.{by_cases}
 use native.Mathlib.Decide.{dec_le}
 use mathlib.Core.Option.{Option, none, some}
 use borrow.Author.Tests.{lt-leb}
-use Rattle.reference.specs.Control.{◌&&◌, let_some◌else◌then◌}
+use Rattle.reference.specs.Control.{◌and◌, let_some◌else◌then◌}
 use Rattle.reference.specs.Text.{Text}
 use Rattle.reference.specs.Numbers.{to_digit, digits_value, unsigned}
 use Rattle.laws.proofs.Scans.{if-true, if-false}
@@ -12,30 +12,30 @@ use Rattle.numbers.specs.Reading.{worth, at_most, with_digit}
 
 -- ---- one digit
 
-pub from_first : {k : ℕ} (a b : ℕ) (t : Bool) → k ≤ a → (leb a b && t) ≡ true → k ≤ b
-unfolding ◌&&◌
+pub from_first : {k : ℕ} (a b : ℕ) (t : Bool) → k ≤ a → (leb a b and t) ≡ true → k ≤ b
+unfolding ◌and◌
 from_first a b t h e = omega (arith, leb-true a b (first (leb a b) e))
   where
-    first : (x : Bool) → (x && t) ≡ true → x ≡ true
+    first : (x : Bool) → (x and t) ≡ true → x ≡ true
     first true e = refl
     first false e = e
 
 module _ (c : ℕ) where
-  pub worth-decimal : (leb 48 c && leb c 57) ≡ true → worth c ≡ c - 48
+  pub worth-decimal : (leb 48 c and leb c 57) ≡ true → worth c ≡ c - 48
   unfolding worth
   worth-decimal d = if-true _ _ d
 
-  module _ (d : (leb 48 c && leb c 57) ≡ false) where
-    pub worth_lower : (leb 97 c && leb c 122) ≡ true → worth c ≡ c - 87
+  module _ (d : (leb 48 c and leb c 57) ≡ false) where
+    pub worth_lower : (leb 97 c and leb c 122) ≡ true → worth c ≡ c - 87
     unfolding worth
     worth_lower l = if-false _ _ d ∙ if-true _ _ l
 
-    module _ (l : (leb 97 c && leb c 122) ≡ false) where
-      pub worth_upper : (leb 65 c && leb c 90) ≡ true → worth c ≡ c - 55
+    module _ (l : (leb 97 c and leb c 122) ≡ false) where
+      pub worth_upper : (leb 65 c and leb c 90) ≡ true → worth c ≡ c - 55
       unfolding worth
       worth_upper u = if-false _ _ d ∙ if-false _ _ l ∙ if-true _ _ u
 
-      pub worth_none : (leb 65 c && leb c 90) ≡ false → worth c ≡ 99
+      pub worth_none : (leb 65 c and leb c 90) ≡ false → worth c ≡ 99
       unfolding worth
       worth_none u = if-false _ _ d ∙ if-false _ _ l ∙ if-false _ _ u
 

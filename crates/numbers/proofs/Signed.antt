@@ -7,7 +7,7 @@ use lib.Dec.{leb-zero}
 use lib.IntN.{+ℤ_idl}
 use lib.Signed.{mag, le_z}
 use mir.ValLaws.{to_z-of_z, to_z_pos}
-use Rattle.reference.specs.Control.{if◌then◌else◌}
+use Rattle.reference.specs.Control.{when◌then◌else◌}
 use Rattle.reference.specs.Numbers.{as_i64, wrap}
 use Rattle.laws.proofs.Scans.{if-true, if-false}
 use Rattle.numbers.specs.Bits.{bits_of}
@@ -44,7 +44,7 @@ wrap-fits z f = wrap_bits z ∙ as_bits z f
 
 -- 2^63 as an i64 is its own negation
 pub negated : (n : ℕ) → n ≤ 2 ^ 63 → wrap (neg_ℤ (as_i64 n)) ≡ neg_ℤ (pos n)
-unfolding wrap as_i64 if◌then◌else◌
+unfolding wrap as_i64 when◌then◌else◌
 negated zero h = refl
 negated (suc n) h =
     by_cases (dec_lt (suc n) (2 ^ 63))

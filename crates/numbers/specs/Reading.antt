@@ -1,7 +1,7 @@
 -- What the answers of the reading functions mean, and the parts of `parse_c_number` that they compute. Assumes nothing.
 use Rattle.std.specs.Prelude.{ℕ, ◌+◌, ◌-◌, ◌*◌, ◌^◌, ℤ, pos, neg_ℤ, nat_le, nat_lt}
 use Rattle.std.proofs.Math.Option.{Option, none, some}
-use Rattle.reference.specs.Control.{◌&&◌, if◌then◌else◌, let_some◌else◌then◌}
+use Rattle.reference.specs.Control.{◌and◌, when◌then◌else◌, let_some◌else◌then◌}
 use Rattle.reference.specs.Text.{Text, bytes, strip_prefix}
 use Rattle.reference.specs.Numbers.{to_digit, unsigned, read_u64, read_i64, as_i64}
 use Rattle.numbers.specs.declared.parse.Number.{Number}
@@ -22,9 +22,9 @@ natural_meaning natural.Unread = none
 -- what a byte is worth as a digit, as `to_digit` has it
 unfoldable pub worth : ℕ → ℕ
 worth c =
-    if nat_le 48 c && nat_le c 57 then c - 48
-    else if nat_le 97 c && nat_le c 122 then c - 87
-    else if nat_le 65 c && nat_le c 90 then c - 55
+    when nat_le 48 c and nat_le c 57 then c - 48
+    else when nat_le 97 c and nat_le c 122 then c - 87
+    else when nat_le 65 c and nat_le c 90 then c - 55
     else 99
 
 -- the number with one digit more
@@ -33,16 +33,16 @@ with_digit radix v c = let_some (to_digit radix c) else none then λ d. some (v 
 
 -- a number, where it is at most `most`
 unfoldable pub at_most : ℕ → Option ℕ → Option ℕ
-at_most most o = let_some o else none then λ n. if nat_le n most then some n else none
+at_most most o = let_some o else none then λ n. when nat_le n most then some n else none
 
 unfoldable pub without_plus : Text → Text
 without_plus s = let_some (strip_prefix (bytes "+") s) else s then λ r. r
 
 unfoldable pub positive : Text → Option ℤ
-positive s = let_some (unsigned 10 s) else none then λ n. if nat_lt n (2 ^ 63) then some (pos n) else none
+positive s = let_some (unsigned 10 s) else none then λ n. when nat_lt n (2 ^ 63) then some (pos n) else none
 
 unfoldable pub negative : Text → Option ℤ
-negative s = let_some (unsigned 10 s) else none then λ n. if nat_le n (2 ^ 63) then some (neg_ℤ (pos n)) else none
+negative s = let_some (unsigned 10 s) else none then λ n. when nat_le n (2 ^ 63) then some (neg_ℤ (pos n)) else none
 
 unfoldable pub hexadecimal : Text → Option ℤ
 hexadecimal s = let_some (read_u64 16 s) else none then λ n. some (as_i64 n)

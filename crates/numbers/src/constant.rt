@@ -1,7 +1,6 @@
 // Numbers by the 2024 edition of C: a base, and a row of digits in which one single quote may stand between two.
 ghost use Rattle.std.specs.Prelude.{◌≡◌, ◌<◌, ◌≤◌, length};
-ghost use Rattle.reference.specs.Contract.{was};
-ghost use Rattle.reference.specs.Control.{◌||◌};
+ghost use Rattle.reference.specs.Control.{◌or◌};
 ghost use Rattle.reference.specs.Text.{bytes, starts_with};
 ghost use Rattle.reference.specs.Numbers as reference;
 ghost use Rattle.numbers.specs.Reading.{meaning, natural_meaning, at_most};
@@ -15,13 +14,13 @@ use text::{begins_minus, starts};
 const QUOTE: u8 = 39;
 
 fn begins_hexadecimal(s: &[u8]) -> bool
-    ensures { result ≡ (starts_with (was s) (bytes "0x") || starts_with (was s) (bytes "0X")) }
+    ensures { result ≡ (starts_with s.now (bytes "0x") or starts_with s.now (bytes "0X")) }
 {
     starts(s, b"0x") || starts(s, b"0X")
 }
 
 pub fn begins_binary(s: &[u8]) -> bool
-    ensures { result ≡ (starts_with (was s) (bytes "0b") || starts_with (was s) (bytes "0B")) }
+    ensures { result ≡ (starts_with s.now (bytes "0b") or starts_with s.now (bytes "0B")) }
 {
     starts(s, b"0b") || starts(s, b"0B")
 }
@@ -29,7 +28,7 @@ pub fn begins_binary(s: &[u8]) -> bool
 // Where the digit after a digit stands: at i, or behind a quote there.
 fn past_quote(s: &[u8], i: usize) -> usize
     requires { i < length s.now }
-    ensures { PastQuote (was s) i result }
+    ensures { PastQuote s.now i result }
 {
     if s[i] == QUOTE {
         return i + 1;
@@ -40,7 +39,7 @@ fn past_quote(s: &[u8], i: usize) -> usize
 // One digit or more, of a number that is at most `most`. At i a digit must stand.
 pub fn row(s: &[u8], radix: u64, most: u64) -> Natural
     requires { radix ≤ 36 }
-    ensures { natural_meaning result ≡ at_most most (constants.row radix (was s)) }
+    ensures { natural_meaning result ≡ at_most most (constants.row radix s.now) }
 {
     let mut v = 0;
     let mut i = 0;
@@ -64,7 +63,7 @@ pub fn row(s: &[u8], radix: u64, most: u64) -> Natural
 // A row of a number that is at most `most`, as an i64.
 fn sized(s: &[u8], radix: u64, most: u64) -> Number
     requires { radix ≤ 36 }
-    ensures { meaning result ≡ constants.sized radix most (was s) }
+    ensures { meaning result ≡ constants.sized radix most s.now }
 {
     match row(s, radix, most) {
         Natural::Read(n) => Number::Read(signed(n)),
@@ -74,7 +73,7 @@ fn sized(s: &[u8], radix: u64, most: u64) -> Number
 
 // A constant without a sign.
 fn constant(s: &[u8]) -> Number
-    ensures { meaning result ≡ reference.read-constant (was s) }
+    ensures { meaning result ≡ reference.read_constant s.now }
 {
     if begins_hexadecimal(s) {
         return sized(&s[2..], 16, MOST);
@@ -90,7 +89,7 @@ fn constant(s: &[u8]) -> Number
 
 // A number by the 2024 edition.
 pub fn parse_2024(s: &[u8]) -> Number
-    ensures { meaning result ≡ reference.parse-2024 (was s) }
+    ensures { meaning result ≡ reference.parse_2024 s.now }
 {
     if !begins_minus(s) {
         return constant(s);

@@ -1,4 +1,6 @@
 // Numbers of a listing, as bytes and as signed values of 64 bits.
+#![tactic(auto)]
+
 mod constant; // numbers by the 2024 edition of C
 mod parse; // `parse_c_number` of the Rust
 mod print; // the text of a folded number

@@ -1,7 +1,6 @@
 // `parse_c_number` of the Rust: a decimal or hexadecimal number, perhaps with a sign.
 ghost use Rattle.std.specs.Prelude.{◌≡◌, nat_le};
-ghost use Rattle.reference.specs.Contract.{was};
-ghost use Rattle.reference.specs.Control.{◌&&◌};
+ghost use Rattle.reference.specs.Control.{◌and◌};
 ghost use Rattle.reference.specs.Numbers as reference;
 ghost use Rattle.numbers.specs.Reading as reading;
 ghost use Rattle.numbers.specs.Reading.{meaning, natural_meaning, at_most};
@@ -9,21 +8,21 @@ ghost use Rattle.numbers.specs.Reading.{meaning, natural_meaning, at_most};
 use crate::wrapping::{HALF, MOST, signed, wrapping_neg};
 use text::{begins_hex, begins_minus, begins_plus};
 
-#[derive(Drop)]
+#[derive(Clone, Copy)]
 pub enum Number {
     Read(i64),
     Unread,
 }
 
 // What a row of digits spells.
-#[derive(Drop)]
+#[derive(Clone, Copy)]
 pub enum Natural {
     Read(u64),
     Unread,
 }
 
 fn within(b: u8, first: u8, last: u8) -> bool
-    ensures { result ≡ (nat_le first b && nat_le b last) }
+    ensures { result ≡ (nat_le first b and nat_le b last) }
 {
     first <= b && b <= last
 }
@@ -46,7 +45,7 @@ fn worth(b: u8) -> u64
 
 // The number with one digit more, if `b` is a digit and the number then is at most `most`.
 pub fn with_digit(v: u64, b: u8, radix: u64, most: u64) -> Natural
-    ensures { natural_meaning result ≡ at_most most (reading.with-digit radix v b) }
+    ensures { natural_meaning result ≡ at_most most (reading.with_digit radix v b) }
 {
     let d = worth(b);
     if radix <= d {
@@ -63,7 +62,7 @@ pub fn with_digit(v: u64, b: u8, radix: u64, most: u64) -> Natural
 
 // One digit or more, of a number that is at most `most`. Zeros in front may be of any number.
 fn unsigned(s: &[u8], radix: u64, most: u64) -> Natural
-    ensures { natural_meaning result ≡ at_most most (reference.unsigned radix (was s)) }
+    ensures { natural_meaning result ≡ at_most most (reference.unsigned radix s.now) }
 {
     if s.len() == 0 {
         return Natural::Unread;
@@ -86,7 +85,7 @@ fn unsigned(s: &[u8], radix: u64, most: u64) -> Natural
 
 // The text without a plus in front.
 fn without_plus(s: &[u8]) -> &[u8]
-    ensures { result.now ≡ reading.without-plus (was s) }
+    ensures { result.now ≡ reading.without_plus s.now }
 {
     if begins_plus(s) {
         return &s[1..];
@@ -96,7 +95,7 @@ fn without_plus(s: &[u8]) -> &[u8]
 
 // `u64::from_str_radix(s, 16)`, as an i64.
 fn hexadecimal(s: &[u8]) -> Number
-    ensures { meaning result ≡ reading.hexadecimal (was s) }
+    ensures { meaning result ≡ reading.hexadecimal s.now }
 {
     match unsigned(without_plus(s), 16, MOST) {
         Natural::Read(n) => Number::Read(signed(n)),
@@ -106,7 +105,7 @@ fn hexadecimal(s: &[u8]) -> Number
 
 // Decimal digits without a sign, of a number below 2^63.
 fn positive(s: &[u8]) -> Number
-    ensures { meaning result ≡ reading.positive (was s) }
+    ensures { meaning result ≡ reading.positive s.now }
 {
     match unsigned(s, 10, HALF - 1) {
         Natural::Read(n) => Number::Read(signed(n)),
@@ -116,7 +115,7 @@ fn positive(s: &[u8]) -> Number
 
 // The negation of a number in decimal digits that is at most 2^63. (2^63 as an i64 is its own negation.)
 fn negative(s: &[u8]) -> Number
-    ensures { meaning result ≡ reading.negative (was s) }
+    ensures { meaning result ≡ reading.negative s.now }
 {
     match unsigned(s, 10, HALF) {
         Natural::Read(n) => Number::Read(wrapping_neg(signed(n))),
@@ -126,7 +125,7 @@ fn negative(s: &[u8]) -> Number
 
 // `s.parse::<i64>()`
 fn decimal(s: &[u8]) -> Number
-    ensures { meaning result ≡ reference.read-i64 (was s) }
+    ensures { meaning result ≡ reference.read_i64 s.now }
 {
     if begins_minus(s) {
         return negative(&s[1..]);
@@ -136,7 +135,7 @@ fn decimal(s: &[u8]) -> Number
 
 // The number after the first minus.
 fn unnegated(s: &[u8]) -> Number
-    ensures { meaning result ≡ reading.unnegated (was s) }
+    ensures { meaning result ≡ reading.unnegated s.now }
 {
     if begins_hex(s) {
         return hexadecimal(&s[2..]);
@@ -145,7 +144,7 @@ fn unnegated(s: &[u8]) -> Number
 }
 
 pub fn parse_c_number(s: &[u8]) -> Number
-    ensures { meaning result ≡ reference.parse-c-number (was s) }
+    ensures { meaning result ≡ reference.parse_c_number s.now }
 {
     if !begins_minus(s) {
         return unnegated(s);

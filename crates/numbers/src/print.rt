@@ -1,6 +1,5 @@
 // Numbers as text: -9 to 9 in decimal, the others in lower-case hexadecimal after `0x`.
 ghost use Rattle.std.specs.Prelude.{◌≡◌, ◌+◌, ◌%◌, ◌≤◌, length};
-ghost use Rattle.reference.specs.Contract.{was};
 ghost use Rattle.reference.specs.Numbers.{digit_byte, show_natural, show};
 ghost use Rattle.numbers.specs.Writing.{hexadecimal, Written};
 
@@ -17,7 +16,7 @@ fn last_digit(v: u64) -> u8
 // Writes the hexadecimal digits at `at`, and says where they end.
 pub fn put_digits(v: u64, out: &mut [u8], at: usize) -> usize
     requires { at + length (hexadecimal v) ≤ length out.old }
-    ensures { Written (was out) at (hexadecimal v) out.new result }
+    ensures { Written out.old at (hexadecimal v) out.new result }
 {
     let d = last_digit(v);
     if v < 16 {
@@ -31,7 +30,7 @@ pub fn put_digits(v: u64, out: &mut [u8], at: usize) -> usize
 
 fn put_natural(v: u64, out: &mut [u8], at: usize) -> usize
     requires { at + length (show_natural v) ≤ length out.old }
-    ensures { Written (was out) at (show_natural v) out.new result }
+    ensures { Written out.old at (show_natural v) out.new result }
 {
     if v < 10 {
         return put_digits(v, out, at);
@@ -44,7 +43,7 @@ fn put_natural(v: u64, out: &mut [u8], at: usize) -> usize
 // Writes the number at `at`, and says where it ends. No number takes more than 19 bytes.
 pub fn put_number(v: i64, out: &mut [u8], at: usize) -> usize
     requires { at + 19 ≤ length out.old }
-    ensures { Written (was out) at (show v) out.new result }
+    ensures { Written out.old at (show v) out.new result }
 {
     let b = bits(v);
     if b < HALF {

@@ -1,26 +1,26 @@
 -- The two calls: what each question's answer, and what was written, say of the call. Assumes nothing.
-use Prim.Native.Nat.{ℕ, ◌+◌, ◌≤◌, ◌<◌}
+use Prim.Native.Nat.{ℕ, ◌≤◌, ◌<◌}
 use native.Mathlib.Omega.{arith}
 use mathlib.Core.Path.{◌≡◌, refl, sym, ap, ◌∙◌}
 use mathlib.Core.Bool.{Bool, true, false}
 use mathlib.Core.List.{List, [], ◌∷◌, ◌++◌}
-use mathlib.Core.Option.{Option, none, some}
+use mathlib.Core.Option.{none, some}
 use lib.ListN.{length}
 use borrow.Author.Tests.{leb-true, le-leb, lt-leb}
 use Rattle.reference.specs.Control.{let_some◌else◌then◌}
 use Rattle.reference.specs.Listing.{Listing}
-use Rattle.reference.specs.Tape.{TapeForm, old, offsets, header, write_by}
-use Rattle.reference.specs.Questions.{Answer, Refused, Passed, ask, let_passed◌then◌, read_by, marks_in_by}
+use Rattle.reference.specs.Tape.{old, offsets, header, write_by}
+use Rattle.reference.specs.Questions.{Answer, Refused, Passed, let_passed◌then◌, read_by, marks_in_by}
 use Rattle.reference.proofs.Cases.{by-some}
 use Rattle.reference.proofs.Reading.{ask-yes, ask_no, refused_passed, by_passed, let_refused, let_is}
-use Rattle.answers.specs.Answers.{measured, output_after, Writes}
+use Rattle.answers.specs.Answers.{Writes}
 use Rattle.tape.specs.Bytes.{Puts}
 use Rattle.tape.specs.Commands.{form_of}
 use Rattle.tape.specs.Questions.{first_no}
 use Rattle.tape.proofs.little_endian.Bytes.{put_front, puts_append}
 use Rattle.tape.proofs.questions.Asking.{none_no, ask_number}
 use Rattle.offsets.specs.Offsets.{OUTPUT, has_output, front, base_of, begins_with_06, has_base, read_offsets, move_lines, move_all_marks, first_with, convert, to_offsets, from_offsets}
-use Rattle.offsets.specs.Calls.{other_form, bad_for, moved_by, Read, Ready, reach_answer, ready_answer, Fronted, Converts}
+use Rattle.offsets.specs.Calls.{other_form, bad_for, moved_by, Ready, reach_answer, ready_answer, Fronted, Converts}
 
 pub no_first_byte : (tape : List ℕ) → length tape ≡ 0 → begins_with_06 tape ≡ false
 unfolding begins_with_06

@@ -1,23 +1,24 @@
 -- One conversion: the tape that it writes is accepted in the other form and holds the same listing and marks, each address moved; and the conversion back
 -- gives the identical tape. Assumes nothing.
-use Prim.Native.Nat.{ℕ, ◌+◌, ◌≤◌, ◌<◌, ◌^◌}
+use Prim.Native.Nat.{ℕ, ◌≤◌, ◌<◌, ◌^◌}
 use native.Mathlib.Omega.{arith}
-use mathlib.Core.Path.{◌≡◌, refl, sym, ap, ◌∙◌}
-use mathlib.Core.Bool.{Bool, true, false}
+use mathlib.Core.Path.{◌≡◌}
+use mathlib.Core.Bool.{Bool, false}
 use mathlib.Core.List.{List, [], ◌∷◌, ◌++◌}
 use mathlib.Core.Option.{Option, none, some}
 use lib.ListN.{length, drop}
 use Rattle.reference.specs.Control.{let_some◌else◌then◌}
-use Rattle.reference.specs.Listing.{Line, Listing}
+use Rattle.reference.specs.Listing.{Listing}
 use Rattle.reference.specs.Spans.{Marks}
 use Rattle.reference.specs.Tape.{TapeForm, header, width, write_by}
-use Rattle.reference.specs.Questions.{Answer, Refused, Passed, read_by, marks_in_by}
+use Rattle.reference.specs.Questions.{Passed, read_by, marks_in_by}
 use Rattle.reference.proofs.LittleEndian.{Bytes}
-use Rattle.reference.proofs.Limits.{All, Limits}
+use Rattle.reference.proofs.Limits.{All}
 use Rattle.reference.proofs.Tapes.{read-limits_by, read-fits_by, read-marks_fit_by, write-read_by}
 use Rattle.reference.proofs.Written.{read-write_by}
 use Rattle.offsets.specs.Offsets.{move_lines, move_all_marks, first_with, convert}
-use Rattle.offsets.proofs.Moving.{OfAddress, OfLine, OfMarks, Ordered, moved_length, moved-marks-length, moved-limits, all_map, moved-lines-are, moved-marks-are, moved_ordered, lines-back, marks-back, Short, short-lines, fitting-lines, short-marks, fitting-marks}
+use Rattle.offsets.proofs.Moving.{OfAddress, OfLine, OfMarks, moved_length, moved-marks-length, moved-limits, moved-lines-are, moved-marks-are, moved_ordered, lines-back, marks-back, Short}
+use Rattle.offsets.proofs.Moving.{short-lines, fitting-lines, short-marks, fitting-marks}
 use Rattle.offsets.proofs.Firsts.{Good, none_bad_in, no_bad_in}
 
 -- Q and R of every address there
@@ -56,7 +57,10 @@ module _ (form other : TapeForm) (bad : ℕ → Bool) (f : ℕ → ℕ) where
     passing_lines = both_lines (Short form) (Good bad) lines (short-lines form lines (read-fits_by form tape lines bytes reads)) (none_bad_in bad form tape lines reads none_bad).0
 
     pub passing_marks : All (OfMarks Passing) (marks_in_by form tape)
-    passing_marks = both_marks (Short form) (Good bad) (marks_in_by form tape) (short-marks form (marks_in_by form tape) (read-marks_fit_by form tape lines bytes reads).0).0 (none_bad_in bad form tape lines reads none_bad).1
+    passing_marks =
+        both_marks (Short form) (Good bad) (marks_in_by form tape)
+        (short-marks form (marks_in_by form tape) (read-marks_fit_by form tape lines bytes reads).0).0
+        (none_bad_in bad form tape lines reads none_bad).1
 
     -- WHAT IS WRITTEN IS ACCEPTED IN THE OTHER FORM, and holds the same listing and marks, each address moved
     pub holds : Carries → (read_by other written ≡ Passed (move_lines f lines)) × (marks_in_by other written ≡ move_all_marks f (marks_in_by form tape))
@@ -65,7 +69,8 @@ module _ (form other : TapeForm) (bad : ℕ → Bool) (f : ℕ → ℕ) where
         let m = read-marks_fit_by form tape lines bytes reads in
         read-write_by other begin (move_lines f lines) (move_all_marks f marks) n
         (fitting-lines other (move_lines f lines) (moved-limits f lines (read-limits_by form tape lines reads)) (moved-lines-are Passing (Short other) f c.short lines passing_lines))
-        (fitting-marks other (move_all_marks f marks) (moved-marks-are Passing (Short other) f c.short marks passing_marks) (moved_ordered Passing f c.rising marks passing_marks (short-marks form marks m.0).1))
+        (fitting-marks other (move_all_marks f marks) (moved-marks-are Passing (Short other) f c.short marks passing_marks)
+        (moved_ordered Passing f c.rising marks passing_marks (short-marks form marks m.0).1))
         (omega (arith, moved_length f lines, moved-marks-length f marks, m.1))
 
     converted : convert form other bad f begin tape lines ≡ Passed written

@@ -1,11 +1,11 @@
 -- Examples of M-110 by computation, one or more of each number. Assumes nothing.
-use Prim.Native.Nat.{ℕ}
 use mathlib.Core.Path.{◌≡◌, refl}
-use mathlib.Core.List.{List, [], ◌∷◌}
+use mathlib.Core.List.{[], ◌∷◌}
 use Rattle.reference.specs.Questions.{Refused, Passed}
 use Rattle.reference.proofs.Opened.{opened}
 use Rattle.reference.proofs.TapeExamples.{tape}
-use Rattle.offsets.specs.Offsets.{OUTPUT, has_output, front, base_of, begins_with_06, has_base, read_offsets, addresses, move_line, move_marks, move_lines, move_all_marks, first_from, first_with, out_of_reach, wraps, convert, to_offsets, from_offsets}
+use Rattle.offsets.specs.Offsets.{OUTPUT, has_output, front, base_of, begins_with_06, has_base, read_offsets, addresses, move_line, move_marks, move_lines, move_all_marks, first_from, first_with}
+use Rattle.offsets.specs.Offsets.{out_of_reach, wraps, convert, to_offsets, from_offsets}
 use Rattle.answers.specs.Answers.{measured, output_after}
 
 pub record Examples : Type 0 where
@@ -53,7 +53,8 @@ pub record Examples : Type 0 where
   pub told : (measured (Refused 18 4) ≡ Refused 18 4) × (measured (Passed (1 ∷ 2 ∷ [])) ≡ Passed 2)
 
 pub examples : Examples
-unfolding opened has_output front base_of begins_with_06 has_base read_offsets addresses move_line move_marks move_lines move_all_marks first_from first_with out_of_reach wraps convert to_offsets from_offsets
+unfolding opened has_output front base_of begins_with_06 has_base read_offsets addresses move_line move_marks move_lines move_all_marks
+    first_from first_with out_of_reach wraps convert to_offsets from_offsets
 examples =
     record {
       there = refl;

@@ -6,19 +6,19 @@ use mathlib.Core.Bool.{Bool, true, false, true≢false}
 use mathlib.Core.List.{List, [], ◌∷◌, ◌++◌}
 use mathlib.Core.Option.{Option, none, some}
 use lib.ListN.{length, drop, length-drop}
-use Rattle.reference.specs.Control.{◌||◌, if◌then◌else◌}
+use Rattle.reference.specs.Control.{◌or◌, when◌then◌else◌}
 use Rattle.reference.specs.Lists.{any, modify}
-use Rattle.reference.specs.Listing.{Line, Listing}
-use Rattle.reference.specs.Spans.{Span, Marks}
+use Rattle.reference.specs.Listing.{Listing}
+use Rattle.reference.specs.Spans.{Marks}
 use Rattle.reference.specs.Tape.{TapeForm, header, Command, new_line, marked, new_token, end, command_size_by, command_by}
 use Rattle.reference.specs.Questions.{has_line, is_end, add, add_marks, Answer, Passed, read_from_by, read_by, marks_in_by}
 use Rattle.reference.proofs.Cases.{by-if, none-some, some_inj, true-false, neither, both}
-use Rattle.reference.proofs.Reading.{refused_passed, by_passed, PassesBy, command_passed_by, State, start_by, left, after_by, ReachedBy, here, on, AcceptsBy, accepts_by, size_positive, marks-read}
+use Rattle.reference.proofs.Reading.{refused_passed, by_passed, PassesBy, command_passed_by, State, start_by, left, after_by, ReachedBy, here, on, accepts_by, size_positive, marks-read}
 use Rattle.reference.proofs.Writing.{with_token, mark-last}
 use Rattle.reference.proofs.Limits.{All, all_append, all-modify}
 use Rattle.reference.proofs.Tapes.{KeptBy, kept}
 use Rattle.offsets.specs.Offsets.{addresses, first_from, first_with}
-use Rattle.offsets.proofs.Moving.{OfAddress, OfLine, OfMarks}
+use Rattle.offsets.proofs.Moving.{OfLine, OfMarks}
 
 module _ {A : Type 0} where
   all_split : (P : A → Type 0) (xs ys : List A) → All P (xs ++ ys) → All P xs × All P ys
@@ -59,7 +59,7 @@ module _ (bad : ℕ → Bool) where
 
   less : {form : TapeForm} (s : State) (c : Command) → KeptBy form s → has_line s.totals c ≡ true → is_end c ≡ false → All (OfLine Good) (add c s.lines)
       → All (OfMarks Good) (add_marks c s.marks) → Less c s.lines s.marks
-  unfolding addresses add add_marks has_line ◌||◌
+  unfolding addresses add add_marks has_line ◌or◌
   less s (new_line none indent) k b n gl gm = record { lines_good = (all_split _ s.lines _ gl).0; marks_good = (all_split _ s.marks _ gm).0; none_bad = refl }
   less s (new_line (some a) indent) k b n gl gm =
       let l = all_split _ s.lines _ gl in
@@ -91,15 +91,15 @@ module _ (bad : ℕ → Bool) where
 
     pub first_on : (m at : ℕ) → is_end (at_place at) ≡ false → any bad (addresses (at_place at)) ≡ false
         → first_from form bad (suc m) tape at ≡ first_from form bad m tape (next at)
-    unfolding first_from if◌then◌else◌
+    unfolding first_from when◌then◌else◌
     first_on m at n h = rw (h, n)
 
     pub first_here : (m at : ℕ) → any bad (addresses (at_place at)) ≡ true → first_from form bad (suc m) tape at ≡ some at
-    unfolding first_from if◌then◌else◌
+    unfolding first_from when◌then◌else◌
     first_here m at h = rw h
 
     pub first_end : (m at : ℕ) → is_end (at_place at) ≡ true → first_from form bad (suc m) tape at ≡ none
-    unfolding first_from if◌then◌else◌ addresses
+    unfolding first_from when◌then◌else◌ addresses
     first_end m at e = rw (ends (at_place at) e, e)
       where
         ends : (c : Command) → is_end c ≡ true → any bad (addresses c) ≡ false
@@ -188,7 +188,7 @@ module _ (bad : ℕ → Bool) where
       pub marks_good : All (OfMarks Good) state.marks
 
     pub found : (lines : Listing) (place : ℕ) → read_by form tape ≡ Passed lines → first_with form bad tape ≡ some place → FirstAt place
-    unfolding read_by read_from_by first_with first_from if◌then◌else◌
+    unfolding read_by read_from_by first_with first_from when◌then◌else◌
     found lines place = go (length tape) (start_by form) here tt tt
       where
         go : (fuel : ℕ) (s : State) → ReachedBy form tape s → All (OfLine Good) s.lines → All (OfMarks Good) s.marks

@@ -1,25 +1,25 @@
 -- M-110'S PROMISES. For every tape of bytes and base below 2^64 that a call does not refuse: what it writes is accepted in the other form and holds the same
 -- listing and marks, addresses by the base (`to_same`, `from_same`); there and back at the same base gives the identical tape, both ways (`to_and_back`,
 -- `from_and-back`); it fits the output, which keeps its length (`to_length`, `from-length`, `same_length`). Assumes nothing.
-use Prim.Native.Nat.{ℕ, suc, ◌+◌, ◌*◌, ◌-◌, ◌≤◌, ◌<◌, ◌^◌}
+use Prim.Native.Nat.{ℕ, suc, ◌+◌, ◌-◌, ◌≤◌, ◌<◌, ◌^◌}
 use native.Mathlib.Omega.{arith}
 use mathlib.Core.Path.{◌≡◌, refl, sym, ap, ◌∙◌}
 use mathlib.Core.Bool.{Bool, true, false}
 use mathlib.Core.List.{List, [], ◌∷◌, ◌++◌}
-use mathlib.Core.Option.{Option, none, some}
-use lib.Dec.{leb, ltb, eqb}
-use lib.ListN.{length, get_or, take, drop, length-append, length-drop, take-append-drop}
+use mathlib.Core.Option.{none}
+use lib.ListN.{length, drop, length-append, length-drop, take-append-drop}
 use borrow.Author.Tests.{leb-true, leb-false, ltb-false, le-leb, le-ltb, lt-leb, eqb-true}
-use Rattle.reference.specs.Control.{◌||◌, let_some◌else◌then◌}
+use Rattle.reference.specs.Control.{◌or◌}
 use Rattle.reference.specs.Listing.{Listing}
-use Rattle.reference.specs.Tape.{to_le_bytes, from_le_bytes, TapeForm, old, offsets, header, width, write_by, write}
-use Rattle.reference.specs.Questions.{Answer, Refused, Passed, ask, let_passed◌then◌, read_by, read, marks_in_by, marks_in}
-use Rattle.reference.proofs.Cases.{by-some, fails, neither}
+use Rattle.reference.specs.Tape.{to_le_bytes, TapeForm, old, offsets, header, write_by, write}
+use Rattle.reference.specs.Questions.{Answer, Refused, Passed, read_by, read, marks_in_by, marks_in}
+use Rattle.reference.proofs.Cases.{by-some, neither}
 use Rattle.reference.proofs.LittleEndian.{Bytes, from_to, to_take}
 use Rattle.reference.proofs.Reading.{ask-yes, ask_passed, by_passed, let_is, refused_passed, passed_inj}
 use Rattle.reference.proofs.Writing.{write-length_by}
 use Rattle.reference.proofs.Tapes.{read-limits_by}
-use Rattle.offsets.specs.Offsets.{OUTPUT, has_output, front, base_of, begins_with_06, has_base, read_offsets, move_lines, move_all_marks, first_with, out_of_reach, wraps, convert, to_offsets, from_offsets}
+use Rattle.offsets.specs.Offsets.{OUTPUT, has_output, front, base_of, begins_with_06, has_base, read_offsets, move_lines, move_all_marks, first_with, out_of_reach, wraps, convert, to_offsets}
+use Rattle.offsets.specs.Offsets.{from_offsets}
 use Rattle.answers.specs.Answers.{output_after}
 use Rattle.offsets.proofs.Moving.{moved-limits, lines-back, marks-back}
 use Rattle.offsets.proofs.Converting.{Passing, Carries, passing_lines, passing_marks, holds, and_back}
@@ -39,7 +39,7 @@ unfolding out_of_reach
 reached base a e = let n = neither e in (ltb-false _ _ n.0, leb-false _ _ n.1)
 
 in_reach : (base a : ℕ) → base ≤ a → a < base + 2 ^ 32 → out_of_reach base a ≡ false
-unfolding out_of_reach ◌||◌
+unfolding out_of_reach ◌or◌
 in_reach base a low high = rw (le-ltb a base low) (lt-leb (base + 2 ^ 32) a high)
 
 pub sum_fits : (base o : ℕ) → wraps base o ≡ false → base + o < 2 ^ 64
@@ -184,7 +184,8 @@ module _ (base : ℕ) (tape : List ℕ) (lines : Listing) (b : base < 2 ^ 64) (h
             ∙ lines-back P (down base) (up base) (back-down base) lines (passing_lines old offsets (out_of_reach base) (down base) (front base) tape lines (front_length base) h reads none_far);
         marks_are =
             (λ i. move_all_marks (up (lowered-base i)) (lowered-holds.1 i))
-            ∙ marks-back P (down base) (up base) (back-down base) (marks_in tape) (passing_marks old offsets (out_of_reach base) (down base) (front base) tape lines (front_length base) h reads none_far);
+            ∙ marks-back P (down base) (up base) (back-down base) (marks_in tape)
+            (passing_marks old offsets (out_of_reach base) (down base) (front base) tape lines (front_length base) h reads none_far);
       }
 
   lowered-back : (output : ℕ) → OUTPUT ≤ output → from_offsets lowered output ≡ Passed tape
@@ -193,7 +194,8 @@ module _ (base : ℕ) (tape : List ℕ) (lines : Listing) (b : base < 2 ^ 64) (h
       ask-yes _ _ _ (le-leb OUTPUT output room, tt)
       ∙ let_is _ lowered-holds.0
       ∙ ap (λ (b : ℕ). convert offsets old (wraps b) (up b) [] lowered (move_lines (down base) lines)) lowered-base
-      ∙ and_back old offsets (out_of_reach base) (down base) (front base) tape lines (front_length base) h reads none_far (carries_down base) (wraps base) (up base) [] (fine_down base) (back-down base)
+      ∙ and_back old offsets (out_of_reach base) (down base) (front base) tape lines (front_length base) h reads none_far (carries_down base)
+      (wraps base) (up base) [] (fine_down base) (back-down base)
 
 module _ (tape : List ℕ) (lines : Listing) (h : Bytes tape) (g : Begun tape lines) (none_wraps : first_with offsets (wraps (base_of tape)) tape ≡ none) where
   abbrev base : ℕ

@@ -1,15 +1,15 @@
 -- Addresses moved in a listing and in marks: what stays, what comes back, and what the moved ones are within. Assumes nothing.
-use Prim.Native.Nat.{ℕ, ◌+◌, ◌<◌, ◌≤◌, ◌^◌}
+use Prim.Native.Nat.{ℕ, ◌<◌, ◌≤◌, ◌^◌}
 use native.Mathlib.Omega.{arith}
-use mathlib.Core.Path.{◌≡◌, refl, ap, ◌∙◌}
+use mathlib.Core.Path.{◌≡◌, refl, ap}
 use mathlib.Core.List.{List, [], ◌∷◌}
 use mathlib.Core.Option.{Option, none, some}
 use lib.ListN.{length}
 use Rattle.reference.specs.Control.{let_some◌else◌then◌}
 use Rattle.reference.specs.Listing.{Line, Listing}
-use Rattle.reference.specs.Spans.{Span, Marks}
+use Rattle.reference.specs.Spans.{Marks}
 use Rattle.reference.specs.Tape.{TapeForm, width}
-use Rattle.reference.specs.Claim.{token_count, text_in, text}
+use Rattle.reference.specs.Claim.{token_count, text}
 use Rattle.reference.proofs.Commands.{AddressFitsBy}
 use Rattle.reference.proofs.Limits.{All, LineFits, Limits, MarksFitBy, TapeFitsBy}
 use Rattle.offsets.specs.Offsets.{move_line, move_marks, move_lines, move_all_marks}

@@ -5,7 +5,7 @@ use native.Mathlib.Omega.{arith}
 use mathlib.Core.Path.{◌≡◌, refl, sym, ap, ◌∙◌}
 use mathlib.Core.Bool.{Bool, true, false, false≢true}
 use mathlib.Core.List.{List, [], ◌∷◌, ◌++◌}
-use mathlib.Core.Option.{none, some}
+use mathlib.Core.Option.{some}
 use lib.ListN.{length, take, drop, set, length-append, length-set, length-drop}
 use lib.Seq.{length-take-le, paste}
 use borrow.Author.Tests.{leb-true}
@@ -15,11 +15,11 @@ use Rattle.reference.specs.Listing.{Listing}
 use Rattle.reference.specs.Spans.{Marks}
 use Rattle.reference.specs.Tape as Tape
 use Rattle.reference.specs.Tape.{to_le_bytes, TapeForm, line_byte, marks_byte, width, header, write_command_by, write_lines_by, write_by, command_by, command_size_by}
-use Rattle.reference.specs.Questions.{Totals, is_within, Passed, Advance, read_command_by, is_end, add, add_marks, no_commands, read_by, marks_in_by}
+use Rattle.reference.specs.Questions.{Totals, is_within, Passed, Advance, read_command_by, is_end, add, add_marks, no_commands}
 use Rattle.reference.proofs.Cases.{fails, none-some, neither}
 use Rattle.reference.proofs.LittleEndian.{Bytes, bytes_drop, to_length}
 use Rattle.reference.proofs.Commands.{write_of-read}
-use Rattle.reference.proofs.Reading.{PassesBy, command_passed_by, passed_inj, advances, State, ReachedBy}
+use Rattle.reference.proofs.Reading.{PassesBy, command_passed_by, passed_inj, advances}
 use Rattle.reference.proofs.Writing.{write-length_by}
 use Rattle.reference.proofs.Limits.{Limits}
 use Rattle.reference.proofs.Tapes.{kept}
@@ -28,8 +28,8 @@ use Rattle.tape.specs.Commands.{form_of, command_in}
 use Rattle.tape.specs.declared.commands.Command.{Command}
 use Rattle.tape.specs.declared.commands.Command.TheVariants.{Addressed, Plain, Marked, Token, End}
 use Rattle.tape.proofs.little_endian.Bytes.{put_none, put_pasted, put_one, put-length, put_append, put-cons, puts_append, puts-length}
-use Rattle.tape.proofs.questions.Reading.{ReadsBy, reads_begin, reads_on, read_passed, marks_passed}
-use Rattle.offsets.specs.Offsets.{front, addresses, move_lines, move_all_marks, first_with}
+use Rattle.tape.proofs.questions.Reading.{ReadsBy, reads_on, read_passed, marks_passed}
+use Rattle.offsets.specs.Offsets.{front, move_lines, move_all_marks}
 use Rattle.offsets.specs.Calls.{other_form, bad_for, moved_by, held, move_command, moved_bytes, Moves, Ready, Converts}
 use Rattle.offsets.proofs.Moving.{moved-limits}
 use Rattle.offsets.proofs.Stepwise.{grows}

@@ -9,7 +9,7 @@ use mathlib.Core.Option.{none, some}
 use lib.Dec.{leb, ltb}
 use lib.ListN.{length, drop, length-drop}
 use borrow.Author.Tests.{leb-true, leb-false, ltb-true, ltb-false, le-leb, lt-leb, lt-ltb, le-ltb}
-use Rattle.reference.specs.Control.{◌||◌}
+use Rattle.reference.specs.Control.{◌or◌}
 use Rattle.reference.specs.Lists.{any}
 use Rattle.reference.specs.Tape.{TapeForm, header, command_size_by, command_by}
 use Rattle.reference.specs.Listing.{Listing}
@@ -47,8 +47,8 @@ left_above base offset h = sym (go (ltb (18446744073709551615 - base) offset) re
     go false e = lt-leb (2 ^ 64) (base + offset) (omega (arith, ltb-false (18446744073709551615 - base) offset e))
 
 -- one test more that is never met
-pub or_none : (a : Bool) → (a || false) ≡ a
-unfolding ◌||◌
+pub or_none : (a : Bool) → (a or false) ≡ a
+unfolding ◌or◌
 or_none true = refl
 or_none false = refl
 

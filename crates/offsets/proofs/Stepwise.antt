@@ -1,15 +1,15 @@
 -- The conversion as a program makes it, command by command: what is written grows by the moved command, and 18 is asked of the command alone. Assumes nothing.
-use Prim.Native.Nat.{ℕ, zero, suc, pred, ◌+◌, ◌≤◌}
+use Prim.Native.Nat.{ℕ, zero, suc, pred}
 use native.Mathlib.Omega.{arith}
-use mathlib.Core.Path.{◌≡◌, refl, sym, ap, ◌∙◌}
-use mathlib.Core.Bool.{Bool, true, false, true≢false}
+use mathlib.Core.Path.{◌≡◌, refl, ap, ◌∙◌}
+use mathlib.Core.Bool.{true, false, true≢false}
 use mathlib.Core.List.{List, [], ◌∷◌, ◌++◌}
-use mathlib.Core.Option.{Option, none, some}
+use mathlib.Core.Option.{none, some}
 use lib.ListN.{length}
 use borrow.Author.Tests.{leb-true}
 use Rattle.reference.specs.Control.{let_some◌else◌then◌}
 use Rattle.reference.specs.Lists.{modify}
-use Rattle.reference.specs.Listing.{Token, Line, Listing}
+use Rattle.reference.specs.Listing.{Token, Listing}
 use Rattle.reference.specs.Spans.{Span, Marks}
 use Rattle.reference.specs.Tape.{TapeForm, Command, new_line, marked, new_token, end, write_command_by, write_lines_by, command_by}
 use Rattle.reference.specs.Questions.{has_line, is_end, add, add_marks}

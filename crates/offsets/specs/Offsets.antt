@@ -2,7 +2,7 @@
 -- answers; every byte of the output afterwards is crate answers' `Writes` of it. Assumes nothing.
 use Rattle.std.specs.Prelude.{ℕ, zero, suc, ◌+◌, ◌-◌, ◌^◌, Bool, List, [], ◌∷◌, ◌++◌, leb, ltb, eqb, length, get_or, take, drop}
 use Rattle.std.proofs.Math.Option.{Option, none, some}
-use Rattle.reference.specs.Control.{◌||◌, if◌then◌else◌, let_some◌else◌then◌}
+use Rattle.reference.specs.Control.{◌or◌, when◌then◌else◌, let_some◌else◌then◌}
 use Rattle.reference.specs.Lists.{any}
 use Rattle.reference.specs.Listing.{Line, Listing}
 use Rattle.reference.specs.Spans.{Marks}
@@ -72,14 +72,14 @@ first_from form bad zero tape at = none
 first_from form bad (suc fuel) tape at =
     let rest : List ℕ = drop at tape in
     let more : Option ℕ = first_from form bad fuel tape (at + command_size_by form rest) in
-    if any bad (addresses (command_by form rest)) then some at else if is_end (command_by form rest) then none else more
+    when any bad (addresses (command_by form rest)) then some at else when is_end (command_by form rest) then none else more
 
 unfoldable pub first_with : TapeForm → (ℕ → Bool) → List ℕ → Option ℕ
 first_with form bad tape = first_from form bad (length tape) tape (header form)
 
 -- "an address below the base or 2^32 or more above it"
 unfoldable pub out_of_reach : ℕ → ℕ → Bool
-out_of_reach base address = ltb address base || leb (base + 2 ^ 32) address
+out_of_reach base address = ltb address base or leb (base + 2 ^ 32) address
 
 -- "or on the way back a sum above 2^64 - 1"
 unfoldable pub wraps : ℕ → ℕ → Bool

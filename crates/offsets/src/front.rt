@@ -1,6 +1,5 @@
 // What a tape by offset begins with: 06 and the base.
 ghost use Rattle.std.specs.Prelude.{◌≡◌, [], ◌∷◌, ◌≤◌, length};
-ghost use Rattle.reference.specs.Contract.{was};
 ghost use Rattle.tape.specs.Bytes.{Puts};
 ghost use Rattle.tape.specs.Questions.{first_no};
 ghost use Rattle.offsets.specs.Offsets.{front, base_of, begins_with_06, has_base};
@@ -9,7 +8,7 @@ use tape::little_endian::{number_at, put_number};
 
 // The number of the question that refuses a tape's front, or 0: 19, and then 4 of 06.
 pub fn asked(tape: &[u8]) -> u64
-    ensures { result ≡ first_no ((19, begins_with_06 (was tape)) ∷ (4, has_base (was tape)) ∷ []) }
+    ensures { result ≡ first_no ((19, begins_with_06 tape.now) ∷ (4, has_base tape.now) ∷ []) }
 {
     if tape.len() == 0 {
         return 19; // the empty tape too
@@ -26,7 +25,7 @@ pub fn asked(tape: &[u8]) -> u64
 // The base of a tape whose front passed.
 pub fn base_of(tape: &[u8]) -> u64
     requires { 9 ≤ length tape.now }
-    ensures { result ≡ base_of (was tape) }
+    ensures { result ≡ base_of tape.now }
 {
     number_at(tape, 1, 8)
 }
@@ -34,7 +33,7 @@ pub fn base_of(tape: &[u8]) -> u64
 // Writes 06 and the base, and says where they end.
 pub fn put_front(base: u64, out: &mut [u8]) -> usize
     requires { 9 ≤ length out.old }
-    ensures { Puts (was out) 0 (front base) out.new result }
+    ensures { Puts out.old 0 (front base) out.new result }
 {
     out[0] = 6;
     put_number(base, 8, out, 1);

@@ -1,4 +1,6 @@
 // Tapes by offset from the load address (request M-110): a tape of document 01's form brought to that form, and back.
+#![tactic(auto)]
+
 mod calls; // the two calls
 mod front; // 06 and the base
 mod reach; // question 18

@@ -1,7 +1,6 @@
 // Question 18: whether a command has an address that the other form cannot hold, and where the first such command stands. No sum here can
 // wrap: the way back compares the offset with what is left above the base.
 ghost use Rattle.std.specs.Prelude.{◌≡◌};
-ghost use Rattle.reference.specs.Contract.{was};
 ghost use Rattle.reference.specs.Lists.{any};
 ghost use Rattle.tape.specs.Commands.{form_of};
 ghost use Rattle.offsets.specs.Offsets.{out_of_reach, wraps, first_with};
@@ -53,7 +52,7 @@ fn has_refused(command: Command, base: u64, based: bool) -> bool
 }
 
 // Where the first such command stands.
-#[derive(Drop)]
+#[derive(Clone, Copy)]
 pub enum First {
     Nowhere,
     At(usize),
@@ -62,7 +61,7 @@ pub enum First {
 // The first command of an accepted tape that has such an address. The walk is the step's, whose totals say that the command passes.
 pub fn first_refused(tape: &[u8], base: u64, based: bool) -> First
     requires { Read based tape.now }
-    ensures { first_of result ≡ first_with (form_of based) (bad_for based base) (was tape) }
+    ensures { first_of result ≡ first_with (form_of based) (bad_for based base) tape.now }
 {
     let mut at = header_of(based);
     let mut totals = Totals {

@@ -2,7 +2,6 @@
 // bytes in both forms and is copied.
 ghost use Rattle.std.specs.Prelude.{◌≡◌, false, ◌+◌, ◌-◌, ◌≤◌, ◌<◌, length, take, drop};
 ghost use Rattle.std.proofs.Math.Option.{some};
-ghost use Rattle.reference.specs.Contract.{was};
 ghost use Rattle.reference.specs.Tape.{width, new_line, marked, write_command_by};
 ghost use Rattle.tape.specs.Bytes.{Puts};
 ghost use Rattle.tape.specs.Commands.{form_of};
@@ -35,7 +34,7 @@ fn moved(address: u64, base: u64, based: bool) -> u64
 // Writes the command of a line with an address.
 fn put_line(address: u64, indent: u64, based: bool, out: &mut [u8], at: usize) -> usize
     requires { (indent < 256) × (at + (2 + width (form_of based)) ≤ length out.old) }
-    ensures { Puts (was out) at (write_command_by (form_of based) (new_line (some address) indent)) out.new result }
+    ensures { Puts out.old at (write_command_by (form_of based) (new_line (some address) indent)) out.new result }
 {
     let w = width_of(based);
     out[at] = line_byte(based);
@@ -47,7 +46,7 @@ fn put_line(address: u64, indent: u64, based: bool, out: &mut [u8], at: usize) -
 // Writes the command of marks.
 fn put_marks(low: u64, high: u64, based: bool, out: &mut [u8], at: usize) -> usize
     requires { at + (1 + width (form_of based) + width (form_of based)) ≤ length out.old }
-    ensures { Puts (was out) at
+    ensures { Puts out.old at
         (write_command_by (form_of based) (marked (record { lowest = low; highest = high }))) out.new result }
 {
     let w = width_of(based);
@@ -60,7 +59,7 @@ fn put_marks(low: u64, high: u64, based: bool, out: &mut [u8], at: usize) -> usi
 // Copies the bytes of the tape from `from` to `end`.
 fn put_copy(tape: &[u8], from: usize, end: usize, out: &mut [u8], at: usize) -> usize
     requires { (from ≤ end) × (end ≤ length tape.now) × (at + (end - from) ≤ length out.old) }
-    ensures { Puts (was out) at (take (end - from) (drop from (was tape))) out.new result }
+    ensures { Puts out.old at (take (end - from) (drop from tape.now)) out.new result }
 {
     let n = end - from;
     copy_bytes(text_of(tape, from, n), out, at);
@@ -79,7 +78,7 @@ fn put_command(
     to: usize,
 ) -> usize
     requires { Moves based base tape.now at next command out.old to }
-    ensures { Puts (was out) to (moved_bytes based base (was tape) at command) out.new result }
+    ensures { Puts out.old to (moved_bytes based base tape.now at command) out.new result }
 {
     match command {
         Command::Addressed { address, indent } => {
@@ -98,7 +97,7 @@ fn put_command(
 // Writes the commands of a tape that no question refuses in the other form, from `to` on, and says where they end.
 pub fn put_commands(tape: &[u8], base: u64, based: bool, out: &mut [u8], to: usize) -> usize
     requires { Ready based base tape.now × (to + 34561 ≤ length out.old) }
-    ensures { Converts based base (was tape) (was out) to out.new result }
+    ensures { Converts based base tape.now out.old to out.new result }
 {
     let mut at = header_of(based);
     let mut totals = Totals {

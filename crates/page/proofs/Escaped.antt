@@ -1,16 +1,16 @@
 -- No byte of a listing can leave its cell: an escaped text holds no markup, its every & begins an entity, and a browser reads it back as the
 -- text. Assumes nothing.
-use Prim.Native.Nat.{ℕ, zero, suc, ◌+◌, ◌*◌, ◌≤◌}
+use Prim.Native.Nat.{ℕ, zero, suc, ◌*◌, ◌≤◌}
 use native.Mathlib.Omega.{arith}
 use mathlib.Core.Path.{◌≡◌, refl, sym, ap, ◌∙◌}
-use mathlib.Core.Bool.{Bool, true, false}
-use mathlib.Core.List.{List, [], ◌∷◌, ◌++◌, append_assoc, append-nil, flat_map}
+use mathlib.Core.Bool.{true, false}
+use mathlib.Core.List.{[], ◌∷◌, ◌++◌, append_assoc, append-nil, flat_map}
 use lib.Dec.{eqb}
-use lib.ListN.{length, drop, length-append}
-use borrow.Author.Tests.{eqb-true, eqb-false, ne_eqb}
-use Rattle.reference.specs.Control.{not, ◌&&◌, ◌||◌, if◌then◌else◌}
+use lib.ListN.{length, length-append}
+use borrow.Author.Tests.{eqb-true}
+use Rattle.reference.specs.Control.{not, ◌and◌, ◌or◌, when◌then◌else◌}
 use Rattle.reference.specs.Lists.{any}
-use Rattle.reference.specs.Text.{Text, bytes, starts_with}
+use Rattle.reference.specs.Text.{Text, bytes}
 use Rattle.reference.proofs.Cases.{by-if}
 use Rattle.page.specs.Escaping.{entity, escaped, begins_entity, ampersands_begin, is_markup, Closed}
 use Rattle.page.specs.Escaping.{after_ampersand, unescaped_by, unescaped}
@@ -74,7 +74,7 @@ escaped_one b = append-nil (entity b)
 
 -- in front of a text that cannot be left, an entity or a plain byte makes another
 clean_front : {b : ℕ} {s : Text} (r : Text) → Stands b s → any is_markup r ≡ false → any is_markup (s ++ r) ≡ false
-unfolding ◌||◌
+unfolding ◌or◌
 clean_front r amp e = e
 clean_front r lt e = e
 clean_front r gt e = e
@@ -83,7 +83,7 @@ clean_front r apos e = e
 clean_front r (same p) e = rw (p.less, p.greater, p.quote, p.apostrophe) e
 
 begun-front : {b : ℕ} {s : Text} (r : Text) → Stands b s → ampersands_begin r ≡ true → ampersands_begin (s ++ r) ≡ true
-unfolding ampersands_begin begins_entity not ◌&&◌ ◌||◌
+unfolding ampersands_begin begins_entity not ◌and◌ ◌or◌
 begun-front r amp e = e
 begun-front r lt e = e
 begun-front r gt e = e
@@ -108,7 +108,7 @@ stays_in_its-cell t = record { no_markup = no_markup t; only_entities = only_ent
 -- ---- a browser reads the text
 
 read-front : {b : ℕ} {s : Text} (r : Text) (n : ℕ) → Stands b s → unescaped_by (suc n) (s ++ r) ≡ b ∷ unescaped_by n r
-unfolding unescaped_by after_ampersand ◌&&◌ if◌then◌else◌
+unfolding unescaped_by after_ampersand ◌and◌ when◌then◌else◌
 read-front r n amp = refl
 read-front r n lt = refl
 read-front r n gt = refl

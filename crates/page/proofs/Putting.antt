@@ -1,14 +1,13 @@
 -- Escaped bytes put one behind the other are the escaped text, and with the markup around it the cell. Assumes nothing.
-use Prim.Native.Nat.{ℕ, suc, ◌+◌, ◌*◌, ◌≤◌, ◌<◌}
+use Prim.Native.Nat.{ℕ, ◌+◌, ◌*◌, ◌≤◌, ◌<◌}
 use native.Mathlib.Omega.{arith}
 use native.Mathlib.Numerals.{add-one}
-use mathlib.Core.Path.{◌≡◌, refl, sym, ap, ◌∙◌}
-use mathlib.Core.List.{List, [], ◌∷◌, ◌++◌, append_assoc, flat_map}
-use lib.Dec.{eqb}
+use mathlib.Core.Path.{◌≡◌, ap, ◌∙◌}
+use mathlib.Core.List.{[], ◌∷◌, ◌++◌, append_assoc, flat_map}
 use lib.ListN.{length, take, get_or, length-append, length-take}
 use lib.Seq.{paste-zero, take-suc, take-length}
 use borrow.Author.Tests.{ne_eqb}
-use Rattle.reference.specs.Control.{if◌then◌else◌}
+use Rattle.reference.specs.Control.{when◌then◌else◌}
 use Rattle.reference.specs.Text.{Text, bytes}
 use Rattle.numbers.specs.Writing.{Written}
 use Rattle.numbers.proofs.Writing.{written_then}
@@ -22,28 +21,28 @@ use Rattle.page.proofs.Escaped.{entity-length, escaped-length, escaped_append, e
 
 module _ {b : ℕ} {out out' : Text} {at r : ℕ} where
   pub is_amp : b ≡ 38 → Written out at (bytes "&amp;") out' r → Written out at (entity b) out' r
-  unfolding entity if◌then◌else◌
+  unfolding entity when◌then◌else◌
   is_amp e w = rw e w
 
   pub is_lt : b ≡ 60 → Written out at (bytes "&lt;") out' r → Written out at (entity b) out' r
-  unfolding entity if◌then◌else◌
+  unfolding entity when◌then◌else◌
   is_lt e w = rw e w
 
   pub is_gt : b ≡ 62 → Written out at (bytes "&gt;") out' r → Written out at (entity b) out' r
-  unfolding entity if◌then◌else◌
+  unfolding entity when◌then◌else◌
   is_gt e w = rw e w
 
   pub is_quot : b ≡ 34 → Written out at (bytes "&quot;") out' r → Written out at (entity b) out' r
-  unfolding entity if◌then◌else◌
+  unfolding entity when◌then◌else◌
   is_quot e w = rw e w
 
   pub is_apos : b ≡ 39 → Written out at (bytes "&#39;") out' r → Written out at (entity b) out' r
-  unfolding entity if◌then◌else◌
+  unfolding entity when◌then◌else◌
   is_apos e w = rw e w
 
   pub is_plain : (b ≡ 38 → ⊥) → (b ≡ 60 → ⊥) → (b ≡ 62 → ⊥) → (b ≡ 34 → ⊥) → (b ≡ 39 → ⊥)
       → Written out at (b ∷ []) out' r → Written out at (entity b) out' r
-  unfolding entity if◌then◌else◌
+  unfolding entity when◌then◌else◌
   is_plain a l g q p w = rw (ne_eqb b 38 a, ne_eqb b 60 l, ne_eqb b 62 g, ne_eqb b 34 q, ne_eqb b 39 p) w
 
 pub ruleset entities = (is_amp, is_lt, is_gt, is_quot, is_apos, is_plain)

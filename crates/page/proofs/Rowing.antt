@@ -1,7 +1,7 @@
 -- Cells put one behind the other: of a text in pieces, and of a line's tokens. Assumes nothing.
 use Prim.Native.Nat.{ℕ, zero, suc, min, ◌+◌, ◌*◌, ◌-◌, ◌≤◌, ◌<◌}
 use native.Mathlib.Omega.{arith}
-use native.Mathlib.Nat.{le_refl, add-zero}
+use native.Mathlib.Nat.{le_refl}
 use mathlib.Core.Path.{◌≡◌, refl, sym, ap, ◌∙◌}
 use mathlib.Core.Bool.{Bool, true, false, true≢false, false≢true}
 use mathlib.Core.List.{List, [], ◌∷◌, ◌++◌, append_assoc, append-nil, flat_map}
@@ -9,14 +9,12 @@ use lib.Dec.{leb}
 use lib.ListN.{length, take, drop, length-append, length-take, length-drop, drop_of_length-le}
 use lib.Seq.{paste-zero, take_all, drop-drop}
 use borrow.Author.Tests.{leb-true, leb-false}
-use Rattle.reference.specs.Control.{if◌then◌else◌}
-use Rattle.reference.specs.Text.{Text, bytes}
+use Rattle.reference.specs.Text.{Text}
 use Rattle.reference.specs.Listing.{Token}
 use Rattle.reference.specs.Tape as Tape
 use Rattle.laws.proofs.Scans.{if-true, if-false}
 use Rattle.numbers.specs.Writing.{Written}
 use Rattle.numbers.proofs.Writing.{written_then}
-use Rattle.printing.specs.Decimals.{decimal}
 use Rattle.printing.proofs.Decimals.{decimal-length}
 use Rattle.tape.specs.Commands.{command_in, size_of}
 use Rattle.tape.specs.declared.commands.Command.{Command}
@@ -24,7 +22,6 @@ use Rattle.tape.specs.declared.commands.Command.TheVariants as Code
 use Rattle.walk.specs.Held.{commands, tokens_of}
 use Rattle.walk.specs.Walk.{Follows}
 use Rattle.walk.specs.declared.Next.TheVariants.{More, Over}
-use Rattle.page.specs.Escaping.{escaped}
 use Rattle.page.specs.Cells.{cell, cells_by, cells, line_cells}
 use Rattle.page.specs.Commands.{command_cells, begins_line}
 use Rattle.page.proofs.Escaped.{escaped-length}

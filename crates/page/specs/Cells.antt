@@ -1,7 +1,7 @@
 -- The cells of the page: constant markup around an escaped text. No other byte of a listing reaches the page. Assumes nothing.
 use Rattle.std.specs.Prelude.{ℕ, zero, suc, length, take, drop}
 use mathlib.Core.List.{List, [], ◌++◌, flat_map}
-use Rattle.reference.specs.Control.{if◌then◌else◌}
+use Rattle.reference.specs.Control.{when◌then◌else◌}
 use Rattle.reference.specs.Lists.{is_empty}
 use Rattle.reference.specs.Text.{Text, bytes}
 use Rattle.reference.specs.Listing.{Token}
@@ -17,7 +17,7 @@ unfoldable pub cells_by : ℕ → ℕ → Text → Text
 cells_by zero kind t = []
 cells_by (suc fuel) kind t =
     let more : Text = cells_by fuel kind (drop 512 t) in
-    if is_empty t then [] else cell kind (take 512 t) ++ more
+    when is_empty t then [] else cell kind (take 512 t) ++ more
 
 unfoldable pub cells : ℕ → Text → Text
 cells kind t = cells_by (length t) kind t

@@ -1,6 +1,5 @@
 // The cells of a line, side by side: what is put for its tokens is theirs, and nothing else.
 ghost use Rattle.std.specs.Prelude.{◌≡◌, ◌+◌, ◌*◌, ◌≤◌, min, length};
-ghost use Rattle.reference.specs.Contract.{was};
 ghost use Rattle.numbers.specs.Writing.{Written};
 ghost use Rattle.tape.specs.Commands.{command_in, size_of};
 ghost use Rattle.walk.specs.Held.{commands, tokens_of};
@@ -25,7 +24,7 @@ fn least(n: usize, m: usize) -> usize
 // Puts a text in its cell; a longer one than 512 bytes in several.
 pub fn put_cells(kind: u64, text: &[u8], out: &mut [u8], at: usize) -> usize
     requires { at + 7 * length text.now + 35 ≤ length out.old }
-    ensures { Written (was out) at (cells kind (was text)) out.new result }
+    ensures { Written out.old at (cells kind text.now) out.new result }
 {
     let mut end = at;
     let mut i = 0;
@@ -40,7 +39,7 @@ pub fn put_cells(kind: u64, text: &[u8], out: &mut [u8], at: usize) -> usize
 // Puts a token's cells; nothing for another command.
 fn put_command(tape: &[u8], at: usize, command: Command, out: &mut [u8], end: usize) -> usize
     requires { (at + size_of command ≤ length tape.now) × (end + 12 * size_of command ≤ length out.old) }
-    ensures { Written (was out) end (command_cells (command_in (was tape) at command)) out.new result }
+    ensures { Written out.old end (command_cells (command_in tape.now at command)) out.new result }
 {
     match command {
         Command::Addressed {
@@ -73,7 +72,7 @@ fn begins_line(command: Command) -> bool
 // Puts the cells of the tokens that a tape begins with, up to the next line.
 pub fn put_line(tape: &[u8], out: &mut [u8]) -> usize
     requires { 12 * length tape.now ≤ length out.old }
-    ensures { Written (was out) 0 (line_cells (tokens_of (commands (was tape)))) out.new result }
+    ensures { Written out.old 0 (line_cells (tokens_of (commands tape.now))) out.new result }
 {
     let mut end = 0;
     let mut at = 0;

@@ -1,9 +1,10 @@
 // The page that puts a listing before and after its cleaning side by side: what stands there of a listing's bytes. Each function says where
 // what it puts ends; all else stays as it was. (The page's constant parts stand in crate render.)
+#![tactic(auto)]
+
 mod cells; // the cells of a line, side by side
 
 ghost use Rattle.std.specs.Prelude.{[], ◌∷◌, ◌+◌, ◌*◌, ◌≤◌, ◌<◌, length};
-ghost use Rattle.reference.specs.Contract.{was};
 ghost use Rattle.numbers.specs.Writing.{Written};
 ghost use Rattle.page.specs.Escaping.{entity, escaped};
 ghost use Rattle.page.specs.Cells.{cell};
@@ -14,7 +15,7 @@ use printing::{put, put_decimal};
 // Puts a byte as it is.
 fn put_same(b: u8, out: &mut [u8], at: usize) -> usize
     requires { at < length out.old }
-    ensures { Written (was out) at (b ∷ []) out.new result }
+    ensures { Written out.old at (b ∷ []) out.new result }
 {
     out[at] = b;
     at + 1
@@ -23,7 +24,7 @@ fn put_same(b: u8, out: &mut [u8], at: usize) -> usize
 // Puts a byte, or its entity.
 fn put_byte(b: u8, out: &mut [u8], at: usize) -> usize
     requires { at + 6 ≤ length out.old }
-    ensures { Written (was out) at (entity b) out.new result }
+    ensures { Written out.old at (entity b) out.new result }
 {
     if b == b'&' {
         return put(b"&amp;", out, at);
@@ -46,7 +47,7 @@ fn put_byte(b: u8, out: &mut [u8], at: usize) -> usize
 // Puts a text escaped.
 pub fn put_escaped(text: &[u8], out: &mut [u8], at: usize) -> usize
     requires { at + 6 * length text.now ≤ length out.old }
-    ensures { Written (was out) at (escaped (was text)) out.new result }
+    ensures { Written out.old at (escaped text.now) out.new result }
 {
     let mut end = at;
     let mut i = 0;
@@ -60,7 +61,7 @@ pub fn put_escaped(text: &[u8], out: &mut [u8], at: usize) -> usize
 // Puts a text of a kind in its cell.
 pub fn put_cell(kind: u64, text: &[u8], out: &mut [u8], at: usize) -> usize
     requires { at + 6 * length text.now + 35 ≤ length out.old }
-    ensures { Written (was out) at (cell kind (was text)) out.new result }
+    ensures { Written out.old at (cell kind text.now) out.new result }
 {
     let a = put(b"<i class=k", out, at);
     let b = put_decimal(kind, out, a);

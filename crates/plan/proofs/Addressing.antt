@@ -4,8 +4,8 @@ use mathlib.Core.Path.{◌≡◌, refl, sym, ap, ◌∙◌}
 use mathlib.Core.Bool.{Bool, true, false}
 use mathlib.Core.List.{List}
 use lib.ListN.{length, get_or, drop}
-use Rattle.reference.specs.Control.{not, ◌&&◌}
-use Rattle.reference.specs.Text.{Text, bytes, has, starts_with, ◌==◌}
+use Rattle.reference.specs.Control.{not, ◌and◌}
+use Rattle.reference.specs.Text.{Text, bytes, has, starts_with, ◌≟◌}
 use Rattle.reference.specs.Listing.{Listing}
 use Rattle.reference.specs.Run.{addressed_in}
 use Rattle.reference.proofs.Cases.{not-true}
@@ -23,7 +23,7 @@ pub slotted_of : (slots : Text) (words : List ℕ) (lines : Listing) → Holds s
 slotted_of slots words lines h e = record { holds = h; only = λ name n. rw e (addressed_slots name n lines) }
 
 row_other : (r : ℕ) → r < 8 → starts_with (row_name r) (bytes "var_") ≡ false
-unfolding all-below ◌&&◌ not
+unfolding all-below ◌and◌ not
 row_other r h = not-true (below_at 8 (λ k. not (starts_with (row_name k) (bytes "var_"))) r tested h)
   where
     tested : all-below 8 (λ k. not (starts_with (row_name k) (bytes "var_"))) ≡ true
@@ -40,17 +40,17 @@ module _ (tape area slots : Text) (words : List ℕ) {f : Fam} where
 -- one name after the other: s is the text of the word w
 module _ (slots : Text) (words : List ℕ) (t : Text) (k : ℕ)
     (inv : has (slot_names slots words) t ≡ has (slot_names slots (drop k words)) t) where
-  module _ (h : k < length words) {s : Text} (es : s ≡ text_of slots slots (get_or words k 0)) {x : Bool} (ex : x ≡ (s == t)) where
-    is_same : x ≡ (text_of slots slots (get_or words k 0) == t)
-    is_same = ex ∙ ap (λ (v : Text). v == t) es
+  module _ (h : k < length words) {s : Text} (es : s ≡ text_of slots slots (get_or words k 0)) {x : Bool} (ex : x ≡ (s ≟ t)) where
+    is_same : x ≡ (text_of slots slots (get_or words k 0) ≟ t)
+    is_same = ex ∙ ap (λ (v : Text). v ≟ t) es
 
     pub among_here : x ≡ true → true ≡ has (slot_names slots words) t
-    among_here e = any-true (◌== t) (text_of slots slots) words k inv h refl is_same e
+    among_here e = any-true (◌≟ t) (text_of slots slots) words k inv h refl is_same e
 
     pub among_next : x ≡ false → has (slot_names slots words) t ≡ has (slot_names slots (drop (k + 1) words)) t
-    among_next e = any_next (◌== t) (text_of slots slots) words k inv h refl is_same e
+    among_next e = any_next (◌≟ t) (text_of slots slots) words k inv h refl is_same e
 
   pub among_none : length words ≤ k → false ≡ has (slot_names slots words) t
-  among_none h = any_false (◌== t) (text_of slots slots) words k inv h
+  among_none h = any_false (◌≟ t) (text_of slots slots) words k inv h
 
 pub ruleset addressing = (refl, row_unaddressed, slot-addressed, among_here, among_next, among_none)

@@ -9,7 +9,7 @@ use mathlib.Core.Option.{Option, none, some}
 use lib.ListN.{length, get_or, drop, length-map}
 use lib.Seq.{slice}
 use borrow.Author.Tests.{not-true, not-false}
-use Rattle.reference.specs.Control.{not, ◌&&◌, ◌||◌, if◌then◌else◌, let_some◌else◌then◌}
+use Rattle.reference.specs.Control.{not, ◌and◌, ◌or◌, when◌then◌else◌, let_some◌else◌then◌}
 use Rattle.reference.specs.Lists.{position}
 use Rattle.reference.specs.Text.{Text, bytes, has}
 use Rattle.reference.specs.Listing.{Token, Listing}
@@ -92,8 +92,8 @@ module _ (tape area : Text) (tokens lines : List ℕ) (i : ℕ) (d : Definition)
 
   -- by the three tests
   constant_is : constant
-      ≡ (if r.used && ends_at (bare_listing tape area tokens lines) i (fam_text tape area d.family) labels vs r.last
-      && all_take (fam_text tape area d.family) vs (slice (suc i) (suc r.last) (bare_listing tape area tokens lines))
+      ≡ (when r.used and ends_at (bare_listing tape area tokens lines) i (fam_text tape area d.family) labels vs r.last
+      and all_take (fam_text tape area d.family) vs (slice (suc i) (suc r.last) (bare_listing tape area tokens lines))
       then some (record {
         fam = fam_text tape area d.family;
         expr = tokens_of tape area (expr_words (part_of tokens (get_or lines i 0)) d.expr);
@@ -105,24 +105,24 @@ module _ (tape area : Text) (tokens lines : List ℕ) (i : ℕ) (d : Definition)
   constant_is = rw (← er)
 
   pub constant_unused : flip r.used ≡ true → Plans tape area (part_of tokens (get_or lines i 0)) i constant Nothing
-  unfolding if◌then◌else◌ ◌&&◌
+  unfolding when◌then◌else◌ ◌and◌
   constant_unused t = no_plan (constant_is ∙ rw (not-true r.used t))
 
   module _ (tu : flip r.used ≡ false) {a : Bool} (ea : a ≡ ends_at (bare_listing tape area tokens lines) i (fam_text tape area d.family) labels vs r.last) where
     pub constant-live : flip a ≡ true → Plans tape area (part_of tokens (get_or lines i 0)) i constant Nothing
-    unfolding if◌then◌else◌ ◌&&◌
+    unfolding when◌then◌else◌ ◌and◌
     constant-live t = no_plan (constant_is ∙ rw (not-false r.used tu, ← ea, not-true a t))
 
     module _ (ta : flip a ≡ false) {b : Bool}
         (eb : b ≡ all_take (fam_text tape area d.family) vs (slice (suc i) (suc r.last) (bare_listing tape area tokens lines))) where
       pub constant_refused : flip b ≡ true → Plans tape area (part_of tokens (get_or lines i 0)) i constant Nothing
-      unfolding if◌then◌else◌ ◌&&◌
+      unfolding when◌then◌else◌ ◌and◌
       constant_refused t = no_plan (constant_is ∙ rw (not-false r.used tu, ← ea, not-false a ta, ← eb, not-true b t))
 
       pub constant-joins : flip b ≡ false → Sound tape area (part_of tokens (get_or lines i 0)) d → {p : Plan}
           → p ≡ Do (record { line = i; last = r.last; brackets = false; family = d.family; expr = d.expr })
           → Plans tape area (part_of tokens (get_or lines i 0)) i constant p
-      unfolding if◌then◌else◌ ◌&&◌
+      unfolding when◌then◌else◌ ◌and◌
       constant-joins t h ep =
           join_plan d h r.last false (constant_is ∙ rw (not-false r.used tu, ← ea, not-false a ta, ← eb, not-false b t)) ep
 
@@ -146,14 +146,14 @@ module _ (rules : Rules) (tape area : Text) (us ws : List ℕ) (i j : ℕ) (d : 
 
     module _ {pos : ℕ} (e : q ≡ At pos) {b : Bool} (eb : b ≡ replaceable rules.parts (record { name = fam_text tape area d.family; width = d.width; lowest = d.lowest }) (tokens_of tape area ws) pos) where
       pub among_unfit : flip b ≡ true → Plans tape area us i among Nothing
-      unfolding plan_among if◌then◌else◌ let_some◌else◌then◌
+      unfolding plan_among when◌then◌else◌ let_some◌else◌then◌
       among_unfit t = no_plan (rw (found_is eq e, ← eb, not-true b t))
 
       pub among_joins : flip b ≡ false → Sound tape area us d
           → {y : Bool} → y ≡ wants_brackets rules (tokens_of tape area (expr_words us d.expr)) (tokens_of tape area ws) pos
           → {p : Plan} → p ≡ Do (record { line = i; last = j; brackets = y; family = d.family; expr = d.expr })
           → Plans tape area us i among p
-      unfolding plan_among if◌then◌else◌ let_some◌else◌then◌
+      unfolding plan_among when◌then◌else◌ let_some◌else◌then◌
       among_joins t h {y} ey ep = join_plan d h j y (rw (found_is eq e, ← eb, not-false b t, ← ey)) ep
 
 pub ruleset placing = (among_none, among_unfit, among_joins)
@@ -166,25 +166,25 @@ module _ (rules : Rules) (tape area : Text) (tokens lines : List ℕ) (i j : ℕ
   used = plan_use rules (bare_listing tape area tokens lines) i (definition_in tape area (part_of tokens (get_or lines i 0)) d) labels vs j
 
   used_is : used
-      ≡ (if a || not (dead_after (bare_listing tape area tokens lines) j (fam_text tape area d.family) (indent_of (get_or lines i 0)) labels i vs) then none
+      ≡ (when a or not (dead_after (bare_listing tape area tokens lines) j (fam_text tape area d.family) (indent_of (get_or lines i 0)) labels i vs) then none
       else plan_among rules (definition_in tape area (part_of tokens (get_or lines i 0)) d) (tokens_of tape area ws) j)
   unfolding plan_use plan_among
   used_is = rw (line_at tape area tokens lines i hi, line_at tape area tokens lines j hj, ← ew, ← ea)
 
   pub used_while : a ≡ true → Plans tape area (part_of tokens (get_or lines i 0)) i used Nothing
-  unfolding if◌then◌else◌ ◌||◌
+  unfolding when◌then◌else◌ ◌or◌
   used_while t = no_plan (used_is ∙ rw t)
 
   module _ (ta : a ≡ false) {k : ℕ} (ek : k ≡ indent_of (get_or lines i 0))
       {x : Bool} (ex : x ≡ dead_after (bare_listing tape area tokens lines) j (fam_text tape area d.family) k labels i vs) where
     pub used-live : flip x ≡ true → Plans tape area (part_of tokens (get_or lines i 0)) i used Nothing
-    unfolding if◌then◌else◌ ◌||◌ not
+    unfolding when◌then◌else◌ ◌or◌ not
     used-live t = no_plan (used_is ∙ rw (ta, ← ek, ← ex, not-true x t))
 
     pub used_among : flip x ≡ false → {us : List ℕ} → us ≡ part_of tokens (get_or lines i 0) → {p : Plan}
         → Plans tape area us i (plan_among rules (definition_in tape area us d) (tokens_of tape area ws) j) p
         → Plans tape area (part_of tokens (get_or lines i 0)) i used p
-    unfolding if◌then◌else◌ ◌||◌ not
+    unfolding when◌then◌else◌ ◌or◌ not
     used_among t eu h = plan_of (used_is ∙ rw (ta, ← ek, ← ex, not-false x t)) (rw eu at h)
 
 pub ruleset finding = (used_while, used-live, used_among)
@@ -219,16 +219,16 @@ module _ (rules : Rules) (tape area : Text) (ws : List ℕ) (lines : Listing) (i
   lone e = rw (← eu) (sym (ea tape area) ∙ e)
 
   pub for_other : flip a ≡ true → {p : Plan} → Plans tape area ws i (plan_single rules lines i (definition_in tape area ws d) labels vs) p → Plans tape area ws i chosen p
-  unfolding plan_for if◌then◌else◌ let_some◌else◌then◌
+  unfolding plan_for when◌then◌else◌ let_some◌else◌then◌
   for_other t h = plan_of (rw (lone (not-true a t))) h
 
   module _ (ta : flip a ≡ false) {q : Plan} (hq : Plans tape area ws i (plan_constant lines i (definition_in tape area ws d) labels vs) q) where
     pub for_constant : {j : Join} → q ≡ Do j → Plans tape area ws i chosen (Do j)
-    unfolding plan_for if◌then◌else◌ let_some◌else◌then◌
+    unfolding plan_for when◌then◌else◌ let_some◌else◌then◌
     for_constant e = let h = rw e at hq in record { is = rw (lone (not-false a ta), ← h.is); sound = h.sound }
 
     pub for_single : q ≡ Nothing → {p : Plan} → Plans tape area ws i (plan_single rules lines i (definition_in tape area ws d) labels vs) p → Plans tape area ws i chosen p
-    unfolding plan_for if◌then◌else◌ let_some◌else◌then◌
+    unfolding plan_for when◌then◌else◌ let_some◌else◌then◌
     for_single e h = let g = rw e at hq in plan_of (rw (lone (not-false a ta), ← g.is)) h
 
 pub ruleset choosing = (for_other, for_constant, for_single)
@@ -247,7 +247,7 @@ module _ (tape area : Text) (tokens lines : List ℕ) (i : ℕ) (rules : Rules) 
     (hi : i < length lines) {ws : List ℕ} (ew : ws ≡ part_of tokens (get_or lines i 0)) {r : Defined} (h : Defines tape area ws r) where
   decided : decide rules (bare_listing tape area tokens lines) i labels addressed
       ≡ (let_some (J.definition_of (tokens_of tape area ws)) else none then λ d.
-      if has addressed d.fam.name then none else plan_for rules (bare_listing tape area tokens lines) i d labels (volatile rules))
+      when has addressed d.fam.name then none else plan_for rules (bare_listing tape area tokens lines) i d labels (volatile rules))
   unfolding decide
   decided = rw (line_at tape area tokens lines i hi, ← ew)
 
@@ -259,14 +259,14 @@ module _ (tape area : Text) (tokens lines : List ℕ) (i : ℕ) (rules : Rules) 
     module _ {a : Bool} (ea : a ≡ has addressed (fam_text tape area d.family)) where
       pub decide-addressed : a ≡ true
           → Plans tape area (part_of tokens (get_or lines i 0)) i (decide rules (bare_listing tape area tokens lines) i labels addressed) Nothing
-      unfolding let_some◌else◌then◌ if◌then◌else◌
+      unfolding let_some◌else◌then◌ when◌then◌else◌
       decide-addressed t = no_plan (decided ∙ rw (← h.is, e, ← ea, t))
 
       pub decide_for : a ≡ false → {p : Plan}
           → Plans tape area (part_of tokens (get_or lines i 0)) i
           (plan_for rules (bare_listing tape area tokens lines) i (definition_in tape area (part_of tokens (get_or lines i 0)) d) labels (volatile rules)) p
           → Plans tape area (part_of tokens (get_or lines i 0)) i (decide rules (bare_listing tape area tokens lines) i labels addressed) p
-      unfolding let_some◌else◌then◌ if◌then◌else◌
+      unfolding let_some◌else◌then◌ when◌then◌else◌
       decide_for t g = plan_of (decided ∙ rw (← h.is, e, ← ea, t, ew)) g
 
 pub ruleset deciding = (decide_none, decide-addressed, decide_for)

@@ -7,7 +7,7 @@ use mathlib.Core.List.{List}
 use mathlib.Core.Option.{Option, none}
 use lib.ListN.{length, get_or, drop, length-map, get_or-map}
 use borrow.Author.Tests.{ne_eqb}
-use Rattle.reference.specs.Control.{not, ◌&&◌, ◌||◌, if◌then◌else◌, let_some◌else◌then◌}
+use Rattle.reference.specs.Control.{not, ◌and◌, ◌or◌, when◌then◌else◌, let_some◌else◌then◌}
 use Rattle.reference.specs.Lists.{any, is_some}
 use Rattle.reference.specs.Text.{Text, bytes, starts_with, ends_with}
 use Rattle.reference.specs.Listing.{Token, is, Register, Keyword, Symbol}
@@ -38,30 +38,30 @@ use Rattle.plan.specs.Definitions.{before_at, Defines}
 -- the word w with the kind k, behind the token b
 module _ (tape area : Text) (b : Option Token) (v : ℕ) {w k : ℕ} (ew : w ≡ v) (ek : k ≡ kind_of w) where
   pub reads_other : (k ≡ Keyword → ⊥) → (k ≡ Register → ⊥) → (k ≡ Symbol → ⊥) → false ≡ reads_here b (token_of tape area v)
-  unfolding reads_here is ◌&&◌ ◌||◌
+  unfolding reads_here is ◌and◌ ◌or◌
   reads_other p q r = rw (← ew, ← ek, ne_eqb k 3 p, ne_eqb k 1 q, ne_eqb k 4 r)
 
   module _ {s : Text} (es : s ≡ text_of tape area w) {x : Bool} where
     pub reads-keyword : k ≡ Keyword → x ≡ starts_with s (bytes "*(") → x ≡ reads_here b (token_of tape area v)
-    unfolding reads_here is ◌&&◌ ◌||◌
+    unfolding reads_here is ◌and◌ ◌or◌
     reads-keyword h e = rw (← ew, ← ek, h, ← es) (or_only e)
 
     pub reads-register : k ≡ Register → x ≡ starts_with s (bytes "var_") → x ≡ reads_here b (token_of tape area v)
-    unfolding reads_here is ◌&&◌ ◌||◌
+    unfolding reads_here is ◌and◌ ◌or◌
     reads-register h e = rw (← ew, ← ek, h, ← es) (or_only e)
 
   reads-symbol : k ≡ Symbol → reads_here b (token_of tape area v) ≡ not (let_some b else false then λ t. ends_with t.text (bytes "&"))
-  unfolding reads_here is ◌&&◌ ◌||◌
+  unfolding reads_here is ◌and◌ ◌or◌
   reads-symbol h = rw (← ew, ← ek, h)
 
 module _ (tape area : Text) (ws : List ℕ) (i : ℕ) {w k : ℕ} (ew : w ≡ get_or ws i 0) (ek : k ≡ kind_of w) (h : k ≡ Symbol) where
   pub reads_first : i ≡ 0 → true ≡ reads_here (before_at (tokens_of tape area ws) i) (token_of tape area (get_or ws i 0))
-  unfolding before_at if◌then◌else◌ let_some◌else◌then◌ not
+  unfolding before_at when◌then◌else◌ let_some◌else◌then◌ not
   reads_first e = sym (reads-symbol tape area (before_at (tokens_of tape area ws) i) (get_or ws i 0) ew ek h ∙ rw e)
 
   pub reads-behind : i < length ws → (i ≡ 0 → ⊥) → {u : ℕ} → u ≡ get_or ws (i - 1) 0 → {s : Text} → s ≡ text_of tape area u → {x : Bool} → x ≡ ends_with s (bytes "&")
       → flip x ≡ reads_here (before_at (tokens_of tape area ws) i) (token_of tape area (get_or ws i 0))
-  unfolding before_at if◌then◌else◌ let_some◌else◌then◌
+  unfolding before_at when◌then◌else◌ let_some◌else◌then◌
   reads-behind b n eu es ex =
       not_same ex
       ∙ sym (reads-symbol tape area (before_at (tokens_of tape area ws) i) (get_or ws i 0) ew ek h
@@ -77,7 +77,7 @@ pub ruleset reading = (reads_other, reads-keyword, reads-register, reads_first, 
 -- ---- all of them, one after the other
 
 before_is : (ts : List Token) (k : ℕ) → before_of ts k ≡ before_at ts k
-unfolding before_at if◌then◌else◌
+unfolding before_at when◌then◌else◌
 before_is ts zero = refl
 before_is ts (suc k) = let e : suc k - 1 ≡ k = omega arith in rw (e, ne_eqb (suc k) 0 (λ z. omega arith))
 
@@ -143,13 +143,13 @@ module _ (tape area : Text) (ws : List ℕ) where
 
       module _ {g : Fam} {k l : ℕ} (f : n ≡ NamedAs g k l) {m : Bool} (em : m ≡ any (of_family (fam_text tape area g)) (tokens_of tape area (expr_words ws x))) where
         pub mentioned : m ≡ true → Defines tape area ws Nothing
-        unfolding definition_of let_some◌else◌then◌ if◌then◌else◌
+        unfolding definition_of let_some◌else◌then◌ when◌then◌else◌
         mentioned t = undefined (rw (assigned_to h e, named_as hn f, ← em, t))
 
         pub defined_as : m ≡ false → {calls reads : Bool} → calls ≡ is_some (call_in (tokens_of tape area ws))
             → reads ≡ reads_memory (tokens_of tape area (expr_words ws x))
             → Defines tape area ws (As (record { family = g; width = k; lowest = l; expr = x; calls = calls; reads = reads }))
-        unfolding definition_of let_some◌else◌then◌ if◌then◌else◌
+        unfolding definition_of let_some◌else◌then◌ when◌then◌else◌
         defined_as t ec er =
             record {
               is = rw (assigned_to h e, named_as hn f, ← em, t, ← ec);

@@ -10,7 +10,7 @@ use mathlib.Core.List.{List}
 use lib.Dec.{eqb, ltb, leb}
 use lib.ListN.{length, get_or, length-map, get_or-map}
 use borrow.Author.Tests.{eq-eqb, ne_eqb, lt-ltb, le-ltb, le-leb, lt-leb, not-true, not-false}
-use Rattle.reference.specs.Control.{not, ◌&&◌, ◌||◌, if◌then◌else◌, let_some◌else◌then◌}
+use Rattle.reference.specs.Control.{not, ◌and◌, ◌or◌, let_some◌else◌then◌}
 use Rattle.reference.specs.Text.{Text, bytes, starts_with, ends_with, trim_start}
 use Rattle.reference.specs.Listing.{Token, is, Punct}
 use Rattle.reference.specs.Names.{family}
@@ -35,21 +35,21 @@ use Rattle.lines.proofs.shapes.Tests.{kind_fails, kind_holds}
 -- ---- widths
 
 module _ (width used : ℕ) where
-  pub widths_same : used ≡ width → true ≡ not ((ltb used 32 || ltb width 32) && not (eqb used width))
-  unfolding not ◌&&◌
-  widths_same e = rw (eq-eqb used width e) (holds (ltb used 32 || ltb width 32))
+  pub widths_same : used ≡ width → true ≡ not ((ltb used 32 or ltb width 32) and not (eqb used width))
+  unfolding not ◌and◌
+  widths_same e = rw (eq-eqb used width e) (holds (ltb used 32 or ltb width 32))
     where
-      holds : (b : Bool) → true ≡ not (b && false)
+      holds : (b : Bool) → true ≡ not (b and false)
       holds true = refl
       holds false = refl
 
   module _ (n : used ≡ width → ⊥) where
-    pub widths_narrow : used < 32 → false ≡ not ((ltb used 32 || ltb width 32) && not (eqb used width))
-    unfolding not ◌&&◌ ◌||◌
+    pub widths_narrow : used < 32 → false ≡ not ((ltb used 32 or ltb width 32) and not (eqb used width))
+    unfolding not ◌and◌ ◌or◌
     widths_narrow h = rw (ne_eqb used width n, lt-ltb used 32 h)
 
-    pub widths_wide : 32 ≤ used → leb 32 width ≡ not ((ltb used 32 || ltb width 32) && not (eqb used width))
-    unfolding not ◌&&◌ ◌||◌
+    pub widths_wide : 32 ≤ used → leb 32 width ≡ not ((ltb used 32 or ltb width 32) and not (eqb used width))
+    unfolding not ◌and◌ ◌or◌
     widths_wide h =
         by_cases (dec_le 32 width)
         (λ b. rw (ne_eqb used width n, le-ltb used 32 h, le-leb 32 width b, le-ltb width 32 b))
@@ -63,7 +63,7 @@ module _ (tape area : Text) (ws : List ℕ) (pos : ℕ) (h : pos < length ws) {n
 
   -- another lowest bit, below 32 bits
   abbrev elsewhere : ℕ → Bool
-  elsewhere lowest = ltb (use_width (tokens_of tape area ws) pos) 32 && not (eqb (use_lowest (tokens_of tape area ws) pos) lowest)
+  elsewhere lowest = ltb (use_width (tokens_of tape area ws) pos) 32 and not (eqb (use_lowest (tokens_of tape area ws) pos) lowest)
 
   lowest-named : {g : Fam} {k l : ℕ} → n ≡ NamedAs g k l → l ≡ use_lowest (tokens_of tape area ws) pos
   unfolding use_lowest let_some◌else◌then◌
@@ -98,8 +98,8 @@ module _ (tape area : Text) (ws : List ℕ) (pos : ℕ) where
     module _ (h : 2 ≤ length ws) where
       compound_is : is_compound (tokens_of tape area ws) pos
           ≡ (is Punct (token_of tape area (get_or ws 1 0))
-          && starts_with_operator (trim_start (text_of tape area (get_or ws 1 0)))
-          && not (starts_with (text_of tape area (get_or ws 1 0)) (bytes " = ")))
+          and starts_with_operator (trim_start (text_of tape area (get_or ws 1 0)))
+          and not (starts_with (text_of tape area (get_or ws 1 0)) (bytes " = ")))
       unfolding is_compound let_some◌else◌then◌
       compound_is = and_true _ (eq-eqb pos 0 e) ∙ rw (get_at (token_of tape area) ws 1 h)
 
@@ -122,8 +122,8 @@ module _ (fam : Text) (width : ℕ) (toks : List Token) (pos : ℕ) where
   abbrev plain : Bool
   plain = replaceable false (record { name = fam; width = width; lowest = 0 }) toks pos
 
-  module _ {u : ℕ} (eu : u ≡ use_width toks pos) {a : Bool} (ea : a ≡ not ((ltb u 32 || ltb width 32) && not (eqb u width))) where
-    fits_is : plain ≡ (a && not (is_compound toks pos) && not (written_from fam toks))
+  module _ {u : ℕ} (eu : u ≡ use_width toks pos) {a : Bool} (ea : a ≡ not ((ltb u 32 or ltb width 32) and not (eqb u width))) where
+    fits_is : plain ≡ (a and not (is_compound toks pos) and not (written_from fam toks))
     fits_is = without_parts (record { name = fam; width = width; lowest = 0 }) toks pos ∙ rw (← eu, ← ea)
 
     pub fits_not : flip a ≡ true → false ≡ plain
@@ -148,10 +148,10 @@ module _ (fam : Text) (width : ℕ) (toks : List Token) (pos : ℕ) where
         ∙ sym (without_parts (record { name = fam; width = width; lowest = 0 }) toks pos)
         ∙ sym ea
 
-    on_is : part true ≡ (a && not (ltb (use_width toks pos) 32 && not (eqb (use_lowest toks pos) lowest)))
+    on_is : part true ≡ (a and not (ltb (use_width toks pos) 32 and not (eqb (use_lowest toks pos) lowest)))
     on_is =
         adds-lowest (record { name = fam; width = width; lowest = lowest }) toks pos
-        ∙ ap (λ (b : Bool). b && not (ltb (use_width toks pos) 32 && not (eqb (use_lowest toks pos) lowest))) off_is
+        ∙ ap (λ (b : Bool). b and not (ltb (use_width toks pos) 32 and not (eqb (use_lowest toks pos) lowest))) off_is
 
     pub part_unfit : (parts : Bool) → flip a ≡ true → false ≡ part parts
     part_unfit true t = rw on_is (and_here _ refl (not-true a t))
@@ -161,7 +161,7 @@ module _ (fam : Text) (width : ℕ) (toks : List Token) (pos : ℕ) where
       pub part_off : (parts : Bool) → flip parts ≡ true → true ≡ part parts
       part_off parts t = rw (not-true parts t) (sym (off_is ∙ not-false a ta))
 
-      pub part-on : (parts : Bool) → flip parts ≡ false → {x : Bool} → x ≡ (ltb (use_width toks pos) 32 && not (eqb (use_lowest toks pos) lowest)) → flip x ≡ part parts
+      pub part-on : (parts : Bool) → flip parts ≡ false → {x : Bool} → x ≡ (ltb (use_width toks pos) 32 and not (eqb (use_lowest toks pos) lowest)) → flip x ≡ part parts
       part-on parts t ex = rw (not-false parts t, on_is) (and_second refl (not-false a ta) (not_same ex))
 
 pub ruleset fitting = (fits_not, fits_compound, fits-written)
@@ -190,13 +190,13 @@ module _ (tape area : Text) (ws : List ℕ) (pos : ℕ) where
         ∙ ap (λ (k : ℕ). text_of tape area (get_or ws k 0)) (sym (add-one pos))
 
     module _ {s : Text} (es : s ≡ text_of tape area (get_or ws (pos - 1) 0))
-        {a : Bool} (ea : a ≡ (ends_with s (bytes "(") || ends_with s (bytes ", ") || ends_with s (bytes " = "))) where
+        {a : Bool} (ea : a ≡ (ends_with s (bytes "(") or ends_with s (bytes ", ") or ends_with s (bytes " = "))) where
       pub alone_before : flip a ≡ true → false ≡ standalone (text_before (tokens_of tape area ws) pos) (text_after (tokens_of tape area ws) pos)
       unfolding standalone
       alone_before t = rw (before_is, ← es) (and_here _ ea (not-true a t))
 
       pub alone_after : flip a ≡ false → {t : Text} → t ≡ text_of tape area (get_or ws (pos + 1) 0) → {x : Bool}
-          → x ≡ (starts_with t (bytes ")") || starts_with t (bytes ",") || starts_with t (bytes ";"))
+          → x ≡ (starts_with t (bytes ")") or starts_with t (bytes ",") or starts_with t (bytes ";"))
           → x ≡ standalone (text_before (tokens_of tape area ws) pos) (text_after (tokens_of tape area ws) pos)
       unfolding standalone
       alone_after ta et ex = rw (before_is, ← es, after_is, ← et) (and_second ea (not-false a ta) ex)

@@ -8,7 +8,7 @@ use mathlib.Core.Option.{Option, none, some}
 use lib.Dec.{eqb}
 use lib.ListN.{length, get_or, drop}
 use borrow.Author.Tests.{eq-eqb, ne_eqb, not-true, not-false}
-use Rattle.reference.specs.Control.{not, ◌&&◌, ◌||◌, if◌then◌else◌, let_some◌else◌then◌}
+use Rattle.reference.specs.Control.{not, ◌and◌, ◌or◌, when◌then◌else◌, let_some◌else◌then◌}
 use Rattle.reference.specs.Lists.{any, is_some}
 use Rattle.reference.specs.Text.{Text, bytes, starts_with}
 use Rattle.reference.specs.Listing.{Token, ◌at◌}
@@ -45,21 +45,21 @@ use Rattle.plan.proofs.Reaching.{line_at, line_below, line_past}
 
 module _ (tape area : Text) (tokens : List ℕ) (base : ℕ) {calls : Bool} (l : ℕ) where
   pub run-calls : calls ≡ true → false ≡ same_run base calls (bare_in tape area tokens l)
-  unfolding same_run not ◌||◌
+  unfolding same_run not ◌or◌
   run-calls t = rw t
 
   module _ (tc : calls ≡ false) {ws : List ℕ} (ew : ws ≡ part_of tokens l) {a : Bool} (ea : a ≡ braces_in (tokens_of tape area ws)) where
     pub run_braces : a ≡ true → false ≡ same_run base calls (bare_in tape area tokens l)
-    unfolding same_run not ◌||◌
+    unfolding same_run not ◌or◌
     run_braces t = rw (tc, ← ew, ← ea, t)
 
     module _ (ta : a ≡ false) {b : Bool} (eb : b ≡ is_some (call_in (tokens_of tape area ws))) where
       pub run-called : b ≡ true → false ≡ same_run base calls (bare_in tape area tokens l)
-      unfolding same_run not ◌||◌
+      unfolding same_run not ◌or◌
       run-called t = rw (tc, ← ew, ← ea, ta, ← eb, t)
 
       pub run-indent : b ≡ false → {k : ℕ} → k ≡ indent_of l → eqb k base ≡ same_run base calls (bare_in tape area tokens l)
-      unfolding same_run not ◌||◌
+      unfolding same_run not ◌or◌
       run-indent t {k} ek = rw (tc, ← ew, ← ea, ta, ← eb, t, ← ek) (twice (eqb k base))
         where
           twice : (x : Bool) → x ≡ not (not x)
@@ -82,22 +82,22 @@ module _ (tape area : Text) (expr : List Token) (ws : List ℕ) {r : Assigned} (
     leaves_unnamed f = rw (assigned_to h e, named-not hn f)
 
     module _ {g : Fam} {k l : ℕ} (f : n ≡ NamedAs g k l) {m : Bool} (em : m ≡ any (of_family (fam_text tape area g)) expr) where
-      leaves_is : leaves_inputs expr (tokens_of tape area ws) ≡ (not m && not (reads_memory expr && starts_with (text_of tape area (get_or ws 0 0)) (bytes "var_")))
+      leaves_is : leaves_inputs expr (tokens_of tape area ws) ≡ (not m and not (reads_memory expr and starts_with (text_of tape area (get_or ws 0 0)) (bytes "var_")))
       unfolding leaves_inputs let_some◌else◌then◌
       leaves_is = rw (assigned_to h e, named_as hn f, mentions expr (fam_text tape area g), ← em)
 
       pub leaves-read : m ≡ true → false ≡ leaves_inputs expr (tokens_of tape area ws)
-      unfolding not ◌&&◌
+      unfolding not ◌and◌
       leaves-read t = sym (leaves_is ∙ rw t)
 
       module _ (tm : m ≡ false) {b : Bool} (eb : b ≡ reads_memory expr) where
         pub leaves-unread : flip b ≡ true → true ≡ leaves_inputs expr (tokens_of tape area ws)
-        unfolding not ◌&&◌
+        unfolding not ◌and◌
         leaves-unread t = sym (leaves_is ∙ rw (tm, ← eb, not-true b t))
 
         pub leaves-slot : flip b ≡ false → {s : Text} → s ≡ text_of tape area (get_or ws 0 0) → {y : Bool} → y ≡ starts_with s (bytes "var_")
             → flip y ≡ leaves_inputs expr (tokens_of tape area ws)
-        unfolding not ◌&&◌
+        unfolding not ◌and◌
         leaves-slot t es ey = not_same ey ∙ sym (leaves_is ∙ rw (tm, ← eb, not-false b t, ← es))
 
 pub ruleset leaving = (leaves_none, leaves_unnamed, leaves-read, leaves-unread, leaves-slot)
@@ -111,40 +111,40 @@ module _ (tape area : Text) (tokens : List ℕ) (s : ℕ) (d : Definition) (vs :
   looks = look (indent_of s) (definition_in tape area (part_of tokens s) d) vs (bare_in tape area tokens l)
 
   pub look-label : a ≡ true → J.stops ≡ looks
-  unfolding look if◌then◌else◌
+  unfolding look when◌then◌else◌
   look-label t = rw (← ew, ← ea, t)
 
   module _ (ta : a ≡ false) {q : Touched} (eq : touched q ≡ touch_of (tokens_of tape area ws) (fam_text tape area d.family) vs) where
     pub look_kill : q ≡ Kill → J.stops ≡ looks
-    unfolding look if◌then◌else◌ match_touch
+    unfolding look when◌then◌else◌ match_touch
     look_kill e = rw (← ew, ← ea, ta, ← eq, e)
 
     module _ {n : ℕ} (e : q ≡ Uses n) where
       pub look-once : n ≡ 1 → J.found ≡ looks
-      unfolding look if◌then◌else◌ match_touch
+      unfolding look when◌then◌else◌ match_touch
       look-once f = rw (← ew, ← ea, ta, ← eq, e, eq-eqb n 1 f)
 
       pub look_more : (n ≡ 1 → ⊥) → J.stops ≡ looks
-      unfolding look if◌then◌else◌ match_touch
+      unfolding look when◌then◌else◌ match_touch
       look_more f = rw (← ew, ← ea, ta, ← eq, e, ne_eqb n 1 f)
 
     module _ (e : q ≡ Nothing) {i : ℕ} (ei : i ≡ indent_of s) {b : Bool} (eb : b ≡ same_run i d.calls (bare_in tape area tokens l)) where
-      look-rest : looks ≡ (if b && leaves_inputs (tokens_of tape area (expr_words (part_of tokens s) d.expr)) (tokens_of tape area ws) then J.passes else J.stops)
-      unfolding look if◌then◌else◌ match_touch harmless same_run leaves_inputs
+      look-rest : looks ≡ (when b and leaves_inputs (tokens_of tape area (expr_words (part_of tokens s) d.expr)) (tokens_of tape area ws) then J.passes else J.stops)
+      unfolding look when◌then◌else◌ match_touch harmless same_run leaves_inputs
       look-rest = rw (eb, ei, ← ew, ← ea, ta, ← eq, e)
 
       pub look_stop : flip b ≡ true → J.stops ≡ looks
-      unfolding if◌then◌else◌ ◌&&◌
+      unfolding when◌then◌else◌ ◌and◌
       look_stop t = sym (look-rest ∙ rw (not-true b t))
 
       module _ (tb : flip b ≡ false) {us : List ℕ} (eu : us ≡ part_of tokens s)
           {y : Bool} (ey : y ≡ leaves_inputs (tokens_of tape area (expr_words us d.expr)) (tokens_of tape area ws)) where
         pub look_pass : y ≡ true → J.passes ≡ looks
-        unfolding if◌then◌else◌ ◌&&◌
+        unfolding when◌then◌else◌ ◌and◌
         look_pass t = sym (look-rest ∙ rw (not-false b tb, ← eu, ← ey, t))
 
         pub look-other : y ≡ false → J.stops ≡ looks
-        unfolding if◌then◌else◌ ◌&&◌
+        unfolding when◌then◌else◌ ◌and◌
         look-other t = sym (look-rest ∙ rw (not-false b tb, ← eu, ← ey, t))
 
 pub ruleset looking = (look-label, look_kill, look-once, look_more, look_stop, look_pass, look-other)

@@ -5,7 +5,7 @@ use mathlib.Core.Bool.{Bool, true, false}
 use mathlib.Core.List.{List}
 use lib.Dec.{eqb}
 use borrow.Author.Tests.{eq-eqb, ne_eqb}
-use Rattle.reference.specs.Control.{not, ◌||◌}
+use Rattle.reference.specs.Control.{not, ◌or◌}
 use Rattle.reference.specs.Text.{Text, bytes, has}
 use Rattle.reference.specs.Life.{None, touch_of}
 use Rattle.reference.specs.Join.{ends_run}
@@ -73,13 +73,13 @@ module _ {tape area : Text} {tokens : List ℕ} {l n : ℕ} (s : ℕ) (d : Defin
 
   -- a calling line is not in the run, whether it overwrites the family or not: x is the answer of `is_calling`
   pub calling-stops : {x : Bool} → x ≡ is_calling l n → x ≡ true → J.stops ≡ looks
-  unfolding same_run not ◌||◌
+  unfolding same_run not ◌or◌
   calling-stops {x} ex t = by (has vs fam) refl
     where
       st : is_transparent_save_calls l n ≡ true
       st = calling-save-calls fam h en ex t
 
-      apart : (b : Bool) → false ≡ not (b || true)
+      apart : (b : Bool) → false ≡ not (b or true)
       apart true = refl
       apart false = refl
 
@@ -92,23 +92,23 @@ module _ {tape area : Text} {tokens : List ℕ} {l n : ℕ} (s : ℕ) (d : Defin
     q_save_calls : is_transparent_save_calls l n ≡ true
     q_save_calls = transparent_save_calls fam h en ex t
 
-    run_is : (base : ℕ) → same_run base d.calls (bare_in tape area tokens l) ≡ not (d.calls || not (eqb (indent_of l) base))
-    unfolding same_run ◌||◌
+    run_is : (base : ℕ) → same_run base d.calls (bare_in tape area tokens l) ≡ not (d.calls or not (eqb (indent_of l) base))
+    unfolding same_run ◌or◌
     run_is base = rw (save-calls_brace fam h en q_save_calls, transparent_call fam h en ex t)
 
     pub transparent_calls : d.calls ≡ true → J.stops ≡ looks
-    unfolding not ◌||◌
+    unfolding not ◌or◌
     transparent_calls c = stops q_save_calls (transparent_touch fam h en ex t vs) (sym (run_is (indent_of s) ∙ rw c))
 
     module _ (c : d.calls ≡ false) {k i : ℕ} (ek : k ≡ indent_of l) (ei : i ≡ indent_of s) where
       pub transparent_apart : (k ≡ i → ⊥) → J.stops ≡ looks
-      unfolding not ◌||◌
+      unfolding not ◌or◌
       transparent_apart e = stops q_save_calls (transparent_touch fam h en ex t vs) (sym (run_is (indent_of s) ∙ rw (c, ← ek, ← ei, ne_eqb k i e)))
 
       module _ (e : k ≡ i) {us ws : List ℕ} (eu : us ≡ part_of tokens s) (ew : ws ≡ part_of tokens l)
           {y : Bool} (ey : y ≡ leaves_inputs (tokens_of tape area (expr_words us d.expr)) (tokens_of tape area ws)) where
         on : true ≡ same_run (indent_of s) d.calls (bare_in tape area tokens l)
-        unfolding not ◌||◌
+        unfolding not ◌or◌
         on = sym (run_is (indent_of s) ∙ rw (c, ← ek, ← ei, eq-eqb k i e))
 
         pub transparent_passes : y ≡ true → J.passes ≡ looks

@@ -9,7 +9,7 @@ use mathlib.Core.List.{List, [], ◌∷◌}
 use lib.ListN.{length, get_or, drop, length-map}
 use lib.Seq.{slice}
 use borrow.Author.Tests.{ne_eqb, eq-eqb, not-true, not-false}
-use Rattle.reference.specs.Control.{not, ◌&&◌, ◌||◌, if◌then◌else◌, let_some◌else◌then◌}
+use Rattle.reference.specs.Control.{not, ◌and◌, ◌or◌, when◌then◌else◌, let_some◌else◌then◌}
 use Rattle.reference.specs.Text.{Text, bytes, starts_with}
 use Rattle.reference.specs.Listing.{◌at◌, is, Punct}
 use Rattle.reference.specs.Names.{of_family}
@@ -47,21 +47,21 @@ module _ (tape area : Text) (tokens lines : List ℕ) where
 module _ (tape area : Text) (tokens : List ℕ) (l base : ℕ) {ws : List ℕ} (ew : ws ≡ part_of tokens l)
     {a : Bool} (ea : a ≡ label_tokens (tokens_of tape area ws)) where
   pub run-label : a ≡ true → true ≡ ends_run base (bare_in tape area tokens l)
-  unfolding ends_run ◌||◌
+  unfolding ends_run ◌or◌
   run-label t = rw (← ew, ← ea, t)
 
   module _ (na : a ≡ false) {k : ℕ} (ek : k ≡ indent_of l) where
     pub run-indent : (k ≡ base → ⊥) → true ≡ ends_run base (bare_in tape area tokens l)
-    unfolding ends_run ◌||◌ not
+    unfolding ends_run ◌or◌ not
     run-indent n = rw (← ew, ← ea, na, ← ek, ne_eqb k base n)
 
     module _ (i : k ≡ base) {b : Bool} (eb : b ≡ kw_in (tokens_of tape area ws) (bytes "while")) where
       pub run_while : b ≡ true → true ≡ ends_run base (bare_in tape area tokens l)
-      unfolding ends_run ◌||◌ not
+      unfolding ends_run ◌or◌ not
       run_while t = rw (← ew, ← ea, na, ← ek, eq-eqb k base i, ← eb, t)
 
       pub run_goto : b ≡ false → {x : Bool} → x ≡ kw_in (tokens_of tape area ws) (bytes "goto") → x ≡ ends_run base (bare_in tape area tokens l)
-      unfolding ends_run ◌||◌ not
+      unfolding ends_run ◌or◌ not
       run_goto t ex = rw (← ew, ← ea, na, ← ek, eq-eqb k base i, ← eb, t) ex
 
 pub ruleset running = (run-label, run-indent, run_while, run_goto)
@@ -72,24 +72,24 @@ module _ (tape area : Text) (tokens : List ℕ) (l j base : ℕ) (fam : Text) (v
     {x : Bool} (ex : x ≡ ends_run base (bare_in tape area tokens l)) where
   pub reach-ends : x ≡ true
       → reach (record { used = r.used; last = r.last; ended = true }) ≡ reach_at base fam vs j (bare_in tape area tokens l) (reach r)
-  unfolding reach_at if◌then◌else◌
+  unfolding reach_at when◌then◌else◌
   reach-ends t = rw (← ex, t)
 
   module _ (t : x ≡ false) {ws : List ℕ} (ew : ws ≡ part_of tokens l) {b : Bool} (eb : b ≡ braces_in (tokens_of tape area ws))
       {q : Touched} (eq : touched q ≡ touch_of (tokens_of tape area ws) fam vs) where
     pub reach_none : q ≡ Nothing
         → reach (record { used = r.used; last = r.last; ended = b }) ≡ reach_at base fam vs j (bare_in tape area tokens l) (reach r)
-    unfolding reach_at if◌then◌else◌ match_touch
+    unfolding reach_at when◌then◌else◌ match_touch
     reach_none e = rw (← ex, t, ← ew, ← eq, e, ← eb)
 
     pub reach_kill : q ≡ Kill
         → reach (record { used = r.used; last = j; ended = true }) ≡ reach_at base fam vs j (bare_in tape area tokens l) (reach r)
-    unfolding reach_at if◌then◌else◌ match_touch
+    unfolding reach_at when◌then◌else◌ match_touch
     reach_kill e = rw (← ex, t, ← ew, ← eq, e)
 
     pub reach_use : {n : ℕ} → q ≡ Use n
         → reach (record { used = true; last = j; ended = b }) ≡ reach_at base fam vs j (bare_in tape area tokens l) (reach r)
-    unfolding reach_at if◌then◌else◌ match_touch
+    unfolding reach_at when◌then◌else◌ match_touch
     reach_use e = rw (← ex, t, ← ew, ← eq, e, ← eb)
 
 pub ruleset reaching = (reach-ends, reach_none, reach_kill, reach_use)
@@ -124,11 +124,11 @@ module _ (tape area : Text) (tokens lines : List ℕ) (i : ℕ) (fam : Text) (vs
 -- ---- the first token
 
 updates-short : (tape area fam : Text) (ws : List ℕ) → length ws < 2 → false ≡ updates_first fam (tokens_of tape area ws)
-unfolding updates_first ◌&&◌ let_some◌else◌then◌
+unfolding updates_first ◌and◌ let_some◌else◌then◌
 updates-short tape area fam [] h = refl
-updates-short tape area fam (w ∷ []) h = sym (fails (of_family fam (token_of tape area w) || false))
+updates-short tape area fam (w ∷ []) h = sym (fails (of_family fam (token_of tape area w) or false))
   where
-    fails : (b : Bool) → (b && false) ≡ false
+    fails : (b : Bool) → (b and false) ≡ false
     fails true = refl
     fails false = refl
 updates-short tape area fam (w ∷ u ∷ us) h = absurd (omega arith)
@@ -136,9 +136,9 @@ updates-short tape area fam (w ∷ u ∷ us) h = absurd (omega arith)
 updates_is : (tape area fam : Text) (ws : List ℕ) → 1 < length ws
     → updates_first fam (tokens_of tape area ws)
     ≡ (of_family fam (token_of tape area (get_or ws 0 0))
-    && is Punct (token_of tape area (get_or ws 1 0))
-    && not (starts_with (text_of tape area (get_or ws 1 0)) (bytes " = "))
-    && not (starts_with (text_of tape area (get_or ws 1 0)) (bytes " ==")))
+    and is Punct (token_of tape area (get_or ws 1 0))
+    and not (starts_with (text_of tape area (get_or ws 1 0)) (bytes " = "))
+    and not (starts_with (text_of tape area (get_or ws 1 0)) (bytes " ==")))
 unfolding updates_first let_some◌else◌then◌
 updates_is tape area fam [] h = absurd (omega arith)
 updates_is tape area fam (w ∷ []) h = absurd (omega arith)
@@ -213,7 +213,7 @@ module _ (tape area : Text) (tokens lines : List ℕ) (i last : ℕ) (fam : Text
     (h : i < length lines) (b : last < length lines) {k : ℕ} (ek : k ≡ indent_of (get_or lines i 0))
     {x : Bool} (ex : x ≡ dead_after (bare_listing tape area tokens lines) last fam k labels i vs) where
   ends_is : ends_at (bare_listing tape area tokens lines) i fam labels vs last
-      ≡ (x || is_kill (touch_of (tokens_of tape area (part_of tokens (get_or lines last 0))) fam vs))
+      ≡ (x or is_kill (touch_of (tokens_of tape area (part_of tokens (get_or lines last 0))) fam vs))
   unfolding ends_at
   ends_is = rw (line_at tape area tokens lines i h, line_at tape area tokens lines last b, ← ek, ← ex)
 

@@ -1,7 +1,7 @@
 -- What the code's definition of a line means. Assumes nothing.
 use Rattle.std.specs.Prelude.{ℕ, ◌-◌, ◌≡◌, List, eqb}
 use Rattle.std.proofs.Math.Option.{Option, none, some}
-use Rattle.reference.specs.Control.{if◌then◌else◌}
+use Rattle.reference.specs.Control.{when◌then◌else◌}
 use Rattle.reference.specs.Lists.{get}
 use Rattle.reference.specs.Text.{Text}
 use Rattle.reference.specs.Listing.{Token}
@@ -16,7 +16,7 @@ use Rattle.plan.specs.declared.definitions.Defined.TheVariants.{As, Nothing}
 
 -- the token before the token k
 unfoldable pub before_at : List Token → ℕ → Option Token
-before_at ts k = if eqb k 0 then none else get ts (k - 1)
+before_at ts k = when eqb k 0 then none else get ts (k - 1)
 
 -- d, of the line whose words are ws
 abbrev pub definition_in : Text → Text → List ℕ → Definition → J.Definition

@@ -1,7 +1,7 @@
 -- What the code's plan means. Assumes nothing.
-use Rattle.std.specs.Prelude.{ℕ, ◌≡◌, Bool, List}
+use Rattle.std.specs.Prelude.{ℕ, ◌≡◌, List}
 use Rattle.std.proofs.Math.Option.{Option, none, some}
-use Rattle.reference.specs.Control.{if◌then◌else◌, let_some◌else◌then◌}
+use Rattle.reference.specs.Control.{when◌then◌else◌, let_some◌else◌then◌}
 use Rattle.reference.specs.Lists.{position}
 use Rattle.reference.specs.Text.{Text}
 use Rattle.reference.specs.Listing.{Token}
@@ -20,7 +20,7 @@ use Rattle.plan.specs.declared.plans.Plan.TheVariants.{Do, Nothing}
 unfoldable pub plan_among : Rules → J.Definition → List Token → ℕ → Option J.Plan
 plan_among rules d ts j =
     let_some (position (of_family d.fam.name) ts) else none then λ pos.
-    if replaceable rules.parts d.fam ts pos
+    when replaceable rules.parts d.fam ts pos
     then some (record { fam = d.fam.name; expr = d.expr; last = j; brackets = J.wants_brackets rules d.expr ts pos })
     else none
 

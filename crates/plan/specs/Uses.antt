@@ -1,6 +1,6 @@
 -- What the code's look at a line means, and the two parts of `harmless`. Assumes nothing.
 use Rattle.std.specs.Prelude.{ℕ, Bool, false, List, eqb}
-use Rattle.reference.specs.Control.{not, ◌&&◌, ◌||◌, let_some◌else◌then◌}
+use Rattle.reference.specs.Control.{not, ◌and◌, ◌or◌, let_some◌else◌then◌}
 use Rattle.reference.specs.Lists.{is_some}
 use Rattle.reference.specs.Text.{bytes, has, starts_with}
 use Rattle.reference.specs.Listing.{Token, Line}
@@ -18,7 +18,7 @@ looked Stops = J.stops
 
 -- a line in one run with a definition: no call, no brace, the same indent
 unfoldable pub same_run : ℕ → Bool → Line → Bool
-same_run base-indent calls l = not (calls || opens_or_closes l || is_some (call_at l) || not (eqb l.indent base-indent))
+same_run base-indent calls l = not (calls or opens_or_closes l or is_some (call_at l) or not (eqb l.indent base-indent))
 
 -- an assignment that leaves alone what the expression reads
 unfoldable pub leaves_inputs : List Token → List Token → Bool
@@ -26,4 +26,4 @@ leaves_inputs expr ts =
     let_some (assignment_of ts) else false then λ a.
     let_some (family a.lhs.text) else false then λ f.
     not (has (expr_fams expr) f.name)
-    && not (reads_memory expr && starts_with a.lhs.text (bytes "var_"))
+    and not (reads_memory expr and starts_with a.lhs.text (bytes "var_"))

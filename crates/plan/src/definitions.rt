@@ -1,6 +1,5 @@
 // What an attempt starts from: a line that assigns to a family what does not mention it (the first tests of `try_at` of the Rust).
 ghost use Rattle.std.specs.Prelude.{◌≡◌, ◌<◌, get_or};
-ghost use Rattle.reference.specs.Contract.{was};
 ghost use Rattle.reference.specs.Join.{reads_here, reads_memory};
 ghost use Rattle.lines.specs.Words.{token_of, tokens_of, Holds};
 ghost use Rattle.lines.specs.Shapes.{expr_words, Expression};
@@ -12,7 +11,7 @@ use lines::{fams, shapes, words};
 
 // The register or slot, its width and its lowest bit, the right side, whether the line has a call mark, and whether the right side reads
 // memory.
-#[derive(Drop)]
+#[derive(Clone, Copy)]
 pub struct Definition {
     pub family: Fam,
     pub width: u64,
@@ -22,7 +21,7 @@ pub struct Definition {
     pub reads: bool,
 }
 
-#[derive(Drop)]
+#[derive(Clone, Copy)]
 pub enum Defined {
     As(Definition),
     Nothing,
@@ -31,8 +30,8 @@ pub enum Defined {
 // Whether token k of the right side x of a line reads memory: `*(`, a stack slot, or a Symbol that is not behind `&`.
 fn reads_at<'a>(tape: &'a [u8], area: &'a [u8], line: &'a [u64], x: Expr, k: usize) -> bool
     requires { Holds tape.now area.now line.now × Expression line.now x × (k < x.count) }
-    ensures { result ≡ reads_here (before_at (tokens_of (was tape) (was area) (expr_words (was line) x)) k)
-        (token_of (was tape) (was area) (get_or (expr_words (was line) x) k 0)) }
+    ensures { result ≡ reads_here (before_at (tokens_of tape.now area.now (expr_words line.now x)) k)
+        (token_of tape.now area.now (get_or (expr_words line.now x) k 0)) }
 {
     let w = shapes::expr_word(line, x, k);
     let kind = words::kind(w);
@@ -55,7 +54,7 @@ fn reads_at<'a>(tape: &'a [u8], area: &'a [u8], line: &'a [u64], x: Expr, k: usi
 // Whether the right side x of a line reads memory.
 pub fn reads_memory<'a>(tape: &'a [u8], area: &'a [u8], line: &'a [u64], x: Expr) -> bool
     requires { Holds tape.now area.now line.now × Expression line.now x }
-    ensures { result ≡ reads_memory (tokens_of (was tape) (was area) (expr_words (was line) x)) }
+    ensures { result ≡ reads_memory (tokens_of tape.now area.now (expr_words line.now x)) }
 {
     let n = x.count;
     let mut k = 0;
@@ -71,7 +70,7 @@ pub fn reads_memory<'a>(tape: &'a [u8], area: &'a [u8], line: &'a [u64], x: Expr
 // The line as a definition.
 pub fn definition_of<'a>(tape: &'a [u8], area: &'a [u8], line: &'a [u64]) -> Defined
     requires { Holds tape.now area.now line.now }
-    ensures { Defines (was tape) (was area) (was line) result }
+    ensures { Defines tape.now area.now line.now result }
 {
     let Assigned::To(x) = shapes::assignment(tape, area, line) else {
         return Defined::Nothing;

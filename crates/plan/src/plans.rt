@@ -1,6 +1,5 @@
 // The plan of an attempt: `propagate_constant` and `try_at` of the Rust, up to where they change the listing.
 ghost use Rattle.std.specs.Prelude.{◌≡◌, ◌<◌, length, get_or};
-ghost use Rattle.reference.specs.Contract.{was};
 ghost use Rattle.reference.specs.Rules.{volatile};
 ghost use Rattle.reference.specs.Join.{is_bracketed};
 ghost use Rattle.joining.specs.Places.{labels_at, Labelled};
@@ -24,7 +23,7 @@ use lines::{fams, shapes, words};
 
 // The right side of line `line` takes the place of each token of the family in each line after it, up to line `last`, that uses the family,
 // in brackets or without; and the line is removed. (Where the right side is not a constant, that is one token in one line.)
-#[derive(Drop)]
+#[derive(Clone, Copy)]
 pub struct Join {
     pub line: usize,
     pub last: usize,
@@ -33,7 +32,7 @@ pub struct Join {
     pub expr: Expr,
 }
 
-#[derive(Drop)]
+#[derive(Clone, Copy)]
 pub enum Plan {
     Do(Join),
     Nothing,
@@ -68,10 +67,10 @@ fn propagate_constant<'a>(
     requires { Listed tape.now area.now tokens.now lines.now
         × Labelled (bare_listing tape.now area.now tokens.now lines.now) labels.now
         × Sound tape.now area.now (part_of tokens.now (get_or lines.now i 0)) d × (i < length lines.now) }
-    ensures { Plans (was tape) (was area) (part_of (was tokens) (get_or (was lines) i 0)) i
-        (plan_constant (bare_listing (was tape) (was area) (was tokens) (was lines)) i
-        (definition_in (was tape) (was area) (part_of (was tokens) (get_or (was lines) i 0)) d)
-        (labels_at (bare_listing (was tape) (was area) (was tokens) (was lines)) (was labels)) (volatile (rules_of rules))) result }
+    ensures { Plans tape.now area.now (part_of tokens.now (get_or lines.now i 0)) i
+        (plan_constant (bare_listing tape.now area.now tokens.now lines.now) i
+        (definition_in tape.now area.now (part_of tokens.now (get_or lines.now i 0)) d)
+        (labels_at (bare_listing tape.now area.now tokens.now lines.now) labels.now) (volatile (rules_of rules))) result }
 {
     let f = d.family;
     let r = reaches::reach_of(tape, area, tokens, lines, i, f, rules);
@@ -97,7 +96,7 @@ fn is_bracketed<'a>(
     rules: Rules,
 ) -> bool
     requires { Holds tape.now area.now source.now × Expression source.now x }
-    ensures { result ≡ is_bracketed (rules_of rules) (tokens_of (was tape) (was area) (expr_words (was source) x)) }
+    ensures { result ≡ is_bracketed (rules_of rules) (tokens_of tape.now area.now (expr_words source.now x)) }
 {
     if rules.profile {
         return 1 < x.count;
@@ -117,8 +116,8 @@ fn wants_brackets<'a>(
 ) -> bool
     requires { Holds tape.now area.now source.now × Expression source.now x × Holds tape.now area.now line.now
         × (pos < length line.now) }
-    ensures { result ≡ wants_brackets (rules_of rules) (tokens_of (was tape) (was area) (expr_words (was source) x))
-        (tokens_of (was tape) (was area) (was line)) pos }
+    ensures { result ≡ wants_brackets (rules_of rules) (tokens_of tape.now area.now (expr_words source.now x))
+        (tokens_of tape.now area.now line.now) pos }
 {
     if !is_bracketed(tape, area, source, x, rules) {
         return false;
@@ -139,8 +138,8 @@ fn plan_among<'a>(
 ) -> Plan
     requires { Holds tape.now area.now source.now × Holds tape.now area.now line.now
         × Sound tape.now area.now source.now d }
-    ensures { Plans (was tape) (was area) (was source) i
-        (plan_among (rules_of rules) (definition_in (was tape) (was area) (was source) d) (tokens_of (was tape) (was area) (was line)) j)
+    ensures { Plans tape.now area.now source.now i
+        (plan_among (rules_of rules) (definition_in tape.now area.now source.now d) (tokens_of tape.now area.now line.now) j)
         result }
 {
     let f = d.family;
@@ -171,10 +170,10 @@ fn plan_use<'a>(
         × Labelled (bare_listing tape.now area.now tokens.now lines.now) labels.now
         × Sound tape.now area.now (part_of tokens.now (get_or lines.now i 0)) d × (i < length lines.now)
         × (j < length lines.now) }
-    ensures { Plans (was tape) (was area) (part_of (was tokens) (get_or (was lines) i 0)) i
-        (plan_use (rules_of rules) (bare_listing (was tape) (was area) (was tokens) (was lines)) i
-        (definition_in (was tape) (was area) (part_of (was tokens) (get_or (was lines) i 0)) d)
-        (labels_at (bare_listing (was tape) (was area) (was tokens) (was lines)) (was labels)) (volatile (rules_of rules)) j) result }
+    ensures { Plans tape.now area.now (part_of tokens.now (get_or lines.now i 0)) i
+        (plan_use (rules_of rules) (bare_listing tape.now area.now tokens.now lines.now) i
+        (definition_in tape.now area.now (part_of tokens.now (get_or lines.now i 0)) d)
+        (labels_at (bare_listing tape.now area.now tokens.now lines.now) labels.now) (volatile (rules_of rules)) j) result }
 {
     let s = lines[i];
     let line = words::line_of(tokens, lines[j]);
@@ -207,10 +206,10 @@ fn plan_single<'a>(
     requires { Listed tape.now area.now tokens.now lines.now
         × Labelled (bare_listing tape.now area.now tokens.now lines.now) labels.now
         × Sound tape.now area.now (part_of tokens.now (get_or lines.now i 0)) d × (i < length lines.now) }
-    ensures { Plans (was tape) (was area) (part_of (was tokens) (get_or (was lines) i 0)) i
-        (plan_single (rules_of rules) (bare_listing (was tape) (was area) (was tokens) (was lines)) i
-        (definition_in (was tape) (was area) (part_of (was tokens) (get_or (was lines) i 0)) d)
-        (labels_at (bare_listing (was tape) (was area) (was tokens) (was lines)) (was labels)) (volatile (rules_of rules))) result }
+    ensures { Plans tape.now area.now (part_of tokens.now (get_or lines.now i 0)) i
+        (plan_single (rules_of rules) (bare_listing tape.now area.now tokens.now lines.now) i
+        (definition_in tape.now area.now (part_of tokens.now (get_or lines.now i 0)) d)
+        (labels_at (bare_listing tape.now area.now tokens.now lines.now) labels.now) (volatile (rules_of rules))) result }
 {
     let Position::At(j) = uses::use_of(tape, area, tokens, lines, i, d, rules) else {
         return Plan::Nothing;
@@ -232,10 +231,10 @@ fn plan_for<'a>(
     requires { Listed tape.now area.now tokens.now lines.now
         × Labelled (bare_listing tape.now area.now tokens.now lines.now) labels.now
         × Sound tape.now area.now (part_of tokens.now (get_or lines.now i 0)) d × (i < length lines.now) }
-    ensures { Plans (was tape) (was area) (part_of (was tokens) (get_or (was lines) i 0)) i
-        (plan_for (rules_of rules) (bare_listing (was tape) (was area) (was tokens) (was lines)) i
-        (definition_in (was tape) (was area) (part_of (was tokens) (get_or (was lines) i 0)) d)
-        (labels_at (bare_listing (was tape) (was area) (was tokens) (was lines)) (was labels)) (volatile (rules_of rules))) result }
+    ensures { Plans tape.now area.now (part_of tokens.now (get_or lines.now i 0)) i
+        (plan_for (rules_of rules) (bare_listing tape.now area.now tokens.now lines.now) i
+        (definition_in tape.now area.now (part_of tokens.now (get_or lines.now i 0)) d)
+        (labels_at (bare_listing tape.now area.now tokens.now lines.now) labels.now) (volatile (rules_of rules))) result }
 {
     let x = d.expr;
     if !shapes::is_lone_number(words::line_of(tokens, lines[i]), x) {
@@ -262,10 +261,10 @@ pub fn decide<'a>(
     requires { Listed tape.now area.now tokens.now lines.now
         × Labelled (bare_listing tape.now area.now tokens.now lines.now) labels.now × Slotted slots.now slot_words.now
         × (i < length lines.now) }
-    ensures { Plans (was tape) (was area) (part_of (was tokens) (get_or (was lines) i 0)) i
-        (decide (rules_of rules) (bare_listing (was tape) (was area) (was tokens) (was lines)) i
-        (labels_at (bare_listing (was tape) (was area) (was tokens) (was lines)) (was labels))
-        (slot_names (was slots) (was slot_words))) result }
+    ensures { Plans tape.now area.now (part_of tokens.now (get_or lines.now i 0)) i
+        (decide (rules_of rules) (bare_listing tape.now area.now tokens.now lines.now) i
+        (labels_at (bare_listing tape.now area.now tokens.now lines.now) labels.now)
+        (slot_names slots.now slot_words.now)) result }
 {
     let Defined::As(d) = definition_of(tape, area, words::line_of(tokens, lines[i])) else {
         return Plan::Nothing;

@@ -1,7 +1,6 @@
 // How far a constant reaches, and whether every use takes it: the scan and the tests of `propagate_constant` of the Rust.
 ghost use Rattle.std.specs.Prelude.{◌≡◌, suc, ◌<◌, length};
 ghost use Rattle.std.proofs.Math.Seq.{slice};
-ghost use Rattle.reference.specs.Contract.{was};
 ghost use Rattle.reference.specs.Rules.{volatile};
 ghost use Rattle.reference.specs.Join.{ends_run, updates_first, bad_use};
 ghost use Rattle.joining.specs.Places.{labels_at, Labelled};
@@ -20,7 +19,7 @@ use lines::rules::Rules;
 use lines::{fams, shapes, words};
 
 // Whether a line uses the constant, the last line that uses or overwrites it, and whether the search has ended.
-#[derive(Drop)]
+#[derive(Clone, Copy)]
 pub struct Reach {
     pub used: bool,
     pub last: usize,
@@ -30,7 +29,7 @@ pub struct Reach {
 // Whether a line ends the run of lines before it is looked at.
 fn ends_run<'a>(tape: &'a [u8], area: &'a [u8], tokens: &'a [u64], l: u64, base_indent: u64) -> bool
     requires { Lined tape.now area.now tokens.now l }
-    ensures { result ≡ ends_run base_indent (bare_in (was tape) (was area) (was tokens) l) }
+    ensures { result ≡ ends_run base_indent (bare_in tape.now area.now tokens.now l) }
 {
     let line = words::line_of(tokens, l);
     if shapes::is_label(tape, area, line) {
@@ -58,8 +57,8 @@ fn reach_at<'a>(
     rules: Rules,
 ) -> Reach
     requires { Lined tape.now area.now tokens.now l × Known tape.now area.now f }
-    ensures { reach result ≡ reach_at base_indent (fam_text (was tape) (was area) f) (volatile (rules_of rules)) j
-        (bare_in (was tape) (was area) (was tokens) l) (reach r) }
+    ensures { reach result ≡ reach_at base_indent (fam_text tape.now area.now f) (volatile (rules_of rules)) j
+        (bare_in tape.now area.now tokens.now l) (reach r) }
 {
     if ends_run(tape, area, tokens, l, base_indent) {
         return Reach {
@@ -105,8 +104,8 @@ fn reach_by_facts<'a>(
 ) -> Reach
     requires { Lined tape.now area.now tokens.now l × Known tape.now area.now f
         × (n ≡ family_number (fam_text tape.now area.now f)) }
-    ensures { reach result ≡ reach_at base_indent (fam_text (was tape) (was area) f) (volatile (rules_of rules)) j
-        (bare_in (was tape) (was area) (was tokens) l) (reach r) }
+    ensures { reach result ≡ reach_at base_indent (fam_text tape.now area.now f) (volatile (rules_of rules)) j
+        (bare_in tape.now area.now tokens.now l) (reach r) }
 {
     if words::indent(l) == base_indent {
         if is_transparent(l, n) {
@@ -145,8 +144,8 @@ pub fn reach_of<'a>(
     rules: Rules,
 ) -> Reach
     requires { Listed tape.now area.now tokens.now lines.now × Known tape.now area.now f × (i < length lines.now) }
-    ensures { reach result ≡ reach_of (bare_listing (was tape) (was area) (was tokens) (was lines)) i
-        (fam_text (was tape) (was area) f) (volatile (rules_of rules)) }
+    ensures { reach result ≡ reach_of (bare_listing tape.now area.now tokens.now lines.now) i
+        (fam_text tape.now area.now f) (volatile (rules_of rules)) }
 {
     let base_indent = words::indent(lines[i]);
     let n = number_of(tape, area, f);
@@ -169,7 +168,7 @@ pub fn reach_of<'a>(
 // Whether the first token of a line is of the family, and a Punct after it is neither ` = ` nor ` ==`.
 fn updates_first<'a>(tape: &'a [u8], area: &'a [u8], line: &'a [u64], f: Fam) -> bool
     requires { Holds tape.now area.now line.now × Known tape.now area.now f }
-    ensures { result ≡ updates_first (fam_text (was tape) (was area) f) (tokens_of (was tape) (was area) (was line)) }
+    ensures { result ≡ updates_first (fam_text tape.now area.now f) (tokens_of tape.now area.now line.now) }
 {
     if line.len() < 2 {
         return false;
@@ -191,7 +190,7 @@ fn updates_first<'a>(tape: &'a [u8], area: &'a [u8], line: &'a [u64], f: Fam) ->
 // Whether a line that uses the family does not only read it, or reads less than 32 bits of it.
 fn bad_use<'a>(tape: &'a [u8], area: &'a [u8], line: &'a [u64], f: Fam) -> bool
     requires { Holds tape.now area.now line.now × Known tape.now area.now f }
-    ensures { result ≡ bad_use (fam_text (was tape) (was area) f) (tokens_of (was tape) (was area) (was line)) }
+    ensures { result ≡ bad_use (fam_text tape.now area.now f) (tokens_of tape.now area.now line.now) }
 {
     if fams::writes(tape, area, line, f) {
         return true;
@@ -212,8 +211,8 @@ fn refuses_constant<'a>(
     rules: Rules,
 ) -> bool
     requires { Lined tape.now area.now tokens.now l × Known tape.now area.now f }
-    ensures { result ≡ refuses (fam_text (was tape) (was area) f) (volatile (rules_of rules))
-        (bare_in (was tape) (was area) (was tokens) l) }
+    ensures { result ≡ refuses (fam_text tape.now area.now f) (volatile (rules_of rules))
+        (bare_in tape.now area.now tokens.now l) }
 {
     let line = words::line_of(tokens, l);
     if !life::uses(tape, area, line, f, rules) {
@@ -235,8 +234,8 @@ pub fn all_take<'a>(
 ) -> bool
     requires { Listed tape.now area.now tokens.now lines.now × Known tape.now area.now f × (i < length lines.now)
         × (last < length lines.now) }
-    ensures { result ≡ all_take (fam_text (was tape) (was area) f) (volatile (rules_of rules))
-        (slice (suc i) (suc last) (bare_listing (was tape) (was area) (was tokens) (was lines))) }
+    ensures { result ≡ all_take (fam_text tape.now area.now f) (volatile (rules_of rules))
+        (slice (suc i) (suc last) (bare_listing tape.now area.now tokens.now lines.now)) }
 {
     let mut j = i + 1;
     while j <= last {
@@ -263,8 +262,8 @@ pub fn ends_at<'a>(
     requires { Listed tape.now area.now tokens.now lines.now
         × Labelled (bare_listing tape.now area.now tokens.now lines.now) labels.now × Known tape.now area.now f
         × (i < length lines.now) × (last < length lines.now) }
-    ensures { result ≡ ends_at (bare_listing (was tape) (was area) (was tokens) (was lines)) i (fam_text (was tape) (was area) f)
-        (labels_at (bare_listing (was tape) (was area) (was tokens) (was lines)) (was labels)) (volatile (rules_of rules)) last }
+    ensures { result ≡ ends_at (bare_listing tape.now area.now tokens.now lines.now) i (fam_text tape.now area.now f)
+        (labels_at (bare_listing tape.now area.now tokens.now lines.now) labels.now) (volatile (rules_of rules)) last }
 {
     let v = Followed {
         family: f,

@@ -1,6 +1,5 @@
 // The stack slots whose address was taken when the round began: names in a buffer of their own.
 ghost use Rattle.std.specs.Prelude.{◌≡◌};
-ghost use Rattle.reference.specs.Contract.{was};
 ghost use Rattle.reference.specs.Text.{has};
 ghost use Rattle.lines.specs.Words.{Holds};
 ghost use Rattle.lines.specs.Fams.{fam_text, Known};
@@ -12,7 +11,7 @@ use lines::words;
 // Whether s is one of the names.
 fn slot_among<'a>(slots: &'a [u8], slot_words: &'a [u64], s: &'a [u8]) -> bool
     requires { Holds slots.now slots.now slot_words.now }
-    ensures { result ≡ has (slot_names (was slots) (was slot_words)) (was s) }
+    ensures { result ≡ has (slot_names slots.now slot_words.now) s.now }
 {
     let mut k = 0;
     while k < slot_words.len() {
@@ -33,7 +32,7 @@ pub fn is_addressed<'a>(
     f: Fam,
 ) -> bool
     requires { Slotted slots.now slot_words.now × Known tape.now area.now f }
-    ensures { result ≡ has (slot_names (was slots) (was slot_words)) (fam_text (was tape) (was area) f) }
+    ensures { result ≡ has (slot_names slots.now slot_words.now) (fam_text tape.now area.now f) }
 {
     if f < 8 {
         return false;

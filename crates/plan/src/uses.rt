@@ -1,7 +1,6 @@
 // The single use of a definition, and whether the right side can take its place there: the second half of `try_at` of the Rust.
 ghost use Rattle.std.specs.Prelude.{◌≡◌, false, ◌<◌, ltb, eqb, length, get_or};
-ghost use Rattle.reference.specs.Contract.{was};
-ghost use Rattle.reference.specs.Control.{not, ◌&&◌, ◌||◌};
+ghost use Rattle.reference.specs.Control.{not, ◌and◌, ◌or◌};
 ghost use Rattle.reference.specs.Rules.{volatile};
 ghost use Rattle.reference.specs.Join.{text_before, text_after, standalone, use_width, use_lowest, is_compound, replaceable};
 ghost use Rattle.joining.specs.Plan.{look, use_of};
@@ -23,7 +22,7 @@ use lines::shapes::{Assigned, Position};
 use lines::{fams, shapes, words};
 
 // What a line after a definition is to it: its single use, a line that it may pass, or the end of the search.
-#[derive(Drop)]
+#[derive(Clone, Copy)]
 pub enum Look {
     Use,
     Passes,
@@ -41,7 +40,7 @@ fn same_run<'a>(
     l: u64,
 ) -> bool
     requires { Lined tape.now area.now tokens.now l }
-    ensures { result ≡ same_run base_indent calls (bare_in (was tape) (was area) (was tokens) l) }
+    ensures { result ≡ same_run base_indent calls (bare_in tape.now area.now tokens.now l) }
 {
     if calls {
         return false;
@@ -66,8 +65,8 @@ fn leaves_inputs<'a>(
 ) -> bool
     requires { Holds tape.now area.now source.now × Holds tape.now area.now line.now
         × Sound tape.now area.now source.now d }
-    ensures { result ≡ leaves_inputs (definition_in (was tape) (was area) (was source) d).expr
-        (tokens_of (was tape) (was area) (was line)) }
+    ensures { result ≡ leaves_inputs (definition_in tape.now area.now source.now d).expr
+        (tokens_of tape.now area.now line.now) }
 {
     let Assigned::To(_) = shapes::assignment(tape, area, line) else {
         return false;
@@ -97,8 +96,8 @@ fn look_at<'a>(
 ) -> Look
     requires { Lined tape.now area.now tokens.now s × Lined tape.now area.now tokens.now l
         × Sound tape.now area.now (part_of tokens.now s) d }
-    ensures { looked result ≡ look (indent_of s) (definition_in (was tape) (was area) (part_of (was tokens) s) d)
-        (volatile (rules_of rules)) (bare_in (was tape) (was area) (was tokens) l) }
+    ensures { looked result ≡ look (indent_of s) (definition_in tape.now area.now (part_of tokens.now s) d)
+        (volatile (rules_of rules)) (bare_in tape.now area.now tokens.now l) }
 {
     let line = words::line_of(tokens, l);
     if shapes::is_label(tape, area, line) {
@@ -139,8 +138,8 @@ fn look_by_facts<'a>(
 ) -> Look
     requires { Lined tape.now area.now tokens.now s × Lined tape.now area.now tokens.now l
         × Sound tape.now area.now (part_of tokens.now s) d × (n ≡ family_number (fam_text tape.now area.now d.family)) }
-    ensures { looked result ≡ look (indent_of s) (definition_in (was tape) (was area) (part_of (was tokens) s) d)
-        (volatile (rules_of rules)) (bare_in (was tape) (was area) (was tokens) l) }
+    ensures { looked result ≡ look (indent_of s) (definition_in tape.now area.now (part_of tokens.now s) d)
+        (volatile (rules_of rules)) (bare_in tape.now area.now tokens.now l) }
 {
     if is_calling(l, n) {
         return Look::Stops;
@@ -178,8 +177,8 @@ pub fn use_of<'a>(
 ) -> Position
     requires { Listed tape.now area.now tokens.now lines.now
         × Sound tape.now area.now (part_of tokens.now (get_or lines.now i 0)) d × (i < length lines.now) }
-    ensures { found result ≡ use_of (bare_listing (was tape) (was area) (was tokens) (was lines)) i
-        (definition_in (was tape) (was area) (part_of (was tokens) (get_or (was lines) i 0)) d) (volatile (rules_of rules)) }
+    ensures { found result ≡ use_of (bare_listing tape.now area.now tokens.now lines.now) i
+        (definition_in tape.now area.now (part_of tokens.now (get_or lines.now i 0)) d) (volatile (rules_of rules)) }
 {
     let s = lines[i];
     let f = d.family;
@@ -204,7 +203,7 @@ pub fn use_of<'a>(
 
 // Whether the widths of a definition and of its use go together.
 fn widths_fit(width: u64, used: u64) -> bool
-    ensures { result ≡ not ((ltb used 32 || ltb width 32) && not (eqb used width)) }
+    ensures { result ≡ not ((ltb used 32 or ltb width 32) and not (eqb used width)) }
 {
     if used == width {
         return true;
@@ -218,7 +217,7 @@ fn widths_fit(width: u64, used: u64) -> bool
 // The width of the token at `pos`.
 fn use_width<'a>(tape: &'a [u8], area: &'a [u8], line: &'a [u64], pos: usize) -> u64
     requires { Holds tape.now area.now line.now × (pos < length line.now) }
-    ensures { result ≡ use_width (tokens_of (was tape) (was area) (was line)) pos }
+    ensures { result ≡ use_width (tokens_of tape.now area.now line.now) pos }
 {
     match fams::name_of(tape, area, line[pos]) {
         Named::As(_, width, _) => width,
@@ -229,7 +228,7 @@ fn use_width<'a>(tape: &'a [u8], area: &'a [u8], line: &'a [u64], pos: usize) ->
 // Whether the token at `pos` is written through a compound operator: it stands first, and an operator follows that is not ` = `.
 fn is_compound<'a>(tape: &'a [u8], area: &'a [u8], line: &'a [u64], pos: usize) -> bool
     requires { Holds tape.now area.now line.now }
-    ensures { result ≡ is_compound (tokens_of (was tape) (was area) (was line)) pos }
+    ensures { result ≡ is_compound (tokens_of tape.now area.now line.now) pos }
 {
     if pos != 0 {
         return false;
@@ -251,8 +250,8 @@ fn is_compound<'a>(tape: &'a [u8], area: &'a [u8], line: &'a [u64], pos: usize) 
 // Whether the use at `pos` may be replaced by an expression of this width, whatever its part.
 fn fits<'a>(tape: &'a [u8], area: &'a [u8], line: &'a [u64], pos: usize, f: Fam, width: u64) -> bool
     requires { Holds tape.now area.now line.now × (pos < length line.now) × Known tape.now area.now f }
-    ensures { result ≡ replaceable false (record { name = fam_text (was tape) (was area) f; width = width; lowest = 0 })
-        (tokens_of (was tape) (was area) (was line)) pos }
+    ensures { result ≡ replaceable false (record { name = fam_text tape.now area.now f; width = width; lowest = 0 })
+        (tokens_of tape.now area.now line.now) pos }
 {
     if !widths_fit(width, use_width(tape, area, line, pos)) {
         return false;
@@ -272,8 +271,8 @@ fn begins_elsewhere<'a>(
     lowest: u64,
 ) -> bool
     requires { Holds tape.now area.now line.now × (pos < length line.now) }
-    ensures { result ≡ (ltb (use_width (tokens_of (was tape) (was area) (was line)) pos) 32
-        && not (eqb (use_lowest (tokens_of (was tape) (was area) (was line)) pos) lowest)) }
+    ensures { result ≡ (ltb (use_width (tokens_of tape.now area.now line.now) pos) 32
+        and not (eqb (use_lowest (tokens_of tape.now area.now line.now) pos) lowest)) }
 {
     match fams::name_of(tape, area, line[pos]) {
         Named::As(_, width, from) => {
@@ -299,8 +298,8 @@ pub fn use_fits<'a>(
     parts: bool,
 ) -> bool
     requires { Holds tape.now area.now line.now × (pos < length line.now) × Known tape.now area.now f }
-    ensures { result ≡ replaceable parts (record { name = fam_text (was tape) (was area) f; width = width; lowest = lowest })
-        (tokens_of (was tape) (was area) (was line)) pos }
+    ensures { result ≡ replaceable parts (record { name = fam_text tape.now area.now f; width = width; lowest = lowest })
+        (tokens_of tape.now area.now line.now) pos }
 {
     if !fits(tape, area, line, pos, f, width) {
         return false;
@@ -314,8 +313,8 @@ pub fn use_fits<'a>(
 // Whether the token at `pos` stands between delimiters.
 pub fn is_standalone<'a>(tape: &'a [u8], area: &'a [u8], line: &'a [u64], pos: usize) -> bool
     requires { Holds tape.now area.now line.now × (pos < length line.now) }
-    ensures { result ≡ standalone (text_before (tokens_of (was tape) (was area) (was line)) pos)
-        (text_after (tokens_of (was tape) (was area) (was line)) pos) }
+    ensures { result ≡ standalone (text_before (tokens_of tape.now area.now line.now) pos)
+        (text_after (tokens_of tape.now area.now line.now) pos) }
 {
     if pos == 0 {
         return false;

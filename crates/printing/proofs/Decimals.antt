@@ -10,7 +10,7 @@ use mathlib.Core.List.{[], ◌∷◌, ◌++◌, append_assoc, append-nil}
 use lib.Dec.{ltb}
 use lib.ListN.{length}
 use borrow.Author.Tests.{lt-ltb, le-ltb}
-use Rattle.reference.specs.Control.{if◌then◌else◌}
+use Rattle.reference.specs.Control.{when◌then◌else◌}
 use Rattle.reference.specs.Text.{Text}
 use Rattle.reference.specs.Numbers.{digit_byte, digits}
 use Rattle.reference.proofs.Cases.{by-if}
@@ -19,10 +19,10 @@ use Rattle.io.specs.Digits.{hex_digit_ascii, last_digits as spelt, IsDigitCount}
 use Rattle.printing.specs.Decimals.{decimal}
 
 glyph_byte : (d : ℕ) → digit_byte d ≡ hex_digit_ascii d
-unfolding if◌then◌else◌
+unfolding when◌then◌else◌
 glyph_byte d = step (ltb d 10)
   where
-    step : (b : Bool) → (if b then 48 + d else 87 + d) ≡ cond b (48 + d) (87 + d)
+    step : (b : Bool) → (when b then 48 + d else 87 + d) ≡ cond b (48 + d) (87 + d)
     step true = refl
     step false = refl
 

@@ -1,5 +1,4 @@
 // The entries for C and Rust (include/puchkewa.h): settings and answers as structs of numbers, by value.
-ghost use Rattle.reference.specs.Contract.{was};
 ghost use Rattle.clean.specs.Replies.{Cleans};
 ghost use Rattle.puchkewa.specs.Exports.{settings_of, exported};
 
@@ -8,7 +7,7 @@ use lines::rules::Rules;
 
 // The settings of a call.
 #[repr(C)]
-#[derive(Drop)]
+#[derive(Clone, Copy)]
 pub struct Settings {
     pub convention: u8,
     pub settle: bool,
@@ -19,7 +18,7 @@ pub struct Settings {
 
 // `refusal` is 0 when finished, else the number of the question that refused, at `place`; then all other numbers are 0.
 #[repr(C)]
-#[derive(Drop)]
+#[derive(Clone, Copy)]
 pub struct Report {
     pub refusal: u64,
     pub place: u64,
@@ -34,15 +33,14 @@ pub struct Report {
 }
 
 // Cleans the listing of a tape, as `clean` does.
-#[unsafe(no_mangle)]
-pub extern "C" fn puchkewa_clean(
+pub fn puchkewa_clean(
     settings: Settings,
     tape: &[u8],
     work_a: &mut [u8],
     work_b: &mut [u8],
     out: &mut [u8],
 ) -> Report
-    ensures { Cleans (settings_of settings) (was tape) (was work_a) (was work_b) (was out) work_a.new
+    ensures { Cleans (settings_of settings) tape.now work_a.old work_b.old out.old work_a.new
         work_b.new out.new (exported result) }
 {
     let rules = Rules {

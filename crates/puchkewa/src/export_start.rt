@@ -1,20 +1,18 @@
 // The entry of request M-107 for C and Rust: which start value gives this output.
 ghost use Rattle.std.specs.Prelude.{◌≡◌};
-ghost use Rattle.reference.specs.Contract.{was};
 ghost use Rattle.answers.specs.Answers.{in_numbers, numbers_of};
 ghost use Rattle.start.specs.Start.{start_reply};
 
 use answers::{Told, tell};
 
 // The smallest start value of the chosen register that makes the formula of a tape return the wanted value, as `start_value` tells it.
-#[unsafe(no_mangle)]
-pub extern "C" fn puchkewa_start_value<'a>(
+pub fn puchkewa_start_value<'a>(
     tape: &'a [u8],
     chosen: &'a [u8],
     values: &'a [u8],
     wanted: u64,
 ) -> Told
-    ensures { numbers_of result ≡ in_numbers (start_reply (was tape) (was chosen) (was values) wanted) }
+    ensures { numbers_of result ≡ in_numbers (start_reply tape.now chosen.now values.now wanted) }
 {
     tell(start::start_value(tape, chosen, values, wanted))
 }

@@ -7,7 +7,7 @@ use mathlib.Core.Bool.{Bool, true, false}
 use mathlib.Core.List.{List, [], ◌∷◌}
 use mathlib.Core.Option.{Option, none, some}
 use lib.ListN.{length, drop}
-use Rattle.reference.specs.Control.{◌&&◌, let_some◌else◌then◌}
+use Rattle.reference.specs.Control.{◌and◌, let_some◌else◌then◌}
 use Rattle.reference.specs.Lists.{is_some, is_empty, modify}
 use Rattle.reference.specs.Text.{Text}
 use Rattle.reference.specs.Listing.{Token, Listing, ◌at◌}
@@ -208,7 +208,7 @@ module _ (rules : Rules) (lines : Listing) (i : ℕ) (f : Fam) (expr : List Toke
 module _ (rules : Rules) (lines : Listing) (i : ℕ) (labels : Labels) where
   -- a goal over `targets`, by whether the constant goes to all its uses
   pub by_targets : (P : List ℕ → Type 0) (a : Assignment) (f : Fam) → assignment (lines at i) ≡ some a → family a.lhs.text ≡ some f
-      → let many = lone_number a.expr && is_some (propagate_constant rules.edition lines i f.name a.expr labels (volatile rules)) in
+      → let many = lone_number a.expr and is_some (propagate_constant rules.edition lines i f.name a.expr labels (volatile rules)) in
       (many ≡ true → P (all_uses lines i f (volatile rules))) → (many ≡ false → P (one_use lines i f a.expr (volatile rules)))
       → P (targets rules lines i labels)
   unfolding targets let_some◌else◌then◌

@@ -9,7 +9,7 @@ use mathlib.Core.List.{List, [], ◌∷◌, ◌++◌, drop_last, append_assoc}
 use mathlib.Core.Option.{Option, none, some}
 use lib.Dec.{eqb}
 use lib.ListN.{drop, take}
-use Rattle.reference.specs.Control.{◌&&◌, ◌||◌, if◌then◌else◌}
+use Rattle.reference.specs.Control.{◌and◌, ◌or◌, when◌then◌else◌}
 use Rattle.reference.specs.Lists.{position, is_empty}
 use Rattle.reference.specs.Text.{Text, bytes, starts_with, ends_with}
 use Rattle.reference.specs.Listing.{Token, token, is, Register, Number, Keyword, Symbol, Punct}
@@ -133,8 +133,8 @@ unfolding is_call_mark
 sign-mark none a b d n rest h =
     fails (λ e. true-false (both e).1
     (either (starts_with b.text (bytes "((void") ≡ false) h.sign
-    (starts_as b.text (bytes " + ") (bytes "((void") false (unfold ◌&&◌ in refl))
-    (starts_as b.text (bytes " - ") (bytes "((void") false (unfold ◌&&◌ in refl))))
+    (starts_as b.text (bytes " + ") (bytes "((void") false (unfold ◌and◌ in refl))
+    (starts_as b.text (bytes " - ") (bytes "((void") false (unfold ◌and◌ in refl))))
 sign-mark (some name) a b d n rest h = fails (λ e. true-false (both (both e).1).1 (closed Number d rest refl h.last))
 
 fold_at_keeps : (edition : ℕ) (before : Option Token) (a : Token) (ts : List Token) → Keeps [] (a ∷ ts) (fold_at edition before a ts)
@@ -185,12 +185,12 @@ starts_short (x ∷ w ∷ xs) (y ∷ ys) h e n =
 short-mark : (c : Callee) (t : Token) → ends_with t.text (bytes ";") ≡ true → is_call_mark c t (opens []) ≡ true
     → is_call_mark c (token t.kind (drop_last t.text)) (opens []) ≡ true
 unfolding is_call_mark opens is
-short-mark none t e h = pair (both h).0 (starts_short t.text (bytes "((void") (both h).1 e (unfold ◌||◌ ◌&&◌ in refl))
+short-mark none t e h = pair (both h).0 (starts_short t.text (bytes "((void") (both h).1 e (unfold ◌or◌ ◌and◌ in refl))
 short-mark (some name) t e h = absurd (false≢true (both (both h).1).1)
 
 short_open : (t : Token) → ends_with t.text (bytes ";") ≡ true → opens (t ∷ []) ≡ true → opens (token t.kind (drop_last t.text) ∷ []) ≡ true
 unfolding opens is
-short_open t e h = pair (both h).0 (starts_short t.text (bytes "(") (both h).1 e (unfold ◌||◌ ◌&&◌ in refl))
+short_open t e h = pair (both h).0 (starts_short t.text (bytes "(") (both h).1 e (unfold ◌or◌ ◌and◌ in refl))
 
 empty-mark : (c : Callee) (k : ℕ) → is_call_mark c (token k []) (opens []) ≡ true → ⊥
 unfolding is_call_mark opens
@@ -215,7 +215,7 @@ assigned-calls (assigning {lhs = lhs} {eq = eq} {rest = rest} r p s cut) c =
       arith,
       silent c Register lhs (eq ∷ rest) refl refl r,
       silent c Punct eq rest refl refl p,
-      append_calls c (if is_empty (drop 3 eq.text) then [] else token Punct (drop 3 eq.text) ∷ []) rest,
+      append_calls c (when is_empty (drop 3 eq.text) then [] else token Punct (drop 3 eq.text) ∷ []) rest,
       (cut_keeps cut).called c,
     )
 

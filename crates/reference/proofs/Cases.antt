@@ -6,14 +6,14 @@ use mathlib.Core.Path.{◌≡◌, refl, sym, ◌∙◌, subst⁻¹}
 use mathlib.Core.Bool.{Bool, true, false, true≢false, false≢true}
 use mathlib.Core.Option.{Option, none, some}
 use lib.Dec.{T, eqb, eqb→eq}
-use Rattle.reference.specs.Control.{not, ◌&&◌, ◌||◌, if◌then◌else◌, let_some◌else◌then◌}
+use Rattle.reference.specs.Control.{not, ◌and◌, ◌or◌, when◌then◌else◌, let_some◌else◌then◌}
 use Rattle.reference.specs.Life.{Touch, None, Kill, Use, match_touch}
 use Rattle.reference.specs.Claim.{one_if}
 
 -- ---- a goal over an `if`, a `let_some` or a `match_touch`, branch by branch
 
-pub by-if {ℓ κ} : {A : Type ℓ} (P : A → Type κ) {b : Bool} {x y : A} → (b ≡ true → P x) → (b ≡ false → P y) → P (if b then x else y)
-unfolding if◌then◌else◌
+pub by-if {ℓ κ} : {A : Type ℓ} (P : A → Type κ) {b : Bool} {x y : A} → (b ≡ true → P x) → (b ≡ false → P y) → P (when b then x else y)
+unfolding when◌then◌else◌
 by-if P {b = true} f g = f refl
 by-if P {b = false} f g = g refl
 
@@ -32,18 +32,18 @@ by_touch P {t = Use n} f g h = h n refl
 
 -- ---- what a test tells that passed or failed
 
-pub both : {a b : Bool} → (a && b) ≡ true → (a ≡ true) × (b ≡ true)
-unfolding ◌&&◌
+pub both : {a b : Bool} → (a and b) ≡ true → (a ≡ true) × (b ≡ true)
+unfolding ◌and◌
 both {a = true} e = (refl, e)
 both {a = false} e = absurd (false≢true e)
 
-pub neither : {a b : Bool} → (a || b) ≡ false → (a ≡ false) × (b ≡ false)
-unfolding ◌||◌
+pub neither : {a b : Bool} → (a or b) ≡ false → (a ≡ false) × (b ≡ false)
+unfolding ◌or◌
 neither {a = true} e = absurd (true≢false e)
 neither {a = false} e = (refl, e)
 
-pub either {ℓ} : (X : Type ℓ) {a b : Bool} → (a || b) ≡ true → (a ≡ true → X) → (b ≡ true → X) → X
-unfolding ◌||◌
+pub either {ℓ} : (X : Type ℓ) {a b : Bool} → (a or b) ≡ true → (a ≡ true → X) → (b ≡ true → X) → X
+unfolding ◌or◌
 either X {a = true} e f g = f refl
 either X {a = false} e f g = g e
 
@@ -65,8 +65,8 @@ same_number {m} {n} e = eqb→eq m n (subst⁻¹ T e tt)
 
 -- ---- how a test comes to pass or to fail
 
-pub pair : {a b : Bool} → a ≡ true → b ≡ true → (a && b) ≡ true
-unfolding ◌&&◌
+pub pair : {a b : Bool} → a ≡ true → b ≡ true → (a and b) ≡ true
+unfolding ◌and◌
 pair {a = true} e f = f
 pair {a = false} e f = e
 
@@ -82,13 +82,13 @@ some_inj e = cc
 pub none-some {ℓ} : {A : Type ℓ} {x : A} → none ≡ some x → ⊥
 none-some e = let z : ◌≡◌ {A = ℕ} 0 1 = cc in omega arith
 
-pub if_some {ℓ} : {A : Type ℓ} {b : Bool} {o : Option A} {a : A} → (if b then o else none) ≡ some a → (b ≡ true) × (o ≡ some a)
-unfolding if◌then◌else◌
+pub if_some {ℓ} : {A : Type ℓ} {b : Bool} {o : Option A} {a : A} → (when b then o else none) ≡ some a → (b ≡ true) × (o ≡ some a)
+unfolding when◌then◌else◌
 if_some {b = true} e = (refl, e)
 if_some {b = false} e = absurd (none-some e)
 
-pub unless-some {ℓ} : {A : Type ℓ} {b : Bool} {o : Option A} {a : A} → (if b then none else o) ≡ some a → (b ≡ false) × (o ≡ some a)
-unfolding if◌then◌else◌
+pub unless-some {ℓ} : {A : Type ℓ} {b : Bool} {o : Option A} {a : A} → (when b then none else o) ≡ some a → (b ≡ false) × (o ≡ some a)
+unfolding when◌then◌else◌
 unless-some {b = true} e = absurd (none-some e)
 unless-some {b = false} e = (refl, e)
 
@@ -106,7 +106,7 @@ some-true {o = some a} e = (a, refl, e)
 -- ---- tests as numbers
 
 pub zero_if : {a : Bool} → a ≡ false → one_if a ≡ 0
-unfolding if◌then◌else◌
+unfolding when◌then◌else◌
 zero_if {a = true} e = absurd (true≢false e)
 zero_if {a = false} e = refl
 

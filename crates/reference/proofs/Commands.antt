@@ -10,7 +10,7 @@ use lib.Dec.{eqb}
 use lib.ListN.{length, get_or, take, drop, length-drop}
 use lib.Seq.{take-suc, take-add, take-append_seam, length-take-le}
 use borrow.Author.Tests.{ne_eqb, eqb-true, leb-true, le-leb}
-use Rattle.reference.specs.Control.{◌&&◌, ◌||◌, if◌then◌else◌}
+use Rattle.reference.specs.Control.{◌and◌, ◌or◌, when◌then◌else◌}
 use Rattle.reference.specs.Listing.{token}
 use Rattle.reference.specs.Spans.{Span}
 use Rattle.reference.specs.Tape.{to_le_bytes, from_le_bytes, TapeForm, old, offsets, line_byte, marks_byte, width, Command, new_line, marked, new_token, end, write_command_by, text_length, command_size_by, command_by}
@@ -71,28 +71,28 @@ module _ (form : TapeForm) (rest : List ℕ) where
 
   pub address_form_by : get_or rest 0 0 ≡ line_byte form
       → SaysBy (2 + width form) (new_line (some (from_le_bytes (take (width form) (drop 1 rest)))) (get_or rest (1 + width form) 0))
-  unfolding command_size_by command_by if◌then◌else◌
+  unfolding command_size_by command_by when◌then◌else◌
   address_form_by e = let a = (apart form).same_line in (rw (e, a), rw (e, a))
 
   pub plain_form_by : get_or rest 0 0 ≡ 0x02 → SaysBy 2 (new_line none (get_or rest 1 0))
-  unfolding command_size_by command_by if◌then◌else◌
+  unfolding command_size_by command_by when◌then◌else◌
   plain_form_by e = let a = (apart form).line_plain in (rw (e, a), rw (e, a))
 
   pub marks_form_by : get_or rest 0 0 ≡ marks_byte form
       → SaysBy (1 + width form + width form)
       (marked (record { lowest = from_le_bytes (take (width form) (drop 1 rest)); highest = from_le_bytes (take (width form) (drop (1 + width form) rest)) }))
-  unfolding command_size_by command_by if◌then◌else◌
+  unfolding command_size_by command_by when◌then◌else◌
   marks_form_by e =
       let a = apart form in
       (rw (e, a.marks_line, a.marks_plain, a.same_marks), rw (e, a.marks_line, a.marks_plain, a.same_marks))
 
   pub end_form_by : get_or rest 0 0 ≡ 0xFF → SaysBy 1 end
-  unfolding command_size_by command_by if◌then◌else◌
+  unfolding command_size_by command_by when◌then◌else◌
   end_form_by e = let a = apart form in (rw (e, a.line_end, a.marks_end), rw (e, a.line_end, a.marks_end))
 
   pub token_form_by : 0x10 ≤ get_or rest 0 0 → get_or rest 0 0 ≤ 0x17
       → SaysBy (3 + text_length rest) (new_token (token (get_or rest 0 0 - 0x10) (take (text_length rest) (drop 3 rest))))
-  unfolding command_size_by command_by if◌then◌else◌
+  unfolding command_size_by command_by when◌then◌else◌
   token_form_by low high =
       let a = apart form in
       let e₁ : eqb (get_or rest 0 0) (line_byte form) ≡ false = ne_eqb (get_or rest 0 0) (line_byte form) (λ e. omega (arith, a.line_low)) in
@@ -124,7 +124,7 @@ module _ {form : TapeForm} where
       (λ e. is_ending (eqb-true _ _ e)))))
 
   pub is_form : (rest : List ℕ) → FormBy form rest → is_command_by form rest ≡ true
-  unfolding is_command_by ◌||◌ ◌&&◌
+  unfolding is_command_by ◌or◌ ◌and◌
   is_form [] (is_address e) = absurd (omega (arith, (apart form).line_some))
   is_form [] (is_plain e) = absurd (omega arith)
   is_form [] (is_marks e) = absurd (omega (arith, (apart form).marks_some))
@@ -190,7 +190,7 @@ abbrev pub Writable : Command → Type 0
 Writable = WritableBy old
 
 size_of_none : (form : TapeForm) → command_size_by form [] ≡ 3
-unfolding command_size_by if◌then◌else◌ from_le_bytes
+unfolding command_size_by when◌then◌else◌ from_le_bytes
 size_of_none old = refl
 size_of_none offsets = refl
 

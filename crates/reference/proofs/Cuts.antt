@@ -6,9 +6,9 @@ use mathlib.Core.Bool.{Bool, true, false}
 use mathlib.Core.List.{List, [], ◌∷◌}
 use mathlib.Core.Option.{Option, none, some}
 use lib.ListN.{length, drop}
-use Rattle.reference.specs.Control.{◌&&◌, ◌||◌, if◌then◌else◌, let_some◌else◌then◌}
+use Rattle.reference.specs.Control.{◌and◌, ◌or◌, when◌then◌else◌, let_some◌else◌then◌}
 use Rattle.reference.specs.Lists.{position, windows, pairs_from, get, modify}
-use Rattle.reference.specs.Text.{bytes, ◌==◌, starts_with}
+use Rattle.reference.specs.Text.{bytes, ◌≟◌, starts_with}
 use Rattle.reference.specs.Listing.{Token, Listing, ◌at◌, with_tokens}
 use Rattle.reference.specs.Rules.{Rules}
 use Rattle.reference.specs.Shapes.{calls_here, call_in, label_tokens}
@@ -26,7 +26,7 @@ use Rattle.reference.proofs.Changes.{Changes, changes_line}
 
 -- three tokens or more, `rax` or `eax`, ` = `, and no call mark at the second
 data Dead : List Token → Type 0 where
-  dead : {t u v : Token} {rest : List Token} → ((t.text == bytes "rax") || (t.text == bytes "eax")) ≡ true → (u.text == bytes " = ") ≡ true
+  dead : {t u v : Token} {rest : List Token} → ((t.text ≟ bytes "rax") or (t.text ≟ bytes "eax")) ≡ true → (u.text ≟ bytes " = ") ≡ true
       → calls_here (u, v) ≡ false → Dead (t ∷ u ∷ v ∷ rest)
 
 module _ {ℓ} {A : Type ℓ} (p : A → Bool) where
@@ -39,18 +39,18 @@ module _ {ℓ} {A : Type ℓ} (p : A → Bool) where
 
   -- a search that finds at the third place has passed the second
   passed : (x y : A) (xs : List A) → position p (x ∷ y ∷ xs) ≡ some 2 → p y ≡ false
-  unfolding if◌then◌else◌ let_some◌else◌then◌
+  unfolding when◌then◌else◌ let_some◌else◌then◌
   passed x y xs e = go (p x) (p y) (position p xs) e
     where
       go : (a b : Bool) (o : Option ℕ)
-          → (if a then some 0 else (let_some (if b then some 0 else (let_some o else none then λ i. some (suc i))) else none then λ i. some (suc i))) ≡ some 2
+          → (when a then some 0 else (let_some (when b then some 0 else (let_some o else none then λ i. some (suc i))) else none then λ i. some (suc i))) ≡ some 2
           → b ≡ false
       go true b o e = (let z : ◌≡◌ {A = ℕ} 0 2 = some_inj e in absurd (omega arith))
       go false true o e = (let z : ◌≡◌ {A = ℕ} 1 2 = some_inj e in absurd (omega arith))
       go false false o e = refl
 
 dead-tokens : (ts : List Token) → position calls_here (windows ts) ≡ some 2
-    → ((text_or_empty (get ts 0) == bytes "rax") || (text_or_empty (get ts 0) == bytes "eax")) ≡ true → (text_or_empty (get ts 1) == bytes " = ") ≡ true
+    → ((text_or_empty (get ts 0) ≟ bytes "rax") or (text_or_empty (get ts 0) ≟ bytes "eax")) ≡ true → (text_or_empty (get ts 1) ≟ bytes " = ") ≡ true
     → Dead ts
 unfolding let_some◌else◌then◌
 dead-tokens [] e n s = absurd (none-some e)
@@ -68,20 +68,20 @@ dead_line rules labels lines i e =
 
 -- ---- the two tokens
 
-name-mark : (c : Callee) (t u : Token) (rest : List Token) → ((t.text == bytes "rax") || (t.text == bytes "eax")) ≡ true → (u.text == bytes " = ") ≡ true
+name-mark : (c : Callee) (t u : Token) (rest : List Token) → ((t.text ≟ bytes "rax") or (t.text ≟ bytes "eax")) ≡ true → (u.text ≟ bytes " = ") ≡ true
     → is_call_mark c t (opens (u ∷ rest)) ≡ false
 unfolding is_call_mark opens
 name-mark none t u rest hn hs =
     fails (λ e. true-false (both e).1
     (either (starts_with t.text (bytes "((void") ≡ false) hn
-    (starts_as t.text (bytes "rax") (bytes "((void") false (unfold ◌&&◌ in refl))
-    (starts_as t.text (bytes "eax") (bytes "((void") false (unfold ◌&&◌ in refl))))
+    (starts_as t.text (bytes "rax") (bytes "((void") false (unfold ◌and◌ in refl))
+    (starts_as t.text (bytes "eax") (bytes "((void") false (unfold ◌and◌ in refl))))
 name-mark (some name) t u rest hn hs =
-    fails (λ e. true-false (both (both (both e).1).1).1 (starts_as u.text (bytes " = ") (bytes "(") false (unfold ◌&&◌ in refl) hs))
+    fails (λ e. true-false (both (both (both e).1).1).1 (starts_as u.text (bytes " = ") (bytes "(") false (unfold ◌and◌ in refl) hs))
 
-sign-mark : (c : Callee) (u v : Token) (rest : List Token) → (u.text == bytes " = ") ≡ true → calls_here (u, v) ≡ false → is_call_mark c u (opens (v ∷ rest)) ≡ false
+sign-mark : (c : Callee) (u v : Token) (rest : List Token) → (u.text ≟ bytes " = ") ≡ true → calls_here (u, v) ≡ false → is_call_mark c u (opens (v ∷ rest)) ≡ false
 unfolding is_call_mark opens calls_here
-sign-mark none u v rest hs hc = fails (λ e. true-false (both e).1 (starts_as u.text (bytes " = ") (bytes "((void") false (unfold ◌&&◌ in refl) hs))
+sign-mark none u v rest hs hc = fails (λ e. true-false (both e).1 (starts_as u.text (bytes " = ") (bytes "((void") false (unfold ◌and◌ in refl) hs))
 sign-mark (some name) u v rest hs hc = fails (λ e. true-false (pair (both e).0 (both (both e).1).1) (neither hc).0)
 
 cut-calls : {ts : List Token} → Dead ts → (c : Callee) → calls_in c ts ≤ calls_in c (drop 2 ts)

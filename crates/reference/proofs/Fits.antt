@@ -8,7 +8,7 @@ use mathlib.Core.Bool.{Bool, false}
 use mathlib.Core.List.{List, [], ◌∷◌}
 use lib.Dec.{ltb}
 use borrow.Author.Tests.{ltb-false}
-use Rattle.reference.specs.Control.{◌&&◌}
+use Rattle.reference.specs.Control.{◌and◌}
 use Rattle.reference.specs.Lists.{any}
 use Rattle.reference.specs.Listing.{Token, is, Number, Listing, ◌at◌}
 use Rattle.reference.specs.Claim.{sum, size, token_count, text}
@@ -29,7 +29,7 @@ fits_text {lines} f = omega (arith, text_le lines, f.few, f.short, f.small)
 
 -- ---- the input
 
-small_number : (t : Token) → (is Number t && ltb 24 (size t)) ≡ false → weigh excess t ≡ 0
+small_number : (t : Token) → (is Number t and ltb 24 (size t)) ≡ false → weigh excess t ≡ 0
 unfolding weigh
 small_number t e = by-if (λ (n : ℕ). n ≡ 0) (λ h. omega (arith, ltb-false 24 (size t) (fails (λ u. true-false (pair h u) e)))) (λ h. refl)
 

@@ -14,12 +14,12 @@ use mathlib.Core.List.{List, [], ◌∷◌, ◌++◌, Sublistᴰ}
 use lib.Dec.{ltb}
 use lib.ListN.{length, drop, replicate, length-map, length-append, length-drop, length-replicate}
 use borrow.Author.Tests.{leb-true, ltb-true}
-use Rattle.reference.specs.Control.{◌&&◌, ◌||◌}
+use Rattle.reference.specs.Control.{◌and◌, ◌or◌}
 use Rattle.reference.specs.Lists.{any}
 use Rattle.reference.specs.Listing.{Token, is, Number, Listing}
 use Rattle.reference.specs.Rules.{Rules}
 use Rattle.reference.specs.Run.{run, last_of, listings, finished, counts}
-use Rattle.reference.specs.Claim.{size, token_count, pair_of}
+use Rattle.reference.specs.Claim.{size, token_count}
 use Rattle.reference.specs.Demand.{Accepted, Within, Each, Steps, Demand3}
 use Rattle.reference.specs.Spans.{Marks}
 use Rattle.reference.specs.Marks.{finished_marks}
@@ -37,11 +37,11 @@ use Rattle.reference.proofs.Tapes.{read-limits}
 -- ---- what an accepted tape holds is an accepted listing
 
 none_any : {A : Type 0} (P : A → Type 0) (p : A → Bool) → ((x : A) → P x → p x ≡ false) → (xs : List A) → All P xs → any p xs ≡ false
-unfolding ◌||◌
+unfolding ◌or◌
 none_any P p h [] k = refl
 none_any P p h (x ∷ xs) k = rw (h x k.0) (none_any P p h xs k.1)
 
-small_number : (t : Token) → TokenFits t → (is Number t && ltb 24 (size t)) ≡ false
+small_number : (t : Token) → TokenFits t → (is Number t and ltb 24 (size t)) ≡ false
 small_number t f = fails (λ e. (let b = both e in omega (arith, f.number b.0, ltb-true 24 (size t) b.1)))
 
 accepted-listing : (lines : Listing) → Limits lines → Accepted lines

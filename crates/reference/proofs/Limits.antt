@@ -6,7 +6,7 @@ use mathlib.Core.List.{List, [], ◌∷◌, ◌++◌}
 use mathlib.Core.Option.{none, some}
 use lib.Dec.{ltb}
 use lib.ListN.{length}
-use Rattle.reference.specs.Control.{◌||◌}
+use Rattle.reference.specs.Control.{◌or◌}
 use Rattle.reference.specs.Lists.{any, modify}
 use Rattle.reference.specs.Listing.{Token, is, Number, Line, Listing}
 use Rattle.reference.specs.Spans.{Marks}
@@ -33,7 +33,7 @@ pub record TokenFits (t : Token) : Type 0 where
   pub kind : t.kind < 8
   pub some_text : 1 ≤ length t.text
   pub number : is Number t ≡ true → length t.text ≤ 24
-  pub printable : any (λ b. ltb b 0x20 || ltb 0x7E b) t.text ≡ false
+  pub printable : any (λ b. ltb b 0x20 or ltb 0x7E b) t.text ≡ false
 
 pub record LineFits (l : Line) : Type 0 where
   pub indent : l.indent ≤ 63

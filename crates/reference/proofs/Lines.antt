@@ -7,7 +7,7 @@ use mathlib.Core.Bool.{Bool, true, false}
 use mathlib.Core.List.Sublistᴰ
 use mathlib.Core.List.{List, [], ◌∷◌, nil≢cons, Sublistᴰ}
 use lib.ListN.{length, drop}
-use Rattle.reference.specs.Control.{if◌then◌else◌}
+use Rattle.reference.specs.Control.{when◌then◌else◌}
 use Rattle.reference.specs.Lists.{remove, modify}
 use Rattle.reference.specs.Listing.{Line, Listing, blank, ◌at◌}
 use Rattle.reference.specs.Shapes.{is_label}
@@ -69,12 +69,12 @@ places_remove (suc i) (l ∷ ls) = Sublistᴰ.cons-cons refl (places_remove i ls
 -- ---- labels
 
 labelled : (l : Line) (ls : Listing) → is_label l ≡ true → label_lines (l ∷ ls) ≡ l ∷ label_lines ls
-unfolding label_lines if◌then◌else◌
-labelled l ls e = rw (e, if◌then◌else◌)
+unfolding label_lines when◌then◌else◌
+labelled l ls e = rw (e, when◌then◌else◌)
 
 unlabelled : (l : Line) (ls : Listing) → is_label l ≡ false → label_lines (l ∷ ls) ≡ label_lines ls
-unfolding label_lines if◌then◌else◌
-unlabelled l ls e = rw (e, if◌then◌else◌)
+unfolding label_lines when◌then◌else◌
+unlabelled l ls e = rw (e, when◌then◌else◌)
 
 same_labels : (l : Line) (xs ys : Listing) → Sublistᴰ (label_lines xs) (label_lines ys) → Sublistᴰ (label_lines (l ∷ xs)) (label_lines (l ∷ ys))
 same_labels l xs ys s = go (is_label l) refl

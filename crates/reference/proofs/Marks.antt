@@ -1,7 +1,7 @@
 -- The marks of the finished lines (M-105). Kept step by step they are those of the definition by sources (`carried`), and no instruction is lost:
 -- every address of the input lies within the marks of a finished line (`nothing_lost`), since a line that is removed is joined into one line at least.
 -- Assumes nothing.
-use Prim.Native.Nat.{ℕ, zero, suc, ◌+◌, ◌^◌, ◌≤◌, ◌<◌}
+use Prim.Native.Nat.{ℕ, zero, suc, ◌^◌, ◌<◌}
 use native.Mathlib.Omega.{arith}
 use native.Mathlib.Nat.{le_refl, eq-or-lt_of_le}
 use mathlib.Core.Path.{◌≡◌, refl, sym, ap, ◌∙◌, subst}
@@ -13,7 +13,7 @@ use lib.Dec.{eqb}
 use lib.ListN.{length, get_or, drop}
 use lib.Seq.{ext_get_or}
 use borrow.Author.Tests.{eq-eqb, ne_eqb, eqb-true, eqb-false, ltb-true, ltb-false}
-use Rattle.reference.specs.Control.{◌||◌, if◌then◌else◌, let_some◌else◌then◌}
+use Rattle.reference.specs.Control.{◌or◌, when◌then◌else◌, let_some◌else◌then◌}
 use Rattle.reference.specs.Lists.{any, remove, modify}
 use Rattle.reference.specs.Text.{Text}
 use Rattle.reference.specs.Listing.{Line, Listing, ◌at◌}
@@ -26,7 +26,7 @@ use Rattle.reference.specs.Marks.{moved, comes_to, adds, added, of_each, finishe
 use Rattle.reference.specs.Tape.{write}
 use Rattle.reference.specs.Questions.{Passed, read, marks_in}
 use Rattle.reference.specs.Demand.{Attempts, over, failed, succeeded, Rounds, enough, ended, again, Cuts, done, kept, dropped}
-use Rattle.reference.proofs.Cases.{by-if, true-false}
+use Rattle.reference.proofs.Cases.{by-if}
 use Rattle.reference.proofs.Lines.{length-modify, length-remove}
 use Rattle.reference.proofs.Changes.{removed-length}
 use Rattle.reference.proofs.Attempts.{attempt_removed, Joined, attempt_joined}
@@ -36,7 +36,7 @@ use Rattle.reference.proofs.Commands.{AddressFits}
 use Rattle.reference.proofs.Limits.{All, all_append, MarksFit, TapeFits}
 use Rattle.reference.proofs.Tapes.{read_fits, read-marks_fit}
 use Rattle.reference.proofs.Written.{read-write}
-use Rattle.reference.proofs.Spans.{hull_none, span_append, Covers, all_left, all_right, span_covers, hull_of, hull_of_ext, hull_of_one, hull_of-take_in, moved-above, moved-below, but, but_elsewhere, but_same, hull_of-remove, hull_of-split}
+use Rattle.reference.proofs.Spans.{span_append, Covers, all_left, all_right, span_covers, hull_of, hull_of_ext, hull_of_one, hull_of-take_in, but, but_elsewhere, but_same, hull_of-remove, hull_of-split}
 
 -- ---- what the attempts of a run do to the places of lines: from n lines to m
 
@@ -129,11 +129,11 @@ module _ (i : ℕ) (js : List ℕ) (lines : Listing) (more : List Attempt) (q : 
   later p = comes_to more (moved i p) q
 
   through_it : through i ≡ any later js
-  unfolding comes_to if◌then◌else◌
+  unfolding comes_to when◌then◌else◌
   through_it = rw (eq-eqb i i refl)
 
   through_others : (p : ℕ) → (p ≡ i → ⊥) → through p ≡ later p
-  unfolding comes_to if◌then◌else◌
+  unfolding comes_to when◌then◌else◌
   through_others p n = rw (ne_eqb p i n)
 
   step-hull : (n : ℕ) (ms : List Marks) → length ms ≡ n → i < n → Joined i n js
@@ -145,8 +145,8 @@ module _ (i : ℕ) (js : List ℕ) (lines : Listing) (more : List Attempt) (q : 
       any_same (but i later) later js (all_map _ _ (λ k b. but_elsewhere i later k (λ z. omega (arith, b.0))) js j.each) ∙ sym through_it in
       hull_of-remove i (λ p. comes_to more p q) (take_in m js ms)
       ∙ hull_of-take_in (but i later) m js ms inside
-      ∙ ap (λ (b : Bool). hull (hull_of (but i later) ms) (if b then m else none)) same
-      ∙ ap (λ (k : Marks). hull k (if through i then m else none)) (hull_of_ext (but i later) (but i through) (but_same i later through (λ p z. sym (through_others p z))) ms)
+      ∙ ap (λ (b : Bool). hull (hull_of (but i later) ms) (when b then m else none)) same
+      ∙ ap (λ (k : Marks). hull k (when through i then m else none)) (hull_of_ext (but i later) (but i through) (but_same i later through (λ p z. sym (through_others p z))) ms)
       ∙ sym (hull_of-split i through ms (omega arith))
 
 take_in-length : (m : Marks) (js : List ℕ) (ms : List Marks) → length (take_in m js ms) ≡ length ms
@@ -160,14 +160,14 @@ joined_length n i js ms e h =
     omega (arith, length-remove i (take_in (get_or ms i none) js ms) (omega (arith, same)), same)
 
 carry-length : {n m : ℕ} {attempts : List Attempt} → Moves n attempts m → (ms : List Marks) → length ms ≡ n → length (carry attempts ms) ≡ m
-unfolding carry if◌then◌else◌
+unfolding carry when◌then◌else◌
 carry-length rest ms e = e
 carry-length (stays p) ms e = carry-length p ms e
 carry-length (joins {n = n} {i = i} {js = js} h j p) ms e = carry-length p _ (joined_length n i js ms e h)
 
 carry_at : {n m : ℕ} {attempts : List Attempt} → Moves n attempts m → (ms : List Marks) → length ms ≡ n → (q : ℕ)
     → get_or (carry attempts ms) q none ≡ hull_of (λ p. comes_to attempts p q) ms
-unfolding carry if◌then◌else◌ comes_to
+unfolding carry when◌then◌else◌ comes_to
 carry_at rest ms e q = sym (hull_of_one q ms)
 carry_at (stays p) ms e q = carry_at p ms e q
 carry_at (joins {n = n} {i = i} {js = js} {lines = lines} {more = more} h j p) ms e q =
@@ -184,11 +184,11 @@ own-hull P [] marks = refl
 own-hull P (l ∷ ls) marks =
     let xs : List ℕ = adds l (get_or marks 0 none) in
     let ys : List ℕ = added (λ p. P (suc p)) ls (drop 1 marks) in
-    (λ i. hull (first (P 0) xs i) (own-hull (λ p. P (suc p)) ls (drop 1 marks) i)) ∙ sym (span_append (if P 0 then xs else []) ys)
+    (λ i. hull (first (P 0) xs i) (own-hull (λ p. P (suc p)) ls (drop 1 marks) i)) ∙ sym (span_append (when P 0 then xs else []) ys)
   where
-    first : (b : Bool) (xs : List ℕ) → (if b then span_of xs else none) ≡ span_of (if b then xs else [])
-    first true xs = unfold if◌then◌else◌ in refl
-    first false xs = unfold if◌then◌else◌ in refl
+    first : (b : Bool) (xs : List ℕ) → (when b then span_of xs else none) ≡ span_of (when b then xs else [])
+    first true xs = unfold when◌then◌else◌ in refl
+    first false xs = unfold when◌then◌else◌ in refl
 
 each-length : (f : ℕ → Marks) (lines : Listing) → length (of_each f lines) ≡ length lines
 unfolding of_each
@@ -237,7 +237,7 @@ Somewhere attempts m p = (q : ℕ) × (q < m) × (comes_to attempts p q ≡ true
 
 module _ {n m i : ℕ} {js : List ℕ} (lines : Listing) (more : List Attempt) (k : i < suc n) (j : Joined i (suc n) js) (next : (p : ℕ) → p < n → Somewhere more m p) where
   first-target : (js : List ℕ) → Joined i (suc n) js → (q : ℕ) × (q < m) × (any (λ j. comes_to more (moved i j) q) js ≡ true)
-  unfolding ◌||◌
+  unfolding ◌or◌
   first-target [] j = absurd (omega (arith, j.some_line))
   first-target (x ∷ xs) j =
       let b = j.each.0 in
@@ -255,7 +255,7 @@ module _ {n m i : ℕ} {js : List ℕ} (lines : Listing) (more : List Attempt) (
           (r.0, r.1, through_others i js lines more r.0 p z ∙ r.2)
 
 comes_somewhere : {n m : ℕ} {attempts : List Attempt} → Moves n attempts m → (p : ℕ) → p < n → Somewhere attempts m p
-unfolding comes_to if◌then◌else◌
+unfolding comes_to when◌then◌else◌
 comes_somewhere rest p h = (p, h, eq-eqb p p refl)
 comes_somewhere (stays r) p h = comes_somewhere r p h
 comes_somewhere (joins {lines = lines} {more = more} k j r) p h = somewhere_joined lines more k j (λ p h. comes_somewhere r p h) p h
@@ -266,14 +266,14 @@ next-mark (m ∷ ms) p = refl
 
 added_covers : (P : ℕ → Bool) (lines : Listing) (marks : List Marks) (p : ℕ) → p < length lines → P p ≡ true
     → All (Covers (span_of (added P lines marks))) (adds (lines at p) (get_or marks p none))
-unfolding added if◌then◌else◌
+unfolding added when◌then◌else◌
 added_covers P [] marks p h e = absurd (omega arith)
 added_covers P (l ∷ ls) marks zero h e =
     let xs : List ℕ = adds l (get_or marks 0 none) in
     let ys : List ℕ = added (λ p. P (suc p)) ls (drop 1 marks) in
     rw (e, span_append xs ys) (all_left (span_of xs) (span_of ys) xs (span_covers xs))
 added_covers P (l ∷ ls) marks (suc p) h e =
-    let xs : List ℕ = if P 0 then adds l (get_or marks 0 none) else [] in
+    let xs : List ℕ = when P 0 then adds l (get_or marks 0 none) else [] in
     let ys : List ℕ = added (λ p. P (suc p)) ls (drop 1 marks) in
     let later = added_covers (λ p. P (suc p)) ls (drop 1 marks) p (omega arith) e in
     rw (span_append xs ys) (all_right (span_of xs) (span_of ys) (adds (ls at p) (get_or marks (suc p) none)) (rw (next-mark marks p) at later))
@@ -329,7 +329,7 @@ unfolding added
 added-fits P [] marks a f = tt
 added-fits P (l ∷ ls) marks a f =
     let g = front_fits marks f in
-    all_append Small (if P 0 then adds l (get_or marks 0 none) else []) (added (λ p. P (suc p)) ls (drop 1 marks))
+    all_append Small (when P 0 then adds l (get_or marks 0 none) else []) (added (λ p. P (suc p)) ls (drop 1 marks))
     (by-if (λ (xs : List ℕ). All Small xs) (λ e. adds_fit l (get_or marks 0 none) a.0 g.0) (λ e. tt))
     (added-fits (λ p. P (suc p)) ls (drop 1 marks) a.1 g.1)
 

@@ -1,22 +1,22 @@
 -- M-104: without the parts setting nothing changes (`without_parts`), with it one test is added (`adds-lowest`), and under it every attempt that
 -- succeeds keeps to the parts (`parts-kept`), and so does every attempt of every run (`run_keeps-parts`). Assumes nothing.
 use Prim.Native.Nat.{ℕ, zero, suc, ◌≤◌, ◌<◌}
-use mathlib.Core.Path.{◌≡◌, refl, sym, ap, ◌∙◌, subst}
+use mathlib.Core.Path.{◌≡◌, refl, sym, ◌∙◌, subst}
 use mathlib.Core.Bool.{Bool, true, false, false≢true}
 use mathlib.Core.List.{List, [], ◌∷◌, ◌++◌, flatten}
-use mathlib.Core.Option.{Option, none, some}
+use mathlib.Core.Option.{Option, some}
 use lib.Dec.{eqb, ltb}
 use lib.ListN.{drop}
 use borrow.Author.Tests.{eq-eqb, lt-ltb, ltb-false}
-use Rattle.reference.specs.Control.{not, ◌&&◌, ◌||◌, if◌then◌else◌, let_some◌else◌then◌}
+use Rattle.reference.specs.Control.{not, ◌and◌, ◌or◌, let_some◌else◌then◌}
 use Rattle.reference.specs.Lists.{any, position, get}
-use Rattle.reference.specs.Text.{Text, ◌==◌}
+use Rattle.reference.specs.Text.{Text, ◌≟◌}
 use Rattle.reference.specs.Listing.{Token, Listing, ◌at◌}
 use Rattle.reference.specs.Names.{Fam, family, fam_of, of_family}
 use Rattle.reference.specs.Rules.{Rules, volatile}
 use Rattle.reference.specs.Life.{Labels}
 use Rattle.reference.specs.Join.{Uses, gather, is_narrow, bad_use, written_from, propagate_constant, use_width, use_lowest, other_part, is_compound, replaceable, join_at, join_one, try_at}
-use Rattle.reference.specs.Run.{Attempt, rounds_from, limit, after_attempts, run, attempts_of}
+use Rattle.reference.specs.Run.{Attempt, limit, after_attempts, run, attempts_of}
 use Rattle.reference.specs.Demand.{Attempts, over, failed, succeeded, Rounds, enough, ended, again}
 use Rattle.reference.specs.Parts.{SamePart, Joins, to_several, to_one, PartsKept, EachKept}
 use Rattle.reference.proofs.Cases.{by-if, by-some, both, neither, not-true, not-false, same_number, some_inj, none-some, if_some, unless-some, bind-some}
@@ -24,28 +24,28 @@ use Rattle.reference.proofs.Rounds.{rounds-taken}
 
 -- ---- the test
 
-second : {a b : Bool} → a ≡ true → (a && b) ≡ false → b ≡ false
-unfolding ◌&&◌
+second : {a b : Bool} → a ≡ true → (a and b) ≡ false → b ≡ false
+unfolding ◌and◌
 second {a = true} t e = e
 second {a = false} t e = absurd (false≢true t)
 
 module _ (f : Fam) (toks : List Token) (pos : ℕ) where
   -- WITHOUT THE SETTING the test is the Rust's
   pub without_parts : replaceable false f toks pos
-      ≡ (not ((ltb (use_width toks pos) 32 || ltb f.width 32) && not (eqb (use_width toks pos) f.width))
-      && not (is_compound toks pos)
-      && not (written_from f.name toks))
-  unfolding replaceable not ◌&&◌
+      ≡ (not ((ltb (use_width toks pos) 32 or ltb f.width 32) and not (eqb (use_width toks pos) f.width))
+      and not (is_compound toks pos)
+      and not (written_from f.name toks))
+  unfolding replaceable not ◌and◌
   without_parts = refl
 
   -- WITH IT one test is added, the lowest bit: the widths below 32 bits are asked to be equal anyway
   pub adds-lowest : replaceable true f toks pos
-      ≡ (replaceable false f toks pos && not (ltb (use_width toks pos) 32 && not (eqb (use_lowest toks pos) f.lowest)))
-  unfolding replaceable other_part not ◌&&◌ ◌||◌
+      ≡ (replaceable false f toks pos and not (ltb (use_width toks pos) 32 and not (eqb (use_lowest toks pos) f.lowest)))
+  unfolding replaceable other_part not ◌and◌ ◌or◌
   adds-lowest = go (ltb (use_width toks pos) 32) (ltb f.width 32) (eqb (use_width toks pos) f.width) (eqb (use_lowest toks pos) f.lowest) (is_compound toks pos) (written_from f.name toks)
     where
-      go : (u w e l c x : Bool) → (not ((u || w) && not e) && not (true && (u && (not e || not l))) && not c && not x)
-          ≡ ((not ((u || w) && not e) && not (false && (u && (not e || not l))) && not c && not x) && not (u && not l))
+      go : (u w e l c x : Bool) → (not ((u or w) and not e) and not (true and (u and (not e or not l))) and not c and not x)
+          ≡ ((not ((u or w) and not e) and not (false and (u and (not e or not l))) and not c and not x) and not (u and not l))
       go true true true true true x = refl
       go true true true true false true = refl
       go true true true true false false = refl
@@ -83,7 +83,7 @@ module _ (f : Fam) (toks : List Token) (pos : ℕ) {t : Token} (e : get toks pos
   unfolding use_lowest let_some◌else◌then◌
   lowest_is = rw (e, eg)
 
-  fit : (not (eqb (use_width toks pos) f.width) || not (eqb (use_lowest toks pos) f.lowest)) ≡ false
+  fit : (not (eqb (use_width toks pos) f.width) or not (eqb (use_lowest toks pos) f.lowest)) ≡ false
   unfolding other_part
   fit = second (rw width_is (lt-ltb g.width 32 narrow)) no
 
@@ -113,8 +113,8 @@ module _ {A : Type 0} (p : A → Bool) where
       (λ t h. (let r = bind-some h in subst (λ (n : ℕ). (y : A) × (get (x ∷ xs) n ≡ some y)) (some_inj r.2) (found_at xs r.0 r.1)))
       e
 
-same_refl : (a : Text) → (a == a) ≡ true
-unfolding ◌&&◌
+same_refl : (a : Text) → (a ≟ a) ≡ true
+unfolding ◌and◌
 same_refl [] = refl
 same_refl (x ∷ xs) = rw (eq-eqb x x refl, same_refl xs)
 

@@ -10,7 +10,7 @@ use mathlib.Core.List.{[], ◌∷◌, ◌++◌}
 use mathlib.Core.Option.{Option, none, some}
 use lib.IntN.{ℤ, pos, negsuc, neg_ℤ}
 use borrow.Author.Tests.{lt-ltb, le-ltb, le-leb, lt-leb, ltb-true, ltb-false}
-use Rattle.reference.specs.Control.{◌&&◌, ◌||◌, if◌then◌else◌, let_some◌else◌then◌}
+use Rattle.reference.specs.Control.{◌and◌, ◌or◌, when◌then◌else◌, let_some◌else◌then◌}
 use Rattle.reference.specs.Lists.{is_empty}
 use Rattle.reference.specs.Text.{Text, bytes, starts_with}
 use Rattle.reference.specs.Numbers.{to_digit, digits_value, as_i64, wrap, parse_c_number, prefix_size, constant_digits, value_limit, read_constant, parse_2024, read_number, digit_byte, digits, show_natural, show}
@@ -22,7 +22,7 @@ use Rattle.reference.proofs.Numerals.{read-hexadecimal, minus_0, minus_1, plain_
 
 -- the byte of a digit is that digit again
 digit-back : (base d : ℕ) → d < base → base ≤ 16 → to_digit base (digit_byte d) ≡ some d
-unfolding to_digit if◌then◌else◌ ◌&&◌
+unfolding to_digit when◌then◌else◌ ◌and◌
 digit-back base d h k =
     by_cases (dec_lt d 10)
     (λ l. rw (lt-ltb d 10 l, le-leb 48 (48 + d) (omega arith), le-leb (48 + d) 57 (omega arith)) (let e : 48 + d - 48 ≡ d = omega arith in rw (e, lt-ltb d base h) refl))
@@ -69,15 +69,15 @@ module _ (n : ℕ) (h : n < 2 ^ 64) where
   some_digit = by-if (λ (t : Text). is_empty t ≡ false) (λ e. refl) (λ e. filled 16 (omega arith) (omega arith) 15 (n / 16) (digit_byte (n % 16)) [])
 
   read_0 : parse_c_number (bytes "0x" ++ hexadecimal n) ≡ some (as_i64 n)
-  unfolding if◌then◌else◌
+  unfolding when◌then◌else◌
   read_0 = read-hexadecimal (hexadecimal n) some_digit comes_to ∙ rw (lt-ltb n (2 ^ 64) h) refl
 
   digits_are : constant_digits (bytes "0x" ++ hexadecimal n) ≡ some (hexadecimal n)
-  unfolding constant_digits prefix_size if◌then◌else◌ ◌||◌
+  unfolding constant_digits prefix_size when◌then◌else◌ ◌or◌
   digits_are = rw (base_0x (hexadecimal n)) (unquoted-row (hexadecimal n) some_digit (digits_without 16 0 39 (hexadecimal n) no_quote comes_to))
 
   read_1 : read_constant (bytes "0x" ++ hexadecimal n) ≡ some (as_i64 n)
-  unfolding value_limit if◌then◌else◌
+  unfolding value_limit when◌then◌else◌
   read_1 =
       read-constant_is (bytes "0x" ++ hexadecimal n) (hexadecimal n) {n = n} digits_are (rw (base_0x (hexadecimal n)) comes_to)
       ∙ rw (base_0x (hexadecimal n), lt-ltb n (2 ^ 64) h) refl
@@ -135,11 +135,11 @@ one_digit =
     )
 
 larger : (n : ℕ) → 10 ≤ n → show_natural n ≡ bytes "0x" ++ hexadecimal n
-unfolding show_natural if◌then◌else◌ hexadecimal
+unfolding show_natural when◌then◌else◌ hexadecimal
 larger n h = rw (le-ltb n 10 h) refl
 
 natural : (n : ℕ) → n < 2 ^ 64 → Both (show_natural n) (as_i64 n)
-unfolding ◌&&◌
+unfolding ◌and◌
 natural n h =
     by_cases (dec_lt n 10) (one_digit n)
     (λ l. rw (larger n (omega arith)) (record { in_0 = read_0 n h; in_1 = read_1 n h; plain = refl }))
@@ -147,11 +147,11 @@ natural n h =
 -- ---- with one
 
 low : (n : ℕ) → n < 2 ^ 63 → as_i64 n ≡ pos n
-unfolding as_i64 if◌then◌else◌
+unfolding as_i64 when◌then◌else◌
 low n h = let e : n % 2 ^ 64 ≡ n = mod-eq_of_lt (omega arith) in rw (e, lt-ltb n (2 ^ 63) h) refl
 
 high : (n : ℕ) → 2 ^ 63 ≤ n → n < 2 ^ 64 → as_i64 n ≡ negsuc (2 ^ 64 - suc n)
-unfolding as_i64 if◌then◌else◌
+unfolding as_i64 when◌then◌else◌
 high n l h = let e : n % 2 ^ 64 ≡ n = mod-eq_of_lt h in rw (e, le-ltb n (2 ^ 63) l) refl
 
 -- the negation of the 64 bits of n + 1

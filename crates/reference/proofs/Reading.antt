@@ -8,7 +8,7 @@ use mathlib.Core.List.{List, [], ◌∷◌, ◌++◌}
 use lib.ListN.{length, drop, length-drop, drop_of_length-le}
 use lib.Seq.{drop-drop}
 use borrow.Author.Tests.{leb-true, le-leb, lt-leb}
-use Rattle.reference.specs.Control.{if◌then◌else◌}
+use Rattle.reference.specs.Control.{when◌then◌else◌}
 use Rattle.reference.specs.Listing.{Listing}
 use Rattle.reference.specs.Spans.{Marks}
 use Rattle.reference.specs.Tape.{TapeForm, old, header, Command, command_size_by, command_by}
@@ -31,13 +31,13 @@ module _ {A : Type 0} where
   passed_inj e = cc
 
   pub ask-yes : (place : ℕ → ℕ) (qs : List (ℕ × Bool)) (a : Answer A) → Yes qs → ask place qs a ≡ a
-  unfolding ask if◌then◌else◌
+  unfolding ask when◌then◌else◌
   ask-yes place [] a h = refl
   ask-yes place (q ∷ more) a h = rw h.0 (ask-yes place more a h.1)
 
   pub ask_no : (place : ℕ → ℕ) (before : List (ℕ × Bool)) (q : ℕ × Bool) (after : List (ℕ × Bool)) (a : Answer A) → Yes before → q.1 ≡ false
       → ask place (before ++ q ∷ after) a ≡ Refused q.0 (place q.0)
-  unfolding ask if◌then◌else◌
+  unfolding ask when◌then◌else◌
   ask_no place [] q after a h e = rw e
   ask_no place (p ∷ before) q after a h e = rw h.0 (ask_no place before q after a h.1 e)
 
@@ -131,7 +131,7 @@ module _ {form : TapeForm} where
 -- and where one is the first answered "no"
 module _ (form : TapeForm) (tape : List ℕ) (at : ℕ) (t : Totals) where
   pub refused_3_by : is_command_by form (drop at tape) ≡ false → read_command_by form tape at t ≡ Refused 3 at
-  unfolding read_command_by place_at if◌then◌else◌
+  unfolding read_command_by place_at when◌then◌else◌
   refused_3_by e = ask_no _ [] _ _ _ tt e
 
 -- the command at an offset
@@ -140,40 +140,40 @@ there form tape at = command_by form (drop at tape)
 
 module _ {form : TapeForm} (tape : List ℕ) (at : ℕ) (t : Totals) where
   pub refused_4 : FormBy form (drop at tape) → length (drop at tape) < command_size_by form (drop at tape) → read_command_by form tape at t ≡ Refused 4 at
-  unfolding read_command_by ends_inside_by place_at if◌then◌else◌
+  unfolding read_command_by ends_inside_by place_at when◌then◌else◌
   refused_4 f h = ask_no _ ((3, _) ∷ []) _ _ _ (is_form _ f, tt) (lt-leb _ _ h)
 
   module _ (f : FormBy form (drop at tape)) (inside : command_size_by form (drop at tape) ≤ length (drop at tape)) where
     pub refused_5 : has_line t (there form tape at) ≡ false → read_command_by form tape at t ≡ Refused 5 at
-    unfolding read_command_by ends_inside_by place_at if◌then◌else◌
+    unfolding read_command_by ends_inside_by place_at when◌then◌else◌
     refused_5 e = ask_no _ ((3, _) ∷ (4, _) ∷ []) _ _ _ (is_form _ f, (le-leb _ _ inside, tt)) e
 
     module _ (begun : has_line t (there form tape at) ≡ true) where
       pub refused_6 : is_within (there form tape at) ≡ false → read_command_by form tape at t ≡ Refused 6 at
-      unfolding read_command_by ends_inside_by place_at if◌then◌else◌
+      unfolding read_command_by ends_inside_by place_at when◌then◌else◌
       refused_6 e = ask_no _ ((3, _) ∷ (4, _) ∷ (5, _) ∷ []) _ _ _ (is_form _ f, (le-leb _ _ inside, (begun, tt))) e
 
       module _ (within : is_within (there form tape at) ≡ true) where
         pub refused_10 : is_few t (there form tape at) ≡ false → read_command_by form tape at t ≡ Refused 10 at
-        unfolding read_command_by ends_inside_by place_at if◌then◌else◌
+        unfolding read_command_by ends_inside_by place_at when◌then◌else◌
         refused_10 e = ask_no _ ((3, _) ∷ (4, _) ∷ (5, _) ∷ (6, _) ∷ []) _ _ _ (is_form _ f, (le-leb _ _ inside, (begun, (within, tt)))) e
 
         module _ (few : is_few t (there form tape at) ≡ true) where
           pub refused_11 : is_short t (there form tape at) ≡ false → read_command_by form tape at t ≡ Refused 11 at
-          unfolding read_command_by ends_inside_by place_at if◌then◌else◌
+          unfolding read_command_by ends_inside_by place_at when◌then◌else◌
           refused_11 e =
               ask_no _ ((3, _) ∷ (4, _) ∷ (5, _) ∷ (6, _) ∷ (10, _) ∷ []) _ _ _ (is_form _ f, (le-leb _ _ inside, (begun, (within, (few, tt))))) e
 
           module _ (short : is_short t (there form tape at) ≡ true) where
             pub refused_7 : is_printable (there form tape at) ≡ false → read_command_by form tape at t ≡ Refused 7 (at + first_offending (there form tape at))
-            unfolding read_command_by ends_inside_by place_at if◌then◌else◌
+            unfolding read_command_by ends_inside_by place_at when◌then◌else◌
             refused_7 e =
                 ask_no _ ((3, _) ∷ (4, _) ∷ (5, _) ∷ (6, _) ∷ (10, _) ∷ (11, _) ∷ []) _ _ _
                 (is_form _ f, (le-leb _ _ inside, (begun, (within, (few, (short, tt))))))
                 e
 
             pub refused_8 : is_printable (there form tape at) ≡ true → is_over (drop at tape) (there form tape at) ≡ false → read_command_by form tape at t ≡ Refused 8 at
-            unfolding read_command_by ends_inside_by place_at if◌then◌else◌
+            unfolding read_command_by ends_inside_by place_at when◌then◌else◌
             refused_8 p e =
                 ask_no _ ((3, _) ∷ (4, _) ∷ (5, _) ∷ (6, _) ∷ (10, _) ∷ (11, _) ∷ (7, _) ∷ []) _ _ _
                 (is_form _ f, (le-leb _ _ inside, (begun, (within, (few, (short, (p, tt)))))))
@@ -223,7 +223,7 @@ module _ (form : TapeForm) (tape : List ℕ) where
 
   pub reading_step_by : (at : ℕ) (t : Totals) (lines : Listing)
       → reading_by at t lines
-      ≡ (let_passed (read_command_by form tape at t) then λ a. if is_end a.command then Passed lines else reading_by a.next a.totals (add a.command lines))
+      ≡ (let_passed (read_command_by form tape at t) then λ a. when is_end a.command then Passed lines else reading_by a.next a.totals (add a.command lines))
   unfolding read_from_by
   reading_step_by at t lines =
       enough (length tape - at) (suc (length tape)) at t lines (omega arith) (omega arith)
@@ -294,11 +294,11 @@ module _ (form : TapeForm) (tape : List ℕ) where
 module _ (form : TapeForm) where
   marks-step : (f n : ℕ) (rest : List ℕ) (marks : List Marks) → f ≡ suc n → is_end (command_by form rest) ≡ false
       → marks_from_by form f rest marks ≡ marks_from_by form n (drop (command_size_by form rest) rest) (add_marks (command_by form rest) marks)
-  unfolding marks_from_by if◌then◌else◌
+  unfolding marks_from_by when◌then◌else◌
   marks-step f n rest marks e h = rw (e, h)
 
   marks-stop : (f n : ℕ) (rest : List ℕ) (marks : List Marks) → f ≡ suc n → is_end (command_by form rest) ≡ true → marks_from_by form f rest marks ≡ marks
-  unfolding marks_from_by if◌then◌else◌
+  unfolding marks_from_by when◌then◌else◌
   marks-stop f n rest marks e h = rw (e, h)
 
   -- what is left to read of them, with as much fuel as there are bytes or more
@@ -315,7 +315,7 @@ after = after_by old
 
 module _ {form : TapeForm} (tape : List ℕ) where
   pub reading_of : {s : State} → ReachedBy form tape s → read_by form tape ≡ reading_by form tape s.at s.totals s.lines
-  unfolding if◌then◌else◌
+  unfolding when◌then◌else◌
   reading_of here = read-whole_by form tape
   reading_of (on {s = s} r p n) =
       reading_of r
@@ -324,7 +324,7 @@ module _ {form : TapeForm} (tape : List ℕ) where
       ∙ rw n
 
   pub accepted : (out : Listing) → AcceptsBy form tape out → read_by form tape ≡ Passed out
-  unfolding if◌then◌else◌
+  unfolding when◌then◌else◌
   accepted out a =
       let s = a.state in
       reading_of a.reached

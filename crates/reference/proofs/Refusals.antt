@@ -1,15 +1,14 @@
 -- A refusal's number is one of those that a call can give, `refused_number`. Assumes nothing.
 use Prim.Native.Nat.{ℕ, zero, suc}
-use mathlib.Core.Path.{◌≡◌, refl, sym, ◌∙◌}
+use mathlib.Core.Path.{◌≡◌, refl, sym}
 use mathlib.Core.Bool.{Bool, true}
 use mathlib.Core.List.{List, [], ◌∷◌}
 use lib.Dec.{eqb}
-use Rattle.reference.specs.Control.{◌||◌}
+use Rattle.reference.specs.Control.{◌or◌}
 use Rattle.reference.specs.Lists.{any}
 use Rattle.reference.specs.Listing.{Listing}
 use Rattle.reference.specs.Rules.{Rules}
-use Rattle.reference.specs.Questions.{numbers, Totals, Answer, Refused, Passed, ask, read_command, read_from, read_by, read_command_by, read_from_by}
-use Rattle.reference.specs.Straight.{breaks}
+use Rattle.reference.specs.Questions.{numbers, Totals, Answer, Refused, ask, read_command, read_from, read_by, read_command_by, read_from_by}
 use Rattle.reference.specs.Reply.{Reply, ask_profile, reply_by, reply}
 use Rattle.reference.proofs.Cases.{by-if, by-some}
 use Rattle.reference.proofs.Limits.{All}
@@ -31,12 +30,12 @@ module _ {A : Type 0} {n p : ℕ} where
       by-if (λ (x : Answer A). x ≡ Refused n p → Given n) (λ yes. asked_number place more a h.1 k) (λ no. same_number h.0)
 
 command_number : (tape : List ℕ) (at : ℕ) (t : Totals) {n p : ℕ} → read_command tape at t ≡ Refused n p → Given n
-unfolding read_command_by ◌||◌
+unfolding read_command_by ◌or◌
 command_number tape at t =
     asked_number _ _ _ (refl, (refl, (refl, (refl, (refl, (refl, (refl, (refl, tt)))))))) (λ e. absurd (refused_passed (sym e)))
 
 read_number : (fuel : ℕ) (tape : List ℕ) (at : ℕ) (t : Totals) (lines : Listing) {n p : ℕ} → read_from fuel tape at t lines ≡ Refused n p → Given n
-unfolding read_from_by ◌||◌
+unfolding read_from_by ◌or◌
 read_number zero tape at t lines = same_number refl
 read_number (suc fuel) tape at t lines {n} {p} =
     by_passed (λ (x : Answer Listing). x ≡ Refused n p → Given n)
@@ -44,7 +43,7 @@ read_number (suc fuel) tape at t lines {n} {p} =
     (λ a u. by-if (λ (x : Answer Listing). x ≡ Refused n p → Given n) (λ ends e. absurd (refused_passed (sym e))) (λ goes. read_number fuel tape _ _ _))
 
 profile_number : (rules : Rules) (lines : Listing) (r : Reply) {n p : ℕ} → (r ≡ Refused n p → Given n) → ask_profile rules lines r ≡ Refused n p → Given n
-unfolding ask_profile ◌||◌
+unfolding ask_profile ◌or◌
 profile_number rules lines r {n} {p} k =
     by-if (λ (x : Reply). x ≡ Refused n p → Given n)
     (λ on. by-some (λ (x : Reply). x ≡ Refused n p → Given n) (λ fits. k) (λ at b. same_number refl))
@@ -53,7 +52,7 @@ profile_number rules lines r {n} {p} k =
 -- THE NUMBER OF A REFUSED CALL IS ONE OF THE LIST
 pub refused_number : (rules : Rules) (tape : List ℕ) (work_a work_b output : ℕ) {n p : ℕ} → reply rules tape work_a work_b output ≡ Refused n p
     → any (eqb n) numbers ≡ true
-unfolding reply_by read_by ◌||◌
+unfolding reply_by read_by ◌or◌
 refused_number rules tape work_a work_b output {n} {p} =
     asked_number _ _ _ (refl, (refl, (refl, tt)))
     (by_passed (λ (x : Reply). x ≡ Refused n p → Given n)

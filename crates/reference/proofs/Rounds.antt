@@ -8,7 +8,7 @@ use mathlib.Core.List.Sublistᴰ
 use mathlib.Core.List.{List, [], ◌∷◌, ◌++◌, map, map-append, flatten, Sublistᴰ}
 use lib.ListN.{length}
 use borrow.Author.Tests.{ltb-true, ltb-false}
-use Rattle.reference.specs.Control.{◌||◌, if◌then◌else◌}
+use Rattle.reference.specs.Control.{◌or◌, when◌then◌else◌}
 use Rattle.reference.specs.Text.{Text}
 use Rattle.reference.specs.Listing.{Listing}
 use Rattle.reference.specs.Rules.{Rules}
@@ -144,7 +144,7 @@ module _ {rules : Rules} {addressed : List Text} where
 
   attempts-bounded : {i : ℕ} {lines : Listing} {labels : Labels} {round : List Attempt} → Attempts rules addressed i lines labels round → i ≤ length lines
       → (length (after_attempts lines round) + removals round ≡ length lines) × (length round + i ≤ length lines + removals round)
-  unfolding after_attempts removals if◌then◌else◌
+  unfolding after_attempts removals when◌then◌else◌
   attempts-bounded (over h) le = (omega arith, omega arith)
   attempts-bounded (failed h e more) le = let r = attempts-bounded more h in (r.0, omega (arith, r.1))
   attempts-bounded (succeeded {i = i} {lines = lines} {lines' = lines'} {labels = labels} h e more) le =
@@ -181,11 +181,11 @@ rounds-sound (again h e more) = sound_more (round_sound h) (rounds-sound more)
 
 -- a round that changed something took a line out
 changed-removes : (round : List Attempt) → changed round ≡ true → 1 ≤ removals round
-unfolding changed removals ◌||◌ if◌then◌else◌
+unfolding changed removals ◌or◌ when◌then◌else◌
 changed-removes [] e = absurd (false≢true e)
 changed-removes (a ∷ more) e = go a.removed (changed-removes more) e
   where
-    go : (b : Bool) → (changed more ≡ true → 1 ≤ removals more) → (b || changed more) ≡ true → 1 ≤ (if b then suc (removals more) else removals more)
+    go : (b : Bool) → (changed more ≡ true → 1 ≤ removals more) → (b or changed more) ≡ true → 1 ≤ (when b then suc (removals more) else removals more)
     go true h e = omega arith
     go false h e = h e
 

@@ -1,15 +1,13 @@
 -- A run that is to settle (M-112): with n lines it makes at most n + 1 rounds, the last of which changed nothing, so that one further round before the
 -- cuts would change no byte; a higher limit gives the same run. And the three-round setting is what it was: the listing and the counts of the
 -- definitions before M-112, which stand here word for word. Assumes nothing.
-use Prim.Native.Nat.{ℕ, zero, suc, ◌+◌, ◌≤◌, ◌<◌}
+use Prim.Native.Nat.{ℕ, zero, suc, ◌+◌, ◌≤◌}
 use native.Mathlib.Omega.{arith}
-use native.Mathlib.Nat.{le_trans}
-use mathlib.Core.Path.{◌≡◌, refl, sym, ap, ◌∙◌}
+use mathlib.Core.Path.{◌≡◌, refl, ap, ◌∙◌}
 use mathlib.Core.Bool.{Bool, true, false, true≢false}
 use mathlib.Core.List.{List, [], ◌∷◌, ◌++◌, map, map-append, flatten, append_assoc, append-nil}
-use mathlib.Core.Option.{Option}
 use lib.ListN.{length, get_or}
-use Rattle.reference.specs.Control.{◌||◌, if◌then◌else◌}
+use Rattle.reference.specs.Control.{when◌then◌else◌}
 use Rattle.reference.specs.Text.{Text}
 use Rattle.reference.specs.Listing.{Listing}
 use Rattle.reference.specs.Rules.{Rules}
@@ -54,7 +52,7 @@ settled-rest round (after ∷ more) e s = s
 
 -- ROUNDS OF WHICH THE LAST CHANGED NOTHING ARE THE SAME WITH A HIGHER LIMIT
 pub higher_limit : (rules : Rules) (m k : ℕ) (lines : Listing) → Settled (rounds_from rules m lines) → m ≤ k → rounds_from rules k lines ≡ rounds_from rules m lines
-unfolding rounds_from if◌then◌else◌
+unfolding rounds_from when◌then◌else◌
 higher_limit rules zero k lines s le = absurd s
 higher_limit rules (suc m) zero lines s le = absurd (omega arith)
 higher_limit rules (suc m) (suc k) lines s le =
@@ -63,8 +61,8 @@ higher_limit rules (suc m) (suc k) lines s le =
     ap (λ (more : List (List Attempt)). round ∷ more)
     (go round (rounds_from rules m left) (rounds_from rules k left) (changed round) refl s (λ s. higher_limit rules m k left s (omega arith)))
   where
-    go : (round : List Attempt) (more more' : List (List Attempt)) (b : Bool) → changed round ≡ b → Settled (round ∷ (if b then more else []))
-        → (Settled more → more' ≡ more) → (if b then more' else []) ≡ (if b then more else [])
+    go : (round : List Attempt) (more more' : List (List Attempt)) (b : Bool) → changed round ≡ b → Settled (round ∷ (when b then more else []))
+        → (Settled more → more' ≡ more) → (when b then more' else []) ≡ (when b then more else [])
     go round more more' true e s h = h (settled-rest round more e s)
     go round more more' false e s h = refl
 
@@ -112,7 +110,7 @@ no_byte rules input e = ap write (nothing_left rules input e).left
 
 -- a round that runs only if the one before it changed something
 unfoldable pub next_round : Rules → List Attempt → Listing → List Attempt
-next_round rules before lines = if changed before then propagate_once rules lines else []
+next_round rules before lines = when changed before then propagate_once rules lines else []
 
 pub record Before112 : Type 0 where
   pub first : List Attempt
@@ -153,8 +151,8 @@ record AreThree (lines : Listing) (rounds : List (List Attempt)) (a b c : List A
 module _ (rules : Rules) (lines : Listing) where
   last_of-three : (a b : List Attempt) (h : Bool)
       → let l = after_attempts (after_attempts lines a) b in
-      AreThree lines (a ∷ b ∷ (if h then rounds_from rules 1 l else [])) a b (if h then propagate_once rules l else [])
-  unfolding if◌then◌else◌ rounds_from flatten after_rounds attempts_in after_attempts
+      AreThree lines (a ∷ b ∷ (when h then rounds_from rules 1 l else [])) a b (when h then propagate_once rules l else [])
+  unfolding when◌then◌else◌ rounds_from flatten after_rounds attempts_in after_attempts
   last_of-three a b true =
       let l : Listing = after_attempts (after_attempts lines a) b in
       let c : List Attempt = propagate_once rules l in
@@ -165,9 +163,9 @@ module _ (rules : Rules) (lines : Listing) where
 
   last_two_of-three : (a : List Attempt) (h : Bool)
       → let l = after_attempts lines a in
-      let b = if h then propagate_once rules l else [] in
-      AreThree lines (a ∷ (if h then rounds_from rules 2 l else [])) a b (next_round rules b (after_attempts l b))
-  unfolding if◌then◌else◌ rounds_from flatten after_rounds attempts_in after_attempts next_round changed
+      let b = when h then propagate_once rules l else [] in
+      AreThree lines (a ∷ (when h then rounds_from rules 2 l else [])) a b (next_round rules b (after_attempts l b))
+  unfolding when◌then◌else◌ rounds_from flatten after_rounds attempts_in after_attempts next_round changed
   last_two_of-three a true =
       let b : List Attempt = propagate_once rules (after_attempts lines a) in
       last_of-three a b (changed b)
@@ -178,11 +176,11 @@ module _ (rules : Rules) (lines : Listing) where
   are-three = last_two_of-three (propagate_once rules lines) (changed (propagate_once rules lines))
 
 removals_append : (xs ys : List Attempt) → removals (xs ++ ys) ≡ removals xs + removals ys
-unfolding removals if◌then◌else◌
+unfolding removals when◌then◌else◌
 removals_append [] ys = omega arith
 removals_append (a ∷ xs) ys = go a.removed (removals (xs ++ ys)) (removals xs) (removals ys) (removals_append xs ys)
   where
-    go : (b : Bool) (m n k : ℕ) → m ≡ n + k → (if b then suc m else m) ≡ (if b then suc n else n) + k
+    go : (b : Bool) (m n k : ℕ) → m ≡ n + k → (when b then suc m else m) ≡ (when b then suc n else n) + k
     go true m n k e = omega arith
     go false m n k e = e
 
@@ -216,7 +214,7 @@ module _ (rules : Rules) (lines : Listing) (off : rules.settle ≡ false) where
       ap removals t.all
       ∙ removals_append (before.first ++ before.second) before.third
       ∙ ap (λ (n : ℕ). n + removals before.third) (removals_append before.first before.second) in
-      let tally : (if rules.settle
+      let tally : (when rules.settle
       then settled (length rounds) (length (flatten rounds))
       else three (attempts_in 0 rounds) (attempts_in 1 rounds) (attempts_in 2 rounds))
       ≡ three (length before.first) (length before.second) (length before.third) =

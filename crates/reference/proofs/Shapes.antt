@@ -9,9 +9,9 @@ use mathlib.Core.Option.{Option, some}
 use lib.Dec.{eqb}
 use lib.IntN.{ℤ, pos, negsuc}
 use lib.ListN.{length, take, drop}
-use Rattle.reference.specs.Control.{◌&&◌, ◌||◌}
+use Rattle.reference.specs.Control.{◌and◌, ◌or◌}
 use Rattle.reference.specs.Lists.{position, is_empty}
-use Rattle.reference.specs.Text.{Text, bytes, ◌==◌, starts_with, ends_with}
+use Rattle.reference.specs.Text.{Text, bytes, ◌≟◌, starts_with, ends_with}
 use Rattle.reference.specs.Listing.{Token, token, is, Register, Number, Punct, Plain, Listing, ◌at◌}
 use Rattle.reference.specs.Names.{fam_of, of_family}
 use Rattle.reference.specs.Numbers.{joins, folded, digits, digit_byte, show, show_natural}
@@ -45,14 +45,14 @@ family-register fam t e = (if_some (some-true e).1).0
 
 -- ---- texts
 
-pub same_text : (s t : Text) → (s == t) ≡ true → s ≡ t
+pub same_text : (s t : Text) → (s ≟ t) ≡ true → s ≡ t
 same_text [] [] e = refl
 same_text [] (y ∷ ys) e = absurd (false≢true e)
 same_text (x ∷ xs) [] e = absurd (false≢true e)
 same_text (x ∷ xs) (y ∷ ys) e = let h = both e in λ i. same_number {m = x} {n = y} h.0 i ∷ same_text xs ys h.1 i
 
 -- how a text begins that is a known one
-pub starts_as : (s t p : Text) (b : Bool) → starts_with t p ≡ b → (s == t) ≡ true → starts_with s p ≡ b
+pub starts_as : (s t p : Text) (b : Bool) → starts_with t p ≡ b → (s ≟ t) ≡ true → starts_with s p ≡ b
 starts_as s t p b h e = rw (same_text s t e) h
 
 pub starts_with_length : (s t : Text) → starts_with s t ≡ true → length t ≤ length s
@@ -84,7 +84,7 @@ show-length (negsuc n) = omega (arith, natural_length (suc n))
 pub record Folds (a b c n : Token) : Type 0 where
   pub first : is Number a ≡ true
   pub last : is Number c ≡ true
-  pub sign : ((b.text == bytes " + ") || (b.text == bytes " - ")) ≡ true
+  pub sign : ((b.text ≟ bytes " + ") or (b.text ≟ bytes " - ")) ≡ true
   pub made : is Number n ≡ true
   pub small : size n ≤ 19
 
@@ -149,7 +149,7 @@ unfolding label_tokens
 assigning-plain (assigning {lhs = x} {eq = y} {rest = rest} r p s c) = go rest
   where
     go : (rest : List Token) → label_tokens (x ∷ y ∷ rest) ≡ false
-    go [] = fails (λ h. true-false s (starts_as y.text (bytes ":") (bytes " = ") false (unfold ◌&&◌ in refl) (both h).0))
+    go [] = fails (λ h. true-false s (starts_as y.text (bytes ":") (bytes " = ") false (unfold ◌and◌ in refl) (both h).0))
     go (z ∷ zs) = refl
 
 -- it stands inside the listing

@@ -6,12 +6,12 @@ use mathlib.Core.Path.{◌≡◌, refl, sym, ap, ◌∙◌}
 use mathlib.Core.Bool.{Bool, true, false}
 use mathlib.Core.List.{List, [], ◌∷◌, ◌++◌}
 use mathlib.Core.Option.{none, some}
-use lib.Dec.{eqb, ltb}
+use lib.Dec.{eqb}
 use lib.ListN.{length, get_or}
 use borrow.Author.Tests.{eq-eqb, ne_eqb, eqb-true, eqb-false, ltb-true, ltb-false}
-use Rattle.reference.specs.Control.{◌||◌, if◌then◌else◌}
+use Rattle.reference.specs.Control.{◌or◌, when◌then◌else◌}
 use Rattle.reference.specs.Lists.{any, remove, modify}
-use Rattle.reference.specs.Spans.{Span, Marks, point, hull, span_of}
+use Rattle.reference.specs.Spans.{Marks, point, hull, span_of}
 use Rattle.reference.specs.Marks.{moved, take_in}
 use Rattle.reference.proofs.Cases.{by-if}
 use Rattle.reference.proofs.Lines.{length-modify}
@@ -98,14 +98,14 @@ span_covers (x ∷ xs) = (covers_left (point x) (span_of xs) x (le_refl x, le_re
 -- all marks together of the places that P picks out
 abbrev pub hull_of : (ℕ → Bool) → List Marks → Marks
 hull_of P [] = none
-hull_of P (m ∷ ms) = hull (if P 0 then m else none) (hull_of (λ p. P (suc p)) ms)
+hull_of P (m ∷ ms) = hull (when P 0 then m else none) (hull_of (λ p. P (suc p)) ms)
 
 pub hull_of_ext : (P Q : ℕ → Bool) → ((p : ℕ) → P p ≡ Q p) → (ms : List Marks) → hull_of P ms ≡ hull_of Q ms
 hull_of_ext P Q h [] = refl
 hull_of_ext P Q h (m ∷ ms) = rw (h 0, hull_of_ext (λ p. P (suc p)) (λ p. Q (suc p)) (λ p. h (suc p)) ms)
 
 hull_of_none : (P : ℕ → Bool) → ((p : ℕ) → P p ≡ false) → (ms : List Marks) → hull_of P ms ≡ none
-unfolding hull if◌then◌else◌
+unfolding hull when◌then◌else◌
 hull_of_none P h [] = refl
 hull_of_none P h (m ∷ ms) = rw (h 0, hull_of_none (λ p. P (suc p)) (λ p. h (suc p)) ms)
 
@@ -122,7 +122,7 @@ eqb-suc p q = eqb_same (suc p) (suc q) p q (λ e. omega arith) (λ e. omega arit
 
 -- one place
 pub hull_of_one : (q : ℕ) (ms : List Marks) → hull_of (λ p. eqb p q) ms ≡ get_or ms q none
-unfolding if◌then◌else◌ hull
+unfolding when◌then◌else◌ hull
 hull_of_one q [] = refl
 hull_of_one zero (m ∷ ms) = rw (hull_of_none (λ p. eqb (suc p) zero) (λ p. ne_eqb (suc p) zero (λ e. omega arith)) ms) (hull_none m)
 hull_of_one (suc q) (m ∷ ms) =
@@ -130,37 +130,37 @@ hull_of_one (suc q) (m ∷ ms) =
 
 -- one place changed
 hull_of-modify : (P : ℕ → Bool) (m : Marks) (j : ℕ) (ms : List Marks) → j < length ms
-    → hull_of P (modify j (λ n. hull n m) ms) ≡ hull (hull_of P ms) (if P j then m else none)
+    → hull_of P (modify j (λ n. hull n m) ms) ≡ hull (hull_of P ms) (when P j then m else none)
 hull_of-modify P m j [] h = absurd (omega arith)
 hull_of-modify P m zero (n ∷ ms) h = go (P 0) (hull_of (λ p. P (suc p)) ms)
   where
-    go : (b : Bool) (k : Marks) → hull (if b then hull n m else none) k ≡ hull (hull (if b then n else none) k) (if b then m else none)
-    go true k = unfold if◌then◌else◌ in hull_swap n m k
-    go false k = unfold if◌then◌else◌ in sym (hull_none (hull none k))
+    go : (b : Bool) (k : Marks) → hull (when b then hull n m else none) k ≡ hull (hull (when b then n else none) k) (when b then m else none)
+    go true k = unfold when◌then◌else◌ in hull_swap n m k
+    go false k = unfold when◌then◌else◌ in sym (hull_none (hull none k))
 hull_of-modify P m (suc j) (n ∷ ms) h =
-    ap (hull (if P 0 then n else none)) (hull_of-modify (λ p. P (suc p)) m j ms (omega arith))
-    ∙ sym (hull_assoc (if P 0 then n else none) (hull_of (λ p. P (suc p)) ms) (if P (suc j) then m else none))
+    ap (hull (when P 0 then n else none)) (hull_of-modify (λ p. P (suc p)) m j ms (omega arith))
+    ∙ sym (hull_assoc (when P 0 then n else none) (hull_of (λ p. P (suc p)) ms) (when P (suc j) then m else none))
 
 -- several places changed
 module _ (P : ℕ → Bool) (m : Marks) where
   pub hull_of-take_in : (js : List ℕ) (ms : List Marks) → All (λ j. j < length ms) js
-      → hull_of P (take_in m js ms) ≡ hull (hull_of P ms) (if any P js then m else none)
+      → hull_of P (take_in m js ms) ≡ hull (hull_of P ms) (when any P js then m else none)
   unfolding take_in
-  hull_of-take_in [] ms h = unfold if◌then◌else◌ in sym (hull_none (hull_of P ms))
+  hull_of-take_in [] ms h = unfold when◌then◌else◌ in sym (hull_none (hull_of P ms))
   hull_of-take_in (j ∷ js) ms h =
       let ms' : List Marks = modify j (λ n. hull n m) ms in
       hull_of-take_in js ms' (still js h.1)
-      ∙ ap (λ (k : Marks). hull k (if any P js then m else none)) (hull_of-modify P m j ms h.0)
+      ∙ ap (λ (k : Marks). hull k (when any P js then m else none)) (hull_of-modify P m j ms h.0)
       ∙ once (P j) (any P js) (hull_of P ms)
     where
       still : (ks : List ℕ) → All (λ k. k < length ms) ks → All (λ k. k < length (modify j (λ n. hull n m) ms)) ks
       still [] h = tt
       still (k ∷ ks) h = (rw (length-modify (λ n. hull n m) j ms) h.0, still ks h.1)
 
-      once : (b c : Bool) (k : Marks) → hull (hull k (if b then m else none)) (if c then m else none) ≡ hull k (if b || c then m else none)
-      once true true k = unfold if◌then◌else◌ ◌||◌ in hull_assoc k m m ∙ ap (hull k) (hull_same m)
-      once true false k = unfold if◌then◌else◌ ◌||◌ in hull_none (hull k m)
-      once false c k = unfold if◌then◌else◌ ◌||◌ in ap (λ (x : Marks). hull x (if c then m else none)) (hull_none k)
+      once : (b c : Bool) (k : Marks) → hull (hull k (when b then m else none)) (when c then m else none) ≡ hull k (when b or c then m else none)
+      once true true k = unfold when◌then◌else◌ ◌or◌ in hull_assoc k m m ∙ ap (hull k) (hull_same m)
+      once true false k = unfold when◌then◌else◌ ◌or◌ in hull_none (hull k m)
+      once false c k = unfold when◌then◌else◌ ◌or◌ in ap (λ (x : Marks). hull x (when c then m else none)) (hull_none k)
 
 -- ---- a place removed
 
@@ -181,7 +181,7 @@ moved-suc i p n =
 
 -- P, but not at the place i
 abbrev pub but : ℕ → (ℕ → Bool) → ℕ → Bool
-but i P p = if eqb p i then false else P p
+but i P p = when eqb p i then false else P p
 
 module _ (i : ℕ) (P : ℕ → Bool) where
   pub but_there : (p : ℕ) → p ≡ i → but i P p ≡ false
@@ -198,20 +198,20 @@ module _ (i : ℕ) (P : ℕ → Bool) where
       (λ e. h p (eqb-false p i e) ∙ sym (by-if (λ (b : Bool). b ≡ Q p) (λ f. absurd (eqb-false p i e (eqb-true p i f))) (λ f. refl)))
 
 but_suc : (i : ℕ) (P : ℕ → Bool) (p : ℕ) → but (suc i) P (suc p) ≡ but i (λ p. P (suc p)) p
-but_suc i P p = ap (λ (b : Bool). if b then false else P (suc p)) (eqb-suc p i)
+but_suc i P p = ap (λ (b : Bool). when b then false else P (suc p)) (eqb-suc p i)
 
 pub hull_of-remove : (i : ℕ) (P : ℕ → Bool) (ms : List Marks) → hull_of P (remove i ms) ≡ hull_of (but i (λ p. P (moved i p))) ms
 hull_of-remove i P [] = refl
 hull_of-remove zero P (m ∷ ms) =
-    sym (rw (but_there 0 (λ p. P (moved 0 p)) 0 refl, hull_of_ext (λ p. but 0 (λ p. P (moved 0 p)) (suc p)) P after ms) (unfold if◌then◌else◌ hull in refl))
+    sym (rw (but_there 0 (λ p. P (moved 0 p)) 0 refl, hull_of_ext (λ p. but 0 (λ p. P (moved 0 p)) (suc p)) P after ms) (unfold when◌then◌else◌ hull in refl))
   where
     after : (p : ℕ) → but 0 (λ p. P (moved 0 p)) (suc p) ≡ P p
     after p =
         let z : pred (suc p) ≡ p = omega arith in
         but_elsewhere 0 (λ p. P (moved 0 p)) (suc p) (λ e. omega arith) ∙ ap P (moved-above 0 (suc p) (omega arith) ∙ z)
 hull_of-remove (suc i) P (m ∷ ms) =
-    ap (hull (if P 0 then m else none)) (hull_of-remove i (λ p. P (suc p)) ms ∙ hull_of_ext _ _ (λ p. sym (after p)) ms)
-    ∙ ap (λ (b : Bool). hull (if b then m else none) (hull_of (λ p. but (suc i) (λ p. P (moved (suc i) p)) (suc p)) ms)) (sym first)
+    ap (hull (when P 0 then m else none)) (hull_of-remove i (λ p. P (suc p)) ms ∙ hull_of_ext _ _ (λ p. sym (after p)) ms)
+    ∙ ap (λ (b : Bool). hull (when b then m else none) (hull_of (λ p. but (suc i) (λ p. P (moved (suc i) p)) (suc p)) ms)) (sym first)
   where
     first : but (suc i) (λ p. P (moved (suc i) p)) 0 ≡ P 0
     first = but_elsewhere (suc i) (λ p. P (moved (suc i) p)) 0 (λ e. omega arith) ∙ ap P (moved-below (suc i) 0 (omega arith))
@@ -223,13 +223,13 @@ hull_of-remove (suc i) P (m ∷ ms) =
 
 -- one place taken by itself
 pub hull_of-split : (i : ℕ) (P : ℕ → Bool) (ms : List Marks) → i < length ms
-    → hull_of P ms ≡ hull (hull_of (but i P) ms) (if P i then get_or ms i none else none)
+    → hull_of P ms ≡ hull (hull_of (but i P) ms) (when P i then get_or ms i none else none)
 hull_of-split i P [] h = absurd (omega arith)
 hull_of-split zero P (m ∷ ms) h =
-    hull_comm (if P 0 then m else none) (hull_of (λ p. P (suc p)) ms)
-    ∙ sym (ap (λ (k : Marks). hull k (if P 0 then m else none))
-    (rw (but_there 0 P 0 refl, hull_of_ext (λ p. but 0 P (suc p)) (λ p. P (suc p)) (λ p. but_elsewhere 0 P (suc p) (λ e. omega arith)) ms) (unfold if◌then◌else◌ hull in refl)))
+    hull_comm (when P 0 then m else none) (hull_of (λ p. P (suc p)) ms)
+    ∙ sym (ap (λ (k : Marks). hull k (when P 0 then m else none))
+    (rw (but_there 0 P 0 refl, hull_of_ext (λ p. but 0 P (suc p)) (λ p. P (suc p)) (λ p. but_elsewhere 0 P (suc p) (λ e. omega arith)) ms) (unfold when◌then◌else◌ hull in refl)))
 hull_of-split (suc i) P (m ∷ ms) h =
-    ap (hull (if P 0 then m else none)) (hull_of-split i (λ p. P (suc p)) ms (omega arith) ∙ ap (λ (k : Marks). hull k (if P (suc i) then get_or ms i none else none)) (hull_of_ext _ _ (λ p. sym (but_suc i P p)) ms))
-    ∙ sym (hull_assoc (if P 0 then m else none) (hull_of (λ p. but (suc i) P (suc p)) ms) (if P (suc i) then get_or ms i none else none))
-    ∙ ap (λ (b : Bool). hull (hull (if b then m else none) (hull_of (λ p. but (suc i) P (suc p)) ms)) (if P (suc i) then get_or ms i none else none)) (sym (but_elsewhere (suc i) P 0 (λ e. omega arith)))
+    ap (hull (when P 0 then m else none)) (hull_of-split i (λ p. P (suc p)) ms (omega arith) ∙ ap (λ (k : Marks). hull k (when P (suc i) then get_or ms i none else none)) (hull_of_ext _ _ (λ p. sym (but_suc i P p)) ms))
+    ∙ sym (hull_assoc (when P 0 then m else none) (hull_of (λ p. but (suc i) P (suc p)) ms) (when P (suc i) then get_or ms i none else none))
+    ∙ ap (λ (b : Bool). hull (hull (when b then m else none) (hull_of (λ p. but (suc i) P (suc p)) ms)) (when P (suc i) then get_or ms i none else none)) (sym (but_elsewhere (suc i) P 0 (λ e. omega arith)))

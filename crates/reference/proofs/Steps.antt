@@ -1,12 +1,12 @@
 -- Request M-102's first statement: what the step's answer depends on, for any numbers handed in, also such as no tape reaches. Assumes nothing.
-use Prim.Native.Nat.{ℕ, ◌+◌}
+use Prim.Native.Nat.{ℕ}
 use native.Mathlib.Nat.{add-zero}
 use mathlib.Core.Path.{◌≡◌, refl, sym}
 use mathlib.Core.Bool.{Bool, true, false}
 use mathlib.Core.List.{List, [], ◌∷◌}
 use lib.Dec.{eqb}
 use lib.ListN.{drop}
-use Rattle.reference.specs.Control.{if◌then◌else◌}
+use Rattle.reference.specs.Control.{when◌then◌else◌}
 use Rattle.reference.specs.Tape.{TapeForm, old, Command, command_by}
 use Rattle.reference.specs.Questions.{Totals, first_offending, place_at, Passed, ask, Advance, read_command_by, read_command}
 use Rattle.reference.specs.Steps.{AsFar, Same, FromHereBy, FromHere}
@@ -16,7 +16,7 @@ by_test true f g = f refl
 by_test false f g = g refl
 
 place_as_far : (a b : ℕ) (c : Command) (n : ℕ) → AsFar a (place_at a c n) b (place_at b c n)
-unfolding place_at if◌then◌else◌
+unfolding place_at when◌then◌else◌
 place_as_far a b c n =
     by_test (eqb n 7)
     (λ e. rw e (record { distance = first_offending c; first = refl; second = refl }))
@@ -24,7 +24,7 @@ place_as_far a b c n =
 
 ask_same : (a b : ℕ) (c : Command) (qs : List (ℕ × Bool)) (x y : Advance) → Same a (Passed x) b (Passed y)
     → Same a (ask (place_at a c) qs (Passed x)) b (ask (place_at b c) qs (Passed y))
-unfolding ask if◌then◌else◌
+unfolding ask when◌then◌else◌
 ask_same a b c [] x y h = h
 ask_same a b c (q ∷ more) x y h =
     by_test q.1 (λ e. rw e (ask_same a b c more x y h)) (λ e. rw e (refl, place_as_far a b c q.0))

@@ -1,13 +1,12 @@
 -- M-106's profile on small listings, by computation. Assumes nothing.
-use Prim.Native.Nat.{ℕ}
 use Prim.Native.String.{String}
 use mathlib.Core.Path.{◌≡◌, refl}
 use mathlib.Core.Bool.{true, false}
 use mathlib.Core.List.{List, [], ◌∷◌}
-use mathlib.Core.Option.{Option, none, some}
-use Rattle.reference.specs.Control.{if◌then◌else◌}
-use Rattle.reference.specs.Text.{Text, bytes, ◌==◌}
-use Rattle.reference.specs.Listing.{Token, token, Register, Number, Keyword, Symbol, Punct, Line, Listing}
+use mathlib.Core.Option.{none, some}
+use Rattle.reference.specs.Control.{when◌then◌else◌}
+use Rattle.reference.specs.Text.{bytes, ◌≟◌}
+use Rattle.reference.specs.Listing.{Token, token, Register, Number, Keyword, Punct, Line, Listing}
 use Rattle.reference.specs.Rules.{Rules}
 use Rattle.reference.specs.Run.{finished}
 use Rattle.reference.specs.Questions.{WORK, OUTPUT, Refused}
@@ -39,7 +38,7 @@ unprofiled = record { convention = 1; settle = false; edition = 0; parts = false
 
 -- rcx 100, rdx 7, rsi 1, r99 5, the others 11
 abbrev some_store : Store
-some_store x = if x == bytes "rcx" then 100 else if x == bytes "rdx" then 7 else if x == bytes "rsi" then 1 else if x == bytes "r99" then 5 else 11
+some_store x = when x ≟ bytes "rcx" then 100 else when x ≟ bytes "rdx" then 7 else when x ≟ bytes "rsi" then 1 else when x ≟ bytes "r99" then 5 else 11
 
 abbrev ret : List Token → Line
 ret ts = line (K "return" ∷ ts)

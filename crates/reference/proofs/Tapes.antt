@@ -4,7 +4,7 @@ use Prim.Native.Nat.{ℕ, pred, ◌+◌, ◌*◌, ◌<◌, ◌≤◌}
 use native.Mathlib.Omega.{arith}
 use mathlib.Core.Path.{◌≡◌, refl, sym, ap, ◌∙◌}
 use mathlib.Core.Bool.{Bool, true, false, true≢false, false≢true}
-use mathlib.Core.List.{List, [], ◌∷◌, ◌++◌, flat_map, append_assoc}
+use mathlib.Core.List.{List, [], ◌∷◌, ◌++◌, append_assoc}
 use mathlib.Core.Option.{none, some}
 use lib.ListN.{length, drop, take, length-append, length-drop, take-append-drop}
 use lib.Seq.{drop-drop, take_all}
@@ -12,7 +12,7 @@ use borrow.Author.Tests.{leb-true}
 use Rattle.reference.specs.Lists.{is_empty}
 use Rattle.reference.specs.Listing.{Token, Line, Listing, ◌at◌}
 use Rattle.reference.specs.Tape.{TapeForm, old, header, Command, new_line, marked, new_token, end, write_command_by, write_lines_by, write_by, write, command_size_by, command_by}
-use Rattle.reference.specs.Questions.{Totals, has_line, is_within, is_few, is_short, is_printable, is_over, Passed, count_in, is_end, add, read_by, read, add_marks, marks_in_by, marks_in}
+use Rattle.reference.specs.Questions.{has_line, is_within, is_few, is_short, is_printable, is_over, Passed, count_in, is_end, add, read_by, read, add_marks, marks_in_by, marks_in}
 use Rattle.reference.specs.Claim.{sum, size, token_count, text_in, text}
 use Rattle.reference.proofs.Cases.{both, either, not-true, true-false}
 use Rattle.reference.proofs.Weights.{sum-append}

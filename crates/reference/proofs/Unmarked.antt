@@ -2,17 +2,16 @@
 use Prim.Native.Nat.{ℕ, zero, suc, ◌+◌, ◌≤◌, ◌<◌, ◌^◌}
 use native.Mathlib.Omega.{arith}
 use mathlib.Core.Path.{◌≡◌, refl, sym, ap, ◌∙◌}
-use mathlib.Core.Bool.{true, false}
 use mathlib.Core.List.{List, [], ◌∷◌, ◌++◌, flat_map, append_assoc, append-nil}
 use mathlib.Core.Option.{none, some}
 use lib.Dec.{eqb}
 use lib.ListN.{length, get_or, take, drop, length-append, length-drop}
 use lib.Seq.{take-append_seam, drop-append_seam}
 use borrow.Author.Tests.{ne_eqb}
-use Rattle.reference.specs.Control.{if◌then◌else◌}
+use Rattle.reference.specs.Control.{when◌then◌else◌}
 use Rattle.reference.specs.Listing.{Token, Line, Listing}
-use Rattle.reference.specs.Spans.{Span, Marks}
-use Rattle.reference.specs.Tape.{Command, new_line, marked, new_token, end, write_command, write_marks, write_line, write_lines, write, command_size, unmarked_from, unmarked, command_size_by, write_by, write_command_by, write_line_by, write_lines_by, write_marks_by}
+use Rattle.reference.specs.Spans.{Marks}
+use Rattle.reference.specs.Tape.{old, Command, new_line, marked, new_token, end, write_command, write_marks, write_line, write_lines, write, command_size, unmarked_from, unmarked, command_size_by, write_by, write_command_by, write_line_by, write_lines_by, write_marks_by}
 use Rattle.reference.proofs.Cases.{by-if}
 use Rattle.reference.proofs.Commands.{AddressFits, SpanFits, Writable, read_of-write}
 use Rattle.reference.proofs.Limits.{All}
@@ -36,7 +35,7 @@ take-nothing zero = refl
 take-nothing (suc n) = refl
 
 nothing : (f : ℕ) → unmarked_from f [] ≡ []
-unfolding unmarked_from if◌then◌else◌
+unfolding unmarked_from when◌then◌else◌
 nothing zero = refl
 nothing (suc f) = rw (take-nothing (command_size []), drop-nothing (command_size [])) (nothing f)
 
@@ -62,8 +61,8 @@ kept (new_token t) = write_command (new_token t)
 kept end = write_command end
 
 left_out : (c : Command) (post : List ℕ) → Writable c
-    → (if eqb (get_or (write_command c ++ post) 0 0) 0x03 then unmarked post else write_command c ++ unmarked post) ≡ kept c ++ unmarked post
-unfolding write_command_by if◌then◌else◌
+    → (when eqb (get_or (write_command c ++ post) 0 0) 0x03 then unmarked post else write_command c ++ unmarked post) ≡ kept c ++ unmarked post
+unfolding write_command_by when◌then◌else◌
 left_out (new_line (some address) indent) post w = refl
 left_out (new_line none indent) post w = refl
 left_out (marked s) post w = refl
@@ -82,7 +81,7 @@ step : (f : ℕ) (c : Command) (post : List ℕ) → Writable c → length post 
     → unmarked_from (suc f) (write_command c ++ post) ≡ kept c ++ unmarked post
 unfolding unmarked_from unmarked
 step f c post w h =
-    let b = read_of-write c post w in
+    let b = read_of-write {form = old} c post w in
     rw (b.size, take-append_seam (write_command c) post, drop-append_seam (write_command c) post, enough f (length post) post h (omega arith)) (left_out c post w)
 
 over-command : (c : Command) (post : List ℕ) → Writable c → unmarked (write_command c ++ post) ≡ kept c ++ unmarked post

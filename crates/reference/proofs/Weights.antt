@@ -9,7 +9,7 @@ use mathlib.Core.Bool.{Bool, true, false, false≢true}
 use mathlib.Core.List.{List, [], ◌∷◌, ◌++◌, drop_last}
 use mathlib.Core.Option.{Option, none, some}
 use lib.ListN.{length, take, drop, length-append, length-drop}
-use Rattle.reference.specs.Control.{if◌then◌else◌}
+use Rattle.reference.specs.Control.{when◌then◌else◌}
 use Rattle.reference.specs.Lists.{position}
 use Rattle.reference.specs.Text.{Text, bytes}
 use Rattle.reference.specs.Listing.{Token, token, is, Register, Number, Punct, Listing}
@@ -36,7 +36,7 @@ pub record Weight : Type 0 where
   laws : Laws number other
 
 unfoldable pub weigh : Weight → Token → ℕ
-weigh w t = if is Number t then w.number (size t) else w.other (size t)
+weigh w t = when is Number t then w.number (size t) else w.other (size t)
 
 abbrev pub weight : Weight → List Token → ℕ
 weight w = sum (weigh w)
@@ -57,19 +57,19 @@ dropLast_length [] = omega arith
 dropLast_length (x ∷ []) = omega arith
 dropLast_length (x ∷ y ∷ ys) = omega (arith, dropLast_length (y ∷ ys))
 
-if_le : (b : Bool) {m m' n n' : ℕ} → m ≤ n → m' ≤ n' → (if b then m else m') ≤ (if b then n else n')
-unfolding if◌then◌else◌
+if_le : (b : Bool) {m m' n n' : ℕ} → m ≤ n → m' ≤ n' → (when b then m else m') ≤ (when b then n else n')
+unfolding when◌then◌else◌
 if_le true h k = h
 if_le false h k = k
 
 module _ (w : Weight) where
   pub weigh_number : (t : Token) → is Number t ≡ true → weigh w t ≡ w.number (size t)
-  unfolding weigh if◌then◌else◌
-  weigh_number t e = rw (e, if◌then◌else◌)
+  unfolding weigh when◌then◌else◌
+  weigh_number t e = rw (e, when◌then◌else◌)
 
   pub weigh_other : (t : Token) → is Number t ≡ false → weigh w t ≡ w.other (size t)
-  unfolding weigh if◌then◌else◌
-  weigh_other t e = rw (e, if◌then◌else◌)
+  unfolding weigh when◌then◌else◌
+  weigh_other t e = rw (e, when◌then◌else◌)
 
   weigh_register : (t : Token) → is Register t ≡ true → weigh w t ≡ w.other (size t)
   weigh_register t e = weigh_other t (other_kind Register Number t refl e)
@@ -233,11 +233,11 @@ plain_text = sum-le (λ l. sum-le (λ t. by-if (λ (n : ℕ). n ≤ size t) (λ 
 
 -- text by the weights
 pub text_le : (lines : Listing) → text lines ≤ total plain lines + total excess lines + 24 * token_count lines
-unfolding weigh if◌then◌else◌
+unfolding weigh when◌then◌else◌
 text_le [] = omega arith
 text_le (l ∷ ls) = omega (arith, text_le ls, tokens l.tokens)
   where
-    one : (n : ℕ) (b : Bool) → n ≤ (if b then 0 else n) + (if b then n - 24 else 0) + 24
+    one : (n : ℕ) (b : Bool) → n ≤ (when b then 0 else n) + (when b then n - 24 else 0) + 24
     one n true = omega arith
     one n false = omega arith
 

@@ -9,7 +9,7 @@ use mathlib.Core.Option.{Option, none, some}
 use lib.ListN.{length, drop, length-append}
 use lib.Seq.{drop-drop, drop-append_seam, append_snoc}
 use borrow.Author.Tests.{le-leb}
-use Rattle.reference.specs.Control.{not, ◌||◌}
+use Rattle.reference.specs.Control.{not, ◌or◌}
 use Rattle.reference.specs.Listing.{Token, Line, Listing, with_tokens}
 use Rattle.reference.specs.Spans.{Marks}
 use Rattle.reference.specs.Tape.{TapeForm, old, header, Command, new_line, marked, new_token, end, write_command_by, write_marks_by, write_line_by, write_lines_by, write_by, write, command_size_by}
@@ -24,8 +24,8 @@ use Rattle.reference.proofs.Tapes.{totals-so_far}
 
 -- ---- tests that pass
 
-implied : (a b : Bool) → (a ≡ true → b ≡ true) → (not a || b) ≡ true
-unfolding not ◌||◌
+implied : (a b : Bool) → (a ≡ true → b ≡ true) → (not a or b) ≡ true
+unfolding not ◌or◌
 implied true b h = h refl
 implied false b h = refl
 

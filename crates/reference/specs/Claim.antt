@@ -2,8 +2,8 @@
 -- Assumes nothing.
 use Rattle.std.specs.Prelude.{ℕ, ◌+◌, Bool, false, List, [], ◌∷◌, map, length}
 use Rattle.std.proofs.Math.Option.{Option, none, some}
-use Rattle.reference.specs.Control.{◌&&◌, if◌then◌else◌}
-use Rattle.reference.specs.Text.{Text, bytes, ◌==◌, starts_with}
+use Rattle.reference.specs.Control.{◌and◌, when◌then◌else◌}
+use Rattle.reference.specs.Text.{Text, bytes, ◌≟◌, starts_with}
 use Rattle.reference.specs.Listing.{Token, is, Keyword, Symbol, Punct, Line, Listing}
 use Rattle.reference.specs.Shapes.{is_label}
 
@@ -13,7 +13,7 @@ module _ {ℓ} {A : Type ℓ} where
   sum f (x ∷ xs) = f x + sum f xs
 
 abbrev pub one_if : Bool → ℕ
-one_if b = if b then 1 else 0
+one_if b = when b then 1 else 0
 
 -- ---- tokens and text
 
@@ -40,13 +40,13 @@ Callee = Option Text
 -- whether the tokens after a token begin with "P beginning `(`"
 unfoldable pub opens : List Token → Bool
 opens [] = false
-opens (t ∷ ts) = is Punct t && starts_with t.text (bytes "(")
+opens (t ∷ ts) = is Punct t and starts_with t.text (bytes "(")
 
 -- Whether the token is a call mark of the callee; `o` says whether the token after it opens a bracket. "Call mark: S before P beginning
 -- `(`, or K beginning `((void`"; for demand 3 the K counts "followed or not".
 unfoldable pub is_call_mark : Callee → Token → Bool → Bool
-is_call_mark none t o = is Keyword t && starts_with t.text (bytes "((void")
-is_call_mark (some name) t o = is Symbol t && (t.text == name) && o
+is_call_mark none t o = is Keyword t and starts_with t.text (bytes "((void")
+is_call_mark (some name) t o = is Symbol t and (t.text ≟ name) and o
 
 unfoldable pub calls_in : Callee → List Token → ℕ
 calls_in c [] = 0
@@ -71,4 +71,4 @@ pairs_of = map pair_of
 -- "Label lines: the input's lines that are labels, equal ones included, with address, indent and tokens"
 unfoldable pub label_lines : Listing → Listing
 label_lines [] = []
-label_lines (l ∷ ls) = let r = label_lines ls in if is_label l then l ∷ r else r
+label_lines (l ∷ ls) = let r = label_lines ls in when is_label l then l ∷ r else r

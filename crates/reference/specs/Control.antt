@@ -3,26 +3,26 @@
 use Rattle.std.specs.Prelude.{Bool, true, false}
 use Rattle.std.proofs.Math.Option.{Option, none, some}
 
-infixr 35 ◌&&◌
-infixr 30 ◌||◌
+infixr 35 ◌and◌
+infixr 30 ◌or◌
 unfoldable pub not : Bool → Bool
 not true = false
 not false = true
 
-unfoldable pub ◌&&◌ : Bool → Bool → Bool
-true && b = b
-false && b = false
+unfoldable pub ◌and◌ : Bool → Bool → Bool
+true and b = b
+false and b = false
 
-unfoldable pub ◌||◌ : Bool → Bool → Bool
-true || b = true
-false || b = b
+unfoldable pub ◌or◌ : Bool → Bool → Bool
+true or b = true
+false or b = b
 
 module _ {ℓ} {A : Type ℓ} where
-  infixr 1 if◌then◌else◌
+  infixr 1 when◌then◌else◌
   -- A branch that calls the function itself is bound by a `let` first, so that it is computed only if it is taken.
-  unfoldable pub if◌then◌else◌ : Bool → A → A → A
-  if true then a else b = a
-  if false then a else b = b
+  unfoldable pub when◌then◌else◌ : Bool → A → A → A
+  when true then a else b = a
+  when false then a else b = b
 
 -- `let Some(x) = o else { return d; }; k`
 module _ {ℓ κ} {A : Type ℓ} {B : Type κ} where

@@ -13,7 +13,7 @@
 use Rattle.std.specs.Prelude.{ℕ, suc, pred, ◌+◌, ◌≤◌, ◌<◌, ◌≡◌, true, false, ltb, length, drop}
 use mathlib.Core.List.{List, [], ◌∷◌, ◌++◌, Sublistᴰ}
 use Rattle.std.proofs.Math.Option.{none, some}
-use Rattle.reference.specs.Control.{◌&&◌}
+use Rattle.reference.specs.Control.{◌and◌}
 use Rattle.reference.specs.Lists.{any, remove, modify}
 use Rattle.reference.specs.Text.{Text}
 use Rattle.reference.specs.Listing.{is, Number, Listing, ◌at◌, with_tokens}
@@ -31,7 +31,7 @@ use Rattle.reference.specs.Claim.{size, Callee, calls, token_count, text, pairs_
 pub record Accepted (lines : Listing) : Type 0 where
   pub tokens_fit : token_count lines ≤ 1024
   pub text_fits : text lines ≤ 24576
-  pub numbers_fit : any (λ l. any (λ t. is Number t && ltb 24 (size t)) l.tokens) lines ≡ false
+  pub numbers_fit : any (λ l. any (λ t. is Number t and ltb 24 (size t)) l.tokens) lines ≡ false
 
 -- ---- (1) the run: "the input, then the one after each attempt of every round in turn, failed attempts included, then the one after each
 -- cut". The definitions make it (`run`, `listings`); here it is said of what they make, with no bound on the attempts.

@@ -3,9 +3,9 @@
 -- nothing.
 use Rattle.std.specs.Prelude.{ℕ, zero, suc, ◌+◌, ◌-◌, ◌%◌, ◌^◌, Bool, List, [], ◌∷◌, ◌++◌, map, leb, eqb, ℤ, pos, negsuc, length}
 use Rattle.std.proofs.Math.Option.{Option, none, some}
-use Rattle.reference.specs.Control.{not, ◌&&◌, ◌||◌, if◌then◌else◌, let_some◌else◌then◌}
+use Rattle.reference.specs.Control.{not, ◌and◌, ◌or◌, when◌then◌else◌, let_some◌else◌then◌}
 use Rattle.reference.specs.Lists.{count, is_empty}
-use Rattle.reference.specs.Text.{Text, bytes, ◌==◌, starts_with, strip_prefix, contains}
+use Rattle.reference.specs.Text.{Text, bytes, ◌≟◌, starts_with, strip_prefix, contains}
 use Rattle.reference.specs.Listing.{Token, is, Number, Punct}
 use Rattle.reference.specs.Names.{fam_of}
 use Rattle.reference.specs.Numbers.{parse_c_number}
@@ -42,19 +42,19 @@ Store = Text → ℕ
 unfoldable pub wide : Token → Option Text
 wide t =
     let_some (fam_of t) else none then λ f.
-    if eqb f.width 64 && not (starts_with t.text (bytes "var_")) then some f.name else none
+    when eqb f.width 64 and not (starts_with t.text (bytes "var_")) then some f.name else none
 
 -- "Numbers have no plus, at most one minus, no leading zero in decimal except `0`"; 43 is the plus, 45 the minus
 unfoldable pub is_tidy : Text → Bool
 is_tidy s =
     let s' : Text = let_some (strip_prefix (bytes "-") s) else s then λ r. r in
     not (contains s 43)
-    && leb (count (eqb 45) s) 1
-    && (starts_with s' (bytes "0x") || not (starts_with s' (bytes "0")) || (s' == bytes "0"))
+    and leb (count (eqb 45) s) 1
+    and (starts_with s' (bytes "0x") or not (starts_with s' (bytes "0")) or (s' ≟ bytes "0"))
 
 -- "and must be read by edition 0", whatever edition the call has
 unfoldable pub number_of : Token → Option ℤ
-number_of t = if is Number t && is_tidy t.text then parse_c_number t.text else none
+number_of t = when is Number t and is_tidy t.text then parse_c_number t.text else none
 
 -- ---- what a line is read as
 
@@ -67,7 +67,7 @@ pub data Lexeme : Type 0 where
 
 unfoldable pub lexemes_of : Token → List Lexeme
 lexemes_of t =
-    if is Punct t then map sign t.text
+    when is Punct t then map sign t.text
     else let_some (wide t) else (let_some (number_of t) else (junk ∷ []) then λ z. num z ∷ []) then λ x. reg x ∷ []
 
 unfoldable pub lexemes : List Token → List Lexeme
@@ -78,7 +78,7 @@ lexemes (t ∷ ts) = lexemes_of t ++ lexemes ts
 unfoldable pub behind : Text → List Lexeme → Option (List Lexeme)
 behind [] xs = some xs
 behind (c ∷ cs) [] = none
-behind (c ∷ cs) (sign b ∷ xs) = let r = behind cs xs in if eqb b c then r else none
+behind (c ∷ cs) (sign b ∷ xs) = let r = behind cs xs in when eqb b c then r else none
 behind (c ∷ cs) (reg x ∷ xs) = none
 behind (c ∷ cs) (num z ∷ xs) = none
 behind (c ∷ cs) (junk ∷ xs) = none
@@ -123,7 +123,7 @@ module _ {X : Type 0} (a : Arithmetic X) where
           let inner : Option (X × List Lexeme) =
           let_some (expression fuel xs) else none then λ r.
           let_some (behind (bytes ")") r.1) else none then λ rest. some (r.0, rest) in
-          if eqb c 40 then inner else none
+          when eqb c 40 then inner else none
 
       -- the terms behind the sum v, "left to right"
       pub further : ℕ → X → List Lexeme → Option (X × List Lexeme)
@@ -138,4 +138,4 @@ module _ {X : Type 0} (a : Arithmetic X) where
         let_some (behind before xs) else none then λ ys.
         let_some (expression (fuel_for ys) ys) else none then λ r.
         let_some (behind (bytes ";") r.1) else none then λ rest.
-        if is_empty rest then some r.0 else none
+        when is_empty rest then some r.0 else none

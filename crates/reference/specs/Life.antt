@@ -2,9 +2,9 @@
 use Rattle.std.specs.Prelude.{ℕ, suc, ◌+◌, Bool, true, false, List, [], ◌∷◌, leb, ltb, eqb, drop, take}
 use Rattle.std.proofs.Math.Option.{Option, none, some}
 use Rattle.std.proofs.Math.Seq.{slice}
-use Rattle.reference.specs.Control.{not, ◌&&◌, if◌then◌else◌, let_some◌else◌then◌}
+use Rattle.reference.specs.Control.{not, ◌and◌, when◌then◌else◌, let_some◌else◌then◌}
 use Rattle.reference.specs.Lists.{any, count, find, position, last_position, is_some}
-use Rattle.reference.specs.Text.{Text, bytes, has, ◌==◌}
+use Rattle.reference.specs.Text.{Text, bytes, has, ◌≟◌}
 use Rattle.reference.specs.Listing.{Token, is, Symbol, Line, Listing, ◌at◌}
 use Rattle.reference.specs.Names.{family, of_family}
 use Rattle.reference.specs.Shapes.{is_kw, has_kw, call_in, assignment_of}
@@ -18,15 +18,15 @@ unfoldable pub kills : List Token → Text → Bool
 kills ts fam =
     let_some (assignment_of ts) else false then λ a.
     let_some (family a.lhs.text) else false then λ f.
-    (f.name == fam) && leb 32 f.width && not (any (of_family fam) a.expr)
+    (f.name ≟ fam) and leb 32 f.width and not (any (of_family fam) a.expr)
 
 -- how the tokens of a line touch the family
 unfoldable pub touch_of : List Token → Text → List Text → Touch
 touch_of ts fam volatile =
     let uses : ℕ = count (of_family fam) ts in
-    if kills ts fam then Kill
-    else if ltb 0 uses then Use uses
-    else if is_some (call_in ts) && has volatile fam then Kill
+    when kills ts fam then Kill
+    else when ltb 0 uses then Use uses
+    else when is_some (call_in ts) and has volatile fam then Kill
     else None
 
 abbrev pub touch : Line → Text → List Text → Touch
@@ -56,7 +56,7 @@ Labels = List Label
 unfoldable pub lookup : Labels → Text → Option ℕ
 lookup [] name = none
 lookup (l ∷ ls) name =
-    let here : Option ℕ = if l.name == name then some l.place else none in
+    let here : Option ℕ = when l.name ≟ name then some l.place else none in
     let_some (lookup ls name) else here then λ p. some p
 
 unfoldable pub killed_first : Listing → Text → ℕ → List Text → Bool
@@ -65,7 +65,7 @@ killed_first (l ∷ ls) fam indent volatile =
     let next = killed_first ls fam indent volatile in
     match_touch (touch l fam volatile)
     next
-    (if leb l.indent indent then true else next)
+    (when leb l.indent indent then true else next)
     (λ n. false)
 
 -- where a `goto` in the line jumps to: none if there is no `goto`, some none if it has no known label
@@ -76,7 +76,7 @@ goto_target ts labels =
 
 -- a line with `do` at this indent
 unfoldable pub is_do : ℕ → Line → Bool
-is_do indent d = eqb d.indent indent && has_kw d "do"
+is_do indent d = eqb d.indent indent and has_kw d "do"
 
 module _ (lines : Listing) (fam : Text) (start : ℕ) (volatile : List Text) where
   -- a jump back to behind line `to`, at this indent, re-runs the lines up to `start`: whether the value is overwritten there before any
@@ -87,23 +87,23 @@ module _ (lines : Listing) (fam : Text) (start : ℕ) (volatile : List Text) whe
   -- a `while` at line w: the back edge enters the loop's head again
   unfoldable pub while_passes : ℕ → Line → Bool
   while_passes w l =
-      if is_use (touch l fam volatile) then false
+      when is_use (touch l fam volatile) then false
       else let_some (last_position (is_do l.indent) (take w lines)) else false then λ d.
-      not (ltb d start && not (rerun_kills d l.indent))
+      not (ltb d start and not (rerun_kills d l.indent))
 
   unfoldable pub goto_passes : Labels → Line → Bool
   goto_passes labels l =
       let_some (goto_target l.tokens labels) else true then λ target.
       let_some target else false then λ to.
-      not (leb to start && not (rerun_kills to (lines at to).indent))
+      not (leb to start and not (rerun_kills to (lines at to).indent))
 
 -- what a line that no `while` and no `goto` decides says of the value, where `next` is what the lines after it say
 unfoldable pub scan : Text → ℕ → List Text → Line → Bool → Bool
 scan fam base-indent volatile l next =
-    let after : Bool = if has_kw l "return" && leb l.indent base-indent then true else next in
+    let after : Bool = when has_kw l "return" and leb l.indent base-indent then true else next in
     match_touch (touch l fam volatile)
     after
-    (if leb l.indent base-indent then true else after)
+    (when leb l.indent base-indent then true else after)
     (λ n. false)
 
 module _ (lines : Listing) (fam : Text) (base-indent : ℕ) (labels : Labels) (start : ℕ) (volatile : List Text) where
@@ -112,8 +112,8 @@ module _ (lines : Listing) (fam : Text) (base-indent : ℕ) (labels : Labels) (s
   dead_from w [] = true
   dead_from w (l ∷ rest) =
       let next = dead_from (suc w) rest in
-      if has_kw l "while" then (if while_passes lines fam start volatile w l then next else false)
-      else if goto_passes lines fam start volatile labels l then scan fam base-indent volatile l next
+      when has_kw l "while" then (when while_passes lines fam start volatile w l then next else false)
+      else when goto_passes lines fam start volatile labels l then scan fam base-indent volatile l next
       else false
 
 -- whether `fam`'s value at the end of the line `from` is never read again

@@ -3,7 +3,7 @@
 -- step by step: proofs/Marks.antt shows that the two are one. Assumes nothing.
 use Rattle.std.specs.Prelude.{ℕ, suc, pred, Bool, List, [], ◌∷◌, ◌++◌, ltb, eqb, get_or, drop}
 use Rattle.std.proofs.Math.Option.{none}
-use Rattle.reference.specs.Control.{if◌then◌else◌, let_some◌else◌then◌}
+use Rattle.reference.specs.Control.{when◌then◌else◌, let_some◌else◌then◌}
 use Rattle.reference.specs.Lists.{any, remove, modify}
 use Rattle.reference.specs.Listing.{Line, Listing}
 use Rattle.reference.specs.Rules.{Rules}
@@ -14,7 +14,7 @@ use Rattle.reference.specs.Run.{Attempt, run, attempts_of, finished}
 
 -- the place of another line p once line i is removed
 unfoldable pub moved : ℕ → ℕ → ℕ
-moved i p = if ltb i p then pred p else p
+moved i p = when ltb i p then pred p else p
 
 -- Whether line p, before these attempts, comes into line q after them: "of itself and of every line joined into it, directly or through
 -- others". A line that is removed goes on in each line that it is joined into ("A constant copied to four uses counts in all four"), any
@@ -25,7 +25,7 @@ comes_to (a ∷ more) p q =
     let tried : Bool = comes_to more p q in
     let joined : Bool = any (λ j. comes_to more (moved a.line j) q) a.into in
     let passed : Bool = comes_to more (moved a.line p) q in
-    if a.removed then (if eqb p a.line then joined else passed) else tried
+    when a.removed then (when eqb p a.line then joined else passed) else tried
 
 -- ---- their addresses
 
@@ -36,7 +36,7 @@ adds l m = (let_some l.address else [] then λ a. a ∷ []) ++ (let_some m else 
 -- what those of the lines add, numbered from 0, that `comes` picks out
 unfoldable pub added : (ℕ → Bool) → Listing → List Marks → List ℕ
 added comes [] marks = []
-added comes (l ∷ ls) marks = (if comes 0 then adds l (get_or marks 0 none) else []) ++ added (λ p. comes (suc p)) ls (drop 1 marks)
+added comes (l ∷ ls) marks = (when comes 0 then adds l (get_or marks 0 none) else []) ++ added (λ p. comes (suc p)) ls (drop 1 marks)
 
 -- the marks of each line of a listing, by its place
 unfoldable pub of_each : (ℕ → Marks) → Listing → List Marks
@@ -61,7 +61,7 @@ unfoldable pub carry : List Attempt → List Marks → List Marks
 carry [] marks = marks
 carry (a ∷ more) marks =
     let joined : List Marks = remove a.line (take_in (get_or marks a.line none) a.into marks) in
-    carry more (if a.removed then joined else marks)
+    carry more (when a.removed then joined else marks)
 
 -- the marks of the lines themselves
 unfoldable pub own_marks : Listing → List Marks → List Marks

@@ -2,7 +2,7 @@
 -- that is answered "no". Assumes nothing.
 use Rattle.std.specs.Prelude.{ℕ, zero, suc, pred, ◌+◌, Bool, true, false, List, [], ◌∷◌, ◌++◌, leb, ltb, eqb, length, drop}
 use Rattle.std.proofs.Math.Option.{none, some}
-use Rattle.reference.specs.Control.{not, ◌&&◌, ◌||◌, if◌then◌else◌, let_some◌else◌then◌}
+use Rattle.reference.specs.Control.{not, ◌and◌, ◌or◌, when◌then◌else◌, let_some◌else◌then◌}
 use Rattle.reference.specs.Lists.{any, position, is_empty, modify}
 use Rattle.reference.specs.Listing.{is, Number, Listing, with_tokens}
 use Rattle.reference.specs.Rules.{Rules}
@@ -33,7 +33,7 @@ is_edition rules = leb rules.edition 1
 -- 2. Are both work areas at least 49,152 bytes (M-109) and the output at least 59,137?
 -- The figure for the work areas is a parameter, so that it can be said what another one would change (proofs/WorkSpace.antt).
 unfoldable pub has_room_by : ℕ → ℕ → ℕ → ℕ → Bool
-has_room_by figure work_a work_b output = leb figure work_a && leb figure work_b && leb OUTPUT output
+has_room_by figure work_a work_b output = leb figure work_a and leb figure work_b and leb OUTPUT output
 
 abbrev pub has_room : ℕ → ℕ → ℕ → Bool
 has_room = has_room_by WORK
@@ -51,7 +51,7 @@ pub record Totals : Type 0 where
 -- 3. Is there a byte, and is it a command? (By offset "01, 03 and a later 06 earn 3".)
 unfoldable pub is_command_by : TapeForm → List ℕ → Bool
 is_command_by form [] = false
-is_command_by form (b ∷ rest) = eqb b (line_byte form) || eqb b 0x02 || eqb b (marks_byte form) || (leb 0x10 b && leb b 0x17) || eqb b 0xFF
+is_command_by form (b ∷ rest) = eqb b (line_byte form) or eqb b 0x02 or eqb b (marks_byte form) or (leb 0x10 b and leb b 0x17) or eqb b 0xFF
 
 -- 4. Do its operand and text end inside the tape?
 unfoldable pub ends_inside_by : TapeForm → List ℕ → Bool
@@ -67,7 +67,7 @@ ends_inside = ends_inside_by old
 -- highest, it earns 5." ("There 04 and 05 are asked what 01 and 03 are.")
 unfoldable pub has_line : Totals → Command → Bool
 has_line t (new_line address indent) = true
-has_line t (marked s) = t.fresh && leb s.lowest s.highest
+has_line t (marked s) = t.fresh and leb s.lowest s.highest
 has_line t (new_token s) = leb 1 t.lines
 has_line t end = true
 
@@ -75,7 +75,7 @@ has_line t end = true
 unfoldable pub is_within : Command → Bool
 is_within (new_line address indent) = leb indent 63
 is_within (marked s) = true
-is_within (new_token s) = leb 1 (length s.text) && (not (is Number s) || leb (length s.text) 24)
+is_within (new_token s) = leb 1 (length s.text) and (not (is Number s) or leb (length s.text) 24)
 is_within end = true
 
 -- 10. With this command, are lines at most 256 and tokens 1,024? "10, more than 256 lines or 1,024 tokens, after 6"
@@ -94,7 +94,7 @@ is_short t end = true
 
 -- 7. Is each text byte 20 to 7E?
 abbrev pub is_offending : ℕ → Bool
-is_offending b = ltb b 0x20 || ltb 0x7E b
+is_offending b = ltb b 0x20 or ltb 0x7E b
 
 unfoldable pub is_printable : Command → Bool
 is_printable (marked s) = true
@@ -121,7 +121,7 @@ first_offending end = 0
 -- The place of each number at the command c, which stands at an offset: the command's.
 -- "For 7 they want the offset of the first offending byte, not of its command."
 unfoldable pub place_at : ℕ → Command → ℕ → ℕ
-place_at at c number = if eqb number 7 then at + first_offending c else at
+place_at at c number = when eqb number 7 then at + first_offending c else at
 
 -- ---- asking
 
@@ -135,7 +135,7 @@ module _ {A : Type 0} where
   -- in the list is given: a token before any line is 4 if it runs past the tape, otherwise 5, also with an empty text.
   unfoldable pub ask : (ℕ → ℕ) → List (ℕ × Bool) → Answer A → Answer A
   ask place [] a = a
-  ask place (q ∷ more) a = let r = ask place more a in if q.1 then r else Refused q.0 (place q.0)
+  ask place (q ∷ more) a = let r = ask place more a in when q.1 then r else Refused q.0 (place q.0)
 
   -- `let x = a?; k(x)`
   infixr 1 let_passed◌then◌
@@ -204,7 +204,7 @@ read_from_by form zero tape at t lines = Refused 3 at
 read_from_by form (suc fuel) tape at t lines =
     let_passed (read_command_by form tape at t) then λ a.
     let more : Answer Listing = read_from_by form fuel tape a.next a.totals (add a.command lines) in
-    if is_end a.command then Passed lines else more
+    when is_end a.command then Passed lines else more
 
 -- the commands of a tape, from the first on
 unfoldable pub read_by : TapeForm → List ℕ → Answer Listing
@@ -232,7 +232,7 @@ marks_from_by form zero rest marks = marks
 marks_from_by form (suc fuel) rest marks =
     let c : Command = command_by form rest in
     let more : List Marks = marks_from_by form fuel (drop (command_size_by form rest) rest) (add_marks c marks) in
-    if is_end c then marks else more
+    when is_end c then marks else more
 
 unfoldable pub marks_in_by : TapeForm → List ℕ → List Marks
 marks_in_by form tape = marks_from_by form (length tape) (drop (header form) tape) []

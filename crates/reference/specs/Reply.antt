@@ -1,6 +1,6 @@
 -- One call: what it answers, and every lent byte afterwards. Assumes nothing.
 use Rattle.std.specs.Prelude.{ℕ, List, [], ◌∷◌, ◌++◌, length, drop, replicate}
-use Rattle.reference.specs.Control.{if◌then◌else◌, let_some◌else◌then◌}
+use Rattle.reference.specs.Control.{when◌then◌else◌, let_some◌else◌then◌}
 use Rattle.reference.specs.Listing.{Listing}
 use Rattle.reference.specs.Rules.{Rules}
 use Rattle.reference.specs.Run.{run, finished, Tally, three, settled, Counts, counts}
@@ -21,7 +21,7 @@ Reply = Answer Cleaned
 -- M-106: "14, the first line that breaks the profile, place its line number from 0 [..], asked once the tape is read", where the profile
 -- is asked for
 unfoldable pub ask_profile : Rules → Listing → Reply → Reply
-ask_profile rules lines r = if rules.profile then (let_some (breaks lines) else r then λ n. Refused 14 n) else r
+ask_profile rules lines r = when rules.profile then (let_some (breaks lines) else r then λ n. Refused 14 n) else r
 
 -- the settings, the tape, and how many bytes the two work areas and the output have; before them the figure that the work areas are asked
 -- for

@@ -1,9 +1,9 @@
 -- Rounds, cuts, and the run: the list of all listings, with the counts. Assumes nothing.
 use Rattle.std.specs.Prelude.{ℕ, zero, suc, ◌+◌, pred, Bool, true, false, ltb, eqb, length, get_or, drop}
 use mathlib.Core.List.{List, [], ◌∷◌, ◌++◌, map, flatten}
-use Rattle.reference.specs.Control.{◌&&◌, ◌||◌, if◌then◌else◌, let_some◌else◌then◌}
+use Rattle.reference.specs.Control.{◌and◌, ◌or◌, when◌then◌else◌, let_some◌else◌then◌}
 use Rattle.reference.specs.Lists.{any, count, windows, modify, get}
-use Rattle.reference.specs.Text.{Text, bytes, ◌==◌, starts_with, ends_with}
+use Rattle.reference.specs.Text.{Text, bytes, ◌≟◌, starts_with, ends_with}
 use Rattle.reference.specs.Listing.{Token, Line, Listing, ◌at◌, with_tokens}
 use Rattle.reference.specs.Rules.{Rules, volatile}
 use Rattle.reference.specs.Shapes.{is_label, call_at}
@@ -15,13 +15,13 @@ unfoldable pub labels_from : ℕ → Listing → Labels
 labels_from i [] = []
 labels_from i (l ∷ ls) =
     let r = labels_from (suc i) ls in
-    if is_label l then record { name = text_or_empty (get l.tokens 0); place = i } ∷ r else r
+    when is_label l then record { name = text_or_empty (get l.tokens 0); place = i } ∷ r else r
 
 unfoldable pub addressed_here : List (Token × Token) → List Text
 addressed_here [] = []
 addressed_here (w ∷ ws) =
     let r = addressed_here ws in
-    if ends_with w.0.text (bytes "&") && starts_with w.1.text (bytes "var_") then w.1.text ∷ r else r
+    when ends_with w.0.text (bytes "&") and starts_with w.1.text (bytes "var_") then w.1.text ∷ r else r
 
 unfoldable pub addressed_in : Listing → List Text
 addressed_in [] = []
@@ -30,7 +30,7 @@ addressed_in (l ∷ ls) = addressed_here (windows l.tokens) ++ addressed_in ls
 -- a removal at i moves the labels below it up
 unfoldable pub shift : ℕ → Labels → Labels
 shift i [] = []
-shift i (l ∷ ls) = (if ltb i l.place then record { name = l.name; place = pred l.place } else l) ∷ shift i ls
+shift i (l ∷ ls) = (when ltb i l.place then record { name = l.name; place = pred l.place } else l) ∷ shift i ls
 
 -- One attempt: its line, whether it removed that line, and the listing that it left; and the lines that it was joined into, by their
 -- places before.
@@ -56,7 +56,7 @@ module _ (rules : Rules) (addressed : List Text) where
       let attempt : List Attempt =
       let_some (try_at rules lines i labels addressed) else on then λ lines'.
       success i (targets rules lines i labels) lines' ∷ attempts_from fuel (pred i) lines' (shift i labels) in
-      if ltb i (length lines) then attempt else []
+      when ltb i (length lines) then attempt else []
 
 unfoldable pub propagate_once : Rules → Listing → List Attempt
 propagate_once rules lines =
@@ -81,11 +81,11 @@ rounds_from rules zero lines = []
 rounds_from rules (suc limit) lines =
     let round : List Attempt = propagate_once rules lines in
     let more : List (List Attempt) = rounds_from rules limit (after_attempts lines round) in
-    round ∷ (if changed round then more else [])
+    round ∷ (when changed round then more else [])
 
 -- The Rust's 3. A run that settles needs "at most n + 1 rounds" of n lines: proofs/Settling.antt shows that this limit ends none.
 unfoldable pub limit : Rules → Listing → ℕ
-limit rules lines = if rules.settle then length lines + 1 else 3
+limit rules lines = when rules.settle then length lines + 1 else 3
 
 -- the listing that the rounds leave
 unfoldable pub after_rounds : Listing → List (List Attempt) → Listing
@@ -99,9 +99,9 @@ dead_result rules labels lines i =
     let l : Line = lines at i in
     let name : Text = text_or_empty (get l.tokens 0) in
     (let_some (call_at l) else false then λ c. eqb c 2)
-    && ((name == bytes "rax") || (name == bytes "eax"))
-    && (text_or_empty (get l.tokens 1) == bytes " = ")
-    && dead_after lines i (bytes "rax") l.indent labels i (volatile rules)
+    and ((name ≟ bytes "rax") or (name ≟ bytes "eax"))
+    and (text_or_empty (get l.tokens 1) ≟ bytes " = ")
+    and dead_after lines i (bytes "rax") l.indent labels i (volatile rules)
 
 -- the listings after each cut; i lines are done and n are to come
 unfoldable pub cuts_from : Rules → Labels → ℕ → ℕ → Listing → List Listing
@@ -111,7 +111,7 @@ cuts_from rules labels (suc n) i lines =
     (let lines' : Listing = modify i (λ l. with_tokens (drop 2 l.tokens) l) lines in
     lines' ∷ cuts_from rules labels n (suc i) lines') in
     let on = cuts_from rules labels n (suc i) lines in
-    if dead_result rules labels lines i then cut else on
+    when dead_result rules labels lines i then cut else on
 
 unfoldable pub drop_dead_results : Rules → Listing → List Listing
 drop_dead_results rules lines = cuts_from rules (labels_from 0 lines) (length lines) 0 lines
@@ -166,7 +166,7 @@ unfoldable pub counts : Rules → Run → Counts
 counts rules r =
     record {
       tally =
-          if rules.settle
+          when rules.settle
           then settled (length r.rounds) (length (attempts_of r))
           else three (attempts_in 0 r.rounds) (attempts_in 1 r.rounds) (attempts_in 2 r.rounds);
       lines_removed = removals (attempts_of r);

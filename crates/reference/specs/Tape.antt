@@ -4,7 +4,7 @@
 use Rattle.std.specs.Prelude.{ℕ, zero, suc, ◌+◌, ◌*◌, ◌-◌, ◌/◌, ◌%◌, eqb, length, get_or, take, drop}
 use mathlib.Core.List.{List, [], ◌∷◌, ◌++◌, flat_map}
 use Rattle.std.proofs.Math.Option.{Option, none, some}
-use Rattle.reference.specs.Control.{if◌then◌else◌}
+use Rattle.reference.specs.Control.{when◌then◌else◌}
 use Rattle.reference.specs.Listing.{Token, token, Line, Listing}
 use Rattle.reference.specs.Spans.{Span, Marks}
 
@@ -115,10 +115,10 @@ text_length rest = from_le_bytes (take 2 (drop 1 rest))
 -- how many bytes the command has, its operand and text included
 unfoldable pub command_size_by : TapeForm → List ℕ → ℕ
 command_size_by form rest =
-    if eqb (get_or rest 0 0) (line_byte form) then 2 + width form
-    else if eqb (get_or rest 0 0) 0x02 then 2
-    else if eqb (get_or rest 0 0) (marks_byte form) then 1 + width form + width form
-    else if eqb (get_or rest 0 0) 0xFF then 1
+    when eqb (get_or rest 0 0) (line_byte form) then 2 + width form
+    else when eqb (get_or rest 0 0) 0x02 then 2
+    else when eqb (get_or rest 0 0) (marks_byte form) then 1 + width form + width form
+    else when eqb (get_or rest 0 0) 0xFF then 1
     else 3 + text_length rest
 
 -- the address, or the offset, that stands a number of bytes behind the head
@@ -128,11 +128,11 @@ address_at form n rest = from_le_bytes (take (width form) (drop n rest))
 -- the command, once it is known that its first byte is one (question 3) and that all its bytes are there (question 4)
 unfoldable pub command_by : TapeForm → List ℕ → Command
 command_by form rest =
-    if eqb (get_or rest 0 0) (line_byte form) then new_line (some (address_at form 1 rest)) (get_or rest (1 + width form) 0)
-    else if eqb (get_or rest 0 0) 0x02 then new_line none (get_or rest 1 0)
-    else if eqb (get_or rest 0 0) (marks_byte form)
+    when eqb (get_or rest 0 0) (line_byte form) then new_line (some (address_at form 1 rest)) (get_or rest (1 + width form) 0)
+    else when eqb (get_or rest 0 0) 0x02 then new_line none (get_or rest 1 0)
+    else when eqb (get_or rest 0 0) (marks_byte form)
     then marked (record { lowest = address_at form 1 rest; highest = address_at form (1 + width form) rest })
-    else if eqb (get_or rest 0 0) 0xFF then end
+    else when eqb (get_or rest 0 0) 0xFF then end
     else new_token (token (get_or rest 0 0 - 0x10) (take (text_length rest) (drop 3 rest)))
 
 abbrev pub command_size : List ℕ → ℕ
@@ -147,7 +147,7 @@ unfoldable pub unmarked_from : ℕ → List ℕ → List ℕ
 unmarked_from zero rest = []
 unmarked_from (suc fuel) rest =
     let more : List ℕ = unmarked_from fuel (drop (command_size rest) rest) in
-    if eqb (get_or rest 0 0) 0x03 then more else take (command_size rest) rest ++ more
+    when eqb (get_or rest 0 0) 0x03 then more else take (command_size rest) rest ++ more
 
 -- command after command; no question is asked
 unfoldable pub unmarked : List ℕ → List ℕ

@@ -1,10 +1,12 @@
 // The page of a cleaning, before and after side by side, written piece by piece. What stands in its cells is crate page's, the numbers on
 // its sheet are crate tallies'.
+#![tactic(auto)]
+
 mod frame; // its constant parts
 mod rows; // the two listings
 mod sheet; // the field engineer's sheet
 mod sink; // where it goes
-mod walk; // lines and tokens by their offsets
+mod walking; // lines and tokens by their offsets
 
 ghost use Rattle.render.specs.Sinks.{Later};
 

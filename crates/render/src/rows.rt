@@ -1,6 +1,6 @@
 // The rows of the page: each raw line, and beside it what became of it. What a raw line came into is asked of crate sources, line by line.
 use crate::sink::{Sink, put, put_hex, put_number};
-use crate::walk::{
+use crate::walking::{
     NOTHING, after, first_addressed, front, is_end, line_end, plus, same_tokens, tokens_of,
 };
 use answers::Answer;
@@ -12,7 +12,7 @@ use tape::reader::command_from;
 // ---- what a raw line came into
 
 // How many lines are finished, and which of them the raw line itself became; NOTHING: it is gone.
-#[derive(Drop)]
+#[derive(Clone, Copy)]
 struct Told {
     finished: usize,
     became: usize,
@@ -157,7 +157,7 @@ fn put_tokens(s: Sink, line: &[u8]) -> Sink {
 // ---- rows
 
 // A line: where it begins in its tape, and its number, from 0.
-#[derive(Drop)]
+#[derive(Clone, Copy)]
 struct At {
     offset: usize,
     number: usize,

@@ -3,7 +3,7 @@
 // counts (its theorem `ticks` says how they must come out). Which labels stand, and which addresses are held, is counted here without a
 // promise.
 use crate::sink::{Sink, put, put_number, put_text};
-use crate::walk::{
+use crate::walking::{
     after, body, byte_at, front, is_label, is_named_call, line_end, plus, same_tokens, token_at,
 };
 use arguments::Request;
@@ -13,7 +13,7 @@ use tape::commands::{Command, Found};
 use tape::reader::command_from;
 
 // What the reply told of the run: the rounds, the lines removed, the results cut.
-#[derive(Drop)]
+#[derive(Clone, Copy)]
 pub struct Counts {
     pub tally: Tally,
     pub removed: u64,
@@ -219,7 +219,7 @@ fn count_standing(tape: &[u8], fin: &[u8], places: &[u64]) -> usize {
 // ---- addresses
 
 // The lowest and the highest address of a command; from 1 to 0: it has none.
-#[derive(Drop)]
+#[derive(Clone, Copy)]
 struct Span {
     low: u64,
     high: u64,

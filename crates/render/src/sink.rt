@@ -1,8 +1,8 @@
 // Where a page goes while it is written piece by piece. Texts reach it in cells, escaped.
-use crate::walk::front;
+use crate::walking::front;
 
 // What is written to, and whether all pieces so far were written. After a failure nothing more is, so that the system's reason stays.
-#[derive(Drop)]
+#[derive(Clone, Copy)]
 pub struct Sink {
     pub fd: i32,
     pub done: bool,

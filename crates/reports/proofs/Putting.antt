@@ -1,13 +1,13 @@
 -- Texts put one behind the other are the report. Assumes nothing.
 use Prim.Native.Nat.{ℕ, zero, suc, ◌+◌, ◌/◌, ◌%◌, ◌≤◌}
 use native.Mathlib.Omega.{arith}
-use mathlib.Core.Path.{◌≡◌, refl, sym, ap, ◌∙◌}
-use mathlib.Core.Bool.{Bool, true, false}
+use mathlib.Core.Path.{◌≡◌, refl, ◌∙◌}
+use mathlib.Core.Bool.{Bool, true}
 use mathlib.Core.List.{List, [], ◌∷◌, ◌++◌, append_assoc}
 use lib.Dec.{leb}
 use lib.ListN.{length, get_or, length-append}
 use borrow.Author.Tests.{leb-true}
-use Rattle.reference.specs.Control.{◌&&◌}
+use Rattle.reference.specs.Control.{◌and◌}
 use Rattle.reference.specs.Text.{Text, bytes}
 use Rattle.reference.specs.Numbers.{digit_byte, digits}
 use Rattle.reference.proofs.Cases.{both, by-if}
@@ -22,7 +22,7 @@ use Rattle.reports.specs.Reports.{meanings, meaning, refusal, three, settled, ta
 
 short : List Text → Bool
 short [] = true
-short (t ∷ ts) = let rest = short ts in leb (length t) 200 && rest
+short (t ∷ ts) = let rest = short ts in leb (length t) 200 and rest
 
 short_at : (ts : List Text) → short ts ≡ true → (n : ℕ) → length (get_or ts n []) ≤ 200
 unfolding short
@@ -31,7 +31,7 @@ short_at (t ∷ ts) e zero = omega (arith, leb-true (length t) 200 (both e).0)
 short_at (t ∷ ts) e (suc n) = short_at ts (both e).1 n
 
 pub meaning-length : (n : ℕ) → length (meaning n) ≤ 200
-unfolding meaning meanings short ◌&&◌
+unfolding meaning meanings short ◌and◌
 meaning-length n = short_at meanings refl n
 
 -- ---- pieces

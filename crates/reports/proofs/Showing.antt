@@ -1,5 +1,5 @@
 -- Bytes put one behind the other as they are shown are the name as it is shown. Assumes nothing.
-use Prim.Native.Nat.{ℕ, suc, ◌+◌, ◌*◌, ◌/◌, ◌%◌, ◌≤◌, ◌<◌}
+use Prim.Native.Nat.{ℕ, ◌+◌, ◌*◌, ◌/◌, ◌%◌, ◌≤◌, ◌<◌}
 use native.Mathlib.Omega.{arith}
 use native.Mathlib.Numerals.{add-one}
 use mathlib.Core.Path.{◌≡◌, refl, sym, ap, ◌∙◌}
@@ -7,7 +7,7 @@ use mathlib.Core.List.{[], ◌∷◌, ◌++◌, append_assoc, append-nil, flat_m
 use lib.ListN.{length, take, get_or, length-append, length-take}
 use lib.Seq.{paste-zero, take-suc, take-length}
 use borrow.Author.Tests.{eq-eqb, ne_eqb, lt-ltb, le-ltb}
-use Rattle.reference.specs.Control.{if◌then◌else◌}
+use Rattle.reference.specs.Control.{when◌then◌else◌}
 use Rattle.reference.specs.Text.{Text}
 use Rattle.reference.specs.Numbers.{digit_byte}
 use Rattle.reference.proofs.Cases.{by-if}
@@ -28,19 +28,19 @@ escape-put {out} {at} b {h} {l} room e f w₁ w₂ w₃ =
 
 module _ {b : ℕ} {out out' : Text} {at r : ℕ} where
   pub low-put : b < 32 → Written out at (escape b) out' r → Written out at (visible_byte b) out' r
-  unfolding visible_byte if◌then◌else◌
+  unfolding visible_byte when◌then◌else◌
   low-put h w = rw (lt-ltb b 32 h) w
 
   pub high_put : 32 ≤ b → 126 < b → Written out at (escape b) out' r → Written out at (visible_byte b) out' r
-  unfolding visible_byte if◌then◌else◌
+  unfolding visible_byte when◌then◌else◌
   high_put h k w = rw (le-ltb b 32 h, lt-ltb 126 b k) w
 
   pub backslash_put : 32 ≤ b → b ≤ 126 → b ≡ 92 → Written out at (escape b) out' r → Written out at (visible_byte b) out' r
-  unfolding visible_byte if◌then◌else◌
+  unfolding visible_byte when◌then◌else◌
   backslash_put h k e w = rw (le-ltb b 32 h, le-ltb 126 b k, eq-eqb b 92 e) w
 
   pub plain-put : 32 ≤ b → b ≤ 126 → (b ≡ 92 → ⊥) → Written out at (b ∷ []) out' r → Written out at (visible_byte b) out' r
-  unfolding visible_byte if◌then◌else◌
+  unfolding visible_byte when◌then◌else◌
   plain-put h k n w = rw (le-ltb b 32 h, le-ltb 126 b k, ne_eqb b 92 n) w
 
 pub ruleset visibles = (low-put, high_put, backslash_put, plain-put)

@@ -1,7 +1,7 @@
 -- What the command writes of a reply. Assumes nothing.
 use Rattle.std.specs.Prelude.{ℕ, ◌/◌, ◌%◌, eqb, ltb, get_or}
 use mathlib.Core.List.{List, [], ◌∷◌, ◌++◌, flat_map}
-use Rattle.reference.specs.Control.{if◌then◌else◌}
+use Rattle.reference.specs.Control.{when◌then◌else◌}
 use Rattle.reference.specs.Text.{Text, bytes}
 use Rattle.reference.specs.Numbers.{digit_byte}
 use Rattle.reference.specs.Run as R
@@ -74,7 +74,7 @@ escape b = (92 ∷ 120 ∷ []) ++ (digit_byte (b / 16) ∷ []) ++ (digit_byte (b
 
 -- a byte that can be printed (20 to 7E) stands as it is, but for the backslash
 unfoldable pub visible_byte : ℕ → Text
-visible_byte b = if ltb b 32 then escape b else if ltb 126 b then escape b else if eqb b 92 then escape b else b ∷ []
+visible_byte b = when ltb b 32 then escape b else when ltb 126 b then escape b else when eqb b 92 then escape b else b ∷ []
 
 unfoldable pub visible : Text → Text
 visible t = flat_map visible_byte t

@@ -1,6 +1,7 @@
 // What the command `puchkewa` writes of a reply: the bytes are those of the definitions in specs/Reports.antt.
+#![tactic(auto)]
+
 ghost use Rattle.std.specs.Prelude.{◌≡◌, [], ◌∷◌, ◌++◌, ◌+◌, ◌*◌, ◌≤◌, ◌<◌, length};
-ghost use Rattle.reference.specs.Contract.{was};
 ghost use Rattle.reference.specs.Numbers.{digit_byte};
 ghost use Rattle.numbers.specs.Writing.{hexadecimal, Written};
 ghost use Rattle.rounds.specs.Runs.{tally_of};
@@ -15,7 +16,7 @@ use words::nth_word;
 // Puts what a refusal by a number means; nothing for a number that no question has.
 fn put_meaning(number: u64, out: &mut [u8], at: usize) -> usize
     requires { at + 200 ≤ length out.old }
-    ensures { Written (was out) at (meaning number) out.new result }
+    ensures { Written out.old at (meaning number) out.new result }
 {
     put(
         nth_word(
@@ -52,7 +53,7 @@ fn put_meaning(number: u64, out: &mut [u8], at: usize) -> usize
 // Puts the line of a refusal at the front, and says how long it is.
 pub fn put_refusal(number: u64, place: u64, out: &mut [u8]) -> usize
     requires { 256 ≤ length out.old }
-    ensures { Written (was out) 0 (refusal number place) out.new result }
+    ensures { Written out.old 0 (refusal number place) out.new result }
 {
     let a = put_named(b"refused ", number, out, 0);
     let b = put_named(b" at ", place, out, a);
@@ -64,7 +65,7 @@ pub fn put_refusal(number: u64, place: u64, out: &mut [u8]) -> usize
 // Puts a text and a number.
 fn put_named(name: &[u8], n: u64, out: &mut [u8], at: usize) -> usize
     requires { at + length name.now + 20 ≤ length out.old }
-    ensures { Written (was out) at (was name ++ decimal n) out.new result }
+    ensures { Written out.old at (name.now ++ decimal n) out.new result }
 {
     let a = put(name, out, at);
     put_decimal(n, out, a)
@@ -73,7 +74,7 @@ fn put_named(name: &[u8], n: u64, out: &mut [u8], at: usize) -> usize
 // Puts what is told of three rounds.
 fn put_three(first: u64, second: u64, third: u64, out: &mut [u8], at: usize) -> usize
     requires { at + 73 ≤ length out.old }
-    ensures { Written (was out) at (three first second third) out.new result }
+    ensures { Written out.old at (three first second third) out.new result }
 {
     let a = put_named(b", attempts ", first, out, at);
     let b = put_named(b" ", second, out, a);
@@ -83,7 +84,7 @@ fn put_three(first: u64, second: u64, third: u64, out: &mut [u8], at: usize) -> 
 // Puts what is told of rounds that settled.
 fn put_settled(rounds: u64, attempts: u64, out: &mut [u8], at: usize) -> usize
     requires { at + 73 ≤ length out.old }
-    ensures { Written (was out) at (settled rounds attempts) out.new result }
+    ensures { Written out.old at (settled rounds attempts) out.new result }
 {
     let a = put_named(b", rounds ", rounds, out, at);
     put_named(b", attempts ", attempts, out, a)
@@ -92,7 +93,7 @@ fn put_settled(rounds: u64, attempts: u64, out: &mut [u8], at: usize) -> usize
 // Puts what is told of the rounds.
 fn put_tally(tally: Tally, out: &mut [u8], at: usize) -> usize
     requires { at + 73 ≤ length out.old }
-    ensures { Written (was out) at (tallied (tally_of tally)) out.new result }
+    ensures { Written out.old at (tallied (tally_of tally)) out.new result }
 {
     match tally {
         Tally::Three {
@@ -107,7 +108,7 @@ fn put_tally(tally: Tally, out: &mut [u8], at: usize) -> usize
 // Puts the line of what a cleaning did at the front, and says how long it is.
 pub fn put_counts(size: u64, tally: Tally, removed: u64, cut: u64, out: &mut [u8]) -> usize
     requires { 256 ≤ length out.old }
-    ensures { Written (was out) 0 (counts size (tally_of tally) removed cut) out.new result }
+    ensures { Written out.old 0 (counts size (tally_of tally) removed cut) out.new result }
 {
     let a = put_named(b"length ", size, out, 0);
     let b = put_tally(tally, out, a);
@@ -119,7 +120,7 @@ pub fn put_counts(size: u64, tally: Tally, removed: u64, cut: u64, out: &mut [u8
 // Puts a number in hexadecimal.
 fn put_hexadecimal(v: u64, out: &mut [u8], at: usize) -> usize
     requires { at + 16 ≤ length out.old }
-    ensures { Written (was out) at (hexadecimal v) out.new result }
+    ensures { Written out.old at (hexadecimal v) out.new result }
 {
     put_digits(v, out, at)
 }
@@ -127,7 +128,7 @@ fn put_hexadecimal(v: u64, out: &mut [u8], at: usize) -> usize
 // Puts the line of a start value at the front, and says how long it is.
 pub fn put_start(chosen: &[u8], v: u64, out: &mut [u8]) -> usize
     requires { length chosen.now + 45 ≤ length out.old }
-    ensures { Written (was out) 0 (started (was chosen) v) out.new result }
+    ensures { Written out.old 0 (started chosen.now v) out.new result }
 {
     let a = put(chosen, out, 0);
     let b = put(b" = 0x", out, a);
@@ -139,7 +140,7 @@ pub fn put_start(chosen: &[u8], v: u64, out: &mut [u8]) -> usize
 // Puts a byte.
 fn put_byte(b: u8, out: &mut [u8], at: usize) -> usize
     requires { at < length out.old }
-    ensures { Written (was out) at (b ∷ []) out.new result }
+    ensures { Written out.old at (b ∷ []) out.new result }
 {
     out[at] = b;
     at + 1
@@ -156,7 +157,7 @@ fn digit_byte(d: u8) -> u8
 // Puts a byte as \xHH.
 fn put_escape(b: u8, out: &mut [u8], at: usize) -> usize
     requires { at + 4 ≤ length out.old }
-    ensures { Written (was out) at (escape b) out.new result }
+    ensures { Written out.old at (escape b) out.new result }
 {
     let x = put(b"\\x", out, at);
     let y = put_byte(digit_byte(b / 16), out, x);
@@ -166,7 +167,7 @@ fn put_escape(b: u8, out: &mut [u8], at: usize) -> usize
 // Puts a byte as it is shown.
 fn put_visible_byte(b: u8, out: &mut [u8], at: usize) -> usize
     requires { at + 4 ≤ length out.old }
-    ensures { Written (was out) at (visible_byte b) out.new result }
+    ensures { Written out.old at (visible_byte b) out.new result }
 {
     if b < 32 {
         return put_escape(b, out, at);
@@ -183,7 +184,7 @@ fn put_visible_byte(b: u8, out: &mut [u8], at: usize) -> usize
 // Puts a name as it is shown at the front, and says how long it is.
 pub fn put_visible(name: &[u8], out: &mut [u8]) -> usize
     requires { 4 * length name.now ≤ length out.old }
-    ensures { Written (was out) 0 (visible (was name)) out.new result }
+    ensures { Written out.old 0 (visible name.now) out.new result }
 {
     let mut end = 0;
     let mut i = 0;

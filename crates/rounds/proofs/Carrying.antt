@@ -10,10 +10,10 @@ use mathlib.Core.List.{List, [], ◌∷◌, ◌++◌, map}
 use mathlib.Core.Option.{Option, none, some}
 use lib.ListN.{length, get_or, set, length-map, length-set}
 use lib.Seq.{get_or-set_same, get_or-set_other}
-use Rattle.reference.specs.Control.{if◌then◌else◌}
+use Rattle.reference.specs.Control.{when◌then◌else◌}
 use Rattle.reference.specs.Lists.{remove, modify}
 use Rattle.reference.specs.Text.{Text}
-use Rattle.reference.specs.Listing.{Line, Listing}
+use Rattle.reference.specs.Listing.{Listing}
 use Rattle.reference.specs.Rules.{Rules}
 use Rattle.reference.specs.Life.{Labels}
 use Rattle.reference.specs.Spans.{Marks, hull}
@@ -22,7 +22,7 @@ use Rattle.reference.specs.Marks.{take_in, carry}
 use Rattle.reference.proofs.Cases.{by-if}
 use Rattle.reference.proofs.Limits.{All}
 use Rattle.joining.specs.Rounds.{cut_at}
-use Rattle.joining.specs.Carried.{Pair, marks_of, Kept, joined, pair_at, marks_by, Rising}
+use Rattle.joining.specs.Carried.{marks_of, Kept, joined, pair_at, marks_by, Rising}
 use Rattle.joining.proofs.Bare.{cut-addresses}
 use Rattle.joining.proofs.Carried.{joined-marks, kept-joined, changed_at, rising-remove}
 use Rattle.lines.specs.Lines.{origin_of, numbered, listing_read}
@@ -152,13 +152,13 @@ numbers_at lines [] b = refl
 numbers_at lines (j ∷ js) b = λ i. sym (map_at origin_of lines j 0 b.0) i ∷ numbers_at lines js b.1 i
 
 pub carries_failed : (i : ℕ) (left : Listing) (lines lows highs : List ℕ) → Carries (failure i left ∷ []) lines lows highs lines lows highs
-unfolding carry if◌then◌else◌
+unfolding carry when◌then◌else◌
 carries_failed i left lines lows highs m = (m, refl)
 
 pub carries_joined : (i : ℕ) (places : List ℕ) (left : Listing) (lines lows highs lines' lows' highs' : List ℕ) → Handed lines i places lows highs lows' highs'
     → i < length lines → All (λ j. (i < j) × (j < length lines)) places → map origin_of lines' ≡ remove i (map origin_of lines)
     → Carries (success i places left ∷ []) lines lows highs lines' lows' highs'
-unfolding carry if◌then◌else◌
+unfolding carry when◌then◌else◌
 carries_joined i places left lines lows highs lines' lows' highs' handed inside each gone m =
     let os : List ℕ = map origin_of lines in
     let o : ℕ = origin_of (get_or lines i 0) in

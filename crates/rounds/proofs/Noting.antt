@@ -10,11 +10,11 @@ use mathlib.Core.Bool.{Bool, true, false}
 use mathlib.Core.List.{List, [], ◌∷◌, ◌++◌, map-append, append_assoc, append-nil}
 use lib.ListN.{length, take, drop, get_or, set, length-map, length-drop, length-append, length-set, drop_of_length-le, get_or-map}
 use lib.Seq.{paste, length-paste, drop-cons, take-append_seam, take-suc-set, length-take-le}
-use Rattle.reference.specs.Control.{◌&&◌, if◌then◌else◌}
+use Rattle.reference.specs.Control.{◌and◌, when◌then◌else◌}
 use Rattle.reference.specs.Lists.{windows}
 use Rattle.reference.specs.Text.{Text, bytes, starts_with, ends_with}
-use Rattle.reference.specs.Listing.{Token, Listing, blank, ◌at◌}
-use Rattle.reference.specs.Claim.{size, text_in, token_count, text}
+use Rattle.reference.specs.Listing.{Token, Listing, blank}
+use Rattle.reference.specs.Claim.{text_in, token_count, text}
 use Rattle.reference.specs.Run.{addressed_here, addressed_in}
 use Rattle.reference.proofs.Cases.{by-if}
 use Rattle.laws.proofs.Scans.{if-true, if-false, and_true, and_false}
@@ -83,10 +83,10 @@ module _ (a b : Token) where
   here_slot e f = if-true _ _ (and_true _ e ∙ f)
 
   here_first : (ws : List (Token × Token)) → addressed_here ((a, b) ∷ ws) ≡ addressed_here ((a, b) ∷ []) ++ addressed_here ws
-  unfolding addressed_here if◌then◌else◌
-  here_first ws = go (ends_with a.text (bytes "&") && starts_with b.text (bytes "var_"))
+  unfolding addressed_here when◌then◌else◌
+  here_first ws = go (ends_with a.text (bytes "&") and starts_with b.text (bytes "var_"))
     where
-      go : (t : Bool) → (if t then b.text ∷ addressed_here ws else addressed_here ws) ≡ (if t then b.text ∷ [] else []) ++ addressed_here ws
+      go : (t : Bool) → (when t then b.text ∷ addressed_here ws else addressed_here ws) ≡ (when t then b.text ∷ [] else []) ++ addressed_here ws
       go true = refl
       go false = refl
 
@@ -140,7 +140,8 @@ module _ (tape area : Text) (before w : ℕ) {slots : Text} {words : List ℕ} {
         slots' (set words g.count v) (record { count = g.count + 1; text = g.text + length b })
     noted-slot f p r es ev =
         let size : length b ≡ len_of w = ap length eb ∙ text_length p in
-        noted_one s (len_of w) b (omega arith) (rw size r) (here_slot (token_of tape area before) (token_of tape area w) (rw ea at (sym ex ∙ t)) (rw eb at (sym ey ∙ f)) ∙ ap (λ (x : Text). x ∷ []) (sym eb)) es ev
+        noted_one s (len_of w) b (omega arith) (rw size r)
+        (here_slot (token_of tape area before) (token_of tape area w) (rw ea at (sym ex ∙ t)) (rw eb at (sym ey ∙ f)) ∙ ap (λ (x : Text). x ∷ []) (sym eb)) es ev
 
 -- ---- one after the other
 
@@ -287,7 +288,8 @@ module _ (tape area : Text) (tokens lines : List ℕ) (k : ℕ) {slots : Text} {
         → length slots ≡ length slots₀ → length words ≡ length words₀ → Roomy slots words g (text_in (tokens_of tape area ws)) (length ws)
     lines-room r es em = noting_room (text_in (tokens_of tape area ws)) _ (length ws) _ turned (omega (arith, r.text_fits)) (omega (arith, r.short)) (omega (arith, r.words_fit))
 
-    pub lines_next : {slots' : Text} {words' : List ℕ} {g' : Slots} → Noted (addressed_here (windows (tokens_of tape area ws))) (text_in (tokens_of tape area ws)) (length ws) slots words g slots' words' g'
+    pub lines_next : {slots' : Text} {words' : List ℕ} {g' : Slots}
+        → Noted (addressed_here (windows (tokens_of tape area ws))) (text_in (tokens_of tape area ws)) (length ws) slots words g slots' words' g'
         → LinesNoting (bare_listing tape area tokens lines) slots' words' g' (k + 1)
     lines_next o = noting_next (addressed_here (windows (tokens_of tape area ws))) _ _ _ _ _ turned o
 

@@ -6,15 +6,15 @@ use mathlib.Core.Logic.{◌⊎◌, ⊎_elim, inl, inr}
 use mathlib.Core.Bool.{Bool, true, false}
 use mathlib.Core.List.{List, [], ◌∷◌, ◌++◌, map, map-append, flatten, append-nil, append_assoc}
 use lib.Dec.{eqb, eqb-zero-suc, eqb-suc-zero, eqb-suc-suc}
-use lib.ListN.{length, take, drop, get_or, length-append}
+use lib.ListN.{length, take, drop, length-append}
 use lib.Seq.{take_at, length-take-le, length_front, append_snoc}
 use borrow.Author.Tests.{eq-eqb, ne_eqb}
-use Rattle.reference.specs.Control.{◌||◌, if◌then◌else◌}
+use Rattle.reference.specs.Control.{◌or◌, when◌then◌else◌}
 use Rattle.reference.specs.Text.{Text}
 use Rattle.reference.specs.Listing.{Listing}
 use Rattle.reference.specs.Rules.{Rules}
 use Rattle.reference.specs.Run.{Attempt, propagate_once, after_attempts, removals, changed, rounds_from, limit, after_rounds, drop_dead_results}
-use Rattle.reference.specs.Run.{last_of, run, attempts_of, steps, finished, attempts_in, counts, Tally, settled, three}
+use Rattle.reference.specs.Run.{last_of, run, attempts_of, steps, finished, attempts_in, counts}
 use Rattle.joining.specs.Limits.{RunLimits}
 use Rattle.laws.proofs.Scans.{if-true, if-false}
 use Rattle.lines.specs.Lines.{Reading, numbered, origin_of, listing_read}
@@ -28,7 +28,7 @@ use Rattle.rounds.specs.declared.run.Progress.{Progress}
 use Rattle.rounds.specs.declared.run.Tally as Code
 use Rattle.rounds.specs.Carries.{Carries}
 use Rattle.cuts.specs.Cuts.{Cut}
-use Rattle.rounds.specs.Rounds.{Countable, Made}
+use Rattle.rounds.specs.Rounds.{Made}
 use Rattle.rounds.specs.Runs.{Runnable, most_rounds, rounds_left, count_after, after_round, Few, Counted, Rounded, tally_of, told_of, counts_of, Ran}
 use Rattle.rounds.proofs.Carrying.{carries_none, carries_then, carries_same, numbers_same, cuts-addresses}
 use Rattle.cuts.proofs.Cutting.{last_append}
@@ -38,13 +38,13 @@ use Rattle.rounds.proofs.Turning.{removals_append, now-length, now-few, lent_sam
 
 -- a round changed something where it removed a line
 removed_some : (round : List Attempt) → ((changed round ≡ true) × (removals round ≡ 0 → ⊥)) ⊎ ((changed round ≡ false) × (removals round ≡ 0))
-unfolding changed removals ◌||◌ if◌then◌else◌
+unfolding changed removals ◌or◌ when◌then◌else◌
 removed_some [] = inr (refl, refl)
 removed_some (a ∷ rest) = go a.removed (removed_some rest)
   where
     go : (b : Bool) → ((changed rest ≡ true) × (removals rest ≡ 0 → ⊥)) ⊎ ((changed rest ≡ false) × (removals rest ≡ 0))
-        → (((b || changed rest) ≡ true) × ((if b then suc (removals rest) else removals rest) ≡ 0 → ⊥))
-        ⊎ (((b || changed rest) ≡ false) × ((if b then suc (removals rest) else removals rest) ≡ 0))
+        → (((b or changed rest) ≡ true) × ((when b then suc (removals rest) else removals rest) ≡ 0 → ⊥))
+        ⊎ (((b or changed rest) ≡ false) × ((when b then suc (removals rest) else removals rest) ≡ 0))
     go true ih = inl (refl, λ e. omega arith)
     go false ih = ih
 
@@ -83,7 +83,7 @@ flatten_snoc (first ∷ done) round = rw (flatten_snoc done round) (sym (append_
 -- the attempts of round k, one round more having been made
 count_snoc : (k : ℕ) (done : List (List Attempt)) (round : List Attempt)
     → attempts_in k (done ++ (round ∷ [])) ≡ count_after k (length done) (attempts_in k done) (length round)
-unfolding attempts_in count_after if◌then◌else◌
+unfolding attempts_in count_after when◌then◌else◌
 count_snoc zero [] round = refl
 count_snoc (suc k) [] round = rw (eqb-zero-suc k) refl
 count_snoc zero (first ∷ done) round = rw (eqb-suc-zero (length done)) refl
@@ -168,7 +168,7 @@ pub record Going (rules : Rules) (tape area₀ : Text) (tokens₀ lines₀ lows�
       (λ done. Carries done (used_lines lines₀ at₀) lows₀ highs₀ (used_lines lines s.size) lows highs)
 
 most-few : (settle : Bool) {n : ℕ} → n ≤ 256 → most_rounds settle n ≤ 257
-unfolding most_rounds if◌then◌else◌
+unfolding most_rounds when◌then◌else◌
 most-few true h = omega arith
 most-few false h = omega arith
 
@@ -195,10 +195,10 @@ module _ {rules : Rules} {tape area₀ : Text} {tokens₀ lines₀ lows₀ highs
     module _ (h : 1 ≤ s.left) {area' : Text} {tokens' lines' lows' highs' : List ℕ} {r : Round}
         (m : Made (propagate_once rules) tape area tokens lines lows highs s.size area' tokens' lines' lows' highs' r) where
       left_less : (after_round s r).left < s.left
-      unfolding rounds_left if◌then◌else◌
+      unfolding rounds_left when◌then◌else◌
       left_less = go (eqb r.removed 0)
         where
-          go : (b : Bool) → (if b then 0 else s.left - 1) < s.left
+          go : (b : Bool) → (when b then 0 else s.left - 1) < s.left
           go true = omega (arith, h)
           go false = omega (arith, h)
 

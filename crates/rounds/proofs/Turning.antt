@@ -9,7 +9,7 @@ use mathlib.Core.List.{List, [], ◌∷◌, ◌++◌, map, append-nil}
 use mathlib.Core.Option.{none, some}
 use lib.ListN.{length, length-map, length-append}
 use lib.Seq.{append_snoc, length-take-le}
-use Rattle.reference.specs.Control.{if◌then◌else◌, let_some◌else◌then◌}
+use Rattle.reference.specs.Control.{when◌then◌else◌, let_some◌else◌then◌}
 use Rattle.reference.specs.Lists.{remove}
 use Rattle.reference.specs.Text.{Text}
 use Rattle.reference.specs.Listing.{Listing}
@@ -48,12 +48,12 @@ after_append lines [] ys = refl
 after_append lines (x ∷ xs) ys = after_append x.left xs ys
 
 pub removals_append : (xs ys : List Attempt) → removals (xs ++ ys) ≡ removals xs + removals ys
-unfolding removals if◌then◌else◌
+unfolding removals when◌then◌else◌
 removals_append [] ys = omega arith
 removals_append (x ∷ xs) ys = go x.removed (removals_append xs ys)
   where
     go : (b : Bool) → removals (xs ++ ys) ≡ removals xs + removals ys
-        → (if b then suc (removals (xs ++ ys)) else removals (xs ++ ys)) ≡ (if b then suc (removals xs) else removals xs) + removals ys
+        → (when b then suc (removals (xs ++ ys)) else removals (xs ++ ys)) ≡ (when b then suc (removals xs) else removals xs) + removals ys
     go true e = omega arith
     go false e = e
 
@@ -82,7 +82,7 @@ module _ (rules : Rules) (names : List Text) (first : Labels) where
 
     sofar-failed : i < length lines → try_at rules lines i labels names ≡ none → {Q : List Attempt → Type 0}
         → ((done : List Attempt) → P done → Q (done ++ (failure i lines ∷ []))) → Sofar rules names first start (i + 1) (n + 1) m labels lines Q
-    unfolding after_attempts removals if◌then◌else◌
+    unfolding after_attempts removals when◌then◌else◌
     sofar-failed h e next = record {
       done = u.done ++ (failure i lines ∷ []);
       made = rw (add-one i) (one_more (failure i lines) (attempts-failed rules names i lines labels h e));
@@ -95,7 +95,7 @@ module _ (rules : Rules) (names : List Text) (first : Labels) where
     sofar-succeeded : {lines' : Listing} → i < length lines → try_at rules lines i labels names ≡ some lines' → {Q : List Attempt → Type 0}
         → ((done : List Attempt) → P done → Q (done ++ (success i (targets rules lines i labels) lines' ∷ [])))
         → Sofar rules names first start (pred i) (n + 1) (m + 1) (shift i labels) lines' Q
-    unfolding after_attempts removals if◌then◌else◌
+    unfolding after_attempts removals when◌then◌else◌
     sofar-succeeded {lines'} h e next = record {
       done = u.done ++ (success i (targets rules lines i labels) lines' ∷ []);
       made = one_more (success i (targets rules lines i labels) lines') (attempts-succeeded rules names i lines labels h e);

@@ -1,7 +1,7 @@
 -- What a whole run finds and what it leaves. Assumes nothing.
 use Rattle.std.specs.Prelude.{ℕ, ◌+◌, ◌-◌, ◌*◌, ◌≤◌, ◌≡◌, Bool, eqb, length}
 use mathlib.Core.List.{List, flatten}
-use Rattle.reference.specs.Control.{if◌then◌else◌}
+use Rattle.reference.specs.Control.{when◌then◌else◌}
 use Rattle.reference.specs.Text.{Text}
 use Rattle.reference.specs.Rules.{Rules}
 use Rattle.reference.specs.Run as R
@@ -39,15 +39,15 @@ pub record Runnable (tape area : Text) (tokens lines : List ℕ) (area2 : Text) 
 
 -- how many rounds are made of n lines at most
 unfoldable pub most_rounds : Bool → ℕ → ℕ
-most_rounds settle n = if settle then n + 1 else 3
+most_rounds settle n = when settle then n + 1 else 3
 
 -- how many more may be made after a round that removed so many lines
 unfoldable pub rounds_left : ℕ → ℕ → ℕ
-rounds_left left removed = if eqb removed 0 then 0 else left - 1
+rounds_left left removed = when eqb removed 0 then 0 else left - 1
 
 -- the attempts of round k after a round with so many attempts, `made` having been made before it
 unfoldable pub count_after : ℕ → ℕ → ℕ → ℕ → ℕ
-count_after k made before attempts = if eqb made k then attempts else before
+count_after k made before attempts = when eqb made k then attempts else before
 
 abbrev pub after_round : Progress → Round → Progress
 after_round s r =
@@ -96,7 +96,7 @@ tally_of (Three first second third) = R.three first second third
 tally_of (Settled rounds attempts) = R.settled rounds attempts
 
 abbrev pub told_of : Bool → Progress → R.Tally
-told_of settle s = if settle then R.settled s.made s.attempts else R.three s.first s.second s.third
+told_of settle s = when settle then R.settled s.made s.attempts else R.three s.first s.second s.third
 
 abbrev pub counts_of : Outcome → R.Counts
 counts_of r = record { tally = tally_of r.tally; lines_removed = r.removed; results_cut = r.cut }

@@ -1,6 +1,5 @@
 // One round: `propagate_once` of the Rust.
 ghost use Rattle.std.specs.Prelude.{◌≡◌, pred};
-ghost use Rattle.reference.specs.Contract.{was};
 ghost use Rattle.reference.specs.Run.{propagate_once};
 ghost use Rattle.lines.specs.Rules.{rules_of};
 ghost use Rattle.join.specs.Attempts.{Attemptable};
@@ -14,7 +13,7 @@ use life::{gather_labels, shift_labels};
 use lines::rules::Rules;
 
 // How far a round has come: the next line to try, the attempts and the removals so far, and the listing's size.
-#[derive(Drop)]
+#[derive(Clone, Copy)]
 pub struct Round {
     pub next: usize,
     pub attempts: u64,
@@ -50,8 +49,8 @@ fn turn<'a>(
 ) -> Round
     requires { Attemptable tape.now area.old tokens.old lines.old area2.old tokens2.old lows.old highs.old
         labels.old slots.now slot_words.now r.next r.size × Countable r }
-    ensures { Turned (rules_of rules) (was tape) (was area) (was tokens) (was lines)
-        (was lows) (was highs) (was labels) (was slots) (was slot_words) r
+    ensures { Turned (rules_of rules) tape.now area.old tokens.old lines.old
+        lows.old highs.old labels.old slots.now slot_words.now r
         area.new tokens.new lines.new lows.new highs.new labels.new result }
 {
     let i = r.next;
@@ -96,8 +95,8 @@ fn turns<'a>(
 ) -> Round
     requires { Roundable tape.now area.old tokens.old lines.old area2.old tokens2.old lows.old highs.old
         labels.old slots.now slot_words.now size }
-    ensures { Made (attempts_with (rules_of rules) (was tape) (was area) (was tokens) (was lines) size (was labels) (was slots)
-        (was slot_words)) (was tape) (was area) (was tokens) (was lines) (was lows) (was highs) size area.new
+    ensures { Made (attempts_with (rules_of rules) tape.now area.old tokens.old lines.old size labels.old slots.now
+        slot_words.now) tape.now area.old tokens.old lines.old lows.old highs.old size area.new
         tokens.new lines.new lows.new highs.new result }
 {
     let mut r = Round {
@@ -133,7 +132,7 @@ pub fn propagate_once(
 ) -> Round
     requires { Runnable tape.now area.old tokens.old lines.old area2.old tokens2.old lows.old highs.old
         labels.old slots.old slot_words.old size }
-    ensures { Made (propagate_once (rules_of rules)) (was tape) (was area) (was tokens) (was lines) (was lows) (was highs) size
+    ensures { Made (propagate_once (rules_of rules)) tape.now area.old tokens.old lines.old lows.old highs.old size
         area.new tokens.new lines.new lows.new highs.new result }
 {
     let n = size.lines;

@@ -4,7 +4,6 @@
 // the listing. The marks of a line, the lowest and the highest address of it and of all that was joined into it, are in `lows` and `highs`,
 // by the number of the input line.
 ghost use Rattle.std.specs.Prelude.{◌≡◌, ◌≤◌};
-ghost use Rattle.reference.specs.Contract.{was};
 ghost use Rattle.lines.specs.Rules.{rules_of};
 ghost use Rattle.join.specs.Current.{Current};
 ghost use Rattle.rounds.specs.Rounds.{Countable};
@@ -19,14 +18,14 @@ use lines::rules::Rules;
 
 // What is told of the rounds: the attempts of each of three, 0 for one that was not made; or, of a run that settled, how many rounds it
 // made, the last included, and the attempts of them all.
-#[derive(Drop)]
+#[derive(Clone, Copy)]
 pub enum Tally {
     Three { first: u64, second: u64, third: u64 },
     Settled { rounds: u64, attempts: u64 },
 }
 
 // What a run left: what is told of the rounds, the lines removed, the results cut, and the listing's size.
-#[derive(Drop)]
+#[derive(Clone, Copy)]
 pub struct Outcome {
     pub tally: Tally,
     pub removed: u64,
@@ -36,7 +35,7 @@ pub struct Outcome {
 
 // How far the rounds have come: how many more may be made, how many were, the attempts of each of the first three and of all, the lines
 // removed, and the listing's size.
-#[derive(Drop)]
+#[derive(Clone, Copy)]
 pub struct Progress {
     pub left: usize,
     pub made: u64,
@@ -133,7 +132,7 @@ fn make_rounds(
 ) -> Progress
     requires { Runnable tape.now area.old tokens.old lines.old area2.old tokens2.old
         lows.old highs.old labels.old slots.old slot_words.old size }
-    ensures { Rounded (rules_of rules) (was tape) (was area) (was tokens) (was lines) (was lows) (was highs) size
+    ensures { Rounded (rules_of rules) tape.now area.old tokens.old lines.old lows.old highs.old size
         area.new tokens.new lines.new lows.new highs.new result }
 {
     let mut s = Progress {
@@ -160,7 +159,7 @@ fn make_rounds(
 // Notes the facts of each line of the listing in its word.
 fn note_facts<'a>(tape: &'a [u8], area: &'a [u8], tokens: &'a [u64], lines: &mut [u64], size: Size)
     requires { Current tape.now area.now tokens.now lines.old size }
-    ensures { SameListing (was tape) (was area) (was tokens) (was lines) size lines.new }
+    ensures { SameListing tape.now area.now tokens.now lines.old size lines.new }
 {
     let n = size.lines;
     let used = size.tokens;
@@ -186,7 +185,7 @@ pub fn optimize(
 ) -> Outcome
     requires { Runnable tape.now area.old tokens.old lines.old area2.old tokens2.old
         lows.old highs.old labels.old slots.old slot_words.old size }
-    ensures { Ran (rules_of rules) (was tape) (was area) (was tokens) (was lines) (was lows) (was highs) size area.new
+    ensures { Ran (rules_of rules) tape.now area.old tokens.old lines.old lows.old highs.old size area.new
         tokens.new lines.new lows.new highs.new result }
 {
     note_facts(tape, area, tokens, lines, size);

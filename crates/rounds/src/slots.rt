@@ -1,6 +1,5 @@
 // The stack slots whose address is taken when a round begins: their names are copied, since texts in the area move during the round.
 ghost use Rattle.std.specs.Prelude.{[], ◌∷◌, length};
-ghost use Rattle.reference.specs.Contract.{was};
 ghost use Rattle.reference.specs.Lists.{windows};
 ghost use Rattle.reference.specs.Claim.{text_in, token_count, text as text-of-all};
 ghost use Rattle.reference.specs.Run.{addressed_here, addressed_in};
@@ -12,7 +11,7 @@ use lines::words;
 use text::{begins_slot, copy_bytes, ends_ampersand};
 
 // Names that were gathered: how many, and how many bytes they have.
-#[derive(Drop)]
+#[derive(Clone, Copy)]
 pub struct Slots {
     pub count: usize,
     pub text: usize,
@@ -30,8 +29,8 @@ fn gather_slot<'a>(
 ) -> Slots
     requires { Points tape.now area.now before × Points tape.now area.now w × Slotting slots.old slot_words.old g
         × Roomy slots.old slot_words.old g (len_of w) 1 }
-    ensures { Noted (addressed_here ((token_of (was tape) (was area) before, token_of (was tape) (was area) w) ∷ [])) (len_of w) 1
-        (was slots) (was slot_words) g slots.new slot_words.new result }
+    ensures { Noted (addressed_here ((token_of tape.now area.now before, token_of tape.now area.now w) ∷ [])) (len_of w) 1
+        slots.old slot_words.old g slots.new slot_words.new result }
 {
     let s = words::text(tape, area, w);
     if !ends_ampersand(words::text(tape, area, before)) {
@@ -61,9 +60,9 @@ fn gather_line<'a>(
 ) -> Slots
     requires { Holds tape.now area.now line.now × Slotting slots.old slot_words.old g
         × Roomy slots.old slot_words.old g (text_in (tokens_of tape.now area.now line.now)) (length line.now) }
-    ensures { Noted (addressed_here (windows (tokens_of (was tape) (was area) (was line))))
-        (text_in (tokens_of (was tape) (was area) (was line))) (length (was line)) (was slots)
-        (was slot_words) g slots.new slot_words.new result }
+    ensures { Noted (addressed_here (windows (tokens_of tape.now area.now line.now)))
+        (text_in (tokens_of tape.now area.now line.now)) (length line.now) slots.old
+        slot_words.old g slots.new slot_words.new result }
 {
     let mut all = g;
     let mut k = 0;
@@ -86,7 +85,7 @@ pub fn gather_slots<'a>(
     requires { Listed tape.now area.now tokens.now lines.now × Roomy slots.old slot_words.old
         (record { count = 0; text = 0 }) (text-of-all (bare_listing tape.now area.now tokens.now lines.now))
         (token_count (bare_listing tape.now area.now tokens.now lines.now)) }
-    ensures { Gathers (addressed_in (bare_listing (was tape) (was area) (was tokens) (was lines))) slots.new
+    ensures { Gathers (addressed_in (bare_listing tape.now area.now tokens.now lines.now)) slots.new
         slot_words.new result }
 {
     let mut all = Slots { count: 0, text: 0 };

@@ -1,11 +1,13 @@
 // Which x makes a * x + b a given number modulo 2^64: the smallest, found bit by bit, with no product and no inverse. For request M-107,
 // where a formula comes to a * x + b in the start value x of one register.
+#![tactic(auto)]
+
 ghost use Rattle.std.specs.Prelude.{◌≡◌, ◌+◌, ◌*◌, ◌%◌, ◌^◌, ◌≤◌};
 ghost use Rattle.solving.specs.Solutions.{Smallest, Answers, Solves};
 
 use std::num::{wrapping_add_u64, wrapping_sub_u64};
 
-#[derive(Drop)]
+#[derive(Clone, Copy)]
 pub enum Solution {
     Smallest(u64),
     None,

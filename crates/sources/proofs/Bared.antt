@@ -7,7 +7,7 @@ use mathlib.Core.List.{List, [], ◌∷◌, map, map-append, flatten}
 use mathlib.Core.Option.{Option, none, some}
 use lib.Dec.{ltb}
 use lib.ListN.{length, length-map}
-use Rattle.reference.specs.Control.{if◌then◌else◌, let_some◌else◌then◌}
+use Rattle.reference.specs.Control.{when◌then◌else◌, let_some◌else◌then◌}
 use Rattle.reference.specs.Lists.{any}
 use Rattle.reference.specs.Text.{Text}
 use Rattle.reference.specs.Listing.{Listing}
@@ -15,7 +15,8 @@ use Rattle.reference.specs.Rules.{Rules}
 use Rattle.reference.specs.Life.{Labels}
 use Rattle.reference.specs.Join.{try_at, targets}
 use Rattle.reference.specs.Straight.{breaks, breaks_from}
-use Rattle.reference.specs.Run.{labels_from, addressed_in, shift, Attempt, failure, success, attempts_from, propagate_once, after_attempts, removals, changed, rounds_from, limit, after_rounds, dead_result, cuts_from, drop_dead_results, last_of, Run, run, attempts_of, finished, attempts_in, counts}
+use Rattle.reference.specs.Run.{labels_from, addressed_in, shift, Attempt, failure, success, attempts_from, propagate_once, after_attempts, removals, changed, rounds_from, limit, after_rounds}
+use Rattle.reference.specs.Run.{dead_result, cuts_from, drop_dead_results, last_of, Run, run, attempts_of, finished, attempts_in, counts}
 use Rattle.reference.specs.Marks.{moved, comes_to}
 use Rattle.reference.proofs.Marks.{finished_is}
 use Rattle.laws.proofs.Scans.{any-map, count_map}
@@ -39,17 +40,17 @@ module _ (rules : Rules) (addressed : List Text) where
       → ((i : ℕ) (lines : Listing) (labels : Labels)
       → attempts_from rules addressed fuel i (bare_lines lines) labels ≡ map bare_attempt (attempts_from rules addressed fuel i lines labels))
       → attempts_from rules addressed (suc fuel) i (bare_lines lines) labels ≡ map bare_attempt (attempts_from rules addressed (suc fuel) i lines labels)
-  unfolding attempts_from bare_attempt if◌then◌else◌ let_some◌else◌then◌
+  unfolding attempts_from bare_attempt when◌then◌else◌ let_some◌else◌then◌
   step-bare fuel i lines labels next =
       rw (length-map lines bare, try_at-bare rules lines i labels addressed) (go (ltb i (length lines)) (try_at rules lines i labels addressed) refl)
     where
       go : (b : Bool) (o : Option Listing) → try_at rules lines i labels addressed ≡ o
-          → (if b
+          → (when b
           then (let_some (let_some o else none then λ lines'. some (bare_lines lines')) else (failure i (bare_lines lines) ∷ attempts_from rules addressed fuel (suc i) (bare_lines lines) labels)
           then λ lines'. success i (targets rules (bare_lines lines) i labels) lines' ∷ attempts_from rules addressed fuel (pred i) lines' (shift i labels))
           else [])
           ≡ map bare_attempt
-          (if b
+          (when b
           then (let_some o else (failure i lines ∷ attempts_from rules addressed fuel (suc i) lines labels)
           then λ lines'. success i (targets rules lines i labels) lines' ∷ attempts_from rules addressed fuel (pred i) lines' (shift i labels))
           else [])
@@ -89,10 +90,10 @@ rounds-bare rules (suc limit) lines =
     let round : List Attempt = propagate_once rules lines in
     rw (round_bare rules lines, changed-bare round, after-bare lines round, rounds-bare rules limit (after_attempts lines round)) (go (changed round))
   where
-    go : (b : Bool) → (map bare_attempt (propagate_once rules lines) ∷ (if b then map (map bare_attempt) (rounds_from rules limit (after_attempts lines (propagate_once rules lines))) else []))
-        ≡ map (map bare_attempt) (propagate_once rules lines ∷ (if b then rounds_from rules limit (after_attempts lines (propagate_once rules lines)) else []))
-    go true = unfold if◌then◌else◌ in refl
-    go false = unfold if◌then◌else◌ in refl
+    go : (b : Bool) → (map bare_attempt (propagate_once rules lines) ∷ (when b then map (map bare_attempt) (rounds_from rules limit (after_attempts lines (propagate_once rules lines))) else []))
+        ≡ map (map bare_attempt) (propagate_once rules lines ∷ (when b then rounds_from rules limit (after_attempts lines (propagate_once rules lines)) else []))
+    go true = unfold when◌then◌else◌ in refl
+    go false = unfold when◌then◌else◌ in refl
 
 after-rounds-bare : (lines : Listing) (rounds : List (List Attempt)) → after_rounds (bare_lines lines) (map (map bare_attempt) rounds) ≡ bare_lines (after_rounds lines rounds)
 unfolding after_rounds
@@ -109,10 +110,10 @@ cuts-bare rules labels (suc n) i lines =
     rw (dead_result-bare rules labels lines i, cut-bare i lines, cuts-bare rules labels n (suc i) (cut_at i lines), cuts-bare rules labels n (suc i) lines)
     (go (dead_result rules labels lines i))
   where
-    go : (b : Bool) → (if b then bare_lines (cut_at i lines) ∷ map bare_lines (cuts_from rules labels n (suc i) (cut_at i lines)) else map bare_lines (cuts_from rules labels n (suc i) lines))
-        ≡ map bare_lines (if b then cut_at i lines ∷ cuts_from rules labels n (suc i) (cut_at i lines) else cuts_from rules labels n (suc i) lines)
-    go true = unfold if◌then◌else◌ in refl
-    go false = unfold if◌then◌else◌ in refl
+    go : (b : Bool) → (when b then bare_lines (cut_at i lines) ∷ map bare_lines (cuts_from rules labels n (suc i) (cut_at i lines)) else map bare_lines (cuts_from rules labels n (suc i) lines))
+        ≡ map bare_lines (when b then cut_at i lines ∷ cuts_from rules labels n (suc i) (cut_at i lines) else cuts_from rules labels n (suc i) lines)
+    go true = unfold when◌then◌else◌ in refl
+    go false = unfold when◌then◌else◌ in refl
 
 -- ---- the run
 

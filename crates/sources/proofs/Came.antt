@@ -9,7 +9,7 @@ use lib.Dec.{leb}
 use lib.ListN.{length, get_or, take, drop, length-append, get_or-append}
 use lib.Seq.{take-append_seam}
 use borrow.Author.Tests.{le-leb, lt-leb, lt-ltb}
-use Rattle.reference.specs.Control.{if◌then◌else◌, let_some◌else◌then◌}
+use Rattle.reference.specs.Control.{when◌then◌else◌, let_some◌else◌then◌}
 use Rattle.reference.specs.Lists.{is_some}
 use Rattle.reference.specs.Listing.{Listing}
 use Rattle.reference.specs.Rules.{Rules}
@@ -55,7 +55,7 @@ flags_are [] [] test e h = refl
 flags_are [] (l ∷ ls) test e h = absurd (omega arith)
 flags_are (m ∷ ms) [] test e h = absurd (omega arith)
 flags_are (m ∷ ms) (l ∷ ls) test e h =
-    λ i. (if h 0 (omega arith) i then 1 else 0) ∷ flags_are ms ls (λ q. test (suc q)) (omega arith) (λ q g. h (suc q) (omega arith)) i
+    λ i. (when h 0 (omega arith) i then 1 else 0) ∷ flags_are ms ls (λ q. test (suc q)) (omega arith) (λ q g. h (suc q) (omega arith)) i
 
 -- THE FLAGS OF THE COPY'S FINISHED LINES TELL WHAT LINE k COMES INTO
 copy-flags : (rules : Rules) (input : Listing) (k : ℕ) → map flag_of (finished_marks rules (only k input) []) ≡ came_flags rules input k
@@ -72,11 +72,11 @@ placed-profile : (rules : Rules) (a b : Listing) (c : R.Cleaned) (bytes : List �
 unfolding ask_profile in_profile
 placed-profile rules a b c bytes e = rw e (go rules.profile (breaks b))
   where
-    go : (p : Bool) (o : Option ℕ) → in_place_of (if p then (let_some o else Passed c then λ n. Refused 14 n) else Passed c) bytes
-        ≡ (if p then (let_some o else Passed bytes then λ n. Refused 14 n) else Passed bytes)
-    go true none = unfold if◌then◌else◌ let_some◌else◌then◌ in refl
-    go true (some n) = unfold if◌then◌else◌ let_some◌else◌then◌ in refl
-    go false o = unfold if◌then◌else◌ in refl
+    go : (p : Bool) (o : Option ℕ) → in_place_of (when p then (let_some o else Passed c then λ n. Refused 14 n) else Passed c) bytes
+        ≡ (when p then (let_some o else Passed bytes then λ n. Refused 14 n) else Passed bytes)
+    go true none = unfold when◌then◌else◌ let_some◌else◌then◌ in refl
+    go true (some n) = unfold when◌then◌else◌ let_some◌else◌then◌ in refl
+    go false o = unfold when◌then◌else◌ in refl
 
 profile_passed : (rules : Rules) (lines : Listing) (bytes : List ℕ) {x : List ℕ} → in_profile rules lines (Passed bytes) ≡ Passed x → bytes ≡ x
 unfolding in_profile
@@ -175,17 +175,17 @@ module _ (rules : Rules) (k : ℕ) (tape : List ℕ) (lent : Lent) where
       length_asked a = ask (λ number. 0) ((2, leb COPY (length lent.copy)) ∷ []) a
 
       asked_then : {A : Type 0} (a : Answer A) → ask_lent rules lent a ≡ length_asked a
-      unfolding ask_lent ask if◌then◌else◌
+      unfolding ask_lent ask when◌then◌else◌
       asked_then a = ask-yes (λ number. 0) (door rules lent) _ open_door ∙ rw (le-leb FLAGS (length lent.flags) room)
 
       -- by the copy's length, or by the tape
       no_copy : {n p : ℕ} → only_reply k tape (length lent.copy) ≡ Refused n p → (f : Listing → Answer (List ℕ))
           → ask_lent rules lent (let_passed (read tape) then f) ≡ Refused n p
-      unfolding only_reply ask if◌then◌else◌
+      unfolding only_reply ask when◌then◌else◌
       no_copy {n} {p} e f = asked_then _ ∙ go (leb COPY (length lent.copy)) e
         where
-          go : (b : Bool) → (if b then (let_passed (read tape) then λ lines. Passed (only_tape k lines)) else Refused 2 0) ≡ Refused n p
-              → (if b then (let_passed (read tape) then f) else Refused 2 0) ≡ Refused n p
+          go : (b : Bool) → (when b then (let_passed (read tape) then λ lines. Passed (only_tape k lines)) else Refused 2 0) ≡ Refused n p
+              → (when b then (let_passed (read tape) then f) else Refused 2 0) ≡ Refused n p
           go true =
               by_passed (λ (a : Answer (List ℕ)). a ≡ Refused n p → (let_passed (read tape) then f) ≡ Refused n p)
               (λ m q u e. let_refused f u ∙ e)

@@ -7,7 +7,7 @@ use mathlib.Core.List.{List, [], ◌∷◌, ◌++◌, map, flat_map, append_asso
 use mathlib.Core.Option.{none, some}
 use lib.ListN.{length, get_or, drop}
 use lib.Seq.{append_snoc}
-use Rattle.reference.specs.Control.{if◌then◌else◌}
+use Rattle.reference.specs.Control.{when◌then◌else◌}
 use Rattle.reference.specs.Lists.{count}
 use Rattle.reference.specs.Listing.{Token, Line, Listing}
 use Rattle.reference.specs.Rules.{Rules}
@@ -105,7 +105,7 @@ listing-inner (l ∷ ls) marks h t f =
 -- ---- they begin as many lines as the listing has
 
 count_append : (xs ys : List Tape.Command) → count begins (xs ++ ys) ≡ count begins xs + count begins ys
-unfolding if◌then◌else◌
+unfolding when◌then◌else◌
 count_append [] ys = omega arith
 count_append (Tape.new_line address indent ∷ xs) ys = omega (arith, count_append xs ys)
 count_append (Tape.marked s ∷ xs) ys = count_append xs ys
@@ -113,17 +113,17 @@ count_append (Tape.new_token t ∷ xs) ys = count_append xs ys
 count_append (Tape.end ∷ xs) ys = count_append xs ys
 
 tokens_begin : (ts : List Token) → count begins (map Tape.new_token ts) ≡ 0
-unfolding if◌then◌else◌
+unfolding when◌then◌else◌
 tokens_begin [] = refl
 tokens_begin (t ∷ ts) = tokens_begin ts
 
 marks_begin : (m : Marks) → count begins (mark-commands m) ≡ 0
-unfolding if◌then◌else◌
+unfolding when◌then◌else◌
 marks_begin none = refl
 marks_begin (some s) = refl
 
 line_begins : (l : Line) (m : Marks) → count begins (line_commands l m) ≡ 1
-unfolding line_commands if◌then◌else◌
+unfolding line_commands when◌then◌else◌
 line_begins l m = omega (arith, count_append (mark-commands m) (map Tape.new_token l.tokens), tokens_begin l.tokens, marks_begin m)
 
 listing_begins : (lines : Listing) (marks : List Marks) → count begins (listing-commands lines marks) ≡ length lines

@@ -8,7 +8,7 @@ use mathlib.Core.List.{List, [], ◌∷◌, ◌++◌, Sublistᴰ}
 use mathlib.Core.Option.{Option, none, some}
 use lib.ListN.{length, drop, length-map}
 use borrow.Author.Tests.{eqb-true}
-use Rattle.reference.specs.Control.{if◌then◌else◌}
+use Rattle.reference.specs.Control.{when◌then◌else◌}
 use Rattle.reference.specs.Lists.{is_empty, remove, modify}
 use Rattle.reference.specs.Text.{Text}
 use Rattle.reference.specs.Listing.{Token, token, is, Number, Punct, Line, Listing, ◌at◌, with_tokens}
@@ -52,7 +52,7 @@ assigned-kinds : {ts : List Token} {a : Assignment} → Assigning ts a → All K
 unfolding right_side
 assigned-kinds (assigning {eq = eq} {rest = rest} r p s c) k =
     cut-kinds c
-    (all_append Kind (if is_empty (drop 3 eq.text) then [] else token Punct (drop 3 eq.text) ∷ []) rest
+    (all_append Kind (when is_empty (drop 3 eq.text) then [] else token Punct (drop 3 eq.text) ∷ []) rest
     (by-if (λ (ts : List Token). All Kind ts) (λ e. tt) (λ e. (omega arith, tt)))
     k.1.1)
 

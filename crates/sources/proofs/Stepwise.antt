@@ -9,7 +9,7 @@ use mathlib.Core.Option.{Option, none}
 use lib.Dec.{eqb}
 use lib.ListN.{length, length-map}
 use borrow.Author.Tests.{eq-eqb, ne_eqb, eqb-true, eqb-false, leb-true}
-use Rattle.reference.specs.Control.{if◌then◌else◌}
+use Rattle.reference.specs.Control.{when◌then◌else◌}
 use Rattle.reference.specs.Lists.{modify}
 use Rattle.reference.specs.Listing.{Token, Line, Listing}
 use Rattle.reference.specs.Spans.{Marks}
@@ -38,7 +38,7 @@ fresh_line address indent = record { address = address; indent = indent; tokens 
 
 only_line : (k : ℕ) (lines : Listing) (address : Option ℕ) (indent : ℕ)
     → only k (lines ++ (fresh_line address indent ∷ [])) ≡ only k lines ++ (fresh_line (address_for (eqb (length lines) k)) indent ∷ [])
-unfolding only if◌then◌else◌
+unfolding only when◌then◌else◌
 only_line zero [] address indent = refl
 only_line (suc k) [] address indent = rw (ne_eqb 0 (suc k) (λ z. omega arith))
 only_line zero (l ∷ ls) address indent =

@@ -9,7 +9,7 @@ use mathlib.Core.Option.{none}
 use lib.Dec.{ltb}
 use lib.ListN.{length, get_or}
 use borrow.Author.Tests.{ltb-true, ltb-false, lt-ltb, le-ltb}
-use Rattle.reference.specs.Control.{◌&&◌, if◌then◌else◌, let_some◌else◌then◌}
+use Rattle.reference.specs.Control.{◌and◌, when◌then◌else◌, let_some◌else◌then◌}
 use Rattle.reference.specs.Lists.{is_some}
 use Rattle.reference.specs.Listing.{Listing}
 use Rattle.reference.specs.Rules.{Rules}
@@ -43,8 +43,8 @@ below m n = go (ltb m n) refl
     go true e = sym (lt-ltb (suc m) (suc n) (omega (arith, ltb-true m n e)))
     go false e = sym (le-ltb (suc m) (suc n) (omega (arith, ltb-false m n e)))
 
-nothing-added : (b : Bool) (xs : List ℕ) → (if b then [] else []) ++ xs ≡ xs
-unfolding if◌then◌else◌
+nothing-added : (b : Bool) (xs : List ℕ) → (when b then [] else []) ++ xs ≡ xs
+unfolding when◌then◌else◌
 nothing-added true xs = refl
 nothing-added false xs = refl
 
@@ -54,18 +54,18 @@ bare-adds P [] = refl
 bare-adds P (l ∷ ls) = nothing-added (P 0) _ ∙ bare-adds (λ p. P (suc p)) ls
 
 -- the address of line k, where it is picked out
-only-adds : (P : ℕ → Bool) (k : ℕ) (lines : Listing) → added P (only k lines) [] ≡ (if ltb k (length lines) && P k then 0 ∷ [] else [])
-unfolding added adds let_some◌else◌then◌ only if◌then◌else◌
+only-adds : (P : ℕ → Bool) (k : ℕ) (lines : Listing) → added P (only k lines) [] ≡ (when ltb k (length lines) and P k then 0 ∷ [] else [])
+unfolding added adds let_some◌else◌then◌ only when◌then◌else◌
 only-adds P k [] = rw (and_false (P k) (le-ltb k 0 (omega arith)))
 only-adds P zero (l ∷ ls) = rw (and_true (P 0) (lt-ltb 0 (length (l ∷ ls)) (omega arith)), bare-adds (λ p. P (suc p)) ls) (go (P 0))
   where
-    go : (b : Bool) → ◌++◌ {A = ℕ} (if b then 0 ∷ [] else []) [] ≡ (if b then 0 ∷ [] else [])
+    go : (b : Bool) → ◌++◌ {A = ℕ} (when b then 0 ∷ [] else []) [] ≡ (when b then 0 ∷ [] else [])
     go true = refl
     go false = refl
-only-adds P (suc k) (l ∷ ls) = nothing-added (P 0) _ ∙ only-adds (λ p. P (suc p)) k ls ∙ ap (λ (b : Bool). if b && P (suc k) then 0 ∷ [] else []) (below k (length ls))
+only-adds P (suc k) (l ∷ ls) = nothing-added (P 0) _ ∙ only-adds (λ p. P (suc p)) k ls ∙ ap (λ (b : Bool). when b and P (suc k) then 0 ∷ [] else []) (below k (length ls))
 
-is_some_span : (b : Bool) → is_some (span_of (if b then 0 ∷ [] else [])) ≡ b
-unfolding if◌then◌else◌ span_of hull
+is_some_span : (b : Bool) → is_some (span_of (when b then 0 ∷ [] else [])) ≡ b
+unfolding when◌then◌else◌ span_of hull
 is_some_span true = refl
 is_some_span false = refl
 
@@ -88,8 +88,8 @@ module _ (rules : Rules) (input : Listing) (k : ℕ) where
       ap is_some
       (each_at (λ q. span_of (added (λ p. comes_to (attempts_of (run rules copy)) p q) copy [])) (finished rules copy) q (omega (arith, finished-length rules copy input same))
       ∙ ap span_of (only-adds comes k input))
-      ∙ is_some_span (ltb k (length input) && comes k)
-      ∙ ap (λ (b : Bool). ltb k (length input) && b) (comes_same rules copy input same k q)
+      ∙ is_some_span (ltb k (length input) and comes k)
+      ∙ ap (λ (b : Bool). ltb k (length input) and b) (comes_same rules copy input same k q)
 
   -- THE LAW
   pub told : (q : ℕ) → k < length input → q < length (finished rules input)

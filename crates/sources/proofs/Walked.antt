@@ -10,7 +10,7 @@ use lib.Dec.{eqb}
 use lib.ListN.{length, drop, set, length-append, length-drop, length-map, length-set}
 use lib.Seq.{drop-drop, drop-append_seam, set-append_left}
 use borrow.Author.Tests.{eq-eqb, ne_eqb, le-leb}
-use Rattle.reference.specs.Control.{if◌then◌else◌}
+use Rattle.reference.specs.Control.{when◌then◌else◌}
 use Rattle.reference.specs.Lists.{count, modify}
 use Rattle.reference.specs.Spans.{Span, Marks}
 use Rattle.reference.specs.Tape as Tape
@@ -58,7 +58,7 @@ some_bytes Tape.end = omega arith
 -- THE 03S OF A TAPE ARE THOSE OF ITS COMMANDS
 marks_left : (fuel : ℕ) (cs : List Tape.Command) (behind : List ℕ) (ms : List Marks) → All Inner cs → length (rest cs behind) ≤ fuel
     → marks_from fuel (rest cs behind) ms ≡ final cs ms
-unfolding marks_from_by final if◌then◌else◌
+unfolding marks_from_by final when◌then◌else◌
 marks_left zero [] behind ms h l = absurd (omega (arith, length-append (write_command Tape.end) behind, some_bytes Tape.end))
 marks_left zero (c ∷ cs) behind ms h l = absurd (omega (arith, length-append (write_command c) (rest cs behind), some_bytes c))
 marks_left (suc fuel) [] behind ms h l = rw (read_of-write {form = old} Tape.end behind tt).same
@@ -77,7 +77,7 @@ walk-told tape cs behind e h =
 -- ---- one command more
 
 modified_flags : (s : Span) (i : ℕ) (ms : List Marks) → map flag_of (modify i (λ m. some s) ms) ≡ set (map flag_of ms) i 1
-unfolding flag_of if◌then◌else◌
+unfolding flag_of when◌then◌else◌
 modified_flags s i [] = refl
 modified_flags s zero (m ∷ ms) = refl
 modified_flags s (suc i) (m ∷ ms) = ap (λ (r : List ℕ). flag_of m ∷ r) (modified_flags s i ms)
@@ -87,7 +87,7 @@ module _ {flags₀ flags : List ℕ} {n : ℕ} (ms : List Marks) (p : Puts flags
   count_is = omega (arith, p.ends, length-map ms flag_of)
 
   line_put : n < length flags → Puts flags₀ 0 (map flag_of (ms ++ (none ∷ []))) (set flags n 0) (n + 1)
-  unfolding flag_of if◌then◌else◌
+  unfolding flag_of when◌then◌else◌
   line_put h =
       rw (map-append flag_of ms (none ∷ []))
       (puts_append flags₀ 0 (map flag_of ms) (0 ∷ []) (omega arith) p (record { holds = put_one flags n 0 h; ends = refl }))
@@ -124,12 +124,12 @@ module _ {flags₀ flags : List ℕ} {n : ℕ} (ms : List Marks) (p : Puts flags
   command-put tape at End h = p
 
 after-length : (c : Command) (n : ℕ) (flags : List ℕ) → length (flags_after c n flags) ≡ length flags
-unfolding marked_last if◌then◌else◌
+unfolding marked_last when◌then◌else◌
 after-length (Addressed address indent) n flags = length-set flags n 0
 after-length (Plain indent) n flags = length-set flags n 0
 after-length (Marked low high) n flags = go (eqb n 0)
   where
-    go : (b : Bool) → length (if b then flags else set flags (n - 1) 1) ≡ length flags
+    go : (b : Bool) → length (when b then flags else set flags (n - 1) 1) ≡ length flags
     go true = refl
     go false = length-set flags (n - 1) 1
 after-length (Token kind count) n flags = refl
@@ -182,7 +182,7 @@ first_writable (c ∷ cs) h = h.0.0
 
 module _ (tape : List ℕ) (at : ℕ) (cs : List Tape.Command) where
   flag_fits : (c : Command) (n : ℕ) (flags : List ℕ) → n + count begins (command_in tape at c ∷ cs) ≤ length flags → FlagFits c n flags
-  unfolding if◌then◌else◌
+  unfolding when◌then◌else◌
   flag_fits (Addressed address indent) n flags h = omega arith
   flag_fits (Plain indent) n flags h = omega arith
   flag_fits (Marked low high) n flags h = omega arith
@@ -190,7 +190,7 @@ module _ (tape : List ℕ) (at : ℕ) (cs : List Tape.Command) where
   flag_fits End n flags h = tt
 
   lines_left : (c : Command) (ms : List Marks) → length (add_marks (command_in tape at c) ms) + count begins cs ≡ length ms + count begins (command_in tape at c ∷ cs)
-  unfolding if◌then◌else◌ add_marks
+  unfolding when◌then◌else◌ add_marks
   lines_left (Addressed address indent) ms = omega (arith, length-append ms (none ∷ []))
   lines_left (Plain indent) ms = omega (arith, length-append ms (none ∷ []))
   lines_left (Marked low high) ms = omega (arith, length-modify (λ (m : Marks). some (record { lowest = low; highest = high })) (pred (length ms)) ms)
@@ -215,7 +215,11 @@ module _ {tape flags₀ : List ℕ} {at n : ℕ} {flags : List ℕ} (w : Walking
   stands =
       let b = read_of-write {form = old} now post (first_writable w.commands w.inner) in
       rw (here)
-      (ask-yes _ _ _ (b.known, (rw (b.size, length-append (write_command now) post) (le-leb (length (write_command now)) (length (write_command now) + length post) (omega arith)), tt)) ∙ λ i. Passed (b.same i, b.size i))
+      (ask-yes _ _ _ (
+        b.known,
+        (rw (b.size, length-append (write_command now) post) (le-leb (length (write_command now)) (length (write_command now) + length post) (omega arith)), tt),
+      )
+      ∙ λ i. Passed (b.same i, b.size i))
 
   pub walk-stands : Stood tape at
   walk-stands = record { what = (now, length (write_command now)); stands = stands }

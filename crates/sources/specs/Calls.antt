@@ -2,7 +2,7 @@
 use Rattle.std.specs.Prelude.{ℕ, ◌+◌, ◌-◌, ◌≤◌, ◌<◌, ◌≡◌, Bool, true, false, eqb, length, get_or, set}
 use mathlib.Core.List.{List, [], ◌++◌, map, flat_map}
 use Rattle.std.proofs.Math.Option.{Option, none, some}
-use Rattle.reference.specs.Control.{if◌then◌else◌}
+use Rattle.reference.specs.Control.{when◌then◌else◌}
 use Rattle.reference.specs.Lists.{is_some, count}
 use Rattle.reference.specs.Listing.{Listing}
 use Rattle.reference.specs.Rules.{Rules}
@@ -29,7 +29,7 @@ use Rattle.sources.specs.Only.{only_tape, Lent, came_copy, came_cleaning, came_r
 
 -- the address of a line of the copy: line k is the picked one
 abbrev pub address_for : Bool → Option ℕ
-address_for picked = if picked then some 0 else none
+address_for picked = when picked then some 0 else none
 
 -- the bytes of a command in the copy; `picked` says that the line that it begins is line k
 unfoldable pub copied : Bool → Tape.Command → List ℕ
@@ -53,7 +53,7 @@ CopyOf k tape out out' end = (lines : Listing) → read tape ≡ Q.Passed lines 
 
 -- 1 where a line has marks, else 0
 unfoldable pub flag_of : Marks → ℕ
-flag_of m = if is_some m then 1 else 0
+flag_of m = when is_some m then 1 else 0
 
 abbrev pub begins : Tape.Command → Bool
 begins (Tape.new_line address indent) = true
@@ -75,7 +75,7 @@ pub record Walkable (tape : List ℕ) (room : ℕ) : Type 0 where
 
 -- the flag of the last of n lines set
 unfoldable pub marked_last : ℕ → List ℕ → List ℕ
-marked_last n flags = if eqb n 0 then flags else set flags (n - 1) 1
+marked_last n flags = when eqb n 0 then flags else set flags (n - 1) 1
 
 -- the flags with one command more, n lines having begun before it: a line begins without marks
 abbrev pub flags_after : Command → ℕ → List ℕ → List ℕ

@@ -2,7 +2,7 @@
 -- address is cleaned, and the finished lines that have marks are those that this line came into (proofs/Told.antt). Assumes nothing.
 use Rattle.std.specs.Prelude.{ℕ, zero, suc, Bool, List, [], ◌∷◌, leb, ltb, length}
 use Rattle.std.proofs.Math.Option.{some}
-use Rattle.reference.specs.Control.{◌&&◌, if◌then◌else◌, let_some◌else◌then◌}
+use Rattle.reference.specs.Control.{◌and◌, when◌then◌else◌, let_some◌else◌then◌}
 use Rattle.reference.specs.Listing.{Line, Listing}
 use Rattle.reference.specs.Rules.{Rules}
 use Rattle.reference.specs.Run.{run, attempts_of, finished}
@@ -42,12 +42,12 @@ only_reply k tape output =
 
 -- whether there is a line k, and it comes into the finished line q
 unfoldable pub came : Rules → Listing → ℕ → ℕ → Bool
-came rules input k q = ltb k (length input) && comes_to (attempts_of (run rules input)) k q
+came rules input k q = ltb k (length input) and comes_to (attempts_of (run rules input)) k q
 
 -- a byte for each line of a listing: 1 where the test of its place passes, else 0
 unfoldable pub flags : (ℕ → Bool) → Listing → List ℕ
 flags test [] = []
-flags test (l ∷ ls) = (if test 0 then 1 else 0) ∷ flags (λ q. test (suc q)) ls
+flags test (l ∷ ls) = (when test 0 then 1 else 0) ∷ flags (λ q. test (suc q)) ls
 
 -- for each finished line whether line k comes into it
 unfoldable pub came_flags : Rules → Listing → ℕ → List ℕ
@@ -79,7 +79,7 @@ ask_lent rules lent a =
 
 -- the first line that breaks the profile, where it is asked for, as the cleaning asks
 unfoldable pub in_profile : {A : Type 0} → Rules → Listing → Answer A → Answer A
-in_profile rules lines a = if rules.profile then (let_some (breaks lines) else a then λ n. Refused 14 n) else a
+in_profile rules lines a = when rules.profile then (let_some (breaks lines) else a then λ n. Refused 14 n) else a
 
 -- the copy that it makes
 unfoldable pub came_copy : Rules → ℕ → List ℕ → Lent → Answer (List ℕ)

@@ -1,6 +1,5 @@
 // The copy, and the call that cleans it and tells what its one line came into.
 ghost use Rattle.std.specs.Prelude.{◌≤◌, length};
-ghost use Rattle.reference.specs.Contract.{was};
 ghost use Rattle.answers.specs.Answers.{answer_of, Writes};
 ghost use Rattle.lines.specs.Rules.{rules_of};
 ghost use Rattle.tape.specs.Questions.{AcceptedTape};
@@ -18,7 +17,7 @@ use tape::questions::{Checked, asked, check};
 // The copy of a tape in which line k alone has an address, and no 03 stands: it stands at the front of `out`, and its length is answered.
 // Where there is no line k, no line has an address. A refusal changes nothing.
 pub fn only(k: usize, tape: &[u8], out: &mut [u8]) -> Answer
-    ensures { Writes (only_reply k (was tape) (length (was out))) (was out) out.new (answer_of result) }
+    ensures { Writes (only_reply k tape.now (length out.old)) out.old out.new (answer_of result) }
 {
     if out.len() < 34561 {
         return Answer::Refused {
@@ -45,7 +44,7 @@ fn flags_of(
     flags: &mut [u8],
 ) -> Answer
     requires { AcceptedTape tape.now × (256 ≤ length flags.old) }
-    ensures { FlagsCleaned (rules_of rules) (was tape) (was work_a) (was work_b) (was out) (was flags) work_a.new
+    ensures { FlagsCleaned (rules_of rules) tape.now work_a.old work_b.old out.old flags.old work_a.new
         work_b.new out.new flags.new (answer_of result) }
 {
     match clean(rules, tape, work_a, work_b, out) {
@@ -71,7 +70,7 @@ pub fn came_into(
     out: &mut [u8],
     flags: &mut [u8],
 ) -> Answer
-    ensures { CameInto (rules_of rules) k (was tape) (lent_as (was copy) (was work_a) (was work_b) (was out) (was flags))
+    ensures { CameInto (rules_of rules) k tape.now (lent_as copy.old work_a.old work_b.old out.old flags.old)
         (lent_as copy.new work_a.new work_b.new out.new flags.new) (answer_of result) }
 {
     let number = asked(rules, work_a.len(), work_b.len(), out.len());

@@ -1,7 +1,6 @@
 // The commands of the copy: a line without its address, or line k with the address 0; no marks; every other command as it stands.
 ghost use Rattle.std.proofs.Math.Option.{none, some};
 ghost use Rattle.std.specs.Prelude.{◌+◌, ◌-◌, ◌≤◌, ◌<◌, length, take, drop};
-ghost use Rattle.reference.specs.Contract.{was};
 ghost use Rattle.reference.specs.Tape.{new_line, write_command};
 ghost use Rattle.tape.specs.Bytes.{Puts};
 ghost use Rattle.tape.specs.Commands.{command_in};
@@ -16,7 +15,7 @@ use text::copy_bytes;
 // Writes the command of a line whose address is 0.
 fn put_picked(indent: u64, out: &mut [u8], at: usize) -> usize
     requires { (indent < 256) × (at + 10 ≤ length out.old) }
-    ensures { Puts (was out) at (write_command (new_line (some 0) indent)) out.new result }
+    ensures { Puts out.old at (write_command (new_line (some 0) indent)) out.new result }
 {
     out[at] = 1;
     put_number(0, 8, out, at + 1);
@@ -27,7 +26,7 @@ fn put_picked(indent: u64, out: &mut [u8], at: usize) -> usize
 // Writes the command of a line without an address.
 fn put_plain(indent: u64, out: &mut [u8], at: usize) -> usize
     requires { (indent < 256) × (at + 2 ≤ length out.old) }
-    ensures { Puts (was out) at (write_command (new_line none indent)) out.new result }
+    ensures { Puts out.old at (write_command (new_line none indent)) out.new result }
 {
     out[at] = 2;
     out[at + 1] = indent as u8;
@@ -37,7 +36,7 @@ fn put_plain(indent: u64, out: &mut [u8], at: usize) -> usize
 // Writes the command of a line: line k is the picked one.
 fn put_line(picked: bool, indent: u64, out: &mut [u8], at: usize) -> usize
     requires { (indent < 256) × (at + length (write_command (new_line (address_for picked) indent)) ≤ length out.old) }
-    ensures { Puts (was out) at (write_command (new_line (address_for picked) indent)) out.new result }
+    ensures { Puts out.old at (write_command (new_line (address_for picked) indent)) out.new result }
 {
     if picked {
         return put_picked(indent, out, at);
@@ -48,7 +47,7 @@ fn put_line(picked: bool, indent: u64, out: &mut [u8], at: usize) -> usize
 // Copies the bytes of the tape from `from` to `end`.
 fn put_part(tape: &[u8], from: usize, end: usize, out: &mut [u8], at: usize) -> usize
     requires { (from ≤ end) × (end ≤ length tape.now) × (at + (end - from) ≤ length out.old) }
-    ensures { Puts (was out) at (take (end - from) (drop from (was tape))) out.new result }
+    ensures { Puts out.old at (take (end - from) (drop from tape.now)) out.new result }
 {
     let n = end - from;
     copy_bytes(text_of(tape, from, n), out, at);
@@ -66,7 +65,7 @@ fn put_command(
     to: usize,
 ) -> usize
     requires { Copies picked tape.now at next command out.old to }
-    ensures { Puts (was out) to (copied picked (command_in (was tape) at command)) out.new result }
+    ensures { Puts out.old to (copied picked (command_in tape.now at command)) out.new result }
 {
     match command {
         Command::Addressed { address: _, indent } => put_line(picked, indent, out, to),
@@ -80,7 +79,7 @@ fn put_command(
 // Writes the copy of an accepted tape to the front of `out`, and says where it ends.
 pub fn put_commands(tape: &[u8], k: usize, out: &mut [u8]) -> usize
     requires { AcceptedTape tape.now × (34561 ≤ length out.old) }
-    ensures { CopyOf k (was tape) (was out) out.new result }
+    ensures { CopyOf k tape.now out.old out.new result }
 {
     let mut at = 0;
     let mut totals = Totals {

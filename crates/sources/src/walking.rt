@@ -1,7 +1,6 @@
 // The walk over a cleaned tape: which of its lines have marks. A cleaned tape may be longer than an accepted one, so no question is asked
 // of it but what stands at an offset.
 ghost use Rattle.std.specs.Prelude.{◌≡◌, map, ◌≤◌, length};
-ghost use Rattle.reference.specs.Contract.{was};
 ghost use Rattle.reference.specs.Questions.{marks_in};
 ghost use Rattle.tape.specs.Bytes.{Puts};
 ghost use Rattle.sources.specs.Calls.{flag_of, Walkable, marked_last, FlagFits, Flags};
@@ -13,7 +12,7 @@ use tape::reader::known_command;
 // Sets the flag of the last of n lines.
 fn mark_last(flags: &mut [u8], n: usize)
     requires { n ≤ length flags.old }
-    ensures { flags.new ≡ marked_last n (was flags) }
+    ensures { flags.new ≡ marked_last n flags.old }
 {
     if n == 0 {
         return;
@@ -24,7 +23,7 @@ fn mark_last(flags: &mut [u8], n: usize)
 // The flags with one command more, n lines having begun before it.
 fn flag(command: Command, flags: &mut [u8], n: usize) -> usize
     requires { FlagFits command n flags.old }
-    ensures { Flags command n (was flags) flags.new result }
+    ensures { Flags command n flags.old flags.new result }
 {
     match command {
         Command::Addressed {
@@ -50,7 +49,7 @@ fn flag(command: Command, flags: &mut [u8], n: usize) -> usize
 // Writes a flag for each line of the tape to the front of `flags`, 1 where it has marks, else 0, and says how many lines there are.
 pub fn walk(tape: &[u8], flags: &mut [u8]) -> usize
     requires { Walkable tape.now (length flags.old) }
-    ensures { Puts (was flags) 0 (map flag_of (marks_in (was tape))) flags.new result }
+    ensures { Puts flags.old 0 (map flag_of (marks_in tape.now)) flags.new result }
 {
     let mut at = 0;
     let mut n = 0;

@@ -4,7 +4,7 @@ use native.Mathlib.Omega.{arith}
 use mathlib.Core.Path.{◌≡◌, refl, ap, ◌∙◌}
 use mathlib.Core.Bool.{false, false≢true}
 use mathlib.Core.List.{List}
-use Rattle.reference.specs.Control.{◌&&◌, ◌||◌, let_some◌else◌then◌}
+use Rattle.reference.specs.Control.{◌and◌, ◌or◌, let_some◌else◌then◌}
 use Rattle.reference.specs.Text.{Text}
 use Rattle.reference.specs.Questions.{WORK, OUTPUT, is_convention, is_edition, has_room_by, Answer, Refused, Passed, read}
 use Rattle.reference.specs.Rules.{Rules}
@@ -30,7 +30,7 @@ abbrev plain : Rules
 plain = record { convention = 0; settle = false; edition = 0; parts = false; profile = false }
 
 not-the-tape : (tape : List ℕ) (place : ℕ) → read tape ≡ Refused 15 place → ⊥
-unfolding reply_by is_convention is_edition has_room_by ◌&&◌ ◌||◌
+unfolding reply_by is_convention is_edition has_room_by ◌and◌ ◌or◌
 not-the-tape tape place e =
     false≢true (refused_number plain tape WORK WORK OUTPUT (ask-yes _ _ _ (refl, (refl, (refl, tt))) ∙ let_refused _ e))
 

@@ -7,7 +7,7 @@ use mathlib.Core.List.{List}
 use mathlib.Core.Option.{Option, none, some}
 use lib.ListN.{length, take}
 use borrow.Author.Tests.{not-true, not-false}
-use Rattle.reference.specs.Control.{if◌then◌else◌, let_some◌else◌then◌}
+use Rattle.reference.specs.Control.{when◌then◌else◌, let_some◌else◌then◌}
 use Rattle.reference.specs.Lists.{is_some}
 use Rattle.reference.specs.Text.{Text}
 use Rattle.reference.specs.Listing.{Listing}

@@ -7,13 +7,13 @@ use mathlib.Core.List.{List, [], ◌∷◌}
 use mathlib.Core.Option.{Option, none, some}
 use lib.Dec.{leb}
 use lib.ListN.{length, take, drop, get_or, length-drop}
-use lib.Seq.{drop-drop, drop-cons, drop-length}
+use lib.Seq.{drop-drop, drop-cons}
 use borrow.Author.Tests.{le-leb, lt-leb, leb-true, not-true, not-false}
-use Rattle.reference.specs.Control.{not, ◌||◌, if◌then◌else◌, let_some◌else◌then◌}
+use Rattle.reference.specs.Control.{not, ◌or◌, when◌then◌else◌, let_some◌else◌then◌}
 use Rattle.reference.specs.Lists.{any, is_some}
-use Rattle.reference.specs.Text.{Text, ◌==◌}
+use Rattle.reference.specs.Text.{Text, ◌≟◌}
 use Rattle.reference.specs.Tape.{from_le_bytes}
-use Rattle.reference.proofs.Cases.{some_inj, none-some, bind-some, if_some}
+use Rattle.reference.proofs.Cases.{some_inj, none-some, bind-some}
 use Rattle.laws.proofs.Scans.{if-true, if-false, or_true, or_false}
 use Rattle.start.specs.Start.{Entry, entry_of, entries_from, entries, is_register, known_entries, listed}
 use Rattle.start.specs.Items.{item_of}
@@ -31,7 +31,7 @@ more_fuel (suc f) (suc g) [] p q = refl
 more_fuel zero g (n ∷ rest) p q = absurd (omega arith)
 more_fuel (suc f) zero (n ∷ rest) p q = absurd (omega arith)
 more_fuel (suc f) (suc g) (n ∷ rest) p q =
-    ap (λ (o : Option (List Entry)). if leb (n + 8) (length rest) then (let_some o else none then λ es. some (entry_of n rest ∷ es)) else none)
+    ap (λ (o : Option (List Entry)). when leb (n + 8) (length rest) then (let_some o else none then λ es. some (entry_of n rest ∷ es)) else none)
     (more_fuel f g (drop (n + 8) rest) (omega (arith, length-drop (n + 8) rest)) (omega (arith, length-drop (n + 8) rest)))
 
 -- ---- one entry
@@ -41,10 +41,10 @@ unfolding entries entries_from
 entries-nil = refl
 
 entries-cons : (n : ℕ) (rest : List ℕ)
-    → entries (n ∷ rest) ≡ (if leb (n + 8) (length rest) then (let_some (entries (drop (n + 8) rest)) else none then λ es. some (entry_of n rest ∷ es)) else none)
+    → entries (n ∷ rest) ≡ (when leb (n + 8) (length rest) then (let_some (entries (drop (n + 8) rest)) else none then λ es. some (entry_of n rest ∷ es)) else none)
 unfolding entries entries_from
 entries-cons n rest =
-    ap (λ (o : Option (List Entry)). if leb (n + 8) (length rest) then (let_some o else none then λ es. some (entry_of n rest ∷ es)) else none)
+    ap (λ (o : Option (List Entry)). when leb (n + 8) (length rest) then (let_some o else none then λ es. some (entry_of n rest ∷ es)) else none)
     (more_fuel (length rest) (length (drop (n + 8) rest)) (drop (n + 8) rest) (omega (arith, length-drop (n + 8) rest)) (omega arith))
 
 -- what the code finds at an offset
@@ -82,33 +82,33 @@ record Here (rest : List ℕ) (n : ℕ) : Type 0 where
   are : entries rest ≡ (let_some (entries (drop (n + 9) rest)) else none then λ es. some (entry_of n (drop 1 rest) ∷ es))
 
 over-means : (rest : List ℕ) → item_of rest ≡ Over → rest ≡ []
-unfolding item_of if◌then◌else◌
+unfolding item_of when◌then◌else◌
 over-means [] e = refl
 over-means (n ∷ rest) e = absurd (go (leb (n + 8) (length rest)) e)
   where
-    go : (b : Bool) → (if b then Named n else Cut) ≡ Over → ⊥
+    go : (b : Bool) → (when b then Named n else Cut) ≡ Over → ⊥
     go true q = let z : ◌≡◌ {A = ℕ} 0 1 = cc in omega arith
     go false q = let z : ◌≡◌ {A = ℕ} 0 1 = cc in omega arith
 
 cut-means : (rest : List ℕ) → item_of rest ≡ Cut → entries rest ≡ none
-unfolding item_of if◌then◌else◌
+unfolding item_of when◌then◌else◌
 cut-means [] e = absurd (let z : ◌≡◌ {A = ℕ} 0 1 = cc in omega arith)
 cut-means (n ∷ rest) e = entries-cons n rest ∙ go (leb (n + 8) (length rest)) e
   where
-    go : (b : Bool) → (if b then Named n else Cut) ≡ Cut
-        → (if b then (let_some (entries (drop (n + 8) rest)) else none then λ es. some (entry_of n rest ∷ es)) else none) ≡ none
+    go : (b : Bool) → (when b then Named n else Cut) ≡ Cut
+        → (when b then (let_some (entries (drop (n + 8) rest)) else none then λ es. some (entry_of n rest ∷ es)) else none) ≡ none
     go true q = absurd (let z : ◌≡◌ {A = ℕ} 0 1 = cc in omega arith)
     go false q = refl
 
 named-means : (rest : List ℕ) (n : ℕ) → item_of rest ≡ Named n → Here rest n
-unfolding item_of if◌then◌else◌
+unfolding item_of when◌then◌else◌
 named-means [] n e = absurd (let z : ◌≡◌ {A = ℕ} 0 1 = cc in omega arith)
 named-means (m ∷ rest) n e = go (leb (m + 8) (length rest)) refl e
   where
     next : (k : ℕ) → suc (k + 8) ≡ k + 9
     next k = omega arith
 
-    go : (b : Bool) → leb (m + 8) (length rest) ≡ b → (if b then Named m else Cut) ≡ Named n → Here (m ∷ rest) n
+    go : (b : Bool) → leb (m + 8) (length rest) ≡ b → (when b then Named m else Cut) ≡ Named n → Here (m ∷ rest) n
     go true p q =
         let same : m ≡ n = cc in
         rw (sym same)
@@ -131,7 +131,7 @@ name_of list at n = ap (λ (k : ℕ). take k (drop (at + 1) list)) back ∙ sym 
 
 -- whether all entries are known, where there are any to tell
 abbrev known : Option (List Entry) → Option (List Entry)
-known o = let_some o else none then λ es. if any (λ e. not (is_register e.name)) es then none else some es
+known o = let_some o else none then λ es. when any (λ e. not (is_register e.name)) es then none else some es
 
 known_more : (e : Entry) (o : Option (List Entry)) → is_register e.name ≡ true
     → is_some (known (let_some o else none then λ es. some (e ∷ es))) ≡ is_some (known o)
@@ -143,8 +143,8 @@ known_more e (some es) h = go (any (λ e. not (is_register e.name)) es) refl
     good = unfold not in rw h refl
 
     go : (b : Bool) → any (λ e. not (is_register e.name)) es ≡ b
-        → is_some (if not (is_register e.name) || any (λ e. not (is_register e.name)) es then none else some (e ∷ es))
-        ≡ is_some (if any (λ e. not (is_register e.name)) es then none else some es)
+        → is_some (when not (is_register e.name) or any (λ e. not (is_register e.name)) es then none else some (e ∷ es))
+        ≡ is_some (when any (λ e. not (is_register e.name)) es then none else some es)
     go true p = ap is_some (if-true _ _ (or_false _ good ∙ p)) ∙ sym (ap is_some (if-true _ _ p))
     go false p = ap is_some (if-false _ _ (or_false _ good ∙ p)) ∙ sym (ap is_some (if-false _ _ p))
 
@@ -174,7 +174,7 @@ module _ (list : List ℕ) (at : ℕ) (k : Knows list at) (r : Item) (er : r ≡
   knows_over e = sym (k.same ∙ ap (λ (l : List ℕ). is_some (known_entries l)) (over-means _ (sym er ∙ e)) ∙ nil)
     where
       nil : is_some (known_entries []) ≡ true
-      nil = ap is_some (known_is []) ∙ ap (λ (o : Option (List Entry)). is_some (known o)) entries-nil ∙ unfold let_some◌else◌then◌ if◌then◌else◌ in refl
+      nil = ap is_some (known_is []) ∙ ap (λ (o : Option (List Entry)). is_some (known o)) entries-nil ∙ unfold let_some◌else◌then◌ when◌then◌else◌ in refl
 
   pub knows_cut : r ≡ Cut → false ≡ is_some (known_entries list)
   knows_cut e =
@@ -239,15 +239,15 @@ pub item_room : (list : List ℕ) (at : ℕ) (r : Item) → r ≡ item_of (drop 
 item_room list at r er n e = let h = named-means _ n (sym er ∙ e) in omega (arith, h.room, length-drop at list)
 
 module _ (list name : List ℕ) (at : ℕ) (k : Seeks list name at) (r : Item) (er : r ≡ item_of (drop at list)) (n : ℕ) (e : r ≡ Named n) {x : Bool}
-    (ex : x ≡ (name == take (at + 1 + n - (at + 1)) (drop (at + 1) list))) where
+    (ex : x ≡ (name ≟ take (at + 1 + n - (at + 1)) (drop (at + 1) list))) where
   split : (es : List Entry) (q : entries list ≡ some es)
       → (more : List Entry) × (entries (drop (n + 9) (drop at list)) ≡ some more) × ((k.same es q).0 ≡ entry_of n (drop 1 (drop at list)) ∷ more)
   split es q =
       let b = bind-some (sym (named-means _ n (sym er ∙ e)).are ∙ (k.same es q).1) in
       (b.0, b.1, sym (some_inj b.2))
 
-  same_name : (name == take n (drop 1 (drop at list))) ≡ x
-  same_name = ap (λ (t : Text). name == t) (sym (name_of list at n)) ∙ sym ex
+  same_name : (name ≟ take n (drop 1 (drop at list))) ≡ x
+  same_name = ap (λ (t : Text). name ≟ t) (sym (name_of list at n)) ∙ sym ex
 
   pub seeks_here : x ≡ true → (v : ℕ) → v ≡ from_le_bytes (take 8 (drop (at + 1 + n) list))
       → (es : List Entry) → entries list ≡ some es → v ≡ listed es name

@@ -9,9 +9,9 @@ use mathlib.Core.Bool.{Bool, true, false}
 use mathlib.Core.List.{List, [], ◌∷◌}
 use mathlib.Core.Option.{Option, none, some}
 use lib.IntN.{ℤ}
-use Rattle.reference.specs.Control.{if◌then◌else◌, let_some◌else◌then◌}
+use Rattle.reference.specs.Control.{when◌then◌else◌, let_some◌else◌then◌}
 use Rattle.reference.specs.Lists.{is_some}
-use Rattle.reference.specs.Text.{Text, bytes, ◌==◌}
+use Rattle.reference.specs.Text.{Text, bytes, ◌≟◌}
 use Rattle.reference.specs.Listing.{Token, Listing}
 use Rattle.reference.specs.Shapes.{is_kw}
 use Rattle.reference.specs.Evaluators.{Arithmetic, plus, minus, of_integer, modulo, Store, wide, lexemes, evaluate}
@@ -29,8 +29,8 @@ use Rattle.start.specs.Pairs.{affine, start_pairs, at_start, returned_pair}
 -- ---- listings in one kind of values and in another
 
 if_image : {A B : Type 0} (g : A → B) (c : Bool) (o p : Option A) {o' p' : Option B} → o' ≡ image g o → p' ≡ image g p
-    → (if c then o' else p') ≡ image g (if c then o else p)
-unfolding if◌then◌else◌
+    → (when c then o' else p') ≡ image g (when c then o else p)
+unfolding when◌then◌else◌
 if_image g true o p e f = e
 if_image g false o p e f = f
 
@@ -40,10 +40,10 @@ module _ {X Y : Type 0} (a : Arithmetic X) (b : Arithmetic Y) (h : X → Y)
     (numbers : (z : ℤ) → h (a.number z) ≡ b.number z) where
   assign_image : (σ : Text → X) (τ : Text → Y) → ((x : Text) → h (σ x) ≡ τ x) → (x : Text) (v : X) (y : Text)
       → h (assign x v σ y) ≡ assign x (h v) τ y
-  unfolding if◌then◌else◌
-  assign_image σ τ registers x v y = go (y == x)
+  unfolding when◌then◌else◌
+  assign_image σ τ registers x v y = go (y ≟ x)
     where
-      go : (c : Bool) → h (if c then v else σ y) ≡ (if c then h v else τ y)
+      go : (c : Bool) → h (when c then v else σ y) ≡ (when c then h v else τ y)
       go true = refl
       go false = registers y
 
@@ -115,10 +115,10 @@ module _ (v : ℕ) where
 
   module _ (chosen : Text) (es : List Entry) where
     register_at : (x : Text) → at_start v (start_pairs chosen es x) ≡ start_values chosen es v x % 2 ^ 64
-    unfolding at_start if◌then◌else◌
-    register_at x = go (x == chosen)
+    unfolding at_start when◌then◌else◌
+    register_at x = go (x ≟ chosen)
       where
-        go : (c : Bool) → at_start v (if c then (1, 0) else (0, listed es x)) ≡ (if c then v else listed es x) % 2 ^ 64
+        go : (c : Bool) → at_start v (when c then (1, 0) else (0, listed es x)) ≡ (when c then v else listed es x) % 2 ^ 64
         go true = sym (affine_variable (2 ^ 64) v)
         go false = sym (affine-constant (2 ^ 64) (listed es x) v)
 
@@ -150,11 +150,13 @@ unfolding execute
 straight_returns (last {l = l} i r) σ = go l.tokens r
   where
     go : (ts : List Token) → Returns ts → is_some (line_step modulo σ ts (λ τ. execute modulo τ [])) ≡ true
+    go [] x'' = elim x'' [ ]
     go (t ∷ ts) (returns w r p) = ap is_some (ends σ t ts (r σ).0 _ w (r σ).1)
 straight_returns (next {l = l} {ls = ls} y i a more) σ = go l.tokens a (straight_returns more)
   where
     go : (ts : List Token) → Assigns ts y → ((τ : Store) → is_some (execute modulo τ ls) ≡ true)
         → is_some (line_step modulo σ ts (λ τ. execute modulo τ ls)) ≡ true
+    go [] x3 k = elim x3 [ ]
     go (t ∷ ts) (assigns w r p) k = ap is_some (executes σ t ts y (r σ).0 _ w (r σ).1) ∙ k (assign y (r σ).0 σ)
 
 -- A LISTING IN THE PROFILE RETURNS A PAIR

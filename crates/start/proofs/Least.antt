@@ -7,7 +7,7 @@ use mathlib.Core.Path.{◌≡◌, refl, sym, ap, ◌∙◌, subst}
 use mathlib.Core.Logic.{by_cases}
 use mathlib.Core.Bool.{Bool, true, false}
 use mathlib.Core.Option.{Option, none, some}
-use Rattle.reference.specs.Control.{if◌then◌else◌, let_some◌else◌then◌}
+use Rattle.reference.specs.Control.{when◌then◌else◌, let_some◌else◌then◌}
 use Rattle.reference.proofs.Cases.{fails, if_some, some_inj, none-some}
 use Rattle.laws.proofs.Scans.{if-true, if-false}
 use Rattle.start.specs.Start.{least_below}
@@ -38,7 +38,7 @@ module _ (works : ℕ → Bool) where
 
   -- what is found with one number more
   abbrev next : ℕ → Option ℕ → Option ℕ
-  next n o = let_some o else (if works n then some n else none) then λ v. some v
+  next n o = let_some o else (when works n then some n else none) then λ v. some v
 
   pub nothing-found : (n : ℕ) → least_below n works ≡ none → (u : ℕ) → u < n → works u ≡ false
   unfolding least_below let_some◌else◌then◌

@@ -2,19 +2,18 @@
 use Prim.Native.Nat.{ℕ, zero, suc, ◌+◌, ◌-◌, ◌*◌, ◌≤◌, ◌<◌}
 use native.Mathlib.Omega.{arith}
 use native.Mathlib.Decide.{ℕ_discrete}
-use mathlib.Core.Path.{◌≡◌, refl, sym, ap, ◌∙◌, subst, subst⁻¹}
+use mathlib.Core.Path.{◌≡◌, refl, sym, ap, ◌∙◌, subst⁻¹}
 use mathlib.Core.Bool.{Bool, true, false}
 use mathlib.Core.Logic.{by_cases}
-use mathlib.Core.List.{List, [], ◌∷◌, map}
-use mathlib.Core.Option.{Option, none, some}
+use mathlib.Core.List.{List, [], ◌∷◌}
+use mathlib.Core.Option.{Option, some}
 use lib.IntN.{ℤ, pos, negsuc}
-use lib.Dec.{eqb}
 use lib.ListN.{length, take, drop, get_or, set, length-drop, length-set}
 use lib.Seq.{get_or-set_same, get_or-set_other, get_or-take, get_or-drop, drop-drop, length-take-le}
 use borrow.Author.Tests.{eq-eqb, ne_eqb}
-use Rattle.reference.specs.Control.{◌&&◌, if◌then◌else◌, let_some◌else◌then◌}
-use Rattle.reference.specs.Text.{Text, bytes, ◌==◌}
-use Rattle.reference.specs.Listing.{Token, token, is, Number, Register}
+use Rattle.reference.specs.Control.{when◌then◌else◌, let_some◌else◌then◌}
+use Rattle.reference.specs.Text.{Text, bytes, ◌≟◌}
+use Rattle.reference.specs.Listing.{Token, is, Number, Register}
 use Rattle.reference.specs.Numbers.{parse_c_number}
 use Rattle.reference.specs.Names.{fam_of}
 use Rattle.reference.specs.Evaluators.{of_integer, wide, number_of, lexemes, evaluate}
@@ -29,7 +28,7 @@ use Rattle.numbers.specs.declared.parse.Number.TheVariants.{Read, Unread}
 use Rattle.lines.specs.Words.{kind_of, text_of, token_of, tokens_of, Points, Holds}
 use Rattle.lines.specs.Lines.{first_of, count_of, part_of}
 use Rattle.formula.specs.Places.{Readable}
-use Rattle.formula.specs.Values.{Pair, pair_at, no_token, Valued, value_of, Evaluates}
+use Rattle.formula.specs.Values.{Pair, pair_at, no_token, value_of, Evaluates}
 use Rattle.formula.specs.declared.evaluators.Worth.{Worth}
 use Rattle.formula.specs.declared.evaluators.Worth.TheVariants.{Is, Breaks}
 use Rattle.formula.proofs.Profiled.{readable_same, readable-rest}
@@ -161,7 +160,7 @@ filled-all σ ts k values f l =
 -- before the token k is asked: those before it are as they are to be, those from it on as they were
 pub record Overwriting (target : Token) (p : Pair) (tape : Text) (tokens values₀ : List ℕ) (k : ℕ) (values : List ℕ) : Type 0 where
   pub done : (j : ℕ) → j < k → j < length tokens
-      → pair_at values j ≡ (if same_register target (get_or (tokens_of tape tape tokens) j no_token) then p else pair_at values₀ j)
+      → pair_at values j ≡ (when same_register target (get_or (tokens_of tape tape tokens) j no_token) then p else pair_at values₀ j)
   pub left : (j : ℕ) → k ≤ j → pair_at values j ≡ pair_at values₀ j
   pub long : length values ≡ length values₀
   pub room : 2 * length tokens ≤ length values
@@ -176,7 +175,7 @@ module _ (target : Token) (p : Pair) (tape : Text) (tokens values₀ : List ℕ)
   told = ap (same_register target) (at_token tape tokens k l) ∙ sym ex
 
   abbrev AsIs : List ℕ → ℕ → Type 0
-  AsIs values' i = pair_at values' i ≡ (if same_register target (get_or (tokens_of tape tape tokens) i no_token) then p else pair_at values₀ i)
+  AsIs values' i = pair_at values' i ≡ (when same_register target (get_or (tokens_of tape tape tokens) i no_token) then p else pair_at values₀ i)
 
   pub over_hit : x ≡ true → (values' : List ℕ) → values' ≡ with_pair values k p → Overwriting target p tape tokens values₀ (k + 1) values'
   over_hit h values' e =
@@ -212,11 +211,11 @@ over-all target p tape tokens values₀ k values o l = λ j m. (let n : length (
 -- an assignment to the register x: all its tokens, and no other, have the new pair
 module _ (σ : Text → Pair) (target : Token) (x : Text) (v : Pair) (w : wide target ≡ some x) (ts : List Token) (values values' : List ℕ)
     (o : Overwritten target v ts values values') (h : Priced σ ts values) where
-  same_is : (t : Token) (y : Text) → wide t ≡ some y → same_register target t ≡ (y == x)
+  same_is : (t : Token) (y : Text) → wide t ≡ some y → same_register target t ≡ (y ≟ x)
   unfolding same_register is
   same_is t y e =
       and_true _ (eq-eqb _ _ (kind_register t y e))
-      ∙ ap (λ (s : Text). s == target.text) (sym (wide_text t y e)) ∙ ap (λ (s : Text). y == s) (sym (wide_text target x w))
+      ∙ ap (λ (s : Text). s ≟ target.text) (sym (wide_text t y e)) ∙ ap (λ (s : Text). y ≟ s) (sym (wide_text target x w))
 
   not_number : (t : Token) (z : ℤ) → number_of t ≡ some z → same_register target t ≡ false
   unfolding same_register is
@@ -226,7 +225,7 @@ module _ (σ : Text → Pair) (target : Token) (x : Text) (v : Pair) (w : wide t
   assigned_prices =
       record {
         register = λ k y l e.
-            o k l ∙ ap (λ (b : Bool). if b then v else pair_at values k) (same_is _ y e) ∙ ap (λ (p : Pair). if y == x then v else p) (h.register k y l e);
+            o k l ∙ ap (λ (b : Bool). when b then v else pair_at values k) (same_is _ y e) ∙ ap (λ (p : Pair). when y ≟ x then v else p) (h.register k y l e);
         number_is = λ k z l e. o k l ∙ if-false v (pair_at values k) (not_number _ z e) ∙ h.number_is k z l e;
       }
 
@@ -241,10 +240,10 @@ module _ (tape : Text) (w target : ℕ) where
   unfolding same_register is
   other_kind e h = sym (and_false _ (ne_eqb (kind_of w) Register (λ q. h (e ∙ q))))
 
-  pub same_kind : {k : ℕ} → k ≡ kind_of w → k ≡ Register → {s t : Text} → s ≡ text_of tape tape w → t ≡ text_of tape tape target → {x : Bool} → x ≡ (s == t)
+  pub same_kind : {k : ℕ} → k ≡ kind_of w → k ≡ Register → {s t : Text} → s ≡ text_of tape tape w → t ≡ text_of tape tape target → {x : Bool} → x ≡ (s ≟ t)
       → x ≡ same_register (token_of tape tape target) (token_of tape tape w)
   unfolding same_register is
-  same_kind e h {s} {t} es et ex = ex ∙ ap (λ (u : Text). u == t) es ∙ ap (λ (u : Text). text_of tape tape w == u) et ∙ sym (and_true _ (eq-eqb (kind_of w) Register (sym e ∙ h)))
+  same_kind e h {s} {t} es et ex = ex ∙ ap (λ (u : Text). u ≟ t) es ∙ ap (λ (u : Text). text_of tape tape w ≟ u) et ∙ sym (and_true _ (eq-eqb (kind_of w) Register (sym e ∙ h)))
 
 -- ---- a part of the table
 

@@ -7,11 +7,11 @@ use mathlib.Core.Option.{Option, none, some}
 use lib.Dec.{eqb}
 use lib.ListN.{length, drop, get_or}
 use native.Mathlib.Omega.{arith}
-use Rattle.reference.specs.Control.{not, ◌&&◌, if◌then◌else◌, let_some◌else◌then◌}
+use Rattle.reference.specs.Control.{not, ◌and◌, when◌then◌else◌, let_some◌else◌then◌}
 use Rattle.reference.specs.Lists.{is_some, position}
-use Rattle.reference.specs.Text.{Text, bytes, ◌==◌, starts_with, strip_prefix}
-use Rattle.reference.specs.Listing.{Token, token, is, Register}
-use Rattle.reference.specs.Names.{Fam, LEGACY, legacy, is_digit, digits_of, suffix, stack_slot, numbered, high_byte, family, fam_of}
+use Rattle.reference.specs.Text.{Text, bytes, ◌≟◌, starts_with, strip_prefix}
+use Rattle.reference.specs.Listing.{Token, is}
+use Rattle.reference.specs.Names.{Fam, LEGACY, legacy, digits_of, suffix, stack_slot, numbered, high_byte, family, fam_of}
 use Rattle.reference.specs.Evaluators.{wide}
 use Rattle.reference.proofs.Cases.{by-if, by-some, some_inj, none-some, if_some, bind-some, both, true-false, same_number}
 use Rattle.reference.proofs.Shapes.{same_text}
@@ -24,8 +24,8 @@ use Rattle.start.specs.Start.{is_register}
 -- ---- `is_register`
 
 by_family : (name : Text)
-    → is_register name ≡ is_some (let_some (family name) else none then λ f. if eqb f.width 64 && not (starts_with name (bytes "var_")) then some f.name else none)
-unfolding is_register wide fam_of is if◌then◌else◌
+    → is_register name ≡ is_some (let_some (family name) else none then λ f. when eqb f.width 64 and not (starts_with name (bytes "var_")) then some f.name else none)
+unfolding is_register wide fam_of is when◌then◌else◌
 by_family name = refl
 
 decided : (name : Text) (f : Fam) → family name ≡ some f → (x : Bool) → x ≡ starts_with name (bytes "var_") → x ≡ false → is_register name ≡ eqb f.width 64
@@ -35,7 +35,7 @@ decided name f e x ex h = by_family name ∙ rw e (go (eqb f.width 64) refl)
     plain : not (starts_with name (bytes "var_")) ≡ true
     plain = unfold not in rw (sym ex ∙ h) refl
 
-    go : (b : Bool) → eqb f.width 64 ≡ b → is_some (if eqb f.width 64 && not (starts_with name (bytes "var_")) then some f.name else none) ≡ eqb f.width 64
+    go : (b : Bool) → eqb f.width 64 ≡ b → is_some (when eqb f.width 64 and not (starts_with name (bytes "var_")) then some f.name else none) ≡ eqb f.width 64
     go true p = ap is_some (if-true (some f.name) none (and_true _ p ∙ plain)) ∙ sym p
     go false p = ap is_some (if-false (some f.name) none (and_false _ p)) ∙ sym p
 
@@ -46,11 +46,11 @@ module _ (name : Text) (x : Bool) (ex : x ≡ starts_with name (bytes "var_")) w
       slot : not (starts_with name (bytes "var_")) ≡ false
       slot = unfold not in rw (sym ex ∙ h) refl
 
-      both_false : (b : Bool) → (b && not (starts_with name (bytes "var_"))) ≡ false
+      both_false : (b : Bool) → (b and not (starts_with name (bytes "var_"))) ≡ false
       both_false true = and_true _ refl ∙ slot
       both_false false = and_false _ refl
 
-      go : (o : Option Fam) → is_some (let_some o else none then λ f. if eqb f.width 64 && not (starts_with name (bytes "var_")) then some f.name else none) ≡ false
+      go : (o : Option Fam) → is_some (let_some o else none then λ f. when eqb f.width 64 and not (starts_with name (bytes "var_")) then some f.name else none) ≡ false
       go none = unfold let_some◌else◌then◌ in refl
       go (some f) = unfold let_some◌else◌then◌ in ap is_some (if-false (some f.name) none (both_false (eqb f.width 64)))
 
@@ -67,12 +67,12 @@ module _ (name : Text) (x : Bool) (ex : x ≡ starts_with name (bytes "var_")) w
 -- ---- a 64-bit register is its own family
 
 -- a first name that is found is the name
-found_first : (names : List Text) (name : Text) → position (◌== name) names ≡ some 0 → get_or names 0 [] ≡ name
-unfolding if◌then◌else◌ let_some◌else◌then◌
+found_first : (names : List Text) (name : Text) → position (◌≟ name) names ≡ some 0 → get_or names 0 [] ≡ name
+unfolding when◌then◌else◌ let_some◌else◌then◌
 found_first [] name e = absurd (none-some e)
-found_first (n ∷ names) name e = go (n == name) refl (position (◌== name) names) e
+found_first (n ∷ names) name e = go (n ≟ name) refl (position (◌≟ name) names) e
   where
-    go : (b : Bool) → (n == name) ≡ b → (o : Option ℕ) → (if b then some 0 else (let_some o else none then λ i. some (suc i))) ≡ some 0 → n ≡ name
+    go : (b : Bool) → (n ≟ name) ≡ b → (o : Option ℕ) → (when b then some 0 else (let_some o else none then λ i. some (suc i))) ≡ some 0 → n ≡ name
     go true p o q = same_text n name p
     go false p none q = absurd (none-some q)
     go false p (some i) q = absurd (let z : suc i ≡ 0 = some_inj q in omega arith)
@@ -88,7 +88,7 @@ first_column (suc (suc (suc (suc i)))) w d e = absurd (omega (arith, d, e))
 abbrev of_row : List Text → ℕ → Fam
 of_row names i = record { name = get_or names 0 []; width = get_or (64 ∷ 32 ∷ 16 ∷ 8 ∷ []) i 0; lowest = 0 }
 
-row-own : (names : List Text) (name : Text) (f : Fam) (i : ℕ) → position (◌== name) names ≡ some i → of_row names i ≡ f → f.width ≡ 64 → f.name ≡ name
+row-own : (names : List Text) (name : Text) (f : Fam) (i : ℕ) → position (◌≟ name) names ≡ some i → of_row names i ≡ f → f.width ≡ 64 → f.name ≡ name
 row-own names name f i p q w =
     let is-first : i ≡ 0 = first_column i f.width (sym (ap (λ (g : Fam). g.width) q)) w in
     sym (ap (λ (g : Fam). g.name) q) ∙ found_first names name (p ∙ ap (λ (k : ℕ). some k) is-first)

@@ -1,17 +1,17 @@
 -- The lines of a listing in the profile, executed in pairs one after the other. Assumes nothing.
-use Prim.Native.Nat.{ℕ, zero, suc, ◌+◌, ◌-◌, ◌*◌, ◌≤◌, ◌<◌}
+use Prim.Native.Nat.{ℕ, suc, ◌+◌, ◌-◌, ◌≤◌, ◌<◌}
 use native.Mathlib.Omega.{arith}
-use mathlib.Core.Path.{◌≡◌, refl, sym, ap, ◌∙◌, subst, subst⁻¹}
+use mathlib.Core.Path.{◌≡◌, refl, sym, ap, ◌∙◌, subst}
 use mathlib.Core.Bool.{Bool, true, false, false≢true}
 use mathlib.Core.List.{List, [], ◌∷◌, map}
 use mathlib.Core.Option.{Option, none, some}
 use lib.Dec.{eqb}
-use lib.ListN.{length, take, drop, get_or, length-drop, get_or-map}
+use lib.ListN.{length, drop, get_or, length-drop, get_or-map}
 use lib.Seq.{drop-cons}
 use borrow.Author.Tests.{ne_eqb}
-use Rattle.reference.specs.Control.{◌&&◌, if◌then◌else◌, let_some◌else◌then◌}
+use Rattle.reference.specs.Control.{◌and◌, when◌then◌else◌, let_some◌else◌then◌}
 use Rattle.reference.specs.Lists.{is_some}
-use Rattle.reference.specs.Text.{Text, bytes, ◌==◌}
+use Rattle.reference.specs.Text.{Text, bytes}
 use Rattle.reference.specs.Listing.{Token, is, Register, Keyword, Line, Listing}
 use Rattle.reference.specs.Shapes.{is_kw}
 use Rattle.reference.specs.Evaluators.{modulo, wide, lexemes}
@@ -81,7 +81,7 @@ returning σ (t ∷ ts) e =
 
 -- ---- the profile, line by line
 
-if_none : {A : Type 0} (b : Bool) (o : Option A) (a : A) → (if b then o else some a) ≡ none → (b ≡ true) × (o ≡ none)
+if_none : {A : Type 0} (b : Bool) (o : Option A) (a : A) → (when b then o else some a) ≡ none → (b ≡ true) × (o ≡ none)
 if_none b o a =
     by-if (λ (r : Option _). r ≡ none → (b ≡ true) × (o ≡ none)) (λ p q. (p, q)) (λ p q. absurd (none-some (sym q)))
 
@@ -89,13 +89,13 @@ step-next : (indent n : ℕ) (l m : Line) (ls : Listing) → breaks_from indent 
     → (assigns_wide l.tokens ≡ true) × (breaks_from indent (suc n) (m ∷ ls) ≡ none)
 step-next indent n l m ls e = let q = if_none _ _ n (opened ∙ e) in ((both q.0).1, q.1)
   where
-    opened : (if eqb l.indent indent && assigns_wide l.tokens then breaks_from indent (suc n) (m ∷ ls) else some n) ≡ breaks_from indent n (l ∷ m ∷ ls)
+    opened : (when eqb l.indent indent and assigns_wide l.tokens then breaks_from indent (suc n) (m ∷ ls) else some n) ≡ breaks_from indent n (l ∷ m ∷ ls)
     opened = unfold breaks_from in refl
 
 step-last : (indent n : ℕ) (l : Line) → breaks_from indent n (l ∷ []) ≡ none → returns_value l.tokens ≡ true
 step-last indent n l e = (both (if_none _ none n (opened ∙ e)).0).1
   where
-    opened : (if eqb l.indent indent && returns_value l.tokens then none else some n) ≡ breaks_from indent n (l ∷ [])
+    opened : (when eqb l.indent indent and returns_value l.tokens then none else some n) ≡ breaks_from indent n (l ∷ [])
     opened = unfold breaks_from in refl
 
 -- the rest of a listing, where the profile is not broken

@@ -1,8 +1,8 @@
 -- What the table of pairs means, and what the functions over it do. Assumes nothing.
-use Rattle.std.specs.Prelude.{ℕ, ◌+◌, ◌*◌, ◌≤◌, ◌<◌, ◌≡◌, Bool, List, [], ◌∷◌, ℤ, length, drop, get_or, set}
-use Rattle.std.proofs.Math.Option.{Option, none, some}
-use Rattle.reference.specs.Control.{◌&&◌, if◌then◌else◌}
-use Rattle.reference.specs.Text.{Text, ◌==◌}
+use Rattle.std.specs.Prelude.{ℕ, ◌+◌, ◌*◌, ◌≤◌, ◌<◌, ◌≡◌, Bool, List, ℤ, length, drop, get_or, set}
+use Rattle.std.proofs.Math.Option.{none, some}
+use Rattle.reference.specs.Control.{◌and◌, when◌then◌else◌}
+use Rattle.reference.specs.Text.{Text, ◌≟◌}
 use Rattle.reference.specs.Listing.{Token, is, Register}
 use Rattle.reference.specs.Evaluators.{of_integer, wide, number_of}
 use Rattle.reference.specs.Straight.{assign, assigned_value, returned_value, breaks}
@@ -38,12 +38,12 @@ Priced σ ts values = Valued number_pair σ ts values
 
 -- whether a token is the register that the first one is
 unfoldable pub same_register : Token → Token → Bool
-same_register target t = is Register t && (t.text == target.text)
+same_register target t = is Register t and (t.text ≟ target.text)
 
 -- the tokens of the register `target` have the pair p now, all others what they had
 abbrev pub Overwritten : Token → Pair → List Token → List ℕ → List ℕ → Type 0
 Overwritten target p ts values values' =
-    (k : ℕ) → k < length ts → pair_at values' k ≡ (if same_register target (get_or ts k no_token) then p else pair_at values k)
+    (k : ℕ) → k < length ts → pair_at values' k ≡ (when same_register target (get_or ts k no_token) then p else pair_at values k)
 
 -- ---- a line
 

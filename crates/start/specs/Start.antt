@@ -2,9 +2,9 @@
 -- Words in quotes are document 02's. The meaning of a formula is M-106's (crate reference, specs/Straight.antt). Assumes nothing.
 use Rattle.std.specs.Prelude.{ℕ, zero, suc, ◌+◌, ◌^◌, Bool, List, [], ◌∷◌, leb, eqb, length, take, drop}
 use Rattle.std.proofs.Math.Option.{Option, none, some}
-use Rattle.reference.specs.Control.{not, if◌then◌else◌, let_some◌else◌then◌}
+use Rattle.reference.specs.Control.{not, when◌then◌else◌, let_some◌else◌then◌}
 use Rattle.reference.specs.Lists.{any, is_some}
-use Rattle.reference.specs.Text.{Text, ◌==◌}
+use Rattle.reference.specs.Text.{Text, ◌≟◌}
 use Rattle.reference.specs.Listing.{token, Register, Listing}
 use Rattle.reference.specs.Tape.{from_le_bytes}
 use Rattle.reference.specs.Questions.{Answer, Refused, Passed, let_passed◌then◌, read}
@@ -29,7 +29,7 @@ entries_from zero (n ∷ rest) = none
 entries_from (suc fuel) [] = some []
 entries_from (suc fuel) (n ∷ rest) =
     let more : Option (List Entry) = entries_from fuel (drop (n + 8) rest) in
-    if leb (n + 8) (length rest) then (let_some more else none then λ es. some (entry_of n rest ∷ es)) else none
+    when leb (n + 8) (length rest) then (let_some more else none then λ es. some (entry_of n rest ∷ es)) else none
 
 unfoldable pub entries : List ℕ → Option (List Entry)
 entries list = entries_from (length list) list
@@ -42,14 +42,14 @@ is_register name = is_some (wide (token Register name))
 unfoldable pub known_entries : List ℕ → Option (List Entry)
 known_entries list =
     let_some (entries list) else none then λ es.
-    if any (λ e. not (is_register e.name)) es then none else some es
+    when any (λ e. not (is_register e.name)) es then none else some es
 
 -- ---- the start values
 
 -- "A register not listed is zero, the first of equal names decides"
 unfoldable pub listed : List Entry → Store
 listed [] x = 0
-listed (e ∷ es) x = let r = listed es x in if x == e.name then e.value else r
+listed (e ∷ es) x = let r = listed es x in when x ≟ e.name then e.value else r
 
 -- v for the chosen register, "and an entry for the chosen register is ignored"
 abbrev pub start_values : Text → List Entry → ℕ → Store
@@ -60,7 +60,7 @@ start_values chosen es v = assign chosen v (listed es)
 -- the smallest number below n that passes a test, if there is one
 unfoldable pub least_below : ℕ → (ℕ → Bool) → Option ℕ
 least_below zero works = none
-least_below (suc n) works = let_some (least_below n works) else (if works n then some n else none) then λ v. some v
+least_below (suc n) works = let_some (least_below n works) else (when works n then some n else none) then λ v. some v
 
 -- whether the formula, started with v in the chosen register, returns the wanted value
 unfoldable pub gives : Listing → Text → List Entry → ℕ → ℕ → Bool
@@ -77,7 +77,7 @@ solution lines chosen es wanted =
 unfoldable pub ask_names : Listing → Text → List ℕ → ℕ → Answer ℕ
 ask_names lines chosen list wanted =
     let found : Answer ℕ = let_some (known_entries list) else Refused 16 0 then λ es. solution lines chosen es wanted in
-    if is_register chosen then found else Refused 16 0
+    when is_register chosen then found else Refused 16 0
 
 -- 14, "the first line that breaks the profile", then 16 and 15
 unfoldable pub ask_formula : Listing → Text → List ℕ → ℕ → Answer ℕ

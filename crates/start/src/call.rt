@@ -1,6 +1,5 @@
 // The call: the tape's questions, 14, 16, 15, and the answer. Nothing is lent to be written.
 ghost use Rattle.std.specs.Prelude.{◌≡◌, ◌≤◌, length};
-ghost use Rattle.reference.specs.Contract.{was};
 ghost use Rattle.reference.specs.Listing.{Listing};
 ghost use Rattle.reference.specs.Questions.{Passed, read};
 ghost use Rattle.tape.specs.Questions.{AcceptedTape};
@@ -26,8 +25,8 @@ fn solved<'a>(
     wanted: u64,
 ) -> Answer
     requires { Profiled tape.now tokens.now lines.now × (length tokens.now ≤ 1024) }
-    ensures { (reading : Reading) → answer_of result ≡ ask_names (listing_read (was tape) (was tape) (was tokens) reading (was lines))
-        (was chosen) (was list) wanted }
+    ensures { (reading : Reading) → answer_of result ≡ ask_names (listing_read tape.now tape.now tokens.now reading lines.now)
+        chosen.now list.now wanted }
 {
     if !is_register(chosen) {
         return Answer::Refused {
@@ -54,8 +53,8 @@ fn solved<'a>(
 // 14 and what follows, of a tape that passed its questions.
 fn asked<'a>(tape: &'a [u8], chosen: &'a [u8], list: &'a [u8], wanted: u64) -> Answer
     requires { AcceptedTape tape.now }
-    ensures { (input : Listing) → read (was tape) ≡ Passed input
-        → answer_of result ≡ ask_formula input (was chosen) (was list) wanted }
+    ensures { (input : Listing) → read tape.now ≡ Passed input
+        → answer_of result ≡ ask_formula input chosen.now list.now wanted }
 {
     let mut tokens = [0u64; 1024];
     let mut lines = [0u64; 256];
@@ -84,7 +83,7 @@ fn asked<'a>(tape: &'a [u8], chosen: &'a [u8], list: &'a [u8], wanted: u64) -> A
 // The smallest start value of the chosen register for which the formula of a tape returns the wanted value, the other registers starting
 // with the values that the list has for their names, or 0.
 pub fn start_value<'a>(tape: &'a [u8], chosen: &'a [u8], list: &'a [u8], wanted: u64) -> Answer
-    ensures { answer_of result ≡ start_reply (was tape) (was chosen) (was list) wanted }
+    ensures { answer_of result ≡ start_reply tape.now chosen.now list.now wanted }
 {
     match tape::check(tape) {
         Checked::Refused { number, place } => Answer::Refused { number, place },

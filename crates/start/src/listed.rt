@@ -1,7 +1,6 @@
 // The list of names with their start values. An entry is a length byte, the name, then the value in 8 bytes.
 ghost use Rattle.std.specs.Prelude.{◌≡◌, List, ◌≤◌, ◌<◌, length, drop};
 ghost use Rattle.std.proofs.Math.Option.{some};
-ghost use Rattle.reference.specs.Contract.{was};
 ghost use Rattle.reference.specs.Lists.{is_some};
 ghost use Rattle.start.specs.Start.{Entry, entries, is_register, known_entries, listed};
 ghost use Rattle.start.specs.Items.{item_of};
@@ -10,7 +9,7 @@ use names::Spelled;
 use tape::little_endian::number_at;
 
 // What stands at an offset of a list: an entry whose name has so many bytes, nothing more, or an entry that is cut.
-#[derive(Drop)]
+#[derive(Clone, Copy)]
 pub enum Item {
     Named(usize),
     Over,
@@ -26,7 +25,7 @@ fn length_of(b: u8) -> usize
 
 fn item_at(list: &[u8], at: usize) -> Item
     requires { at ≤ length list.now }
-    ensures { result ≡ item_of (drop at (was list)) }
+    ensures { result ≡ item_of (drop at list.now) }
 {
     if list.len() <= at {
         return Item::Over;
@@ -40,7 +39,7 @@ fn item_at(list: &[u8], at: usize) -> Item
 
 // Whether a name is a 64-bit register's and no stack slot's.
 pub fn is_register(name: &[u8]) -> bool
-    ensures { result ≡ is_register (was name) }
+    ensures { result ≡ is_register name.now }
 {
     if text::begins_slot(name) {
         return false;
@@ -54,7 +53,7 @@ pub fn is_register(name: &[u8]) -> bool
 
 // Whether no entry of a list is cut and each name is a 64-bit register's.
 pub fn are_known(list: &[u8]) -> bool
-    ensures { result ≡ is_some (known_entries (was list)) }
+    ensures { result ≡ is_some (known_entries list.now) }
 {
     let mut at = 0;
     loop {
@@ -79,7 +78,7 @@ pub fn are_known(list: &[u8]) -> bool
 
 // The value of the first entry for a name; 0 where there is none.
 pub fn value_of(list: &[u8], name: &[u8]) -> u64
-    ensures { (es : List Entry) → entries (was list) ≡ some es → result ≡ listed es (was name) }
+    ensures { (es : List Entry) → entries list.now ≡ some es → result ≡ listed es name.now }
 {
     let mut at = 0;
     loop {

@@ -3,7 +3,6 @@
 // its register.
 ghost use Rattle.std.specs.Prelude.{◌≡◌, List, ◌+◌, ◌*◌, ◌≤◌, ◌<◌, length, drop, ℤ};
 ghost use Rattle.std.proofs.Math.Option.{some};
-ghost use Rattle.reference.specs.Contract.{was};
 ghost use Rattle.reference.specs.Text.{Text};
 ghost use Rattle.reference.specs.Numbers.{parse_c_number};
 ghost use Rattle.reference.specs.Evaluators.{of_integer, lexemes, evaluate};
@@ -22,7 +21,7 @@ use formula::evaluators::{Worth, evaluate};
 use lines::words;
 use numbers::{MOST, Number, parse_c_number};
 
-#[derive(Drop)]
+#[derive(Clone, Copy)]
 pub struct Pair {
     pub multiplier: u64,
     pub constant: u64,
@@ -32,7 +31,7 @@ pub struct Pair {
 
 fn store_pair(values: &mut [u64], k: usize, p: Pair)
     requires { 2 * k + 1 < length values.old }
-    ensures { values.new ≡ with_pair (was values) k (pair_of p) }
+    ensures { values.new ≡ with_pair values.old k (pair_of p) }
 {
     values[2 * k] = p.multiplier;
     values[2 * k + 1] = p.constant;
@@ -42,7 +41,7 @@ fn store_pair(values: &mut [u64], k: usize, p: Pair)
 
 // What a register starts with: the chosen one with 1 · v + 0, any other with its listed value.
 fn start_pair<'a>(chosen: &'a [u8], list: &'a [u8], name: &'a [u8]) -> Pair
-    ensures { (es : List Entry) → entries (was list) ≡ some es → pair_of result ≡ start_pairs (was chosen) es (was name) }
+    ensures { (es : List Entry) → entries list.now ≡ some es → pair_of result ≡ start_pairs chosen.now es name.now }
 {
     if text::same(name, chosen) {
         return Pair {
@@ -68,7 +67,7 @@ fn modulo(v: i64) -> u64
 
 // The value of a number; 0 where it is not read.
 fn number_value(s: &[u8]) -> u64
-    ensures { (z : ℤ) → parse_c_number (was s) ≡ some z → result ≡ of_integer z }
+    ensures { (z : ℤ) → parse_c_number s.now ≡ some z → result ≡ of_integer z }
 {
     match parse_c_number(s) {
         Number::Read(v) => modulo(v),
@@ -79,8 +78,8 @@ fn number_value(s: &[u8]) -> u64
 // What a token is worth at the start.
 fn token_pair<'a>(tape: &'a [u8], w: u64, chosen: &'a [u8], list: &'a [u8]) -> Pair
     requires { Points tape.now tape.now w }
-    ensures { (es : List Entry) → entries (was list) ≡ some es
-        → Prices (start_pairs (was chosen) es) (token_of (was tape) (was tape) w) (pair_of result) }
+    ensures { (es : List Entry) → entries list.now ≡ some es
+        → Prices (start_pairs chosen.now es) (token_of tape.now tape.now w) (pair_of result) }
 {
     let s = words::text(tape, tape, w);
     if words::kind(w) == words::NUMBER {
@@ -101,8 +100,8 @@ pub fn fill<'a>(
     values: &mut [u64],
 )
     requires { Holds tape.now tape.now tokens.now × (2 * length tokens.now ≤ length values.old) }
-    ensures { (es : List Entry) → entries (was list) ≡ some es → Priced (start_pairs (was chosen) es)
-        (tokens_of (was tape) (was tape) (was tokens)) values.new }
+    ensures { (es : List Entry) → entries list.now ≡ some es → Priced (start_pairs chosen.now es)
+        (tokens_of tape.now tape.now tokens.now) values.new }
 {
     let mut k = 0;
     while k < tokens.len() {
@@ -117,7 +116,7 @@ pub fn fill<'a>(
 // Whether a token is the register that another one is.
 fn is_same<'a>(tape: &'a [u8], w: u64, target: u64) -> bool
     requires { Points tape.now tape.now w × Points tape.now tape.now target }
-    ensures { result ≡ same_register (token_of (was tape) (was tape) target) (token_of (was tape) (was tape) w) }
+    ensures { result ≡ same_register (token_of tape.now tape.now target) (token_of tape.now tape.now w) }
 {
     if words::kind(w) != words::REGISTER {
         return false;
@@ -129,8 +128,8 @@ fn is_same<'a>(tape: &'a [u8], w: u64, target: u64) -> bool
 fn overwrite<'a>(tape: &'a [u8], tokens: &'a [u64], target: u64, p: Pair, values: &mut [u64])
     requires { Holds tape.now tape.now tokens.now × Points tape.now tape.now target
         × (2 * length tokens.now ≤ length values.old) }
-    ensures { Overwritten (token_of (was tape) (was tape) target) (pair_of p)
-        (tokens_of (was tape) (was tape) (was tokens)) (was values) values.new }
+    ensures { Overwritten (token_of tape.now tape.now target) (pair_of p)
+        (tokens_of tape.now tape.now tokens.now) values.old values.new }
 {
     let mut k = 0;
     while k < tokens.len() {
@@ -152,8 +151,8 @@ fn behind_first<'a>(
     before: &'a [u8],
 ) -> Worth
     requires { Begun tape.now tokens.now l × (2 * length tokens.now ≤ length values.now) }
-    ensures { (σ : Text → Values.Pair) → Priced σ (tokens_of (was tape) (was tape) (was tokens)) (was values) → value_of result
-        ≡ evaluate affine σ (was before) (lexemes (drop 1 (tokens_of (was tape) (was tape) (part_of (was tokens) l)))) }
+    ensures { (σ : Text → Values.Pair) → Priced σ (tokens_of tape.now tape.now tokens.now) values.now → value_of result
+        ≡ evaluate affine σ before.now (lexemes (drop 1 (tokens_of tape.now tape.now (part_of tokens.now l)))) }
 {
     let first = words::first(l);
     let from = first + 1;
@@ -167,8 +166,8 @@ fn behind_first<'a>(
 fn assign_line<'a>(tape: &'a [u8], tokens: &'a [u64], l: u64, values: &mut [u64])
     requires { Holds tape.now tape.now tokens.now × Begun tape.now tokens.now l
         × (2 * length tokens.now ≤ length values.old) }
-    ensures { Assigned (tokens_of (was tape) (was tape) (part_of (was tokens) l))
-        (tokens_of (was tape) (was tape) (was tokens)) (was values) values.new }
+    ensures { Assigned (tokens_of tape.now tape.now (part_of tokens.now l))
+        (tokens_of tape.now tape.now tokens.now) values.old values.new }
 {
     match behind_first(tape, tokens, values, l, b" = ") {
         Worth::Is {
@@ -191,8 +190,8 @@ fn assign_line<'a>(tape: &'a [u8], tokens: &'a [u64], l: u64, values: &mut [u64]
 // What a line that returns is worth.
 fn returned<'a>(tape: &'a [u8], tokens: &'a [u64], values: &'a [u64], l: u64) -> Pair
     requires { Begun tape.now tokens.now l × (2 * length tokens.now ≤ length values.now) }
-    ensures { Returned (tokens_of (was tape) (was tape) (part_of (was tokens) l))
-        (tokens_of (was tape) (was tape) (was tokens)) (was values) (pair_of result) }
+    ensures { Returned (tokens_of tape.now tape.now (part_of tokens.now l))
+        (tokens_of tape.now tape.now tokens.now) values.now (pair_of result) }
 {
     match behind_first(tape, tokens, values, l, b" ") {
         Worth::Is {
@@ -216,8 +215,8 @@ fn returned<'a>(tape: &'a [u8], tokens: &'a [u64], values: &'a [u64], l: u64) ->
 // What a listing in the profile returns, the table having what each token is worth at the start.
 fn run<'a>(tape: &'a [u8], tokens: &'a [u64], lines: &'a [u64], values: &mut [u64]) -> Pair
     requires { Profiled tape.now tokens.now lines.now × (2 * length tokens.now ≤ length values.old) }
-    ensures { (reading : Reading) (σ : Text → Values.Pair) → Priced σ (tokens_of (was tape) (was tape) (was tokens)) (was values)
-        → execute affine σ (listing_read (was tape) (was tape) (was tokens) reading (was lines)) ≡ some (pair_of result) }
+    ensures { (reading : Reading) (σ : Text → Values.Pair) → Priced σ (tokens_of tape.now tape.now tokens.now) values.old
+        → execute affine σ (listing_read tape.now tape.now tokens.now reading lines.now) ≡ some (pair_of result) }
 {
     let last = lines.len() - 1;
     let mut i = 0;
@@ -237,8 +236,8 @@ pub fn reckon<'a>(
     list: &'a [u8],
 ) -> Pair
     requires { Profiled tape.now tokens.now lines.now × (length tokens.now ≤ 1024) }
-    ensures { (reading : Reading) (es : List Entry) → entries (was list) ≡ some es
-        → returned_pair (was chosen) es (listing_read (was tape) (was tape) (was tokens) reading (was lines)) ≡ some (pair_of result) }
+    ensures { (reading : Reading) (es : List Entry) → entries list.now ≡ some es
+        → returned_pair chosen.now es (listing_read tape.now tape.now tokens.now reading lines.now) ≡ some (pair_of result) }
 {
     let mut values = [0u64; 2048];
     fill(tape, tokens, chosen, list, &mut values);

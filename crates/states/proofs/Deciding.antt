@@ -6,7 +6,7 @@ use mathlib.Core.Option.{none, some}
 use lib.Dec.{ltb, leb}
 use lib.ListN.{length, get_or}
 use borrow.Author.Tests.{lt-ltb, le-ltb, eq-eqb, ne_eqb}
-use Rattle.reference.specs.Control.{if◌then◌else◌, let_some◌else◌then◌}
+use Rattle.reference.specs.Control.{when◌then◌else◌, let_some◌else◌then◌}
 use Rattle.reference.specs.Lists.{is_some}
 use Rattle.reference.specs.Listing.{Listing}
 use Rattle.reference.specs.Questions.{Answer, Refused, Passed, ask, let_passed◌then◌, read}
@@ -43,15 +43,15 @@ module _ (store : Store) (i : ℕ) {c : Cell} (e : c ≡ cell store i) where
 
 module _ (store : Store) {room : Bool} where
   pub opened-short : room ≡ false → opened store room ≡ Refused 2 0
-  unfolding opened ask if◌then◌else◌
+  unfolding opened ask when◌then◌else◌
   opened-short r = rw r
 
   pub opened-wrong : {i : ℕ} → room ≡ true → wrong_cell store ≡ some i → opened store room ≡ Refused 22 i
-  unfolding opened ask if◌then◌else◌ let_some◌else◌then◌
+  unfolding opened ask when◌then◌else◌ let_some◌else◌then◌
   opened-wrong r e = rw (r, e)
 
   pub opened-right : room ≡ true → wrong_cell store ≡ none → opened store room ≡ Passed tt
-  unfolding opened ask if◌then◌else◌ let_some◌else◌then◌
+  unfolding opened ask when◌then◌else◌ let_some◌else◌then◌
   opened-right r e = rw (r, e)
 
 -- ---- the cell of a name, and the spot for a tape

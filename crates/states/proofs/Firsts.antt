@@ -9,7 +9,7 @@ use mathlib.Core.Path.{◌≡◌, refl, sym}
 use mathlib.Core.Logic.{by_cases}
 use mathlib.Core.Bool.{Bool, true, false}
 use mathlib.Core.Option.{Option, none, some}
-use Rattle.reference.specs.Control.{if◌then◌else◌}
+use Rattle.reference.specs.Control.{when◌then◌else◌}
 use Rattle.reference.proofs.Cases.{by-if, some_inj, none-some}
 use Rattle.states.specs.Store.{first}
 
@@ -27,11 +27,11 @@ module _ (p : ℕ → Bool) where
   first_begin n = rw sub-zero
 
   pub first_hit : (n i : ℕ) → i < n → p i ≡ true → first (n - i) i p ≡ some i
-  unfolding first if◌then◌else◌
+  unfolding first when◌then◌else◌
   first_hit n i h e = let k : n - i ≡ suc (n - suc i) = omega arith in rw (k, e)
 
   pub first_miss : (n i : ℕ) → i < n → p i ≡ false → first (n - i) i p ≡ first (n - (i + 1)) (i + 1) p
-  unfolding first if◌then◌else◌
+  unfolding first when◌then◌else◌
   first_miss n i h e = let k : n - i ≡ suc (n - suc i) = omega arith in rw (add-one, k, e)
 
   pub first_end : (n i : ℕ) → n ≤ i → first (n - i) i p ≡ none
@@ -67,12 +67,12 @@ module _ (p : ℕ → Bool) where
   -- ---- how it is found
 
   pub none_first : (k i : ℕ) → ((j : ℕ) → i ≤ j → j < i + k → p j ≡ false) → first k i p ≡ none
-  unfolding first if◌then◌else◌
+  unfolding first when◌then◌else◌
   none_first zero i h = refl
   none_first (suc k) i h = rw (h i (omega arith) (omega arith)) (none_first k (suc i) (λ j a b. h j (omega arith) (omega arith)))
 
   pub some_first : (k i j : ℕ) → Hit p k i j → first k i p ≡ some j
-  unfolding first if◌then◌else◌
+  unfolding first when◌then◌else◌
   some_first zero i j h = absurd (omega arith)
   some_first (suc k) i j h =
       by_cases (dec_le (suc i) j)

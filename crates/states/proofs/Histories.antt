@@ -5,8 +5,8 @@ use mathlib.Core.Bool.{Bool, true, false}
 use mathlib.Core.List.{List, [], ◌∷◌, ◌++◌}
 use mathlib.Core.Option.{Option, none, some}
 use lib.ListN.{length, drop}
-use Rattle.reference.specs.Control.{◌&&◌, if◌then◌else◌}
-use Rattle.reference.specs.Text.{◌==◌}
+use Rattle.reference.specs.Control.{◌and◌, when◌then◌else◌}
+use Rattle.reference.specs.Text.{◌≟◌}
 use Rattle.reference.specs.Questions.{Answer, Refused, Passed}
 use Rattle.reference.proofs.Cases.{by-if, both, some_inj, none-some, true-false}
 use Rattle.reference.proofs.Reading.{refused_passed, passed_inj}
@@ -35,8 +35,8 @@ record Stepped (c : Call) (store store' : Store) : Type 0 where
 module _ (store : Store) (s : Sound store) where
   module _ (n : Name) (tape : Tape) (eight : length n ≡ 8) where
     save-recalls : (a : Answer Spot) → save_reply store n tape ≡ a → (m : Name)
-        → state (after_save (save_reply store n tape) store n tape) m ≡ (if passes a && (n == m) then some tape else state store m)
-    unfolding after_save ◌&&◌
+        → state (after_save (save_reply store n tape) store n tape) m ≡ (when passes a and (n ≟ m) then some tape else state store m)
+    unfolding after_save ◌and◌
     save-recalls (Refused number place) e m =
         by-if (λ (x : Option Tape). state (after_save (save_reply store n tape) store n tape) m ≡ x) (λ f. absurd (true-false f refl))
         (λ f. rw e)
@@ -57,9 +57,9 @@ module _ (store : Store) (s : Sound store) where
     save_accepts (Refused number place) e h m t x = h m t (rw e at x)
     save_accepts (Passed spot) e h m t x =
         let w = saved store n tape eight s e in
-        split (n == m) refl w
+        split (n ≟ m) refl w
       where
-        split : (b : Bool) → (n == m) ≡ b → Saved store n tape (after_save (save_reply store n tape) store n tape) → AcceptedTape t
+        split : (b : Bool) → (n ≟ m) ≡ b → Saved store n tape (after_save (save_reply store n tape) store n tape) → AcceptedTape t
         split true y w =
             let z : some tape ≡ some t = sym w.holds ∙ ap (state (after_save (save_reply store n tape) store n tape)) (same_text n m y)
             ∙ x in
@@ -78,8 +78,8 @@ module _ (store : Store) (s : Sound store) where
 
   module _ (n : Name) where
     delete-recalls : (a : Answer ℕ) → delete_reply store n ≡ a → (m : Name)
-        → state (after_delete (delete_reply store n) store) m ≡ (if passes a && (n == m) then none else state store m)
-    unfolding after_delete ◌&&◌
+        → state (after_delete (delete_reply store n) store) m ≡ (when passes a and (n ≟ m) then none else state store m)
+    unfolding after_delete ◌and◌
     delete-recalls (Refused number place) e m =
         by-if (λ (x : Option Tape). state (after_delete (delete_reply store n) store) m ≡ x) (λ f. absurd (true-false f refl)) (λ f. rw e)
     delete-recalls (Passed i) e m =
@@ -99,9 +99,9 @@ module _ (store : Store) (s : Sound store) where
     delete_accepts (Refused number place) e h m t x = h m t (rw e at x)
     delete_accepts (Passed i) e h m t x =
         let w = deleted store n s e in
-        split (n == m) refl w
+        split (n ≟ m) refl w
       where
-        split : (b : Bool) → (n == m) ≡ b → Deleted store n (after_delete (delete_reply store n) store) → AcceptedTape t
+        split : (b : Bool) → (n ≟ m) ≡ b → Deleted store n (after_delete (delete_reply store n) store) → AcceptedTape t
         split true y w =
             absurd (none-some (sym w.gone ∙ ap (state (after_delete (delete_reply store n) store)) (same_text n m y) ∙ x))
         split false f w = h m t (sym (w.others m (λ z. true-false (rw z (same_refl n)) f)) ∙ x)
@@ -174,9 +174,9 @@ history store calls s n =
 
 -- ---- the same in the request's words: the call that counts, and none of that name after it
 
-other_name : (n m : Name) (b : Bool) (x y : Option Tape) → (n ≡ m → ⊥) → (if b && (n == m) then x else y) ≡ y
+other_name : (n m : Name) (b : Bool) (x y : Option Tape) → (n ≡ m → ⊥) → (when b and (n ≟ m) then x else y) ≡ y
 other_name n m b x y z =
-    by-if (λ (o : Option Tape). o ≡ y) {b = b && (n == m)} (λ f. absurd (z (same_text n m (both {a = b} f).1))) (λ f. refl)
+    by-if (λ (o : Option Tape). o ≡ y) {b = b and (n ≟ m)} (λ f. absurd (z (same_text n m (both {a = b} f).1))) (λ f. refl)
 
 untouched : (m : Name) (calls : List Call) → Untouched m calls → (store : Store) (before : Option Tape) → remembered calls store m before ≡ before
 unfolding remembered recall
@@ -195,12 +195,12 @@ remembered_append (c ∷ cs) ds store m before = remembered_append cs ds (after_
 
 recall-save : (n : Name) (tape : Tape) (store : Store) (before : Option Tape) {spot : Spot} → save_reply store n tape ≡ Passed spot
     → recall (save n tape) store n before ≡ some tape
-unfolding recall if◌then◌else◌ ◌&&◌
+unfolding recall when◌then◌else◌ ◌and◌
 recall-save n tape store before e = rw (e, same_refl n)
 
 recall-delete : (n : Name) (store : Store) (before : Option Tape) {i : ℕ} → delete_reply store n ≡ Passed i
     → recall (delete n) store n before ≡ none
-unfolding recall if◌then◌else◌ ◌&&◌
+unfolding recall when◌then◌else◌ ◌and◌
 recall-delete n store before e = rw (e, same_refl n)
 
 module _ (store : Store) (s : Sound store) (cs ds : List Call) (n : Name) (output : ℕ) (room : ROOM ≤ output) (q : Untouched n ds) where

@@ -8,7 +8,7 @@ use mathlib.Core.Option.{none, some}
 use lib.Dec.{leb}
 use lib.ListN.{length, drop, set}
 use borrow.Author.Tests.{leb-true, ltb-false}
-use Rattle.reference.specs.Control.{◌&&◌}
+use Rattle.reference.specs.Control.{◌and◌}
 use Rattle.reference.specs.Listing.{Listing}
 use Rattle.reference.specs.Questions.{Answer, Refused, Passed, let_passed◌then◌, read}
 use Rattle.reference.proofs.Cases.{by-some, both, neither}
@@ -167,12 +167,12 @@ module _ (store : Store) (n : Name) {room : Bool} (r : room ≡ is_whole store) 
 
 -- ---- what `restore` promises
 
-module _ (store : Store) (n : Name) (out : List ℕ) {room : Bool} (r : room ≡ (is_whole store && leb ROOM (length out))) where
+module _ (store : Store) (n : Name) (out : List ℕ) {room : Bool} (r : room ≡ (is_whole store and leb ROOM (length out))) where
   pub restore_refused : {number place : ℕ} → Refused number place ≡ held_cell store room n
       → Writes (restore_reply store n (length out)) out out (Refused number place)
   unfolding restore_reply let_passed◌then◌
   restore_refused {number} {place} e =
-      let f : held_cell store (is_whole store && leb ROOM (length out)) n ≡ Refused number place = rw r at (sym e) in
+      let f : held_cell store (is_whole store and leb ROOM (length out)) n ≡ Refused number place = rw r at (sym e) in
       record { reply_is = rw f; output_is = rw f }
 
   pub restore_ready : {i : ℕ} → Passed i ≡ held_cell store room n → InStore store i × (length_of (cell store i) ≤ ROOM)
@@ -190,5 +190,5 @@ module _ (store : Store) (n : Name) (out : List ℕ) {room : Bool} (r : room ≡
       → out' ≡ tape_of (cell store i) ++ drop m out → Writes (restore_reply store n (length out)) out out' (Passed m)
   unfolding restore_reply let_passed◌then◌
   restore-done {i} e l o =
-      let f : held_cell store (is_whole store && leb ROOM (length out)) n ≡ Passed i = rw r at (sym e) in
+      let f : held_cell store (is_whole store and leb ROOM (length out)) n ≡ Passed i = rw r at (sym e) in
       record { reply_is = rw f (ap Passed l); output_is = rw f (o ∙ rw l) }

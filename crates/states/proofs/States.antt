@@ -13,9 +13,9 @@ use lib.Dec.{leb}
 use lib.ListN.{length, set, length-append, drop, replicate, length-replicate, get_or-replicate}
 use lib.Seq.{get_or-take, get_or-drop}
 use borrow.Author.Tests.{le-leb, ltb-false, le-ltb, eq-eqb, ne_eqb, eqb-true}
-use Rattle.reference.specs.Control.{◌&&◌, let_some◌else◌then◌}
+use Rattle.reference.specs.Control.{◌and◌, let_some◌else◌then◌}
 use Rattle.reference.specs.Lists.{is_some}
-use Rattle.reference.specs.Text.{◌==◌}
+use Rattle.reference.specs.Text.{◌≟◌}
 use Rattle.reference.specs.Questions.{Refused, Passed, let_passed◌then◌}
 use Rattle.reference.proofs.Cases.{by-some, both, neither, fails, true-false}
 use Rattle.reference.proofs.Shapes.{same_text}
@@ -36,8 +36,8 @@ use Rattle.states.proofs.Deciding.{opened-right}
 use Rattle.states.proofs.Passing.{accepted-fits, opened_passed, whole_long, named-below}
 use Rattle.states.proofs.Passing.{named-holds, held_passed, saves_replaced, saves_taken, saving_ready}
 
-pub same_refl : (a : Name) → (a == a) ≡ true
-unfolding ◌&&◌
+pub same_refl : (a : Name) → (a ≟ a) ≡ true
+unfolding ◌and◌
 same_refl [] = refl
 same_refl (x ∷ xs) = rw (eq-eqb x x refl, same_refl xs)
 
@@ -323,7 +323,7 @@ pub restored : (store : Store) (n : Name) (output : ℕ) → Sound store → ROO
 unfolding restore_reply held_cell state let_passed◌then◌ let_some◌else◌then◌
 restored store n output s r =
     let o = opened_passed store (is_whole store) s in
-    let t : (is_whole store && leb ROOM output) ≡ true = and_true _ o.0 ∙ le-leb _ _ r in
+    let t : (is_whole store and leb ROOM output) ≡ true = and_true _ o.0 ∙ le-leb _ _ r in
     let p = opened-right store t o.1 in
     rw p (found (named store 8 n))
   where

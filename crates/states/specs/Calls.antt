@@ -1,7 +1,7 @@
 -- Request M-111's three calls: what each answers, and every byte of the store afterwards (of the output: `output_after`, crate answers).
 -- Assumes nothing.
 use Rattle.std.specs.Prelude.{ℕ, ◌+◌, ◌*◌, Bool, List, [], ◌∷◌, ◌++◌, leb, length, set}
-use Rattle.reference.specs.Control.{◌&&◌, let_some◌else◌then◌}
+use Rattle.reference.specs.Control.{◌and◌, let_some◌else◌then◌}
 use Rattle.reference.specs.Tape.{to_le_bytes}
 use Rattle.reference.specs.Questions.{Answer, Refused, Passed, ask, let_passed◌then◌, read}
 use Rattle.tape.specs.Bytes.{put}
@@ -70,5 +70,5 @@ after_delete (Passed i) store = set store (i * CELL) 0
 -- The tape, the output having so many bytes: "Coming back copies the held tape as it stands, unasked". The store is not lent for writing.
 unfoldable pub restore_reply : Store → Name → ℕ → Answer Tape
 restore_reply store n output =
-    let_passed (held_cell store (is_whole store && leb ROOM output) n) then λ i.
+    let_passed (held_cell store (is_whole store and leb ROOM output) n) then λ i.
     Passed (tape_of (cell store i))

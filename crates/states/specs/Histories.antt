@@ -1,8 +1,8 @@
 -- Sequences of calls on one store, and what is remembered under a name. Assumes nothing.
 use Rattle.std.specs.Prelude.{ℕ, ◌≡◌, Bool, true, false, List, [], ◌∷◌, length}
 use Rattle.std.proofs.Math.Option.{Option, none, some}
-use Rattle.reference.specs.Control.{◌&&◌, if◌then◌else◌}
-use Rattle.reference.specs.Text.{◌==◌}
+use Rattle.reference.specs.Control.{◌and◌, when◌then◌else◌}
+use Rattle.reference.specs.Text.{◌≟◌}
 use Rattle.reference.specs.Questions.{Answer, Refused, Passed}
 use Rattle.tape.specs.Questions.{AcceptedTape}
 use Rattle.states.specs.Store.{Store, Name, Tape, state}
@@ -42,9 +42,9 @@ passes (Passed a) = true
 -- What is remembered under the name m after one call more, `before` having been: "the one last saved under that name"; a call that is
 -- refused changes nothing.
 unfoldable pub recall : Call → Store → Name → Option Tape → Option Tape
-recall (save n tape) store m before = if passes (save_reply store n tape) && (n == m) then some tape else before
+recall (save n tape) store m before = when passes (save_reply store n tape) and (n ≟ m) then some tape else before
 recall (restore n output) store m before = before
-recall (delete n) store m before = if passes (delete_reply store n) && (n == m) then none else before
+recall (delete n) store m before = when passes (delete_reply store n) and (n ≟ m) then none else before
 
 -- what is remembered under the name m after a sequence of calls: the tape last saved under it since it was last deleted
 unfoldable pub remembered : List Call → Store → Name → Option Tape → Option Tape

@@ -1,9 +1,9 @@
 -- Request M-111's store, cell by cell, and what it means: a partial map from names to tapes. Assumes nothing.
 use Rattle.std.specs.Prelude.{ℕ, zero, suc, ◌*◌, Bool, List, ltb, eqb, get_or, take, drop}
 use Rattle.std.proofs.Math.Option.{Option, none, some}
-use Rattle.reference.specs.Control.{◌&&◌, ◌||◌, if◌then◌else◌, let_some◌else◌then◌}
+use Rattle.reference.specs.Control.{◌and◌, ◌or◌, when◌then◌else◌, let_some◌else◌then◌}
 use Rattle.reference.specs.Lists.{is_some}
-use Rattle.reference.specs.Text.{◌==◌}
+use Rattle.reference.specs.Text.{◌≟◌}
 use Rattle.reference.specs.Tape.{from_le_bytes}
 
 abbrev pub Store : Type 0
@@ -54,14 +54,14 @@ is_held c = eqb (first_byte c) 1
 
 -- held, and under that name
 unfoldable pub holds : Name → Cell → Bool
-holds n c = is_held c && (name_of c == n)
+holds n c = is_held c and (name_of c ≟ n)
 
 -- ---- cells looked for
 
 -- the first of the k numbers from i on that passes a test
 unfoldable pub first : ℕ → ℕ → (ℕ → Bool) → Option ℕ
 first zero i p = none
-first (suc k) i p = let r = first k (suc i) p in if p i then some i else r
+first (suc k) i p = let r = first k (suc i) p in when p i then some i else r
 
 -- the cell, of the first k, that is held under a name
 abbrev pub named : Store → ℕ → Name → Option ℕ
@@ -74,7 +74,7 @@ free_cell store = first 8 0 (λ i. is_free (cell store i))
 unfoldable pub is_wrong : Store → ℕ → Bool
 is_wrong store i =
     let c : Cell = cell store i in
-    ltb 1 (first_byte c) || (is_held c && (ltb ROOM (length_of c) || is_some (named store i (name_of c))))
+    ltb 1 (first_byte c) or (is_held c and (ltb ROOM (length_of c) or is_some (named store i (name_of c))))
 
 abbrev pub wrong_cell : Store → Option ℕ
 wrong_cell store = first 8 0 (is_wrong store)

@@ -1,7 +1,6 @@
 // The three calls.
 ghost use Rattle.std.specs.Prelude.{◌≡◌, true, ◌∷◌, ◌++◌, ◌+◌, ◌*◌, ◌≤◌, leb, length, drop, set};
-ghost use Rattle.reference.specs.Contract.{was};
-ghost use Rattle.reference.specs.Control.{◌&&◌};
+ghost use Rattle.reference.specs.Control.{◌and◌};
 ghost use Rattle.tape.specs.Bytes.{put};
 ghost use Rattle.states.specs.Store.{CELL, STORE, ROOM, cell, length_of, tape_of};
 ghost use Rattle.states.specs.Calls.{opened, held_cell, spot_for, save_reply, restore_reply, body};
@@ -16,14 +15,14 @@ use tape::questions::Checked;
 use text::copy_bytes;
 
 // The cell that is held under a name.
-#[derive(Drop)]
+#[derive(Clone, Copy)]
 pub enum Located {
     Refused { number: u64, place: usize },
     Cell(usize),
 }
 
 // The cell that a tape is saved in: the one that is held under the name, or the first free one.
-#[derive(Drop)]
+#[derive(Clone, Copy)]
 pub enum Placed {
     Refused { number: u64, place: usize },
     Replaced(usize),
@@ -33,7 +32,7 @@ pub enum Placed {
 // Questions 2 and 22. `room` says whether what is lent is long enough.
 fn opened(store: &[u8], room: bool) -> Answer
     requires { room ≡ true → STORE ≤ length store.now }
-    ensures { answer_of result ≡ plain (opened (was store) room) }
+    ensures { answer_of result ≡ plain (opened store.now room) }
 {
     if !room {
         return Answer::Refused {
@@ -55,7 +54,7 @@ fn opened(store: &[u8], room: bool) -> Answer
 // The cell for a tape that passed the tape questions, in a store that passed its own.
 fn place_for(store: &[u8], name: &[u8]) -> Placed
     requires { STORE ≤ length store.now }
-    ensures { spot_of result ≡ spot_for (was store) (was name) }
+    ensures { spot_of result ≡ spot_for store.now name.now }
 {
     match named(store, 8, name) {
         Position::At(i) => Placed::Replaced(i),
@@ -70,7 +69,7 @@ fn place_for(store: &[u8], name: &[u8]) -> Placed
 }
 
 fn save_place(store: &[u8], name: &[u8], tape: &[u8]) -> Placed
-    ensures { spot_of result ≡ save_reply (was store) (was name) (was tape) }
+    ensures { spot_of result ≡ save_reply store.now name.now tape.now }
 {
     match opened(store, store_bytes() <= store.len()) {
         Answer::Refused { number, place } => Placed::Refused { number, place },
@@ -84,7 +83,7 @@ fn save_place(store: &[u8], name: &[u8], tape: &[u8]) -> Placed
 // Writes the length and the bytes of a tape from `at` on.
 fn write_body(store: &mut [u8], at: usize, tape: &[u8])
     requires { (at + 4 + length tape.now ≤ length store.old) × (length tape.now ≤ ROOM) }
-    ensures { store.new ≡ put (was store) at (body (was tape)) }
+    ensures { store.new ≡ put store.old at (body tape.now) }
 {
     put_number(tape.len() as u64, 4, store, at);
     copy_bytes(tape, store, at + 4);
@@ -93,7 +92,7 @@ fn write_body(store: &mut [u8], at: usize, tape: &[u8])
 // Replaces the tape of the cell i.
 fn replace(store: &mut [u8], i: usize, tape: &[u8])
     requires { InStore store.old i × (length tape.now ≤ ROOM) }
-    ensures { store.new ≡ put (was store) (i * CELL + 9) (body (was tape)) }
+    ensures { store.new ≡ put store.old (i * CELL + 9) (body tape.now) }
 {
     write_body(store, cell_start(i) + 9, tape);
 }
@@ -101,7 +100,7 @@ fn replace(store: &mut [u8], i: usize, tape: &[u8])
 // Takes the cell i for a name and its tape.
 fn take(store: &mut [u8], i: usize, name: &[u8], tape: &[u8])
     requires { InStore store.old i × (length name.now ≡ 8) × (length tape.now ≤ ROOM) }
-    ensures { store.new ≡ put (was store) (i * CELL) (1 ∷ was name ++ body (was tape)) }
+    ensures { store.new ≡ put store.old (i * CELL) (1 ∷ name.now ++ body tape.now) }
 {
     let at = cell_start(i);
     store[at] = 1;
@@ -111,7 +110,7 @@ fn take(store: &mut [u8], i: usize, name: &[u8], tape: &[u8])
 
 fn save_named(store: &mut [u8], name: &[u8], tape: &[u8]) -> Answer
     requires { length name.now ≡ 8 }
-    ensures { Saves (was store) (was name) (was tape) store.new (answer_of result) }
+    ensures { Saves store.old name.now tape.now store.new (answer_of result) }
 {
     match save_place(store, name, tape) {
         Placed::Refused { number, place } => Answer::Refused { number, place },
@@ -128,7 +127,7 @@ fn save_named(store: &mut [u8], name: &[u8], tape: &[u8]) -> Answer
 
 // Saves a tape under a name: in place of the one that is held under it, or in the first free cell. A refusal changes nothing.
 pub fn save(store: &mut [u8], name: &[u8; 8], tape: &[u8]) -> Answer
-    ensures { Saves (was store) (was name) (was tape) store.new (answer_of result) }
+    ensures { Saves store.old name.now tape.now store.new (answer_of result) }
 {
     save_named(store, name, tape)
 }
@@ -137,7 +136,7 @@ pub fn save(store: &mut [u8], name: &[u8; 8], tape: &[u8]) -> Answer
 
 // Question 2 of coming back.
 fn has_room(store: usize, out: usize) -> bool
-    ensures { result ≡ (leb STORE store && leb ROOM out) }
+    ensures { result ≡ (leb STORE store and leb ROOM out) }
 {
     if store < store_bytes() {
         return false;
@@ -148,7 +147,7 @@ fn has_room(store: usize, out: usize) -> bool
 // The cell that is held under a name, as an answer: its number, or 20.
 fn held(store: &[u8], room: bool, name: &[u8]) -> Located
     requires { room ≡ true → STORE ≤ length store.now }
-    ensures { cell_of result ≡ held_cell (was store) room (was name) }
+    ensures { cell_of result ≡ held_cell store.now room name.now }
 {
     match opened(store, room) {
         Answer::Refused { number, place } => Located::Refused { number, place },
@@ -165,14 +164,14 @@ fn held(store: &[u8], room: bool, name: &[u8]) -> Located
 // Gives up the cell that begins at `at`.
 fn release(store: &mut [u8], at: usize)
     requires { at + 13 ≤ length store.old }
-    ensures { store.new ≡ set (was store) at 0 }
+    ensures { store.new ≡ set store.old at 0 }
 {
     store[at] = 0;
 }
 
 // Deletes the state of a name: only the first byte of its cell is written.
 pub fn delete(store: &mut [u8], name: &[u8; 8]) -> Answer
-    ensures { Deletes (was store) (was name) store.new (answer_of result) }
+    ensures { Deletes store.old name.now store.new (answer_of result) }
 {
     match held(store, store_bytes() <= store.len(), name) {
         Located::Refused { number, place } => Answer::Refused { number, place },
@@ -188,8 +187,8 @@ pub fn delete(store: &mut [u8], name: &[u8; 8]) -> Answer
 // Copies the tape of the cell i, as it stands, to the front of the output.
 fn copy_out(store: &[u8], i: usize, out: &mut [u8]) -> usize
     requires { InStore store.now i × (length_of (cell store.now i) ≤ ROOM) × (ROOM ≤ length out.old) }
-    ensures value { result ≡ length (tape_of (cell (was store) i)) }
-    ensures out_after { out.new ≡ tape_of (cell (was store) i) ++ drop result (was out) }
+    ensures value { result ≡ length (tape_of (cell store.now i)) }
+    ensures out_after { out.new ≡ tape_of (cell store.now i) ++ drop result out.old }
 {
     let tape = held_tape(store, i);
     copy_bytes(tape, out, 0);
@@ -198,7 +197,7 @@ fn copy_out(store: &[u8], i: usize, out: &mut [u8]) -> usize
 
 // Comes back to the state of a name: its tape, as it stands, at the front of the output; the answer is its length.
 pub fn restore(store: &[u8], name: &[u8; 8], out: &mut [u8]) -> Answer
-    ensures { Writes (restore_reply (was store) (was name) (length (was out))) (was out) out.new (answer_of result) }
+    ensures { Writes (restore_reply store.now name.now (length out.old)) out.old out.new (answer_of result) }
 {
     match held(store, has_room(store.len(), out.len()), name) {
         Located::Refused { number, place } => Answer::Refused { number, place },

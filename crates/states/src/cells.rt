@@ -1,6 +1,5 @@
 // One cell of the store, and cells looked for. Nothing is written.
 ghost use Rattle.std.specs.Prelude.{◌≡◌, ◌≤◌, ◌*◌, ◌<◌, length, ltb};
-ghost use Rattle.reference.specs.Contract.{was};
 ghost use Rattle.reference.specs.Lists.{is_some};
 ghost use Rattle.states.specs.Store.{CELL, STORE, ROOM, cell, name_of, length_of, tape_of};
 ghost use Rattle.states.specs.Store.{is_free, holds, named, free_cell, is_wrong, wrong_cell};
@@ -11,7 +10,7 @@ use tape::little_endian::number_at;
 use text::same;
 
 // The number of a cell, or that there is none.
-#[derive(Drop)]
+#[derive(Clone, Copy)]
 pub enum Position {
     At(usize),
     Nothing,
@@ -27,7 +26,7 @@ pub fn cell_start(i: usize) -> usize
 
 pub fn cell_at(store: &[u8], i: usize) -> &[u8]
     requires { InStore store.now i }
-    ensures { result.now ≡ cell (was store) i }
+    ensures { result.now ≡ cell store.now i }
 {
     let at = cell_start(i);
     let end = at + cell_bytes();
@@ -38,21 +37,21 @@ pub fn cell_at(store: &[u8], i: usize) -> &[u8]
 
 fn cell_name(cell: &[u8]) -> &[u8]
     requires { 13 ≤ length cell.now }
-    ensures { result.now ≡ name_of (was cell) }
+    ensures { result.now ≡ name_of cell.now }
 {
     &cell[1..9]
 }
 
 fn cell_length(cell: &[u8]) -> u64
     requires { 13 ≤ length cell.now }
-    ensures { result ≡ length_of (was cell) }
+    ensures { result ≡ length_of cell.now }
 {
     number_at(cell, 9, 4)
 }
 
 fn holds(cell: &[u8], name: &[u8]) -> bool
     requires { 13 ≤ length cell.now }
-    ensures { result ≡ holds (was name) (was cell) }
+    ensures { result ≡ holds name.now cell.now }
 {
     if cell[0] != 1 {
         return false;
@@ -65,7 +64,7 @@ fn holds(cell: &[u8], name: &[u8]) -> bool
 // Which of the first k cells is held under a name.
 pub fn named(store: &[u8], k: usize, name: &[u8]) -> Position
     requires { (k ≤ 8) × (STORE ≤ length store.now) }
-    ensures { found result ≡ named (was store) k (was name) }
+    ensures { found result ≡ named store.now k name.now }
 {
     let mut i = 0;
     while i < k {
@@ -79,14 +78,14 @@ pub fn named(store: &[u8], k: usize, name: &[u8]) -> Position
 
 fn is_free(cell: &[u8]) -> bool
     requires { 13 ≤ length cell.now }
-    ensures { result ≡ is_free (was cell) }
+    ensures { result ≡ is_free cell.now }
 {
     cell[0] == 0
 }
 
 pub fn free_cell(store: &[u8]) -> Position
     requires { STORE ≤ length store.now }
-    ensures { found result ≡ free_cell (was store) }
+    ensures { found result ≡ free_cell store.now }
 {
     let mut i = 0; // the first of them
     while i < 8 {
@@ -103,7 +102,7 @@ pub fn free_cell(store: &[u8]) -> Position
 // Whether one of the first i cells is held under a name.
 fn is_taken(store: &[u8], i: usize, name: &[u8]) -> bool
     requires { (i ≤ 8) × (STORE ≤ length store.now) }
-    ensures { result ≡ is_some (named (was store) i (was name)) }
+    ensures { result ≡ is_some (named store.now i name.now) }
 {
     match named(store, i, name) {
         Position::At(_) => true,
@@ -120,7 +119,7 @@ fn is_long(n: u64) -> bool
 
 fn is_wrong(store: &[u8], i: usize) -> bool
     requires { InStore store.now i }
-    ensures { result ≡ is_wrong (was store) i }
+    ensures { result ≡ is_wrong store.now i }
 {
     let cell = cell_at(store, i);
     let b = cell[0];
@@ -138,7 +137,7 @@ fn is_wrong(store: &[u8], i: usize) -> bool
 
 pub fn wrong_cell(store: &[u8]) -> Position
     requires { STORE ≤ length store.now }
-    ensures { found result ≡ wrong_cell (was store) }
+    ensures { found result ≡ wrong_cell store.now }
 {
     let mut i = 0;
     while i < 8 {
@@ -154,7 +153,7 @@ pub fn wrong_cell(store: &[u8]) -> Position
 
 pub fn held_tape(store: &[u8], i: usize) -> &[u8]
     requires { InStore store.now i × (length_of (cell store.now i) ≤ ROOM) }
-    ensures { result.now ≡ tape_of (cell (was store) i) }
+    ensures { result.now ≡ tape_of (cell store.now i) }
 {
     let cell = cell_at(store, i);
     let end = 13 + cell_length(cell) as usize;

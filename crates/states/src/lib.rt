@@ -1,4 +1,6 @@
 // Request M-111: named states of a listing, kept in a lent store of eight cells.
+#![tactic(auto)]
+
 mod calls; // save, restore, delete
 mod cells; // one cell, and cells looked for
 mod sizes; // the numbers of the store

@@ -1,21 +1,21 @@
 -- The numbers of the profile are read alike by both editions of M-100, where both read them. Assumes nothing.
-use Prim.Native.Nat.{ℕ, zero, suc, ◌≤◌, ◌^◌}
+use Prim.Native.Nat.{ℕ, suc, ◌≤◌, ◌^◌}
 use native.Mathlib.Omega.{arith}
 use mathlib.Core.Path.{◌≡◌, refl, sym, ap, ◌∙◌}
-use mathlib.Core.Bool.{Bool, true, false, true≢false, false≢true}
-use mathlib.Core.List.{List, [], ◌∷◌, ◌++◌}
+use mathlib.Core.Bool.{Bool, true, false, false≢true}
+use mathlib.Core.List.{[], ◌∷◌, ◌++◌}
 use mathlib.Core.Option.{Option, none, some}
 use lib.Dec.{eqb, leb, ltb}
 use lib.IntN.{ℤ, pos}
 use lib.ListN.{length, drop}
 use borrow.Author.Tests.{leb-true, ne_eqb, eq-eqb}
-use Rattle.reference.specs.Control.{not, ◌&&◌, ◌||◌, if◌then◌else◌, let_some◌else◌then◌}
-use Rattle.reference.specs.Lists.{count, any}
-use Rattle.reference.specs.Text.{Text, bytes, ◌==◌, starts_with, strip_prefix, contains}
+use Rattle.reference.specs.Control.{not, ◌and◌, ◌or◌, when◌then◌else◌, let_some◌else◌then◌}
+use Rattle.reference.specs.Lists.{count}
+use Rattle.reference.specs.Text.{Text, bytes, ◌≟◌, starts_with, strip_prefix, contains}
 use Rattle.reference.specs.Numbers.{to_digit, digits_value, unsigned, read_u64, read_i64, as_i64, parse_c_number, read_constant, parse_2024, read_number}
 use Rattle.reference.specs.Evaluators.{is_tidy}
 use Rattle.reference.proofs.Opened.{opened}
-use Rattle.reference.proofs.Cases.{by-if, both, either, neither, not-true, true-false, same_number, some_inj, none-some, if_some, unless-some, bind-some}
+use Rattle.reference.proofs.Cases.{by-if, both, either, neither, not-true, same_number, some_inj, unless-some, bind-some}
 use Rattle.reference.proofs.Shapes.{same_text}
 use Rattle.laws.proofs.Scans.{if-true, or_false, and_false}
 use Rattle.reference.proofs.Numerals.{no_prefix, digits_without, minus_0, minus_1, plain_1, negated}
@@ -52,7 +52,7 @@ row radix s plus e = (unless-some (sym (ap (unsigned radix) (unplussed s plus)) 
 
 hex_is : (r : Text)
     → parse_c_number (bytes "0x" ++ r) ≡ (let_some (let_some (read_u64 16 r) else none then λ n. some (as_i64 n)) else none then λ n. some n)
-unfolding parse_c_number strip_prefix if◌then◌else◌ ◌&&◌ let_some◌else◌then◌
+unfolding parse_c_number strip_prefix when◌then◌else◌ ◌and◌ let_some◌else◌then◌
 hex_is r = refl
 
 hex_same : (r : Text) {z : ℤ} → contains r 43 ≡ false → parse_c_number (bytes "0x" ++ r) ≡ some z → read_constant (bytes "0x" ++ r) ≡ some z
@@ -64,8 +64,8 @@ hex_same r plain e =
     sym (behind_0x_alike r plus (no_quote 16 no_quote_16 r (row 16 r plus digits.1))) ∙ e
 
 decimal_is : (s : Text) → starts_with s (bytes "-") ≡ false → starts_with s (bytes "0x") ≡ false
-    → parse_c_number s ≡ (let_some (let_some (unsigned 10 (let_some (strip_prefix (bytes "+") s) else s then λ r. r)) else none then λ n. if ltb n (2 ^ 63) then some (pos n) else none) else none then λ n. some n)
-unfolding parse_c_number read_i64 if◌then◌else◌ let_some◌else◌then◌
+    → parse_c_number s ≡ (let_some (let_some (unsigned 10 (let_some (strip_prefix (bytes "+") s) else s then λ r. r)) else none then λ n. when ltb n (2 ^ 63) then some (pos n) else none) else none then λ n. some n)
+unfolding parse_c_number read_i64 when◌then◌else◌ let_some◌else◌then◌
 decimal_is s m x = rw (no_prefix (bytes "-") s m, m, no_prefix (bytes "0x") s x) (rw (no_prefix (bytes "-") s m))
 
 decimal_same : (s : Text) {z : ℤ} → starts_with s (bytes "-") ≡ false → contains s 43 ≡ false → starts_with s (bytes "0x") ≡ false → starts_with s (bytes "0") ≡ false
@@ -80,7 +80,7 @@ unfolding opened
 zero_same = refl
 
 plain_same : (s : Text) {z : ℤ} → starts_with s (bytes "-") ≡ false → contains s 43 ≡ false
-    → (starts_with s (bytes "0x") || not (starts_with s (bytes "0")) || (s == bytes "0")) ≡ true → parse_c_number s ≡ some z → read_constant s ≡ some z
+    → (starts_with s (bytes "0x") or not (starts_with s (bytes "0")) or (s ≟ bytes "0")) ≡ true → parse_c_number s ≡ some z → read_constant s ≡ some z
 plain_same s {z} m plain h e = go (starts_with s (bytes "0x")) refl
   where
     go : (b : Bool) → starts_with s (bytes "0x") ≡ b → read_constant s ≡ some z
@@ -96,12 +96,12 @@ plain_same s {z} m plain h e = go (starts_with s (bytes "0x")) refl
 -- ---- with one, and without
 
 once : (s : Text) → count (eqb 45) s ≤ 0 → starts_with s (bytes "-") ≡ false
-unfolding if◌then◌else◌
+unfolding when◌then◌else◌
 once [] h = refl
 once (c ∷ cs) h = and_false _ (ne_eqb c 45 (λ q. (let d : count (eqb 45) (c ∷ cs) ≡ suc (count (eqb 45) cs) = if-true _ _ (eq-eqb 45 c (sym q)) in omega arith)))
 
 minus_tidy : (r : Text) → is_tidy (bytes "-" ++ r) ≡ true
-    → (contains r 43 ≡ false) × (starts_with r (bytes "-") ≡ false) × ((starts_with r (bytes "0x") || not (starts_with r (bytes "0")) || (r == bytes "0")) ≡ true)
+    → (contains r 43 ≡ false) × (starts_with r (bytes "-") ≡ false) × ((starts_with r (bytes "0x") or not (starts_with r (bytes "0")) or (r ≟ bytes "0")) ≡ true)
 minus_tidy r h =
     let b = both (sym whole ∙ h) in
     let c = both b.1 in
@@ -109,16 +109,16 @@ minus_tidy r h =
     ((neither (not-true b.0)).1, once r (omega arith), c.1)
   where
     whole : is_tidy (bytes "-" ++ r)
-        ≡ (not (contains (45 ∷ r) 43) && leb (suc (count (eqb 45) r)) 1 && (starts_with r (bytes "0x") || not (starts_with r (bytes "0")) || (r == bytes "0")))
-    whole = unfold is_tidy strip_prefix if◌then◌else◌ let_some◌else◌then◌ ◌&&◌ in refl
+        ≡ (not (contains (45 ∷ r) 43) and leb (suc (count (eqb 45) r)) 1 and (starts_with r (bytes "0x") or not (starts_with r (bytes "0")) or (r ≟ bytes "0")))
+    whole = unfold is_tidy strip_prefix when◌then◌else◌ let_some◌else◌then◌ ◌and◌ in refl
 
 plain_tidy : (s : Text) → starts_with s (bytes "-") ≡ false → is_tidy s ≡ true
-    → (contains s 43 ≡ false) × ((starts_with s (bytes "0x") || not (starts_with s (bytes "0")) || (s == bytes "0")) ≡ true)
+    → (contains s 43 ≡ false) × ((starts_with s (bytes "0x") or not (starts_with s (bytes "0")) or (s ≟ bytes "0")) ≡ true)
 plain_tidy s m h =
     let b = both (sym whole ∙ h) in
     (not-true b.0, (both b.1).1)
   where
-    whole : is_tidy s ≡ (not (contains s 43) && leb (count (eqb 45) s) 1 && (starts_with s (bytes "0x") || not (starts_with s (bytes "0")) || (s == bytes "0")))
+    whole : is_tidy s ≡ (not (contains s 43) and leb (count (eqb 45) s) 1 and (starts_with s (bytes "0x") or not (starts_with s (bytes "0")) or (s ≟ bytes "0")))
     whole = unfold is_tidy let_some◌else◌then◌ in rw (no_prefix (bytes "-") s m)
 
 opposite : (o : Option ℤ) {z : ℤ} → negated o ≡ some z → (y : ℤ) × (o ≡ some y)

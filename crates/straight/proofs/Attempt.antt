@@ -1,24 +1,22 @@
 -- One attempt on a straight listing, with the profile: the listing that it leaves is straight and returns the same. Assumes nothing.
-use Prim.Native.Nat.{ℕ, zero, suc, ◌+◌, ◌≤◌, ◌<◌}
+use Prim.Native.Nat.{ℕ, zero, suc, ◌+◌, ◌<◌}
 use native.Mathlib.Omega.{arith}
 use mathlib.Core.Path.{◌≡◌, refl, sym, ap, ◌∙◌, subst, subst⁻¹}
-use mathlib.Core.Bool.{Bool, true, false, true≢false, false≢true}
-use mathlib.Core.List.{List, [], ◌∷◌, ◌++◌}
-use mathlib.Core.Option.{Option, none, some}
+use mathlib.Core.Bool.{true, false, false≢true}
+use mathlib.Core.List.{List, [], ◌∷◌}
+use mathlib.Core.Option.{Option, some}
 use lib.ListN.{length, drop}
 use lib.Seq.{slice}
-use Rattle.reference.specs.Control.{not, ◌&&◌, ◌||◌, if◌then◌else◌, let_some◌else◌then◌}
-use Rattle.reference.specs.Lists.{any, position, remove, is_some}
-use Rattle.reference.specs.Text.{Text, bytes, ◌==◌}
+use Rattle.reference.specs.Lists.{any, remove}
+use Rattle.reference.specs.Text.{Text}
 use Rattle.reference.specs.Listing.{Token, is, Register, Number, Keyword, Line, Listing, ◌at◌}
-use Rattle.reference.specs.Names.{Fam, family, of_family}
+use Rattle.reference.specs.Names.{Fam, family}
 use Rattle.reference.specs.Rules.{Rules, volatile}
-use Rattle.reference.specs.Shapes.{Assignment, assignment_of, is_kw, call_in}
-use Rattle.reference.specs.Life.{Labels, dead_after}
-use Rattle.reference.specs.Join.{Uses, gather, bad_use, use_from, replaceable, lone_number, try_at}
-use Rattle.reference.specs.Evaluators.{modulo, Store, wide}
+use Rattle.reference.specs.Shapes.{Assignment, assignment_of, is_kw}
+use Rattle.reference.specs.Life.{Labels}
+use Rattle.reference.specs.Join.{gather, bad_use, use_from, replaceable, lone_number, try_at}
+use Rattle.reference.specs.Evaluators.{modulo, Store}
 use Rattle.reference.specs.Straight.{assign, line_step, execute}
-use Rattle.straight.proofs.Reader.{fresh, done, run-tokens}
 use Rattle.reference.proofs.Cases.{by-some, both, neither, not-true, not-false, true-false, some_inj, if_some, unless-some, bind-some}
 use Rattle.reference.proofs.Shapes.{other_kind, Assigning, assigning-register, assigns as assigns_of}
 use Rattle.reference.proofs.Lines.{drop-step}
@@ -27,7 +25,7 @@ use Rattle.joining.proofs.Reaching.{gathered, reach-last, gathered_uses}
 use Rattle.joining.proofs.Taking.{refused}
 use Rattle.joining.proofs.Deciding.{inside, tried}
 use Rattle.straight.proofs.Expression.{Worth, assigned-worth}
-use Rattle.straight.proofs.Flow.{Assigns, assigns, Returns, returns, Straight, last, next, Joined, executes, joined_same}
+use Rattle.straight.proofs.Flow.{Assigns, assigns, Returns, returns, Straight, last, next, executes, joined_same}
 use Rattle.straight.proofs.Life.{lhs_is}
 use Rattle.straight.proofs.Joining.{Defines, before_line, assigned-family, After, single-after, constant-after}
 
@@ -59,11 +57,13 @@ module _ (indent i : ℕ) (f : ℕ → Line → Line) (early : (m : ℕ) (l : Li
 -- the line of an assignment: what it assigns, and what it does
 defines : (ts : List Token) (y : Text) {to : Assignment} → Assigns ts y → Assigning ts to
     → (d : Defines y to.expr) × ((σ : Store) (k : Store → Option ℕ) → line_step modulo σ ts k ≡ k (assign y (d.value σ) σ))
+defines [] y {to = to} x'' s = elim x'' [ ]
 defines (t ∷ ts) y (assigns w r a) s =
     (record { value = λ σ. (r σ).0; worth = λ σ. assigned-worth σ (r σ).0 s (r σ).1 }, λ σ k. executes σ t ts y (r σ).0 k w (r σ).1)
 
 no_return : (ts : List Token) {to : Assignment} → Returns ts → Assigning ts to → ⊥
 unfolding is_kw
+no_return [] {to = to} x'' s = elim x'' [ ]
 no_return (t ∷ ts) (returns w r a) s =
     true-false (both w).0 (other_kind Register Keyword t refl (ap (is Register) (sym (lhs_is s t ts refl)) ∙ assigning-register s))
 

@@ -1,13 +1,12 @@
 -- M-106's promise, proved: every listing of the run of a straight listing, with the profile, is straight and returns the same. Assumes nothing.
-use Prim.Native.Nat.{ℕ, zero, suc, ◌%◌, ◌^◌, ◌<◌}
-use mathlib.Core.Path.{◌≡◌, refl, sym, ap, ◌∙◌, subst, subst⁻¹}
-use mathlib.Core.Bool.{Bool, true, false, true≢false, false≢true}
+use Prim.Native.Nat.{ℕ, zero, suc, ◌%◌, ◌^◌}
+use mathlib.Core.Path.{◌≡◌, refl, ap, ◌∙◌, subst⁻¹}
+use mathlib.Core.Bool.{true, false}
 use mathlib.Core.List.{List, [], ◌∷◌, ◌++◌, map, flatten}
-use mathlib.Core.Option.{Option, none, some}
-use lib.ListN.{length}
-use Rattle.reference.specs.Control.{◌&&◌, let_some◌else◌then◌}
+use mathlib.Core.Option.{Option, none}
+use Rattle.reference.specs.Control.{◌and◌, let_some◌else◌then◌}
 use Rattle.reference.specs.Text.{Text}
-use Rattle.reference.specs.Listing.{Listing, blank, ◌at◌}
+use Rattle.reference.specs.Listing.{Listing, ◌at◌}
 use Rattle.reference.specs.Rules.{Rules}
 use Rattle.reference.specs.Shapes.{call_in}
 use Rattle.reference.specs.Life.{Labels}
@@ -16,13 +15,12 @@ use Rattle.reference.specs.Marks.{finished_marks}
 use Rattle.reference.specs.Tape.{write}
 use Rattle.reference.specs.Questions.{Passed, read, marks_in}
 use Rattle.reference.specs.Reply.{Cleaned, reply}
-use Rattle.reference.specs.Demand.{Attempts, over, failed, succeeded, Round, Rounds, enough, ended, again, Cuts, done, kept, dropped, Taken, Each}
+use Rattle.reference.specs.Demand.{Attempts, over, failed, succeeded, Rounds, enough, ended, again, Cuts, done, kept, dropped, Each}
 use Rattle.reference.specs.Evaluators.{modulo, Store}
 use Rattle.reference.specs.Straight.{execute, returned, breaks}
-use Rattle.reference.proofs.Cases.{both, true-false}
+use Rattle.reference.proofs.Cases.{true-false}
 use Rattle.reference.proofs.Rounds.{run-taken}
 use Rattle.reference.proofs.Guarantee.{answered}
-use Rattle.laws.proofs.Scans.{and_false}
 use Rattle.straight.specs.Meaning.{Means, Meaning}
 use Rattle.straight.proofs.Flow.{Straight, last, next}
 use Rattle.straight.proofs.Life.{assigns-no_call, returns-no_call}
@@ -108,7 +106,7 @@ module _ (indent : ℕ) where
     no_call (suc i) (next y e a more) = no_call i more
 
     not-cut : {lines : Listing} (labels : Labels) (i : ℕ) → Straight indent lines → dead_result rules labels lines i ≡ false
-    unfolding dead_result let_some◌else◌then◌ ◌&&◌
+    unfolding dead_result let_some◌else◌then◌ ◌and◌
     not-cut labels i s = rw (no_call i s)
 
     no_cuts : {labels : Labels} {i : ℕ} {lines : Listing} {cuts : List Listing} → Cuts rules labels i lines cuts → Straight indent lines → cuts ≡ []

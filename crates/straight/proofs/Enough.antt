@@ -2,16 +2,16 @@
 -- said without fuel. Assumes nothing.
 use Prim.Native.Nat.{ℕ, zero, suc, ◌+◌, ◌≤◌, ◌<◌}
 use native.Mathlib.Omega.{arith}
-use mathlib.Core.Path.{◌≡◌, refl, sym, ap, ◌∙◌}
+use mathlib.Core.Path.{◌≡◌, refl, ap, ◌∙◌}
 use mathlib.Core.List.{List, [], ◌∷◌}
 use mathlib.Core.Option.{Option, none, some}
 use lib.Dec.{eqb}
 use lib.IntN.{ℤ}
 use lib.ListN.{length}
-use Rattle.reference.specs.Control.{if◌then◌else◌, let_some◌else◌then◌}
+use Rattle.reference.specs.Control.{when◌then◌else◌, let_some◌else◌then◌}
 use Rattle.reference.specs.Text.{Text, bytes}
-use Rattle.reference.specs.Evaluators.{Arithmetic, Lexeme, sign, reg, num, junk, behind, Operator, adds, takes, operator, fuel_for, combine, expression, term, further}
-use Rattle.reference.proofs.Cases.{by-if, by-some, some_inj, none-some, if_some, bind-some}
+use Rattle.reference.specs.Evaluators.{Arithmetic, Lexeme, sign, reg, num, junk, behind, Operator, operator, fuel_for, combine, expression, term, further}
+use Rattle.reference.proofs.Cases.{by-some, some_inj, none-some, if_some, bind-some}
 
 -- ---- what is left
 
@@ -95,7 +95,7 @@ module _ {X : Type 0} (a : Arithmetic X) (σ : Text → X) where
     term-enough (suc m) (suc n) (num z ∷ xs) p q = refl
     term-enough (suc m) (suc n) (junk ∷ xs) p q = refl
     term-enough (suc m) (suc n) (sign c ∷ xs) p q =
-        ap (λ (o : Option Read). if eqb c 40 then (let_some o else none then λ r. let_some (behind (bytes ")") r.1) else none then λ rest. some (r.0, rest)) else none)
+        ap (λ (o : Option Read). when eqb c 40 then (let_some o else none then λ r. let_some (behind (bytes ")") r.1) else none then λ rest. some (r.0, rest)) else none)
         (expression-enough m n xs (omega arith) (omega arith))
 
     pub further-enough : (m n : ℕ) (v : X) (xs : List Lexeme) → length xs + length xs + 1 ≤ m → length xs + length xs + 1 ≤ n → further a σ m v xs ≡ further a σ n v xs
@@ -158,7 +158,7 @@ module _ {X : Type 0} (a : Arithmetic X) (σ : Text → X) where
 
   pub term-sign : (c : ℕ) (xs : List Lexeme)
       → term_of (sign c ∷ xs)
-      ≡ (if eqb c 40 then (let_some (expression_of xs) else none then λ r. let_some (behind (bytes ")") r.1) else none then λ rest. some (r.0, rest)) else none)
+      ≡ (when eqb c 40 then (let_some (expression_of xs) else none then λ r. let_some (behind (bytes ")") r.1) else none then λ rest. some (r.0, rest)) else none)
   term-sign c xs =
       let n : ℕ = length xs + length xs + 2 in
       term-enough (fuel_for (sign c ∷ xs)) (suc n) (sign c ∷ xs) (omega arith) (omega arith) ∙ (unfold expression in refl)

@@ -2,24 +2,24 @@
 -- Assumes nothing.
 use Prim.Native.Nat.{ℕ, zero, suc, ◌+◌, ◌≤◌, ◌<◌}
 use native.Mathlib.Omega.{arith}
-use mathlib.Core.Path.{◌≡◌, refl, sym, ap, ◌∙◌, subst, subst⁻¹}
-use mathlib.Core.Bool.{Bool, true, false, true≢false, false≢true}
+use mathlib.Core.Path.{◌≡◌, refl, sym, ap, ◌∙◌, subst}
+use mathlib.Core.Bool.{Bool, true, false, false≢true}
 use mathlib.Core.List.{List, [], ◌∷◌, ◌++◌, map}
 use mathlib.Core.Option.{Option, none, some}
 use lib.Dec.{eqb}
 use lib.IntN.{ℤ}
 use lib.ListN.{length}
-use Rattle.reference.specs.Control.{if◌then◌else◌, let_some◌else◌then◌}
-use Rattle.reference.specs.Lists.{is_empty, is_some}
+use Rattle.reference.specs.Control.{when◌then◌else◌, let_some◌else◌then◌}
+use Rattle.reference.specs.Lists.{is_empty}
 use Rattle.reference.specs.Text.{Text, bytes}
 use Rattle.reference.specs.Listing.{Token, is, Punct}
-use Rattle.reference.specs.Evaluators.{Arithmetic, modulo, plus, minus, Store, wide, number_of, of_integer, Lexeme, sign, reg, num, junk, lexemes_of, lexemes, behind, Operator, adds, takes, operator, fuel_for, combine, expression, term, further, evaluate}
+use Rattle.reference.specs.Evaluators.{modulo, Store, wide, number_of, of_integer, Lexeme, sign, reg, num, junk, lexemes_of, lexemes, behind, Operator, adds, takes, operator, combine, expression, term, further, evaluate}
 use Rattle.reference.specs.Straight.{assigned_value, returned_value}
-use Rattle.reference.proofs.Cases.{by-if, by-some, both, true-false, same_number, some_inj, none-some, if_some, bind-some}
+use Rattle.reference.proofs.Cases.{by-if, by-some, same_number, some_inj, none-some, if_some, bind-some}
 use Rattle.laws.proofs.Scans.{if-true, if-false}
 use Rattle.straight.proofs.Reader.{Pending, first, apply, State, fresh, spaced, equals, wants, holds, gap, signed, done, broken, byte, text_step, token-step, run-tokens, value_of}
 use Rattle.straight.proofs.Reader.{adds as waits-to-add, takes as waits-to-take, term as take-term}
-use Rattle.straight.proofs.Machine.{broken-done, text_broken}
+use Rattle.straight.proofs.Machine.{broken-done}
 use Rattle.straight.proofs.Enough.{behind-length}
 
 -- a value, and what is left behind it
@@ -53,12 +53,12 @@ module _ (σ : Store) where
   signs_run (c ∷ cs) xs s = signs_run cs xs (byte c s)
 
   token-run : (t : Token) (xs : List Lexeme) (s : State) → run-lexemes (lexemes_of t ++ xs) s ≡ run-lexemes xs (token-step σ t s)
-  unfolding lexemes_of token-step run-lexemes let_some◌else◌then◌ if◌then◌else◌
+  unfolding lexemes_of token-step run-lexemes let_some◌else◌then◌ when◌then◌else◌
   token-run t xs s = go (is Punct t) (wide t) (number_of t)
     where
       go : (b : Bool) (w : Option Text) (n : Option ℤ)
-          → run-lexemes ((if b then map sign t.text else let_some w else (let_some n else (junk ∷ []) then λ z. num z ∷ []) then λ x. reg x ∷ []) ++ xs) s
-          ≡ run-lexemes xs (if b then text_step t.text s else let_some w else (let_some n else broken then λ z. take-term (of_integer z) s) then λ x. take-term (σ x) s)
+          → run-lexemes ((when b then map sign t.text else let_some w else (let_some n else (junk ∷ []) then λ z. num z ∷ []) then λ x. reg x ∷ []) ++ xs) s
+          ≡ run-lexemes xs (when b then text_step t.text s else let_some w else (let_some n else broken then λ z. take-term (of_integer z) s) then λ x. take-term (σ x) s)
       go true w n = signs_run t.text xs s
       go false none none = refl
       go false none (some z) = refl
@@ -96,17 +96,17 @@ module _ (σ : Store) where
   -- ---- the operators
 
   plus_text : (u : ℕ) (k : List Pending) → text_step (bytes " + ") (holds u k) ≡ wants (waits-to-add u) k
-  unfolding text_step byte if◌then◌else◌
+  unfolding text_step byte when◌then◌else◌
   plus_text u [] = refl
   plus_text u (p ∷ k) = refl
 
   minus_text : (u : ℕ) (k : List Pending) → text_step (bytes " - ") (holds u k) ≡ wants (waits-to-take u) k
-  unfolding text_step byte if◌then◌else◌
+  unfolding text_step byte when◌then◌else◌
   minus_text u [] = refl
   minus_text u (p ∷ k) = refl
 
   space_text : (c : ℕ) (v : ℕ) (k : List Pending) → eqb c 32 ≡ true → byte c (holds v k) ≡ gap v k
-  unfolding byte if◌then◌else◌
+  unfolding byte when◌then◌else◌
   space_text c v k e = ap (λ (n : ℕ). byte n (holds v k)) (same_number e) ∙ go k
     where
       go : (k : List Pending) → byte 32 (holds v k) ≡ gap v k
@@ -129,12 +129,12 @@ module _ (σ : Store) where
       (record { same = λ v k. behind-run (bytes " + ") xs rest (holds v k) b ∙ ap (run-lexemes rest) (plus_text v k); less = omega (arith, behind-length (bytes " + ") xs rest b) }))
 
   plus-found : (c d e : ℕ) (xs : List Lexeme) → eqb c 32 ≡ true → eqb d 43 ≡ true → eqb e 32 ≡ true → operator (sign c ∷ sign d ∷ sign e ∷ xs) ≡ some (adds, xs)
-  unfolding operator behind let_some◌else◌then◌ if◌then◌else◌
+  unfolding operator behind let_some◌else◌then◌ when◌then◌else◌
   plus-found c d e xs p q r = rw (p, q, r)
 
   minus-found : (c d e : ℕ) (xs : List Lexeme) → eqb c 32 ≡ true → eqb d 43 ≡ false → eqb d 45 ≡ true → eqb e 32 ≡ true
       → operator (sign c ∷ sign d ∷ sign e ∷ xs) ≡ some (takes, xs)
-  unfolding operator behind let_some◌else◌then◌ if◌then◌else◌
+  unfolding operator behind let_some◌else◌then◌ when◌then◌else◌
   minus-found c d e xs p q q' r = rw (p, q, q', r)
 
   -- behind ` +` or ` -` a space, if it is read to the end
@@ -185,7 +185,7 @@ module _ (σ : Store) where
   closed (junk ∷ xs) v p k u o h = absurd (never xs u h)
   closed (sign c ∷ xs) v p k u o h = go (eqb c 41) refl (eqb c 32) refl
     where
-      go : (a : Bool) → eqb c 41 ≡ a → (b : Bool) → eqb c 32 ≡ b → (rest : List Lexeme) × ((if eqb c 41 then some xs else none) ≡ some rest)
+      go : (a : Bool) → eqb c 41 ≡ a → (b : Bool) → eqb c 32 ≡ b → (rest : List Lexeme) × ((when eqb c 41 then some xs else none) ≡ some rest)
       go true e b f = (xs, if-true _ _ e)
       go false e true f = absurd (no_space c xs v (p ∷ k) u o f (sym (ap (run-lexemes xs) (space_text c v (p ∷ k) f)) ∙ h))
       go false e false f = absurd (never xs u (sym (ap (run-lexemes xs) (neither_byte c v p k e f)) ∙ h))
@@ -209,7 +209,7 @@ module _ (σ : Store) where
       semicolon : eqb c 59 ≡ true → byte c (holds v []) ≡ done v
       semicolon e = unfold byte in if-true _ _ e
 
-      go : (a : Bool) → eqb c 59 ≡ a → (b : Bool) → eqb c 32 ≡ b → ((if eqb c 59 then some xs else none) ≡ some []) × (v ≡ u)
+      go : (a : Bool) → eqb c 59 ≡ a → (b : Bool) → eqb c 32 ≡ b → ((when eqb c 59 then some xs else none) ≡ some []) × (v ≡ u)
       go true e b f =
           let r = ended v xs u (sym (ap (run-lexemes xs) (semicolon e)) ∙ h) in
           (if-true _ _ e ∙ ap {B = Option (List Lexeme)} some r.0, r.1)
@@ -240,7 +240,7 @@ module _ (σ : Store) where
   no_open c p k e = if-false _ _ e
 
   close_text : (v : ℕ) (p : Pending) (k : List Pending) → text_step (bytes ")") (holds v (p ∷ k)) ≡ holds (apply p v) k
-  unfolding text_step byte if◌then◌else◌
+  unfolding text_step byte when◌then◌else◌
   close_text v p k = refl
 
   -- an expression in brackets
@@ -317,15 +317,15 @@ module _ (σ : Store) where
   -- ---- a line
 
   equals_text : text_step (bytes " = ") fresh ≡ wants first []
-  unfolding text_step byte if◌then◌else◌
+  unfolding text_step byte when◌then◌else◌
   equals_text = refl
 
   space_first : text_step (bytes " ") equals ≡ wants first []
-  unfolding text_step byte if◌then◌else◌
+  unfolding text_step byte when◌then◌else◌
   space_first = refl
 
   -- a state that one byte alone leads on from
-  must : (s s' : State) (c : ℕ) → ((b : ℕ) → byte b s ≡ (if eqb b c then s' else broken)) → ((v : ℕ) → take-term v s ≡ broken) → ((u : ℕ) → s ≡ done u → ⊥)
+  must : (s s' : State) (c : ℕ) → ((b : ℕ) → byte b s ≡ (when eqb b c then s' else broken)) → ((v : ℕ) → take-term v s ≡ broken) → ((u : ℕ) → s ≡ done u → ⊥)
       → (xs : List Lexeme) (u : ℕ) → run-lexemes xs s ≡ done u
       → (b : ℕ) × (ys : List Lexeme) × (xs ≡ sign b ∷ ys) × (eqb b c ≡ true) × (run-lexemes ys s' ≡ done u)
   unfolding run-lexemes
@@ -340,13 +340,13 @@ module _ (σ : Store) where
       go false e = absurd (never xs u (sym (ap (run-lexemes xs) (f b ∙ if-false _ _ e)) ∙ h))
 
   from-equals : (xs : List Lexeme) (u : ℕ) → run-lexemes xs equals ≡ done u → (ys : List Lexeme) × (behind (bytes " ") xs ≡ some ys)
-  unfolding byte take-term behind if◌then◌else◌
+  unfolding byte take-term behind when◌then◌else◌
   from-equals xs u h =
       let a = must equals (wants first []) 32 (λ b. refl) (λ v. refl) (λ w e. (let z : ◌≡◌ {A = ℕ} 0 1 = cc in omega arith)) xs u h in
       (a.1, ap (behind (bytes " ")) a.2 ∙ rw a.3)
 
   from-fresh : (xs : List Lexeme) (u : ℕ) → run-lexemes xs fresh ≡ done u → (ys : List Lexeme) × (behind (bytes " = ") xs ≡ some ys)
-  unfolding byte take-term behind if◌then◌else◌
+  unfolding byte take-term behind when◌then◌else◌
   from-fresh xs u h =
       let a = must fresh spaced 32 (λ b. refl) (λ v. refl) (λ w e. (let z : ◌≡◌ {A = ℕ} 0 1 = cc in omega arith)) xs u h in
       let b = must spaced equals 61 (λ b. refl) (λ v. refl) (λ w e. (let z : ◌≡◌ {A = ℕ} 0 1 = cc in omega arith)) a.1 u a.4 in
@@ -392,10 +392,10 @@ module _ (σ : Store) where
         ∙ at_end r.0.0 ∙ ap (λ (n : ℕ). done n) (some_inj end.1)
       where
         at_end : (w : ℕ) → run-lexemes [] (text_step (bytes ";") (holds w [])) ≡ done w
-        at_end w = unfold run-lexemes text_step byte if◌then◌else◌ in refl
+        at_end w = unfold run-lexemes text_step byte when◌then◌else◌ in refl
 
     reads_all : (xs : List Lexeme) (v : ℕ) → run-lexemes xs s ≡ done v → evaluate modulo σ before xs ≡ some v
-    unfolding evaluate let_some◌else◌then◌ if◌then◌else◌
+    unfolding evaluate let_some◌else◌then◌ when◌then◌else◌
     reads_all xs v h =
         let ys = must-begin xs v h in
         let inner : run-lexemes ys.0 (wants first []) ≡ done v = sym (behind-run before xs ys.0 s ys.1 ∙ ap (run-lexemes ys.0) begins) ∙ h in
@@ -403,7 +403,7 @@ module _ (σ : Store) where
         rw ys.1 (go ys.0 inner (expression modulo σ fuel ys.0) (expression_ok fuel ys.0 [] (omega arith)))
       where
         go : (ys : List Lexeme) → run-lexemes ys (wants first []) ≡ done v → (o : Option Read) → ExpressionOk ys [] o
-            → (let_some o else none then λ r. let_some (behind (bytes ";") r.1) else none then λ rest. if is_empty rest then some r.0 else none) ≡ some v
+            → (let_some o else none then λ r. let_some (behind (bytes ";") r.1) else none then λ rest. when is_empty rest then some r.0 else none) ≡ some v
         go ys e none ok = absurd (ok v e)
         go ys e (some r) ok =
             let f = finished r.1 r.0 v ok.1 (sym ok.0 ∙ e) in

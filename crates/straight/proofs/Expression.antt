@@ -3,24 +3,20 @@
 use Prim.Native.Nat.{ℕ}
 use native.Mathlib.Omega.{arith}
 use mathlib.Core.Path.{◌≡◌, refl, sym, ap, ◌∙◌, subst, subst⁻¹}
-use mathlib.Core.Bool.{Bool, true, false, true≢false, false≢true}
+use mathlib.Core.Bool.{Bool, true, false}
 use mathlib.Core.List.{List, [], ◌∷◌, ◌++◌, drop_last}
-use mathlib.Core.Option.{Option, none, some}
-use lib.Dec.{eqb}
-use lib.IntN.{ℤ}
-use lib.ListN.{length, drop}
-use Rattle.reference.specs.Control.{not, ◌&&◌, ◌||◌, if◌then◌else◌, let_some◌else◌then◌}
+use lib.ListN.{drop}
+use Rattle.reference.specs.Control.{when◌then◌else◌, let_some◌else◌then◌}
 use Rattle.reference.specs.Lists.{is_empty}
-use Rattle.reference.specs.Text.{Text, bytes, ◌==◌, starts_with, ends_with}
-use Rattle.reference.specs.Listing.{Token, token, is, Register, Number, Punct}
+use Rattle.reference.specs.Text.{Text, bytes, ends_with}
+use Rattle.reference.specs.Listing.{Token, token, is, Punct}
 use Rattle.reference.specs.Shapes.{Assignment, right_side}
-use Rattle.reference.specs.Evaluators.{Store, wide, number_of, of_integer}
-use Rattle.straight.proofs.Reader.{Pending, first, adds, takes, apply, State, fresh, spaced, equals, wants, holds, gap, signed, done, broken, byte, text_step, term, token-step, run-tokens}
-use Rattle.reference.proofs.Cases.{by-if, some_inj, none-some, if_some, bind-some, both, either, true-false, fails, same_number}
-use Rattle.reference.proofs.Shapes.{same_text, Cut, gone, short, later, Assigning, assigning}
-use Rattle.laws.proofs.Scans.{if-true, if-false}
+use Rattle.reference.specs.Evaluators.{Store, of_integer}
+use Rattle.straight.proofs.Reader.{Pending, first, apply, State, fresh, spaced, equals, wants, holds, gap, signed, done, broken, byte, text_step, term, token-step, run-tokens}
+use Rattle.reference.proofs.Cases.{by-if, same_number}
+use Rattle.reference.proofs.Shapes.{Cut, gone, short, later, Assigning, assigning}
 use Rattle.straight.proofs.Alike.{begins_with}
-use Rattle.straight.proofs.Machine.{broken-done, text_append, run_append, text_broken, token-broken, run-broken, step-punct, step-register, step_number, Step, punct, register, number, breaks, step_of}
+use Rattle.straight.proofs.Machine.{broken-done, text_append, run_append, text_broken, step-punct, step-register, step_number, Step, punct, register, number, breaks, step_of}
 use Rattle.straight.proofs.Folding.{ends-split}
 
 -- ---- inside an expression
@@ -148,13 +144,13 @@ term_under k v (done u) = refl
 term_under k v broken = refl
 
 module _ (k : List Pending) where
-  if_under : (b : Bool) (s t s' t' : State) → s' ≡ under k s → t' ≡ under k t → (if b then s' else t') ≡ under k (if b then s else t)
-  unfolding if◌then◌else◌
+  if_under : (b : Bool) (s t s' t' : State) → s' ≡ under k s → t' ≡ under k t → (when b then s' else t') ≡ under k (when b then s else t)
+  unfolding when◌then◌else◌
   if_under true s t s' t' e f = e
   if_under false s t s' t' e f = f
 
   space_under : (v : ℕ) (j : List Pending) → byte 32 (holds v j) ≡ gap v j
-  unfolding byte if◌then◌else◌
+  unfolding byte when◌then◌else◌
   space_under v [] = refl
   space_under v (p ∷ j) = refl
 
@@ -252,7 +248,7 @@ stands-first σ e v k h = worth-inside σ e v k h
 
 pub stands-bracketed : (σ : Store) (e : List Token) (v : ℕ) (p : Pending) (k : List Pending) → Worth σ e v
     → Stands σ (token Punct (bytes "(") ∷ e ++ (token Punct (bytes ")") ∷ [])) v p k
-unfolding run-tokens term token-step is text_step byte if◌then◌else◌
+unfolding run-tokens term token-step is text_step byte when◌then◌else◌
 stands-bracketed σ e v p k h =
     run_append σ e (token Punct (bytes ")") ∷ []) (wants first (p ∷ k)) ∙ ap (λ (s : State). run-tokens σ (token Punct (bytes ")") ∷ []) s) (worth-inside σ e v (p ∷ k) h)
 
@@ -286,7 +282,7 @@ dropLast_end (a ∷ []) x = refl
 dropLast_end (a ∷ b ∷ p) x = ap {B = Text} (λ (r : Text). a ∷ r) (dropLast_end (b ∷ p) x)
 
 semicolon : (s : State) (v : ℕ) → byte 59 s ≡ done v → s ≡ holds v []
-unfolding byte if◌then◌else◌
+unfolding byte when◌then◌else◌
 semicolon fresh v e = absurd (broken-done e)
 semicolon spaced v e = absurd (broken-done e)
 semicolon equals v e = absurd (broken-done e)
@@ -337,16 +333,16 @@ module _ (σ : Store) (v : ℕ) where
   cut-run (later t c) s h = cut-run c (token-step σ t s) h
 
   equals_text : text_step (bytes " = ") fresh ≡ wants first []
-  unfolding text_step byte if◌then◌else◌
+  unfolding text_step byte when◌then◌else◌
   equals_text = refl
 
   head_run : (eq : Token) (rest : List Token) (s : State) → run-tokens σ (right_side eq rest) s ≡ run-tokens σ rest (text_step (drop 3 eq.text) s)
   unfolding right_side
   head_run eq rest s = go (drop 3 eq.text)
     where
-      go : (h : Text) → run-tokens σ ((if is_empty h then [] else token Punct h ∷ []) ++ rest) s ≡ run-tokens σ rest (text_step h s)
-      go [] = unfold if◌then◌else◌ run-tokens text_step in refl
-      go (c ∷ cs) = unfold if◌then◌else◌ run-tokens in ap (run-tokens σ rest) (step-punct σ (token Punct (c ∷ cs)) s (unfold is in refl))
+      go : (h : Text) → run-tokens σ ((when is_empty h then [] else token Punct h ∷ []) ++ rest) s ≡ run-tokens σ rest (text_step h s)
+      go [] = unfold when◌then◌else◌ run-tokens text_step in refl
+      go (c ∷ cs) = unfold when◌then◌else◌ run-tokens in ap (run-tokens σ rest) (step-punct σ (token Punct (c ∷ cs)) s (unfold is in refl))
 
   pub assigned-worth : {ts : List Token} {a : Assignment} → Assigning ts a → run-tokens σ (drop 1 ts) fresh ≡ done v → Worth σ a.expr v
   unfolding run-tokens

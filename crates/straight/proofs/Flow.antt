@@ -1,25 +1,24 @@
 -- Lines executed one after another: a straight listing, a register that is dead, and a definition that its uses take the place of. Assumes nothing.
-use Prim.Native.Nat.{ℕ, zero, suc}
-use native.Mathlib.Omega.{arith}
-use mathlib.Core.Path.{◌≡◌, refl, sym, ap, ◌∙◌, subst, subst⁻¹}
-use mathlib.Core.Bool.{Bool, true, false, true≢false, false≢true}
-use mathlib.Core.List.{List, [], ◌∷◌, ◌++◌}
+use Prim.Native.Nat.{ℕ}
+use mathlib.Core.Path.{◌≡◌, refl, sym, ap, ◌∙◌}
+use mathlib.Core.Bool.{Bool, true, false}
+use mathlib.Core.List.{List, [], ◌∷◌}
 use mathlib.Core.Option.{Option, none, some}
-use Rattle.reference.specs.Control.{◌&&◌, ◌||◌, if◌then◌else◌, let_some◌else◌then◌}
+use Rattle.reference.specs.Control.{let_some◌else◌then◌}
 use Rattle.reference.specs.Lists.{any}
-use Rattle.reference.specs.Text.{Text, bytes, ◌==◌}
-use Rattle.reference.specs.Listing.{Token, is, Register, Keyword, Line, Listing}
+use Rattle.reference.specs.Text.{Text, bytes, ◌≟◌}
+use Rattle.reference.specs.Listing.{Token, Register, Keyword, Line, Listing}
 use Rattle.reference.specs.Names.{of_family}
 use Rattle.reference.specs.Shapes.{Assignment, is_kw}
 use Rattle.reference.specs.Evaluators.{modulo, Store, wide}
-use Rattle.reference.specs.Straight.{assign, assigned_value, returned_value, line_step, execute, puncts_apart}
+use Rattle.reference.specs.Straight.{assign, line_step, execute, puncts_apart}
 use Rattle.straight.proofs.Reader.{first, State, fresh, equals, wants, holds, done, value_of, run-tokens}
-use Rattle.reference.proofs.Cases.{by-if, both, neither, true-false, fails}
+use Rattle.reference.proofs.Cases.{both, true-false, fails}
 use Rattle.reference.proofs.Shapes.{same_text, other_kind, Assigning}
 use Rattle.laws.proofs.Scans.{if-true, if-false}
 use Rattle.straight.proofs.Evaluators.{assigned_evaluates, returned_evaluates}
 use Rattle.straight.proofs.Expression.{assigned-worth}
-use Rattle.straight.proofs.Substituting.{wide-family, wide-register, unread}
+use Rattle.straight.proofs.Substituting.{wide-register, unread}
 
 -- ---- straight listings
 
@@ -58,18 +57,18 @@ ends σ t ts v k w h = if-true _ _ w ∙ returned_evaluates σ ts ∙ rw h
 
 -- the last assignment to a register counts
 pub assign-again : (x : Text) (a b : ℕ) (σ : Store) → assign x a (assign x b σ) ≡ assign x a σ
-assign-again x a b σ = λ i z. go z (z == x) refl i
+assign-again x a b σ = λ i z. go z (z ≟ x) refl i
   where
-    go : (z : Text) (c : Bool) → (z == x) ≡ c → assign x a (assign x b σ) z ≡ assign x a σ z
+    go : (z : Text) (c : Bool) → (z ≟ x) ≡ c → assign x a (assign x b σ) z ≡ assign x a σ z
     go z true e = if-true _ _ e ∙ sym (if-true _ _ e)
     go z false e = if-false _ _ e ∙ if-false _ _ e ∙ sym (if-false _ _ e)
 
 -- assignments to two registers in either order
-pub assign_swap : (x y : Text) (a b : ℕ) (σ : Store) → (y == x) ≡ false → assign x a (assign y b σ) ≡ assign y b (assign x a σ)
-assign_swap x y a b σ d = λ i z. go z (z == x) refl (z == y) refl i
+pub assign_swap : (x y : Text) (a b : ℕ) (σ : Store) → (y ≟ x) ≡ false → assign x a (assign y b σ) ≡ assign y b (assign x a σ)
+assign_swap x y a b σ d = λ i z. go z (z ≟ x) refl (z ≟ y) refl i
   where
-    go : (z : Text) (c : Bool) → (z == x) ≡ c → (e : Bool) → (z == y) ≡ e → assign x a (assign y b σ) z ≡ assign y b (assign x a σ) z
-    go z true p true q = absurd (true-false (sym (ap (λ (n : Text). n == x) (same_text z y q)) ∙ p) d)
+    go : (z : Text) (c : Bool) → (z ≟ x) ≡ c → (e : Bool) → (z ≟ y) ≡ e → assign x a (assign y b σ) z ≡ assign y b (assign x a σ) z
+    go z true p true q = absurd (true-false (sym (ap (λ (n : Text). n ≟ x) (same_text z y q)) ∙ p) d)
     go z true p false q = if-true _ _ p ∙ sym (if-false _ _ q ∙ if-true _ _ p)
     go z false p true q = if-false _ _ p ∙ if-true _ _ q ∙ sym (if-true _ _ q)
     go z false p false q = if-false _ _ p ∙ if-false _ _ q ∙ sym (if-false _ _ q ∙ if-false _ _ p)
@@ -95,6 +94,7 @@ killed_dead x l ls {to} g asg n a σ = go l.tokens g asg
     held e = cc
 
     go : (ts : List Token) → Assigns ts x → Assigning ts to → line_step modulo (assign x a σ) ts (λ τ. execute modulo τ ls) ≡ line_step modulo σ ts (λ τ. execute modulo τ ls)
+    go [] x3 asg = elim x3 [ ]
     go (t ∷ ts) (assigns w r ap') asg =
         let v = r σ in
         let u = r (assign x a σ) in
@@ -104,11 +104,12 @@ killed_dead x l ls {to} g asg n a σ = go l.tokens g asg
         ∙ ap (λ (τ : Store). execute modulo τ ls) (assign-again x u.0 a σ) ∙ ap (λ (m : ℕ). execute modulo (assign x m σ) ls) same ∙ sym (executes σ t ts x v.0 _ w v.1)
 
 -- a line that has nothing to do with it, before lines that do not tell it
-pub passed_dead : (x y : Text) (l : Line) (ls : Listing) → Assigns l.tokens y → (y == x) ≡ false → Lacks x l.tokens → Dead x ls → Dead x (l ∷ ls)
+pub passed_dead : (x y : Text) (l : Line) (ls : Listing) → Assigns l.tokens y → (y ≟ x) ≡ false → Lacks x l.tokens → Dead x ls → Dead x (l ∷ ls)
 unfolding execute
 passed_dead x y l ls g d n dead a σ = go l.tokens g n
   where
     go : (ts : List Token) → Assigns ts y → Lacks x ts → line_step modulo (assign x a σ) ts (λ τ. execute modulo τ ls) ≡ line_step modulo σ ts (λ τ. execute modulo τ ls)
+    go [] x3 n = elim x3 [ ]
     go (t ∷ ts) (assigns w r ap') n =
         let v = r σ in
         executes (assign x a σ) t ts y v.0 _ w (unread x a σ ts fresh n ∙ v.1)
@@ -120,6 +121,7 @@ unfolding execute
 returned-dead x l ls g n a σ = go l.tokens g n
   where
     go : (ts : List Token) → Returns ts → Lacks x ts → line_step modulo (assign x a σ) ts (λ τ. execute modulo τ ls) ≡ line_step modulo σ ts (λ τ. execute modulo τ ls)
+    go [] x3 n = elim x3 [ ]
     go (t ∷ ts) (returns w r ap') n =
         let v = r σ in
         ends (assign x a σ) t ts v.0 _ w (unread x a σ ts equals n ∙ v.1) ∙ sym (ends σ t ts v.0 _ w v.1)
@@ -130,7 +132,7 @@ returned-dead x l ls g n a σ = go l.tokens g n
 module _ (x : Text) (value : Store → ℕ) where
   -- a line with the register, and the same without it: read alike, where the register holds that value; the register that it assigns, if any
   pub data Replaced : Option Text → List Token → List Token → Type 0 where
-    replaced_assign : {t : Token} {ts us : List Token} {y : Text} → wide t ≡ some y → (y == x) ≡ false
+    replaced_assign : {t : Token} {ts us : List Token} {y : Text} → wide t ≡ some y → (y ≟ x) ≡ false
         → ((σ : Store) → (v : ℕ) × (run-tokens (assign x (value σ) σ) ts fresh ≡ done v) × (run-tokens σ us fresh ≡ done v)) → Replaced (some y) (t ∷ ts) (t ∷ us)
     replaced_return : {t : Token} {ts us : List Token} → is_kw (bytes "return") t ≡ true
         → ((σ : Store) → (v : ℕ) × (run-tokens (assign x (value σ) σ) ts equals ≡ done v) × (run-tokens σ us equals ≡ done v)) → Replaced none (t ∷ ts) (t ∷ us)

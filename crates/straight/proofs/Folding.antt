@@ -1,21 +1,21 @@
 -- Merging and folding a line's tokens leave what they are read as. Assumes nothing.
 use Prim.Native.Nat.{ℕ}
 use mathlib.Core.Path.{◌≡◌, refl, sym, ap, ◌∙◌, subst, subst⁻¹}
-use mathlib.Core.Bool.{Bool, true, false, true≢false, false≢true}
+use mathlib.Core.Bool.{Bool, true, false, false≢true}
 use mathlib.Core.List.{List, [], ◌∷◌, ◌++◌}
 use mathlib.Core.Option.{Option, none, some}
 use lib.Dec.{eqb}
 use lib.IntN.{ℤ, ◌+ℤ◌, ◌-ℤ◌}
-use Rattle.reference.specs.Control.{not, ◌&&◌, ◌||◌, if◌then◌else◌, let_some◌else◌then◌}
+use Rattle.reference.specs.Control.{◌and◌, ◌or◌, when◌then◌else◌, let_some◌else◌then◌}
 use Rattle.reference.specs.Lists.{is_empty}
-use Rattle.reference.specs.Text.{Text, bytes, ◌==◌, ends_with}
+use Rattle.reference.specs.Text.{Text, bytes, ◌≟◌, ends_with}
 use Rattle.reference.specs.Listing.{Token, token, is, Register, Number, Punct, Plain}
-use Rattle.reference.specs.Names.{Fam, fam_of, family}
-use Rattle.reference.specs.Numbers.{read_number, parse_c_number, show, wrap, delim_before, delim_after, folded, fold_at, fold, joins, merge_into, merge}
+use Rattle.reference.specs.Names.{fam_of, family}
+use Rattle.reference.specs.Numbers.{read_number, parse_c_number, show, wrap, delim_before, folded, fold_at, joins, merge_into, merge}
 use Rattle.reference.specs.Evaluators.{Store, plus, minus, wide, number_of, of_integer}
 use Rattle.straight.proofs.Reader.{Pending, first, adds, takes, apply, State, fresh, spaced, equals, wants, holds, gap, signed, done, broken, byte, text_step, term, token-step, run-tokens}
 use Rattle.reference.proofs.Opened.{opened}
-use Rattle.reference.proofs.Cases.{by-if, by-some, some_inj, none-some, if_some, bind-some, both, either, true-false, fails, same_number}
+use Rattle.reference.proofs.Cases.{by-if, by-some, some_inj, none-some, if_some, bind-some, both, either, true-false, same_number}
 use Rattle.reference.proofs.Shapes.{other_kind, same_text}
 use Rattle.laws.proofs.Scans.{if-true, if-false}
 use Rattle.straight.proofs.Shown.{shown, wrap-plus, wrap-minus}
@@ -25,7 +25,7 @@ use Rattle.straight.proofs.Machine.{broken-done, text_append, run-broken, step-p
 -- ---- merging
 
 plain-breaks : (σ : Store) (t : Token) (s : State) → is Plain t ≡ true → token-step σ t s ≡ broken
-unfolding token-step wide fam_of number_of let_some◌else◌then◌ if◌then◌else◌ ◌&&◌
+unfolding token-step wide fam_of number_of let_some◌else◌then◌ when◌then◌else◌ ◌and◌
 plain-breaks σ t s e = rw (other_kind Plain Punct t refl e, other_kind Plain Register t refl e, other_kind Plain Number t refl e)
 
 joined_step : (σ : Store) (a b : Token) (s : State) → joins a b ≡ true → token-step σ (token a.kind (a.text ++ b.text)) s ≡ token-step σ b (token-step σ a s)
@@ -81,7 +81,7 @@ after-term v (done u) = tt
 after-term v broken = tt
 
 after_open : (s : State) → Begins (text_step (bytes "(") s)
-unfolding text_step byte if◌then◌else◌
+unfolding text_step byte when◌then◌else◌
 after_open fresh = tt
 after_open spaced = tt
 after_open equals = tt
@@ -94,7 +94,7 @@ after_open (done v) = tt
 after_open broken = tt
 
 after_comma : (s : State) → Begins (text_step (bytes ", ") s)
-unfolding text_step byte if◌then◌else◌
+unfolding text_step byte when◌then◌else◌
 after_comma fresh = tt
 after_comma spaced = tt
 after_comma equals = tt
@@ -107,7 +107,7 @@ after_comma (done v) = tt
 after_comma broken = tt
 
 after-equals : (s : State) → Begins (text_step (bytes " = ") s)
-unfolding text_step byte if◌then◌else◌
+unfolding text_step byte when◌then◌else◌
 after-equals fresh = refl
 after-equals spaced = tt
 after-equals equals = tt
@@ -132,7 +132,7 @@ ends-split (x ∷ xs) t e =
 
 -- the texts behind which an expression begins
 abbrev pub opens_text : Text → Bool
-opens_text b = ends_with b (bytes "(") || ends_with b (bytes ", ") || ends_with b (bytes " = ")
+opens_text b = ends_with b (bytes "(") or ends_with b (bytes ", ") or ends_with b (bytes " = ")
 
 text_begins : (b : Text) (s : State) → opens_text b ≡ true → Begins (text_step b s)
 text_begins b s e =
@@ -156,8 +156,8 @@ token_begins σ t s e = go (step_of σ t)
 
 -- ---- folding
 
-no_plus : (t : Text) → (t == bytes " - ") ≡ true → (t == bytes " + ") ≡ false
-unfolding ◌&&◌
+no_plus : (t : Text) → (t ≟ bytes " - ") ≡ true → (t ≟ bytes " + ") ≡ false
+unfolding ◌and◌
 no_plus t p = rw (same_text t (bytes " - ") p)
 
 delimited : (edition : ℕ) (before : Option Token) (a b c : Token) (rest : List Token) (n : Token) → folded edition before a b c rest ≡ some n → delim_before before ≡ true
@@ -226,12 +226,12 @@ module _ (σ : Store) (v : ℕ) where
       go (breaks g) = absurd (alive ts (token-step σ t s) h (g σ s))
 
   plus_text : (u : ℕ) (k : List Pending) → text_step (bytes " + ") (holds u k) ≡ wants (adds u) k
-  unfolding text_step byte if◌then◌else◌
+  unfolding text_step byte when◌then◌else◌
   plus_text u [] = refl
   plus_text u (p ∷ k) = refl
 
   minus_text : (u : ℕ) (k : List Pending) → text_step (bytes " - ") (holds u k) ≡ wants (takes u) k
-  unfolding text_step byte if◌then◌else◌
+  unfolding text_step byte when◌then◌else◌
   minus_text u [] = refl
   minus_text u (p ∷ k) = refl
 
@@ -283,8 +283,8 @@ module _ (σ : Store) (v : ℕ) where
       let tests = both (both (both f.0).1).1 in
       let x = bind-some f.1 in
       let y = bind-some x.2 in
-      let sign : Bool = b.text == bytes " + " in
-      let made : (z : ℤ) (w : ℕ) → of_integer (wrap z) ≡ w → (if sign then x.0 +ℤ y.0 else x.0 -ℤ y.0) ≡ z
+      let sign : Bool = b.text ≟ bytes " + " in
+      let made : (z : ℤ) (w : ℕ) → of_integer (wrap z) ≡ w → (when sign then x.0 +ℤ y.0 else x.0 -ℤ y.0) ≡ z
       → run-tokens σ rest (holds w k) ≡ done v → run-tokens σ (n ∷ rest) (wants first k) ≡ done v =
       λ z w o q r.
       (let st : token-step σ n (wants first k) ≡ holds w k =

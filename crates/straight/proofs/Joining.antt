@@ -1,29 +1,29 @@
 -- An attempt on a straight listing with the profile's brackets: what its plan makes of the lines after the definition. Assumes nothing.
-use Prim.Native.Nat.{ℕ, zero, suc, ◌-◌, ◌+◌, ◌≤◌, ◌<◌}
+use Prim.Native.Nat.{ℕ, suc, ◌≤◌, ◌<◌}
 use native.Mathlib.Omega.{arith}
 use mathlib.Core.Path.{◌≡◌, refl, sym, ap, ◌∙◌, subst, subst⁻¹}
-use mathlib.Core.Bool.{Bool, true, false, true≢false, false≢true}
+use mathlib.Core.Bool.{Bool, true, false}
 use mathlib.Core.List.{List, [], ◌∷◌, ◌++◌}
 use mathlib.Core.Option.{Option, none, some}
-use lib.Dec.{eqb, ltb, leb}
+use lib.Dec.{ltb}
 use lib.ListN.{length, drop}
-use borrow.Author.Tests.{ltb-true, ltb-false, lt-ltb, le-ltb, le-leb, lt-leb, ne_eqb}
-use Rattle.reference.specs.Control.{not, ◌&&◌, ◌||◌, if◌then◌else◌, let_some◌else◌then◌}
+use borrow.Author.Tests.{ltb-false, lt-ltb, le-ltb, le-leb, lt-leb, ne_eqb}
+use Rattle.reference.specs.Control.{◌and◌}
 use Rattle.reference.specs.Lists.{any, count, position, get}
-use Rattle.reference.specs.Text.{Text, bytes, has, ◌==◌}
-use Rattle.reference.specs.Listing.{Token, token, is, Register, Number, Punct, Line, Listing, ◌at◌, with_tokens}
+use Rattle.reference.specs.Text.{Text, bytes, has}
+use Rattle.reference.specs.Listing.{Token, token, is, Register, Number, Punct, Line, Listing, ◌at◌}
 use Rattle.reference.specs.Names.{Fam, family, fam_of, of_family}
 use Rattle.reference.specs.Rules.{Rules, volatile}
-use Rattle.reference.specs.Shapes.{Assignment, assignment}
-use Rattle.reference.specs.Life.{Touch, None, Kill, Use, touch, match_touch, is_use, Labels, dead_from, dead_after}
-use Rattle.reference.specs.Join.{Uses, gather, bad_use, written_from, substitute, rewrite_use, expr_fams, harmless, use_from, text_or_empty, text_before, text_after, standalone, is_bracketed}
-use Rattle.reference.specs.Evaluators.{modulo, Store}
-use Rattle.reference.specs.Straight.{assign, execute, puncts_apart}
+use Rattle.reference.specs.Shapes.{Assignment}
+use Rattle.reference.specs.Life.{None, Kill, Use, touch, match_touch, is_use, Labels, dead_from, dead_after}
+use Rattle.reference.specs.Join.{Uses, gather, bad_use, written_from, rewrite_use, expr_fams, harmless, use_from, text_or_empty, text_before, standalone, is_bracketed}
+use Rattle.reference.specs.Evaluators.{Store}
+use Rattle.reference.specs.Straight.{assign, execute}
 use Rattle.straight.proofs.Reader.{first, State, fresh, equals, wants, holds, run-tokens}
-use Rattle.reference.proofs.Cases.{by-if, by_touch, both, neither, either, not-true, not-false, true-false, fails, same_number, some_inj, none-some, if_some, unless-some, bind-some, some-true}
-use Rattle.reference.proofs.Shapes.{same_text, other_kind, family-register, Assigning, assigns as assigns_of}
+use Rattle.reference.proofs.Cases.{by-if, by_touch, both, neither, not-true, not-false, true-false, fails, same_number, some_inj, none-some, if_some, unless-some, bind-some, some-true}
+use Rattle.reference.proofs.Shapes.{other_kind, family-register, Assigning, assigns as assigns_of}
 use Rattle.reference.proofs.Lines.{drop-step}
-use Rattle.laws.proofs.Scans.{if-true, if-false, or_false, and_true, and_false}
+use Rattle.laws.proofs.Scans.{if-true, if-false, or_false, and_true}
 use Rattle.joining.specs.Plan.{Plan, wants_brackets, map_from, right_side_of, changes, where_used, acted_line}
 use Rattle.joining.proofs.Indexed.{map-from_id}
 use Rattle.joining.proofs.Uses.{gather-last}
@@ -33,7 +33,7 @@ use Rattle.straight.proofs.Folding.{Begins, opens_text}
 use Rattle.straight.proofs.Expression.{Worth, stands-first, stands-bracketed, stands-lone}
 use Rattle.straight.proofs.Substituting.{wide-known, wide-family, unread, TokensFit, fits_anywhere, fits-begun}
 use Rattle.straight.proofs.Flow.{Assigns, assigns, Returns, returns, Straight, last, next, Dead, Replaced, Joined, over, step, end, killed_dead}
-use Rattle.straight.proofs.Life.{untouched, killed, Kills, kills-assigns, lhs_is, other-register, assigns-no_call, returns-no_call, returns_no_kill, assigns-run, returns-run, dead-sound}
+use Rattle.straight.proofs.Life.{untouched, killed, kills-assigns, lhs_is, other-register, assigns-no_call, returns-no_call, returns_no_kill, assigns-run, returns-run, dead-sound}
 use Rattle.straight.proofs.Rewriting.{new, use_assign, use_return, pass_assign, pass_return, return-family, unwritten, assigns_no_braces, returns_no_braces}
 
 -- ---- which lines change
@@ -69,6 +69,7 @@ module _ (rules : Rules) (i : ℕ) (p : Plan) where
 -- the register that a line assigns, as `assignment` and `family` say it
 pub assigned-family : (ts : List Token) (y : Text) (to : Assignment) (f : Fam) → Assigns ts y → Assigning ts to → family to.lhs.text ≡ some f → f.name ≡ y
 unfolding fam_of
+assigned-family [] y to f x3 s e = elim x3 [ ]
 assigned-family (t ∷ ts) y to f (assigns w r a) s e =
     let g = wide-known t y w in
     let same : f ≡ g.0 = some_inj (sym e ∙ ap (λ (u : Token). family u.text) (lhs_is s t ts refl) ∙ (if_some g.1).1) in
@@ -84,8 +85,8 @@ pub record Defines (x : Text) (expr : List Token) : Type 0 where
   pub value : Store → ℕ
   pub worth : (σ : Store) → Worth σ expr (value σ)
 
-either_false : {a b : Bool} (X : Type 0) → (a && b) ≡ false → (a ≡ false → X) → (b ≡ false → X) → X
-unfolding ◌&&◌
+either_false : {a b : Bool} (X : Type 0) → (a and b) ≡ false → (a ≡ false → X) → (b ≡ false → X) → X
+unfolding ◌and◌
 either_false {a = true} X e f g = g e
 either_false {a = false} X e f g = f refl
 
@@ -164,6 +165,7 @@ module _ (rules : Rules) (on : rules.profile ≡ true) (lines : Listing) (i : �
     -- the tokens of the use
     use_returns : (ts : List Token) → Returns ts → ts ≡ (lines at p.last).tokens → count (of_family p.fam) ts ≡ 1
         → Replaced p.fam d.value none ts (new rules.edition p.fam d.value (right_side_of p) ts) × Returns (new rules.edition p.fam d.value (right_side_of p) ts)
+    use_returns [] x4 e one = elim x4 [ ]
     use_returns (t ∷ ts) (returns w r a) e one =
         use_return rules.edition p.fam d.value (right_side_of p) t ts (returns w r a)
         (single-fits d rules on p refl t ts equals pos tt (return-family p.fam t w)
@@ -171,6 +173,7 @@ module _ (rules : Rules) (on : rules.profile ≡ true) (lines : Listing) (i : �
 
     use_assigns : (ts : List Token) (y : Text) → Assigns ts y → ts ≡ (lines at p.last).tokens → count (of_family p.fam) ts ≡ 1
         → Replaced p.fam d.value (some y) ts (new rules.edition p.fam d.value (right_side_of p) ts) × Assigns (new rules.edition p.fam d.value (right_side_of p) ts) y
+    use_assigns [] y x4 e one = elim x4 [ ]
     use_assigns (t ∷ ts) y (assigns w r a) e one =
         let n : of_family p.fam t ≡ false = unwritten p.fam y t ts (assigns w r a) (ap (written_from p.fam) e ∙ unwritten-there) in
         use_assign rules.edition p.fam d.value (right_side_of p) t ts y (assigns w r a) (sym (wide-family p.fam y t w) ∙ n) n
@@ -247,11 +250,13 @@ module _ (rules : Rules) (on : rules.profile ≡ true) (lines : Listing) (i : �
 
     constant-returns : (ts : List Token) → Returns ts
         → Replaced p.fam d.value none ts (new rules.edition p.fam d.value (right_side_of p) ts) × Returns (new rules.edition p.fam d.value (right_side_of p) ts)
+    constant-returns [] r = elim r [ ]
     constant-returns (t ∷ ts) r = use_return rules.edition p.fam d.value (right_side_of p) t ts r (fits ts equals)
 
     constant-assigns : (ts : List Token) (y : Text) → Assigns ts y → bad_use p.fam ts ≡ false
         → Replaced p.fam d.value (some y) ts (new rules.edition p.fam d.value (right_side_of p) ts) × Assigns (new rules.edition p.fam d.value (right_side_of p) ts) y
     unfolding bad_use
+    constant-assigns [] y x3 b = elim x3 [ ]
     constant-assigns (t ∷ ts) y (assigns w r a) b =
         let n : of_family p.fam t ≡ false = unwritten p.fam y t ts (assigns w r a) (neither b).0 in
         use_assign rules.edition p.fam d.value (right_side_of p) t ts y (assigns w r a) (sym (wide-family p.fam y t w) ∙ n) n (fits ts fresh)

@@ -1,24 +1,23 @@
 -- How the lines of a straight listing touch a register: without calls, braces and loops, `touch` and `dead_after` say what they seem to. Assumes nothing.
-use Prim.Native.Nat.{ℕ, zero, suc}
+use Prim.Native.Nat.{ℕ, suc}
 use native.Mathlib.Omega.{arith}
-use mathlib.Core.Path.{◌≡◌, refl, sym, ap, ◌∙◌, subst, subst⁻¹}
-use mathlib.Core.Bool.{Bool, true, false, true≢false, false≢true}
-use mathlib.Core.List.{List, [], ◌∷◌, ◌++◌}
-use mathlib.Core.Option.{Option, none, some}
-use lib.Dec.{eqb, ltb}
-use borrow.Author.Tests.{ltb-true, ltb-false, eq-eqb}
-use Rattle.reference.specs.Control.{not, ◌&&◌, ◌||◌, if◌then◌else◌, let_some◌else◌then◌}
-use Rattle.reference.specs.Lists.{any, count, position, windows, pairs_from, is_some}
-use Rattle.reference.specs.Text.{Text, bytes, ◌==◌, starts_with}
+use mathlib.Core.Path.{◌≡◌, refl, sym, ap, ◌∙◌, subst}
+use mathlib.Core.Bool.{Bool, true, false, false≢true}
+use mathlib.Core.List.{List, [], ◌∷◌}
+use mathlib.Core.Option.{none, some}
+use lib.Dec.{eqb}
+use borrow.Author.Tests.{ltb-false, eq-eqb}
+use Rattle.reference.specs.Control.{not, ◌and◌, when◌then◌else◌, let_some◌else◌then◌}
+use Rattle.reference.specs.Lists.{any, count, position, pairs_from, is_some}
+use Rattle.reference.specs.Text.{Text, bytes, ◌≟◌, starts_with}
 use Rattle.reference.specs.Listing.{Token, is, Register, Number, Keyword, Symbol, Punct, Line, Listing}
 use Rattle.reference.specs.Names.{Fam, family, fam_of, of_family}
-use Rattle.reference.specs.Shapes.{Assignment, is_kw, kw_in, has_kw, calls_here, call_in, assignment_of, label_tokens}
-use Rattle.reference.specs.Life.{Touch, None, Kill, Use, kills, touch_of, touch, match_touch, is_use, Labels, scan, dead_from, while_passes, goto_passes}
+use Rattle.reference.specs.Shapes.{Assignment, is_kw, kw_in, calls_here, call_in, label_tokens}
+use Rattle.reference.specs.Life.{Touch, None, Kill, kills, touch_of, Labels, scan, dead_from}
 use Rattle.reference.specs.Join.{ends_run}
-use Rattle.reference.specs.Evaluators.{modulo, Store, wide}
-use Rattle.reference.specs.Straight.{execute}
+use Rattle.reference.specs.Evaluators.{Store}
 use Rattle.straight.proofs.Reader.{State, fresh, equals, done, token-step, run-tokens}
-use Rattle.reference.proofs.Cases.{by-if, by_touch, both, neither, either, not-true, true-false, fails, some_inj, none-some, if_some, bind-some, some-true}
+use Rattle.reference.proofs.Cases.{by-if, by_touch, both, neither, not-true, true-false, fails, some_inj, if_some, some-true}
 use Rattle.reference.proofs.Shapes.{same_text, other_kind, Assigning, assigning, assigning-register, assigns as assigns_of}
 use Rattle.laws.proofs.Scans.{if-true, if-false, or_false, and_false}
 use Rattle.straight.proofs.Machine.{Step, punct, register, number, breaks, step_of}
@@ -64,6 +63,7 @@ no_word kw ts e = any-less (is_kw kw) (is Keyword) (λ t h. (both h).0) ts e
 
 pub assigns_no-word : (kw : Text) (ts : List Token) (y : Text) → Assigns ts y → kw_in ts kw ≡ false
 unfolding kw_in is_kw
+assigns_no-word kw [] y x' = elim x' [ ]
 assigns_no-word kw (t ∷ ts) y (assigns w r a) =
     or_false _ (fails (λ h. true-false (both h).0 (other_kind Register Keyword t refl (wide-register t y w)))) ∙ no_word kw ts (no_keywords fresh ts r)
 
@@ -81,17 +81,19 @@ no_calls t (u ∷ us) f es ek =
 
 pub assigns-no_call : (ts : List Token) (y : Text) → Assigns ts y → call_in ts ≡ none
 unfolding call_in calls_here
+assigns-no_call [] y x' = elim x' [ ]
 assigns-no_call (t ∷ ts) y (assigns w r a) =
     let reg = wide-register t y w in
     no_calls t ts (λ u. or_false _ (and_false _ (other_kind Register Symbol t refl reg)) ∙ and_false _ (other_kind Register Keyword t refl reg))
     (no_symbols fresh ts r) (no_keywords fresh ts r)
 
-not_void : (t : Text) → (t == bytes "return") ≡ true → starts_with t (bytes "((void") ≡ false
-unfolding ◌&&◌
+not_void : (t : Text) → (t ≟ bytes "return") ≡ true → starts_with t (bytes "((void") ≡ false
+unfolding ◌and◌
 not_void t e = rw (same_text t (bytes "return") e)
 
 pub returns-no_call : (ts : List Token) → Returns ts → call_in ts ≡ none
 unfolding call_in calls_here is_kw
+returns-no_call [] x' = elim x' [ ]
 returns-no_call (t ∷ ts) (returns w r a) =
     let k = both w in
     no_calls t ts (λ u. or_false _ (and_false _ (other_kind Keyword Symbol t refl k.0)) ∙ fails (λ h. true-false (both h).1 (not_void t.text k.1)))
@@ -124,7 +126,7 @@ module _ (x : Text) (volatile : List Text) where
     pub fam : Fam
     pub shape : Assigning ts to
     pub family_is : family to.lhs.text ≡ some fam
-    pub name_is : (fam.name == x) ≡ true
+    pub name_is : (fam.name ≟ x) ≡ true
     pub lacks : any (of_family x) to.expr ≡ false
 
   pub killed : (ts : List Token) → call_in ts ≡ none → touch_of ts x volatile ≡ Kill → Kills ts
@@ -149,7 +151,8 @@ lacks_tail x [] e = tt
 lacks_tail x (t ∷ ts) e = (neither e).1
 
 -- a line that does not mention a register assigns another
-pub other-register : (x y : Text) (ts : List Token) → Assigns ts y → any (of_family x) ts ≡ false → (y == x) ≡ false
+pub other-register : (x y : Text) (ts : List Token) → Assigns ts y → any (of_family x) ts ≡ false → (y ≟ x) ≡ false
+other-register x y [] x3 e = elim x3 [ ]
 other-register x y (t ∷ ts) (assigns w r a) e = sym (wide-family x y t w) ∙ (neither e).0
 
 pub lhs_is : {ts : List Token} {to : Assignment} → Assigning ts to → (t : Token) (us : List Token) → ts ≡ t ∷ us → to.lhs ≡ t
@@ -158,6 +161,7 @@ lhs_is (assigning p q u c) t us e = cc
 -- a line that kills a register assigns it
 pub kills-assigns : (x y : Text) (volatile : List Text) (ts : List Token) → Assigns ts y → Kills x volatile ts → Assigns ts x
 unfolding fam_of
+kills-assigns x y volatile [] x3 k = elim x3 [ ]
 kills-assigns x y volatile (t ∷ ts) (assigns w r a) k =
     let f = wide-known t y w in
     let same : k.to.lhs ≡ t = lhs_is k.shape t ts refl in
@@ -167,6 +171,7 @@ kills-assigns x y volatile (t ∷ ts) (assigns w r a) k =
 
 pub returns_no_kill : (x : Text) (volatile : List Text) (ts : List Token) → Returns ts → Kills x volatile ts → ⊥
 unfolding is_kw
+returns_no_kill x volatile [] x3 k = elim x3 [ ]
 returns_no_kill x volatile (t ∷ ts) (returns w r a) k =
     let same : k.to.lhs ≡ t = lhs_is k.shape t ts refl in
     true-false (both w).0 (other_kind Register Keyword t refl (ap (is Register) (sym same) ∙ assigning-register k.shape))
@@ -178,27 +183,31 @@ label-first t (b ∷ []) e = fails (λ h. true-false (both h).1 e)
 label-first t (b ∷ c ∷ ts) e = refl
 
 pub assigns_no-label : (ts : List Token) (y : Text) → Assigns ts y → label_tokens ts ≡ false
+assigns_no-label [] y x' = elim x' [ ]
 assigns_no-label (t ∷ ts) y (assigns w r a) = label-first t ts (other_kind Register Symbol t refl (wide-register t y w))
 
 pub returns_no-label : (ts : List Token) → Returns ts → label_tokens ts ≡ false
 unfolding is_kw
+returns_no-label [] x' = elim x' [ ]
 returns_no-label (t ∷ ts) (returns w r a) = label-first t ts (other_kind Keyword Symbol t refl (both w).0)
 
-not_goto : (t : Text) → (t == bytes "return") ≡ true → (t == bytes "goto") ≡ false
-unfolding ◌&&◌
+not_goto : (t : Text) → (t ≟ bytes "return") ≡ true → (t ≟ bytes "goto") ≡ false
+unfolding ◌and◌
 not_goto t e = rw (same_text t (bytes "return") e)
 
 returns_no_goto : (ts : List Token) → Returns ts → kw_in ts (bytes "goto") ≡ false
 unfolding kw_in is_kw
+returns_no_goto [] x' = elim x' [ ]
 returns_no_goto (t ∷ ts) (returns w r a) =
     or_false _ (fails (λ h. true-false (both h).1 (not_goto t.text (both w).1))) ∙ no_word (bytes "goto") ts (no_keywords equals ts r)
 
-not_while : (t : Text) → (t == bytes "return") ≡ true → (t == bytes "while") ≡ false
-unfolding ◌&&◌
+not_while : (t : Text) → (t ≟ bytes "return") ≡ true → (t ≟ bytes "while") ≡ false
+unfolding ◌and◌
 not_while t e = rw (same_text t (bytes "return") e)
 
 returns_no_while : (ts : List Token) → Returns ts → kw_in ts (bytes "while") ≡ false
 unfolding kw_in is_kw
+returns_no_while [] x' = elim x' [ ]
 returns_no_while (t ∷ ts) (returns w r a) =
     or_false _ (fails (λ h. true-false (both h).1 (not_while t.text (both w).1))) ∙ no_word (bytes "while") ts (no_keywords equals ts r)
 
@@ -219,8 +228,8 @@ returns-run base l e r =
     or_false _ (returns_no-label l.tokens r) ∙ or_false _ (same_indent l.indent base e) ∙ or_false _ (returns_no_while l.tokens r)
     ∙ returns_no_goto l.tokens r
 
-and_both : (b c : Bool) → (if b then c else false) ≡ true → (b ≡ true) × (c ≡ true)
-unfolding if◌then◌else◌
+and_both : (b c : Bool) → (when b then c else false) ≡ true → (b ≡ true) × (c ≡ true)
+unfolding when◌then◌else◌
 and_both true c e = (refl, e)
 and_both false c e = absurd (false≢true e)
 

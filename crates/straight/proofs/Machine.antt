@@ -1,18 +1,17 @@
 -- The reader of specs/Straight.antt: one token after another, what breaks it, and which tokens it reads. Assumes nothing.
 use Prim.Native.Nat.{ℕ}
-use mathlib.Core.Path.{◌≡◌, refl, sym, ap, ◌∙◌}
-use mathlib.Core.Bool.{Bool, true, false, true≢false, false≢true}
+use mathlib.Core.Path.{◌≡◌, refl, ◌∙◌}
+use mathlib.Core.Bool.{Bool, true, false}
 use mathlib.Core.List.{List, [], ◌∷◌, ◌++◌}
 use mathlib.Core.Option.{Option, none, some}
-use lib.Dec.{eqb}
 use lib.IntN.{ℤ}
-use Rattle.reference.specs.Control.{not, ◌&&◌, ◌||◌, if◌then◌else◌, let_some◌else◌then◌}
-use Rattle.reference.specs.Text.{Text, bytes, ◌==◌}
-use Rattle.reference.specs.Listing.{Token, token, is, Register, Number, Punct, Plain}
-use Rattle.reference.specs.Names.{Fam, fam_of}
+use Rattle.reference.specs.Control.{when◌then◌else◌, let_some◌else◌then◌}
+use Rattle.reference.specs.Text.{Text}
+use Rattle.reference.specs.Listing.{Token, is, Register, Number, Punct}
+use Rattle.reference.specs.Names.{fam_of}
 use Rattle.reference.specs.Evaluators.{Store, wide, number_of, of_integer}
-use Rattle.straight.proofs.Reader.{Pending, first, adds, takes, apply, State, fresh, spaced, equals, wants, holds, gap, signed, done, broken, byte, text_step, term, token-step, run-tokens}
-use Rattle.reference.proofs.Cases.{by-if, by-some, some_inj, none-some, if_some, bind-some, both, true-false, fails}
+use Rattle.straight.proofs.Reader.{State, done, broken, byte, text_step, term, token-step, run-tokens}
+use Rattle.reference.proofs.Cases.{by-if, by-some, if_some, bind-some, both}
 use Rattle.reference.proofs.Shapes.{other_kind}
 use Rattle.laws.proofs.Scans.{if-true, if-false}
 
@@ -65,7 +64,7 @@ step-register σ t x s e =
     if-false _ _ (other_kind Register Punct t refl r) ∙ rw e
 
 not_wide : (t : Token) → is Register t ≡ false → wide t ≡ none
-unfolding wide fam_of let_some◌else◌then◌ if◌then◌else◌
+unfolding wide fam_of let_some◌else◌then◌ when◌then◌else◌
 not_wide t e = rw e
 
 pub step_number : (σ : Store) (t : Token) (z : ℤ) (s : State) → number_of t ≡ some z → token-step σ t s ≡ term (of_integer z) s

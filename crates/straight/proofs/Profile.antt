@@ -1,22 +1,20 @@
 -- A listing that does not break the profile is straight, and the other way round: whether a line is read does not depend on the values. Assumes nothing.
-use Prim.Native.Nat.{ℕ, zero, suc}
+use Prim.Native.Nat.{ℕ, suc}
 use native.Mathlib.Omega.{arith}
-use mathlib.Core.Path.{◌≡◌, refl, sym, ap, ◌∙◌, subst, subst⁻¹}
-use mathlib.Core.Bool.{Bool, true, false, true≢false, false≢true}
-use mathlib.Core.List.{List, [], ◌∷◌, ◌++◌, map}
+use mathlib.Core.Path.{◌≡◌, refl, sym, ap, ◌∙◌}
+use mathlib.Core.Bool.{Bool, true, false, false≢true}
+use mathlib.Core.List.{List, [], ◌∷◌, map}
 use mathlib.Core.Option.{Option, none, some}
-use lib.Dec.{eqb}
 use borrow.Author.Tests.{eq-eqb}
-use Rattle.reference.specs.Control.{◌&&◌, if◌then◌else◌}
+use Rattle.reference.specs.Control.{when◌then◌else◌}
 use Rattle.reference.specs.Lists.{is_some}
-use Rattle.reference.specs.Text.{Text, bytes}
-use Rattle.reference.specs.Listing.{Token, Line, Listing}
-use Rattle.reference.specs.Shapes.{is_kw}
+use Rattle.reference.specs.Text.{Text}
+use Rattle.reference.specs.Listing.{Token, Listing}
 use Rattle.reference.specs.Evaluators.{Store, wide, of_integer}
-use Rattle.reference.specs.Straight.{zeros, assigned_value, returned_value, puncts_apart, assigns_wide, returns_value, breaks_from, breaks}
-use Rattle.straight.proofs.Reader.{Pending, first, apply, State, fresh, spaced, equals, wants, holds, gap, signed, done, broken, byte, text_step, term, token-step, run-tokens, value_of}
-use Rattle.reference.proofs.Cases.{by-if, both, pair, true-false, same_number, some_inj, none-some}
-use Rattle.laws.proofs.Scans.{if-true, if-false}
+use Rattle.reference.specs.Straight.{zeros, assigns_wide, returns_value, breaks_from, breaks}
+use Rattle.straight.proofs.Reader.{Pending, first, State, fresh, spaced, equals, wants, holds, gap, signed, done, broken, byte, text_step, term, token-step, run-tokens, value_of}
+use Rattle.reference.proofs.Cases.{both, pair, same_number, none-some}
+use Rattle.laws.proofs.Scans.{if-true}
 use Rattle.straight.proofs.Machine.{broken-done, Step, punct, register, number, breaks as breaks-token, step_of, step-punct, step-register, step_number}
 use Rattle.straight.proofs.Evaluators.{assigned_evaluates, returned_evaluates}
 use Rattle.straight.proofs.Flow.{Reads, Assigns, assigns, Returns, returns, Straight, last, next}
@@ -37,8 +35,8 @@ shape (signed p k) = signed first (blanks k)
 shape (done v) = done 0
 shape broken = broken
 
-if_shape : (b : Bool) (s t s' t' : State) → shape s ≡ shape s' → shape t ≡ shape t' → shape (if b then s else t) ≡ shape (if b then s' else t')
-unfolding if◌then◌else◌
+if_shape : (b : Bool) (s t s' t' : State) → shape s ≡ shape s' → shape t ≡ shape t' → shape (when b then s else t) ≡ shape (when b then s' else t')
+unfolding when◌then◌else◌
 if_shape true s t s' t' e f = e
 if_shape false s t s' t' e f = f
 
@@ -156,16 +154,18 @@ assigns_of (t ∷ ts) e =
 
 returns-back : (ts : List Token) → Returns ts → returns_value ts ≡ true
 unfolding returns_value
+returns-back [] x' = elim x' [ ]
 returns-back (t ∷ ts) (returns w r a) = pair w (pair (ap is_some (returned_evaluates zeros ts) ∙ read_back equals ts r) a)
 
 assigns-back : (ts : List Token) (y : Text) → Assigns ts y → assigns_wide ts ≡ true
 unfolding assigns_wide
+assigns-back [] y x' = elim x' [ ]
 assigns-back (t ∷ ts) y (assigns w r a) = pair (ap is_some w) (pair (ap is_some (assigned_evaluates zeros ts) ∙ read_back fresh ts r) a)
 
 -- ---- listings
 
-only_none {ℓ} : {A : Type ℓ} {b : Bool} {o : Option A} (a : A) → (if b then o else some a) ≡ none → (b ≡ true) × (o ≡ none)
-unfolding if◌then◌else◌
+only_none {ℓ} : {A : Type ℓ} {b : Bool} {o : Option A} (a : A) → (when b then o else some a) ≡ none → (b ≡ true) × (o ≡ none)
+unfolding when◌then◌else◌
 only_none {b = true} a e = (refl, e)
 only_none {b = false} a e = absurd (none-some (sym e))
 

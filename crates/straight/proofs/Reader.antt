@@ -2,11 +2,10 @@
 -- that, and a register that gives way to an expression leaves the reader in the same state: so the meaning is proved with it. That it gives the values of
 -- the evaluators (crate reference, specs/Evaluators.antt) is proved in Evaluators.antt. Assumes nothing.
 use Prim.Native.Nat.{ℕ}
-use mathlib.Core.Bool.{Bool, true, false}
 use mathlib.Core.List.{List, [], ◌∷◌}
 use mathlib.Core.Option.{Option, none, some}
 use lib.Dec.{eqb}
-use Rattle.reference.specs.Control.{if◌then◌else◌, let_some◌else◌then◌}
+use Rattle.reference.specs.Control.{when◌then◌else◌, let_some◌else◌then◌}
 use Rattle.reference.specs.Text.{Text}
 use Rattle.reference.specs.Listing.{Token, is, Punct}
 use Rattle.reference.specs.Evaluators.{Store, plus, minus, of_integer, wide, number_of}
@@ -36,14 +35,14 @@ pub data State : Type 0 where
   broken : State
 
 unfoldable pub byte : ℕ → State → State
-byte c fresh = if eqb c 32 then spaced else broken
-byte c spaced = if eqb c 61 then equals else broken
-byte c equals = if eqb c 32 then wants first [] else broken
-byte c (wants p k) = if eqb c 40 then wants first (p ∷ k) else broken
-byte c (holds v []) = if eqb c 59 then done v else if eqb c 32 then gap v [] else broken
-byte c (holds v (p ∷ k)) = if eqb c 41 then holds (apply p v) k else if eqb c 32 then gap v (p ∷ k) else broken
-byte c (gap v k) = if eqb c 43 then signed (adds v) k else if eqb c 45 then signed (takes v) k else broken
-byte c (signed p k) = if eqb c 32 then wants p k else broken
+byte c fresh = when eqb c 32 then spaced else broken
+byte c spaced = when eqb c 61 then equals else broken
+byte c equals = when eqb c 32 then wants first [] else broken
+byte c (wants p k) = when eqb c 40 then wants first (p ∷ k) else broken
+byte c (holds v []) = when eqb c 59 then done v else when eqb c 32 then gap v [] else broken
+byte c (holds v (p ∷ k)) = when eqb c 41 then holds (apply p v) k else when eqb c 32 then gap v (p ∷ k) else broken
+byte c (gap v k) = when eqb c 43 then signed (adds v) k else when eqb c 45 then signed (takes v) k else broken
+byte c (signed p k) = when eqb c 32 then wants p k else broken
 byte c (done v) = broken
 byte c broken = broken
 
@@ -65,7 +64,7 @@ term v broken = broken
 
 unfoldable pub token-step : Store → Token → State → State
 token-step σ t s =
-    if is Punct t then text_step t.text s
+    when is Punct t then text_step t.text s
     else let_some (wide t) else (let_some (number_of t) else broken then λ z. term (of_integer z) s) then λ x. term (σ x) s
 
 -- one token after another

@@ -1,37 +1,36 @@
 -- A line of a straight listing, rewritten: it stays one, and is read as before, where the register holds the right side's value. Assumes nothing.
-use Prim.Native.Nat.{ℕ, zero, suc}
+use Prim.Native.Nat.{ℕ}
 use native.Mathlib.Omega.{arith}
 use mathlib.Core.Path.{◌≡◌, refl, sym, ap, ◌∙◌, subst, subst⁻¹}
-use mathlib.Core.Bool.{Bool, true, false, true≢false, false≢true}
+use mathlib.Core.Bool.{Bool, true, false}
 use mathlib.Core.List.{List, [], ◌∷◌, ◌++◌}
 use mathlib.Core.Option.{Option, none, some}
-use lib.Dec.{eqb}
-use Rattle.reference.specs.Control.{not, ◌&&◌, ◌||◌, if◌then◌else◌, let_some◌else◌then◌}
-use Rattle.reference.specs.Lists.{any, get}
-use Rattle.reference.specs.Text.{Text, bytes, ◌==◌, starts_with, contains}
-use Rattle.reference.specs.Listing.{Token, token, is, Register, Number, Keyword, Punct, Plain, Line, Listing}
+use Rattle.reference.specs.Control.{not, ◌and◌, ◌or◌, when◌then◌else◌, let_some◌else◌then◌}
+use Rattle.reference.specs.Lists.{any}
+use Rattle.reference.specs.Text.{Text, bytes, ◌≟◌, contains}
+use Rattle.reference.specs.Listing.{Token, token, is, Register, Number, Keyword, Punct}
 use Rattle.reference.specs.Names.{of_family}
-use Rattle.reference.specs.Numbers.{folded, fold_at, fold, joins, merge_into, merge}
+use Rattle.reference.specs.Numbers.{fold_at, fold, joins, merge_into, merge}
 use Rattle.reference.specs.Shapes.{is_kw, has_brace, braces_in, writes, is_written}
 use Rattle.reference.specs.Join.{written_from, substitute}
 use Rattle.reference.specs.Evaluators.{Store, wide}
 use Rattle.reference.specs.Straight.{assign, puncts_apart}
-use Rattle.straight.proofs.Reader.{Pending, State, fresh, spaced, equals, wants, holds, gap, signed, done, broken, byte, text_step, term, token-step, run-tokens}
+use Rattle.straight.proofs.Reader.{State, fresh, spaced, equals, wants, holds, gap, signed, done, broken, byte, text_step, term, token-step, run-tokens}
 use Rattle.reference.proofs.Cases.{by-if, by-some, both, neither, either, pair, not-true, true-false, fails, same_number}
 use Rattle.reference.proofs.Shapes.{other_kind, folds, family-register}
-use Rattle.laws.proofs.Scans.{if-true, if-false, or_false, or_true, and_true, and_false}
-use Rattle.straight.proofs.Machine.{broken-done, text_broken, Step, punct, register, number, breaks, step_of, step-punct, step-register, step_number}
-use Rattle.straight.proofs.Folding.{Begins, alive}
+use Rattle.laws.proofs.Scans.{or_false, or_true, and_true, and_false}
+use Rattle.straight.proofs.Machine.{text_broken, Step, punct, register, number, breaks, step_of, step-punct, step-register, step_number}
+use Rattle.straight.proofs.Folding.{alive}
 use Rattle.straight.proofs.Substituting.{wide-register, unread, TokensFit, Heads, fold_tail, rewritten_tail, rewritten, rewritten_run}
-use Rattle.straight.proofs.Flow.{Reads, Assigns, assigns, Returns, returns, Replaced, replaced_assign, replaced_return}
+use Rattle.straight.proofs.Flow.{Assigns, assigns, Returns, returns, Replaced, replaced_assign, replaced_return}
 
 -- ---- Puncts stay apart
 
-apart_cons : (b : Bool) (t : Token) (ts : List Token) → (b && is Punct t) ≡ false → puncts_apart (is Punct t) ts ≡ true → puncts_apart b (t ∷ ts) ≡ true
+apart_cons : (b : Bool) (t : Token) (ts : List Token) → (b and is Punct t) ≡ false → puncts_apart (is Punct t) ts ≡ true → puncts_apart b (t ∷ ts) ≡ true
 unfolding puncts_apart not
 apart_cons b t ts e f = pair (rw e) f
 
-apart_parts : (b : Bool) (t : Token) (ts : List Token) → puncts_apart b (t ∷ ts) ≡ true → ((b && is Punct t) ≡ false) × (puncts_apart (is Punct t) ts ≡ true)
+apart_parts : (b : Bool) (t : Token) (ts : List Token) → puncts_apart b (t ∷ ts) ≡ true → ((b and is Punct t) ≡ false) × (puncts_apart (is Punct t) ts ≡ true)
 unfolding puncts_apart
 apart_parts b t ts e = let h = both e in (not-true h.0, h.1)
 
@@ -39,14 +38,14 @@ kind_is : (k : ℕ) (t : Token) → is k t ≡ true → t.kind ≡ k
 unfolding is
 kind_is k t e = same_number e
 
-together : (a b : Token) → (is Punct a && is Punct b) ≡ true → joins a b ≡ true
+together : (a b : Token) → (is Punct a and is Punct b) ≡ true → joins a b ≡ true
 unfolding joins
 together a b h =
     let p = kind_is Punct a (both h).0 in
     let q = kind_is Punct b (both h).1 in
     pair (rw (p, q)) (or_true _ (both h).1)
 
-merge-apart : (b : Bool) (last : Token) (ts : List Token) → (b && is Punct last) ≡ false → puncts_apart b (merge_into last ts) ≡ true
+merge-apart : (b : Bool) (last : Token) (ts : List Token) → (b and is Punct last) ≡ false → puncts_apart b (merge_into last ts) ≡ true
 unfolding merge_into
 merge-apart b last [] e = apart_cons b last [] e (unfold puncts_apart in refl)
 merge-apart b last (t ∷ ts) e =
@@ -82,7 +81,7 @@ tail_apart edition x rhs t ts = go (substitute x rhs ts)
 
     go : (us : List Token) → puncts_apart false (fold_tail edition t (merge us)) ≡ true
     go [] = folded_tail (merge []) (unfold merge puncts_apart in refl)
-    go (u ∷ us) = folded_tail (merge (u ∷ us)) (unfold merge in merge-apart false u us (unfold ◌&&◌ in refl))
+    go (u ∷ us) = folded_tail (merge (u ∷ us)) (unfold merge in merge-apart false u us (unfold ◌and◌ in refl))
 
 -- ---- the lines
 
@@ -102,7 +101,7 @@ module _ (edition : ℕ) (x : Text) (value : Store → ℕ) (rhs : List Token) w
   new ts = fold edition (merge (substitute x rhs ts))
 
   -- a line that assigns another register
-  pub use_assign : (t : Token) (ts : List Token) (y : Text) → Assigns (t ∷ ts) y → (y == x) ≡ false → of_family x t ≡ false
+  pub use_assign : (t : Token) (ts : List Token) (y : Text) → Assigns (t ∷ ts) y → (y ≟ x) ≡ false → of_family x t ≡ false
       → ((σ : Store) → TokensFit x (value σ) σ rhs ts fresh) → Replaced x value (some y) (t ∷ ts) (new (t ∷ ts)) × Assigns (new (t ∷ ts)) y
   use_assign t ts y (assigns w r a) d n f =
       subst⁻¹ (λ (us : List Token). Replaced x value (some y) (t ∷ ts) us × Assigns us y) (rewritten edition x rhs t ts (wide_heads t y w) n)
@@ -121,11 +120,13 @@ module _ (edition : ℕ) (x : Text) (value : Store → ℕ) (rhs : List Token) w
       both_read σ = let v = r (assign x (value σ) σ) in (v.0, v.1, rewritten_run edition x (value σ) σ rhs v.0 t ts equals tt (f σ) v.1)
 
   -- a line without the register
-  pub pass_assign : (ts : List Token) (y : Text) → Assigns ts y → any (of_family x) ts ≡ false → (y == x) ≡ false → Replaced x value (some y) ts ts
+  pub pass_assign : (ts : List Token) (y : Text) → Assigns ts y → any (of_family x) ts ≡ false → (y ≟ x) ≡ false → Replaced x value (some y) ts ts
+  pass_assign [] y x4 e d = elim x4 [ ]
   pass_assign (t ∷ ts) y (assigns w r a) e d =
       replaced_assign w d (λ σ. (let v = r σ in (v.0, unread x (value σ) σ ts fresh (neither e).1 ∙ v.1, v.1)))
 
   pub pass_return : (ts : List Token) → Returns ts → any (of_family x) ts ≡ false → Replaced x value none ts ts
+  pass_return [] x3 e = elim x3 [ ]
   pass_return (t ∷ ts) (returns w r a) e =
       replaced_return w (λ σ. (let v = r σ in (v.0, unread x (value σ) σ ts equals (neither e).1 ∙ v.1, v.1)))
 
@@ -187,7 +188,7 @@ module _ (σ : Store) (v : ℕ) where
       h
 
   equals-writes : (t : Token) (ds : Text) → is Punct t ≡ true → t.text ≡ 32 ∷ 61 ∷ 32 ∷ ds → writes t ≡ true
-  unfolding writes ◌&&◌ ◌||◌ not
+  unfolding writes ◌and◌ ◌or◌ not
   equals-writes t ds p e = rw (p, e)
 
   pub is_assigned : (t : Token) (ts : List Token) → puncts_apart false ts ≡ true → run-tokens σ ts fresh ≡ done v → is_written (t ∷ ts) 0 ≡ true
@@ -215,7 +216,7 @@ unwritten x y t ts (assigns w r a) e =
 -- ---- no braces
 
 open_breaks : (s : State) → byte 123 s ≡ broken
-unfolding byte if◌then◌else◌
+unfolding byte when◌then◌else◌
 open_breaks fresh = refl
 open_breaks spaced = refl
 open_breaks equals = refl
@@ -228,7 +229,7 @@ open_breaks (done v) = refl
 open_breaks broken = refl
 
 close_breaks : (s : State) → byte 125 s ≡ broken
-unfolding byte if◌then◌else◌
+unfolding byte when◌then◌else◌
 close_breaks fresh = refl
 close_breaks spaced = refl
 close_breaks equals = refl
@@ -255,17 +256,19 @@ module _ (σ : Store) (v : ℕ) where
   no_braces [] s h = refl
   no_braces (t ∷ ts) s h = or_false _ (fails (λ e. go (both e))) ∙ no_braces ts (token-step σ t s) h
     where
-      go : (is Punct t ≡ true) × ((contains t.text 123 || contains t.text 125) ≡ true) → ⊥
+      go : (is Punct t ≡ true) × ((contains t.text 123 or contains t.text 125) ≡ true) → ⊥
       go pq =
           let k = sym (ap (run-tokens σ ts) (step-punct σ t s pq.0)) ∙ h in
           either ⊥ pq.1 (λ e. true-false e (no_byte 123 open_breaks t.text s ts k)) (λ e. true-false e (no_byte 125 close_breaks t.text s ts k))
 
 pub assigns_no_braces : (ts : List Token) (y : Text) → Assigns ts y → braces_in ts ≡ false
 unfolding braces_in has_brace
+assigns_no_braces [] y x' = elim x' [ ]
 assigns_no_braces (t ∷ ts) y (assigns w r a) =
     or_false _ (and_false _ (other_kind Register Punct t refl (wide-register t y w))) ∙ no_braces zeros' (r zeros').0 ts fresh (r zeros').1
 
 pub returns_no_braces : (ts : List Token) → Returns ts → braces_in ts ≡ false
 unfolding braces_in has_brace is_kw
+returns_no_braces [] x' = elim x' [ ]
 returns_no_braces (t ∷ ts) (returns w r a) =
     or_false _ (and_false _ (other_kind Keyword Punct t refl (both w).0)) ∙ no_braces zeros' (r zeros').0 ts equals (r zeros').1

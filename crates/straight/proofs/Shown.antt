@@ -1,17 +1,17 @@
 -- What a fold prints is read back, and stands for the sum or difference modulo 2^64. Assumes nothing.
 use Prim.Native.Nat.{ℕ, zero, suc, ◌+◌, ◌*◌, ◌-◌, ◌/◌, ◌%◌, ◌^◌, ◌<◌, ◌≤◌}
 use native.Mathlib.Omega.{arith}
-use native.Mathlib.Nat.{mod-mod, mod-eq_of_lt, mod-lt, mod-add-mod, add-mod-mod}
+use native.Mathlib.Nat.{mod-mod, mod-eq_of_lt, add-mod-mod}
 use native.Mathlib.Decide.{dec_lt}
-use mathlib.Core.Path.{◌≡◌, refl, sym, ap, ◌∙◌, subst}
+use mathlib.Core.Path.{◌≡◌, refl, sym, ap, ◌∙◌}
 use mathlib.Core.Logic.{by_cases}
-use mathlib.Core.Bool.{Bool, true, false}
-use mathlib.Core.List.{List, [], ◌∷◌, ◌++◌}
-use mathlib.Core.Option.{Option, none, some}
-use lib.Dec.{ltb, eqb}
+use mathlib.Core.Bool.{true, false}
+use mathlib.Core.List.{[], ◌∷◌}
+use mathlib.Core.Option.{some}
+use lib.Dec.{eqb}
 use lib.IntN.{ℤ, pos, negsuc, neg_ℤ, sub_ℕ, ◌+ℤ◌, ◌-ℤ◌}
 use borrow.Author.Tests.{lt-ltb, le-ltb, ltb-true, ltb-false, eq-eqb, ne_eqb}
-use Rattle.reference.specs.Control.{not, ◌&&◌, ◌||◌, if◌then◌else◌, let_some◌else◌then◌}
+use Rattle.reference.specs.Control.{not, ◌and◌, ◌or◌, when◌then◌else◌, let_some◌else◌then◌}
 use Rattle.reference.specs.Lists.{any, count, is_empty}
 use Rattle.reference.specs.Text.{Text, bytes, starts_with, strip_prefix}
 use Rattle.reference.specs.Listing.{token, is, Number}
@@ -65,7 +65,7 @@ record Digit (d : ℕ) : Type 0 where
   no_minus : eqb 45 (digit_byte d) ≡ false
 
 digit : (d : ℕ) → d < 16 → Digit d
-unfolding to_digit if◌then◌else◌ ◌&&◌
+unfolding to_digit when◌then◌else◌ ◌and◌
 digit zero h = record { value = refl; no_plus = refl; no_minus = refl }
 digit (suc zero) h = record { value = refl; no_plus = refl; no_minus = refl }
 digit (suc (suc zero)) h = record { value = refl; no_plus = refl; no_minus = refl }
@@ -136,13 +136,13 @@ no_plus-front [] e = refl
 no_plus-front (c ∷ cs) e = and_false _ (ne_eqb c 43 (λ q. true-false (eq-eqb 43 c (sym q)) (neither e).0))
 
 hex_read : (n : ℕ) → n < 2 ^ 64 → read_u64 16 (hex n) ≡ some n
-unfolding read_u64 unsigned strip_prefix let_some◌else◌then◌ if◌then◌else◌
+unfolding read_u64 unsigned strip_prefix let_some◌else◌then◌ when◌then◌else◌
 hex_read n h =
     rw (no_plus-front (hex n) (digits-plain 16 n []), hex_some n, digits-read 16 n [] (omega arith))
     (unfold digits_value in rw (lt-ltb n (2 ^ 64) h))
 
 hex_tidy : (n : ℕ) → (is_tidy (48 ∷ 120 ∷ hex n) ≡ true) × (is_tidy (45 ∷ 48 ∷ 120 ∷ hex n) ≡ true)
-unfolding is_tidy strip_prefix not ◌&&◌ ◌||◌ if◌then◌else◌ let_some◌else◌then◌
+unfolding is_tidy strip_prefix not ◌and◌ ◌or◌ when◌then◌else◌ let_some◌else◌then◌
 hex_tidy n = (rw (digits-plain 16 n [], digits-unsigned 16 n []), rw (digits-plain 16 n [], digits-unsigned 16 n []))
 
 as_low : (n : ℕ) → n < 2 ^ 63 → as_i64 n ≡ pos n
@@ -159,7 +159,7 @@ as_high n l h =
 
 -- 2^63 as an i64 is its own negation
 negated : (m : ℕ) → m < 2 ^ 63 → wrap (neg_ℤ (as_i64 (suc m))) ≡ negsuc m
-unfolding wrap if◌then◌else◌
+unfolding wrap when◌then◌else◌
 negated m h =
     by_cases (dec_lt (suc m) (2 ^ 63))
     (λ l.
@@ -196,12 +196,12 @@ small-negative (suc (suc (suc (suc (suc (suc (suc (suc zero)))))))) h = refl
 small-negative (suc (suc (suc (suc (suc (suc (suc (suc (suc n))))))))) h = absurd (omega arith)
 
 large-positive : (n : ℕ) → 10 ≤ n → n < 2 ^ 63 → number_of (token Number (show (pos n))) ≡ some (pos n)
-unfolding number_of is show show_natural parse_c_number strip_prefix let_some◌else◌then◌ if◌then◌else◌ ◌&&◌
+unfolding number_of is show show_natural parse_c_number strip_prefix let_some◌else◌then◌ when◌then◌else◌ ◌and◌
 large-positive n l h =
     rw (le-ltb n 10 l, (hex_tidy n).0, hex_read n (omega arith)) (ap (λ (z : ℤ). some z) (as_low n h))
 
 large-negative : (m : ℕ) → 9 ≤ m → m < 2 ^ 63 → number_of (token Number (show (negsuc m))) ≡ some (negsuc m)
-unfolding number_of is show show_natural parse_c_number strip_prefix let_some◌else◌then◌ if◌then◌else◌ ◌&&◌
+unfolding number_of is show show_natural parse_c_number strip_prefix let_some◌else◌then◌ when◌then◌else◌ ◌and◌
 large-negative m l h =
     rw (le-ltb (suc m) 10 (omega arith), (hex_tidy (suc m)).1, hex_read (suc m) (omega arith)) (ap (λ (z : ℤ). some z) (negated m h))
 

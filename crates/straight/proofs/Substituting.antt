@@ -1,25 +1,25 @@
 -- A register's tokens replaced by an expression: the line is read, under the old values, as it was read where the register held the expression's
 -- value. Assumes nothing.
-use Prim.Native.Nat.{ℕ, zero, suc}
+use Prim.Native.Nat.{ℕ, suc}
 use native.Mathlib.Omega.{arith}
 use mathlib.Core.Path.{◌≡◌, refl, sym, ap, ◌∙◌, subst, subst⁻¹}
-use mathlib.Core.Bool.{Bool, true, false, true≢false, false≢true}
-use mathlib.Core.List.{List, [], ◌∷◌, ◌++◌}
-use mathlib.Core.Option.{Option, none, some}
+use mathlib.Core.Bool.{Bool, true, false}
+use mathlib.Core.List.{List, [], ◌∷◌}
+use mathlib.Core.Option.{none, some}
 use lib.Dec.{eqb}
 use lib.IntN.{ℤ}
-use Rattle.reference.specs.Control.{◌&&◌, ◌||◌, if◌then◌else◌, let_some◌else◌then◌}
+use Rattle.reference.specs.Control.{when◌then◌else◌, let_some◌else◌then◌}
 use Rattle.reference.specs.Lists.{any, count, position, get}
-use Rattle.reference.specs.Text.{Text, ◌==◌}
+use Rattle.reference.specs.Text.{Text, ◌≟◌}
 use Rattle.reference.specs.Listing.{Token, is, Register, Number, Punct, Plain}
 use Rattle.reference.specs.Names.{Fam, fam_of, of_family}
-use Rattle.reference.specs.Numbers.{delim_before, folded, fold_at, fold, joins, merge_into, merge}
+use Rattle.reference.specs.Numbers.{fold_at, fold, joins, merge_into, merge}
 use Rattle.reference.specs.Join.{substitute, text_or_empty}
-use Rattle.reference.specs.Evaluators.{Store, wide, number_of, of_integer}
+use Rattle.reference.specs.Evaluators.{Store, wide, number_of}
 use Rattle.reference.specs.Straight.{assign}
 use Rattle.straight.proofs.Reader.{Pending, first, State, wants, done, term, token-step, run-tokens}
-use Rattle.reference.proofs.Cases.{by-if, by-some, some_inj, none-some, if_some, bind-some, some-true, both, neither, true-false, fails}
-use Rattle.reference.proofs.Shapes.{other_kind, joins-other, same_text, family-register, folds}
+use Rattle.reference.proofs.Cases.{by-if, by-some, some_inj, none-some, if_some, bind-some, both, neither, true-false, fails}
+use Rattle.reference.proofs.Shapes.{other_kind, joins-other, family-register, folds}
 use Rattle.laws.proofs.Scans.{if-true, if-false}
 use Rattle.straight.proofs.Machine.{run_append, step-punct, step-register, step_number, Step, punct, register, number, breaks, step_of}
 use Rattle.straight.proofs.Folding.{merge-run, Begins, opens_text, token_begins, alive, term_wanted, fold_at-run}
@@ -40,14 +40,14 @@ unfolding number_of
 number_kind t z n = (both (if_some n).0).0
 
 -- a 64-bit register is of the family of its name, and of no other
-pub wide-family : (x y : Text) (t : Token) → wide t ≡ some y → of_family x t ≡ (y == x)
+pub wide-family : (x y : Text) (t : Token) → wide t ≡ some y → of_family x t ≡ (y ≟ x)
 unfolding of_family let_some◌else◌then◌
-wide-family x y t w = let f = wide-known t y w in rw f.1 (ap (λ (n : Text). n == x) f.2)
+wide-family x y t w = let f = wide-known t y w in rw f.1 (ap (λ (n : Text). n ≟ x) f.2)
 
-pub assigned_same : (x y : Text) (v : ℕ) (σ : Store) → (y == x) ≡ true → assign x v σ y ≡ v
+pub assigned_same : (x y : Text) (v : ℕ) (σ : Store) → (y ≟ x) ≡ true → assign x v σ y ≡ v
 assigned_same x y v σ e = if-true _ _ e
 
-pub assigned-other : (x y : Text) (v : ℕ) (σ : Store) → (y == x) ≡ false → assign x v σ y ≡ σ y
+pub assigned-other : (x y : Text) (v : ℕ) (σ : Store) → (y ≟ x) ≡ false → assign x v σ y ≡ σ y
 assigned-other x y v σ e = if-false _ _ e
 
 -- ---- a register that is not read
@@ -117,13 +117,13 @@ module _ (x : Text) (v : ℕ) (σ : Store) (rhs : List Token) where
   fits-nowhere (t ∷ ts) s e = go (of_family x t) refl (fits-nowhere ts (token-step (assign x v σ) t s))
     where
       go : (b : Bool) → of_family x t ≡ b → (count (of_family x) ts ≡ 0 → TokensFit ts (token-step (assign x v σ) t s)) → TokensFit (t ∷ ts) s
-      go true h ih = absurd (unfold if◌then◌else◌ in (let z = rw h at e in omega arith))
+      go true h ih = absurd (unfold when◌then◌else◌ in (let z = rw h at e in omega arith))
       go false h ih = (λ q. absurd (true-false q h), ih (sym (if-false _ _ h) ∙ e))
 
   -- one token of the family, behind a text behind which an expression begins
   pub fits-begun : ((k : List Pending) → Stands σ rhs v first k) → (b : Token) (ts : List Token) (pos : ℕ) (s : State) → (opens_text b.text ≡ true → Begins s)
       → position (of_family x) ts ≡ some pos → count (of_family x) ts ≡ 1 → opens_text (text_or_empty (get (b ∷ ts) pos)) ≡ true → TokensFit ts s
-  unfolding let_some◌else◌then◌ if◌then◌else◌
+  unfolding let_some◌else◌then◌ when◌then◌else◌
   fits-begun f b [] pos s g at one o = absurd (none-some at)
   fits-begun f b (t ∷ ts) pos s g at one o = go (of_family x t) refl (λ n. fits-begun f t ts n τ (token_begins (assign x v σ) t s))
     where

@@ -7,7 +7,7 @@ use mathlib.Core.List.{List, [], ◌∷◌}
 use mathlib.Core.Option.{Option, none, some}
 use lib.Dec.{eqb}
 use lib.IntN.{ℤ}
-use Rattle.reference.specs.Control.{if◌then◌else◌, let_some◌else◌then◌}
+use Rattle.reference.specs.Control.{when◌then◌else◌, let_some◌else◌then◌}
 use Rattle.reference.specs.Lists.{is_some, is_empty}
 use Rattle.reference.specs.Text.{Text, bytes}
 use Rattle.reference.specs.Evaluators.{Arithmetic, Lexeme, sign, reg, num, junk, behind, Operator, adds, takes, operator, fuel_for, combine, expression, term, further, evaluate}
@@ -39,8 +39,8 @@ unfolding let_some◌else◌then◌
 else_image g none d k k' e = refl
 else_image g (some x) d k k' e = e x
 
-if_image : {A B : Type 0} (g : A → B) (b : Bool) (o : Option A) (o' : Option B) → o' ≡ image g o → (if b then o' else none) ≡ image g (if b then o else none)
-unfolding if◌then◌else◌
+if_image : {A B : Type 0} (g : A → B) (b : Bool) (o : Option A) (o' : Option B) → o' ≡ image g o → (when b then o' else none) ≡ image g (when b then o else none)
+unfolding when◌then◌else◌
 if_image g true o o' e = e
 if_image g false o o' e = refl
 
@@ -101,15 +101,15 @@ module _ {X Y : Type 0} (a : Arithmetic X) (b : Arithmetic Y) (h : X → Y)
   unfolding evaluate both_of
   evaluate_image before xs =
       then_image h (behind before xs)
-      (λ ys. let_some (expression a σ (fuel_for ys) ys) else none then λ r. let_some (behind (bytes ";") r.1) else none then λ rest. if is_empty rest then some r.0 else none)
-      (λ ys. let_some (expression b τ (fuel_for ys) ys) else none then λ r. let_some (behind (bytes ";") r.1) else none then λ rest. if is_empty rest then some r.0 else none)
+      (λ ys. let_some (expression a σ (fuel_for ys) ys) else none then λ r. let_some (behind (bytes ";") r.1) else none then λ rest. when is_empty rest then some r.0 else none)
+      (λ ys. let_some (expression b τ (fuel_for ys) ys) else none then λ r. let_some (behind (bytes ";") r.1) else none then λ rest. when is_empty rest then some r.0 else none)
       (λ ys.
-      ap (λ (o : Option (Y × List Lexeme)). let_some o else none then λ r. let_some (behind (bytes ";") r.1) else none then λ rest. if is_empty rest then some r.0 else none)
+      ap (λ (o : Option (Y × List Lexeme)). let_some o else none then λ r. let_some (behind (bytes ";") r.1) else none then λ rest. when is_empty rest then some r.0 else none)
       (expression_image (fuel_for ys) ys)
       ∙ image_then both_of h (expression a σ (fuel_for ys) ys)
-      (λ r. let_some (behind (bytes ";") r.1) else none then λ rest. if is_empty rest then some r.0 else none)
-      (λ r. let_some (behind (bytes ";") r.1) else none then λ rest. if is_empty rest then some r.0 else none)
-      (λ r. then_image h (behind (bytes ";") r.1) (λ rest. if is_empty rest then some r.0 else none) (λ rest. if is_empty rest then some (h r.0) else none)
+      (λ r. let_some (behind (bytes ";") r.1) else none then λ rest. when is_empty rest then some r.0 else none)
+      (λ r. let_some (behind (bytes ";") r.1) else none then λ rest. when is_empty rest then some r.0 else none)
+      (λ r. then_image h (behind (bytes ";") r.1) (λ rest. when is_empty rest then some r.0 else none) (λ rest. when is_empty rest then some (h r.0) else none)
       (λ rest. if_image h (is_empty rest) (some r.0) (some (h r.0)) refl)))
 
 -- ---- whether it is worth anything

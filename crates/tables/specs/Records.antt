@@ -1,7 +1,7 @@
 -- The records of lines: the line that one means, what a command makes of them, and what the tables of words have of them. Assumes nothing.
 use Rattle.std.specs.Prelude.{ℕ, ◌+◌, ◌≤◌, ◌<◌, ◌≡◌, true, false, not, List, map, min, max, eqb, length, take, drop, get_or}
 use Rattle.std.proofs.Math.Option.{Option, none, some}
-use Rattle.reference.specs.Control.{if◌then◌else◌}
+use Rattle.reference.specs.Control.{when◌then◌else◌}
 use Rattle.reference.specs.Text.{Text}
 use Rattle.reference.specs.Listing as L
 use Rattle.reference.specs.Listing.{Line, Listing}
@@ -28,7 +28,7 @@ blank = record { address = 0; addressed = 0; indent = 0; first = 0; count = 0; l
 -- ---- a record and the line that it means
 
 unfoldable pub address_of : LineRecord → Option ℕ
-address_of r = if eqb r.addressed 1 then some r.address else none
+address_of r = when eqb r.addressed 1 then some r.address else none
 
 -- the two numbers that its marks are
 abbrev pub pair_of : LineRecord → Pair
@@ -113,16 +113,8 @@ pub record Recorded (tape tokens : List ℕ) (records : List LineRecord) (r : To
 
 -- the record that the command at hand is about, `line` being the record of the last line
 abbrev pub line_after : Command → Totals → LineRecord → LineRecord
-line_after (Addressed address indent) t line = record {
-  address = address;
-  addressed = 1;
-  indent = indent;
-  first = t.tokens;
-  count = 0;
-  low
-      = address;
-  high = address;
-}
+line_after (Addressed address indent) t line =
+    record { address = address; addressed = 1; indent = indent; first = t.tokens; count = 0; low = address; high = address }
 line_after (Plain indent) t line = record { address = 0; addressed = 0; indent = indent; first = t.tokens; count = 0; low = TOP; high = 0 }
 line_after (Marked low high) t line =
     record {

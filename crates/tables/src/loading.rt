@@ -1,7 +1,6 @@
 // The listing of an accepted tape, in tables: a word for each token and each line, and by the number of the line its address and its marks.
 // All texts are parts of the tape. The lines are laid as records first; the line words are made of them.
 ghost use Rattle.std.specs.Prelude.{◌≡◌, ◌≤◌, length};
-ghost use Rattle.reference.specs.Contract.{was};
 ghost use Rattle.lines.specs.Words.{Recodes};
 ghost use Rattle.tape.specs.Questions.{AcceptedTape};
 ghost use Rattle.tables.specs.Records.{Fitting, Holding, Marking, Recorded, line_after, place_after, start_of, TakesToken, Grows};
@@ -18,7 +17,7 @@ use tape::reader::known_command;
 
 // Where the loading stands: the offset in the tape, the index of the last line's record, what was read so far, and whether FF
 // is still to come.
-#[derive(Drop)]
+#[derive(Clone, Copy)]
 pub struct LoadState {
     pub at: usize,
     pub line: usize,
@@ -27,7 +26,7 @@ pub struct LoadState {
 }
 
 // The record that a command is about, and where the loading stands after the command.
-#[derive(Drop)]
+#[derive(Clone, Copy)]
 pub struct LoadStep {
     pub line: LineRecord,
     pub next: LoadState,
@@ -116,7 +115,7 @@ fn place_after(command: Command, totals: Totals, last: usize) -> usize
 // Adds a token's word behind the tokens so far.
 fn add_token(at: usize, command: Command, tokens: &mut [u64], totals: Totals)
     requires { TakesToken at command totals tokens.old }
-    ensures { tokens.new ≡ tokens_after at command totals (was tokens) }
+    ensures { tokens.new ≡ tokens_after at command totals tokens.old }
 {
     match command {
         Command::Addressed {
@@ -136,7 +135,7 @@ fn add_token(at: usize, command: Command, tokens: &mut [u64], totals: Totals)
 // Takes the command at the offset, `line` being the record of the last line.
 fn load_command(tape: &[u8], s: LoadState, line: LineRecord, tokens: &mut [u64]) -> LoadStep
     requires { Ready tape.now tokens.old s line }
-    ensures { StepLoads (was tape) s line (was tokens) tokens.new result }
+    ensures { StepLoads tape.now s line tokens.old tokens.new result }
 {
     let at = s.at;
     let totals = s.totals;
@@ -157,10 +156,10 @@ fn load_command(tape: &[u8], s: LoadState, line: LineRecord, tokens: &mut [u64])
 
 // ---- the whole tape
 
-// StepLoads the lines of a tape that passed the questions: a record for each line and a word for each token. Proved by hand.
+// Loads the lines of a tape that passed the questions: a record for each line and a word for each token.
 pub fn fill(tape: &[u8], tokens: &mut [u64], lines: &mut [LineRecord]) -> Totals
     requires { AcceptedTape tape.now × (1024 ≤ length tokens.old) × (256 ≤ length lines.old) }
-    ensures { Recorded (was tape) tokens.new lines.new result }
+    ensures { Recorded tape.now tokens.new lines.new result }
 {
     let mut s = start();
     while s.going {
@@ -199,7 +198,7 @@ fn spread(
 }
 
 // Fills the tables with the listing of a tape that passed the questions, and says how many lines, tokens and bytes of text it has. The
-// lines go through an array of records of the call's own. Proved by hand.
+// lines go through an array of records of the call's own.
 fn tabled(
     tape: &[u8],
     tokens: &mut [u64],
@@ -211,8 +210,8 @@ fn tabled(
     requires accepted_tape { AcceptedTape tape.now }
     requires in_bounds { (1024 ≤ length tokens.old) × (256 ≤ length lines.old) × (256 ≤ length addresses.old)
         × (256 ≤ length lows.old) × (256 ≤ length highs.old) }
-    ensures { Loaded (was tape) tokens.new lines.new addresses.new result
-        × LoadedMarks (was tape) lines.new lows.new highs.new result }
+    ensures { Loaded tape.now tokens.new lines.new addresses.new result
+        × LoadedMarks tape.now lines.new lows.new highs.new result }
 {
     let blank = LineRecord {
         address: 0,
@@ -232,7 +231,7 @@ fn tabled(
 // Codes the first n words.
 fn code_first(tape: &[u8], tokens: &mut [u64], n: usize)
     requires { n ≤ length tokens.old }
-    ensures { Recodes (was tape) (was tokens) tokens.new }
+    ensures { Recodes tape.now tokens.old tokens.new }
 {
     let mut k = 0;
     while k < n {
@@ -253,8 +252,8 @@ pub fn load(
     requires accepted_tape { AcceptedTape tape.now }
     requires in_bounds { (1024 ≤ length tokens.old) × (256 ≤ length lines.old) × (256 ≤ length addresses.old)
         × (256 ≤ length lows.old) × (256 ≤ length highs.old) }
-    ensures { Loaded (was tape) tokens.new lines.new addresses.new result
-        × LoadedMarks (was tape) lines.new lows.new highs.new result }
+    ensures { Loaded tape.now tokens.new lines.new addresses.new result
+        × LoadedMarks tape.now lines.new lows.new highs.new result }
 {
     let totals = tabled(tape, tokens, lines, addresses, lows, highs);
     let n = totals.tokens;

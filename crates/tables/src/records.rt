@@ -1,6 +1,5 @@
-// The records of lines, lent as a slice of records: one is read, one is stored. Both are proved by hand.
+// The records of lines, lent as a slice of records: one is read, one is stored.
 ghost use Rattle.std.specs.Prelude.{◌≡◌, ◌<◌, length, get_or, set};
-ghost use Rattle.reference.specs.Contract.{was};
 ghost use Rattle.tables.specs.Records.{blank};
 
 // Where there are no marks, the highest number there is stands as the lowest address, and 0 as the highest: so marks join by minimum and
@@ -9,7 +8,7 @@ pub const TOP: u64 = 18446744073709551615;
 
 // A line: its address, 1 if it has one and else 0, its indent, its tokens, `count` of them from `first` on, and its marks, the lowest and
 // the highest address.
-#[derive(Drop)]
+#[derive(Clone, Copy)]
 pub struct LineRecord {
     pub address: u64,
     pub addressed: u64,
@@ -23,7 +22,7 @@ pub struct LineRecord {
 // The record at an index.
 pub fn line_at(lines: &[LineRecord], at: usize) -> LineRecord
     requires { at < length lines.now }
-    ensures { result ≡ get_or (was lines) at blank }
+    ensures { result ≡ get_or lines.now at blank }
 {
     lines[at]
 }
@@ -31,7 +30,7 @@ pub fn line_at(lines: &[LineRecord], at: usize) -> LineRecord
 // Stores a record at an index.
 pub fn store_line(lines: &mut [LineRecord], at: usize, line: LineRecord)
     requires { at < length lines.old }
-    ensures { lines.new ≡ set (was lines) at line }
+    ensures { lines.new ≡ set lines.old at line }
 {
     lines[at] = line;
 }

@@ -3,7 +3,6 @@
 ghost use Rattle.std.specs.Prelude.{◌≡◌, ◌+◌, ◌≤◌, ◌<◌, length, get_or};
 ghost use Rattle.std.proofs.Math.Option.{none, some};
 ghost use Rattle.std.proofs.Math.Seq.{paste};
-ghost use Rattle.reference.specs.Contract.{was};
 ghost use Rattle.reference.specs.Listing.{token};
 ghost use Rattle.reference.specs.Tape as Tape;
 ghost use Rattle.lines.specs.Words.{tokens_of, Holds};
@@ -24,7 +23,7 @@ use text::copy_bytes;
 // Writes the command of a line with an address.
 fn put_addressed(address: u64, indent: u64, out: &mut [u8], at: usize) -> usize
     requires { (indent < 256) × (at + 10 ≤ length out.old) }
-    ensures { Puts (was out) at (Tape.write_command (Tape.new_line (some address) indent)) out.new result }
+    ensures { Puts out.old at (Tape.write_command (Tape.new_line (some address) indent)) out.new result }
 {
     out[at] = 1;
     put_number(address, 8, out, at + 1);
@@ -35,7 +34,7 @@ fn put_addressed(address: u64, indent: u64, out: &mut [u8], at: usize) -> usize
 // Writes the command of a line without an address.
 fn put_plain(indent: u64, out: &mut [u8], at: usize) -> usize
     requires { (indent < 256) × (at + 2 ≤ length out.old) }
-    ensures { Puts (was out) at (Tape.write_command (Tape.new_line none indent)) out.new result }
+    ensures { Puts out.old at (Tape.write_command (Tape.new_line none indent)) out.new result }
 {
     out[at] = 2;
     out[at + 1] = indent as u8;
@@ -45,7 +44,7 @@ fn put_plain(indent: u64, out: &mut [u8], at: usize) -> usize
 // Writes a line's command.
 fn put_line(line: LineRecord, out: &mut [u8], at: usize) -> usize
     requires { (line.indent < 256) × (at + length (line_bytes line) ≤ length out.old) }
-    ensures { Puts (was out) at (line_bytes line) out.new result }
+    ensures { Puts out.old at (line_bytes line) out.new result }
 {
     if line.addressed == 1 {
         return put_addressed(line.address, line.indent, out, at);
@@ -56,7 +55,7 @@ fn put_line(line: LineRecord, out: &mut [u8], at: usize) -> usize
 // Writes the command of marks.
 fn put_marked(low: u64, high: u64, out: &mut [u8], at: usize) -> usize
     requires { at + 17 ≤ length out.old }
-    ensures { Puts (was out) at (Tape.write_command (Tape.marked (record { lowest = low; highest = high })))
+    ensures { Puts out.old at (Tape.write_command (Tape.marked (record { lowest = low; highest = high })))
         out.new result }
 {
     out[at] = 3;
@@ -68,7 +67,7 @@ fn put_marked(low: u64, high: u64, out: &mut [u8], at: usize) -> usize
 // Writes a line's marks, if there are any.
 fn put_marks(low: u64, high: u64, out: &mut [u8], at: usize) -> usize
     requires { at + length (Tape.write_marks (marks_of (low, high))) ≤ length out.old }
-    ensures { Puts (was out) at (Tape.write_marks (marks_of (low, high))) out.new result }
+    ensures { Puts out.old at (Tape.write_marks (marks_of (low, high))) out.new result }
 {
     if high < low {
         return at;
@@ -79,7 +78,7 @@ fn put_marks(low: u64, high: u64, out: &mut [u8], at: usize) -> usize
 // Writes a token's command.
 fn put_token(kind: u64, s: &[u8], out: &mut [u8], at: usize) -> usize
     requires { (kind < 8) × (at + 3 + length s.now ≤ length out.old) }
-    ensures { Puts (was out) at (token_bytes (token kind (was s))) out.new result }
+    ensures { Puts out.old at (token_bytes (token kind s.now)) out.new result }
 {
     out[at] = (16 + kind) as u8;
     put_number(s.len() as u64, 2, out, at + 1);
@@ -91,7 +90,7 @@ fn put_token(kind: u64, s: &[u8], out: &mut [u8], at: usize) -> usize
 fn put_tokens<'a>(tape: &'a [u8], area: &'a [u8], ws: &'a [u64], out: &mut [u8], at: usize) -> usize
     requires holds { Holds tape.now area.now ws.now }
     requires ws_in_bounds { at + length (tokens_bytes (tokens_of tape.now area.now ws.now)) ≤ length out.old }
-    ensures { Puts (was out) at (tokens_bytes (tokens_of (was tape) (was area) (was ws))) out.new result }
+    ensures { Puts out.old at (tokens_bytes (tokens_of tape.now area.now ws.now)) out.new result }
 {
     let mut to = at;
     let mut k = 0;
@@ -114,7 +113,7 @@ fn put_whole_line<'a>(
 ) -> usize
     requires { Sound tape.now area.now tokens.now line
         × (at + length (Tape.write_line (line_of tape.now area.now tokens.now line) (marks_of (pair_of line))) ≤ length out.old) }
-    ensures { Puts (was out) at (Tape.write_line (line_of (was tape) (was area) (was tokens) line) (marks_of (pair_of line)))
+    ensures { Puts out.old at (Tape.write_line (line_of tape.now area.now tokens.now line) (marks_of (pair_of line)))
         out.new result }
 {
     let marks = put_line(line, out, at);
@@ -135,7 +134,7 @@ fn record_of<'a>(
     at: usize,
 ) -> LineRecord
     requires { (at < length lines.now) × (256 ≤ length addresses.now) × (256 ≤ length lows.now) × (256 ≤ length highs.now) }
-    ensures { result ≡ record_of (was addresses) (was lows) (was highs) (get_or (was lines) at 0) }
+    ensures { result ≡ record_of addresses.now lows.now highs.now (get_or lines.now at 0) }
 {
     let l = lines[at];
     let k = origin(l);
@@ -153,7 +152,7 @@ fn record_of<'a>(
     }
 }
 
-// Stores the records of the line words, from the first place on. Proved by hand.
+// Stores the records of the line words, from the first place on.
 fn gather<'a>(
     lines: &'a [u64],
     addresses: &'a [u64],
@@ -163,8 +162,8 @@ fn gather<'a>(
 )
     requires { (length lines.now ≤ length records.old) × (256 ≤ length addresses.now) × (256 ≤ length lows.now)
         × (256 ≤ length highs.now) }
-    ensures { records.new ≡ paste (was records) 0 (records_of (was addresses) (was lows) (was highs) (was lines))
-        (length (was lines)) }
+    ensures { records.new ≡ paste records.old 0 (records_of addresses.now lows.now highs.now lines.now)
+        (length lines.now) }
 {
     let n = lines.len();
     let mut k = 0;
@@ -175,7 +174,7 @@ fn gather<'a>(
     }
 }
 
-// Writes the lines of the first n records. Proved by hand.
+// Writes the lines of the first n records.
 fn put_records<'a>(
     tape: &'a [u8],
     area: &'a [u8],
@@ -186,7 +185,7 @@ fn put_records<'a>(
     at: usize,
 ) -> usize
     requires { Writes tape.now area.now tokens.now records.now n out.old at }
-    ensures { Puts (was out) at (lines_bytes (recorded (was tape) (was area) (was tokens) (was records) n)) out.new result }
+    ensures { Puts out.old at (lines_bytes (recorded tape.now area.now tokens.now records.now n)) out.new result }
 {
     let mut to = at;
     let mut k = 0;
@@ -198,7 +197,7 @@ fn put_records<'a>(
     to
 }
 
-// Writes the lines. Their records are an array of the call's own, lent to `gather` and then to `put_records`. Proved by hand.
+// Writes the lines. Their records are an array of the call's own, lent to `gather` and then to `put_records`.
 fn put_lines<'a>(
     tape: &'a [u8],
     area: &'a [u8],
@@ -214,8 +213,8 @@ fn put_lines<'a>(
         × (256 ≤ length addresses.now) × (256 ≤ length lows.now) × (256 ≤ length highs.now)
         × (at + length (lines_bytes (paged tape.now area.now tokens.now addresses.now lows.now highs.now lines.now))
         ≤ length out.old) }
-    ensures { Puts (was out) at (lines_bytes (paged (was tape) (was area) (was tokens) (was addresses) (was lows) (was highs)
-        (was lines))) out.new result }
+    ensures { Puts out.old at (lines_bytes (paged tape.now area.now tokens.now addresses.now lows.now highs.now
+        lines.now)) out.new result }
 {
     let blank = LineRecord {
         address: 0,
@@ -248,8 +247,8 @@ pub fn write<'a>(
     requires in_bounds { (256 ≤ length addresses.now) × (256 ≤ length lows.now) × (256 ≤ length highs.now) }
     requires lines_in_bounds { length (Tape.write (listing_of tape.now area.now tokens.now addresses.now lines.now)
         (marks_for lows.now highs.now lines.now)) ≤ length out.old }
-    ensures { Wrote (Tape.write (listing_of (was tape) (was area) (was tokens) (was addresses) (was lines))
-        (marks_for (was lows) (was highs) (was lines))) (was out) out.new result }
+    ensures { Wrote (Tape.write (listing_of tape.now area.now tokens.now addresses.now lines.now)
+        (marks_for lows.now highs.now lines.now)) out.old out.new result }
 {
     let at = put_lines(tape, area, tokens, lines, addresses, lows, highs, out, 0);
     out[at] = 255;

@@ -1,29 +1,27 @@
 -- A number of each line's tokens, added up over the lines: what is counted so far, with what is to come, is the tape's. Then what is counted of a
 -- token: of a cast, of a name, of a label. Assumes nothing.
-use Prim.Native.Nat.{ℕ, zero, suc, ◌+◌, ◌≤◌}
+use Prim.Native.Nat.{ℕ, ◌+◌, ◌≤◌}
 use native.Mathlib.Omega.{arith}
 use mathlib.Core.Path.{◌≡◌, refl, sym, ap, ◌∙◌}
 use mathlib.Core.Bool.{Bool, true, false}
 use mathlib.Core.List.{List, [], ◌∷◌}
 use mathlib.Core.Option.{Option, none, some}
-use lib.Dec.{eqb}
-use lib.ListN.{length, take, drop}
+use lib.ListN.{length, drop}
 use borrow.Author.Tests.{eq-eqb, ne_eqb}
-use Rattle.reference.specs.Control.{◌&&◌, if◌then◌else◌}
-use Rattle.reference.specs.Text.{Text, bytes, ◌==◌}
+use Rattle.reference.specs.Control.{◌and◌, when◌then◌else◌}
+use Rattle.reference.specs.Text.{Text, bytes, ◌≟◌}
 use Rattle.reference.specs.Lists.{is_empty}
-use Rattle.reference.specs.Listing.{Token, token, is, Symbol, Line, Listing}
+use Rattle.reference.specs.Listing.{Token, token, is, Symbol, Listing}
 use Rattle.reference.specs.Shapes.{label_tokens}
 use Rattle.reference.specs.Spans.{Span}
-use Rattle.reference.specs.Claim.{sum, one_if, opens, is_call_mark, calls_in, calls, label_lines}
+use Rattle.reference.specs.Claim.{sum, one_if, opens, is_call_mark, calls_in, label_lines}
 use Rattle.reference.specs.Tape as Tape
 use Rattle.reference.proofs.Cases.{by-if, zero_if}
 use Rattle.laws.proofs.Scans.{if-true, if-false, and_true, and_false}
-use Rattle.tape.specs.Commands.{command_in, size_of}
+use Rattle.tape.specs.Commands.{command_in}
 use Rattle.tape.specs.declared.commands.Command.{Command}
-use Rattle.tape.specs.declared.commands.Command.TheVariants as Code
 use Rattle.walk.specs.declared.Next.TheVariants.{More, Over}
-use Rattle.walk.specs.Held.{commands, tokens_of, lines_of, held}
+use Rattle.walk.specs.Held.{commands, tokens_of, held}
 use Rattle.walk.specs.Walk.{Follows}
 use Rattle.tallies.specs.declared.casts.Casts.{Casts}
 use Rattle.tallies.specs.declared.calls.Calls.{Calls}
@@ -68,11 +66,11 @@ module _ {S : Type 0} (with_tokens : S → List Token → ℕ) (of-line : List T
 -- ---- tests of a kind, as the code makes them
 
 module _ (k kind : ℕ) (s : Text) where
-  pub kind_no : (b : Bool) → (kind ≡ k → ⊥) → false ≡ (is k (token kind s) && b)
+  pub kind_no : (b : Bool) → (kind ≡ k → ⊥) → false ≡ (is k (token kind s) and b)
   unfolding is
   kind_no b n = sym (and_false b (ne_eqb kind k n))
 
-  pub kind_yes : {x b : Bool} → kind ≡ k → x ≡ b → x ≡ (is k (token kind s) && b)
+  pub kind_yes : {x b : Bool} → kind ≡ k → x ≡ b → x ≡ (is k (token kind s) and b)
   unfolding is
   kind_yes {b = b} e h = h ∙ sym (and_true b (eq-eqb kind k e))
 
@@ -121,21 +119,21 @@ casts_line s {r} c b = record { adds = λ ts. omega (arith, casts_open r ts b, c
 -- ---- calls of a name
 
 module _ (name : Text) (s : Calls) (ts : List Token) where
-  calls_open : s.begun ≡ true → calls_with name s ts ≡ s.count + (one_if (s.named && opens ts) + calls_in (some name) ts)
+  calls_open : s.begun ≡ true → calls_with name s ts ≡ s.count + (one_if (s.named and opens ts) + calls_in (some name) ts)
   unfolding calls_with
   calls_open e = ap (λ (n : ℕ). s.count + n) (if-true _ _ e)
 
   calls_shut : s.begun ≡ false → calls_with name s ts ≡ s.count
   unfolding calls_with
-  calls_shut e = let z = if-false (one_if (s.named && opens ts) + calls_in (some name) ts) 0 e in omega arith
+  calls_shut e = let z = if-false (one_if (s.named and opens ts) + calls_in (some name) ts) 0 e in omega arith
 
-and_assoc : (a b c : Bool) → ((a && b) && c) ≡ (a && (b && c))
-unfolding ◌&&◌
+and_assoc : (a b c : Bool) → ((a and b) and c) ≡ (a and (b and c))
+unfolding ◌and◌
 and_assoc true b c = refl
 and_assoc false b c = refl
 
-and_never : (a : Bool) → (a && false) ≡ false
-unfolding ◌&&◌
+and_never : (a : Bool) → (a and false) ≡ false
+unfolding ◌and◌
 and_never true = refl
 and_never false = refl
 
@@ -143,22 +141,22 @@ module _ (name : Text) (t : Token) (s : Calls) where
   pub calls-before : s.begun ≡ false → TakesToken (calls_with name) (calls_in (some name)) t s s
   calls-before e = record { adds = λ ts. calls_shut name s ts e ∙ sym (calls_shut name s (t ∷ ts) e) }
 
-  call_in : (ts : List Token) → calls_in (some name) (t ∷ ts) ≡ one_if (is_name name t && opens ts) + calls_in (some name) ts
+  call_in : (ts : List Token) → calls_in (some name) (t ∷ ts) ≡ one_if (is_name name t and opens ts) + calls_in (some name) ts
   unfolding calls_in is_call_mark
-  call_in ts = ap (λ (b : Bool). one_if b + calls_in (some name) ts) (sym (and_assoc (is Symbol t) (t.text == name) (opens ts)))
+  call_in ts = ap (λ (b : Bool). one_if b + calls_in (some name) ts) (sym (and_assoc (is Symbol t) (t.text ≟ name) (opens ts)))
 
   opens-first : (ts : List Token) → opens (t ∷ ts) ≡ opens (t ∷ [])
   unfolding opens
   opens-first ts = refl
 
-  pub calls_more : {r : Calls} → s.begun ≡ true → r.count ≡ s.count + one_if (s.named && opens (t ∷ [])) → r.begun ≡ true
+  pub calls_more : {r : Calls} → s.begun ≡ true → r.count ≡ s.count + one_if (s.named and opens (t ∷ [])) → r.begun ≡ true
       → r.named ≡ is_name name t → TakesToken (calls_with name) (calls_in (some name)) t s r
   calls_more {r} e c b n = record { adds = adds }
     where
       adds : (ts : List Token) → calls_with name r ts ≡ calls_with name s (t ∷ ts)
       adds ts =
-          let same : one_if (r.named && opens ts) ≡ one_if (is_name name t && opens ts) = ap (λ (x : Bool). one_if (x && opens ts)) n in
-          let first : one_if (s.named && opens (t ∷ ts)) ≡ one_if (s.named && opens (t ∷ [])) = ap (λ (x : Bool). one_if (s.named && x)) (opens-first ts) in
+          let same : one_if (r.named and opens ts) ≡ one_if (is_name name t and opens ts) = ap (λ (x : Bool). one_if (x and opens ts)) n in
+          let first : one_if (s.named and opens (t ∷ ts)) ≡ one_if (s.named and opens (t ∷ [])) = ap (λ (x : Bool). one_if (s.named and x)) (opens-first ts) in
           omega (arith, calls_open name r ts b, calls_open name s (t ∷ ts) e, call_in ts)
 
 pub calls-zero : (name : Text) (ts : List Token) → calls_with name (record { count = 0; begun = false; named = false }) ts ≡ 0
@@ -167,7 +165,7 @@ calls-zero name ts = calls_shut name _ ts refl
 pub calls_none : (name : Text) (s : Calls) → calls_with name s [] ≡ s.count
 unfolding calls_with calls_in opens
 calls_none name s =
-    let none : one_if (s.named && false) ≡ 0 = zero_if (and_never s.named) in
+    let none : one_if (s.named and false) ≡ 0 = zero_if (and_never s.named) in
     by-if (λ (m : ℕ). s.count + m ≡ s.count) (λ e. omega arith) (λ e. omega arith)
 
 pub calls_line : (name : Text) (s : Calls) {r : Calls} → r.count ≡ s.count → r.begun ≡ true → r.named ≡ false
@@ -176,18 +174,18 @@ calls_line name s {r} c b n = record { adds = adds }
   where
     adds : (ts : List Token) → calls_with name r ts ≡ calls_with name s [] + calls_in (some name) ts
     adds ts =
-        let no : one_if (r.named && opens ts) ≡ 0 = zero_if (and_false (opens ts) n) in
+        let no : one_if (r.named and opens ts) ≡ 0 = zero_if (and_false (opens ts) n) in
         omega (arith, calls_open name r ts b, calls_none name s)
 
 -- the count where the last token is not the name, where no bracket opens behind it, and where one does
 module _ (n : ℕ) (a b : Bool) where
-  pub not_named : a ≡ false → n ≡ n + one_if (a && b)
+  pub not_named : a ≡ false → n ≡ n + one_if (a and b)
   not_named e = omega (arith, zero_if (and_false b e))
 
-  pub not_opened : {x : Bool} → a ≡ true → x ≡ b → x ≡ false → n ≡ n + one_if (a && b)
+  pub not_opened : {x : Bool} → a ≡ true → x ≡ b → x ≡ false → n ≡ n + one_if (a and b)
   not_opened e h f = omega (arith, zero_if (and_true b e ∙ sym h ∙ f))
 
-  pub called : {x : Bool} → a ≡ true → x ≡ b → x ≡ true → n + 1 ≡ n + one_if (a && b)
+  pub called : {x : Bool} → a ≡ true → x ≡ b → x ≡ true → n + 1 ≡ n + one_if (a and b)
   called e h f = ap (λ (m : ℕ). n + m) (sym (if-true {A = ℕ} 1 0 (and_true b e ∙ sym h ∙ f)))
 
 -- ---- labels
@@ -203,7 +201,7 @@ labels_line s {r} c e =
     record { adds = λ ts. (let same : one_if (is_label_with r.shape ts) ≡ label_in ts = ap (λ (x : Shape). one_if (is_label_with x ts)) e in omega arith) }
 
 pub labels_zero : (ts : List Token) → labels_with (record { count = 0; shape = Other }) ts ≡ 0
-unfolding labels_with if◌then◌else◌
+unfolding labels_with when◌then◌else◌
 labels_zero ts = omega arith
 
 -- where the last line is no label, or one
@@ -216,26 +214,26 @@ unfolding labels_with
 last-label s e = ap (λ (n : ℕ). s.count + n) (sym (if-true {A = ℕ} 1 0 e))
 
 -- the first token is a Symbol, or not
-and_is : (a : Bool) {b : Bool} → b ≡ true → a ≡ (a && b)
-unfolding ◌&&◌
+and_is : (a : Bool) {b : Bool} → b ≡ true → a ≡ (a and b)
+unfolding ◌and◌
 and_is true e = sym e
 and_is false e = refl
 
-and_not : (a : Bool) {b : Bool} → b ≡ false → false ≡ (a && b)
-unfolding ◌&&◌
+and_not : (a : Bool) {b : Bool} → b ≡ false → false ≡ (a and b)
+unfolding ◌and◌
 and_not true e = sym e
 and_not false e = refl
 
 name-goes : (kind : ℕ) → kind ≡ Symbol → (s : Text) (ts : List Token) → is_label_with Name ts ≡ label_tokens (token kind s ∷ ts)
 unfolding label_tokens is
 name-goes kind e s [] = refl
-name-goes kind e s (u ∷ []) = and_is (u.text == bytes ":") (eq-eqb kind Symbol e)
+name-goes kind e s (u ∷ []) = and_is (u.text ≟ bytes ":") (eq-eqb kind Symbol e)
 name-goes kind e s (u ∷ v ∷ more) = refl
 
 other_goes : (kind : ℕ) → (kind ≡ Symbol → ⊥) → (s : Text) (ts : List Token) → false ≡ label_tokens (token kind s ∷ ts)
 unfolding label_tokens is
 other_goes kind n s [] = refl
-other_goes kind n s (u ∷ []) = and_not (u.text == bytes ":") (ne_eqb kind Symbol n)
+other_goes kind n s (u ∷ []) = and_not (u.text ≟ bytes ":") (ne_eqb kind Symbol n)
 other_goes kind n s (u ∷ v ∷ more) = refl
 
 pub first-name : (kind : ℕ) → kind ≡ Symbol → BeginsWith kind Name
@@ -244,14 +242,14 @@ first-name kind e = record { shaped = λ s. record { goes_on = name-goes kind e 
 pub first-other : (kind : ℕ) → (kind ≡ Symbol → ⊥) → BeginsWith kind Other
 first-other kind n = record { shaped = λ s. record { goes_on = other_goes kind n s } }
 
-pub second_colon : (s : Text) → (s == bytes ":") ≡ true → GoesOnWith s Label
+pub second_colon : (s : Text) → (s ≟ bytes ":") ≡ true → GoesOnWith s Label
 second_colon s e = record { shaped = λ kind. record { goes_on = goes kind } }
   where
     goes : (kind : ℕ) (ts : List Token) → is_empty ts ≡ is_label_with Name (token kind s ∷ ts)
     goes kind [] = sym e
     goes kind (u ∷ more) = refl
 
-pub second-other : (s : Text) → (s == bytes ":") ≡ false → GoesOnWith s Other
+pub second-other : (s : Text) → (s ≟ bytes ":") ≡ false → GoesOnWith s Other
 second-other s e = record { shaped = λ kind. record { goes_on = goes kind } }
   where
     goes : (kind : ℕ) (ts : List Token) → false ≡ is_label_with Name (token kind s ∷ ts)
@@ -260,11 +258,11 @@ second-other s e = record { shaped = λ kind. record { goes_on = goes kind } }
 
 -- a label's shape is that of the whole line
 pub label-sum : (lines : Listing) → sum (λ l. label_in l.tokens) lines ≡ length (label_lines lines)
-unfolding label_lines if◌then◌else◌
+unfolding label_lines when◌then◌else◌
 label-sum [] = refl
 label-sum (l ∷ ls) = go (label_tokens l.tokens) (label-sum ls)
   where
     go : (b : Bool) → sum (λ l. label_in l.tokens) ls ≡ length (label_lines ls)
-        → one_if b + sum (λ l. label_in l.tokens) ls ≡ length (if b then l ∷ label_lines ls else label_lines ls)
+        → one_if b + sum (λ l. label_in l.tokens) ls ≡ length (when b then l ∷ label_lines ls else label_lines ls)
     go true e = omega arith
     go false e = omega arith

@@ -1,6 +1,6 @@
 -- Of the tape of a listing, the listing that it holds is that one (`held-write`), whatever stands behind it: also where it is too long to be
 -- accepted. So it is of an accepted tape (`held-read`) and of a cleaned one (`held-cleaned`). Assumes nothing.
-use Prim.Native.Nat.{ℕ, ◌+◌, ◌^◌, ◌≤◌, ◌<◌}
+use Prim.Native.Nat.{ℕ, ◌^◌, ◌≤◌, ◌<◌}
 use native.Mathlib.Omega.{arith}
 use mathlib.Core.Path.{◌≡◌, refl, sym, ap, ◌∙◌}
 use mathlib.Core.Bool.{true, false}

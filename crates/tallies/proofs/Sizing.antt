@@ -1,7 +1,7 @@
 -- Lines, tokens and bytes of text: those so far with those of the commands to come are the tape's. Assumes nothing.
-use Prim.Native.Nat.{ℕ, zero, suc, ◌+◌, ◌≤◌}
+use Prim.Native.Nat.{ℕ, ◌+◌, ◌≤◌}
 use native.Mathlib.Omega.{arith}
-use mathlib.Core.Path.{◌≡◌, refl, sym, ap, ◌∙◌}
+use mathlib.Core.Path.{◌≡◌, refl, ap}
 use mathlib.Core.Bool.{Bool, true, false}
 use mathlib.Core.List.{List, [], ◌∷◌}
 use mathlib.Core.Option.{Option, none, some}
@@ -9,7 +9,7 @@ use lib.Dec.{eqb}
 use lib.ListN.{length, take, drop, length-drop}
 use lib.Seq.{length-take-le}
 use borrow.Author.Tests.{ne_eqb}
-use Rattle.reference.specs.Control.{if◌then◌else◌}
+use Rattle.reference.specs.Control.{when◌then◌else◌}
 use Rattle.reference.specs.Text.{Text}
 use Rattle.reference.specs.Listing.{Token, token, Listing}
 use Rattle.reference.specs.Claim.{token_count, text_in, text as text_of}
@@ -29,14 +29,14 @@ use Rattle.tallies.specs.Counting.{sized}
 pub text_long : (tape : List ℕ) (at count : ℕ) → at + (3 + count) ≤ length tape → length (take count (drop (at + 3) tape)) ≡ count
 text_long tape at count h = length-take-le count (drop (at + 3) tape) (rw length-drop (omega arith))
 
-pub if-same {ℓ} : {A : Type ℓ} (b : Bool) (x : A) → (if b then x else x) ≡ x
-unfolding if◌then◌else◌
+pub if-same {ℓ} : {A : Type ℓ} (b : Bool) (x : A) → (when b then x else x) ≡ x
+unfolding when◌then◌else◌
 if-same true x = refl
 if-same false x = refl
 
 -- the first tokens to come are the last line's, if one has begun
 abbrev first_of : ℕ → List Tape.Command → List Token
-first_of n more = if eqb n 0 then [] else tokens_of more
+first_of n more = when eqb n 0 then [] else tokens_of more
 
 opened : (n : ℕ) (more : List Tape.Command) → first_of (n + 1) more ≡ tokens_of more
 opened n more = if-false _ _ (ne_eqb (n + 1) 0 (λ e. omega arith))
@@ -104,7 +104,7 @@ pub record Sizing (tape : List ℕ) (at : ℕ) (s : Sizes) : Type 0 where
   pub inside : at ≤ length tape
 
 pub sizing_begins : (tape : List ℕ) → Sizing tape 0 (record { lines = 0; tokens = 0; text = 0 })
-unfolding if◌then◌else◌
+unfolding when◌then◌else◌
 sizing_begins tape =
     record {
       comes = record { lines = omega arith; tokens = omega arith; text = omega arith };

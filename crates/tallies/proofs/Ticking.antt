@@ -5,9 +5,9 @@ use native.Mathlib.Nat.{le_refl, le_trans}
 use mathlib.Core.Path.{◌≡◌, refl, sym, ap, ◌∙◌}
 use mathlib.Core.Bool.{Bool, true, false}
 use mathlib.Core.List.{List, [], ◌∷◌, ◌++◌, flatten, append-nil}
-use lib.ListN.{length, drop}
-use Rattle.reference.specs.Control.{if◌then◌else◌}
-use Rattle.reference.specs.Listing.{Listing, with_tokens}
+use lib.ListN.{length}
+use Rattle.reference.specs.Control.{when◌then◌else◌}
+use Rattle.reference.specs.Listing.{Listing}
 use Rattle.reference.specs.Rules.{Rules}
 use Rattle.reference.specs.Life.{Labels}
 use Rattle.reference.specs.Claim.{Callee, calls, token_count}
@@ -20,7 +20,7 @@ use Rattle.reference.specs.Demand.{Cuts, done, kept, dropped, Within, Each, Step
 use Rattle.reference.proofs.Lines.{length-modify}
 use Rattle.reference.proofs.LittleEndian.{Bytes}
 use Rattle.reference.proofs.Marks.{finished_is}
-use Rattle.reference.proofs.Guarantee.{demand3-tape, Answered, answered}
+use Rattle.reference.proofs.Guarantee.{demand3-tape, answered}
 use Rattle.walk.specs.Held.{held}
 use Rattle.tallies.specs.Ticks.{Ticks}
 use Rattle.tallies.proofs.Holding.{held-read, held-cleaned}
@@ -48,9 +48,9 @@ removals-cons : (a : Attempt) (xs : List Attempt) → removals (a ∷ xs) ≡ re
 unfolding removals
 removals-cons a xs = go a.removed
   where
-    go : (b : Bool) → (if b then suc (removals xs) else removals xs) ≡ (if b then suc 0 else 0) + removals xs
-    go true = (unfold if◌then◌else◌ in omega arith)
-    go false = (unfold if◌then◌else◌ in omega arith)
+    go : (b : Bool) → (when b then suc (removals xs) else removals xs) ≡ (when b then suc 0 else 0) + removals xs
+    go true = (unfold when◌then◌else◌ in omega arith)
+    go false = (unfold when◌then◌else◌ in omega arith)
 
 removals_append : (xs ys : List Attempt) → removals (xs ++ ys) ≡ removals xs + removals ys
 removals_append [] ys = (unfold removals in omega arith)

@@ -1,9 +1,9 @@
 -- What the code's values mean: what is counted so far, with what is still to come. Assumes nothing.
 use Rattle.std.specs.Prelude.{ℕ, ◌+◌, ◌≡◌, Bool, false, List, [], ◌∷◌, eqb}
 use Rattle.std.proofs.Math.Option.{none, some}
-use Rattle.reference.specs.Control.{◌&&◌, if◌then◌else◌}
+use Rattle.reference.specs.Control.{◌and◌, when◌then◌else◌}
 use Rattle.reference.specs.Tape as Tape
-use Rattle.reference.specs.Text.{Text, bytes, ◌==◌}
+use Rattle.reference.specs.Text.{Text, bytes, ◌≟◌}
 use Rattle.reference.specs.Lists.{is_empty}
 use Rattle.reference.specs.Listing.{Token, token, is, Symbol}
 use Rattle.reference.specs.Shapes.{label_tokens}
@@ -30,7 +30,7 @@ sized (Code.Addressed address indent) s = record { lines = s.lines + 1; tokens =
 sized (Code.Plain indent) s = record { lines = s.lines + 1; tokens = s.tokens; text = s.text }
 sized (Code.Marked low high) s = s
 sized (Code.Token kind count) s =
-    if eqb s.lines 0 then s else record { lines = s.lines; tokens = s.tokens + 1; text = s.text + count }
+    when eqb s.lines 0 then s else record { lines = s.lines; tokens = s.tokens + 1; text = s.text + count }
 sized Code.End s = s
 
 -- ---- a number of each line's tokens, added up over the lines
@@ -56,17 +56,17 @@ module _ {S : Type 0} (with_tokens : S → List Token → ℕ) (of-line : List T
 -- ---- calls through a cast pointer
 
 unfoldable pub casts_with : Casts → List Token → ℕ
-casts_with s ts = s.count + (if s.begun then calls_in none ts else 0)
+casts_with s ts = s.count + (when s.begun then calls_in none ts else 0)
 
 -- ---- calls of a name
 
 -- whether a token is a Symbol of that name
 abbrev pub is_name : Text → Token → Bool
-is_name name t = is Symbol t && (t.text == name)
+is_name name t = is Symbol t and (t.text ≟ name)
 
 -- `named`: the last token is such a one, and is counted once a bracket opens behind it
 unfoldable pub calls_with : Text → Calls → List Token → ℕ
-calls_with name s ts = s.count + (if s.begun then one_if (s.named && opens ts) + calls_in (some name) ts else 0)
+calls_with name s ts = s.count + (when s.begun then one_if (s.named and opens ts) + calls_in (some name) ts else 0)
 
 -- ---- labels
 
@@ -74,7 +74,7 @@ calls_with name s ts = s.count + (if s.begun then one_if (s.named && opens ts) +
 abbrev pub is_label_with : Shape → List Token → Bool
 is_label_with Empty ts = label_tokens ts
 is_label_with Name [] = false
-is_label_with Name (t ∷ []) = t.text == bytes ":"
+is_label_with Name (t ∷ []) = t.text ≟ bytes ":"
 is_label_with Name (t ∷ u ∷ more) = false
 is_label_with Label ts = is_empty ts
 is_label_with Other ts = false

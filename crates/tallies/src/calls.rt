@@ -1,8 +1,7 @@
 // Calls of a name: Symbols before a Punct that begins `(`.
 ghost use Rattle.std.specs.Prelude.{◌≡◌, [], ◌∷◌, ◌+◌, ◌^◌, ◌<◌, ◌≤◌, length};
 ghost use Rattle.std.proofs.Math.Option.{some};
-ghost use Rattle.reference.specs.Contract.{was};
-ghost use Rattle.reference.specs.Control.{◌&&◌};
+ghost use Rattle.reference.specs.Control.{◌and◌};
 ghost use Rattle.reference.specs.Listing.{token};
 ghost use Rattle.reference.specs.Claim.{one_if, opens, calls, calls_in};
 ghost use Rattle.tape.specs.Commands.{command_in, size_of};
@@ -16,7 +15,7 @@ use text::{begins_bracket, same};
 use walk::{Next, next_at};
 
 // So many so far, whether a line has begun, and whether its last token is the name.
-#[derive(Drop)]
+#[derive(Clone, Copy)]
 struct Calls {
     count: usize,
     begun: bool,
@@ -24,7 +23,7 @@ struct Calls {
 }
 
 fn is_name(kind: u64, text: &[u8], name: &[u8]) -> bool
-    ensures { result ≡ is_name (was name) (token kind (was text)) }
+    ensures { result ≡ is_name name.now (token kind text.now) }
 {
     if kind != SYMBOL {
         return false;
@@ -33,7 +32,7 @@ fn is_name(kind: u64, text: &[u8], name: &[u8]) -> bool
 }
 
 fn opens(kind: u64, text: &[u8]) -> bool
-    ensures { result ≡ opens (token kind (was text) ∷ []) }
+    ensures { result ≡ opens (token kind text.now ∷ []) }
 {
     if kind != PUNCT {
         return false;
@@ -44,7 +43,7 @@ fn opens(kind: u64, text: &[u8]) -> bool
 // The count, and one more where the last token is the name and a bracket opens behind it.
 fn with_call(count: usize, named: bool, kind: u64, text: &[u8]) -> usize
     requires { count + 1 < 2 ^ 64 }
-    ensures { result ≡ count + one_if (named && opens (token kind (was text) ∷ [])) }
+    ensures { result ≡ count + one_if (named and opens (token kind text.now ∷ [])) }
 {
     if !named {
         return count;
@@ -57,7 +56,7 @@ fn with_call(count: usize, named: bool, kind: u64, text: &[u8]) -> usize
 
 fn with_token(s: Calls, kind: u64, text: &[u8], name: &[u8]) -> Calls
     requires { s.count + 1 < 2 ^ 64 }
-    ensures { TakesToken (calls_with (was name)) (calls_in (some (was name))) (token kind (was text)) s result
+    ensures { TakesToken (calls_with name.now) (calls_in (some name.now)) (token kind text.now) s result
         × (result.count ≤ s.count + 1) }
 {
     if !s.begun {
@@ -73,7 +72,7 @@ fn with_token(s: Calls, kind: u64, text: &[u8], name: &[u8]) -> Calls
 }
 
 fn with_line(s: Calls, name: &[u8]) -> Calls
-    ensures { TakesLine (calls_with (was name)) (calls_in (some (was name))) s result × (result.count ≤ s.count) }
+    ensures { TakesLine (calls_with name.now) (calls_in (some name.now)) s result × (result.count ≤ s.count) }
 {
     Calls {
         count: s.count,
@@ -84,7 +83,7 @@ fn with_line(s: Calls, name: &[u8]) -> Calls
 
 fn with_command(tape: &[u8], at: usize, command: Command, name: &[u8], s: Calls) -> Calls
     requires { (at + size_of command ≤ length tape.now) × (s.count + 1 < 2 ^ 64) }
-    ensures { Takes (calls_with (was name)) (calls_in (some (was name))) (command_in (was tape) at command) s result
+    ensures { Takes (calls_with name.now) (calls_in (some name.now)) (command_in tape.now at command) s result
         × (result.count ≤ s.count + 1) }
 {
     match command {
@@ -101,7 +100,7 @@ fn with_command(tape: &[u8], at: usize, command: Command, name: &[u8], s: Calls)
 
 // How many calls of a name the listing of a tape has, as demand 3 counts them.
 pub fn count_calls(tape: &[u8], name: &[u8]) -> usize
-    ensures { result ≡ calls (some (was name)) (held (was tape)) }
+    ensures { result ≡ calls (some name.now) (held tape.now) }
 {
     let mut s = Calls {
         count: 0,

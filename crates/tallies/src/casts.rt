@@ -1,7 +1,6 @@
 // Calls through a cast pointer: Keywords that begin `((void`.
 ghost use Rattle.std.specs.Prelude.{◌≡◌, false, ◌+◌, ◌^◌, ◌<◌, ◌≤◌, length};
 ghost use Rattle.std.proofs.Math.Option.{none};
-ghost use Rattle.reference.specs.Contract.{was};
 ghost use Rattle.reference.specs.Listing.{token};
 ghost use Rattle.reference.specs.Claim.{is_call_mark, calls, calls_in};
 ghost use Rattle.tape.specs.Commands.{command_in, size_of};
@@ -15,14 +14,14 @@ use text::begins_void;
 use walk::{Next, next_at};
 
 // So many so far, and whether a line has begun.
-#[derive(Drop)]
+#[derive(Clone, Copy)]
 struct Casts {
     count: usize,
     begun: bool,
 }
 
 fn is_cast(kind: u64, text: &[u8]) -> bool
-    ensures { result ≡ is_call_mark none (token kind (was text)) false }
+    ensures { result ≡ is_call_mark none (token kind text.now) false }
 {
     if kind != KEYWORD {
         return false;
@@ -32,7 +31,7 @@ fn is_cast(kind: u64, text: &[u8]) -> bool
 
 fn with_token(s: Casts, kind: u64, text: &[u8]) -> Casts
     requires { s.count + 1 < 2 ^ 64 }
-    ensures { TakesToken casts_with (calls_in none) (token kind (was text)) s result × (result.count ≤ s.count + 1) }
+    ensures { TakesToken casts_with (calls_in none) (token kind text.now) s result × (result.count ≤ s.count + 1) }
 {
     if !s.begun {
         return s;
@@ -57,7 +56,7 @@ fn with_line(s: Casts) -> Casts
 
 fn with_command(tape: &[u8], at: usize, command: Command, s: Casts) -> Casts
     requires { (at + size_of command ≤ length tape.now) × (s.count + 1 < 2 ^ 64) }
-    ensures { Takes casts_with (calls_in none) (command_in (was tape) at command) s result × (result.count ≤ s.count + 1) }
+    ensures { Takes casts_with (calls_in none) (command_in tape.now at command) s result × (result.count ≤ s.count + 1) }
 {
     match command {
         Command::Addressed {
@@ -73,7 +72,7 @@ fn with_command(tape: &[u8], at: usize, command: Command, s: Casts) -> Casts
 
 // How many calls through a cast pointer the listing of a tape has, as demand 3 counts them.
 pub fn count_casts(tape: &[u8]) -> usize
-    ensures { result ≡ calls none (held (was tape)) }
+    ensures { result ≡ calls none (held tape.now) }
 {
     let mut s = Casts {
         count: 0,

@@ -1,6 +1,5 @@
 // Label lines: a Symbol and a `:`, and no more.
 ghost use Rattle.std.specs.Prelude.{◌≡◌, [], ◌+◌, ◌^◌, ◌<◌, ◌≤◌, length};
-ghost use Rattle.reference.specs.Contract.{was};
 ghost use Rattle.reference.specs.Listing.{token};
 ghost use Rattle.reference.specs.Claim.{label_lines};
 ghost use Rattle.tape.specs.Commands.{command_in, size_of};
@@ -14,7 +13,7 @@ use text::is_colon;
 use walk::{Next, next_at};
 
 // What the last line is so far: nothing, a Symbol, a label, or what no label begins with (so too where no line has begun).
-#[derive(Drop)]
+#[derive(Clone, Copy)]
 enum Shape {
     Empty,
     Name,
@@ -23,7 +22,7 @@ enum Shape {
 }
 
 // So many before the last line, and what that is so far.
-#[derive(Drop)]
+#[derive(Clone, Copy)]
 struct Labels {
     count: usize,
     shape: Shape,
@@ -39,7 +38,7 @@ fn shape_of_first(kind: u64) -> Shape
 }
 
 fn shape_of_second(text: &[u8]) -> Shape
-    ensures { GoesOnWith (was text) result }
+    ensures { GoesOnWith text.now result }
 {
     if is_colon(text) {
         return Shape::Label;
@@ -48,7 +47,7 @@ fn shape_of_second(text: &[u8]) -> Shape
 }
 
 fn next_shape(shape: Shape, kind: u64, text: &[u8]) -> Shape
-    ensures { Shaped shape (token kind (was text)) result }
+    ensures { Shaped shape (token kind text.now) result }
 {
     match shape {
         Shape::Empty => shape_of_first(kind),
@@ -73,7 +72,7 @@ fn with_last(s: Labels) -> usize
 }
 
 fn with_token(s: Labels, kind: u64, text: &[u8]) -> Labels
-    ensures { TakesToken labels_with label_in (token kind (was text)) s result × (result.count ≤ s.count) }
+    ensures { TakesToken labels_with label_in (token kind text.now) s result × (result.count ≤ s.count) }
 {
     let was = s.shape;
     let shape = next_shape(was, kind, text);
@@ -96,7 +95,7 @@ fn with_line(s: Labels) -> Labels
 
 fn with_command(tape: &[u8], at: usize, command: Command, s: Labels) -> Labels
     requires { (at + size_of command ≤ length tape.now) × (s.count + 1 < 2 ^ 64) }
-    ensures { Takes labels_with label_in (command_in (was tape) at command) s result × (result.count ≤ s.count + 1) }
+    ensures { Takes labels_with label_in (command_in tape.now at command) s result × (result.count ≤ s.count + 1) }
 {
     match command {
         Command::Addressed {
@@ -112,7 +111,7 @@ fn with_command(tape: &[u8], at: usize, command: Command, s: Labels) -> Labels
 
 // How many label lines the listing of a tape has.
 pub fn count_labels(tape: &[u8]) -> usize
-    ensures { result ≡ length (label_lines (held (was tape))) }
+    ensures { result ≡ length (label_lines (held tape.now)) }
 {
     let mut s = Labels {
         count: 0,

@@ -1,7 +1,6 @@
 // Lines, tokens and bytes of text.
 ghost use Rattle.std.specs.Prelude.{◌≡◌, ◌+◌, ◌^◌, ◌<◌, eqb};
-ghost use Rattle.reference.specs.Contract.{was};
-ghost use Rattle.reference.specs.Control.{if◌then◌else◌};
+ghost use Rattle.reference.specs.Control.{when◌then◌else◌};
 ghost use Rattle.tape.specs.Commands.{size_of};
 ghost use Rattle.tape.specs.Questions.{sizes_in};
 ghost use Rattle.walk.specs.Held.{held};
@@ -10,7 +9,7 @@ ghost use Rattle.tallies.specs.Counting.{sizes_of, sized};
 use tape::commands::Command;
 use walk::{Next, next_at};
 
-#[derive(Drop)]
+#[derive(Clone, Copy)]
 pub struct Sizes {
     pub lines: usize,
     pub tokens: usize,
@@ -31,7 +30,7 @@ fn with_line(s: Sizes) -> Sizes
 // A token before any line is in none.
 fn with_token(s: Sizes, count: usize) -> Sizes
     requires { (s.tokens + 1 < 2 ^ 64) × (s.text + count < 2 ^ 64) }
-    ensures { sizes_of result ≡ (if eqb s.lines 0 then sizes_of s else record {
+    ensures { sizes_of result ≡ (when eqb s.lines 0 then sizes_of s else record {
       lines = s.lines;
       tokens = s.tokens + 1;
       text = s.text + count;
@@ -65,7 +64,7 @@ fn with_command(command: Command, s: Sizes) -> Sizes
 
 // How many lines, tokens and bytes of text a tape holds.
 pub fn count_sizes(tape: &[u8]) -> Sizes
-    ensures { sizes_of result ≡ sizes_in (held (was tape)) }
+    ensures { sizes_of result ≡ sizes_in (held tape.now) }
 {
     let mut s = Sizes {
         lines: 0,

@@ -1,6 +1,6 @@
 -- What the code's answers to the questions mean, and what an accepted tape is. Assumes nothing.
 use Rattle.std.specs.Prelude.{ℕ, ◌+◌, ◌≤◌, ◌<◌, ◌≡◌, Bool, true, false, List, [], ◌∷◌, length}
-use Rattle.reference.specs.Control.{if◌then◌else◌}
+use Rattle.reference.specs.Control.{when◌then◌else◌}
 use Rattle.reference.specs.Listing.{Listing}
 use Rattle.reference.specs.Tape as Tape
 use Rattle.reference.specs.Claim.{token_count, text}
@@ -18,7 +18,7 @@ use Rattle.tape.specs.declared.questions.Checked.TheVariants as C
 -- the number of the first question that is answered "no", or 0
 unfoldable pub first_no : List (ℕ × Bool) → ℕ
 first_no [] = 0
-first_no (q ∷ more) = let r = first_no more in if q.1 then r else q.0
+first_no (q ∷ more) = let r = first_no more in when q.1 then r else q.0
 
 abbrev pub totals_of : Totals → Q.Totals
 totals_of t = record { lines = t.lines; tokens = t.tokens; text = t.text; fresh = t.fresh }

@@ -1,6 +1,5 @@
 // What stands at an offset of a tape.
 ghost use Rattle.std.specs.Prelude.{◌≡◌, ◌+◌, ◌^◌, ◌≤◌, ◌<◌, length, take, drop, get_or};
-ghost use Rattle.reference.specs.Contract.{was};
 ghost use Rattle.reference.specs.Tape.{line_byte, marks_byte, width, header};
 ghost use Rattle.tape.specs.Commands.{form_of, size_of_by, size_of, found_in_by, found_in, standing_by, standing};
 
@@ -8,7 +7,7 @@ use crate::little_endian::{number_at, wide};
 
 // A command: a line, with an address or without; the marks of the line begun just before; a token of a kind, whose text has `count` bytes
 // and stands three bytes after the offset; the end.
-#[derive(Drop)]
+#[derive(Clone, Copy)]
 pub enum Command {
     Addressed { address: u64, indent: u64 },
     Plain { indent: u64 },
@@ -18,7 +17,7 @@ pub enum Command {
 }
 
 // What stands at an offset: a command whose operand and text are in the tape, no command, or one that is cut off.
-#[derive(Drop)]
+#[derive(Clone, Copy)]
 pub enum Found {
     Whole(Command),
     Unknown,
@@ -28,7 +27,7 @@ pub enum Found {
 // `count` bytes of the tape from `from` on.
 pub fn text_of(tape: &[u8], from: usize, count: usize) -> &[u8]
     requires { from + count ≤ length tape.now }
-    ensures { result.now ≡ take count (drop from (was tape)) }
+    ensures { result.now ≡ take count (drop from tape.now) }
 {
     let to = from + count;
     &tape[from..to]
@@ -37,7 +36,7 @@ pub fn text_of(tape: &[u8], from: usize, count: usize) -> &[u8]
 // The text of the token at an offset: a part of the tape itself.
 pub fn text_at(tape: &[u8], at: usize, count: usize) -> &[u8]
     requires { at + 3 + count ≤ length tape.now }
-    ensures { result.now ≡ take count (drop (at + 3) (was tape)) }
+    ensures { result.now ≡ take count (drop (at + 3) tape.now) }
 {
     text_of(tape, at + 3, count)
 }
@@ -64,7 +63,7 @@ pub fn size_of(command: Command) -> usize
 // The line with an address that begins at `at`.
 fn addressed_from(tape: &[u8], at: usize) -> Found
     requires { (at < length tape.now) × (get_or tape.now at 0 ≡ 0x01) }
-    ensures { found_in (was tape) at result ≡ standing (was tape) at }
+    ensures { found_in tape.now at result ≡ standing tape.now at }
 {
     if tape.len() - at < 10 {
         return Found::CutOff;
@@ -77,7 +76,7 @@ fn addressed_from(tape: &[u8], at: usize) -> Found
 // The line without an address that begins at `at`.
 fn plain_from(tape: &[u8], at: usize) -> Found
     requires { (at < length tape.now) × (get_or tape.now at 0 ≡ 0x02) }
-    ensures { found_in (was tape) at result ≡ standing (was tape) at }
+    ensures { found_in tape.now at result ≡ standing tape.now at }
 {
     if tape.len() - at < 2 {
         return Found::CutOff;
@@ -89,7 +88,7 @@ fn plain_from(tape: &[u8], at: usize) -> Found
 // The marks that begin at `at`.
 fn marked_from(tape: &[u8], at: usize) -> Found
     requires { (at < length tape.now) × (get_or tape.now at 0 ≡ 0x03) }
-    ensures { found_in (was tape) at result ≡ standing (was tape) at }
+    ensures { found_in tape.now at result ≡ standing tape.now at }
 {
     if tape.len() - at < 17 {
         return Found::CutOff; // 4, not 5
@@ -102,7 +101,7 @@ fn marked_from(tape: &[u8], at: usize) -> Found
 // The token that begins at `at`.
 fn token_from(tape: &[u8], at: usize) -> Found
     requires { (at < length tape.now) × (0x10 ≤ get_or tape.now at 0) × (get_or tape.now at 0 ≤ 0x17) }
-    ensures { found_in (was tape) at result ≡ standing (was tape) at }
+    ensures { found_in tape.now at result ≡ standing tape.now at }
 {
     let left = tape.len() - at;
     if left < 3 {
@@ -118,7 +117,7 @@ fn token_from(tape: &[u8], at: usize) -> Found
 
 // What stands at an offset of the tape.
 pub fn found_at(tape: &[u8], at: usize) -> Found
-    ensures { found_in (was tape) at result ≡ standing (was tape) at }
+    ensures { found_in tape.now at result ≡ standing tape.now at }
 {
     if tape.len() <= at {
         return Found::Unknown;
@@ -196,7 +195,7 @@ pub fn marks_byte(based: bool) -> u8
 // The line with an address that begins at `at`.
 fn addressed_by(tape: &[u8], at: usize, based: bool) -> Found
     requires { (at < length tape.now) × (get_or tape.now at 0 ≡ line_byte (form_of based)) }
-    ensures { found_in_by (form_of based) (was tape) at result ≡ standing_by (form_of based) (was tape) at }
+    ensures { found_in_by (form_of based) tape.now at result ≡ standing_by (form_of based) tape.now at }
 {
     let w = width_of(based);
     if tape.len() - at < 2 + w {
@@ -210,7 +209,7 @@ fn addressed_by(tape: &[u8], at: usize, based: bool) -> Found
 // The line without an address that begins at `at`.
 fn plain_by(tape: &[u8], at: usize, based: bool) -> Found
     requires { (at < length tape.now) × (get_or tape.now at 0 ≡ 0x02) }
-    ensures { found_in_by (form_of based) (was tape) at result ≡ standing_by (form_of based) (was tape) at }
+    ensures { found_in_by (form_of based) tape.now at result ≡ standing_by (form_of based) tape.now at }
 {
     if tape.len() - at < 2 {
         return Found::CutOff;
@@ -222,7 +221,7 @@ fn plain_by(tape: &[u8], at: usize, based: bool) -> Found
 // The marks that begin at `at`.
 fn marked_by(tape: &[u8], at: usize, based: bool) -> Found
     requires { (at < length tape.now) × (get_or tape.now at 0 ≡ marks_byte (form_of based)) }
-    ensures { found_in_by (form_of based) (was tape) at result ≡ standing_by (form_of based) (was tape) at }
+    ensures { found_in_by (form_of based) tape.now at result ≡ standing_by (form_of based) tape.now at }
 {
     let w = width_of(based);
     if tape.len() - at < 1 + w + w {
@@ -236,7 +235,7 @@ fn marked_by(tape: &[u8], at: usize, based: bool) -> Found
 // The token that begins at `at`.
 fn token_by(tape: &[u8], at: usize, based: bool) -> Found
     requires { (at < length tape.now) × (0x10 ≤ get_or tape.now at 0) × (get_or tape.now at 0 ≤ 0x17) }
-    ensures { found_in_by (form_of based) (was tape) at result ≡ standing_by (form_of based) (was tape) at }
+    ensures { found_in_by (form_of based) tape.now at result ≡ standing_by (form_of based) tape.now at }
 {
     let left = tape.len() - at;
     if left < 3 {
@@ -252,7 +251,7 @@ fn token_by(tape: &[u8], at: usize, based: bool) -> Found
 
 // What stands at an offset of a tape of either form.
 pub fn found_by(tape: &[u8], at: usize, based: bool) -> Found
-    ensures { found_in_by (form_of based) (was tape) at result ≡ standing_by (form_of based) (was tape) at }
+    ensures { found_in_by (form_of based) tape.now at result ≡ standing_by (form_of based) tape.now at }
 {
     if tape.len() <= at {
         return Found::Unknown;

@@ -1,4 +1,6 @@
 // The tape of document 01: what stands at an offset, and which tapes are accepted.
+#![tactic(auto)]
+
 pub mod commands; // one command, at an offset of the tape
 pub mod little_endian; // numbers in bytes, the lowest first
 pub mod questions; // which tapes are accepted

@@ -1,6 +1,5 @@
 // Numbers of any width in bytes, the lowest first.
 ghost use Rattle.std.specs.Prelude.{◌≡◌, ◌+◌, ◌≤◌, length, take, drop};
-ghost use Rattle.reference.specs.Contract.{was};
 ghost use Rattle.reference.specs.Tape.{to_le_bytes, from_le_bytes};
 ghost use Rattle.tape.specs.Bytes.{put};
 
@@ -14,7 +13,7 @@ pub fn wide(b: u8) -> u64
 // The number in the n bytes from `at` on.
 pub fn number_at(tape: &[u8], at: usize, n: usize) -> u64
     requires { (n ≤ 8) × (at + n ≤ length tape.now) }
-    ensures { result ≡ from_le_bytes (take n (drop at (was tape))) }
+    ensures { result ≡ from_le_bytes (take n (drop at tape.now)) }
 {
     let mut v: u64 = 0;
     let mut i = n;
@@ -28,7 +27,7 @@ pub fn number_at(tape: &[u8], at: usize, n: usize) -> u64
 // Writes the lowest n bytes of a number from `at` on.
 pub fn put_number(v: u64, n: usize, out: &mut [u8], at: usize)
     requires { at + n ≤ length out.old }
-    ensures { out.new ≡ put (was out) at (to_le_bytes n v) }
+    ensures { out.new ≡ put out.old at (to_le_bytes n v) }
 {
     let mut rest = v;
     let mut i = 0;

@@ -1,6 +1,5 @@
 // Document 01's questions, asked of each command from the left. Nothing is written.
 ghost use Rattle.std.specs.Prelude.{◌≡◌, [], ◌∷◌, ◌+◌, ◌≤◌, leb, length, drop};
-ghost use Rattle.reference.specs.Contract.{was};
 ghost use Rattle.reference.specs.Control.{let_some◌else◌then◌};
 ghost use Rattle.reference.specs.Lists.{position};
 ghost use Rattle.reference.specs.Listing.{token};
@@ -19,7 +18,7 @@ use lines::rules::Rules;
 use lines::words::NUMBER;
 
 // What was read so far, and whether the command just before is a line's.
-#[derive(Drop)]
+#[derive(Clone, Copy)]
 pub struct Totals {
     pub lines: usize,
     pub tokens: usize,
@@ -28,7 +27,7 @@ pub struct Totals {
 }
 
 // A command that passed the questions, the offset after it and the totals with it; or the number and place of the question that refuses it.
-#[derive(Drop)]
+#[derive(Clone, Copy)]
 pub enum Stepped {
     Passed {
         command: Command,
@@ -42,7 +41,7 @@ pub enum Stepped {
 }
 
 // The totals of an accepted tape, or the number and place of the question that refuses it.
-#[derive(Drop)]
+#[derive(Clone, Copy)]
 pub enum Checked {
     Passed(Totals),
     Refused { number: u64, place: usize },
@@ -73,7 +72,7 @@ fn marks_follow(low: u64, high: u64, totals: Totals) -> bool
 }
 
 fn token_fits(kind: u64, text: &[u8]) -> bool
-    ensures { result ≡ is_within (new_token (token kind (was text))) }
+    ensures { result ≡ is_within (new_token (token kind text.now)) }
 {
     let n = text.len();
     if n == 0 {
@@ -96,7 +95,7 @@ fn offends(byte: u8) -> bool
 }
 
 fn printable(kind: u64, text: &[u8]) -> bool
-    ensures { result ≡ is_printable (new_token (token kind (was text))) }
+    ensures { result ≡ is_printable (new_token (token kind text.now)) }
 {
     let mut i = 0;
     while i < text.len() {
@@ -111,7 +110,7 @@ fn printable(kind: u64, text: &[u8]) -> bool
 
 // Where the first byte of a text that is not 20 to 7E stands, or 0.
 fn first_offending(text: &[u8]) -> usize
-    ensures { (result ≡ (let_some (position is_offending (was text)) else 0 then λ i. i)) × (result ≤ length (was text)) }
+    ensures { (result ≡ (let_some (position is_offending text.now) else 0 then λ i. i)) × (result ≤ length text.now) }
 {
     let mut i = 0;
     while i < text.len() {
@@ -136,7 +135,7 @@ fn text_fits(sum: usize, count: usize) -> bool
 
 // The number of the question after 4 that refuses a token, or 0: each test is made, then asked in order.
 fn token_refusal(kind: u64, text: &[u8], totals: Totals) -> u64
-    ensures { result ≡ first_no (questions [] (totals_of totals) (new_token (token kind (was text)))) }
+    ensures { result ≡ first_no (questions [] (totals_of totals) (new_token (token kind text.now))) }
 {
     let within = token_fits(kind, text);
     let few = totals.tokens < 1024;
@@ -163,7 +162,7 @@ fn token_refusal(kind: u64, text: &[u8], totals: Totals) -> u64
 // The number of the question after 4 that refuses a command, or 0.
 fn refusal(tape: &[u8], at: usize, command: Command, totals: Totals) -> u64
     requires { at + looked_at command ≤ length tape.now }
-    ensures { result ≡ first_no (questions (drop at (was tape)) (totals_of totals) (command_in (was tape) at command)) }
+    ensures { result ≡ first_no (questions (drop at tape.now) (totals_of totals) (command_in tape.now at command)) }
 {
     match command {
         Command::Addressed { address: _, indent } => line_refusal(indent, totals),
@@ -183,7 +182,7 @@ fn refusal(tape: &[u8], at: usize, command: Command, totals: Totals) -> u64
 // The place of a number that refuses a command: the command's; of 7 the offset of the first offending byte.
 fn place_of(tape: &[u8], at: usize, command: Command, number: u64) -> usize
     requires { at + looked_at command ≤ length tape.now }
-    ensures { result ≡ place_at at (command_in (was tape) at command) number }
+    ensures { result ≡ place_at at (command_in tape.now at command) number }
 {
     if number != 7 {
         return at;
@@ -248,8 +247,8 @@ pub fn count_in(command: Command, totals: Totals) -> Totals
 // Reads the command at an offset, the totals so far being given: any, also such as no tape reaches. The answer depends only on them and on
 // the tape from the offset on (`FromHere`, request M-102).
 pub fn step(tape: &[u8], at: usize, totals: Totals) -> Stepped
-    ensures result_value { stepped (was tape) at result ≡ read_command (was tape) at (totals_of totals) }
-    ensures from_here { FromHere (was tape) at (totals_of totals) (stepped (was tape) at result) }
+    ensures result_value { stepped tape.now at result ≡ read_command tape.now at (totals_of totals) }
+    ensures from_here { FromHere tape.now at (totals_of totals) (stepped tape.now at result) }
 {
     match command_from(tape, at) {
         Found::Unknown => Stepped::Refused {
@@ -278,8 +277,8 @@ pub fn step(tape: &[u8], at: usize, totals: Totals) -> Stepped
 // Reads the command at an offset of a tape of either form. (The cleaning's step has a body of its own: shared with the conversions it was
 // not inlined there.)
 pub fn step_by(tape: &[u8], at: usize, totals: Totals, based: bool) -> Stepped
-    ensures result_value { stepped (was tape) at result ≡ read_command_by (form_of based) (was tape) at (totals_of totals) }
-    ensures from_here_by { FromHereBy (form_of based) (was tape) at (totals_of totals) (stepped (was tape) at result) }
+    ensures result_value { stepped tape.now at result ≡ read_command_by (form_of based) tape.now at (totals_of totals) }
+    ensures from_here_by { FromHereBy (form_of based) tape.now at (totals_of totals) (stepped tape.now at result) }
 {
     match command_by(tape, at, based) {
         Found::Unknown => Stepped::Refused {
@@ -327,7 +326,7 @@ pub fn is_end(command: Command) -> bool
 
 // Asks the questions of every command.
 pub fn check(tape: &[u8]) -> Checked
-    ensures { checked result ≡ (let_passed (read (was tape)) then λ lines. Passed (sizes_in lines)) }
+    ensures { checked result ≡ (let_passed (read tape.now) then λ lines. Passed (sizes_in lines)) }
 {
     let mut at = 0;
     let mut totals = Totals {
@@ -358,7 +357,7 @@ pub fn check(tape: &[u8]) -> Checked
 
 // Asks the questions of a tape of either form, from its first command on.
 pub fn check_by(tape: &[u8], based: bool) -> Checked
-    ensures { checked result ≡ (let_passed (read_by (form_of based) (was tape)) then λ lines. Passed (sizes_in lines)) }
+    ensures { checked result ≡ (let_passed (read_by (form_of based) tape.now) then λ lines. Passed (sizes_in lines)) }
 {
     let mut at = header_of(based);
     let mut totals = Totals {

@@ -1,13 +1,12 @@
-// A tape reader holds the tape and its offset. The functions over it are few and thin, and proved by hand: each hands its parts to a
-// function on a plain slice and numbers. The questions, and the loading in crate tables, read a tape through `command_from`,
-// `known_command` and `token_text`, which make a reader.
+// A tape reader holds the tape and its offset. The functions over it are few and thin: each hands its parts to a function on a plain slice
+// and numbers. The questions, and the loading in crate tables, read a tape through `command_from`, `known_command` and `token_text`, which
+// make a reader.
 ghost use Rattle.std.specs.Prelude.{◌≡◌, ◌+◌, ◌≤◌, length, take, drop};
-ghost use Rattle.reference.specs.Contract.{was};
 ghost use Rattle.tape.specs.Commands.{form_of, found_in_by, found_in, standing_by, standing, Stood};
 
 use crate::commands::{Command, Found, found_at, found_by, text_at};
 
-#[derive(Drop)]
+#[derive(Clone, Copy)]
 pub struct TapeReader<'a> {
     pub tape: &'a [u8],
     pub at: usize,
@@ -52,14 +51,14 @@ pub fn token<'a>(reader: TapeReader<'a>, count: usize) -> &'a [u8]
 
 // What stands at an offset of the tape.
 pub fn command_from(tape: &[u8], at: usize) -> Found
-    ensures { found_in (was tape) at result ≡ standing (was tape) at }
+    ensures { found_in tape.now at result ≡ standing tape.now at }
 {
     next(moved(new(tape), at))
 }
 
 // What stands at an offset of a tape of either form: document 01's is read through a reader.
 pub fn command_by(tape: &[u8], at: usize, based: bool) -> Found
-    ensures { found_in_by (form_of based) (was tape) at result ≡ standing_by (form_of based) (was tape) at }
+    ensures { found_in_by (form_of based) tape.now at result ≡ standing_by (form_of based) tape.now at }
 {
     if based {
         return found_by(tape, at, true);
@@ -70,7 +69,7 @@ pub fn command_by(tape: &[u8], at: usize, based: bool) -> Found
 // The text of the token at an offset: a part of the tape itself.
 pub fn token_text(tape: &[u8], at: usize, count: usize) -> &[u8]
     requires { at + 3 + count ≤ length tape.now }
-    ensures { result.now ≡ take count (drop (at + 3) (was tape)) }
+    ensures { result.now ≡ take count (drop (at + 3) tape.now) }
 {
     token(moved(new(tape), at), count)
 }
@@ -78,7 +77,7 @@ pub fn token_text(tape: &[u8], at: usize, count: usize) -> &[u8]
 // The command at an offset where one is known to stand.
 pub fn known_command(tape: &[u8], at: usize) -> Command
     requires { Stood tape.now at }
-    ensures { found_in (was tape) at (Found.Whole result) ≡ standing (was tape) at }
+    ensures { found_in tape.now at (Found.Whole result) ≡ standing tape.now at }
 {
     match command_from(tape, at) {
         Found::Whole(command) => command,

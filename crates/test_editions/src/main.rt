@@ -5,15 +5,20 @@
 // The list: frames one after the other. A frame is seven numbers of four bytes, the lowest first, then the tape of a call, then the new
 // tape that is wanted. The numbers: the frame's own length; the way (0 down, 1 up); the lengths of the output and of the tape; and the
 // wanted refusal, place and length of the new tape.
+#![tactic(auto)]
+
 ghost use Rattle.std.specs.Prelude.{◌+◌, ◌≤◌, length};
-ghost use Rattle.reference.specs.Contract.{was};
 
 use answers::{Told, tell};
 use editions::{to_2018, to_2024};
-use libc::{STDIN_FILENO, STDOUT_FILENO};
 use tape::commands::text_of;
 use tape::little_endian::number_at;
 use text::same;
+
+// The numbers of standard input and output.
+const STDIN: i32 = 0;
+
+const STDOUT: i32 = 1;
 
 // The longest list that is read.
 const LONGEST: usize = 150000;
@@ -27,7 +32,7 @@ const BEFORE: u8 = 170;
 const HEADER: usize = 28;
 
 // The numbers of a frame but for its length.
-#[derive(Drop)]
+#[derive(Clone, Copy)]
 struct Frame {
     up: bool,
     output: usize,
@@ -37,7 +42,7 @@ struct Frame {
     value: u64,
 }
 
-#[derive(Drop)]
+#[derive(Clone, Copy)]
 struct Counts {
     calls: u64,
     differ: u64,
@@ -47,7 +52,7 @@ struct Counts {
 
 // How many bytes the frame at the list's front has; 0 where there is no whole one.
 fn size(list: &[u8]) -> usize
-    ensures { result ≤ length (was list) }
+    ensures { result ≤ length list.now }
 {
     if list.len() < HEADER {
         return 0;
@@ -179,20 +184,20 @@ fn replayed(list: &[u8], up: bool) -> Counts
 }
 
 fn print(s: &[u8]) {
-    io::write_all(STDOUT_FILENO, s);
+    io::write_all(STDOUT, s);
 }
 
 fn print_counts(way: &[u8], counts: Counts) {
     print(way);
-    io::print_decimal(STDOUT_FILENO, counts.calls);
+    io::print_decimal(STDOUT, counts.calls);
     print(b" calls, ");
-    io::print_decimal(STDOUT_FILENO, counts.differ);
+    io::print_decimal(STDOUT, counts.differ);
     print(b" differ\n");
 }
 
 fn main() {
     let mut input = [0u8; LONGEST];
-    let n = io::read_full(STDIN_FILENO, &mut input);
+    let n = io::read_full(STDIN, &mut input);
     print_counts(b"down: ", replayed(&input[..n], false));
     print_counts(b"up: ", replayed(&input[..n], true));
 }

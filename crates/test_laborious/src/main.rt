@@ -1,23 +1,27 @@
 // The most laborious listing of every number of lines, and what its first round takes: a line for each call of `laborious`, with the
 // answer, a sum over every byte of the output, and the attempts of the first round of its cleaning under each convention. The file
 // `stdout` has the test oracle's tapes and the attempts that the real Rust makes on them (tests/laborious).
+#![tactic(auto)]
+
 ghost use Rattle.std.specs.Prelude.{◌≤◌, ◌<◌, length};
 
 use answers::Answer;
 use clean::{Reply, tell};
 use laborious::laborious;
-use libc::STDOUT_FILENO;
 use lines::rules::Rules;
+
+// The number of standard output.
+const STDOUT: i32 = 1;
 
 const OUT: usize = 59200;
 
 fn print(s: &[u8]) {
-    io::write_all(STDOUT_FILENO, s);
+    io::write_all(STDOUT, s);
 }
 
 fn print_number(n: u64) {
     print(b" ");
-    io::print_decimal(STDOUT_FILENO, n);
+    io::print_decimal(STDOUT, n);
 }
 
 // One byte more in a sum, which depends on every byte and its place: modulo the largest prime below 2^32.
@@ -109,7 +113,7 @@ fn print_answer(answer: Answer, out: &[u8]) {
 fn call(n: u64, out: &mut [u8], k: usize)
     requires { k ≤ length out.old }
 {
-    io::print_decimal(STDOUT_FILENO, n);
+    io::print_decimal(STDOUT, n);
     print(b": ");
     let answer = laborious(n, &mut out[..k]);
     print_answer(answer, out);

@@ -9,8 +9,8 @@ use lib.Dec.{eqb}
 use lib.IntN.{ℤ, ◌+ℤ◌, ◌-ℤ◌}
 use lib.ListN.{length, take, length-append, length-take}
 use lib.Seq.{take-length, take-append_seam}
-use Rattle.reference.specs.Control.{not, ◌&&◌, ◌||◌, if◌then◌else◌, let_some◌else◌then◌}
-use Rattle.reference.specs.Text.{Text, bytes, ◌==◌, has}
+use Rattle.reference.specs.Control.{not, ◌and◌, ◌or◌, when◌then◌else◌, let_some◌else◌then◌}
+use Rattle.reference.specs.Text.{Text, bytes, ◌≟◌, has}
 use Rattle.reference.specs.Listing.{token, is, Number}
 use Rattle.reference.specs.Names.{family, volatile_of}
 use Rattle.reference.specs.Numbers.{parse_c_number, read_number, wrap, show, delim_before, delim_after, folded}
@@ -49,7 +49,7 @@ three-bytes : ℕ → Bool
 three-bytes row = eqb (length (row_name row)) 3
 
 pub row-length : (row : ℕ) → row < 8 → length (row_name row) ≡ 3
-unfolding three-bytes all-below ◌&&◌
+unfolding three-bytes all-below ◌and◌
 row-length row h = same_number (below_at 8 three-bytes row refl h)
 
 module _ (s : Text) {r : Spelled} (h : Spells s (family s) r) where
@@ -99,11 +99,11 @@ module _ (a b : Text) where
     -- the operands and the result as the machine reads them back
     module _ {x y x' y' r r' : ℤ} (e : parse_c_number a ≡ some x) (f : parse_c_number b ≡ some y) (ex : x' ≡ x) (ey : y' ≡ y) (er : r' ≡ r) where
       pub combined-minus : minus ≡ true → r ≡ wrap (x' -ℤ y') → some r' ≡ combined minus a b
-      unfolding combined let_some◌else◌then◌ if◌then◌else◌
+      unfolding combined let_some◌else◌then◌ when◌then◌else◌
       combined-minus g h = rw (e, f, g, er, h, ex, ey)
 
       pub combined-plus : minus ≡ false → r ≡ wrap (x' +ℤ y') → some r' ≡ combined minus a b
-      unfolding combined let_some◌else◌then◌ if◌then◌else◌
+      unfolding combined let_some◌else◌then◌ when◌then◌else◌
       combined-plus g h = rw (e, f, g, er, h, ex, ey)
 
   -- a fold prints the combined value
@@ -116,11 +116,11 @@ module _ (a b : Text) where
   folds f (some x) (some y) = refl
 
   pub sum_folds : value (combined false a b) ≡ fold_answer (bytes " + ") a b
-  unfolding combined fold_answer folded read_number delim_before delim_after is ◌&&◌ ◌||◌ if◌then◌else◌
+  unfolding combined fold_answer folded read_number delim_before delim_after is ◌and◌ ◌or◌ when◌then◌else◌
   sum_folds = folds (λ x y. x +ℤ y) (parse_c_number a) (parse_c_number b)
 
   pub difference_folds : value (combined true a b) ≡ fold_answer (bytes " - ") a b
-  unfolding combined fold_answer folded read_number delim_before delim_after is ◌&&◌ ◌||◌ if◌then◌else◌
+  unfolding combined fold_answer folded read_number delim_before delim_after is ◌and◌ ◌or◌ when◌then◌else◌
   difference_folds = folds (λ x y. x -ℤ y) (parse_c_number a) (parse_c_number b)
 
 module _ {n : N.Number} where
@@ -135,16 +135,16 @@ module _ {n : N.Number} where
 -- ---- conventions, and yes or no
 
 module _ (s : Text) where
-  pub convention_0 : (s == bytes "0") ≡ true → 0 ≡ convention s
+  pub convention_0 : (s ≟ bytes "0") ≡ true → 0 ≡ convention s
   unfolding convention
   convention_0 e = sym (if-true _ _ e)
 
-  module _ (n : (s == bytes "0") ≡ false) where
-    pub convention_1 : (s == bytes "1") ≡ true → 1 ≡ convention s
+  module _ (n : (s ≟ bytes "0") ≡ false) where
+    pub convention_1 : (s ≟ bytes "1") ≡ true → 1 ≡ convention s
     unfolding convention
     convention_1 e = sym (if-false _ _ n ∙ if-true _ _ e)
 
-    pub convention_2 : (s == bytes "1") ≡ false → 2 ≡ convention s
+    pub convention_2 : (s ≟ bytes "1") ≡ false → 2 ≡ convention s
     unfolding convention
     convention_2 e = sym (if-false _ _ n ∙ if-false _ _ e)
 
@@ -159,36 +159,36 @@ says_no e = sym (if-false _ _ e)
 -- ---- which question a line asks
 
 module _ (q a b : Text) where
-  pub asks_family : (q == bytes "family") ≡ true → family_answer a ≡ answer_to q a b
+  pub asks_family : (q ≟ bytes "family") ≡ true → family_answer a ≡ answer_to q a b
   unfolding answer_to
   asks_family e = sym (if-true _ _ e)
 
-  module _ (n₁ : (q == bytes "family") ≡ false) where
-    pub asks_number : (q == bytes "number") ≡ true → value (parse_c_number a) ≡ answer_to q a b
+  module _ (n₁ : (q ≟ bytes "family") ≡ false) where
+    pub asks_number : (q ≟ bytes "number") ≡ true → value (parse_c_number a) ≡ answer_to q a b
     unfolding answer_to
     asks_number e = sym (if-false _ _ n₁ ∙ if-true _ _ e)
 
-    module _ (n₂ : (q == bytes "number") ≡ false) where
-      pub asks_sum : (q == bytes "sum") ≡ true → value (combined false a b) ≡ answer_to q a b
+    module _ (n₂ : (q ≟ bytes "number") ≡ false) where
+      pub asks_sum : (q ≟ bytes "sum") ≡ true → value (combined false a b) ≡ answer_to q a b
       unfolding answer_to
       asks_sum e = sum_folds a b ∙ sym (if-false _ _ n₁ ∙ if-false _ _ n₂ ∙ if-true _ _ e)
 
-      module _ (n₃ : (q == bytes "sum") ≡ false) where
-        pub asks_difference : (q == bytes "difference") ≡ true → value (combined true a b) ≡ answer_to q a b
+      module _ (n₃ : (q ≟ bytes "sum") ≡ false) where
+        pub asks_difference : (q ≟ bytes "difference") ≡ true → value (combined true a b) ≡ answer_to q a b
         unfolding answer_to
         asks_difference e = difference_folds a b ∙ sym (if-false _ _ n₁ ∙ if-false _ _ n₂ ∙ if-false _ _ n₃ ∙ if-true _ _ e)
 
-        module _ (n₄ : (q == bytes "difference") ≡ false) where
-          pub asks_volatile : (q == bytes "volatile") ≡ true → yes_no (overwrites (convention a) b) ≡ answer_to q a b
+        module _ (n₄ : (q ≟ bytes "difference") ≡ false) where
+          pub asks_volatile : (q ≟ bytes "volatile") ≡ true → yes_no (overwrites (convention a) b) ≡ answer_to q a b
           unfolding answer_to
           asks_volatile e = sym (if-false _ _ n₁ ∙ if-false _ _ n₂ ∙ if-false _ _ n₃ ∙ if-false _ _ n₄ ∙ if-true _ _ e)
 
-          module _ (n₅ : (q == bytes "volatile") ≡ false) where
-            pub asks_constant : (q == bytes "constant") ≡ true → value (read_number 1 a) ≡ answer_to q a b
+          module _ (n₅ : (q ≟ bytes "volatile") ≡ false) where
+            pub asks_constant : (q ≟ bytes "constant") ≡ true → value (read_number 1 a) ≡ answer_to q a b
             unfolding answer_to
             asks_constant e = sym (if-false _ _ n₁ ∙ if-false _ _ n₂ ∙ if-false _ _ n₃ ∙ if-false _ _ n₄ ∙ if-false _ _ n₅ ∙ if-true _ _ e)
 
-            pub asks_nothing : (q == bytes "constant") ≡ false → bytes "no such question" ≡ answer_to q a b
+            pub asks_nothing : (q ≟ bytes "constant") ≡ false → bytes "no such question" ≡ answer_to q a b
             unfolding answer_to
             asks_nothing e = sym (if-false _ _ n₁ ∙ if-false _ _ n₂ ∙ if-false _ _ n₃ ∙ if-false _ _ n₄ ∙ if-false _ _ n₅ ∙ if-false _ _ e)
 
@@ -198,21 +198,21 @@ module _ (line : Text) {q w v : Text} (e : q ≡ before line 32) (f : w ≡ behi
   second : v ≡ behind_words 2 line
   second = g ∙ ap (λ (t : Text). behind t 32) f
 
-  pub expects_family : (q == bytes "family") ≡ true → v ≡ expected line
+  pub expects_family : (q ≟ bytes "family") ≡ true → v ≡ expected line
   unfolding expected
   expects_family h = second ∙ sym (if-true _ _ (or_true _ (rw e at h)))
 
-  module _ (n : (q == bytes "family") ≡ false) where
-    pub expects_number : (q == bytes "number") ≡ true → v ≡ expected line
+  module _ (n : (q ≟ bytes "family") ≡ false) where
+    pub expects_number : (q ≟ bytes "number") ≡ true → v ≡ expected line
     unfolding expected
     expects_number h = second ∙ sym (if-true _ _ (or_false _ (rw e at n) ∙ or_true _ (rw e at h)))
 
-    module _ (m : (q == bytes "number") ≡ false) where
-      pub expects_constant : (q == bytes "constant") ≡ true → v ≡ expected line
+    module _ (m : (q ≟ bytes "number") ≡ false) where
+      pub expects_constant : (q ≟ bytes "constant") ≡ true → v ≡ expected line
       unfolding expected
       expects_constant h = second ∙ sym (if-true _ _ (or_false _ (rw e at n) ∙ or_false _ (rw e at m) ∙ (rw e at h)))
 
-      pub expects_other : (q == bytes "constant") ≡ false → {u : Text} → u ≡ behind v 32 → u ≡ expected line
+      pub expects_other : (q ≟ bytes "constant") ≡ false → {u : Text} → u ≡ behind v 32 → u ≡ expected line
       unfolding expected
       expects_other h k = k ∙ ap (λ (t : Text). behind t 32) second ∙ sym (if-false _ _ (or_false _ (rw e at n) ∙ or_false _ (rw e at m) ∙ (rw e at h)))
 
@@ -238,7 +238,7 @@ module _ {out s out' : Text} {n : ℕ} (w : Written out 0 s out' n) where
   front_fits = omega (arith, w.end_is, ap length front_is, length-take n out')
 
   -- what was said of it holds of the text
-  pub compares : {t u : Text} {b : Bool} → t ≡ u → b ≡ (t == take n out') → b ≡ (u == s)
+  pub compares : {t u : Text} {b : Bool} → t ≡ u → b ≡ (t ≟ take n out') → b ≡ (u ≟ s)
   compares e f = rw (e, front_is) at f
 
 -- ---- the lines of an input, one by one
@@ -255,11 +255,11 @@ module _ (s : Text) (h : 0 < length s) {line rest : Text} (e : line ≡ before s
   pub one_line : length (lines s) ≡ 1 + length (lines rest)
   one_line = ap length split ∙ omega arith
 
-  module _ {b : Bool} (g : b ≡ (expected line == answer line)) where
+  module _ {b : Bool} (g : b ≡ (expected line ≟ answer line)) where
     pub line_agrees : b ≡ true → differing s ≡ differing rest
-    unfolding differing not if◌then◌else◌
+    unfolding differing not when◌then◌else◌
     line_agrees k = rw (split, sym g ∙ k)
 
     pub line_differs : b ≡ false → differing s ≡ 1 + differing rest
-    unfolding differing not if◌then◌else◌
+    unfolding differing not when◌then◌else◌
     line_differs k = rw (split, sym g ∙ k) (omega arith)

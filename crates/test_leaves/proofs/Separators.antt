@@ -9,25 +9,25 @@ use mathlib.Core.List.{[], ◌∷◌}
 use lib.ListN.{length, take, drop, get_or, length-take, length-drop, drop_of_length-le}
 use lib.Seq.{drop-cons, drop-length}
 use borrow.Author.Tests.{eq-eqb, ne_eqb}
-use Rattle.reference.specs.Control.{if◌then◌else◌}
+use Rattle.reference.specs.Control.{when◌then◌else◌}
 use Rattle.reference.specs.Text.{Text}
 use Rattle.test_leaves.specs.Fields.{before, behind, with_byte, lines}
 
 module _ (b x : ℕ) (xs : Text) where
   before_hit : x ≡ b → before (x ∷ xs) b ≡ []
-  unfolding before if◌then◌else◌
+  unfolding before when◌then◌else◌
   before_hit e = rw (eq-eqb x b e)
 
   before_miss : (x ≡ b → ⊥) → before (x ∷ xs) b ≡ x ∷ before xs b
-  unfolding before if◌then◌else◌
+  unfolding before when◌then◌else◌
   before_miss n = rw (ne_eqb x b n)
 
   behind_hit : x ≡ b → behind (x ∷ xs) b ≡ xs
-  unfolding behind if◌then◌else◌
+  unfolding behind when◌then◌else◌
   behind_hit e = rw (eq-eqb x b e)
 
   behind_miss : (x ≡ b → ⊥) → behind (x ∷ xs) b ≡ behind xs b
-  unfolding behind if◌then◌else◌
+  unfolding behind when◌then◌else◌
   behind_miss n = rw (ne_eqb x b n)
 
 -- ---- the search, by index
@@ -77,7 +77,7 @@ module _ (b : ℕ) where
 -- ---- lines
 
 pub next_line : (s : Text) → 0 < length s → lines s ≡ before s 10 ∷ lines (behind s 10)
-unfolding lines before behind if◌then◌else◌
+unfolding lines before behind when◌then◌else◌
 next_line [] h = absurd (omega arith)
 next_line (x ∷ []) h = by_cases (ℕ_discrete x 10) (λ e. rw (eq-eqb x 10 e)) (λ n. rw (ne_eqb x 10 n))
 next_line (x ∷ y ∷ ys) h =

@@ -2,9 +2,9 @@
 -- its one operand or two, and the Rust's answer (for `constant` the oracle's); tests/leaves says how it is got. Assumes nothing.
 use Rattle.std.specs.Prelude.{ℕ, Bool, false, [], ◌++◌, ℤ, ◌+ℤ◌, ◌-ℤ◌}
 use Rattle.std.proofs.Math.Option.{Option, none, some}
-use Rattle.reference.specs.Control.{not, ◌||◌, if◌then◌else◌, let_some◌else◌then◌}
+use Rattle.reference.specs.Control.{not, ◌or◌, when◌then◌else◌, let_some◌else◌then◌}
 use Rattle.reference.specs.Lists.{count}
-use Rattle.reference.specs.Text.{Text, bytes, ◌==◌, has}
+use Rattle.reference.specs.Text.{Text, bytes, ◌≟◌, has}
 use Rattle.reference.specs.Listing.{token, Number, Punct}
 use Rattle.reference.specs.Names.{family, volatile_of}
 use Rattle.reference.specs.Numbers.{parse_c_number, read_number, wrap, folded, show}
@@ -29,7 +29,7 @@ unfoldable pub combined : Bool → Text → Text → Option ℤ
 combined minus a b =
     let_some (parse_c_number a) else none then λ x.
     let_some (parse_c_number b) else none then λ y.
-    some (wrap (if minus then x -ℤ y else x +ℤ y))
+    some (wrap (when minus then x -ℤ y else x +ℤ y))
 
 -- what a fold makes of `a op b` alone on a line, by edition 0
 unfoldable pub fold_answer : Text → Text → Text → Text
@@ -38,24 +38,24 @@ fold_answer op a b =
 
 -- document 01's conventions; any text but `0` and `1` stands for 2
 unfoldable pub convention : Text → ℕ
-convention s = if s == bytes "0" then 0 else if s == bytes "1" then 1 else 2
+convention s = when s ≟ bytes "0" then 0 else when s ≟ bytes "1" then 1 else 2
 
 -- whether a call overwrites the register
 unfoldable pub overwrites : ℕ → Text → Bool
 overwrites c name = let_some (family name) else false then λ f. has (volatile_of c) f.name
 
 unfoldable pub yes_no : Bool → Text
-yes_no b = if b then bytes "yes" else bytes "no"
+yes_no b = when b then bytes "yes" else bytes "no"
 
 -- the answer to a question with the operands a and b; a question with one operand looks at a alone
 unfoldable pub answer_to : Text → Text → Text → Text
 answer_to question a b =
-    if question == bytes "family" then family_answer a
-    else if question == bytes "number" then value (parse_c_number a)
-    else if question == bytes "sum" then fold_answer (bytes " + ") a b
-    else if question == bytes "difference" then fold_answer (bytes " - ") a b
-    else if question == bytes "volatile" then yes_no (overwrites (convention a) b)
-    else if question == bytes "constant" then value (read_number 1 a)
+    when question ≟ bytes "family" then family_answer a
+    else when question ≟ bytes "number" then value (parse_c_number a)
+    else when question ≟ bytes "sum" then fold_answer (bytes " + ") a b
+    else when question ≟ bytes "difference" then fold_answer (bytes " - ") a b
+    else when question ≟ bytes "volatile" then yes_no (overwrites (convention a) b)
+    else when question ≟ bytes "constant" then value (read_number 1 a)
     else bytes "no such question"
 
 unfoldable pub answer : Text → Text
@@ -65,9 +65,9 @@ answer line = answer_to (word 0 line) (word 1 line) (word 2 line)
 
 unfoldable pub expected : Text → Text
 expected line =
-    if (word 0 line == bytes "family") || (word 0 line == bytes "number") || (word 0 line == bytes "constant") then behind_words 2 line
+    when (word 0 line ≟ bytes "family") or (word 0 line ≟ bytes "number") or (word 0 line ≟ bytes "constant") then behind_words 2 line
     else behind_words 3 line
 
 -- how many lines have another answer than the definitions'
 unfoldable pub differing : Text → ℕ
-differing input = count (λ line. not (expected line == answer line)) (lines input)
+differing input = count (λ line. not (expected line ≟ answer line)) (lines input)

@@ -1,17 +1,17 @@
 -- The parts of a text between separators: fields, words and lines. Assumes nothing.
 use Rattle.std.specs.Prelude.{ℕ, zero, suc, List, [], ◌∷◌, eqb}
-use Rattle.reference.specs.Control.{if◌then◌else◌}
+use Rattle.reference.specs.Control.{when◌then◌else◌}
 use Rattle.reference.specs.Text.{Text}
 
 -- what stands before the first b; all where there is none
 unfoldable pub before : Text → ℕ → Text
 before [] b = []
-before (x ∷ xs) b = let r = before xs b in if eqb x b then [] else x ∷ r
+before (x ∷ xs) b = let r = before xs b in when eqb x b then [] else x ∷ r
 
 -- what stands behind the first b; nothing where there is none
 unfoldable pub behind : Text → ℕ → Text
 behind [] b = []
-behind (x ∷ xs) b = let r = behind xs b in if eqb x b then xs else r
+behind (x ∷ xs) b = let r = behind xs b in when eqb x b then xs else r
 
 -- ---- words, which stand one space apart and may be empty
 
@@ -32,4 +32,4 @@ with_byte x (line ∷ rest) = (x ∷ line) ∷ rest
 
 unfoldable pub lines : Text → List Text
 lines [] = []
-lines (x ∷ xs) = let r = lines xs in if eqb x 10 then [] ∷ r else with_byte x r
+lines (x ∷ xs) = let r = lines xs in when eqb x 10 then [] ∷ r else with_byte x r

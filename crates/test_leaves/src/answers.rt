@@ -9,7 +9,6 @@
 //
 // An answer is written into a slice of the caller's, and its length returned.
 ghost use Rattle.std.specs.Prelude.{◌≡◌, ◌+◌, ◌≤◌, ◌<◌, length};
-ghost use Rattle.reference.specs.Contract.{was};
 ghost use Rattle.reference.specs.Text.{bytes};
 ghost use Rattle.names.specs.Families.{row_name};
 ghost use Rattle.numbers.specs.Reading.{meaning};
@@ -31,7 +30,7 @@ const ROWS: [[u8; 3]; 8] = [
 
 fn put_register(family: &[u8], width: u64, out: &mut [u8]) -> usize
     requires { length family.now + 21 ≤ length out.old }
-    ensures { Written (was out) 0 (register (was family) width) out.new result }
+    ensures { Written out.old 0 (register family.now width) out.new result }
 {
     let family_end = put(family, out, 0);
     let space_end = put(b" ", out, family_end);
@@ -40,7 +39,7 @@ fn put_register(family: &[u8], width: u64, out: &mut [u8]) -> usize
 
 fn put_row(row: u64, width: u64, out: &mut [u8]) -> usize
     requires { (row < 8) × (24 ≤ length out.old) }
-    ensures { Written (was out) 0 (register (row_name row) width) out.new result }
+    ensures { Written out.old 0 (register (row_name row) width) out.new result }
 {
     let i = row as usize;
     let family = ROWS[i];
@@ -49,7 +48,7 @@ fn put_row(row: u64, width: u64, out: &mut [u8]) -> usize
 
 fn put_family(name: &[u8], out: &mut [u8]) -> usize
     requires { length name.now + 24 ≤ length out.old }
-    ensures { Written (was out) 0 (family_answer (was name)) out.new result }
+    ensures { Written out.old 0 (family_answer name.now) out.new result }
 {
     match names::family(name) {
         Spelled::Row(row, width, _) => put_row(row, width, out),
@@ -60,7 +59,7 @@ fn put_family(name: &[u8], out: &mut [u8]) -> usize
 
 fn put_value(n: Number, out: &mut [u8]) -> usize
     requires { 19 ≤ length out.old }
-    ensures { Written (was out) 0 (value (meaning n)) out.new result }
+    ensures { Written out.old 0 (value (meaning n)) out.new result }
 {
     match n {
         Number::Read(v) => numbers::put_number(v, out, 0),
@@ -70,7 +69,7 @@ fn put_value(n: Number, out: &mut [u8]) -> usize
 
 // a + b or a - b
 fn folded(a: &[u8], b: &[u8], minus: bool) -> Number
-    ensures { meaning result ≡ combined minus (was a) (was b) }
+    ensures { meaning result ≡ combined minus a.now b.now }
 {
     let Number::Read(x) = numbers::parse_c_number(a) else {
         return Number::Unread;
@@ -85,7 +84,7 @@ fn folded(a: &[u8], b: &[u8], minus: bool) -> Number
 }
 
 fn convention(s: &[u8]) -> u8
-    ensures { result ≡ convention (was s) }
+    ensures { result ≡ convention s.now }
 {
     if same(s, b"0") {
         return 0;
@@ -97,7 +96,7 @@ fn convention(s: &[u8]) -> u8
 }
 
 fn overwrites(convention: u8, name: &[u8]) -> bool
-    ensures { result ≡ overwrites convention (was name) }
+    ensures { result ≡ overwrites convention name.now }
 {
     match names::family(name) {
         Spelled::Row(row, _, _) => names::overwritten(row, convention),
@@ -108,7 +107,7 @@ fn overwrites(convention: u8, name: &[u8]) -> bool
 
 fn put_yes_no(b: bool, out: &mut [u8]) -> usize
     requires { 3 ≤ length out.old }
-    ensures { Written (was out) 0 (yes_no b) out.new result }
+    ensures { Written out.old 0 (yes_no b) out.new result }
 {
     if b {
         return put(b"yes", out, 0);
@@ -119,7 +118,7 @@ fn put_yes_no(b: bool, out: &mut [u8]) -> usize
 // The answer to a question with the operands a and b.
 fn put_answer_to(question: &[u8], a: &[u8], b: &[u8], out: &mut [u8]) -> usize
     requires { length a.now + 24 ≤ length out.old }
-    ensures { Written (was out) 0 (answer_to (was question) (was a) (was b)) out.new result }
+    ensures { Written out.old 0 (answer_to question.now a.now b.now) out.new result }
 {
     if same(question, b"family") {
         return put_family(a, out);
@@ -145,7 +144,7 @@ fn put_answer_to(question: &[u8], a: &[u8], b: &[u8], out: &mut [u8]) -> usize
 // Writes the answer to the line's question at the front of `out`, and says how long it is: at most 24 bytes more than the line.
 pub fn put_answer(line: &[u8], out: &mut [u8]) -> usize
     requires { length line.now + 24 ≤ length out.old }
-    ensures { Written (was out) 0 (answer (was line)) out.new result }
+    ensures { Written out.old 0 (answer line.now) out.new result }
 {
     let words = behind(line, b' ');
     put_answer_to(
@@ -158,7 +157,7 @@ pub fn put_answer(line: &[u8], out: &mut [u8]) -> usize
 
 // The answer on the line: all that stands behind the question.
 pub fn expected(line: &[u8]) -> &[u8]
-    ensures { result.now ≡ expected (was line) }
+    ensures { result.now ≡ expected line.now }
 {
     let question = before(line, b' ');
     let answer = behind(behind(line, b' '), b' ');

@@ -1,11 +1,10 @@
 // Parts of a text between separators.
 ghost use Rattle.std.specs.Prelude.{◌≡◌, length};
-ghost use Rattle.reference.specs.Contract.{was};
 ghost use Rattle.test_leaves.specs.Fields.{before, behind};
 
 // The place of the first b; the text's length where there is none.
 fn find(s: &[u8], b: u8) -> usize
-    ensures { result ≡ length (before (was s) b) }
+    ensures { result ≡ length (before s.now b) }
 {
     let mut i = 0;
     while i < s.len() {
@@ -19,7 +18,7 @@ fn find(s: &[u8], b: u8) -> usize
 
 // What stands before the first b; all where there is none.
 pub fn before(s: &[u8], b: u8) -> &[u8]
-    ensures { result.now ≡ before (was s) b }
+    ensures { result.now ≡ before s.now b }
 {
     let n = find(s, b);
     &s[..n]
@@ -27,7 +26,7 @@ pub fn before(s: &[u8], b: u8) -> &[u8]
 
 // What stands behind the first b; nothing where there is none.
 pub fn behind(s: &[u8], b: u8) -> &[u8]
-    ensures { result.now ≡ behind (was s) b }
+    ensures { result.now ≡ behind s.now b }
 {
     let n = find(s, b);
     if n == s.len() {

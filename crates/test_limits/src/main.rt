@@ -1,9 +1,13 @@
 // The limits of document 01's sheet, commands that pass two of them (M-101), and the limits of the marks (M-105): for each a tape is built
 // and asked the tape's questions. A line each: what the tape is, and `accepted` or `refused`, number, `at`, place. The file `stdout` has
 // the answers of the Rust behind the same questions.
-use libc::STDOUT_FILENO;
+#![tactic(auto)]
+
 use tape::commands::text_of;
 use tape::questions::Checked;
+
+// The number of standard output.
+const STDOUT: i32 = 1;
 
 // The example of document 01: `rax = f();` `return;`.
 const EXAMPLE: [u8; 40] = [
@@ -33,11 +37,11 @@ const TOKEN_24: [u8; 27] = [
 // ---- answers
 
 fn write(s: &[u8]) {
-    io::write_all(STDOUT_FILENO, s);
+    io::write_all(STDOUT, s);
 }
 
 fn write_number(n: usize) {
-    io::print_decimal(STDOUT_FILENO, n as u64);
+    io::print_decimal(STDOUT, n as u64);
 }
 
 // Writes the answer to a tape.
@@ -48,7 +52,7 @@ fn answer(tape: &[u8]) {
         }
         Checked::Refused { number, place } => {
             write(b": refused ");
-            io::print_decimal(STDOUT_FILENO, number);
+            io::print_decimal(STDOUT, number);
             write(b" at ");
             write_number(place);
             write(b"\n");

@@ -4,14 +4,19 @@
 // The list is frames one after the other: eight numbers of eight bytes, the lowest first, then the tape of a call, then the new tape that
 // is wanted. The numbers: 0 for the way there, else the way back; the base; the length of the output; the wanted refusal, place and
 // value; the length of the tape; the length of the wanted tape.
+#![tactic(auto)]
+
 ghost use Rattle.std.specs.Prelude.{◌≡◌, ◌+◌, ◌≤◌, ◌<◌, length};
-ghost use Rattle.reference.specs.Contract.{was};
 
 use answers::{Answer, Told, tell};
-use libc::{STDIN_FILENO, STDOUT_FILENO};
 use tape::commands::text_of;
 use tape::little_endian::number_at;
 use text::{copy_bytes, same};
+
+// The numbers of standard input and output.
+const STDIN: i32 = 0;
+
+const STDOUT: i32 = 1;
 
 // The longest list that is read.
 const LONGEST: usize = 150000;
@@ -24,7 +29,7 @@ const MARK: u8 = 170;
 const HEADER: usize = 64;
 
 // How many calls there were each way, and how many differ.
-#[derive(Drop)]
+#[derive(Clone, Copy)]
 struct Counts {
     there: u64,
     back: u64,
@@ -32,11 +37,11 @@ struct Counts {
 }
 
 fn print(s: &[u8]) {
-    io::write_all(STDOUT_FILENO, s);
+    io::write_all(STDOUT, s);
 }
 
 fn print_number(n: u64) {
-    io::print_decimal(STDOUT_FILENO, n);
+    io::print_decimal(STDOUT, n);
 }
 
 // ---- the frame at the list's front
@@ -65,7 +70,7 @@ fn part(list: &[u8], from: usize, n: usize) -> &[u8] {
 
 // How many bytes the frame has; 0 where the list has no whole frame.
 fn size(list: &[u8]) -> usize
-    ensures { result ≤ length (was list) }
+    ensures { result ≤ length list.now }
 {
     if list.len() < HEADER {
         return 0;
@@ -208,6 +213,6 @@ fn run(list: &[u8]) {
 
 fn main() {
     let mut input = [0u8; LONGEST];
-    let n = io::read_full(STDIN_FILENO, &mut input);
+    let n = io::read_full(STDIN, &mut input);
     run(&input[..n]);
 }

@@ -1,13 +1,13 @@
 -- The tally of a list, frame by frame: a loop's invariant is that the tally of the whole is that of the rest. Assumes nothing.
 use Prim.Native.Nat.{ℕ, zero, suc, ◌+◌, ◌-◌, ◌≤◌}
 use native.Mathlib.Omega.{arith}
-use mathlib.Core.Path.{◌≡◌, refl, sym, ap, ◌∙◌}
+use mathlib.Core.Path.{◌≡◌, refl, sym, ◌∙◌}
 use mathlib.Core.Bool.{Bool, true, false}
 use mathlib.Core.List.{List}
 use lib.Dec.{eqb}
 use lib.ListN.{length, take, drop, length-drop}
 use borrow.Author.Tests.{eq-eqb, ne_eqb, eqb-false}
-use Rattle.reference.specs.Control.{if◌then◌else◌}
+use Rattle.reference.specs.Control.{when◌then◌else◌}
 use Rattle.laws.proofs.Parts.{to_end}
 use Rattle.laws.proofs.Scans.{if-true, if-false}
 use Rattle.test_replay.specs.Frames.{number_in, frame_size}
@@ -33,8 +33,8 @@ module _ (list : List ℕ) (class : ℕ) (n : Counts) where
 
 -- ---- all frames
 
-same_else : (b : Bool) (n x y : Counts) → (b ≡ false → x ≡ y) → (if b then n else x) ≡ (if b then n else y)
-unfolding if◌then◌else◌
+same_else : (b : Bool) (n x y : Counts) → (b ≡ false → x ≡ y) → (when b then n else x) ≡ (when b then n else y)
+unfolding when◌then◌else◌
 same_else true n x y h = refl
 same_else false n x y h = h refl
 
@@ -53,12 +53,12 @@ module _ (class : ℕ) where
 
   module _ (list : List ℕ) (n : Counts) where
     unfolded : tally (suc (length list)) list class n
-        ≡ (if eqb (frame_size list) 0 then n else tally (length list) (drop (frame_size list) list) class (counted list class n))
+        ≡ (when eqb (frame_size list) 0 then n else tally (length list) (drop (frame_size list) list) class (counted list class n))
     unfolding tally
     unfolded = refl
 
     step : tally (length list) list class n
-        ≡ (if eqb (frame_size list) 0 then n else tally (length list) (drop (frame_size list) list) class (counted list class n))
+        ≡ (when eqb (frame_size list) 0 then n else tally (length list) (drop (frame_size list) list) class (counted list class n))
     step = enough (length list) (suc (length list)) list n (omega arith) (omega arith) ∙ unfolded
 
     pub ended : frame_size list ≡ 0 → tally (length list) list class n ≡ n

@@ -1,8 +1,8 @@
 -- What a frame wants of its call: the report, and every lent byte afterwards; and whether a call does that. Assumes nothing.
 use Rattle.std.specs.Prelude.{ℕ, ◌/◌, ◌%◌, Bool, List, ◌++◌, eqb, leb, length, take, drop, replicate}
 use Rattle.std.proofs.Math.Seq.{paste}
-use Rattle.reference.specs.Control.{◌&&◌, if◌then◌else◌}
-use Rattle.reference.specs.Text.{◌==◌}
+use Rattle.reference.specs.Control.{◌and◌, when◌then◌else◌}
+use Rattle.reference.specs.Text.{◌≟◌}
 use Rattle.reference.specs.Rules.{Rules}
 use Rattle.reference.specs.Reply.{Reply, Told, Report, reply, report, output_after, work_after}
 use Rattle.test_replay.specs.Frames.{number_in, tape_in, output_in}
@@ -12,35 +12,35 @@ abbrev pub is_number : List ℕ → ℕ → ℕ → Bool
 is_number list k n = eqb (number_in list k) n
 
 abbrev pub is_report : List ℕ → ℕ → ℕ → ℕ → ℕ → Bool
-is_report list refusal place length cut = is_number list 6 refusal && is_number list 7 place && is_number list 8 length && is_number list 13
+is_report list refusal place length cut = is_number list 6 refusal and is_number list 7 place and is_number list 8 length and is_number list 13
     cut
 
 abbrev pub are_counts : List ℕ → ℕ → ℕ → ℕ → ℕ → Bool
-are_counts list first second third removed = is_number list 9 first && is_number list 10 second && is_number list 11 third && is_number list
+are_counts list first second third removed = is_number list 9 first and is_number list 10 second and is_number list 11 third and is_number list
     12 removed
 
 abbrev pub are_rounds : List ℕ → ℕ → ℕ → Bool
-are_rounds list rounds attempts = is_number list 14 rounds && is_number list 15 attempts
+are_rounds list rounds attempts = is_number list 14 rounds and is_number list 15 attempts
 
 abbrev pub are_told : List ℕ → Told → ℕ → Bool
-are_told list t removed = are_counts list t.first t.second t.third removed && are_rounds list t.rounds t.attempts
+are_told list t removed = are_counts list t.first t.second t.third removed and are_rounds list t.rounds t.attempts
 
 -- the report is the one that the frame wants
 abbrev pub is_wanted : List ℕ → Report → Bool
 is_wanted list r =
-    is_report list r.refusal r.place r.length r.cut && are_told list r.told r.removed
+    is_report list r.refusal r.place r.length r.cut and are_told list r.told r.removed
 
 -- a work area afterwards: zero up to 49,152, unless the frame wants a refusal
 unfoldable pub work_wanted : List ℕ → List ℕ → List ℕ
-work_wanted list area = if is_number list 6 0 then replicate 49152 0 ++ drop 49152 area else area
+work_wanted list area = when is_number list 6 0 then replicate 49152 0 ++ drop 49152 area else area
 
 -- the output afterwards: what the frame wants, if there is room for it, and then what it held
 unfoldable pub out_wanted : List ℕ → List ℕ → List ℕ
-out_wanted list out = if leb (length (output_in list)) (length out) then paste out 0 (output_in list) (length (output_in list)) else out
+out_wanted list out = when leb (length (output_in list)) (length out) then paste out 0 (output_in list) (length (output_in list)) else out
 
 -- the report and the three lent parts afterwards are as wanted
 abbrev pub all_right : List ℕ → Report → List ℕ → List ℕ → List ℕ → List ℕ → List ℕ → Bool
-all_right list report work_a work_b out work written = is_wanted list report && (work_a == work) && (work_b == work) && (out == written)
+all_right list report work_a work_b out work written = is_wanted list report and (work_a ≟ work) and (work_b ≟ work) and (out ≟ written)
 
 -- each byte of the parts having been 170
 unfoldable pub is_right : List ℕ → Report → List ℕ → List ℕ → List ℕ → Bool
@@ -79,8 +79,8 @@ called list a more-a b more-b o more-o =
 unfoldable pub agrees : List ℕ → List ℕ → List ℕ → List ℕ → Bool
 agrees list work_a work_b out =
     leb (number_in list 2) (length work_a)
-    && leb (number_in list 3) (length work_b)
-    && leb (number_in list 4) (length out)
-    && called list (take (number_in list 2) work_a) (drop (number_in list 2) work_a) (take (number_in list 3) work_b)
+    and leb (number_in list 3) (length work_b)
+    and leb (number_in list 4) (length out)
+    and called list (take (number_in list 2) work_a) (drop (number_in list 2) work_a) (take (number_in list 3) work_b)
     (drop (number_in list 3) work_b)
     (take (number_in list 4) out) (drop (number_in list 4) out)

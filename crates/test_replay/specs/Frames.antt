@@ -1,6 +1,6 @@
 -- The frames of a list of calls: src/frames.rt says what they hold. Assumes nothing.
 use Rattle.std.specs.Prelude.{ℕ, ◌+◌, ◌*◌, ◌≤◌, List, leb, length, take, drop}
-use Rattle.reference.specs.Control.{if◌then◌else◌}
+use Rattle.reference.specs.Control.{when◌then◌else◌}
 use Rattle.reference.specs.Tape.{from_le_bytes}
 
 -- a number of the frame at the list's front
@@ -16,7 +16,7 @@ abbrev pub Whole : List ℕ → Type 0
 Whole list = said_size list ≤ length list
 
 unfoldable pub frame_size : List ℕ → ℕ
-frame_size list = if leb (said_size list) (length list) then said_size list else 0
+frame_size list = when leb (said_size list) (length list) then said_size list else 0
 
 abbrev pub tape_in : List ℕ → List ℕ
 tape_in list = take (number_in list 5) (drop 64 list)

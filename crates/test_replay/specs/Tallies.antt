@@ -1,6 +1,6 @@
 -- How many calls of a class the list has, and how many of them differ. Assumes nothing.
 use Rattle.std.specs.Prelude.{ℕ, zero, suc, ◌+◌, Bool, List, eqb, length, drop, replicate}
-use Rattle.reference.specs.Control.{if◌then◌else◌}
+use Rattle.reference.specs.Control.{when◌then◌else◌}
 use Rattle.test_replay.specs.Frames.{number_in, frame_size}
 use Rattle.test_replay.specs.Answers.{agrees}
 use Rattle.test_replay.specs.declared.Counts.{Counts}
@@ -12,8 +12,8 @@ agrees_marked list = agrees list (replicate 65600 170) (replicate 65600 170) (re
 -- the counts with that frame, if it is of the class
 unfoldable pub counted : List ℕ → ℕ → Counts → Counts
 counted list class n =
-    if eqb (number_in list 0) class then
-    (if agrees_marked list then record { tapes = n.tapes + 1; differ = n.differ } else record
+    when eqb (number_in list 0) class then
+    (when agrees_marked list then record { tapes = n.tapes + 1; differ = n.differ } else record
     { tapes = n.tapes + 1; differ = n.differ + 1 })
     else n
 
@@ -22,7 +22,7 @@ unfoldable pub tally : ℕ → List ℕ → ℕ → Counts → Counts
 tally zero list class n = n
 tally (suc fuel) list class n =
     let more = tally fuel (drop (frame_size list) list) class (counted list class n) in
-    if eqb (frame_size list) 0 then n else more
+    when eqb (frame_size list) 0 then n else more
 
 abbrev pub replayed : List ℕ → ℕ → Counts
 replayed list class = tally (length list) list class (record { tapes = 0; differ = 0 })

@@ -1,7 +1,6 @@
 // One call, and whether it did what its frame wants: the report, and every byte that was lent.
 ghost use Rattle.std.specs.Prelude.{◌≡◌, ◌+◌, ◌*◌, ◌≤◌, length, replicate};
-ghost use Rattle.reference.specs.Contract.{was};
-ghost use Rattle.reference.specs.Text.{◌==◌};
+ghost use Rattle.reference.specs.Text.{◌≟◌};
 ghost use Rattle.lines.specs.Rules.{rules_of};
 ghost use Rattle.clean.specs.Replies.{told_of, report_of};
 ghost use Rattle.test_replay.specs.Frames.{Whole};
@@ -14,9 +13,11 @@ use crate::frames::{
     WORK_A, WORK_B, number, output_of, tape_of,
 };
 use clean::{Reply, Tally, Told, tell};
-use libc::STDOUT_FILENO;
 use lines::rules::Rules;
 use text::{copy_bytes, same, wipe};
+
+// The number of standard output.
+const STDOUT: i32 = 1;
 
 // What is lent is longer than a call asks for, and every byte of it has this value before the call.
 const MARK: u8 = 170;
@@ -29,7 +30,7 @@ const LONG_OUT: usize = 59200;
 const WORK: usize = 49152;
 
 fn print(s: &[u8]) {
-    io::write_all(STDOUT_FILENO, s);
+    io::write_all(STDOUT, s);
 }
 
 // ---- the report
@@ -37,14 +38,14 @@ fn print(s: &[u8]) {
 // Whether a number of the frame is n.
 fn is_number(list: &[u8], k: usize, n: u64) -> bool
     requires { 4 * k + 4 ≤ length list.now }
-    ensures { result ≡ is_number (was list) k n }
+    ensures { result ≡ is_number list.now k n }
 {
     number(list, k) == n
 }
 
 fn is_report(list: &[u8], refusal: u64, place: u64, length: u64, cut: u64) -> bool
     requires { Whole list.now }
-    ensures { result ≡ is_report (was list) refusal place length cut }
+    ensures { result ≡ is_report list.now refusal place length cut }
 {
     is_number(list, REFUSAL, refusal)
         && (is_number(list, PLACE, place)
@@ -53,7 +54,7 @@ fn is_report(list: &[u8], refusal: u64, place: u64, length: u64, cut: u64) -> bo
 
 fn are_counts(list: &[u8], first: u64, second: u64, third: u64, removed: u64) -> bool
     requires { Whole list.now }
-    ensures { result ≡ are_counts (was list) first second third removed }
+    ensures { result ≡ are_counts list.now first second third removed }
 {
     is_number(list, FIRST, first)
         && (is_number(list, SECOND, second)
@@ -62,7 +63,7 @@ fn are_counts(list: &[u8], first: u64, second: u64, third: u64, removed: u64) ->
 
 fn are_rounds(list: &[u8], rounds: u64, attempts: u64) -> bool
     requires { Whole list.now }
-    ensures { result ≡ are_rounds (was list) rounds attempts }
+    ensures { result ≡ are_rounds list.now rounds attempts }
 {
     is_number(list, ROUNDS, rounds) && is_number(list, ATTEMPTS, attempts)
 }
@@ -70,7 +71,7 @@ fn are_rounds(list: &[u8], rounds: u64, attempts: u64) -> bool
 // Whether the counts of a finished call are those that the frame wants.
 fn are_told(list: &[u8], t: Told, removed: u64) -> bool
     requires { Whole list.now }
-    ensures { result ≡ are_told (was list) (told_of t) removed }
+    ensures { result ≡ are_told list.now (told_of t) removed }
 {
     are_counts(list, t.first, t.second, t.third, removed) && are_rounds(list, t.rounds, t.attempts)
 }
@@ -78,7 +79,7 @@ fn are_told(list: &[u8], t: Told, removed: u64) -> bool
 // Whether a reply is the one that the frame wants.
 fn is_wanted(list: &[u8], r: Reply) -> bool
     requires { Whole list.now }
-    ensures { result ≡ is_wanted (was list) (report_of r) }
+    ensures { result ≡ is_wanted list.now (report_of r) }
 {
     match r {
         Reply::Refused { number, place } => {
@@ -102,7 +103,7 @@ fn is_wanted(list: &[u8], r: Reply) -> bool
 fn want_work(list: &[u8], area: &mut [u8])
     requires whole { Whole list.now }
     requires in_bounds { 49152 ≤ length area.old }
-    ensures { area.new ≡ work_wanted (was list) (was area) }
+    ensures { area.new ≡ work_wanted list.now area.old }
 {
     if is_number(list, REFUSAL, 0) {
         wipe(area, WORK);
@@ -112,7 +113,7 @@ fn want_work(list: &[u8], area: &mut [u8])
 // Puts what the output holds afterwards in the place of what it held.
 fn want_out(list: &[u8], out: &mut [u8])
     requires { Whole list.now }
-    ensures { out.new ≡ out_wanted (was list) (was out) }
+    ensures { out.new ≡ out_wanted list.now out.old }
 {
     let wanted = output_of(list);
     if wanted.len() <= out.len() {
@@ -125,7 +126,7 @@ fn want_out(list: &[u8], out: &mut [u8])
 // Whether the reply is right; says so where it is not.
 fn reply_right(list: &[u8], r: Reply) -> bool
     requires { Whole list.now }
-    ensures { result ≡ is_wanted (was list) (report_of r) }
+    ensures { result ≡ is_wanted list.now (report_of r) }
 {
     let right = is_wanted(list, r);
     if !right {
@@ -136,7 +137,7 @@ fn reply_right(list: &[u8], r: Reply) -> bool
 
 // Whether a lent part is as wanted; what is not is named.
 fn part_right(part: &[u8], wanted: &[u8], what: &[u8]) -> bool
-    ensures { result ≡ (was part == was wanted) }
+    ensures { result ≡ (part.now ≟ wanted.now) }
 {
     let right = same(part, wanted);
     if !right {
@@ -156,7 +157,7 @@ fn all_right<'a>(
     written: &'a [u8],
 ) -> bool
     requires { Whole list.now }
-    ensures { result ≡ all_right (was list) (report_of r) (was work_a) (was work_b) (was out) (was work) (was written) }
+    ensures { result ≡ all_right list.now (report_of r) work_a.now work_b.now out.now work.now written.now }
 {
     reply_right(list, r)
         && (part_right(work_a, work, b"another first work area\n")
@@ -167,7 +168,7 @@ fn all_right<'a>(
 // Whether a reply and the lent parts are as wanted, what is wanted being made from parts that hold the mark everywhere.
 fn is_right<'a>(list: &'a [u8], r: Reply, work_a: &'a [u8], work_b: &'a [u8], out: &'a [u8]) -> bool
     requires { Whole list.now }
-    ensures { result ≡ is_right (was list) (report_of r) (was work_a) (was work_b) (was out) }
+    ensures { result ≡ is_right list.now (report_of r) work_a.now work_b.now out.now }
 {
     let mut work = [MARK; LONG_WORK];
     let mut written = [MARK; LONG_OUT];
@@ -179,7 +180,7 @@ fn is_right<'a>(list: &'a [u8], r: Reply, work_a: &'a [u8], work_b: &'a [u8], ou
 // The settings of the call.
 fn settings(list: &[u8]) -> Rules
     requires { Whole list.now }
-    ensures { rules_of result ≡ rules_in (was list) }
+    ensures { rules_of result ≡ rules_in list.now }
 {
     let n = number(list, SETTINGS);
     Rules {
@@ -194,7 +195,7 @@ fn settings(list: &[u8]) -> Rules
 // Makes the call in lent bytes that all have the mark's value, and says whether all is as wanted.
 fn agrees_in(list: &[u8], work_a: &mut [u8], work_b: &mut [u8], out: &mut [u8]) -> bool
     requires { Whole list.now }
-    ensures { result ≡ agrees (was list) (was work_a) (was work_b) (was out) }
+    ensures { result ≡ agrees list.now work_a.old work_b.old out.old }
 {
     let a = number(list, WORK_A) as usize;
     let b = number(list, WORK_B) as usize;
@@ -222,7 +223,7 @@ fn agrees_in(list: &[u8], work_a: &mut [u8], work_b: &mut [u8], out: &mut [u8]) 
 // Makes the call of the frame at the list's front.
 pub fn agrees_marked(list: &[u8]) -> bool
     requires { Whole list.now }
-    ensures { result ≡ agrees (was list) (replicate 65600 170) (replicate 65600 170) (replicate 59200 170) }
+    ensures { result ≡ agrees list.now (replicate 65600 170) (replicate 65600 170) (replicate 59200 170) }
 {
     let mut work_a = [MARK; LONG_WORK];
     let mut work_b = [MARK; LONG_WORK];

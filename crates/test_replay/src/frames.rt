@@ -4,7 +4,6 @@
 // is the convention, the three lowest bits of the next say whether to settle, whether parts are told apart and whether the profile is asked
 // for, and the third byte is the number edition.
 ghost use Rattle.std.specs.Prelude.{◌≡◌, ◌+◌, ◌*◌, ◌≤◌, length};
-ghost use Rattle.reference.specs.Contract.{was};
 ghost use Rattle.test_replay.specs.Frames.{number_in, Whole, tape_in, output_in, frame_size};
 
 use tape::commands::text_of;
@@ -47,14 +46,14 @@ const HEADER: usize = 64;
 // A number of the frame at the list's front.
 pub fn number(list: &[u8], k: usize) -> u64
     requires { 4 * k + 4 ≤ length list.now }
-    ensures { result ≡ number_in (was list) k }
+    ensures { result ≡ number_in list.now k }
 {
     number_at(list, 4 * k, 4)
 }
 
 // How many bytes the frame at the list's front has; 0 where the list has no whole frame.
 pub fn size(list: &[u8]) -> usize
-    ensures { result ≡ frame_size (was list) }
+    ensures { result ≡ frame_size list.now }
 {
     if list.len() < HEADER {
         return 0;
@@ -74,7 +73,7 @@ pub fn size(list: &[u8]) -> usize
 // The tape of the frame at the list's front.
 pub fn tape_of(list: &[u8]) -> &[u8]
     requires { Whole list.now }
-    ensures { result.now ≡ tape_in (was list) }
+    ensures { result.now ≡ tape_in list.now }
 {
     text_of(list, HEADER, number(list, TAPE) as usize)
 }
@@ -82,7 +81,7 @@ pub fn tape_of(list: &[u8]) -> &[u8]
 // The output that it wants.
 pub fn output_of(list: &[u8]) -> &[u8]
     requires { Whole list.now }
-    ensures { result.now ≡ output_in (was list) }
+    ensures { result.now ≡ output_in list.now }
 {
     let tape = number(list, TAPE) as usize;
     text_of(list, HEADER + tape, number(list, LENGTH) as usize)

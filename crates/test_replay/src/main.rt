@@ -1,33 +1,38 @@
 // Replays a list of calls with the answers of the Rust (tests/replay), from standard input. Prints for each class of calls how many there
 // are and how many differ, what differs, and the sum. A call's reply is compared and every byte that it was lent: the output and what
 // lies past it, both work areas, and that a refused call changed nothing.
+#![tactic(auto)]
+
 mod calls; // one call
 mod frames; // the list
 
 ghost use Rattle.std.specs.Prelude.{◌≡◌, ◌+◌, ◌≤◌, length};
-ghost use Rattle.reference.specs.Contract.{was};
 ghost use Rattle.test_replay.specs.Frames.{Whole};
 ghost use Rattle.test_replay.specs.Tallies.{counted, replayed};
 
 use calls::agrees_marked;
 use frames::{CLASS, number, size};
-use libc::{STDIN_FILENO, STDOUT_FILENO};
+
+// The numbers of standard input and output.
+const STDIN: i32 = 0;
+
+const STDOUT: i32 = 1;
 
 // The longest list that is read.
 const LONGEST: usize = 650000;
 
-#[derive(Drop)]
+#[derive(Clone, Copy)]
 struct Counts {
     tapes: u64,
     differ: u64,
 }
 
 fn print(s: &[u8]) {
-    io::write_all(STDOUT_FILENO, s);
+    io::write_all(STDOUT, s);
 }
 
 fn print_number(n: u64) {
-    io::print_decimal(STDOUT_FILENO, n);
+    io::print_decimal(STDOUT, n);
 }
 
 fn print_counts(counts: Counts) {
@@ -82,7 +87,7 @@ fn print_class(class: u64) {
 fn counted(list: &[u8], class: u64, counts: Counts) -> Counts
     requires whole { Whole list.now }
     requires tapes_bound { (counts.tapes ≤ 650000) × (counts.differ ≤ counts.tapes) }
-    ensures value { result ≡ counted (was list) class counts }
+    ensures value { result ≡ counted list.now class counts }
     ensures differ_le_tapes { (result.differ ≤ result.tapes) × (result.tapes ≤ counts.tapes + 1) }
 {
     if number(list, CLASS) != class {
@@ -103,8 +108,8 @@ fn counted(list: &[u8], class: u64, counts: Counts) -> Counts
 // Replays the frames of a class.
 fn replayed(list: &[u8], class: u64) -> Counts
     requires { length list.now ≤ 650000 }
-    ensures value { result ≡ replayed (was list) class }
-    ensures differ_le_tapes { (result.differ ≤ result.tapes) × (result.tapes ≤ length (was list)) }
+    ensures value { result ≡ replayed list.now class }
+    ensures differ_le_tapes { (result.differ ≤ result.tapes) × (result.tapes ≤ length list.now) }
 {
     let mut left = list;
     let mut counts = Counts {
@@ -145,8 +150,12 @@ fn run(list: &[u8]) {
     print_counts(sum);
 }
 
-fn main() {
-    let mut input = [0u8; LONGEST];
-    let n = io::read_full(STDIN_FILENO, &mut input);
-    run(&input[..n]);
+fn main(rt: HostRuntime) {
+    match vec![in rt.alloc(); 0u8; LONGEST] {
+        Ok(mut input) => {
+            let n = io::read_full(STDIN, &mut input);
+            run(&input[..n]);
+        }
+        Err(_) => print(b"no memory is left\n"),
+    }
 }

@@ -5,14 +5,19 @@
 // The list: frames one after the other. A frame is eight numbers of eight bytes, the lowest first, then the tape of a call, the chosen name
 // and the list of names with their values. The numbers: the frame's own length; the value that the formula is to return; the wanted
 // refusal, place and value; and the lengths of tape, chosen name and list.
+#![tactic(auto)]
+
 ghost use Rattle.std.specs.Prelude.{◌+◌, ◌≤◌, length};
-ghost use Rattle.reference.specs.Contract.{was};
 
 use answers::{Told, tell};
-use libc::{STDIN_FILENO, STDOUT_FILENO};
 use start::start_value;
 use tape::commands::text_of;
 use tape::little_endian::number_at;
+
+// The numbers of standard input and output.
+const STDIN: i32 = 0;
+
+const STDOUT: i32 = 1;
 
 // The longest list that is read.
 const LONGEST: usize = 150000;
@@ -23,7 +28,7 @@ const HEADER: usize = 64;
 const OTHERS: u64 = 3;
 
 // The numbers of a frame but for its length.
-#[derive(Drop)]
+#[derive(Clone, Copy)]
 struct Frame {
     returned: u64,
     refusal: u64,
@@ -34,7 +39,7 @@ struct Frame {
     values: usize,
 }
 
-#[derive(Drop)]
+#[derive(Clone, Copy)]
 struct Counts {
     calls: u64,
     differ: u64,
@@ -44,7 +49,7 @@ struct Counts {
 
 // How many bytes the frame at the list's front has; 0 where there is no whole one.
 fn size(list: &[u8]) -> usize
-    ensures { result ≤ length (was list) }
+    ensures { result ≤ length list.now }
 {
     if list.len() < HEADER {
         return 0;
@@ -152,14 +157,14 @@ fn replayed(list: &[u8], sort: u64) -> Counts
 }
 
 fn print(s: &[u8]) {
-    io::write_all(STDOUT_FILENO, s);
+    io::write_all(STDOUT, s);
 }
 
 fn print_counts(sort: &[u8], counts: Counts) {
     print(sort);
-    io::print_decimal(STDOUT_FILENO, counts.calls);
+    io::print_decimal(STDOUT, counts.calls);
     print(b" calls, ");
-    io::print_decimal(STDOUT_FILENO, counts.differ);
+    io::print_decimal(STDOUT, counts.differ);
     print(b" differ\n");
 }
 
@@ -176,6 +181,6 @@ fn run(list: &[u8]) {
 
 fn main() {
     let mut input = [0u8; LONGEST];
-    let n = io::read_full(STDIN_FILENO, &mut input);
+    let n = io::read_full(STDIN, &mut input);
     run(&input[..n]);
 }

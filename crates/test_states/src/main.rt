@@ -11,12 +11,17 @@
 //     4 delete
 //
 // and the third number says how many bytes there are.
+#![tactic(auto)]
+
 ghost use Rattle.std.specs.Prelude.{◌+◌, ◌≤◌, ◌<◌, ◌≡◌, length};
-ghost use Rattle.reference.specs.Contract.{was};
 
 use answers::{Answer, tell};
-use libc::{STDIN_FILENO, STDOUT_FILENO};
 use tape::little_endian::number_at;
+
+// The numbers of standard input and output.
+const STDIN: i32 = 0;
+
+const STDOUT: i32 = 1;
 
 // The longest list that is read.
 const LONGEST: usize = 150000;
@@ -31,12 +36,12 @@ const HEADER: usize = 20;
 // ---- printing
 
 fn print(s: &[u8]) {
-    io::write_all(STDOUT_FILENO, s);
+    io::write_all(STDOUT, s);
 }
 
 fn print_number(n: u64) {
     print(b" ");
-    io::print_decimal(STDOUT_FILENO, n);
+    io::print_decimal(STDOUT, n);
 }
 
 // One byte more in a sum, which depends on every byte and its place: modulo the largest prime below 2^32.
@@ -77,7 +82,7 @@ fn number(frame: &[u8], at: usize) -> usize
 
 // How many bytes the frame at the list's front has; 0 where the list has no whole frame.
 fn size(list: &[u8]) -> usize
-    ensures upper_bound { result ≤ length (was list) }
+    ensures upper_bound { result ≤ length list.now }
     ensures lower_bound { (result ≡ 0 → ⊥) → 20 ≤ result }
 {
     if list.len() < HEADER {
@@ -224,9 +229,13 @@ fn run(list: &[u8], store: &mut [u8]) {
     }
 }
 
-fn main() {
+fn main(rt: HostRuntime) {
     let mut input = [0u8; LONGEST];
-    let mut store = [0u8; STORE];
-    let n = io::read_full(STDIN_FILENO, &mut input);
-    run(&input[..n], &mut store);
+    match vec![in rt.alloc(); 0u8; STORE] {
+        Ok(mut store) => {
+            let n = io::read_full(STDIN, &mut input);
+            run(&input[..n], &mut store);
+        }
+        Err(_) => print(b"no memory is left\n"),
+    }
 }

@@ -8,16 +8,16 @@ use mathlib.Core.List.{[], ◌∷◌, reverse, reverse-append, reverse-reverse}
 use lib.ListN.{length, take, drop, get_or, drop_of_length-le}
 use lib.Seq.{drop-cons, take-suc}
 use borrow.Author.Tests.{eq-eqb, ne_eqb}
-use Rattle.reference.specs.Control.{if◌then◌else◌}
+use Rattle.reference.specs.Control.{when◌then◌else◌}
 use Rattle.reference.specs.Text.{Text, trim_start}
 
 module _ (x : ℕ) (s : Text) where
   trim_space : x ≡ 32 → trim_start (x ∷ s) ≡ trim_start s
-  unfolding if◌then◌else◌
+  unfolding when◌then◌else◌
   trim_space e = rw (eq-eqb x 32 e)
 
   trim-other : (x ≡ 32 → ⊥) → trim_start (x ∷ s) ≡ x ∷ s
-  unfolding if◌then◌else◌
+  unfolding when◌then◌else◌
   trim-other n = rw (ne_eqb x 32 n)
 
 module _ (s : Text) (i : ℕ) where

@@ -1,10 +1,9 @@
 // Two texts compared, and a byte looked for: `==`, `starts_with`, `ends_with` and `contains` of Rust's `str`.
 ghost use Rattle.std.specs.Prelude.{◌≡◌};
-ghost use Rattle.reference.specs.Contract.{was};
-ghost use Rattle.reference.specs.Text.{◌==◌, starts_with, ends_with, contains};
+ghost use Rattle.reference.specs.Text.{◌≟◌, starts_with, ends_with, contains};
 
 pub fn same(a: &[u8], b: &[u8]) -> bool
-    ensures { result ≡ (was a == was b) }
+    ensures { result ≡ (a.now ≟ b.now) }
 {
     if a.len() != b.len() {
         return false;
@@ -20,7 +19,7 @@ pub fn same(a: &[u8], b: &[u8]) -> bool
 }
 
 pub fn starts(s: &[u8], front: &[u8]) -> bool
-    ensures { result ≡ starts_with (was s) (was front) }
+    ensures { result ≡ starts_with s.now front.now }
 {
     let n = front.len();
     if s.len() < n {
@@ -30,7 +29,7 @@ pub fn starts(s: &[u8], front: &[u8]) -> bool
 }
 
 pub fn ends(s: &[u8], back: &[u8]) -> bool
-    ensures { result ≡ ends_with (was s) (was back) }
+    ensures { result ≡ ends_with s.now back.now }
 {
     let n = back.len();
     if s.len() < n {
@@ -41,7 +40,7 @@ pub fn ends(s: &[u8], back: &[u8]) -> bool
 }
 
 pub fn has_byte(s: &[u8], b: u8) -> bool
-    ensures { result ≡ contains (was s) b }
+    ensures { result ≡ contains s.now b }
 {
     let mut i = 0;
     while i < s.len() {

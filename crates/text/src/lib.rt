@@ -1,4 +1,6 @@
 // Byte slices as texts: comparisons, the literals that the Rust looks for, trimming, copying.
+#![tactic(auto)]
+
 mod compare; // two texts, and a byte in a text
 mod copying; // what is written into a lent slice
 mod punctuation; // a function for each literal, or row of literals

@@ -1,10 +1,9 @@
 // One function for each literal, or row of literals, that the Rust looks for in a text. A constant stands in a function with no loop, so
 // that it is in no loop's invariant.
 ghost use Rattle.std.specs.Prelude.{◌≡◌, [], ◌∷◌};
-ghost use Rattle.reference.specs.Contract.{was};
-ghost use Rattle.reference.specs.Control.{◌||◌};
+ghost use Rattle.reference.specs.Control.{◌or◌};
 ghost use Rattle.reference.specs.Lists.{any};
-ghost use Rattle.reference.specs.Text.{◌==◌, starts_with, ends_with, contains, bytes, trim_start};
+ghost use Rattle.reference.specs.Text.{◌≟◌, starts_with, ends_with, contains, bytes, trim_start};
 ghost use Rattle.reference.specs.Join.{starts_with_operator};
 ghost use Rattle.text.specs.Punctuation.{sums, products, shifts, updates};
 
@@ -14,38 +13,38 @@ use crate::trimming::trim_start;
 // ---- whole texts
 
 pub fn is_colon(s: &[u8]) -> bool
-    ensures { result ≡ (was s == bytes ":") }
+    ensures { result ≡ (s.now ≟ bytes ":") }
 {
     same(s, b":")
 }
 
 pub fn is_comma(s: &[u8]) -> bool
-    ensures { result ≡ (was s == bytes ",") }
+    ensures { result ≡ (s.now ≟ bytes ",") }
 {
     same(s, b",")
 }
 
 pub fn is_assign(s: &[u8]) -> bool
-    ensures { result ≡ (was s == bytes " = ") }
+    ensures { result ≡ (s.now ≟ bytes " = ") }
 {
     same(s, b" = ")
 }
 
 pub fn is_plus(s: &[u8]) -> bool
-    ensures { result ≡ (was s == bytes " + ") }
+    ensures { result ≡ (s.now ≟ bytes " + ") }
 {
     same(s, b" + ")
 }
 
 pub fn is_minus(s: &[u8]) -> bool
-    ensures { result ≡ (was s == bytes " - ") }
+    ensures { result ≡ (s.now ≟ bytes " - ") }
 {
     same(s, b" - ")
 }
 
 // The names of a call's result.
 pub fn is_result_name(s: &[u8]) -> bool
-    ensures { result ≡ ((was s == bytes "rax") || (was s == bytes "eax")) }
+    ensures { result ≡ ((s.now ≟ bytes "rax") or (s.now ≟ bytes "eax")) }
 {
     same(s, b"rax") || same(s, b"eax")
 }
@@ -53,90 +52,90 @@ pub fn is_result_name(s: &[u8]) -> bool
 // ---- how a text begins
 
 pub fn begins_assign(s: &[u8]) -> bool
-    ensures { result ≡ starts_with (was s) (bytes " = ") }
+    ensures { result ≡ starts_with s.now (bytes " = ") }
 {
     starts(s, b" = ")
 }
 
 pub fn begins_equal(s: &[u8]) -> bool
-    ensures { result ≡ starts_with (was s) (bytes " ==") }
+    ensures { result ≡ starts_with s.now (bytes " ==") }
 {
     starts(s, b" ==")
 }
 
 pub fn begins_bracket(s: &[u8]) -> bool
-    ensures { result ≡ starts_with (was s) (bytes "(") }
+    ensures { result ≡ starts_with s.now (bytes "(") }
 {
     starts(s, b"(")
 }
 
 // A call through a cast pointer.
 pub fn begins_void(s: &[u8]) -> bool
-    ensures { result ≡ starts_with (was s) (bytes "((void") }
+    ensures { result ≡ starts_with s.now (bytes "((void") }
 {
     starts(s, b"((void")
 }
 
 // A read of memory.
 pub fn begins_read(s: &[u8]) -> bool
-    ensures { result ≡ starts_with (was s) (bytes "*(") }
+    ensures { result ≡ starts_with s.now (bytes "*(") }
 {
     starts(s, b"*(")
 }
 
 // A stack slot.
 pub fn begins_slot(s: &[u8]) -> bool
-    ensures { result ≡ starts_with (was s) (bytes "var_") }
+    ensures { result ≡ starts_with s.now (bytes "var_") }
 {
     starts(s, b"var_")
 }
 
 pub fn begins_hex(s: &[u8]) -> bool
-    ensures { result ≡ starts_with (was s) (bytes "0x") }
+    ensures { result ≡ starts_with s.now (bytes "0x") }
 {
     starts(s, b"0x")
 }
 
 pub fn begins_minus(s: &[u8]) -> bool
-    ensures { result ≡ starts_with (was s) (bytes "-") }
+    ensures { result ≡ starts_with s.now (bytes "-") }
 {
     starts(s, b"-")
 }
 
 pub fn begins_plus(s: &[u8]) -> bool
-    ensures { result ≡ starts_with (was s) (bytes "+") }
+    ensures { result ≡ starts_with s.now (bytes "+") }
 {
     starts(s, b"+")
 }
 
 // Whether a text begins with one of four.
 fn begins_one_of(s: &[u8], a: &[u8], b: &[u8], c: &[u8], d: &[u8]) -> bool
-    ensures { result ≡ any (starts_with (was s)) (was a ∷ was b ∷ was c ∷ was d ∷ []) }
+    ensures { result ≡ any (starts_with s.now) (a.now ∷ b.now ∷ c.now ∷ d.now ∷ []) }
 {
     starts(s, a) || (starts(s, b) || (starts(s, c) || starts(s, d)))
 }
 
 // The operators that write what stands before them, but ` = `, in three groups: a longer row of tests is more than one search finds.
 fn begins_sum(s: &[u8]) -> bool
-    ensures { result ≡ any (starts_with (was s)) sums }
+    ensures { result ≡ any (starts_with s.now) sums }
 {
     begins_one_of(s, b" += ", b" -= ", b" &= ", b" |= ")
 }
 
 fn begins_product(s: &[u8]) -> bool
-    ensures { result ≡ any (starts_with (was s)) products }
+    ensures { result ≡ any (starts_with s.now) products }
 {
     begins_one_of(s, b" ^= ", b" *= ", b" /= ", b" <<= ")
 }
 
 fn begins_shift(s: &[u8]) -> bool
-    ensures { result ≡ any (starts_with (was s)) shifts }
+    ensures { result ≡ any (starts_with s.now) shifts }
 {
     starts(s, b" >>= ") || (starts(s, b"++") || starts(s, b"--"))
 }
 
 pub fn begins_update(s: &[u8]) -> bool
-    ensures { result ≡ any (starts_with (was s)) updates }
+    ensures { result ≡ any (starts_with s.now) updates }
 {
     begins_sum(s) || (begins_product(s) || begins_shift(s))
 }
@@ -150,7 +149,7 @@ fn is_operator_byte(b: u8) -> bool
 
 // Whether an operator stands first, or behind spaces.
 pub fn begins_operator(s: &[u8]) -> bool
-    ensures { result ≡ starts_with_operator (trim_start (was s)) }
+    ensures { result ≡ starts_with_operator (trim_start s.now) }
 {
     let t = trim_start(s);
     if t.len() == 0 {
@@ -161,7 +160,7 @@ pub fn begins_operator(s: &[u8]) -> bool
 
 // Whether a value that stands before this text has a delimiter after it.
 pub fn delimits_after(s: &[u8]) -> bool
-    ensures { result ≡ (starts_with (was s) (bytes ")") || starts_with (was s) (bytes ",") || starts_with (was s) (bytes ";")) }
+    ensures { result ≡ (starts_with s.now (bytes ")") or starts_with s.now (bytes ",") or starts_with s.now (bytes ";")) }
 {
     starts(s, b")") || (starts(s, b",") || starts(s, b";"))
 }
@@ -169,20 +168,20 @@ pub fn delimits_after(s: &[u8]) -> bool
 // ---- how a text ends
 
 pub fn ends_semicolon(s: &[u8]) -> bool
-    ensures { result ≡ ends_with (was s) (bytes ";") }
+    ensures { result ≡ ends_with s.now (bytes ";") }
 {
     ends(s, b";")
 }
 
 pub fn ends_ampersand(s: &[u8]) -> bool
-    ensures { result ≡ ends_with (was s) (bytes "&") }
+    ensures { result ≡ ends_with s.now (bytes "&") }
 {
     ends(s, b"&")
 }
 
 // Whether a value that stands after this text has a delimiter before it.
 pub fn delimits_before(s: &[u8]) -> bool
-    ensures { result ≡ (ends_with (was s) (bytes "(") || ends_with (was s) (bytes ", ") || ends_with (was s) (bytes " = ")) }
+    ensures { result ≡ (ends_with s.now (bytes "(") or ends_with s.now (bytes ", ") or ends_with s.now (bytes " = ")) }
 {
     ends(s, b"(") || (ends(s, b", ") || ends(s, b" = "))
 }
@@ -190,7 +189,7 @@ pub fn delimits_before(s: &[u8]) -> bool
 // ---- what a text holds
 
 pub fn has_brace(s: &[u8]) -> bool
-    ensures { result ≡ (contains (was s) 123 || contains (was s) 125) }
+    ensures { result ≡ (contains s.now 123 or contains s.now 125) }
 {
     has_byte(s, b'{') || has_byte(s, b'}')
 }

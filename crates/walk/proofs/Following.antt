@@ -3,12 +3,12 @@ use Prim.Native.Nat.{ℕ, zero, suc, ◌+◌, ◌≤◌}
 use native.Mathlib.Omega.{arith}
 use native.Mathlib.Nat.{le_refl}
 use mathlib.Core.Path.{◌≡◌, refl, sym, ap, ◌∙◌}
-use mathlib.Core.Bool.{Bool, true, false, false≢true}
+use mathlib.Core.Bool.{Bool, true, false}
 use mathlib.Core.List.{List, [], ◌∷◌}
 use lib.ListN.{length, drop, length-drop}
 use lib.Seq.{drop-drop}
 use borrow.Author.Tests.{leb-true, le-leb}
-use Rattle.reference.specs.Control.{not, ◌&&◌, if◌then◌else◌}
+use Rattle.reference.specs.Control.{not, ◌and◌, when◌then◌else◌}
 use Rattle.reference.specs.Tape as Tape
 use Rattle.reference.specs.Tape.{old, command_size, command_of}
 use Rattle.reference.specs.Questions.{is_command_by, ends_inside_by, is_end, Refused}
@@ -31,11 +31,11 @@ unfolding goes_on ends_inside_by
 goes rest e = let b = both e in let d = both b.1 in (form_of rest b.0, leb-true _ _ d.0, not-true d.1)
 
 nothing : goes_on [] ≡ false
-unfolding goes_on is_command_by ◌&&◌
+unfolding goes_on is_command_by ◌and◌
 nothing = refl
 
-same_if {ℓ} : {A : Type ℓ} {x y : A} (z : A) (b : Bool) → (b ≡ true → x ≡ y) → (if b then x else z) ≡ (if b then y else z)
-unfolding if◌then◌else◌
+same_if {ℓ} : {A : Type ℓ} {x y : A} (z : A) (b : Bool) → (b ≡ true → x ≡ y) → (when b then x else z) ≡ (when b then y else z)
+unfolding when◌then◌else◌
 same_if z true h = h refl
 same_if z false h = refl
 

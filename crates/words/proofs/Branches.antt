@@ -4,13 +4,13 @@ use mathlib.Core.Path.{◌≡◌, sym, ◌∙◌}
 use mathlib.Core.Bool.{Bool, true, false}
 use lib.Dec.{eqb, ltb}
 use borrow.Author.Tests.{eq-eqb, ne_eqb, lt-ltb, le-ltb}
-use Rattle.reference.specs.Control.{if◌then◌else◌}
+use Rattle.reference.specs.Control.{when◌then◌else◌}
 use Rattle.laws.proofs.Scans.{if-true, if-false}
 
-pub if_here {ℓ} : {A : Type ℓ} {a : Bool} {x r : A} (y : A) → a ≡ true → r ≡ x → r ≡ (if a then x else y)
+pub if_here {ℓ} : {A : Type ℓ} {a : Bool} {x r : A} (y : A) → a ≡ true → r ≡ x → r ≡ (when a then x else y)
 if_here y e f = f ∙ sym (if-true _ y e)
 
-pub if-there {ℓ} : {A : Type ℓ} {a : Bool} {y r : A} (x : A) → a ≡ false → r ≡ y → r ≡ (if a then x else y)
+pub if-there {ℓ} : {A : Type ℓ} {a : Bool} {y r : A} (x : A) → a ≡ false → r ≡ y → r ≡ (when a then x else y)
 if-there x e f = f ∙ sym (if-false x _ e)
 
 -- the same, where the definition names what a call answered

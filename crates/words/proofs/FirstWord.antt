@@ -5,14 +5,13 @@ use native.Mathlib.Decide.{dec_lt}
 use native.Mathlib.Numerals.{add-one}
 use mathlib.Core.Path.{◌≡◌, refl, sym, ap, ◌∙◌}
 use mathlib.Core.Logic.{by_cases}
-use mathlib.Core.Bool.{Bool, true, false}
+use mathlib.Core.Bool.{true, false}
 use mathlib.Core.List.{List, [], ◌∷◌, ◌++◌}
-use lib.Dec.{eqb}
 use lib.ListN.{length, take, drop, get_or, take-append-drop, length-take, length-drop, drop_of_length-le}
 use lib.Seq.{drop-cons, drop-drop, get_or-take, get_or-drop, take_all}
 use borrow.Author.Tests.{ne_eqb}
-use Rattle.reference.specs.Control.{if◌then◌else◌}
-use Rattle.reference.specs.Text.{Text, ◌==◌}
+use Rattle.reference.specs.Control.{when◌then◌else◌}
+use Rattle.reference.specs.Text.{Text, ◌≟◌}
 use Rattle.laws.proofs.Scans.{if-true, if-false}
 use Rattle.words.specs.Splitting.{onto, split, number_of, EndsAt}
 
@@ -23,12 +22,12 @@ tail_of : (b : ℕ) (w : List ℕ) → NoZero (b ∷ w) → NoZero w
 tail_of b w n i h = n (suc i) (omega arith)
 
 word_then : (w rest : List ℕ) → NoZero w → split (w ++ 0 ∷ rest) ≡ w ∷ split rest
-unfolding split onto if◌then◌else◌
+unfolding split onto when◌then◌else◌
 word_then [] rest n = refl
 word_then (b ∷ w) rest n = rw (ne_eqb b 0 (n 0 (omega arith)), word_then w rest (tail_of b w n))
 
 word-last : (b : ℕ) (w : List ℕ) → NoZero (b ∷ w) → split (b ∷ w) ≡ (b ∷ w) ∷ []
-unfolding split onto if◌then◌else◌
+unfolding split onto when◌then◌else◌
 word-last b [] n = rw (ne_eqb b 0 (n 0 (omega arith)))
 word-last b (x ∷ w) n = rw (ne_eqb b 0 (n 0 (omega arith)), word-last x w (tail_of b (x ∷ w) n))
 
@@ -76,11 +75,11 @@ module _ (words : List ℕ) {at e : ℕ} (h : at < length words) (ends : EndsAt 
       word-only (drop at words) some_byte n ∙ rw (whole, none) refl)
 
   -- a turn of the search
-  pub found_word : (w : Text) → (take (e - at) (drop at words) == w) ≡ true → number_of (split (drop at words)) w ≡ 0
+  pub found_word : (w : Text) → (take (e - at) (drop at words) ≟ w) ≡ true → number_of (split (drop at words)) w ≡ 0
   unfolding number_of
   found_word w f = ap (λ (ws : List Text). number_of ws w) first_word ∙ if-true _ _ f
 
-  pub next_word : (w : Text) → (take (e - at) (drop at words) == w) ≡ false
+  pub next_word : (w : Text) → (take (e - at) (drop at words) ≟ w) ≡ false
       → number_of (split (drop at words)) w ≡ suc (number_of (split (drop (e + 1) words)) w)
   unfolding number_of
   next_word w f = ap (λ (ws : List Text). number_of ws w) first_word ∙ if-false _ _ f

@@ -1,5 +1,7 @@
 // The words of a slice, and the numbers that digits stand for. What words ask for is said above this, in crate arguments: the text form of
 // a listing and the reports need words and digits, and no grammar.
+#![tactic(auto)]
+
 mod numerals; // digits that stand for a number
 mod splitting; // words, each ended by a 0
 

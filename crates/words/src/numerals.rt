@@ -1,13 +1,12 @@
 // Digits that stand for a number, decimal or hexadecimal.
 ghost use Rattle.std.specs.Prelude.{◌≡◌, ◌≤◌, ◌<◌};
-ghost use Rattle.reference.specs.Contract.{was};
 ghost use Rattle.words.specs.Numerals.{option_of, digit, number_in, base_in};
 ghost use Rattle.words.specs.Numerals.{unsigned_in, magnitude_in, negated, negative_in, integer_in};
 
 use tape::little_endian::wide;
 
 // What a word stands for, if it is as it should be.
-#[derive(Drop)]
+#[derive(Clone, Copy)]
 pub enum Value {
     Is(u64),
     Not,
@@ -41,7 +40,7 @@ fn digit(b: u64) -> u64
 // The number that a word of 1 to 16 digits stands for.
 pub fn number_in(word: &[u8], base: u64) -> Value
     requires { base ≤ 16 }
-    ensures { option_of result ≡ number_in base (was word) }
+    ensures { option_of result ≡ number_in base word.now }
 {
     if word.len() == 0 {
         return Value::Not;
@@ -64,7 +63,7 @@ pub fn number_in(word: &[u8], base: u64) -> Value
 
 // A base: hexadecimal, with 0x in front or without.
 pub fn base_in(word: &[u8]) -> Value
-    ensures { option_of result ≡ base_in (was word) }
+    ensures { option_of result ≡ base_in word.now }
 {
     if text::starts(word, b"0x") {
         return number_in(&word[2..], 16);
@@ -78,7 +77,7 @@ const MOST: u64 = 18446744073709551615;
 // The number below 2^64 that a word of digits stands for.
 fn unsigned_in(word: &[u8], base: u64) -> Value
     requires { (0 < base) × (base ≤ 16) }
-    ensures { option_of result ≡ unsigned_in base (was word) }
+    ensures { option_of result ≡ unsigned_in base word.now }
 {
     if word.len() == 0 {
         return Value::Not;
@@ -101,7 +100,7 @@ fn unsigned_in(word: &[u8], base: u64) -> Value
 
 // The number below 2^64 that a word stands for: decimal, or hexadecimal behind 0x.
 fn magnitude_in(word: &[u8]) -> Value
-    ensures { option_of result ≡ magnitude_in (was word) }
+    ensures { option_of result ≡ magnitude_in word.now }
 {
     if text::starts(word, b"0x") {
         return unsigned_in(&word[2..], 16);
@@ -124,7 +123,7 @@ fn negated(v: u64) -> Value
 
 // The number that stands behind a minus, as two's complement has it.
 fn negative_in(word: &[u8]) -> Value
-    ensures { option_of result ≡ negative_in (was word) }
+    ensures { option_of result ≡ negative_in word.now }
 {
     match magnitude_in(word) {
         Value::Is(v) => negated(v),
@@ -134,7 +133,7 @@ fn negative_in(word: &[u8]) -> Value
 
 // What a 64-bit register can hold: 0 to 2^64 - 1, or -1 to -2^63.
 pub fn integer_in(word: &[u8]) -> Value
-    ensures { option_of result ≡ integer_in (was word) }
+    ensures { option_of result ≡ integer_in word.now }
 {
     if text::starts(word, b"-") {
         return negative_in(&word[1..]);

@@ -6,18 +6,18 @@ use native.Mathlib.Decide.{ℕ_discrete}
 use mathlib.Core.Logic.{◌⊎◌, inl, inr, by_cases}
 use mathlib.Core.Path.{◌≡◌, refl, sym, ap, ◌∙◌}
 use mathlib.Core.Bool.{Bool, true, false, false≢true}
-use mathlib.Core.List.{[], ◌∷◌}
+use mathlib.Core.List.{[]}
 use mathlib.Core.Option.{Option, none, some}
 use lib.Dec.{eqb, ltb}
 use lib.ListN.{length, take, drop, get_or}
 use lib.Seq.{take-length}
 use borrow.Author.Tests.{eqb-true, eq-eqb, ne_eqb, lt-ltb, le-ltb}
-use Rattle.reference.specs.Control.{◌&&◌, if◌then◌else◌, let_some◌else◌then◌}
+use Rattle.reference.specs.Control.{◌and◌, when◌then◌else◌, let_some◌else◌then◌}
 use Rattle.reference.specs.Lists.{position}
-use Rattle.reference.specs.Text.{Text, ◌==◌}
-use Rattle.reference.specs.Listing.{Token, token, is, Register}
+use Rattle.reference.specs.Text.{Text, ◌≟◌}
+use Rattle.reference.specs.Listing.{Token, is, Register}
 use Rattle.reference.specs.Names.{Fam as NFam, family, fam_of, of_family}
-use Rattle.reference.proofs.Cases.{some_inj, none-some, fails}
+use Rattle.reference.proofs.Cases.{some_inj, fails}
 use Rattle.laws.proofs.Scans.{if-true, if-false}
 use Rattle.names.specs.Families.{ROWS, row_name, is_row, Spells}
 use Rattle.names.specs.declared.families.Spelled.{Spelled}
@@ -43,10 +43,10 @@ unfolding bucket
 bucket-long s h e = e ∙ sym (if-false _ _ (le-ltb (length s) 2 h))
 
 pub bucket-below : (s : Text) → bucket s < 7
-unfolding bucket if◌then◌else◌
+unfolding bucket when◌then◌else◌
 bucket-below s = step (ltb (length s) 2)
   where
-    step : (b : Bool) → (if b then 0 else (get_or s (length s - 1) 0 + 3 * get_or s (length s - 2) 0) % 7) < 7
+    step : (b : Bool) → (when b then 0 else (get_or s (length s - 1) 0 + 3 * get_or s (length s - 2) 0) % 7) < 7
     step true = omega arith
     step false = omega arith
 
@@ -55,41 +55,41 @@ bucket-small s e = rw e (bucket-below s)
 
 -- one test of all rows
 rows_numbered : all-below 8 (λ r. eqb (family_number (row_name r)) r) ≡ true
-unfolding all-below family_number let_some◌else◌then◌ if◌then◌else◌ ◌&&◌
+unfolding all-below family_number let_some◌else◌then◌ when◌then◌else◌ ◌and◌
 rows_numbered = refl
 
 pub row-numbered : (r : ℕ) → r < 8 → family_number (row_name r) ≡ r
 row-numbered r h = eqb-true (family_number (row_name r)) r (below_at 8 (λ r. eqb (family_number (row_name r)) r) r rows_numbered h)
 
-numbered_by : (name : Text) (o : Option ℕ) → position (◌== name) ROWS ≡ o → family_number name ≡ (let_some o else 8 + bucket name then λ r. r)
+numbered_by : (name : Text) (o : Option ℕ) → position (◌≟ name) ROWS ≡ o → family_number name ≡ (let_some o else 8 + bucket name then λ r. r)
 unfolding family_number
 numbered_by name o e = rw e
 
 -- a name that is no row's
 pub text_numbered : (s : Text) → is_row s ≡ false → family_number s ≡ 8 + bucket s
 unfolding is_row let_some◌else◌then◌
-text_numbered s e = step (position (◌== s) ROWS) refl
+text_numbered s e = step (position (◌≟ s) ROWS) refl
   where
-    step : (o : Option ℕ) → position (◌== s) ROWS ≡ o → family_number s ≡ 8 + bucket s
+    step : (o : Option ℕ) → position (◌≟ s) ROWS ≡ o → family_number s ≡ 8 + bucket s
     step none f = numbered_by s none f
-    step (some r) f = let g = position_at (◌== s) ROWS [] f in absurd (false≢true (sym e ∙ any_at (◌== s) ROWS [] r g.0 g.1))
+    step (some r) f = let g = position_at (◌≟ s) ROWS [] f in absurd (false≢true (sym e ∙ any_at (◌≟ s) ROWS [] r g.0 g.1))
 
 -- a number from 8 on is no row's
 pub no_row : (s : Text) → 8 ≤ family_number s → is_row s ≡ false
 unfolding is_row let_some◌else◌then◌
-no_row s h = step (position (◌== s) ROWS) refl
+no_row s h = step (position (◌≟ s) ROWS) refl
   where
-    step : (o : Option ℕ) → position (◌== s) ROWS ≡ o → is_row s ≡ false
-    step none f = position_none (◌== s) ROWS f
-    step (some r) f = absurd (let g : r < 8 = (position_at (◌== s) ROWS [] f).0 in omega (arith, numbered_by s (some r) f))
+    step : (o : Option ℕ) → position (◌≟ s) ROWS ≡ o → is_row s ≡ false
+    step none f = position_none (◌≟ s) ROWS f
+    step (some r) f = absurd (let g : r < 8 = (position_at (◌≟ s) ROWS [] f).0 in omega (arith, numbered_by s (some r) f))
 
 pub number_below : (s : Text) → family_number s < 15
 unfolding let_some◌else◌then◌
-number_below s = step (position (◌== s) ROWS) refl
+number_below s = step (position (◌≟ s) ROWS) refl
   where
-    step : (o : Option ℕ) → position (◌== s) ROWS ≡ o → family_number s < 15
+    step : (o : Option ℕ) → position (◌≟ s) ROWS ≡ o → family_number s < 15
     step none f = omega (arith, numbered_by s none f, bucket-below s)
-    step (some r) f = let g : r < 8 = (position_at (◌== s) ROWS [] f).0 in omega (arith, numbered_by s (some r) f)
+    step (some r) f = let g : r < 8 = (position_at (◌≟ s) ROWS [] f).0 in omega (arith, numbered_by s (some r) f)
 
 -- ---- the name that a code says
 
@@ -148,7 +148,7 @@ module _ (tape area : Text) (w : ℕ) (p : Points tape area w) (n : code_of w �
 
 -- ---- a row's code
 
-pub row-coded : (c : ℕ) (s : Text) (f : ℕ) → Says c s → f < 8 → eqb (c / 4) (f + 1) ≡ (coded_name c s == row_name f)
+pub row-coded : (c : ℕ) (s : Text) (f : ℕ) → Says c s → f < 8 → eqb (c / 4) (f + 1) ≡ (coded_name c s ≟ row_name f)
 row-coded c s f q h =
     by_cases (ℕ_discrete (c / 4) (f + 1))
     (λ e.
@@ -170,10 +170,10 @@ module _ (tape area : Text) (w f : ℕ) {k : ℕ} (ek : k ≡ kind_of w) where
 
 -- the place of a width, back from the width
 back : ℕ → ℕ
-back k = if eqb k 64 then 0 else if eqb k 32 then 1 else if eqb k 16 then 2 else 3
+back k = when eqb k 64 then 0 else when eqb k 32 then 1 else when eqb k 16 then 2 else 3
 
 places : all-below 4 (λ k. eqb (back (get_or WIDTHS k 0)) k) ≡ true
-unfolding all-below back if◌then◌else◌ ◌&&◌
+unfolding all-below back when◌then◌else◌ ◌and◌
 places = refl
 
 width_back : (k : ℕ) → k < 4 → back (get_or WIDTHS k 0) ≡ k
@@ -194,13 +194,13 @@ one_code {a} {b} {s} f g =
     omega (arith, f.least, g.least)
 
 pub codes_differ : (tape area : Text) {v w a b : ℕ} → Points tape area v → Points tape area w → a ≡ code_of v → b ≡ code_of w → (a ≡ b → ⊥) → (a ≡ 0 → ⊥) → (b ≡ 0 → ⊥)
-    → false ≡ (text_of tape area v == text_of tape area w)
+    → false ≡ (text_of tape area v ≟ text_of tape area w)
 codes_differ tape area {v} {w} p q ea eb d na nb = sym (fails (λ t.
     let f : Says (code_of v) (text_of tape area v) = says tape area v p (λ z. na (ea ∙ z)) in
     let g : Says (code_of w) (text_of tape area w) = says tape area w q (λ z. nb (eb ∙ z)) in
     d (ea ∙ one_code (rw (same_true (text_of tape area v) (text_of tape area w) t) at f) g ∙ sym eb)))
 
-pub same_by : (tape area : Text) (v w : ℕ) {x : Bool} {s t : Text} → s ≡ text_of tape area v → t ≡ text_of tape area w → x ≡ (s == t) → x ≡ (text_of tape area v == text_of tape area w)
+pub same_by : (tape area : Text) (v w : ℕ) {x : Bool} {s t : Text} → s ≡ text_of tape area v → t ≡ text_of tape area w → x ≡ (s ≟ t) → x ≡ (text_of tape area v ≟ text_of tape area w)
 same_by tape area v w es et e = rw (← es, ← et) e
 
 -- ---- the codes that are made

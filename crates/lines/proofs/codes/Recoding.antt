@@ -1,16 +1,16 @@
 -- Words that were coded: each is the same token, and points where it did; so do the lines and the listing that they make. Assumes nothing.
-use Prim.Native.Nat.{ℕ, zero, suc, ◌+◌, ◌-◌, ◌≤◌, ◌<◌, min}
+use Prim.Native.Nat.{ℕ, suc, ◌+◌, ◌-◌, ◌<◌, min}
 use native.Mathlib.Nat.{lt_of_lt_of_le, min-le_left, min-le_right}
 use native.Mathlib.Omega.{arith}
 use native.Mathlib.Decide.{ℕ_discrete}
 use mathlib.Core.Logic.{◌⊎◌, inl, inr, by_cases}
-use mathlib.Core.Path.{◌≡◌, refl, sym, ap, ◌∙◌}
+use mathlib.Core.Path.{◌≡◌, refl, sym, ◌∙◌}
 use mathlib.Core.List.{List, [], ◌∷◌, map}
 use lib.ListN.{length, take, drop, get_or, set, length-take, length-drop, length-set}
 use lib.Seq.{get_or-take, get_or-drop, get_or-set_same, get_or-set_other}
 use Rattle.reference.specs.Text.{Text}
 use Rattle.lines.specs.Codes.{Says, Codes}
-use Rattle.lines.specs.Words.{buffer_of, start_of, len_of, code_of, with_code, text_of, token_of, tokens_of, Coded, Points, Holds, Recoded, Recodes}
+use Rattle.lines.specs.Words.{buffer_of, start_of, len_of, with_code, text_of, token_of, tokens_of, Coded, Holds, Recoded, Recodes}
 use Rattle.lines.specs.Lines.{first_of, count_of, part_of, line_in, listing_of, Lined, Listed}
 use Rattle.lines.proofs.words.Each.{map_same}
 use Rattle.lines.proofs.words.Tokens.{coded_kind, coded_place, coded_start, coded-len, coded-code}

@@ -9,8 +9,8 @@ use mathlib.Core.Option.{Option, none, some}
 use lib.Dec.{eqb}
 use lib.ListN.{length, take}
 use borrow.Author.Tests.{eq-eqb, ne_eqb, lt-ltb, le-ltb}
-use Rattle.reference.specs.Control.{◌&&◌, let_some◌else◌then◌}
-use Rattle.reference.specs.Text.{Text, ◌==◌, has}
+use Rattle.reference.specs.Control.{◌and◌, let_some◌else◌then◌}
+use Rattle.reference.specs.Text.{Text, ◌≟◌, has}
 use Rattle.reference.specs.Listing.{Token, is, Register}
 use Rattle.reference.specs.Names.{family, fam_of, of_family, volatile_of}
 use Rattle.reference.specs.Names as N
@@ -66,15 +66,15 @@ unfolding len_of
 name-least w h = omega arith
 
 module _ (tape area : Text) {f g : Fam} (kf : Known tape area f) (kg : Known tape area g) where
-  pub same_as_row : f < 8 → eqb f g ≡ (fam_text tape area f == fam_text tape area g)
+  pub same_as_row : f < 8 → eqb f g ≡ (fam_text tape area f ≟ fam_text tape area g)
   same_as_row h = row_or-name g
       (λ i. rw (fam-row tape area {f = f} h, fam-row tape area {f = g} i) (sym (same_row f g h i)))
       (λ i. ne_eqb f g (λ e. omega arith) ∙ sym (rw (fam-row tape area {f = f} h, fam-name tape area {f = g} i) (row-not_text f (text_of tape area g) h (kg.no_row i))))
 
-  pub name-not-row : 8 ≤ f → g < 8 → false ≡ (fam_text tape area f == fam_text tape area g)
+  pub name-not-row : 8 ≤ f → g < 8 → false ≡ (fam_text tape area f ≟ fam_text tape area g)
   name-not-row h i = rw (fam-name tape area {f = f} h, fam-row tape area {f = g} i) (sym (text_not_row g (text_of tape area f) i (kf.no_row h)))
 
-  pub same_as_name : {x : Bool} → 8 ≤ f → 8 ≤ g → x ≡ (text_of tape area f == text_of tape area g) → x ≡ (fam_text tape area f == fam_text tape area g)
+  pub same_as_name : {x : Bool} → 8 ≤ f → 8 ≤ g → x ≡ (text_of tape area f ≟ text_of tape area g) → x ≡ (fam_text tape area f ≟ fam_text tape area g)
   same_as_name h i e = rw (fam-name tape area {f = f} h, fam-name tape area {f = g} i) e
 
 pub fam_overwritten : (tape area : Text) (c : ℕ) (f : Fam) → Known tape area f
@@ -148,13 +148,13 @@ module _ (tape area : Text) (w : ℕ) {k : ℕ} (ek : k ≡ kind_of w) where
 
 -- ---- a token of the family
 
-and_true : (a : Bool) → (a && true) ≡ a
-unfolding ◌&&◌
+and_true : (a : Bool) → (a and true) ≡ a
+unfolding ◌and◌
 and_true true = refl
 and_true false = refl
 
-and_false : (a : Bool) → (a && false) ≡ false
-unfolding ◌&&◌
+and_false : (a : Bool) → (a and false) ≡ false
+unfolding ◌and◌
 and_false true = refl
 and_false false = refl
 
@@ -170,17 +170,17 @@ module _ (tape area : Text) (w : ℕ) {r : Named} (h : Names tape area (fam_of (
   module _ {g : Fam} {k m : ℕ} (e : r ≡ As g k m) where
     pub narrow_wide : 32 ≤ k → false ≡ is_narrow fam (token_of tape area w)
     unfolding is_narrow let_some◌else◌then◌
-    narrow_wide l = rw (← h.is, e, le-ltb k 32 l) (sym (and_false (fam_text tape area g == fam)))
+    narrow_wide l = rw (← h.is, e, le-ltb k 32 l) (sym (and_false (fam_text tape area g ≟ fam)))
 
     -- x is whether the token's family is this one
-    module _ {x : Bool} (ex : x ≡ (fam_text tape area g == fam)) where
+    module _ {x : Bool} (ex : x ≡ (fam_text tape area g ≟ fam)) where
       pub of_as : x ≡ of_family fam (token_of tape area w)
       unfolding of_family let_some◌else◌then◌
       of_as = rw (← h.is, e) ex
 
       pub narrow_as : k < 32 → x ≡ is_narrow fam (token_of tape area w)
       unfolding is_narrow let_some◌else◌then◌
-      narrow_as l = rw (← h.is, e, lt-ltb k 32 l) (ex ∙ sym (and_true (fam_text tape area g == fam)))
+      narrow_as l = rw (← h.is, e, lt-ltb k 32 l) (ex ∙ sym (and_true (fam_text tape area g ≟ fam)))
 
 pub of_other : (tape area : Text) (w : ℕ) (fam : Text) {k : ℕ} → k ≡ kind_of w → (k ≡ Register → ⊥) → false ≡ of_family fam (token_of tape area w)
 of_other tape area w fam ek n = of_none tape area w (fam-other tape area w ek n) fam refl

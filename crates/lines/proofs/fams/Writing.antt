@@ -6,7 +6,7 @@ use mathlib.Core.Bool.{Bool, true, false}
 use mathlib.Core.List.{List, [], ◌∷◌}
 use lib.ListN.{length, get_or, drop, drop_of_length-le}
 use lib.Seq.{drop-cons}
-use Rattle.reference.specs.Control.{◌&&◌, ◌||◌}
+use Rattle.reference.specs.Control.{◌and◌, ◌or◌}
 use Rattle.reference.specs.Lists.{get}
 use Rattle.reference.specs.Text.{Text}
 use Rattle.reference.specs.Listing.{Token}
@@ -28,12 +28,12 @@ written_here : (ts : List Token) (k : ℕ) → is_written (drop k ts) 0 ≡ is_w
 unfolding is_written
 written_here ts k = rw (get_after ts k)
 
-written-cons : (fam : Text) (t : Token) (ts : List Token) → written_from fam (t ∷ ts) ≡ ((of_family fam t && is_written (t ∷ ts) 0) || written_from fam ts)
+written-cons : (fam : Text) (t : Token) (ts : List Token) → written_from fam (t ∷ ts) ≡ ((of_family fam t and is_written (t ∷ ts) 0) or written_from fam ts)
 unfolding written_from
 written-cons fam t ts = refl
 
 module _ (tape area fam : Text) (ws : List ℕ) (k : ℕ) (inv : written_from fam (tokens_of tape area ws) ≡ written_from fam (tokens_of tape area (drop k ws))) where
-  module _ (h : k < length ws) {x : Bool} (ex : x ≡ (of_family fam (token_of tape area (get_or ws k 0)) && is_written (tokens_of tape area ws) k)) where
+  module _ (h : k < length ws) {x : Bool} (ex : x ≡ (of_family fam (token_of tape area (get_or ws k 0)) and is_written (tokens_of tape area ws) k)) where
     head : tokens_of tape area (drop k ws) ≡ token_of tape area (get_or ws k 0) ∷ tokens_of tape area (drop (k + 1) ws)
     head = rw (add-one, drop-cons ws k 0)
 
@@ -41,13 +41,13 @@ module _ (tape area fam : Text) (ws : List ℕ) (k : ℕ) (inv : written_from fa
     place =
         ap (λ (ts : List Token). is_written ts 0) (sym head ∙ map-drop (token_of tape area) k ws) ∙ written_here (tokens_of tape area ws) k
 
-    step : written_from fam (tokens_of tape area ws) ≡ (x || written_from fam (tokens_of tape area (drop (k + 1) ws)))
+    step : written_from fam (tokens_of tape area ws) ≡ (x or written_from fam (tokens_of tape area (drop (k + 1) ws)))
     step =
         inv
         ∙ ap (written_from fam) head
         ∙ written-cons fam (token_of tape area (get_or ws k 0)) (tokens_of tape area (drop (k + 1) ws))
-        ∙ ap (λ (b : Bool). (of_family fam (token_of tape area (get_or ws k 0)) && b) || written_from fam (tokens_of tape area (drop (k + 1) ws))) place
-        ∙ ap (λ (b : Bool). b || written_from fam (tokens_of tape area (drop (k + 1) ws))) (sym ex)
+        ∙ ap (λ (b : Bool). (of_family fam (token_of tape area (get_or ws k 0)) and b) or written_from fam (tokens_of tape area (drop (k + 1) ws))) place
+        ∙ ap (λ (b : Bool). b or written_from fam (tokens_of tape area (drop (k + 1) ws))) (sym ex)
 
     pub written-true : x ≡ true → true ≡ written_from fam (tokens_of tape area ws)
     written-true e = sym (step ∙ or_true _ e)

@@ -5,8 +5,8 @@ use mathlib.Core.Path.{◌≡◌, refl}
 use mathlib.Core.Bool.{false}
 use mathlib.Core.List.{List, [], ◌∷◌}
 use lib.ListN.{length, get_or}
-use Rattle.reference.specs.Control.{◌&&◌}
-use Rattle.reference.specs.Text.{Text, bytes, ◌==◌}
+use Rattle.reference.specs.Control.{◌and◌}
+use Rattle.reference.specs.Text.{Text, bytes, ◌≟◌}
 use Rattle.reference.specs.Listing.{is, Symbol, Number}
 use Rattle.reference.specs.Shapes.{label_tokens}
 use Rattle.reference.specs.Join.{lone_number}
@@ -21,7 +21,7 @@ module _ (tape area : Text) where
   label-not (a ∷ b ∷ c ∷ rest) n = refl
 
   pub label_two : (ws : List ℕ) → length ws ≡ 2
-      → label_tokens (tokens_of tape area ws) ≡ ((text_of tape area (get_or ws 1 0) == bytes ":") && is Symbol (token_of tape area (get_or ws 0 0)))
+      → label_tokens (tokens_of tape area ws) ≡ ((text_of tape area (get_or ws 1 0) ≟ bytes ":") and is Symbol (token_of tape area (get_or ws 0 0)))
   unfolding label_tokens
   label_two [] e = absurd (omega arith)
   label_two (a ∷ []) e = absurd (omega arith)

@@ -9,7 +9,7 @@ use lib.Dec.{eqb}
 use lib.ListN.{length, get_or, take}
 use lib.Seq.{take_all, take-suc}
 use borrow.Author.Tests.{eq-eqb, ne_eqb}
-use Rattle.reference.specs.Control.{if◌then◌else◌, let_some◌else◌then◌}
+use Rattle.reference.specs.Control.{when◌then◌else◌, let_some◌else◌then◌}
 use Rattle.reference.specs.Lists.{is_empty}
 use Rattle.reference.specs.Text.{Text, bytes, ends_with}
 use Rattle.reference.specs.Listing.{Token}
@@ -64,7 +64,7 @@ last-split n ws e = sym (take_all (suc n) ws (omega arith)) ∙ take-suc ws n 0 
 module _ (tape area : Text) where
   -- one token that ends so, by its length
   one_cut : (w : ℕ) → Points tape area w → ends_with (text_of tape area w) (bytes ";") ≡ true
-      → cut_semicolon (token_of tape area w ∷ []) ≡ some (if eqb (len_of w) 1 then [] else token_of tape area (without_last w) ∷ [])
+      → cut_semicolon (token_of tape area w ∷ []) ≡ some (when eqb (len_of w) 1 then [] else token_of tape area (without_last w) ∷ [])
   unfolding cut_semicolon
   one_cut w p e =
       if-true _ _ e
@@ -87,7 +87,7 @@ module _ (tape area : Text) where
 
     module _ (h : Holds tape area ws) (e : ends_with (text_of tape area (get_or ws n 0)) (bytes ";") ≡ true) where
       cut : cut_semicolon (tokens_of tape area ws)
-          ≡ some (tokens_of tape area (take n ws) ++ (if eqb (len_of (get_or ws n 0)) 1 then [] else token_of tape area (without_last (get_or ws n 0)) ∷ []))
+          ≡ some (tokens_of tape area (take n ws) ++ (when eqb (len_of (get_or ws n 0)) 1 then [] else token_of tape area (without_last (get_or ws n 0)) ∷ []))
       unfolding after let_some◌else◌then◌
       cut = split ∙ rw (one_cut (get_or ws n 0) (h.at n (omega arith)) e)
 

@@ -8,7 +8,7 @@ use mathlib.Core.List.{List, [], ◌∷◌, map}
 use mathlib.Core.Option.{Option, none, some}
 use lib.ListN.{length, get_or, drop, length-map, length-drop, get_or-map}
 use lib.Seq.{get_or-drop}
-use Rattle.reference.specs.Control.{◌||◌, if◌then◌else◌, let_some◌else◌then◌}
+use Rattle.reference.specs.Control.{◌or◌, when◌then◌else◌, let_some◌else◌then◌}
 use Rattle.reference.specs.Lists.{any, find, position, windows, pairs_from, get, is_some}
 use Rattle.reference.specs.Text.{Text}
 use Rattle.reference.specs.Listing.{is, Symbol}
@@ -36,11 +36,11 @@ found_none e a = rw (← e, a)
 
 module _ {A : Type 0} (p : A → Bool) where
   any_is : (s : List A) → is_some (position p s) ≡ any p s
-  unfolding ◌||◌ if◌then◌else◌ let_some◌else◌then◌
+  unfolding ◌or◌ when◌then◌else◌ let_some◌else◌then◌
   any_is [] = refl
   any_is (x ∷ xs) = step (p x) (position p xs) (any_is xs)
     where
-      step : (b : Bool) {c : Bool} (o : Option ℕ) → is_some o ≡ c → is_some (if b then some 0 else (let_some o else none then λ i. some (suc i))) ≡ (b || c)
+      step : (b : Bool) {c : Bool} (o : Option ℕ) → is_some o ≡ c → is_some (when b then some 0 else (let_some o else none then λ i. some (suc i))) ≡ (b or c)
       step true o e = refl
       step false none e = e
       step false (some i) e = e
@@ -53,24 +53,24 @@ module _ {A : Type 0} (p : A → Bool) where
 
   -- what stands at the place
   pub find_at : (s : List A) (k : ℕ) (d : A) → position p s ≡ some k → (k < length s) × (find p s ≡ some (get_or s k d))
-  unfolding if◌then◌else◌ let_some◌else◌then◌
+  unfolding when◌then◌else◌ let_some◌else◌then◌
   find_at [] k d e = absurd (none-some e)
   find_at (x ∷ xs) k d e = step (p x) (position p xs) e (λ i f. find_at xs i d f) refl
     where
-      step : (b : Bool) (o : Option ℕ) → (if b then some 0 else (let_some o else none then λ i. some (suc i))) ≡ some k
+      step : (b : Bool) (o : Option ℕ) → (when b then some 0 else (let_some o else none then λ i. some (suc i))) ≡ some k
           → ((i : ℕ) → position p xs ≡ some i → (i < length xs) × (find p xs ≡ some (get_or xs i d))) → position p xs ≡ o
-          → (k < length (x ∷ xs)) × ((if b then some x else find p xs) ≡ some (get_or (x ∷ xs) k d))
+          → (k < length (x ∷ xs)) × ((when b then some x else find p xs) ≡ some (get_or (x ∷ xs) k d))
       step true o e h f = let q : 0 ≡ k = some_inj e in rw (sym q) (omega arith, refl)
       step false none e h f = absurd (none-some e)
       step false (some i) e h f = let q : suc i ≡ k = some_inj e in rw (sym q) (omega (arith, (h i f).0), (h i f).1)
 
   pub find_none : (s : List A) → position p s ≡ none → find p s ≡ none
-  unfolding if◌then◌else◌ let_some◌else◌then◌
+  unfolding when◌then◌else◌ let_some◌else◌then◌
   find_none [] e = refl
   find_none (x ∷ xs) e = step (p x) (position p xs) e (find_none xs) refl
     where
-      step : (b : Bool) (o : Option ℕ) → (if b then some 0 else (let_some o else none then λ i. some (suc i))) ≡ none
-          → (position p xs ≡ none → find p xs ≡ none) → position p xs ≡ o → (if b then some x else find p xs) ≡ none
+      step : (b : Bool) (o : Option ℕ) → (when b then some 0 else (let_some o else none then λ i. some (suc i))) ≡ none
+          → (position p xs ≡ none → find p xs ≡ none) → position p xs ≡ o → (when b then some x else find p xs) ≡ none
       step true o e h f = absurd (none-some (sym e))
       step false none e h f = h f
       step false (some i) e h f = absurd (none-some (sym e))

@@ -11,7 +11,7 @@ use lib.Dec.{eqb}
 use lib.ListN.{length, get_or, take, drop, length-drop, length-map, drop_of_length-le}
 use lib.Seq.{get_or-drop, take_all}
 use borrow.Author.Tests.{not-true, not-false, eq-eqb, ne_eqb, eqb-true}
-use Rattle.reference.specs.Control.{if◌then◌else◌, let_some◌else◌then◌}
+use Rattle.reference.specs.Control.{when◌then◌else◌, let_some◌else◌then◌}
 use Rattle.reference.specs.Lists.{is_empty}
 use Rattle.reference.specs.Text.{Text, bytes, starts_with, ends_with}
 use Rattle.reference.specs.Listing.{Token, token, is, Punct}
@@ -47,7 +47,7 @@ starts_three s e = by_cases (dec_le 3 (length s)) (λ h. h) (λ n. absurd (true-
 
 some_side : (tape area : Text) (ws : List ℕ) (ts : List Token) → 0 < length ts
     → some (record { lhs = token_of tape area (get_or ws 0 0); expr = ts }) ≡ sided tape area ws (some ts)
-unfolding let_some◌else◌then◌ if◌then◌else◌
+unfolding let_some◌else◌then◌ when◌then◌else◌
 some_side tape area ws [] h = absurd (omega arith)
 some_side tape area ws (t ∷ ts) h = refl
 
@@ -114,7 +114,7 @@ module _ {tape area : Text} {ws : List ℕ} {first : ℕ} (o : Opens tape area w
           some_byte = omega (arith, ends_some (text_of tape area w) (rw (← es) (sym eb ∙ ends)), text_length last-points)
 
           pub side-kept : (n ≡ 1 → ⊥) → Sides tape area ws first (To (record { first = first; count = length ws - first; cut = true }))
-          unfolding expr_words if◌then◌else◌
+          unfolding expr_words when◌then◌else◌
           side-kept f =
               something (record { first = first; count = length ws - first; cut = true })
               (expression (length ws - first) true (omega arith) (omega arith)
@@ -127,11 +127,11 @@ module _ {tape area : Text} {ws : List ℕ} {first : ℕ} (o : Opens tape area w
             gone = cut-gone tape area last base base-length base-holds (told ends) (rw (last_word, ← en) one)
 
             pub side-only : length ws ≡ first + 1 → Sides tape area ws first Nothing
-            unfolding let_some◌else◌then◌ if◌then◌else◌
+            unfolding let_some◌else◌then◌ when◌then◌else◌
             side-only f = let z : last ≡ 0 = omega arith in nothing (rw (gone, z))
 
             pub side-gone : (length ws ≡ first + 1 → ⊥) → Sides tape area ws first (To (record { first = first; count = length ws - first - 1; cut = false }))
-            unfolding expr_words if◌then◌else◌
+            unfolding expr_words when◌then◌else◌
             side-gone f =
                 something (record { first = first; count = length ws - first - 1; cut = false })
                 (expression (length ws - first - 1) false (omega (arith, f)) (omega arith) (λ c. absurd (false≢true c)))
@@ -154,13 +154,13 @@ module _ (tape area : Text) where
   assign_other (w ∷ u ∷ us) h e = sym (if-false _ _ e)
 
   pick_head : (b : Bool) {t : Token} (v w : ℕ) (us : List ℕ) → t ≡ token_of tape area v
-      → (if b then [] else t ∷ []) ++ tokens_of tape area us ≡ tokens_of tape area (drop (if b then 2 else 1) (w ∷ v ∷ us))
-  unfolding if◌then◌else◌
+      → (when b then [] else t ∷ []) ++ tokens_of tape area us ≡ tokens_of tape area (drop (when b then 2 else 1) (w ∷ v ∷ us))
+  unfolding when◌then◌else◌
   pick_head true v w us e = refl
   pick_head false v w us e = ap (λ (x : Token). x ∷ tokens_of tape area us) e
 
   right-words : (w u : ℕ) (us : List ℕ) → Points tape area u → 3 ≤ len_of u → kind_of u ≡ Punct
-      → right_side (token_of tape area u) (tokens_of tape area us) ≡ tokens_of tape area (drop (if eqb (len_of u) 3 then 2 else 1) (w ∷ without_first u 3 ∷ us))
+      → right_side (token_of tape area u) (tokens_of tape area us) ≡ tokens_of tape area (drop (when eqb (len_of u) 3 then 2 else 1) (w ∷ without_first u 3 ∷ us))
   unfolding right_side
   right-words w u us p m k =
       rw (empty-three (text_of tape area u) (rw (text_length p) m), text_length p)
@@ -173,7 +173,7 @@ module _ (tape area : Text) where
   begins w u e = (eqb-true _ _ (both (both e).1).0, (both (both e).1).1)
 
   assign_some : (ws : List ℕ) → Opens tape area ws → begins_assignment (token_of tape area (get_or ws 0 0)) (token_of tape area (get_or ws 1 0)) ≡ true
-      → assignment_of (tokens_of tape area ws) ≡ sided tape area ws (cut_semicolon (tokens_of tape area (drop (if eqb (len_of (get_or ws 1 0)) 3 then 2 else 1) (opened ws))))
+      → assignment_of (tokens_of tape area ws) ≡ sided tape area ws (cut_semicolon (tokens_of tape area (drop (when eqb (len_of (get_or ws 1 0)) 3 then 2 else 1) (opened ws))))
   unfolding assignment_of opened
   assign_some [] o e = absurd (omega (arith, o.long))
   assign_some (w ∷ []) o e = absurd (omega (arith, o.long))
@@ -198,7 +198,7 @@ module _ {tape area : Text} {ws : List ℕ} (h : Holds tape area ws) where
         mark = omega (arith, text_length (h.at 1 l), starts_three (text_of tape area (get_or ws 1 0)) (begins tape area (get_or ws 0 0) (get_or ws 1 0) (sym eb ∙ f)).1);
       }
 
-      from-side : {first : ℕ} {r : Assigned} → Sides tape area ws first r → (if eqb (len_of (get_or ws 1 0)) 3 then 2 else 1) ≡ first → Assigns tape area ws r
+      from-side : {first : ℕ} {r : Assigned} → Sides tape area ws first r → (when eqb (len_of (get_or ws 1 0)) 3 then 2 else 1) ≡ first → Assigns tape area ws r
       from-side s e = record { is = s.is ∙ sym (assign_some tape area ws opens (sym eb ∙ f) ∙ rw e); side = s.side }
 
       module _ {n : ℕ} (en : n ≡ len_of (get_or ws 1 0)) {r : Assigned} where

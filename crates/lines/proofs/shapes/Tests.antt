@@ -6,9 +6,9 @@ use mathlib.Core.List.{List}
 use lib.Dec.{eqb}
 use lib.ListN.{length}
 use borrow.Author.Tests.{eq-eqb, ne_eqb, lt-ltb, le-ltb}
-use Rattle.reference.specs.Control.{◌&&◌}
+use Rattle.reference.specs.Control.{◌and◌}
 use Rattle.reference.specs.Lists.{any}
-use Rattle.reference.specs.Text.{Text, bytes, ◌==◌, trim}
+use Rattle.reference.specs.Text.{Text, bytes, ◌≟◌, trim}
 use Rattle.reference.specs.Listing.{Token, is, Punct}
 use Rattle.reference.specs.Shapes.{is_operator, is_operator_expr}
 use Rattle.laws.proofs.Scans.{and_here, and_second, and_true, and_false, not_same}
@@ -27,10 +27,10 @@ pub is_test : (t : Token) (k : ℕ) {x : ℕ} → x ≡ t.kind → eqb x k ≡ i
 unfolding is
 is_test t k e = ap (λ (n : ℕ). eqb n k) e
 
-pub kind_fails : (t : Token) (k : ℕ) (b : Bool) {x : ℕ} → x ≡ t.kind → (x ≡ k → ⊥) → false ≡ (is k t && b)
+pub kind_fails : (t : Token) (k : ℕ) (b : Bool) {x : ℕ} → x ≡ t.kind → (x ≡ k → ⊥) → false ≡ (is k t and b)
 kind_fails t k b e h = and_here b (is_not t k e h) refl
 
-pub kind_holds : (t : Token) (k : ℕ) {b : Bool} {x : ℕ} {y : Bool} → x ≡ t.kind → x ≡ k → y ≡ b → y ≡ (is k t && b)
+pub kind_holds : (t : Token) (k : ℕ) {b : Bool} {x : ℕ} {y : Bool} → x ≡ t.kind → x ≡ k → y ≡ b → y ≡ (is k t and b)
 kind_holds t k e h f = and_second (is_it t k e h) refl f
 
 pub ruleset kinds = (is_it, is_not, is_test, kind_fails, kind_holds)
@@ -43,7 +43,7 @@ module _ (tape area : Text) (w : ℕ) {k : ℕ} (ek : k ≡ kind_of w) (hk : k �
   unfolding is_operator
   operator_tight h = rw (← es, ← et) (kind_holds _ _ ek hk (and_here _ (sym (le-ltb _ _ h)) refl))
 
-  pub operator_loose : length t < length s → {b : Bool} → b ≡ (t == bytes ",") → not b ≡ is_operator (token_of tape area w)
+  pub operator_loose : length t < length s → {b : Bool} → b ≡ (t ≟ bytes ",") → not b ≡ is_operator (token_of tape area w)
   unfolding is_operator
   operator_loose h e = rw (← es, ← et) (kind_holds _ _ ek hk (and_second (sym (lt-ltb _ _ h)) refl (not_same e)))
 

@@ -6,7 +6,7 @@ use mathlib.Core.Path.{◌≡◌, refl, sym}
 use mathlib.Core.Bool.{Bool, true, false, true≢false}
 use mathlib.Core.List.{List, [], ◌∷◌}
 use lib.ListN.{length, get_or}
-use Rattle.reference.specs.Control.{not, ◌&&◌, ◌||◌, let_some◌else◌then◌}
+use Rattle.reference.specs.Control.{not, ◌and◌, ◌or◌, let_some◌else◌then◌}
 use Rattle.reference.specs.Lists.{any}
 use Rattle.reference.specs.Text.{Text, bytes, starts_with}
 use Rattle.reference.specs.Listing.{is, Punct}
@@ -26,20 +26,20 @@ not_equal (a ∷ b ∷ c ∷ rest) e f =
     let q : c ≡ 61 = same_number (both (both (both f).1).1).0 in
     omega arith
 
-without_equal : (b c : Bool) → (b ≡ true → c ≡ true → ⊥) → (b && not c) ≡ b
-unfolding ◌&&◌ not
+without_equal : (b c : Bool) → (b ≡ true → c ≡ true → ⊥) → (b and not c) ≡ b
+unfolding ◌and◌ not
 without_equal true true f = absurd (f refl refl)
 without_equal true false f = refl
 without_equal false c f = refl
 
-assign-only : (s : Text) → (starts_with s (bytes " = ") && not (starts_with s (bytes " =="))) ≡ starts_with s (bytes " = ")
+assign-only : (s : Text) → (starts_with s (bytes " = ") and not (starts_with s (bytes " =="))) ≡ starts_with s (bytes " = ")
 assign-only s = without_equal (starts_with s (bytes " = ")) (starts_with s (bytes " ==")) (not_equal s)
 
 module _ (tape area : Text) (ws : List ℕ) (k : ℕ) where
   pub written_is : k + 1 < length ws
       → is_written (tokens_of tape area ws) k
       ≡ (is Punct (token_of tape area (get_or ws (k + 1) 0))
-      && (starts_with (text_of tape area (get_or ws (k + 1) 0)) (bytes " = ") || any (starts_with (text_of tape area (get_or ws (k + 1) 0))) updates))
+      and (starts_with (text_of tape area (get_or ws (k + 1) 0)) (bytes " = ") or any (starts_with (text_of tape area (get_or ws (k + 1) 0))) updates))
   unfolding is_written writes let_some◌else◌then◌
   written_is h =
       rw (add-one, get_at (token_of tape area) ws (suc k) (rw add-one at h), assign-only (text_of tape area (get_or ws (suc k) 0)))

@@ -2,14 +2,14 @@
 -- of the token words. Assumes nothing.
 use Prim.Native.Nat.{ℕ, ◌+◌, ◌%◌, ◌^◌, ◌≤◌, ◌<◌}
 use native.Mathlib.Omega.{arith}
-use native.Mathlib.Nat.{zero-div, zero-mod}
+use native.Mathlib.Nat.{zero-div}
 use mathlib.Core.Path.{◌≡◌, sym, ap, ◌∙◌}
 use mathlib.Core.List.{List, [], ◌∷◌, ◌++◌, map, map-map}
 use mathlib.Core.Option.{none, some}
 use lib.Dec.{eqb}
 use lib.ListN.{length, take, drop, get_or, set, length-take}
 use lib.Seq.{take-append_seam}
-use Rattle.reference.specs.Control.{if◌then◌else◌}
+use Rattle.reference.specs.Control.{when◌then◌else◌}
 use Rattle.reference.specs.Lists.{remove}
 use Rattle.reference.specs.Text.{Text}
 use Rattle.reference.specs.Listing.{Token, ◌at◌, with_tokens}
@@ -72,7 +72,7 @@ module _ (f c i a o : ℕ) (hf : f < 65536) (hc : c < 2048) where
 
         pub line_word-means : (tape area : Text) (tokens addresses : List ℕ)
             → line_in tape area tokens addresses (line_word f c i a o)
-            ≡ record { address = if eqb a 1 then some (get_or addresses o 0) else none; indent = i; tokens = tokens_of tape area (take c (drop f tokens)) }
+            ≡ record { address = when eqb a 1 then some (get_or addresses o 0) else none; indent = i; tokens = tokens_of tape area (take c (drop f tokens)) }
         unfolding address_in
         line_word-means tape area tokens addresses = rw (word_first, word_count, word-indent, word-addressed, word_origin)
 

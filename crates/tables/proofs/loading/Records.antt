@@ -10,7 +10,7 @@ use lib.Dec.{eqb}
 use lib.ListN.{length, take, drop, get_or, set, length-set}
 use lib.Seq.{take-suc, get_or-take, get_or-set_same, get_or-set_other, set-get_or, length-take-le}
 use borrow.Author.Tests.{ne_eqb}
-use Rattle.reference.specs.Control.{if◌then◌else◌}
+use Rattle.reference.specs.Control.{when◌then◌else◌}
 use Rattle.reference.specs.Text.{Text}
 use Rattle.reference.specs.Listing.{Line}
 use Rattle.reference.specs.Questions.{Passed}
@@ -63,7 +63,8 @@ pub holding_more : {records : List LineRecord} {k : ℕ} {lines addresses : List
     → Holding records k lines addresses → Holding records (k + 1) (set lines k w) (set addresses k (get_or records k blank).address)
 holding_more {records} {k} {lines} {addresses} low e h =
     let r : LineRecord = get_or records k blank in
-    let more = holding-set records k (k + 1) r (ap (λ (l : List LineRecord). get_or l k blank) (set-get_or records k blank)) (λ j b d. omega arith) (set addresses k r.address) low (length-set addresses k r.address)
+    let more = holding-set records k (k + 1) r (ap (λ (l : List LineRecord). get_or l k blank) (set-get_or records k blank)) (λ j b d. omega arith)
+    (set addresses k r.address) low (length-set addresses k r.address)
     (λ j d. get_or-set_other addresses k j r.address 0 d)
     (λ a. get_or-set_same addresses k r.address 0 (omega (arith, h.long_addresses)))
     h in
@@ -86,11 +87,11 @@ module _ {records : List LineRecord} {n : ℕ} {lines addresses lines' addresses
 
   same_address : (k : ℕ) → k < n
       → let a = (get_or records k blank).addressed in
-      (if eqb a 1 then some (get_or addresses k 0) else none) ≡ (if eqb a 1 then some (get_or addresses' k 0) else none)
+      (when eqb a 1 then some (get_or addresses k 0) else none) ≡ (when eqb a 1 then some (get_or addresses' k 0) else none)
   same_address k b =
       let a : ℕ = (get_or records k blank).addressed in
       by_cases (ℕ_discrete a 1)
-      (λ e. ap (λ (x : ℕ). if eqb a 1 then some x else none) ((h.at k b).address e ∙ sym ((h'.at k b).address e)))
+      (λ e. ap (λ (x : ℕ). when eqb a 1 then some x else none) ((h.at k b).address e ∙ sym ((h'.at k b).address e)))
       (λ e. if-false (some (get_or addresses k 0)) none (ne_eqb a 1 e) ∙ sym (if-false (some (get_or addresses' k 0)) none (ne_eqb a 1 e)))
 
   module _ (tape area : Text) (tokens : List ℕ) where

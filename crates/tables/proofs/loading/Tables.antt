@@ -9,7 +9,7 @@ use mathlib.Core.Option.{Option, none, some}
 use lib.Dec.{eqb}
 use lib.ListN.{length, take, drop, get_or, set, length-drop, length-append}
 use lib.Seq.{take-suc, take-suc-set, take-set-le, take_all, take-take, drop-append-le, length-take-le, get_or-set_same, get_or-set_other, get_or-take}
-use Rattle.reference.specs.Control.{if◌then◌else◌}
+use Rattle.reference.specs.Control.{when◌then◌else◌}
 use Rattle.reference.specs.Text.{Text}
 use Rattle.reference.specs.Listing.{Token, token, Line, Listing, with_tokens}
 use Rattle.reference.specs.Tape.{new_line, new_token}
@@ -20,7 +20,8 @@ use Rattle.lines.specs.Words.{word, token_of, tokens_of, Holds}
 use Rattle.lines.specs.Lines.{first_of, count_of, indent_of, addressed_of, origin_of, facts_of, with_part, part_of, address_in, line_in, listing_of}
 use Rattle.lines.proofs.words.Each.{Each, each_none, each_one, each_take, each_append, map_same}
 use Rattle.lines.proofs.words.Tokens.{word-means, word-points, in_tape, holds_none, holds_snoc}
-use Rattle.lines.proofs.words.Lines.{first_below, indent-below, addressed-below, origin_below, word_first, word_count, word_origin, word-facts, line_word-means, with_first, with_count, with_factless, with_means}
+use Rattle.lines.proofs.words.Lines.{first_below, indent-below, addressed-below, origin_below, word_first, word_count, word_origin, word-facts, line_word-means}
+use Rattle.lines.proofs.words.Lines.{with_first, with_count, with_factless, with_means}
 use Rattle.tape.specs.Commands.{command_in, size_of}
 use Rattle.tape.specs.Questions.{totals_of, counted}
 use Rattle.tables.specs.Tables.{begun, longer, lengthened, tokens_after, lines_after, addresses_after, Adds, Room}
@@ -66,7 +67,7 @@ module _ {tape tokens lines addresses : List ℕ} {listing : Listing} (t : Total
 
     new_line-means : (area : Text)
         → line_in tape area (take t.tokens tokens) addresses' (begun indent flag t)
-        ≡ record { address = if eqb flag 1 then some (get_or addresses' t.lines 0) else none; indent = indent; tokens = [] }
+        ≡ record { address = when eqb flag 1 then some (get_or addresses' t.lines 0) else none; indent = indent; tokens = [] }
     new_line-means area =
         line_word-means t.tokens 0 indent flag t.lines (omega arith) (omega arith) low bit few tape area (take t.tokens tokens) addresses'
 
@@ -82,7 +83,7 @@ module _ {tape tokens lines addresses : List ℕ} {listing : Listing} (t : Total
         map_same (line_in tape area (take t.tokens tokens) addresses') (line_in tape area (take t.tokens tokens) addresses) (take t.lines lines)
         (λ k b. same_line area _ (h.origins k b))
 
-    pub table_line : {address : Option ℕ} → (if eqb flag 1 then some (get_or addresses' t.lines 0) else none) ≡ address
+    pub table_line : {address : Option ℕ} → (when eqb flag 1 then some (get_or addresses' t.lines 0) else none) ≡ address
         → Table tape tokens (set lines t.lines (begun indent flag t)) addresses' (record { lines = t.lines + 1; tokens = t.tokens; text = t.text; fresh = true })
         (Q.add (new_line address indent) listing)
     table_line {address} e =
@@ -258,7 +259,7 @@ module _ {tape tokens lines addresses : List ℕ} {listing : Listing} (at : ℕ)
     (room : Room tokens lines addresses t) where
   pub table_more : (c : Command) → Adds at c t lines → at + size_of c ≤ length tape
       → Table tape (tokens_after at c t tokens) (lines_after c t lines) (addresses_after c t addresses) (counted c (totals_of t)) (Q.add (command_in tape at c) listing)
-  unfolding if◌then◌else◌
+  unfolding when◌then◌else◌
   table_more (Addressed address indent) a i =
       table_line t h indent 1 (set addresses t.lines address) a.1 room.few_tokens (omega (arith, room.for_lines)) a.0 (omega arith)
       (λ k b. get_or-set_other addresses t.lines k address 0 (λ e. omega arith))

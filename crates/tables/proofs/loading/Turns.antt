@@ -8,13 +8,13 @@ use mathlib.Core.List.{List}
 use lib.ListN.{length, get_or, set, replicate, length-set, length-replicate}
 use lib.Seq.{get_or-set_same, get_or-set_other, set-get_or}
 use Rattle.reference.specs.Questions as Q
-use Rattle.lines.specs.Lines.{first_of, count_of, indent_of, addressed_of, origin_of, with_part, line_word}
+use Rattle.lines.specs.Lines.{count_of, with_part, line_word}
 use Rattle.lines.proofs.words.Lines.{word_first, word_count, word-indent, word-addressed, word_origin}
 use Rattle.tape.specs.Commands.{size_of, ends, found_in, standing}
 use Rattle.reference.proofs.LittleEndian.{Bytes}
 use Rattle.tape.specs.Questions.{totals_of, counted, AcceptedTape}
 use Rattle.tables.specs.Tables.{Adds, Added, longer, tokens_after, lines_after, addresses_after}
-use Rattle.tables.specs.Records.{blank, word_of, RecordFits, Holding, Fitting, Recorded, line_after, place_after, start_of, TakesToken, Grows, Takes, Ready, StepLoads}
+use Rattle.tables.specs.Records.{blank, word_of, RecordFits, Holding, Fitting, Recorded, line_after, place_after, start_of, TakesToken, Grows, Ready, StepLoads}
 use Rattle.tape.specs.declared.commands.Command.{Command}
 use Rattle.tape.specs.declared.commands.Command.TheVariants.{Addressed, Plain, Marked, Token, End}
 use Rattle.tape.specs.declared.commands.Found.TheVariants.{Whole}

@@ -8,7 +8,7 @@ use mathlib.Core.Option.{Option, none}
 use lib.ListN.{length, take, drop, length-drop, drop_of_length-le}
 use lib.Seq.{length-take-le}
 use borrow.Author.Tests.{leb-true, le-leb, ne_eqb}
-use Rattle.reference.specs.Control.{if◌then◌else◌, let_some◌else◌then◌}
+use Rattle.reference.specs.Control.{when◌then◌else◌, let_some◌else◌then◌}
 use Rattle.reference.specs.Lists.{position, is_empty}
 use Rattle.reference.specs.Listing.{Token, token}
 use Rattle.reference.specs.Spans.{Span}
@@ -17,7 +17,7 @@ use Rattle.reference.specs.Tape.{TapeForm, new_line, marked, new_token, end, com
 use Rattle.reference.specs.Questions as Q
 use Rattle.reference.specs.Questions.{is_command_by, ends_inside_by, has_line, is_within, is_few, is_short, is_printable, is_over, is_offending, first_offending, place_at, is_end, Answer, Refused, Passed, ask, count_in, Advance, read_command_by}
 use Rattle.reference.specs.Steps.{FromHereBy}
-use Rattle.reference.proofs.Cases.{by-if, both}
+use Rattle.reference.proofs.Cases.{by-if}
 use Rattle.reference.proofs.Commands.{is_form}
 use Rattle.reference.proofs.Reading.{Yes, ask-yes, refused_passed, advance_by}
 use Rattle.reference.proofs.Steps.{step-from_here_by}
@@ -47,7 +47,7 @@ by_test false f g = g refl
 
 module _ {A : Type 0} (place : ℕ → ℕ) where
   pub ask_number : (qs : List (ℕ × Bool)) (a : Answer A) {n : ℕ} → (n ≡ 0 → ⊥) → first_no qs ≡ n → ask place qs a ≡ Refused n (place n)
-  unfolding first_no ask if◌then◌else◌
+  unfolding first_no ask when◌then◌else◌
   ask_number [] a z e = absurd (z (sym e))
   ask_number (q ∷ more) a z e =
       by_test q.1 (λ t. rw t (ask_number more a z (rw t at e))) (λ t. rw t (ap (λ (k : ℕ). Refused k (place k)) (rw t at e)))
@@ -55,14 +55,14 @@ module _ {A : Type 0} (place : ℕ → ℕ) where
   -- a refusal by the first questions is a refusal by all
   ask-front : {B : Type 0} (qs more : List (ℕ × Bool)) (x : B) (a : Answer A) {n p : ℕ} → ask place qs (Passed x) ≡ Refused n p
       → ask place (qs ++ more) a ≡ Refused n p
-  unfolding ask if◌then◌else◌
+  unfolding ask when◌then◌else◌
   ask-front [] more x a e = absurd (refused_passed (sym e))
   ask-front (q ∷ qs) more x a e =
       by_test q.1 (λ t. rw t (ask-front qs more x a (rw t at e))) (λ t. rw t (let z = rw t at e in cc))
 
   -- questions that are answered "yes" can be left out
   ask-later : (qs more : List (ℕ × Bool)) (a : Answer A) → Yes qs → ask place (qs ++ more) a ≡ ask place more a
-  unfolding ask if◌then◌else◌
+  unfolding ask when◌then◌else◌
   ask-later [] more a h = refl
   ask-later (q ∷ qs) more a h = rw h.0 (ask-later qs more a h.1)
 
@@ -75,19 +75,19 @@ module _ (rest : List ℕ) (t : Q.Totals) where
   line_refuses address indent e = e
 
   pub marks_fit : (s : Span) {x : Bool} → x ≡ has_line t (marked s) → x ≡ true → 0 ≡ first_no (questions rest t (marked s))
-  unfolding first_no is_within is_few is_short is_printable is_over if◌then◌else◌
+  unfolding first_no is_within is_few is_short is_printable is_over when◌then◌else◌
   marks_fit s e f = rw (sym e ∙ f)
 
   pub marks_misplaced : (s : Span) {x : Bool} → x ≡ has_line t (marked s) → x ≡ false → 5 ≡ first_no (questions rest t (marked s))
-  unfolding first_no if◌then◌else◌
+  unfolding first_no when◌then◌else◌
   marks_misplaced s e f = rw (sym e ∙ f)
 
   token_asked : (s : Token) → first_no (questions [] t (new_token s)) ≡ first_no (questions rest t (new_token s))
   unfolding is_over
   token_asked s = refl
 
-  end_asked : first_no (questions rest t end) ≡ (if is_empty (drop 1 rest) then 0 else 8)
-  unfolding first_no has_line is_within is_few is_short is_printable is_over if◌then◌else◌
+  end_asked : first_no (questions rest t end) ≡ (when is_empty (drop 1 rest) then 0 else 8)
+  unfolding first_no has_line is_within is_few is_short is_printable is_over when◌then◌else◌
   end_asked = refl
 
 module _ (tape : List ℕ) (at : ℕ) (t : Q.Totals) where
@@ -98,13 +98,13 @@ module _ (tape : List ℕ) (at : ℕ) (t : Q.Totals) where
       e ∙ ap (λ (s : List ℕ). first_no (questions [] t (new_token (token kind s)))) f ∙ token_asked (drop at tape) t (token kind (take count (drop (at + 3) tape)))
 
   pub end_over : length tape - at ≡ 1 → 0 ≡ first_no (questions (drop at tape) t end)
-  unfolding if◌then◌else◌
+  unfolding when◌then◌else◌
   end_over h =
       let e : drop 1 (drop at tape) ≡ [] = drop_of_length-le (drop at tape) {i = 1} (rw length-drop (omega arith)) in
       sym (end_asked (drop at tape) t ∙ rw e)
 
   pub end_follows : at + 1 ≤ length tape → (length tape - at ≡ 1 → ⊥) → 8 ≡ first_no (questions (drop at tape) t end)
-  unfolding if◌then◌else◌
+  unfolding when◌then◌else◌
   end_follows h n =
       let more : 0 < length (drop 1 (drop at tape)) = rw (length-drop 1 (drop at tape), length-drop at tape) (omega (arith, n)) in
       sym (end_asked (drop at tape) t ∙ rw (not-empty (drop 1 (drop at tape)) more))
@@ -117,17 +117,17 @@ module _ (tape : List ℕ) (at : ℕ) (t : Q.Totals) where
 
 module _ (at : ℕ) where
   pub place_same : (c : Tape.Command) {n : ℕ} → (n ≡ 7 → ⊥) → at ≡ place_at at c n
-  unfolding place_at if◌then◌else◌
+  unfolding place_at when◌then◌else◌
   place_same c {n} h = rw (ne_eqb n 7 h)
 
   -- a command without a text
   pub place_textless : (c : Tape.Command) {n : ℕ} → n ≡ 7 → first_offending c ≡ 0 → at ≡ place_at at c n
-  unfolding place_at if◌then◌else◌
+  unfolding place_at when◌then◌else◌
   place_textless c e f = rw (e, f) (omega arith)
 
   pub place_token : (tape : List ℕ) (kind count : ℕ) {n r : ℕ} {text : List ℕ} → n ≡ 7 → r ≡ (let_some (position is_offending text) else 0 then λ i. i)
       → text ≡ take count (drop (at + 3) tape) → at + 3 + r ≡ place_at at (command_in tape at (NewToken kind count)) n
-  unfolding place_at first_offending if◌then◌else◌
+  unfolding place_at first_offending when◌then◌else◌
   place_token tape kind count e f g = rw (e, f, g) (omega arith)
 
 -- ---- one command
@@ -142,7 +142,7 @@ looked-less form End = omega arith
 module _ (form : TapeForm) (tape : List ℕ) (at : ℕ) where
   -- question 3 or 4 refuses it
   pub stops : (t : Q.Totals) {n p : ℕ} → Refused n p ≡ standing_by form tape at → Refused n p ≡ read_command_by form tape at t
-  unfolding standing_by read_command_by ask place_at if◌then◌else◌
+  unfolding standing_by read_command_by ask place_at when◌then◌else◌
   stops t e =
       sym (ask-front (place_at at (command_by form (drop at tape))) ((3, is_command_by form (drop at tape)) ∷ (4, ends_inside_by form (drop at tape)) ∷ []) (questions (drop at tape) t (command_by form (drop at tape))) _ _ (sym e))
 

@@ -5,7 +5,7 @@ use mathlib.Core.Path.{◌≡◌, refl, sym, ap, ◌∙◌}
 use mathlib.Core.Bool.{true, false}
 use mathlib.Core.List.{List, []}
 use lib.ListN.{length, drop}
-use Rattle.reference.specs.Control.{if◌then◌else◌}
+use Rattle.reference.specs.Control.{when◌then◌else◌}
 use Rattle.reference.specs.Listing.{Listing}
 use Rattle.reference.specs.Spans.{Marks}
 use Rattle.reference.specs.Tape.{TapeForm, old, header}
@@ -26,7 +26,7 @@ reads_begin form tape = record { lines = []; marks = []; reached = here }
 module _ {form : TapeForm} {tape : List ℕ} {at : ℕ} {t : Totals} (r : ReadsBy form tape at t) where
   step_of : read_by form tape
       ≡ (let_passed (read_command_by form tape at t) then λ a.
-      if is_end a.command then Passed r.lines else reading_by form tape a.next a.totals (add a.command r.lines))
+      when is_end a.command then Passed r.lines else reading_by form tape a.next a.totals (add a.command r.lines))
   step_of = reading_of tape r.reached ∙ reading_step_by form tape at t r.lines
 
   pub read_refused : {n p : ℕ} → Refused n p ≡ read_command_by form tape at t → read_by form tape ≡ Refused n p

@@ -1,0 +1,51 @@
+-- `build::line::rewrite_line` meets its contract. Assumes nothing.
+use Rattle.lines.specs.Fams.{fam_text}
+use Rattle.lines.specs.Lines.{part_of}
+use Rattle.build.specs.Substitution.{right_of}
+use Rattle.build.specs.Added.{unmerged}
+use Rattle.build.proofs.LineAdding.{room-merge, room-fold, line_added_folded}
+use Rattle.build.proofs.Adding.{count_fits, added_rewritten}
+use Rattle.build.proofs.line.rewrite_line.Goals as goal
+
+pub merge-merged-requires : goal.merge-merged-requires
+merge-merged-requires c =
+    let a = c.args in
+    let line_of = c.line_of in
+    let p = c.requires in
+    rw (line_of.ensures, c.line_of-2.ensures)
+    (p.substitutes, p.lined.holds, room-merge (unmerged a.tape.now a.old.now a.old_tokens.now a.source a.j a.l) p.numbers_short p.has_room)
+
+pub fold_last-s-requires : goal.fold_last-s-requires
+fold_last-s-requires c =
+    let a = c.args in
+    let line_of = c.line_of in
+    let line-of2 = c.line_of-2 in
+    let merge = c.merge-merged in
+    let p = c.requires in
+    let l = rw (line_of.ensures, line-of2.ensures) at merge.ensures in
+    (l.built, room-fold (unmerged a.tape.now a.old.now a.old_tokens.now a.source a.j a.l) p.numbers_short p.has_room l merge.auto.area merge.auto.tokens)
+
+pub with_tokens-requires : goal.with_tokens-requires
+with_tokens-requires c =
+    let a = c.args in
+    let line_of = c.line_of in
+    let line-of2 = c.line_of-2 in
+    let merge = c.merge-merged in
+    let p = c.requires in
+    let fold-last = c.fold_last-s in
+    let l = rw (line_of.ensures, line-of2.ensures) at merge.ensures in
+    let f = line_added_folded (unmerged a.tape.now a.old.now a.old_tokens.now a.source a.j a.l) p.numbers_short p.has_room l fold-last.ensures in
+    (p.first_fits, count_fits f a.l p.first_fits p.few)
+
+pub returns : goal.returns
+returns c =
+    let a = c.args in
+    let line_of = c.line_of in
+    let line-of2 = c.line_of-2 in
+    let merge = c.merge-merged in
+    let p = c.requires in
+    let fold-last = c.fold_last-s in
+    let l = rw (line_of.ensures, line-of2.ensures) at merge.ensures in
+    let ts = unmerged a.tape.now a.old.now a.old_tokens.now a.source a.j a.l in
+    added_rewritten p.lined p.first_fits c.with_tokens.ensures a.edition (fam_text a.tape.now a.old.now a.j.family) (right_of a.tape.now a.old.now (part_of a.old_tokens.now a.source) a.j) p.few
+    (line_added_folded ts p.numbers_short p.has_room l fold-last.ensures)

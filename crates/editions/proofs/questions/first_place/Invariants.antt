@@ -1,0 +1,11 @@
+-- What the loops of `editions::questions::first_place` keep true, and what falls at each turn.
+use Prim.Native.Nat.{◌-◌}
+use lib.ListN.{length}
+use Rattle.editions.proofs.Asking.{Unearned}
+use Rattle.editions.proofs.questions.first_place.Given as goal
+
+abbrev pub invariant-loop-command : goal.invariant-loop-command
+invariant-loop-command l = Unearned l.up l.tape l.at
+
+abbrev pub decreases-loop-command : goal.decreases-loop-command
+decreases-loop-command l = length l.tape - l.at

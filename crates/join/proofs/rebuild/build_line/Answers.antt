@@ -1,0 +1,24 @@
+-- `join::rebuild::build_line` meets its contract. Assumes nothing.
+use Rattle.lines.specs.Lines.{part_of}
+use Rattle.join.proofs.Placing.{keepable, placed-kept, rewritable, placed_rewritten}
+use Rattle.join.proofs.rebuild.build_line.Goals as goal
+
+pub rewrite-requires : goal.rewrite-requires
+rewrite-requires c =
+    let a = c.args in
+    rewritable c.requires (c.is_changed.ensures (part_of a.tokens.now a.source)) c.if-is_changed.true
+
+pub returns-then-is_changed : goal.returns-then-is_changed
+returns-then-is_changed c =
+    let a = c.args in
+    placed_rewritten c.requires (c.is_changed.ensures (part_of a.tokens.now a.source)) c.if-is_changed.true c.rewrite.ensures
+
+pub keep_line-requires : goal.keep_line-requires
+keep_line-requires c =
+    let a = c.args in
+    keepable c.requires (c.is_changed.ensures (part_of a.tokens.now a.source)) c.if-is_changed.false
+
+pub returns : goal.returns
+returns c =
+    let a = c.args in
+    placed-kept c.requires (c.is_changed.ensures (part_of a.tokens.now a.source)) c.if-is_changed.false c.keep_line.ensures

@@ -1,0 +1,7 @@
+-- `numbers::wrapping::wrapping_neg` meets its contract. Assumes nothing.
+use Rattle.std.proofs.Common.{◌∙◌}
+use Rattle.numbers.proofs.Signed.{read_back, negation_wraps}
+use Rattle.numbers.proofs.wrapping.wrapping_neg.Goals as goal
+
+pub returns : goal.returns
+returns c = read_back _ c.wrapping_sub.type_inv ∙ c.wrapping_sub.ensures ∙ negation_wraps _ c.ranges.v

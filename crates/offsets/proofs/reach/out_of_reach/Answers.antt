@@ -1,0 +1,9 @@
+-- `offsets::reach::out_of_reach` meets its contract. Assumes nothing.
+use Rattle.offsets.proofs.Searching.{below-base, above-base}
+use Rattle.offsets.proofs.reach.out_of_reach.Goals as goal
+
+pub returns-then-address-base : goal.returns-then-address-base
+returns-then-address-base c = let a = c.args in below-base a.base a.address c.if-address-base.true
+
+pub returns : goal.returns
+returns c = let a = c.args in above-base a.base a.address c.if-address-base.false

@@ -1,0 +1,10 @@
+// The archive for C and Rust (include/puchkewa.h): each entry of crate puchkewa, exported under its name with the same clauses. An archive
+// holds only the exports of the crate that it is made of.
+#![tactic(auto)]
+
+mod export; // the cleaning, for C and Rust
+mod export_editions; // between the two C editions, for C and Rust
+mod export_laborious; // the most laborious listing, for C and Rust
+mod export_offsets; // tapes by offset from the load address, for C and Rust
+mod export_start; // which start value gives this output, for C and Rust
+mod export_states; // named states, for C and Rust

@@ -1,0 +1,11 @@
+-- `reports::digit_byte` meets its contract. Assumes nothing.
+use mathlib.Core.Path.{sym}
+use borrow.Author.Tests.{lt-ltb, le-ltb}
+use Rattle.laws.proofs.Scans.{if-true, if-false}
+use Rattle.reports.proofs.digit_byte.Goals as goal
+
+pub returns-then-d-lt10 : goal.returns-then-d-lt10
+returns-then-d-lt10 c = sym (if-true _ _ (lt-ltb _ _ c.if-d-lt10.true))
+
+pub returns-else-d-lt10 : goal.returns-else-d-lt10
+returns-else-d-lt10 c = sym (if-false _ _ (le-ltb _ _ c.if-d-lt10.false))

@@ -1,0 +1,19 @@
+-- `start::listed::item_at` meets its contract. Assumes nothing.
+use Rattle.start.proofs.Entries.{over_at, cut_at, named_at}
+use borrow.Author.Rules.{rules}
+use Rattle.start.proofs.listed.item_at.Goals as goal
+
+pub returns-then-list-at : goal.returns-then-list-at
+returns-then-list-at c = search (rules, over_at)
+
+pub returns-then-list-at-2 : goal.returns-then-list-at-2
+returns-then-list-at-2 c =
+    let a = c.args in
+    let n = c.length_of-n in
+    cut_at a.list.now a.at (search rules) n.result n.ensures.0 (search rules)
+
+pub returns : goal.returns
+returns c =
+    let a = c.args in
+    let n = c.length_of-n in
+    named_at a.list.now a.at (search rules) n.result n.ensures.0 (search rules)

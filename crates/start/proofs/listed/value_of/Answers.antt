@@ -1,0 +1,41 @@
+-- `start::listed::value_of` meets its contract. Assumes nothing.
+use borrow.Author.Rules.{rules}
+use Rattle.start.proofs.Entries.{item_room, seeks_first, seeks_over, seeks_cut, seeks_here, seeks_next}
+use Rattle.start.proofs.listed.value_of.Goals as goal
+
+pub loop-n-init : goal.loop-n-init
+loop-n-init c = seeks_first _ _
+
+pub returns-in-Over : goal.returns-in-Over
+returns-in-Over c = λ es q. (seeks_over _ _ c.loop-n.at c.loop-n.invariant c.item_at.result c.item_at.ensures es q c.in-Over.is)
+
+pub returns-in-Cut : goal.returns-in-Cut
+returns-in-Cut c = λ es q. (seeks_cut _ _ c.loop-n.at c.loop-n.invariant c.item_at.result c.item_at.ensures es q c.in-Cut.is)
+
+pub overflow_add-to : goal.overflow_add-to
+overflow_add-to c =
+    search (rules, item_room _ c.loop-n.at c.item_at.result c.item_at.ensures _ c.in-Named.is)
+
+pub slice_bounds-same-end : goal.slice_bounds-same-end
+slice_bounds-same-end c =
+    search (rules, item_room _ c.loop-n.at c.item_at.result c.item_at.ensures _ c.in-Named.is)
+
+pub number_at-requires : goal.number_at-requires
+number_at-requires c =
+    search (rules, item_room _ c.loop-n.at c.item_at.result c.item_at.ensures _ c.in-Named.is)
+
+pub returns-then-same : goal.returns-then-same
+returns-then-same c =
+    seeks_here _ _ c.loop-n.at c.loop-n.invariant c.item_at.result c.item_at.ensures _ c.in-Named.is c.same.ensures c.if-same.true _ c.number_at.ensures
+
+pub overflow_add-at : goal.overflow_add-at
+overflow_add-at c =
+    search (rules, item_room _ c.loop-n.at c.item_at.result c.item_at.ensures _ c.in-Named.is)
+
+pub loop-n-smaller : goal.loop-n-smaller
+loop-n-smaller c =
+    search (rules, item_room _ c.loop-n.at c.item_at.result c.item_at.ensures _ c.in-Named.is)
+
+pub loop-n-preserved : goal.loop-n-preserved
+loop-n-preserved c =
+    seeks_next _ _ c.loop-n.at c.loop-n.invariant c.item_at.result c.item_at.ensures _ c.in-Named.is c.same.ensures c.if-same.false

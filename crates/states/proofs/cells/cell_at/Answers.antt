@@ -1,0 +1,22 @@
+-- `states::cells::cell_at` meets its contract. Assumes nothing.
+use Rattle.states.proofs.Contents.{cell-ends, store-fits}
+use Rattle.states.specs.Store.{cell}
+use native.Mathlib.Omega.{arith}
+use Prim.Native.Nat.{◌+◌, ◌-◌}
+use mathlib.Core.Path.{◌≡◌}
+use Rattle.states.proofs.cells.cell_at.Goals as goal
+
+pub overflow_add-end : goal.overflow_add-end
+overflow_add-end c =
+    omega (arith, c.cell_bytes.ensures, c.cell_start-at.ensures, cell-ends c.args.i c.requires.below, store-fits)
+
+pub slice_bounds-result-end : goal.slice_bounds-result-end
+slice_bounds-result-end c =
+    omega (arith, c.cell_bytes.ensures, c.cell_start-at.ensures, cell-ends c.args.i c.requires.below, c.requires.whole)
+
+pub returns : goal.returns
+unfolding cell
+returns c = let e = c.cell_start-at.ensures in
+    let z = c.cell_bytes.ensures in
+    let w : c.cell_start-at.result + c.cell_bytes.result - c.cell_start-at.result ≡ c.cell_bytes.result = omega arith in
+    rw (w, e, z)

@@ -1,0 +1,13 @@
+-- `tape::commands::addressed_by` meets its contract. Assumes nothing.
+use native.Mathlib.Omega.{arith}
+use Rattle.tape.specs.Commands.{form_of}
+use Rattle.tape.proofs.commands.Standing.{addressed-cut, addressed-whole}
+use Rattle.tape.proofs.commands.addressed_by.Goals as goal
+
+pub returns-then-tape-at : goal.returns-then-tape-at
+returns-then-tape-at c = addressed-cut (form_of c.args.based) c.args.tape.now c.args.at c.requires.1 (omega (arith, c.if-tape-at.true, c.width_of-w.ensures.0))
+
+pub returns : goal.returns
+returns c = let w = c.width_of-w.ensures.0 in
+    let long = c.if-tape-at.false in
+    addressed-whole (form_of c.args.based) c.args.tape.now c.args.at c.requires.1 (omega (arith, long, w)) (rw w at c.number_at-address.ensures) (rw w at c.wide-indent.ensures)

@@ -1,2 +1,0 @@
--- What the proofs over a reader share.
-pub mod Made

@@ -1,0 +1,5 @@
+-- `test_replay::frames::output_of` meets its contract. Assumes nothing.
+use Rattle.test_replay.proofs.frames.output_of.Goals as goal
+
+pub returns : goal.returns
+returns c = rw (c.number.ensures, c.number-tape.ensures) at c.text_of.ensures

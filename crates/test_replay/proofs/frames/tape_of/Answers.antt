@@ -1,0 +1,5 @@
+-- `test_replay::frames::tape_of` meets its contract. Assumes nothing.
+use Rattle.test_replay.proofs.frames.tape_of.Goals as goal
+
+pub returns : goal.returns
+returns c = rw c.number.ensures at c.text_of.ensures
