@@ -84,8 +84,8 @@ take_value s k w =
 -- an option that the verb takes, by its place in the row
 unfoldable pub set_option : Request → ℕ → Request
 set_option s n =
-    when eqb n 2 then with_parts s else when eqb n 3 then with_profile s else when eqb n 4 then with_settle s else when eqb n 7 then with_exact s
-    else when ltb n 10 then with_pending (n + 1) s else s
+    when eqb n 2 then with_parts s else when eqb n 3 then with_profile s else when eqb n 4 then with_settle s
+    else when eqb n 7 then with_exact s else when ltb n 10 then with_pending (n + 1) s else s
 
 unfoldable pub put_option : Request → ℕ → ℕ → Request
 put_option s k n = when eqb (taking s.verb n) 121 then set_option s n else with_fault 2 k s

@@ -17,7 +17,8 @@ use Rattle.reference.proofs.Cases.{both, either, some_inj, if_some}
 use Rattle.reference.proofs.Numerals.{minus_0, minus_1, plain_1, negated}
 use Rattle.books.specs.Tables.{◌∈◌}
 use Rattle.books.specs.Constants as edition-2018
-use Rattle.books.specs.Constants2024.{Decimal, nonzero_digit, then_digit, Octal, zero_digit, then_octal, HexadecimalDigits, hexadecimal_digit, then_hexadecimal, Hexadecimal, prefix_digits, Unsuffixed, decimal, octal, hexadecimal, binary, integer_suffix, Constant, unsuffixed, suffixed}
+use Rattle.books.specs.Constants2024.{Decimal, nonzero_digit, then_digit, Octal, zero_digit, then_octal, HexadecimalDigits, hexadecimal_digit, then_hexadecimal, Hexadecimal, prefix_digits, Unsuffixed}
+use Rattle.books.specs.Constants2024.{decimal, octal, hexadecimal, binary, integer_suffix, Constant, unsuffixed, suffixed}
 use Rattle.books.specs.Editions.{Alike, Editions}
 use Rattle.books.proofs.Entries.{at_each}
 use Rattle.books.proofs.Grammar as old

@@ -17,7 +17,8 @@ use Rattle.reference.proofs.Opened.{opened}
 use Rattle.reference.proofs.Numerals.{value_more, begins-with_digit, read-decimal, read-hexadecimal}
 use Rattle.laws.proofs.Scans.{or_true, or_false, any_append}
 use Rattle.books.specs.Tables.{◌∈◌}
-use Rattle.books.specs.Constants.{digits, nonzero_digits, octal_digits, hexadecimal_digits, hexadecimal_prefixes, integer_suffix, Decimal, nonzero_digit, then_digit, Octal, zero_digit, then_octal, Hexadecimal, prefix_then, then_hexadecimal, Unsuffixed, decimal, octal, hexadecimal, Constant, unsuffixed, suffixed}
+use Rattle.books.specs.Constants.{digits, nonzero_digits, octal_digits, hexadecimal_digits, hexadecimal_prefixes, integer_suffix, Decimal, nonzero_digit, then_digit, Octal, zero_digit, then_octal}
+use Rattle.books.specs.Constants.{Hexadecimal, prefix_then, then_hexadecimal, Unsuffixed, decimal, octal, hexadecimal, Constant, unsuffixed, suffixed}
 use Rattle.books.proofs.Entries.{at_each}
 use Rattle.books.proofs.Reading.{stranger, unread}
 

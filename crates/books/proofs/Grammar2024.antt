@@ -19,7 +19,9 @@ use Rattle.reference.proofs.Cases.{by-if, by-some, both, neither, either, none-s
 use Rattle.reference.proofs.Numerals.{base_0x, base_0X, base_0b, base_0B, read-constant_is, minus_1, plain_1, negated}
 use Rattle.books.specs.Tables.{◌∈◌}
 use Rattle.books.specs.Constants.{digits, nonzero_digits, octal_digits, hexadecimal_digits, hexadecimal_prefixes}
-use Rattle.books.specs.Constants2024.{quote_opt, binary_digits, binary_prefixes, Decimal, nonzero_digit, then_digit, Octal, zero_digit, then_octal, HexadecimalDigits, hexadecimal_digit, then_hexadecimal, Hexadecimal, prefix_digits, Binary, prefix_digit, then_binary, Unsuffixed, decimal, octal, hexadecimal, binary, integer_suffix, Sized, small_decimal, small_octal, small_hexadecimal, small_binary, Numeral, plain, minus}
+use Rattle.books.specs.Constants2024.{quote_opt, binary_digits, binary_prefixes, Decimal, nonzero_digit, then_digit, Octal, zero_digit, then_octal, HexadecimalDigits, hexadecimal_digit}
+use Rattle.books.specs.Constants2024.{then_hexadecimal, Hexadecimal, prefix_digits, Binary, prefix_digit, then_binary, Unsuffixed, decimal, octal, hexadecimal, binary, integer_suffix, Sized}
+use Rattle.books.specs.Constants2024.{small_decimal, small_octal, small_hexadecimal, small_binary, Numeral, plain, minus}
 use Rattle.books.proofs.Entries.{at_each}
 use Rattle.books.proofs.Reading.{as_i64_is}
 use Rattle.books.proofs.Grammar.{read_as, value, digits_are, nonzero_digits-are, hexadecimal-digits-are, no_zero, any-right, free, Free, free-digit}

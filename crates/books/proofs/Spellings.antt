@@ -16,7 +16,8 @@ use Rattle.reference.specs.Numbers.{to_digit, digits_value, unsigned, read_u64, 
 use Rattle.reference.proofs.Opened.{opened}
 use Rattle.reference.proofs.Cases.{by-if, both, neither, same_number, some_inj, none-some, if_some, unless-some, bind-some}
 use Rattle.books.specs.Tables.{words, ◌∈◌}
-use Rattle.books.specs.Constants.{digits, nonzero_digits, octal_digits, hexadecimal_digits, Decimal, nonzero_digit, then_digit, Octal, zero_digit, then_octal, Hexadecimal, prefix_then, then_hexadecimal, decimal, octal, hexadecimal, Constant}
+use Rattle.books.specs.Constants.{digits, nonzero_digits, octal_digits, hexadecimal_digits, Decimal, nonzero_digit, then_digit, Octal, zero_digit, then_octal, Hexadecimal, prefix_then}
+use Rattle.books.specs.Constants.{then_hexadecimal, decimal, octal, hexadecimal, Constant}
 use Rattle.books.specs.Spellings.{Digits, one, more, eight_or_nine, Spelling, constant, signed, signed_hexadecimal, no_octal, Spellings}
 use Rattle.books.proofs.Entries.{at_each}
 use Rattle.laws.proofs.Scans.{or_true, or_false, any_append}

@@ -1,5 +1,6 @@
 -- The profile of a line and of a listing, case by case. Assumes nothing.
-use Rattle.std.proofs.Common.{◌≡◌, ℕ, suc, ◌+◌, ◌-◌, ◌<◌, ◌≤◌, Bool, true, false, not as flip, eqb, List, [], ◌∷◌, length, get_or, take, drop, sym, refl, ap, ◌∙◌, pos_of_ne-zero, add-one, arith, length-drop, drop-cons, eq-eqb, ne_eqb}
+use Rattle.std.proofs.Common.{◌≡◌, ℕ, suc, ◌+◌, ◌-◌, ◌<◌, ◌≤◌, Bool, true, false, not as flip, eqb, List, [], ◌∷◌, length, get_or, take, drop, sym, refl, ap, ◌∙◌, pos_of_ne-zero, add-one, arith}
+use Rattle.std.proofs.Common.{length-drop, drop-cons, eq-eqb, ne_eqb}
 use mathlib.Core.Path.{subst⁻¹}
 use mathlib.Core.Option.{none, some}
 use borrow.Author.Tests.{not-true, not-false}

@@ -19,7 +19,8 @@ use Rattle.reference.proofs.Cases.{by-if, by-some, both, neither, true-false, pa
 use Rattle.reference.proofs.Shapes.{inside as assignment-inside}
 use Rattle.reference.proofs.Attempts.{all_uses, one_use, by_targets, is_some_some}
 use Rattle.laws.proofs.Scans.{if-true, if-false, or_only}
-use Rattle.joining.specs.Plan.{Definition, definition_of, Plan, all_take, ends_at, plan_reach, plan_constant, use_of, wants_brackets, plan_use, plan_single, plan_for, decide, right_side_of, map_from, acted_line, act}
+use Rattle.joining.specs.Plan.{Definition, definition_of, Plan, all_take, ends_at, plan_reach, plan_constant, use_of, wants_brackets, plan_use, plan_single, plan_for, decide, right_side_of, map_from}
+use Rattle.joining.specs.Plan.{acted_line, act}
 use Rattle.joining.proofs.Uses.{uses_upto, single_use}
 use Rattle.joining.proofs.Reaching.{gathered, reach-used, reach-last, gathered_uses}
 use Rattle.joining.proofs.Taking.{refused}

@@ -68,7 +68,8 @@ pub record Opens (tape area : Text) (ws : List ℕ) : Type 0 where
 -- what `assignment_of` makes of the tokens after ` = ` without their `;`
 abbrev pub sided : Text → Text → List ℕ → Option (List Token) → Option Assignment
 sided tape area ws o =
-    let_some o else none then λ expr. when is_empty expr then none else some (record { lhs = token_of tape area (get_or ws 0 0); expr = expr })
+    let_some o else none then λ expr.
+    when is_empty expr then none else some (record { lhs = token_of tape area (get_or ws 0 0); expr = expr })
 
 -- the answer of `right_side`
 pub record Sides (tape area : Text) (ws : List ℕ) (first : ℕ) (r : Assigned) : Type 0 where

@@ -1,9 +1,11 @@
 -- Rows of digits with quotes, and constants: each way that a reading function of the 2024 edition returns. Assumes nothing.
-use Rattle.std.proofs.Common.{◌≡◌, ℕ, suc, ◌+◌, ◌-◌, ◌*◌, ◌^◌, ◌<◌, ◌≤◌, Bool, true, false, eqb, [], ◌∷◌, length, get_or, take, drop, ℤ, neg_ℤ, sym, refl, ◌∙◌, add-one, arith, drop_of_length-le, drop-cons, le-ltb, eq-eqb, ne_eqb, eqb-true}
+use Rattle.std.proofs.Common.{◌≡◌, ℕ, suc, ◌+◌, ◌-◌, ◌*◌, ◌^◌, ◌<◌, ◌≤◌, Bool, true, false, eqb, [], ◌∷◌, length, get_or, take, drop, ℤ, neg_ℤ, sym, refl, ◌∙◌, add-one, arith, drop_of_length-le}
+use Rattle.std.proofs.Common.{drop-cons, le-ltb, eq-eqb, ne_eqb, eqb-true}
 use mathlib.Core.Option.{Option, none, some}
 use Rattle.reference.specs.Control.{◌and◌, ◌or◌, when◌then◌else◌, let_some◌else◌then◌}
 use Rattle.reference.specs.Text.{Text, bytes, starts_with}
-use Rattle.reference.specs.Numbers.{to_digit, digits_value, as_i64, wrap, parse_c_number, base_of, prefix_size, unquoted, constant_digits, constant_value, value_limit, read_constant, parse_2024, read_number}
+use Rattle.reference.specs.Numbers.{to_digit, digits_value, as_i64, wrap, parse_c_number, base_of, prefix_size, unquoted, constant_digits, constant_value, value_limit, read_constant, parse_2024}
+use Rattle.reference.specs.Numbers.{read_number}
 use Rattle.reference.proofs.Cases.{either}
 use Rattle.reference.proofs.Shapes.{starts_with_length}
 use Rattle.laws.proofs.Scans.{if-true, if-false}

@@ -1,5 +1,6 @@
 -- The digits of a number, and what a printed number is made of. Assumes nothing.
-use Rattle.std.proofs.Common.{◌≡◌, ℕ, zero, suc, ◌+◌, ◌-◌, ◌/◌, ◌%◌, ◌^◌, ◌<◌, ◌≤◌, [], ◌∷◌, ◌++◌, length, sym, refl, ap, ◌∙◌, append_assoc, mod-eq_of_lt, div-lt_iff_lt-mul, one-mul, pow-suc, arith, length-append, le-ltb, lt-ltb}
+use Rattle.std.proofs.Common.{◌≡◌, ℕ, zero, suc, ◌+◌, ◌-◌, ◌/◌, ◌%◌, ◌^◌, ◌<◌, ◌≤◌, [], ◌∷◌, ◌++◌, length, sym, refl, ap, ◌∙◌, append_assoc, mod-eq_of_lt, div-lt_iff_lt-mul, one-mul, pow-suc, arith}
+use Rattle.std.proofs.Common.{length-append, le-ltb, lt-ltb}
 use native.Mathlib.Nat.{pow-zero}
 use native.Mathlib.Decide.{dec_lt}
 use mathlib.Core.Logic.{by_cases}

@@ -1,5 +1,6 @@
 -- Reading: each way that a reading function returns, from the facts of that place. Assumes nothing.
-use Rattle.std.proofs.Common.{◌≡◌, ℕ, ◌+◌, ◌-◌, ◌*◌, ◌/◌, ◌<◌, ◌≤◌, Bool, true, false, leb, [], ◌∷◌, length, get_or, drop, sym, refl, ap, ◌∙◌, div-lt_iff_lt-mul, le-div_iff_mul-le, le-mul_of_pos_right, add-one, arith, drop_of_length-le, drop-cons, le-ltb, lt-ltb, le-leb, leb-true}
+use Rattle.std.proofs.Common.{◌≡◌, ℕ, ◌+◌, ◌-◌, ◌*◌, ◌/◌, ◌<◌, ◌≤◌, Bool, true, false, leb, [], ◌∷◌, length, get_or, drop, sym, refl, ap, ◌∙◌, div-lt_iff_lt-mul, le-div_iff_mul-le}
+use Rattle.std.proofs.Common.{le-mul_of_pos_right, add-one, arith, drop_of_length-le, drop-cons, le-ltb, lt-ltb, le-leb, leb-true}
 use mathlib.Core.Logic.{by_cases}
 use native.Mathlib.Decide.{dec_le}
 use mathlib.Core.Option.{Option, none, some}

@@ -1,5 +1,6 @@
 -- Signed numbers of 64 bits: what the code computes is what the definitions `as_i64` and `wrap` say. Assumes nothing.
-use Rattle.std.proofs.Common.{◌≡◌, ℕ, zero, suc, ◌+◌, ◌-◌, ◌%◌, ◌^◌, ◌<◌, ◌≤◌, true, false, ℤ, pos, negsuc, ◌+ℤ◌, ◌-ℤ◌, neg_ℤ, sym, refl, ap, ◌∙◌, mod-eq_of_lt, arith, w64, SFits, to_z, of_z, le-ltb, lt-ltb}
+use Rattle.std.proofs.Common.{◌≡◌, ℕ, zero, suc, ◌+◌, ◌-◌, ◌%◌, ◌^◌, ◌<◌, ◌≤◌, true, false, ℤ, pos, negsuc, ◌+ℤ◌, ◌-ℤ◌, neg_ℤ, sym, refl, ap, ◌∙◌, mod-eq_of_lt, arith, w64, SFits, to_z, of_z, le-ltb}
+use Rattle.std.proofs.Common.{lt-ltb}
 use native.Mathlib.Nat.{mod-mod}
 use native.Mathlib.Decide.{dec_lt}
 use mathlib.Core.Logic.{by_cases}

@@ -17,7 +17,8 @@ use Rattle.lines.specs.Lines.{indent_of, part_of, bare_in, Lined}
 use Rattle.lines.specs.Shapes.{expr_words}
 use Rattle.lines.specs.Fams.{fam_text}
 use Rattle.linefacts.specs.Transparent.{is_transparent_save_calls, is_transparent, is_calling}
-use Rattle.linefacts.proofs.Lacking.{save-calls_kw, save-calls_brace, save-calls-label, transparent_save_calls, transparent_call, transparent_touch, calling-save-calls, calling-call, calling-kills, calling_keeps}
+use Rattle.linefacts.proofs.Lacking.{save-calls_kw, save-calls_brace, save-calls-label, transparent_save_calls, transparent_call, transparent_touch, calling-save-calls, calling-call, calling-kills}
+use Rattle.linefacts.proofs.Lacking.{calling_keeps}
 use Rattle.life.specs.declared.touches.Touched.TheVariants.{Nothing, Kill as Kills}
 use Rattle.plan.specs.declared.reaches.Reach.{Reach}
 use Rattle.plan.specs.declared.definitions.Definition.{Definition}

@@ -13,7 +13,8 @@ use borrow.Author.Tests.{ne_eqb, eqb-true, leb-true, le-leb}
 use Rattle.reference.specs.Control.{◌and◌, ◌or◌, when◌then◌else◌}
 use Rattle.reference.specs.Listing.{token}
 use Rattle.reference.specs.Spans.{Span}
-use Rattle.reference.specs.Tape.{to_le_bytes, from_le_bytes, TapeForm, old, offsets, line_byte, marks_byte, width, Command, new_line, marked, new_token, end, write_command_by, text_length, command_size_by, command_by}
+use Rattle.reference.specs.Tape.{to_le_bytes, from_le_bytes, TapeForm, old, offsets, line_byte, marks_byte, width, Command, new_line, marked, new_token, end, write_command_by, text_length}
+use Rattle.reference.specs.Tape.{command_size_by, command_by}
 use Rattle.reference.specs.Questions.{is_command_by}
 use Rattle.reference.proofs.Cases.{either, both}
 use Rattle.reference.proofs.LittleEndian.{Bytes, bytes_drop, bytes_take, from_to, from-below, to_take}

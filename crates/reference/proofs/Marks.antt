@@ -36,7 +36,8 @@ use Rattle.reference.proofs.Commands.{AddressFits}
 use Rattle.reference.proofs.Limits.{All, all_append, MarksFit, TapeFits}
 use Rattle.reference.proofs.Tapes.{read_fits, read-marks_fit}
 use Rattle.reference.proofs.Written.{read-write}
-use Rattle.reference.proofs.Spans.{span_append, Covers, all_left, all_right, span_covers, hull_of, hull_of_ext, hull_of_one, hull_of-take_in, but, but_elsewhere, but_same, hull_of-remove, hull_of-split}
+use Rattle.reference.proofs.Spans.{span_append, Covers, all_left, all_right, span_covers, hull_of, hull_of_ext, hull_of_one, hull_of-take_in, but, but_elsewhere, but_same, hull_of-remove}
+use Rattle.reference.proofs.Spans.{hull_of-split}
 
 -- ---- what the attempts of a run do to the places of lines: from n lines to m
 

@@ -11,7 +11,8 @@ use borrow.Author.Tests.{eqb-true, eqb-false, ne_eqb}
 use Rattle.reference.specs.Control.{◌and◌, ◌or◌, when◌then◌else◌, let_some◌else◌then◌}
 use Rattle.reference.specs.Lists.{is_empty}
 use Rattle.reference.specs.Text.{Text, bytes, starts_with, contains, strip_prefix}
-use Rattle.reference.specs.Numbers.{to_digit, digits_value, unsigned, read_u64, read_i64, as_i64, wrap, parse_c_number, base_of, unquoted, constant_digits, constant_value, value_limit, read_constant, parse_2024}
+use Rattle.reference.specs.Numbers.{to_digit, digits_value, unsigned, read_u64, read_i64, as_i64, wrap, parse_c_number, base_of, unquoted, constant_digits, constant_value, value_limit, read_constant}
+use Rattle.reference.specs.Numbers.{parse_2024}
 use Rattle.reference.proofs.Opened.{opened}
 use Rattle.reference.proofs.Cases.{neither, none-some}
 

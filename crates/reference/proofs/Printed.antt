@@ -13,7 +13,8 @@ use borrow.Author.Tests.{lt-ltb, le-ltb, le-leb, lt-leb, ltb-true, ltb-false}
 use Rattle.reference.specs.Control.{◌and◌, ◌or◌, when◌then◌else◌, let_some◌else◌then◌}
 use Rattle.reference.specs.Lists.{is_empty}
 use Rattle.reference.specs.Text.{Text, bytes, starts_with}
-use Rattle.reference.specs.Numbers.{to_digit, digits_value, as_i64, wrap, parse_c_number, prefix_size, constant_digits, value_limit, read_constant, parse_2024, read_number, digit_byte, digits, show_natural, show}
+use Rattle.reference.specs.Numbers.{to_digit, digits_value, as_i64, wrap, parse_c_number, prefix_size, constant_digits, value_limit, read_constant, parse_2024, read_number, digit_byte, digits}
+use Rattle.reference.specs.Numbers.{show_natural, show}
 use Rattle.reference.proofs.Opened.{opened}
 use Rattle.reference.proofs.Cases.{by-if}
 use Rattle.reference.proofs.Numerals.{read-hexadecimal, minus_0, minus_1, plain_1, negated, read-constant_is, unquoted-row, digits_without, base_0x}

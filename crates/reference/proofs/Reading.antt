@@ -12,7 +12,8 @@ use Rattle.reference.specs.Control.{when◌then◌else◌}
 use Rattle.reference.specs.Listing.{Listing}
 use Rattle.reference.specs.Spans.{Marks}
 use Rattle.reference.specs.Tape.{TapeForm, old, header, Command, command_size_by, command_by}
-use Rattle.reference.specs.Questions.{Totals, is_command_by, ends_inside_by, has_line, is_within, is_few, is_short, is_printable, is_over, first_offending, place_at, Answer, Refused, Passed, ask, let_passed◌then◌, count_in, Advance, read_command_by, is_end, add, no_commands, read_from_by, read_by, add_marks, marks_from_by, marks_in_by}
+use Rattle.reference.specs.Questions.{Totals, is_command_by, ends_inside_by, has_line, is_within, is_few, is_short, is_printable, is_over, first_offending, place_at, Answer, Refused, Passed, ask}
+use Rattle.reference.specs.Questions.{let_passed◌then◌, count_in, Advance, read_command_by, is_end, add, no_commands, read_from_by, read_by, add_marks, marks_from_by, marks_in_by}
 use Rattle.reference.proofs.Cases.{by-if}
 use Rattle.reference.proofs.Commands.{FormBy, is_address, is_plain, is_marks, is_token, is_ending, form_of, is_form, address_form_by, plain_form_by, marks_form_by, token_form_by, end_form_by}
 

@@ -13,9 +13,11 @@ use Rattle.reference.specs.Text.{Text}
 use Rattle.reference.specs.Listing.{Listing}
 use Rattle.reference.specs.Rules.{Rules}
 use Rattle.reference.specs.Life.{Labels}
-use Rattle.reference.specs.Run.{labels_from, addressed_in, Attempt, attempts_from, propagate_once, after_attempts, removals, changed, rounds_from, limit, after_rounds, cuts_from, drop_dead_results, last_of, run, attempts_of, steps, listings, finished}
+use Rattle.reference.specs.Run.{labels_from, addressed_in, Attempt, attempts_from, propagate_once, after_attempts, removals, changed, rounds_from, limit, after_rounds, cuts_from, drop_dead_results}
+use Rattle.reference.specs.Run.{last_of, run, attempts_of, steps, listings, finished}
 use Rattle.reference.specs.Claim.{pairs_of, label_lines}
-use Rattle.reference.specs.Demand.{Accepted, Attempts, over, failed, succeeded, Round, Rounds, enough, ended, again, Settled, Cuts, done, kept, dropped, Taken, Within, Each, Step, Steps, Bounded, EachRound, Demand3}
+use Rattle.reference.specs.Demand.{Accepted, Attempts, over, failed, succeeded, Round, Rounds, enough, ended, again, Settled, Cuts, done, kept, dropped, Taken, Within, Each, Step, Steps, Bounded}
+use Rattle.reference.specs.Demand.{EachRound, Demand3}
 use Rattle.reference.proofs.Cases.{by-if, by-some, true-false}
 use Rattle.reference.proofs.Lines.{length-modify, labels_sublist}
 use Rattle.reference.proofs.Changes.{Changes, unchanged, changes-step, Removed, removed-length, removed_places, removed_labels, removed-step}

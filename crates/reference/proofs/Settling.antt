@@ -12,7 +12,8 @@ use Rattle.reference.specs.Text.{Text}
 use Rattle.reference.specs.Listing.{Listing}
 use Rattle.reference.specs.Rules.{Rules}
 use Rattle.reference.specs.Life.{Labels}
-use Rattle.reference.specs.Run.{Attempt, propagate_once, after_attempts, removals, changed, rounds_from, limit, after_rounds, drop_dead_results, last_of, run, attempts_of, steps, finished, Tally, three, settled, Counts, attempts_in, counts}
+use Rattle.reference.specs.Run.{Attempt, propagate_once, after_attempts, removals, changed, rounds_from, limit, after_rounds, drop_dead_results, last_of, run, attempts_of, steps, finished, Tally}
+use Rattle.reference.specs.Run.{three, settled, Counts, attempts_in, counts}
 use Rattle.reference.specs.Tape.{write}
 use Rattle.reference.specs.Demand.{Attempts, over, failed, succeeded, Round, Rounds, enough, ended, again, Settled, Bounded, EachRound, Demand3}
 use Rattle.reference.proofs.Cases.{by-if, neither, true-false}

@@ -11,7 +11,8 @@ use borrow.Author.Tests.{ne_eqb}
 use Rattle.reference.specs.Control.{when◌then◌else◌}
 use Rattle.reference.specs.Listing.{Token, Line, Listing}
 use Rattle.reference.specs.Spans.{Marks}
-use Rattle.reference.specs.Tape.{old, Command, new_line, marked, new_token, end, write_command, write_marks, write_line, write_lines, write, command_size, unmarked_from, unmarked, command_size_by, write_by, write_command_by, write_line_by, write_lines_by, write_marks_by}
+use Rattle.reference.specs.Tape.{old, Command, new_line, marked, new_token, end, write_command, write_marks, write_line, write_lines, write, command_size, unmarked_from, unmarked, command_size_by}
+use Rattle.reference.specs.Tape.{write_by, write_command_by, write_line_by, write_lines_by, write_marks_by}
 use Rattle.reference.proofs.Cases.{by-if}
 use Rattle.reference.proofs.Commands.{AddressFits, SpanFits, Writable, read_of-write}
 use Rattle.reference.proofs.Limits.{All}

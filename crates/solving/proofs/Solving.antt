@@ -1,7 +1,8 @@
 -- a · x ≡ c modulo 2^n, bit by bit, over any width n. Where a and c are even, the solutions are those of their halves at one bit less.
 -- Where a is odd, the lowest bit of every solution is that of c, and the other bits solve what is left of c, halved, at one bit less.
 -- Assumes nothing.
-use Rattle.std.proofs.Common.{◌≡◌, ℕ, zero, suc, ◌+◌, ◌-◌, ◌*◌, ◌/◌, ◌%◌, ◌^◌, ◌<◌, ◌≤◌, sym, ap, ◌∙◌, subst, zero-le, not-suc-le-zero, mod-eq_of_lt, one-mul, pow-suc, zero-add, add-one, arith, pow_pos, pow_mono}
+use Rattle.std.proofs.Common.{◌≡◌, ℕ, zero, suc, ◌+◌, ◌-◌, ◌*◌, ◌/◌, ◌%◌, ◌^◌, ◌<◌, ◌≤◌, sym, ap, ◌∙◌, subst, zero-le, not-suc-le-zero, mod-eq_of_lt, one-mul, pow-suc, zero-add, add-one, arith}
+use Rattle.std.proofs.Common.{pow_pos, pow_mono}
 use native.Mathlib.Nat.{mod-one, mod-mod, mod-add-mod, add-mul-mod_self_right}
 use native.Mathlib.Nat.{sub-zero}
 use lib.Arith.{mod-mul}

@@ -20,7 +20,8 @@ use Rattle.reference.specs.Straight.{assign, line_step, execute}
 use Rattle.reference.proofs.Cases.{by-some, both, neither, not-true, not-false, true-false, some_inj, if_some, unless-some, bind-some}
 use Rattle.reference.proofs.Shapes.{other_kind, Assigning, assigning-register, assigns as assigns_of}
 use Rattle.reference.proofs.Lines.{drop-step}
-use Rattle.joining.specs.Plan.{Definition, definition_of, Plan, Reach, reach_of, refuses, all_take, plan_reach, plan_constant, use_of, wants_brackets, plan_use, plan_single, plan_for, decide, map_from, acted_line, act}
+use Rattle.joining.specs.Plan.{Definition, definition_of, Plan, Reach, reach_of, refuses, all_take, plan_reach, plan_constant, use_of, wants_brackets, plan_use, plan_single, plan_for, decide}
+use Rattle.joining.specs.Plan.{map_from, acted_line, act}
 use Rattle.joining.proofs.Reaching.{gathered, reach-last, gathered_uses}
 use Rattle.joining.proofs.Taking.{refused}
 use Rattle.joining.proofs.Deciding.{inside, tried}

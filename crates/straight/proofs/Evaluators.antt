@@ -13,7 +13,8 @@ use Rattle.reference.specs.Control.{when◌then◌else◌, let_some◌else◌the
 use Rattle.reference.specs.Lists.{is_empty}
 use Rattle.reference.specs.Text.{Text, bytes}
 use Rattle.reference.specs.Listing.{Token, is, Punct}
-use Rattle.reference.specs.Evaluators.{modulo, Store, wide, number_of, of_integer, Lexeme, sign, reg, num, junk, lexemes_of, lexemes, behind, Operator, adds, takes, operator, combine, expression, term, further, evaluate}
+use Rattle.reference.specs.Evaluators.{modulo, Store, wide, number_of, of_integer, Lexeme, sign, reg, num, junk, lexemes_of, lexemes, behind, Operator, adds, takes, operator, combine, expression}
+use Rattle.reference.specs.Evaluators.{term, further, evaluate}
 use Rattle.reference.specs.Straight.{assigned_value, returned_value}
 use Rattle.reference.proofs.Cases.{by-if, by-some, same_number, some_inj, none-some, if_some, bind-some}
 use Rattle.laws.proofs.Scans.{if-true, if-false}

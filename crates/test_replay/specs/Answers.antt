@@ -12,12 +12,12 @@ abbrev pub is_number : List ℕ → ℕ → ℕ → Bool
 is_number list k n = eqb (number_in list k) n
 
 abbrev pub is_report : List ℕ → ℕ → ℕ → ℕ → ℕ → Bool
-is_report list refusal place length cut = is_number list 6 refusal and is_number list 7 place and is_number list 8 length and is_number list 13
-    cut
+is_report list refusal place length cut =
+    is_number list 6 refusal and is_number list 7 place and is_number list 8 length and is_number list 13 cut
 
 abbrev pub are_counts : List ℕ → ℕ → ℕ → ℕ → ℕ → Bool
-are_counts list first second third removed = is_number list 9 first and is_number list 10 second and is_number list 11 third and is_number list
-    12 removed
+are_counts list first second third removed =
+    is_number list 9 first and is_number list 10 second and is_number list 11 third and is_number list 12 removed
 
 abbrev pub are_rounds : List ℕ → ℕ → ℕ → Bool
 are_rounds list rounds attempts = is_number list 14 rounds and is_number list 15 attempts

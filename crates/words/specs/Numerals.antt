@@ -13,8 +13,8 @@ option_of Not = none
 -- 0 to 9, A to F, a to f; 16 for another byte
 unfoldable pub digit : ℕ → ℕ
 digit b =
-    when ltb b 48 then 16 else when ltb b 58 then b - 48 else when ltb b 65 then 16 else when ltb b 71 then b - 55 else when ltb b 97 then 16
-    else when ltb b 103 then b - 87 else 16
+    when ltb b 48 then 16 else when ltb b 58 then b - 48 else when ltb b 65 then 16 else when ltb b 71 then b - 55
+    else when ltb b 97 then 16 else when ltb b 103 then b - 87 else 16
 
 -- the number that digits stand for, behind a number v
 unfoldable pub digits_from : ℕ → ℕ → Text → Option ℕ

@@ -2,7 +2,6 @@
 use mathlib.Core.Path.{refl}
 use Rattle.answers.proofs.tell.Goals as goal
 
--- `answers::tell` meets its contract. Assumes nothing.
 pub enum_known-answer : goal.enum_known-answer
 enum_known-answer c = c.in-Refused.in-Refused-own.keys1
 

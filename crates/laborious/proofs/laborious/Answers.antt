@@ -3,7 +3,6 @@ use native.Mathlib.Omega.{arith}
 use Rattle.laborious.proofs.Answering.{many, short, enough}
 use Rattle.laborious.proofs.laborious.Goals as goal
 
--- `laborious::laborious` meets its contract. Assumes nothing.
 pub returns-then-n-gt256 : goal.returns-then-n-gt256
 returns-then-n-gt256 c = many c.args.n c.args.out.now c.if-n-gt256.true
 

@@ -3,7 +3,6 @@ use Prim.Native.Nat.{◌-◌}
 use Rattle.laborious.proofs.Writer.{Turn}
 use Rattle.laborious.proofs.write_laborious.Given as goal
 
--- `laborious::write_laborious` meets its contract. Assumes nothing.
 abbrev pub invariant-loop-i : goal.invariant-loop-i
 invariant-loop-i l = Turn l.n l.initial.out l.out l.at l.i
 

@@ -16,7 +16,8 @@ use Rattle.reference.specs.Listing.{Token, ◌at◌, with_tokens}
 use Rattle.laws.proofs.Parts.{part-below}
 use Rattle.lines.specs.Words.{tokens_of, Holds}
 use Rattle.lines.specs.Facts.{bit, Tells}
-use Rattle.lines.specs.Lines.{first_of, count_of, indent_of, addressed_of, origin_of, facts_of, with_facts, line_word, with_part, part_of, address_in, Reading, own, numbered, read_as, line_read, listing_read, line_in, bare, bare_in, bare_listing, Lined, Listed}
+use Rattle.lines.specs.Lines.{first_of, count_of, indent_of, addressed_of, origin_of, facts_of, with_facts, line_word, with_part, part_of, address_in, Reading, own, numbered, read_as, line_read}
+use Rattle.lines.specs.Lines.{listing_read, line_in, bare, bare_in, bare_listing, Lined, Listed}
 use Rattle.lines.proofs.words.Each.{each_none, each_one, each_take, each-drop, each_append, each_set, each-remove, map_at, map_same}
 use Rattle.lines.proofs.words.Tokens.{holds-take, holds-drop, holds-prefix, tokens-prefix}
 

@@ -6,7 +6,6 @@ use Rattle.numbers.specs.Writing.{Written}
 use Rattle.page.specs.Escaping.{escaped}
 use Rattle.page.proofs.put_escaped.Given as goal
 
--- `page::put_escaped` meets its contract. Assumes nothing.
 abbrev pub invariant-loop-i : goal.invariant-loop-i
 invariant-loop-i l =
     (l.i ≤ length l.text) × Written l.initial.out l.at (escaped (take l.i l.text)) l.out l.end × (length l.out ≡ length l.initial.out)

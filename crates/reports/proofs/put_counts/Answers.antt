@@ -18,4 +18,6 @@ pub put-requires : goal.put-requires
 put-requires c = search (rules, decimal-length c.args.size, decimal-length c.args.removed, decimal-length c.args.cut, tallied-length (tally_of c.args.tally))
 
 pub returns : goal.returns
-returns c = counts-put c.args.out.now c.args.size (tally_of c.args.tally) c.args.removed c.args.cut c.requires c.put_named-a.ensures c.put_tally-b.ensures c.put_named-c.ensures c.put_named-d.ensures c.put.ensures
+returns c =
+    counts-put c.args.out.now c.args.size (tally_of c.args.tally) c.args.removed c.args.cut c.requires c.put_named-a.ensures c.put_tally-b.ensures c.put_named-c.ensures
+    c.put_named-d.ensures c.put.ensures

@@ -6,7 +6,6 @@ use Rattle.numbers.specs.Writing.{Written}
 use Rattle.reports.specs.Reports.{visible}
 use Rattle.reports.proofs.put_visible.Given as goal
 
--- `reports::put_visible` meets its contract. Assumes nothing.
 abbrev pub invariant-loop-i : goal.invariant-loop-i
 invariant-loop-i l = (l.i ≤ length l.name) × Written l.initial.out 0 (visible (take l.i l.name)) l.out l.end × (length l.out ≡ length l.initial.out)
 

@@ -15,7 +15,8 @@ use Rattle.reference.specs.Spans.{Span}
 use Rattle.reference.specs.Tape as Tape
 use Rattle.reference.specs.Tape.{TapeForm, new_line, marked, new_token, end, command_by}
 use Rattle.reference.specs.Questions as Q
-use Rattle.reference.specs.Questions.{is_command_by, ends_inside_by, has_line, is_within, is_few, is_short, is_printable, is_over, is_offending, first_offending, place_at, is_end, Answer, Refused, Passed, ask, count_in, Advance, read_command_by}
+use Rattle.reference.specs.Questions.{is_command_by, ends_inside_by, has_line, is_within, is_few, is_short, is_printable, is_over, is_offending, first_offending, place_at, is_end, Answer, Refused}
+use Rattle.reference.specs.Questions.{Passed, ask, count_in, Advance, read_command_by}
 use Rattle.reference.specs.Steps.{FromHereBy}
 use Rattle.reference.proofs.Cases.{by-if}
 use Rattle.reference.proofs.Commands.{is_form}

@@ -10,7 +10,8 @@ use Rattle.reference.specs.Listing.{Listing}
 use Rattle.reference.specs.Spans.{Marks}
 use Rattle.reference.specs.Tape.{TapeForm, old, header}
 use Rattle.reference.specs.Questions.{Totals, Answer, Refused, Passed, let_passed◌then◌, Advance, read_command_by, is_end, add, no_commands, read_by, add_marks, marks_in_by}
-use Rattle.reference.proofs.Reading.{refused_passed, by_passed, let_refused, let_is, PassesBy, command_passed_by, advances, reading_by, reading_step_by, ReachedBy, here, on, reading_of, AcceptsBy, accepted, marks-read}
+use Rattle.reference.proofs.Reading.{refused_passed, by_passed, let_refused, let_is, PassesBy, command_passed_by, advances, reading_by, reading_step_by, ReachedBy, here, on, reading_of, AcceptsBy}
+use Rattle.reference.proofs.Reading.{accepted, marks-read}
 use Rattle.reference.proofs.Tapes.{kept}
 use Rattle.tape.specs.Questions.{Sizes, sizes_in, AcceptedTape}
 

@@ -6,7 +6,6 @@ use Rattle.test_leaves.specs.Fields.{lines}
 use Rattle.test_leaves.specs.Answers.{differing}
 use Rattle.test_leaves.proofs.compared.Given as goal
 
--- `test_leaves::compared` meets its contract: what is counted so far, and what the rest has, make the whole. Assumes nothing.
 abbrev pub invariant-loop-left : goal.invariant-loop-left
 invariant-loop-left l =
     (l.lines + length l.left ≤ length l.input) × (l.differing ≤ l.lines) × (length l.out ≡ length l.initial.out)

@@ -5,7 +5,6 @@ use lib.ListN.{length}
 use Rattle.test_replay.specs.Tallies.{replayed, tally}
 use Rattle.test_replay.proofs.replayed.Given as goal
 
--- `test_replay::replayed` meets its contract: the tally of the list is that of what is left, and each frame counted took a byte or more. Assumes nothing.
 abbrev pub invariant-loop-left : goal.invariant-loop-left
 invariant-loop-left l = (replayed l.list l.class ≡ tally (length l.left) l.left l.class l.counts) × (l.counts.tapes + length l.left ≤ length l.list) × (l.counts.differ ≤ l.counts.tapes)
 

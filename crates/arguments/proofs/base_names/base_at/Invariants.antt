@@ -5,7 +5,6 @@ use lib.ListN.{length, drop}
 use Rattle.arguments.specs.Names.{base_from, base_name}
 use Rattle.arguments.proofs.base_names.base_at.Given as goal
 
--- `arguments::base_names::base_at` meets its contract. Assumes nothing.
 abbrev pub invariant-loop-i : goal.invariant-loop-i
 invariant-loop-i l = (l.i ≤ length l.path) × (l.at ≤ length l.path) × (base_name l.path ≡ base_from (drop l.at l.path) (drop l.i l.path))
 

@@ -48,7 +48,12 @@ pub loop-at-smaller : goal.loop-at-smaller
 loop-at-smaller c = omega (arith, c.word_end-e.ensures.behind, c.word_end-e.ensures.within)
 
 pub loop-at-preserved : goal.loop-at-preserved
-loop-at-preserved c = (omega (arith, c.word_end-e.ensures.within), omega (arith, c.word_end-e.ensures.behind), c.loop-at.invariant.2 ∙ clash_on _ c.loop-at-test.true c.word_end-e.ensures c.loop-at.s c.loop-at.k c.step-s.ensures c.taken_later-here.ensures c.if-here-ne0.false)
+loop-at-preserved c = (
+  omega (arith, c.word_end-e.ensures.within),
+  omega (arith, c.word_end-e.ensures.behind),
+  c.loop-at.invariant.2 ∙ clash_on _ c.loop-at-test.true c.word_end-e.ensures c.loop-at.s
+      c.loop-at.k c.step-s.ensures c.taken_later-here.ensures c.if-here-ne0.false,
+)
 
 pub returns : goal.returns
 returns c = sym (c.loop-at.invariant.2 ∙ clash_end _ c.loop-at.at c.loop-at.s c.loop-at.k (search rules))

@@ -6,7 +6,6 @@ use Rattle.words.specs.Splitting.{split}
 use Rattle.arguments.specs.Names.{clash_from, clash_of}
 use Rattle.arguments.proofs.base_names.clash.Given as goal
 
--- `arguments::base_names::clash` meets its contract. Assumes nothing.
 abbrev pub invariant-loop-at : goal.invariant-loop-at
 invariant-loop-at l = (l.at ≤ length l.words + 1) × (l.k ≤ l.at + 1) × (clash_of (split l.words) ≡ clash_from l.s l.k (split (drop l.at l.words)))
 

@@ -39,7 +39,12 @@ pub loop-at-smaller : goal.loop-at-smaller
 loop-at-smaller c = omega (arith, c.word_end-e.ensures.behind, c.word_end-e.ensures.within)
 
 pub loop-at-preserved : goal.loop-at-preserved
-loop-at-preserved c = (omega (arith, c.word_end-e.ensures.within), omega (arith, c.word_end-e.ensures.behind), c.loop-at.invariant.2 ∙ later-on _ c.loop-at-test.true c.word_end-e.ensures c.loop-at.t c.loop-at.n c.step-t.ensures _ (sym c.is_same.ensures ∙ c.if-is_same.false))
+loop-at-preserved c = (
+  omega (arith, c.word_end-e.ensures.within),
+  omega (arith, c.word_end-e.ensures.behind),
+  c.loop-at.invariant.2 ∙ later-on _ c.loop-at-test.true c.word_end-e.ensures c.loop-at.t
+      c.loop-at.n c.step-t.ensures _ (sym c.is_same.ensures ∙ c.if-is_same.false),
+)
 
 pub returns : goal.returns
 returns c = sym (c.loop-at.invariant.2 ∙ later_end _ _ c.loop-at.at c.loop-at.t c.loop-at.n (search rules))

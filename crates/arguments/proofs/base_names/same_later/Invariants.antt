@@ -6,7 +6,6 @@ use Rattle.words.specs.Splitting.{split}
 use Rattle.arguments.specs.Names.{same_later}
 use Rattle.arguments.proofs.base_names.same_later.Given as goal
 
--- `arguments::base_names::same_later` meets its contract. Assumes nothing.
 abbrev pub invariant-loop-at : goal.invariant-loop-at
 invariant-loop-at l = (l.at ≤ length l.words + 1) × (l.n ≤ l.at + 1) × (same_later l.path l.initial.t l.k (split (drop l.from l.words)) ≡ same_later l.path l.t l.n (split (drop l.at l.words)))
 

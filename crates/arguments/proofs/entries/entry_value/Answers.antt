@@ -15,7 +15,9 @@ returns-then-n-gt255 c = if_here _ (lt_at _ c.equals_at-n.ensures c.if-n-gt255.t
 pub returns-then-n-word : goal.returns-then-n-word
 unfolding entry_value
 returns-then-n-word c = let w = c.args.word.now in
-    if-there _ (le_at _ c.equals_at-n.ensures c.if-n-gt255.false) (if_here _ (lt_of _ c.equals_at-n.ensures c.if-n-word.true) (rw (to_end (c.equals_at-n.result + 1) w) at c.integer_in.ensures ∙ ap (λ (n : ℕ). integer_in (drop (n + 1) w)) c.equals_at-n.ensures))
+    if-there _ (le_at _ c.equals_at-n.ensures c.if-n-gt255.false)
+    (if_here _ (lt_of _ c.equals_at-n.ensures c.if-n-word.true) (rw (to_end (c.equals_at-n.result + 1) w) at c.integer_in.ensures ∙ ap (λ (n : ℕ). integer_in (drop (n + 1) w))
+    c.equals_at-n.ensures))
 
 pub returns : goal.returns
 unfolding entry_value

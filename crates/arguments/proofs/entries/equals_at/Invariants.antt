@@ -5,7 +5,6 @@ use lib.ListN.{length, drop}
 use Rattle.arguments.specs.Entries.{equals_at}
 use Rattle.arguments.proofs.entries.equals_at.Given as goal
 
--- `arguments::entries::equals_at` meets its contract. Assumes nothing.
 abbrev pub invariant-loop-i : goal.invariant-loop-i
 invariant-loop-i l = (l.i ≤ length l.word) × (equals_at l.word ≡ l.i + equals_at (drop l.i l.word))
 

@@ -4,7 +4,6 @@ use mathlib.Core.Path.{sym}
 use lib.Seq.{length-take-le}
 use Rattle.arguments.proofs.entries.put_front.Goals as goal
 
--- `arguments::entries::put_front` meets its contract. Assumes nothing.
 pub slice_bounds-put_named-end : goal.slice_bounds-put_named-end
 slice_bounds-put_named-end c = sym (length-take-le _ _ c.requires.1)
 

@@ -4,7 +4,6 @@ use Rattle.arguments.specs.Requests.{judged}
 use borrow.Author.Rules.{rules}
 use Rattle.arguments.proofs.reading.judge.Goals as goal
 
--- `arguments::reading::judge` meets its contract. Assumes nothing.
 pub returns-then-s-ne0 : goal.returns-then-s-ne0
 unfolding judged
 returns-then-s-ne0 c = search (rules, branches) depth 12

@@ -4,7 +4,6 @@ use Rattle.arguments.specs.Requests.{judge_start}
 use borrow.Author.Rules.{rules}
 use Rattle.arguments.proofs.reading.judge_start.Goals as goal
 
--- `arguments::reading::judge_start` meets its contract. Assumes nothing.
 pub returns-then-s-ne15 : goal.returns-then-s-ne15
 unfolding judge_start
 returns-then-s-ne15 c = search (rules, branches) depth 12

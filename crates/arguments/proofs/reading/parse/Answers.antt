@@ -35,7 +35,12 @@ pub loop-at-smaller : goal.loop-at-smaller
 loop-at-smaller c = omega (arith, c.word_end-e.ensures.behind, c.word_end-e.ensures.within)
 
 pub loop-at-preserved : goal.loop-at-preserved
-loop-at-preserved c = (omega (arith, c.word_end-e.ensures.within), omega (arith, c.word_end-e.ensures.behind), c.loop-at.invariant.2 ∙ next-step c.args.words.now c.loop-at-test.true c.word_end-e.ensures c.loop-at.s c.loop-at.k ∙ ap (λ (t : Request). steps_from t (c.loop-at.k + 1) (split (drop (c.word_end-e.result + 1) c.args.words.now))) (sym c.step-s.ensures))
+loop-at-preserved c = (
+  omega (arith, c.word_end-e.ensures.within),
+  omega (arith, c.word_end-e.ensures.behind),
+  c.loop-at.invariant.2 ∙ next-step c.args.words.now c.loop-at-test.true c.word_end-e.ensures
+      c.loop-at.s c.loop-at.k ∙ ap (λ (t : Request). steps_from t (c.loop-at.k + 1) (split (drop (c.word_end-e.result + 1) c.args.words.now))) (sym c.step-s.ensures),
+)
 
 pub returns : goal.returns
 unfolding request_of steps_from

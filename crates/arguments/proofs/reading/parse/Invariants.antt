@@ -6,7 +6,6 @@ use Prim.Native.Nat.{◌≤◌, ◌+◌, ◌-◌}
 use mathlib.Core.Path.{◌≡◌}
 use Rattle.arguments.proofs.reading.parse.Given as goal
 
--- `arguments::reading::parse` meets its contract. Assumes nothing.
 abbrev pub invariant-loop-at : goal.invariant-loop-at
 invariant-loop-at l = (l.at ≤ length l.words + 1) × (l.k ≤ l.at + 1) × (steps_from none_yet 1 (split l.words) ≡ steps_from l.s l.k (split (drop l.at l.words)))
 

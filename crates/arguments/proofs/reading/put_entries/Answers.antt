@@ -45,8 +45,14 @@ loop-at-smaller c = omega (arith, c.word_end-e.ensures.behind, c.word_end-e.ensu
 pub loop-at-preserved : goal.loop-at-preserved
 loop-at-preserved c = let p = c.put_taken-end.ensures in
     let w = c.args.words.now in
-    let n = taken-length (eqb c.step-s.result.entry_at c.loop-at.k) (take (c.word_end-e.result - c.loop-at.at) (drop c.loop-at.at w)) in
-    (omega (arith, c.word_end-e.ensures.within), omega (arith, c.word_end-e.ensures.behind), omega (arith, p.end_is, n, c.word_end-e.ensures.behind, c.word_end-e.ensures.within), search rules, begun-next w c.args.out.now (search rules) c.word_end-e.ensures c.loop-at.s c.loop-at.k c.step-s.ensures c.loop-at.invariant.4 p (omega (arith, p.end_is, n, c.word_end-e.ensures.behind, c.word_end-e.ensures.within)))
+    let n = taken-length (eqb c.step-s.result.entry_at c.loop-at.k) (take (c.word_end-e.result - c.loop-at.at) (drop c.loop-at.at w)) in (
+      omega (arith, c.word_end-e.ensures.within),
+      omega (arith, c.word_end-e.ensures.behind),
+      omega (arith, p.end_is, n, c.word_end-e.ensures.behind, c.word_end-e.ensures.within),
+      search rules,
+      begun-next w c.args.out.now (search rules) c.word_end-e.ensures c.loop-at.s c.loop-at.k c.step-s.ensures c.loop-at.invariant.4 p
+          (omega (arith, p.end_is, n, c.word_end-e.ensures.behind, c.word_end-e.ensures.within)),
+    )
 
 pub returns : goal.returns
 returns c = begun_all _ _ _ (search rules) c.loop-at.invariant.4

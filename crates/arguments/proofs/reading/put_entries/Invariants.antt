@@ -5,7 +5,6 @@ use lib.ListN.{length}
 use Rattle.arguments.proofs.Gathering.{Begun}
 use Rattle.arguments.proofs.reading.put_entries.Given as goal
 
--- `arguments::reading::put_entries` meets its contract. Assumes nothing.
 abbrev pub invariant-loop-at : goal.invariant-loop-at
 invariant-loop-at l = (l.at ≤ length l.words + 1) × (l.k ≤ l.at + 1) × (l.end ≤ 9 * l.at) × (length l.out ≡ length l.initial.out) × Begun l.words l.initial.out l.s l.k l.at l.out l.end
 

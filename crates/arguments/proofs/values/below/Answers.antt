@@ -4,7 +4,6 @@ use Rattle.words.proofs.Branches.{branches}
 use Rattle.arguments.specs.Values.{below}
 use Rattle.arguments.proofs.values.below.Goals as goal
 
--- `arguments::values::below` meets its contract. Assumes nothing.
 pub returns-then-n-count : goal.returns-then-n-count
 unfolding below
 returns-then-n-count c = search (rules, branches) depth 12

@@ -4,7 +4,6 @@ use Rattle.words.proofs.Branches.{branches}
 use Rattle.arguments.specs.Values.{is_name}
 use Rattle.arguments.proofs.values.is_name.Goals as goal
 
--- `arguments::values::is_name` meets its contract. Assumes nothing.
 pub returns-then-word-eq0 : goal.returns-then-word-eq0
 unfolding is_name
 returns-then-word-eq0 c = search (rules, branches) depth 12

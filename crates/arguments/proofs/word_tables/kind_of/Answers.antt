@@ -7,7 +7,6 @@ use lib.ListN.{get_or}
 use Rattle.arguments.proofs.Taken.{past}
 use Rattle.arguments.proofs.word_tables.kind_of.Goals as goal
 
--- `arguments::word_tables::kind_of` meets its contract. Assumes nothing.
 pub returns-then-verb-gt15 : goal.returns-then-verb-gt15
 unfolding kind_of kinds
 returns-then-verb-gt15 c = let a = c.args in past kinds (a.verb * 5 + min a.operands 4) (omega arith)

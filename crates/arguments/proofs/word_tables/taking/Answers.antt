@@ -7,7 +7,6 @@ use lib.ListN.{get_or}
 use Rattle.arguments.proofs.Taken.{past}
 use Rattle.arguments.proofs.word_tables.taking.Goals as goal
 
--- `arguments::word_tables::taking` meets its contract. Assumes nothing.
 pub returns-then-verb-gt15 : goal.returns-then-verb-gt15
 unfolding taking takings
 returns-then-verb-gt15 c = let a = c.args in past takings (a.verb * 11 + min a.option 10) (omega arith)

@@ -13,7 +13,12 @@ pub token_bits-has-requires : goal.token_bits-has-requires
 token_bits-has-requires c = search (rules, holds_at)
 
 pub loop-k-preserved : goal.loop-k-preserved
-loop-k-preserved c = let l = c.loop-k in let a = c.args in (more_small a.tape.now a.area.now a.line.now l.invariant.0 l.invariant.1 (omega arith) c.token_bits-has.ensures, more_bits a.tape.now a.area.now a.line.now l.invariant.0 l.invariant.1 (omega arith) c.token_bits-has.ensures)
+loop-k-preserved c =
+    let l = c.loop-k in let a = c.args in (
+      more_small a.tape.now a.area.now a.line.now l.invariant.0 l.invariant.1 (omega arith) c.token_bits-has.ensures,
+      more_bits a.tape.now a.area.now
+          a.line.now l.invariant.0 l.invariant.1 (omega arith) c.token_bits-has.ensures,
+    )
 
 pub returns : goal.returns
 returns c =

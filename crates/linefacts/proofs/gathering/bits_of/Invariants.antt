@@ -8,7 +8,6 @@ use Rattle.lines.specs.Facts.{bit}
 use Rattle.linefacts.specs.Gathering.{seen_by}
 use Rattle.linefacts.proofs.gathering.bits_of.Given as goal
 
--- `linefacts::gathering::bits_of` meets its contract. Assumes nothing.
 abbrev pub invariant-loop-k : goal.invariant-loop-k
 invariant-loop-k l = (l.has < 131072) × ((i : ℕ) → i < 17 → bit l.has i ≡ 0 → any (seen_by i) (tokens_of l.tape l.area l.line) ≡ any (seen_by i) (tokens_of l.tape l.area (drop l.k l.line)))
 

@@ -4,7 +4,6 @@ use lib.ListN.{length}
 use Rattle.linefacts.specs.Gathering.{AllNoted}
 use Rattle.linefacts.proofs.gathering.gather_facts.Given as goal
 
--- `linefacts::gathering::gather_facts` meets its contract. Assumes nothing.
 abbrev pub invariant-loop-k : goal.invariant-loop-k
 invariant-loop-k l = AllNoted l.tape l.area l.tokens l.initial.lines l.lines
 

@@ -6,7 +6,6 @@ use Rattle.laws.proofs.Scans.{and_here, and_second}
 use Rattle.linefacts.specs.Transparent.{is_transparent_save_calls}
 use Rattle.linefacts.proofs.transparent.is_transparent_save_calls.Goals as goal
 
--- `linefacts::transparent::is_transparent_save_calls` meets its contract. Assumes nothing.
 pub has_fact-requires : goal.has_fact-requires
 has_fact-requires c = omega (arith, c.requires)
 

@@ -4,7 +4,6 @@ use Rattle.linefacts.proofs.Making.{row_is, text_is}
 use borrow.Author.Rules.{rules}
 use Rattle.linefacts.proofs.transparent.number_of.Goals as goal
 
--- `linefacts::transparent::number_of` meets its contract. Assumes nothing.
 pub returns-then-f-lt8 : goal.returns-then-f-lt8
 returns-then-f-lt8 c = search (rules, row_is)
 

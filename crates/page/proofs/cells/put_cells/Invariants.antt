@@ -4,7 +4,6 @@ use lib.ListN.{length}
 use Rattle.page.proofs.Rowing.{Pieces}
 use Rattle.page.proofs.cells.put_cells.Given as goal
 
--- `page::cells::put_cells` meets its contract. Assumes nothing.
 abbrev pub invariant-loop-i : goal.invariant-loop-i
 invariant-loop-i l = Pieces l.kind l.text l.initial.out l.at l.out l.end l.i
 

@@ -4,7 +4,6 @@ use lib.ListN.{length}
 use Rattle.page.proofs.Rowing.{Row}
 use Rattle.page.proofs.cells.put_line.Given as goal
 
--- `page::cells::put_line` meets its contract. Assumes nothing.
 abbrev pub invariant-loop-command : goal.invariant-loop-command
 invariant-loop-command l = Row l.tape l.initial.out l.out l.end l.at
 

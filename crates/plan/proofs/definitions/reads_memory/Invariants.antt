@@ -7,7 +7,6 @@ use Rattle.lines.specs.Shapes.{expr_words}
 use Rattle.plan.proofs.Defining.{reads-from}
 use Rattle.plan.proofs.definitions.reads_memory.Given as goal
 
--- `plan::definitions::reads_memory` meets its contract. Assumes nothing.
 abbrev pub invariant-loop-k : goal.invariant-loop-k
 invariant-loop-k l = reads_memory (tokens_of l.tape l.area (expr_words l.line l.x)) ≡ reads-from l.tape l.area (expr_words l.line l.x) l.k
 

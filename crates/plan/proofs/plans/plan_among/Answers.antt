@@ -3,7 +3,6 @@ use borrow.Author.Rules.{rules}
 use Rattle.plan.proofs.Deciding.{sounding, found_inside, placing}
 use Rattle.plan.proofs.plans.plan_among.Goals as goal
 
--- `plan::plans::plan_among` meets its contract. Assumes nothing.
 pub first_of-requires : goal.first_of-requires
 first_of-requires c = search (rules, sounding)
 

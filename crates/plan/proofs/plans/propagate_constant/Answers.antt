@@ -3,7 +3,6 @@ use borrow.Author.Rules.{rules}
 use Rattle.plan.proofs.Deciding.{sounding, reach-inside, propagating}
 use Rattle.plan.proofs.plans.propagate_constant.Goals as goal
 
--- `plan::plans::propagate_constant` meets its contract. Assumes nothing.
 pub reach_of-r-requires : goal.reach_of-r-requires
 reach_of-r-requires c = search (rules, sounding)
 

@@ -7,9 +7,10 @@ use Rattle.lines.specs.Fams.{fam_text}
 use Rattle.plan.proofs.Reaching.{taken-from}
 use Rattle.plan.proofs.reaches.all_take.Given as goal
 
--- `plan::reaches::all_take` meets its contract. Assumes nothing.
 abbrev pub invariant-loop-j : goal.invariant-loop-j
-invariant-loop-j l = taken-from l.tape l.area l.tokens l.lines l.i l.last (fam_text l.tape l.area l.f) (volatile (rules_of l.rules)) (suc l.i) ≡ taken-from l.tape l.area l.tokens l.lines l.i l.last (fam_text l.tape l.area l.f) (volatile (rules_of l.rules)) l.j
+invariant-loop-j l =
+    taken-from l.tape l.area l.tokens l.lines l.i l.last (fam_text l.tape l.area l.f) (volatile (rules_of l.rules)) (suc l.i) ≡ taken-from l.tape l.area l.tokens l.lines l.i l.last
+    (fam_text l.tape l.area l.f) (volatile (rules_of l.rules)) l.j
 
 abbrev pub decreases-loop-j : goal.decreases-loop-j
 decreases-loop-j l = l.last + 1 - l.j

@@ -4,7 +4,6 @@ use Rattle.plan.proofs.Reading.{reading}
 use Rattle.plan.proofs.Reaching.{running}
 use Rattle.plan.proofs.reaches.ends_run.Goals as goal
 
--- `plan::reaches::ends_run` meets its contract. Assumes nothing.
 pub line_of-line-requires : goal.line_of-line-requires
 line_of-line-requires c = search (rules, reading)
 

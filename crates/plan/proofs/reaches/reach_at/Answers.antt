@@ -4,7 +4,6 @@ use Rattle.plan.proofs.Reading.{reading}
 use Rattle.plan.proofs.Reaching.{reaching}
 use Rattle.plan.proofs.reaches.reach_at.Goals as goal
 
--- `plan::reaches::reach_at` meets its contract. Assumes nothing.
 pub ends_run-requires : goal.ends_run-requires
 ends_run-requires c = search (rules, reading)
 

@@ -7,7 +7,6 @@ use Rattle.lines.specs.Fams.{fam_text}
 use Rattle.plan.proofs.Reaching.{Reached}
 use Rattle.plan.proofs.reaches.reach_of.Given as goal
 
--- `plan::reaches::reach_of` meets its contract. Assumes nothing.
 abbrev pub invariant-loop-j : goal.invariant-loop-j
 invariant-loop-j l = Reached l.tape l.area l.tokens l.lines l.i (fam_text l.tape l.area l.f) (volatile (rules_of l.rules)) l.j l.r
 

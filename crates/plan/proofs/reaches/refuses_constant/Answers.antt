@@ -4,7 +4,6 @@ use Rattle.plan.proofs.Reading.{reading}
 use Rattle.plan.proofs.Reaching.{refuses-not, refuses_by}
 use Rattle.plan.proofs.reaches.refuses_constant.Goals as goal
 
--- `plan::reaches::refuses_constant` meets its contract. Assumes nothing.
 pub line_of-line-requires : goal.line_of-line-requires
 line_of-line-requires c = search (rules, reading)
 

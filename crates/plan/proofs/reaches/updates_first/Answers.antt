@@ -5,7 +5,6 @@ use Rattle.plan.proofs.Reading.{holds-first}
 use Rattle.plan.proofs.Reaching.{updating}
 use Rattle.plan.proofs.reaches.updates_first.Goals as goal
 
--- `plan::reaches::updates_first` meets its contract. Assumes nothing.
 pub returns-then-line-lt2 : goal.returns-then-line-lt2
 returns-then-line-lt2 c = search (rules, updating)
 

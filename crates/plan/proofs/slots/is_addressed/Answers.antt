@@ -4,7 +4,6 @@ use Rattle.lines.proofs.fams.Families.{name-points}
 use Rattle.plan.proofs.Addressing.{addressing}
 use Rattle.plan.proofs.slots.is_addressed.Goals as goal
 
--- `plan::slots::is_addressed` meets its contract. Assumes nothing.
 pub returns-then-f-lt8 : goal.returns-then-f-lt8
 returns-then-f-lt8 c = search (rules, addressing)
 

@@ -6,7 +6,6 @@ use Rattle.reference.specs.Text.{has}
 use Rattle.plan.specs.Slots.{slot_names}
 use Rattle.plan.proofs.slots.slot_among.Given as goal
 
--- `plan::slots::slot_among` meets its contract. Assumes nothing.
 abbrev pub invariant-loop-k : goal.invariant-loop-k
 invariant-loop-k l = has (slot_names l.slots l.slot_words) l.s ≡ has (slot_names l.slots (drop l.k l.slot_words)) l.s
 

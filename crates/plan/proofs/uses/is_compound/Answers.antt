@@ -4,7 +4,6 @@ use Rattle.lines.proofs.words.Tokens.{holds_at}
 use Rattle.plan.proofs.Fitting.{compounding}
 use Rattle.plan.proofs.uses.is_compound.Goals as goal
 
--- `plan::uses::is_compound` meets its contract. Assumes nothing.
 pub returns-then-pos-ne0 : goal.returns-then-pos-ne0
 returns-then-pos-ne0 c = search (rules, compounding)
 

@@ -5,7 +5,6 @@ use Rattle.plan.proofs.Reading.{holds-before}
 use Rattle.plan.proofs.Fitting.{standing}
 use Rattle.plan.proofs.uses.is_standalone.Goals as goal
 
--- `plan::uses::is_standalone` meets its contract. Assumes nothing.
 pub returns-then-pos-eq0 : goal.returns-then-pos-eq0
 returns-then-pos-eq0 c = search (rules, standing)
 

@@ -5,7 +5,6 @@ use Rattle.plan.proofs.Reading.{reading}
 use Rattle.plan.proofs.Looking.{looking}
 use Rattle.plan.proofs.uses.look_at.Goals as goal
 
--- `plan::uses::look_at` meets its contract. Assumes nothing.
 pub line_of-line-requires : goal.line_of-line-requires
 line_of-line-requires c = search (rules, reading)
 

@@ -7,7 +7,6 @@ use Rattle.plan.proofs.Reading.{reading}
 use Rattle.plan.proofs.Passing.{passing}
 use Rattle.plan.proofs.uses.look_by_facts.Goals as goal
 
--- `plan::uses::look_by_facts` meets its contract. Assumes nothing.
 pub is_calling-requires : goal.is_calling-requires
 is_calling-requires c = search (rules, number_fits)
 

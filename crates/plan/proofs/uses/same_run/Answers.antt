@@ -4,7 +4,6 @@ use Rattle.plan.proofs.Reading.{reading}
 use Rattle.plan.proofs.Looking.{sharing}
 use Rattle.plan.proofs.uses.same_run.Goals as goal
 
--- `plan::uses::same_run` meets its contract. Assumes nothing.
 pub returns-then-calls : goal.returns-then-calls
 returns-then-calls c = search (rules, sharing)
 

@@ -10,9 +10,10 @@ use Rattle.plan.specs.Definitions.{definition_in}
 use Rattle.plan.proofs.Looking.{used-from}
 use Rattle.plan.proofs.uses.use_of.Given as goal
 
--- `plan::uses::use_of` meets its contract. Assumes nothing.
 abbrev pub invariant-loop-j : goal.invariant-loop-j
-invariant-loop-j l = use_of (bare_listing l.tape l.area l.tokens l.lines) l.i (definition_in l.tape l.area (part_of l.tokens (get_or l.lines l.i 0)) l.d) (volatile (rules_of l.rules)) ≡ used-from l.tape l.area l.tokens l.lines l.i (definition_in l.tape l.area (part_of l.tokens (get_or l.lines l.i 0)) l.d) (volatile (rules_of l.rules)) l.j
+invariant-loop-j l =
+    use_of (bare_listing l.tape l.area l.tokens l.lines) l.i (definition_in l.tape l.area (part_of l.tokens (get_or l.lines l.i 0)) l.d) (volatile (rules_of l.rules)) ≡ used-from l.tape
+    l.area l.tokens l.lines l.i (definition_in l.tape l.area (part_of l.tokens (get_or l.lines l.i 0)) l.d) (volatile (rules_of l.rules)) l.j
 
 abbrev pub decreases-loop-j : goal.decreases-loop-j
 decreases-loop-j l = length l.lines - l.j

@@ -3,7 +3,6 @@ use borrow.Author.Rules.{rules}
 use Rattle.plan.proofs.Fitting.{widths_same, widths_narrow, widths_wide}
 use Rattle.plan.proofs.uses.widths_fit.Goals as goal
 
--- `plan::uses::widths_fit` meets its contract. Assumes nothing.
 pub returns-then-used-width : goal.returns-then-used-width
 returns-then-used-width c = search (rules, widths_same)
 

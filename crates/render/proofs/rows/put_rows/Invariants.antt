@@ -4,7 +4,6 @@ use mathlib.Core.Path.{◌≡◌}
 use Prim.Native.Nat.{◌-◌}
 use Rattle.render.proofs.rows.put_rows.Given as goal
 
--- `render::rows::put_rows` meets its contract. Assumes nothing.
 abbrev pub invariant-loop-at : goal.invariant-loop-at
 invariant-loop-at l = (length l.places ≡ length l.initial.places) × (length l.flags ≡ 256)
 

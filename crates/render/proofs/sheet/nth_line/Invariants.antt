@@ -2,7 +2,6 @@
 use Prim.Native.Nat.{◌-◌}
 use Rattle.render.proofs.sheet.nth_line.Given as goal
 
--- `render::sheet::nth_line` meets its contract. Assumes nothing.
 abbrev pub invariant-loop-i : goal.invariant-loop-i
 invariant-loop-i l = Unit {0}
 

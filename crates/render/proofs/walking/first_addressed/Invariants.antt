@@ -3,7 +3,6 @@ use lib.ListN.{length}
 use Prim.Native.Nat.{◌-◌}
 use Rattle.render.proofs.walking.first_addressed.Given as goal
 
--- `render::walking::first_addressed` meets its contract. Assumes nothing.
 abbrev pub invariant-loop-at : goal.invariant-loop-at
 invariant-loop-at l = Unit {0}
 

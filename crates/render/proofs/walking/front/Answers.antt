@@ -4,6 +4,5 @@ use mathlib.Core.Path.{sym}
 use borrow.Author.Rules.{rules}
 use Rattle.render.proofs.walking.front.Goals as goal
 
--- `render::walking::front` meets its contract. Assumes nothing.
 pub slice_bounds-result-end : goal.slice_bounds-result-end
 slice_bounds-result-end c = sym (length-take-le _ _ (search rules))

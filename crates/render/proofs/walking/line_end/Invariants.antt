@@ -3,7 +3,6 @@ use lib.ListN.{length}
 use Prim.Native.Nat.{◌-◌}
 use Rattle.render.proofs.walking.line_end.Given as goal
 
--- `render::walking::line_end` meets its contract. Assumes nothing.
 abbrev pub invariant-loop-e : goal.invariant-loop-e
 invariant-loop-e l = Unit {0}
 

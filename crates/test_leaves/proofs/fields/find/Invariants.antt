@@ -5,7 +5,6 @@ use lib.ListN.{length, drop}
 use Rattle.test_leaves.specs.Fields.{before}
 use Rattle.test_leaves.proofs.fields.find.Given as goal
 
--- `test_leaves::fields::find` meets its contract: what is passed, and what the rest has before b, make the whole. Assumes nothing.
 abbrev pub invariant-loop-i : goal.invariant-loop-i
 invariant-loop-i l = (l.i ≤ length l.s) × (l.i + length (before (drop l.i l.s) l.b) ≡ length (before l.s l.b))
 

@@ -3,7 +3,6 @@ use native.Mathlib.Omega.{arith}
 use Rattle.test_replay.proofs.Framing.{cut_off, whole}
 use Rattle.test_replay.proofs.frames.size.Goals as goal
 
--- `test_replay::frames::size` meets its contract. Assumes nothing.
 pub returns-then-list-lt-HEADER : goal.returns-then-list-lt-HEADER
 returns-then-list-lt-HEADER c = cut_off _ (omega arith)
 

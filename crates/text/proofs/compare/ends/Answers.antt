@@ -5,7 +5,6 @@ use Rattle.laws.proofs.Parts.{to_end}
 use Rattle.laws.proofs.Scans.{ends-drop, ends-short}
 use Rattle.text.proofs.compare.ends.Goals as goal
 
--- `text::compare::ends` meets its contract. Assumes nothing.
 pub returns-then-s-n : goal.returns-then-s-n
 returns-then-s-n c = let a = c.args in sym (ends-short a.s.now a.back.now (search rules))
 

@@ -5,7 +5,6 @@ use lib.ListN.{length, drop}
 use Rattle.reference.specs.Text.{contains}
 use Rattle.text.proofs.compare.has_byte.Given as goal
 
--- `text::compare::has_byte` meets its contract. Assumes nothing.
 abbrev pub invariant-loop-i : goal.invariant-loop-i
 invariant-loop-i l = contains l.s l.b ≡ contains (drop l.i l.s) l.b
 

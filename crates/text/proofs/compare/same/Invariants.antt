@@ -5,7 +5,6 @@ use lib.ListN.{length, drop}
 use Rattle.reference.specs.Text.{◌≟◌}
 use Rattle.text.proofs.compare.same.Given as goal
 
--- `text::compare::same` meets its contract. Assumes nothing.
 abbrev pub invariant-loop-i : goal.invariant-loop-i
 invariant-loop-i l = (l.i ≤ length l.a) × (length l.a ≡ length l.b) × ((l.a ≟ l.b) ≡ (drop l.i l.a ≟ drop l.i l.b))
 

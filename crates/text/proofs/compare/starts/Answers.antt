@@ -5,7 +5,6 @@ use borrow.Author.Rules.{rules}
 use Rattle.laws.proofs.Scans.{starts_take, starts_short}
 use Rattle.text.proofs.compare.starts.Goals as goal
 
--- `text::compare::starts` meets its contract. Assumes nothing.
 pub returns-then-s-n : goal.returns-then-s-n
 returns-then-s-n c = let a = c.args in sym (starts_short a.s.now a.front.now (search rules))
 

@@ -5,7 +5,6 @@ use lib.ListN.{length}
 use lib.Seq.{paste}
 use Rattle.text.proofs.copying.copy_bytes.Given as goal
 
--- `text::copying::copy_bytes` meets its contract. Assumes nothing.
 abbrev pub invariant-loop-i : goal.invariant-loop-i
 invariant-loop-i l = (l.i ≤ length l.from) × (l.to ≡ paste l.initial.to l.at l.from l.i) × (length l.to ≡ length l.initial.to)
 

@@ -5,7 +5,6 @@ use mathlib.Core.List.{◌++◌}
 use lib.ListN.{length, drop, replicate}
 use Rattle.text.proofs.copying.wipe.Given as goal
 
--- `text::copying::wipe` meets its contract. Assumes nothing.
 abbrev pub invariant-loop-i : goal.invariant-loop-i
 invariant-loop-i l = (l.i ≤ l.n) × (l.area ≡ replicate l.i 0 ++ drop l.i l.initial.area) × (length l.area ≡ length l.initial.area)
 

@@ -6,7 +6,6 @@ use lib.ListN.{length, take}
 use Rattle.reference.specs.Text.{trim_start}
 use Rattle.text.proofs.trimming.kept.Given as goal
 
--- `text::trimming::kept` meets its contract: what is cut off the back of the whole is cut off the back of the front that is left.
 -- Assumes nothing.
 abbrev pub invariant-loop-n : goal.invariant-loop-n
 invariant-loop-n l = (l.n ≤ length l.s) × (trim_start (reverse (take l.n l.s)) ≡ trim_start (reverse l.s))

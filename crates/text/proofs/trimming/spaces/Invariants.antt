@@ -5,7 +5,6 @@ use lib.ListN.{length, drop}
 use Rattle.reference.specs.Text.{trim_start}
 use Rattle.text.proofs.trimming.spaces.Given as goal
 
--- `text::trimming::spaces` meets its contract: what is left of the whole without its spaces is that of the rest from here.
 -- Assumes nothing.
 abbrev pub invariant-loop-i : goal.invariant-loop-i
 invariant-loop-i l = (l.i ≤ length l.s) × (trim_start (drop l.i l.s) ≡ trim_start l.s)
