@@ -2,7 +2,7 @@
 """Says which links, paths, edits and names of the pages do not exist; run at the top. Exit status 1 where one does not.
 
 A link must lead to a file and, behind a #, to one of its headings. A path must be there, from the top, from crates/ or from the page's own folder, and an edit `crate/label` too.
-A name in backticks with a _ in it must be declared in crates/ or in the header, and none may be in the spelling of before the port. docs/PORT.md and the notes in docs/requests
+A name in backticks with a _ in it must be declared in crates/ or in the header, and none may be in the spelling of before the port. docs/PORT.md, docs/DESIGN-PASS.md and the notes in docs/requests
 tell of older states: of them only links are asked.
 """
 import glob
@@ -48,7 +48,7 @@ def faults(page, names):
             continue
         if not os.path.exists(file) or anchor and anchor not in anchors(file):
             yield f"link {to}#{anchor}"
-    if page.startswith("docs/requests/M-") or page == "docs/PORT.md":
+    if page.startswith("docs/requests/M-") or page in ("docs/PORT.md", "docs/DESIGN-PASS.md"):
         return
     text = re.sub(r"\]\([^)]*\)", " ", text)
     for path in re.findall(r"(?<![\w./<$-])\w[\w.*+-]*(?:/[\w.*+-]+)*/[\w.*+-]*\w", text):

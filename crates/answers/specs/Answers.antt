@@ -1,14 +1,14 @@
 -- What the code's answers mean, and what a call that writes an output does to it. Assumes nothing.
 use Rattle.std.specs.Prelude.{ℕ, ◌≡◌, List, ◌++◌, length, drop}
 use Rattle.reference.specs.Questions as Q
-use Rattle.answers.specs.declared.Answer.{Answer}
-use Rattle.answers.specs.declared.Answer.TheVariants.{Refused, Passed}
+use Rattle.std.specs.Prelude.{Result}
+use Rattle.answers.specs.declared.Refusal.{Refusal}
+use Rattle.answers.specs.Refusals.{answered}
 use Rattle.answers.specs.declared.Told.{Told}
 
 -- the definitions' answer
-abbrev pub answer_of : Answer → Q.Answer ℕ
-answer_of (Refused number place) = Q.Refused number place
-answer_of (Passed n) = Q.Passed n
+abbrev pub answer_of : Result ℕ Refusal → Q.Answer ℕ
+answer_of = answered (λ n. n)
 
 -- ---- an answer in three numbers
 

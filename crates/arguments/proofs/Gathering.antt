@@ -1,54 +1,44 @@
 -- The entries of all words, put one behind the other: each turn of the loop. Assumes nothing.
-use Prim.Native.Nat.{ℕ, ◌+◌, ◌-◌, ◌≤◌, ◌<◌}
-use native.Mathlib.Omega.{arith}
-use mathlib.Core.Path.{◌≡◌, refl, sym, ap, ◌∙◌}
-use mathlib.Core.List.{List, [], ◌++◌, append_assoc, append-nil}
-use lib.Dec.{eqb}
-use lib.ListN.{length, take, drop}
-use Rattle.reference.specs.Control.{when◌then◌else◌}
+use Rattle.std.proofs.Common.{◌≡◌, ℕ, ◌+◌, ◌≤◌, List, [], ◌∷◌, ◌++◌, length, refl, sym, ap, ◌∙◌, append_assoc, append-nil, arith, if◌then◌else◌}
 use Rattle.reference.specs.Text.{Text}
 use Rattle.numbers.specs.Writing.{Written}
 use Rattle.numbers.proofs.Writing.{written_then}
-use Rattle.words.specs.Splitting.{split, EndsAt}
+use Rattle.words.specs.Splitting.{split}
+use Rattle.arguments.specs.Words.{is_at}
 use Rattle.arguments.specs.Entries.{entry_bytes}
 use Rattle.arguments.specs.declared.request.Request.{Request}
 use Rattle.arguments.specs.Requests.{none_yet, step_of, entries_from, entries_of}
-use Rattle.words.proofs.FirstWord.{first_word, no_word}
 use Rattle.arguments.proofs.Naming.{nothing_put}
 
--- the entries of the words before `at` stand in `out`, and end at `end`; s is what is known before word k, which begins at `at`
-pub record Begun (words out₀ : Text) (s : Request) (k at : ℕ) (out : Text) (end : ℕ) : Type 0 where
+-- the entries of the words before `left` stand in `out`, and end at `end`; s is what is known before word k, the first of `left`
+pub record Begun (words out₀ : Text) (s : Request) (k : ℕ) (left out : Text) (end : ℕ) : Type 0 where
   pub done : Text
   pub written : Written out₀ 0 done out end
-  pub left : entries_of (split words) ≡ done ++ entries_from s k (split (drop at words))
+  pub rest : entries_of (split words) ≡ done ++ entries_from s k (split left)
 
-pub begun_first : (words out : Text) {s : Request} → s ≡ none_yet → Begun words out s 1 0 out 0
+pub begun_first : (words out : Text) {s : Request} → s ≡ none_yet → Begun words out s 0 words out 0
 unfolding entries_of
-begun_first words out e = rw e (record { done = []; written = nothing_put out 0; left = refl })
+begun_first words out e = rw e (record { done = []; written = nothing_put out 0; rest = refl })
 
-module _ (words out₀ : Text) {at e : ℕ} (h : at < length words) (ends : EndsAt words at e) (s : Request) (k : ℕ) {s' : Request}
-    (steps : s' ≡ step_of s k (take (e - at) (drop at words))) where
-  next-entries : entries_from s k (split (drop at words))
-      ≡ (when eqb s'.entry_at k then entry_bytes (take (e - at) (drop at words)) else []) ++ entries_from s' (k + 1) (split (drop (e + 1) words))
+module _ (words out₀ left : Text) {word after : Text} (splits : split left ≡ word ∷ split after) (s : Request) (k : ℕ) {s' : Request}
+    (steps : s' ≡ step_of s k word) where
+  pub begun-next : {out out' : Text} {end end' : ℕ} → Begun words out₀ s k left out end
+      → Written out end (if is_at s'.entry k then entry_bytes word else []) out' end' → end' ≤ length out₀ → Begun words out₀ s' (k + 1) after out' end'
   unfolding entries_from
-  next-entries = ap (λ (ws : List Text). entries_from s k ws) (first_word words h ends) ∙ rw steps refl
-
-  pub begun-next : {out out' : Text} {end end' : ℕ} → Begun words out₀ s k at out end
-      → Written out end (when eqb s'.entry_at k then entry_bytes (take (e - at) (drop at words)) else []) out' end' → end' ≤ length out₀
-      → Begun words out₀ s' (k + 1) (e + 1) out' end'
   begun-next b w room =
-      let piece : Text = when eqb s'.entry_at k then entry_bytes (take (e - at) (drop at words)) else [] in
+      let piece : Text = if is_at s'.entry k then entry_bytes word else [] in
       let d : Text = b.done in
+      let next : entries_from s k (split left) ≡ piece ++ entries_from s' (k + 1) (split after) =
+      ap (λ (ws : List Text). entries_from s k ws) splits ∙ rw steps refl in
       record {
         done = d ++ piece;
         written = written_then out₀ 0 d piece (omega (arith, b.written.end_is, w.end_is)) b.written w;
-        left = b.left ∙ ap (λ (t : Text). d ++ t) next-entries ∙ sym (append_assoc d piece (entries_from s' (k + 1) (split (drop (e + 1) words))));
+        rest = b.rest ∙ ap (λ (t : Text). d ++ t) next ∙ sym (append_assoc d piece (entries_from s' (k + 1) (split after)));
       }
 
-pub begun_all : (words out₀ : Text) {s : Request} {k : ℕ} (at : ℕ) {out : Text} {end : ℕ} → length words ≤ at → Begun words out₀ s k at out end
+pub begun_all : (words out₀ : Text) {s : Request} {k : ℕ} {left out : Text} {end : ℕ} → split left ≡ [] → Begun words out₀ s k left out end
     → Written out₀ 0 (entries_of (split words)) out end
 unfolding entries_from
-begun_all words out₀ {s} {k} at h b =
-    let none : entries_of (split words) ≡ b.done =
-    b.left ∙ ap (λ (ws : List Text). b.done ++ entries_from s k ws) (no_word words at h) ∙ append-nil b.done in
+begun_all words out₀ {s} {k} e b =
+    let none : entries_of (split words) ≡ b.done = b.rest ∙ ap (λ (ws : List Text). b.done ++ entries_from s k ws) e ∙ append-nil b.done in
     rw none b.written

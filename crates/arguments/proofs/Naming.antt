@@ -1,16 +1,24 @@
--- Operands REG=VALUE: the turns of the search for a =, and the pieces of an entry put one behind the other. Assumes nothing.
+-- Operands REG=VALUE: where the first = stands, and the pieces of an entry put one behind the other. Assumes nothing.
 use Prim.Native.Nat.{ℕ, suc, ◌+◌, ◌≤◌, ◌<◌}
 use native.Mathlib.Omega.{arith}
-use native.Mathlib.Decide.{dec_lt}
-use mathlib.Core.Logic.{by_cases}
 use mathlib.Core.Bool.{Bool, true, false}
-use mathlib.Core.Option.{none, some}
-use native.Mathlib.Numerals.{add-one}
-use mathlib.Core.Path.{◌≡◌, sym, ap, ◌∙◌}
+use mathlib.Core.Option.{none}
+use mathlib.Core.Path.{◌≡◌, refl, sym, ap, ◌∙◌}
+use Rattle.std.proofs.Common.{cond, not, eqb, if◌then◌else◌}
+use Rattle.std.specs.List.{position_or_len, position}
+use Rattle.std.specs.Option.{is_some}
+use Rattle.std.proofs.Common as std
+use lib.Dec.{ltb}
+use borrow.Author.Tests.{ltb-true, ltb-false}
 use mathlib.Core.List.{List, [], ◌∷◌, ◌++◌}
-use lib.ListN.{length, take, drop, get_or, drop_of_length-le, length-append, length-take}
-use lib.Seq.{drop-cons, paste-zero}
-use borrow.Author.Tests.{eq-eqb, ne_eqb, lt-ltb}
+use lib.ListN.{length, take, drop, length-append, length-take}
+use lib.Seq.{paste-zero}
+use borrow.Author.Tests.{lt-ltb, le-ltb}
+use Prim.Native.Nat.{◌-◌}
+use mathlib.Core.Option.{Option}
+use Rattle.laws.proofs.Parts.{to_end}
+use Rattle.reference.specs.Options.{option_of}
+use Rattle.words.specs.Numerals.{integer_in}
 use Rattle.reference.specs.Control.{when◌then◌else◌, let_some◌else◌then◌}
 use Rattle.reference.specs.Text.{Text}
 use Rattle.reference.specs.Tape.{to_le_bytes}
@@ -21,36 +29,82 @@ use Rattle.tape.specs.Bytes.{put}
 use Rattle.tape.proofs.little_endian.Bytes.{put_pasted}
 use Rattle.numbers.specs.Writing.{Written}
 use Rattle.numbers.proofs.Writing.{written_then}
-use Rattle.arguments.specs.Entries.{equals_at, entry_value, named_value, entry_bytes}
+use Rattle.arguments.specs.Entries.{equals_at, entry_value, named_value, entry_bytes, IsEntry}
 
-module _ (w : List ℕ) (i : ℕ) (h : i < length w) where
-  pub equals_here : get_or w i 0 ≡ 61 → equals_at (drop i w) ≡ 0
-  unfolding equals_at
-  equals_here e = ap equals_at (drop-cons w i 0 h) ∙ if-true _ _ (eq-eqb _ 61 e)
-
-  pub equals-later : (get_or w i 0 ≡ 61 → ⊥) → equals_at (drop i w) ≡ suc (equals_at (drop (i + 1) w))
-  unfolding equals_at
-  equals-later n =
-      ap equals_at (drop-cons w i 0 h) ∙ if-false _ _ (ne_eqb _ 61 n) ∙ ap (λ (k : ℕ). suc (equals_at (drop k w))) (sym (add-one i))
-
-pub equals_end : (w : List ℕ) (i : ℕ) → length w ≤ i → equals_at (drop i w) ≡ 0
-unfolding equals_at
-equals_end w i h = rw (drop_of_length-le w h)
+-- where the first = stands, as std's `position` says it
+pub equals_is : (w : List ℕ) → equals_at w ≡ position_or_len (λ b. eqb b 61) w
+unfolding equals_at when◌then◌else◌
+equals_is [] = refl
+equals_is (b ∷ bs) = either (eqb b 61) (equals_is bs)
+  where
+    either : (t : Bool) → equals_at bs ≡ position_or_len (λ b. eqb b 61) bs → (when t then 0 else suc (equals_at bs)) ≡ cond (not t) (1 + position_or_len (λ b. eqb b 61) bs) 0
+    either true e = refl
+    either false e = omega arith
 
 pub equals-within : (w : List ℕ) → equals_at w ≤ length w
 unfolding equals_at
 equals-within [] = omega arith
 equals-within (b ∷ bs) = by-if (λ (n : ℕ). n ≤ suc (length bs)) (λ e. omega arith) (λ e. omega (arith, equals-within bs))
 
-pub entry_short : (w : Text) {v : ℕ} → entry_value w ≡ some v → equals_at w < 256
+-- the place of the first =
+abbrev place : List ℕ → std.Option ℕ
+place w = position (λ b. eqb b 61) w
+
+by_place : (w : List ℕ) → place w ≡ cond (ltb (equals_at w) (length w)) (std.Some (equals_at w)) std.None
+by_place w = rw (equals_is w) refl
+
+pub is_found : (w : List ℕ) → is_some (place w) ≡ ltb (equals_at w) (length w)
+is_found w = ap is_some (by_place w) ∙ pick (ltb (equals_at w) (length w))
+  where
+    pick : (t : Bool) → is_some (cond t (std.Some (equals_at w)) std.None) ≡ t
+    pick true = refl
+    pick false = refl
+
+pub found_at : (w : List ℕ) {n : ℕ} → place w ≡ std.Some n → (n ≡ equals_at w) × (n < length w)
+found_at w {n} e = pick (ltb (equals_at w) (length w)) refl (sym (by_place w) ∙ e)
+  where
+    pick : (t : Bool) → ltb (equals_at w) (length w) ≡ t → cond t (std.Some (equals_at w)) std.None ≡ std.Some n → (n ≡ equals_at w) × (n < length w)
+    pick true l f = let same : equals_at w ≡ n = cc in (sym same, omega (arith, ltb-true (equals_at w) (length w) l))
+    pick false l f = cc
+
+pub none_found : (w : List ℕ) → place w ≡ std.None → length w ≤ equals_at w
+none_found w e = pick (ltb (equals_at w) (length w)) refl (sym (by_place w) ∙ e)
+  where
+    pick : (t : Bool) → ltb (equals_at w) (length w) ≡ t → cond t (std.Some (equals_at w)) std.None ≡ std.None → length w ≤ equals_at w
+    pick true l f = cc
+    pick false l f = ltb-false (equals_at w) (length w) l
+
+pub entry_missing : (w : List ℕ) → place w ≡ std.None → entry_value w ≡ none
 unfolding entry_value
-entry_short w {v} e =
-    by_cases (dec_lt 255 (equals_at w))
-    (λ l.
-    let n : entry_value w ≡ none = if-true _ _ (lt-ltb 255 (equals_at w) l) in
-    let z : ◌≡◌ {A = ℕ} 0 1 = cc in
-    absurd (omega arith))
-    (λ l. omega arith)
+entry_missing w e =
+    by-if (λ (o : Option ℕ). o ≡ none) (λ t. refl) (λ t. if-false _ _ (le-ltb (equals_at w) (length w) (none_found w e)))
+
+module _ (w : List ℕ) {n : ℕ} (e : place w ≡ std.Some n) where
+  pub entry_long : 255 < n → entry_value w ≡ none
+  unfolding entry_value
+  entry_long l = if-true _ _ (lt-ltb 255 (equals_at w) (omega (arith, (found_at w e).0)))
+
+  pub entry_behind : n ≤ 255 → entry_value w ≡ integer_in (drop (n + 1) w)
+  unfolding entry_value
+  entry_behind l =
+      let f : (n ≡ equals_at w) × (n < length w) = found_at w e in
+      if-false _ _ (le-ltb 255 (equals_at w) (omega (arith, f.0))) ∙ if-true _ _ (lt-ltb (equals_at w) (length w) (omega (arith, f.0, f.1)))
+      ∙ ap (λ (k : ℕ). integer_in (drop (k + 1) w)) (sym f.0)
+
+  -- what the code read behind the =
+  pub entry_read : n ≤ 255 → (o : std.Option ℕ) → option_of o ≡ integer_in (take (length w - (n + 1)) (drop (n + 1) w)) → entry_value w ≡ option_of o
+  entry_read l o r = entry_behind l ∙ ap integer_in (sym (to_end (n + 1) w)) ∙ sym r
+
+  pub entry_is : n ≤ 255 → (o : std.Option ℕ) (v : ℕ) → option_of o ≡ integer_in (take (length w - (n + 1)) (drop (n + 1) w)) → o ≡ std.Some v
+      → IsEntry w (take n w) v
+  entry_is l o v r f =
+      let at : (n ≡ equals_at w) × (n < length w) = found_at w e in
+      record {
+        value_is = entry_read l o r ∙ ap option_of f;
+        name_is = ap (λ (k : ℕ). take k w) at.0;
+        short = omega (arith, length-take n w);
+        within = omega (arith, length-take n w);
+      }
 
 -- ---- how long an entry is
 
@@ -60,31 +114,23 @@ entry_length w =
     by-some (λ (t : Text). length t ≤ length w + 9) (λ e. omega arith)
     (λ v e. simp length-append (omega (arith, length-take (equals_at w) w, to_length 8 v)))
 
-pub taken-length : (t : Bool) (w : Text) → length (when t then entry_bytes w else []) ≤ length w + 9
-taken-length t w = by-if (λ (s : Text). length s ≤ length w + 9) (λ e. entry_length w) (λ e. omega arith)
+pub taken-length : (t : Bool) (w : Text) → length (if t then entry_bytes w else []) ≤ length w + 9
+taken-length true w = entry_length w
+taken-length false w = omega arith
 
 -- ---- putting
 
 pub nothing_put : (out : Text) (at : ℕ) → Written out at [] out at
 nothing_put out at = record { bytes_are = paste-zero out at []; end_is = omega arith }
 
-module _ (w : Text) {out out' : Text} {at r : ℕ} where
-  pub entry_put : {v : ℕ} → entry_value w ≡ some v → Written out at (named_value (take (equals_at w) w) v) out' r → Written out at (entry_bytes w) out' r
-  unfolding entry_bytes let_some◌else◌then◌
-  entry_put e x = rw e x
+pub entry_put : (w : Text) {name : Text} {v : ℕ} {out out' : Text} {at r : ℕ} → IsEntry w name v → Written out at (named_value name v) out' r
+    → Written out at (entry_bytes w) out' r
+unfolding entry_bytes let_some◌else◌then◌
+entry_put w f x = rw f.value_is (rw f.name_is at x)
 
-  pub taken-put : {t : Bool} → t ≡ true → Written out at (entry_bytes w) out' r → Written out at (when t then entry_bytes w else []) out' r
-  unfolding when◌then◌else◌
-  taken-put e x = rw e x
-
-module _ (w : Text) (out : Text) (at : ℕ) where
-  pub entry_none : entry_value w ≡ none → Written out at (entry_bytes w) out at
-  unfolding entry_bytes let_some◌else◌then◌
-  entry_none e = rw e (nothing_put out at)
-
-  pub left_put : {t : Bool} → t ≡ false → Written out at (when t then entry_bytes w else []) out at
-  unfolding when◌then◌else◌
-  left_put e = rw e (nothing_put out at)
+pub entry_none : (w out : Text) (at : ℕ) → entry_value w ≡ none → Written out at (entry_bytes w) out at
+unfolding entry_bytes let_some◌else◌then◌
+entry_none w out at e = rw e (nothing_put out at)
 
 pub value_put : (out : Text) (at v : ℕ) {out' : Text} → out' ≡ put out at (to_le_bytes 8 v) → Written out at (to_le_bytes 8 v) out' (at + 8)
 value_put out at v e =

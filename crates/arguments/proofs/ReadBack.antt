@@ -5,7 +5,7 @@ use mathlib.Core.Path.{◌≡◌, refl, ap, ◌∙◌}
 use mathlib.Core.Bool.{Bool, true, false}
 use mathlib.Core.List.{List, [], ◌∷◌, ◌++◌, append_assoc}
 use mathlib.Core.Option.{Option, none, some}
-use lib.Dec.{eqb, leb}
+use lib.Dec.{leb}
 use lib.ListN.{length, take, drop, length-append}
 use lib.Seq.{take_at, drop_at}
 use borrow.Author.Tests.{ltb-true, eqb-false, le-leb}
@@ -19,6 +19,8 @@ use Rattle.start.specs.Start as L
 use Rattle.start.specs.Start.{Entry}
 use Rattle.arguments.specs.declared.request.Request.{Request}
 use Rattle.words.specs.Numerals.{within_64, unsigned_in, magnitude_in, negated, negative_in, integer_in}
+use Rattle.std.proofs.Common.{if◌then◌else◌}
+use Rattle.arguments.specs.Words.{is_at}
 use Rattle.arguments.specs.Entries.{equals_at, entry_value, named_value, entry_bytes}
 use Rattle.arguments.specs.Requests.{step_of, entries_from, entries_of}
 use Rattle.arguments.specs.Given.{said, given_from, given_of}
@@ -91,8 +93,8 @@ some_read (some v) name rest es b r zero h = absurd (omega arith)
 some_read (some v) name rest es b r (suc f) h =
     named-read name v rest f (b v refl) (r f (omega (arith, length-append (name ++ to_le_bytes 8 v) rest)))
 
-turn : (t : Bool) (w rest : Text) (es : List Entry) → Reads rest es → Reads ((when t then entry_bytes w else []) ++ rest) (when t then said w es else es)
-unfolding when◌then◌else◌ entry_bytes said
+turn : (t : Bool) (w rest : Text) (es : List Entry) → Reads rest es → Reads ((if t then entry_bytes w else []) ++ rest) (if t then said w es else es)
+unfolding entry_bytes said
 turn true w rest es r = some_read (entry_value w) (take (equals_at w) w) rest es (entry_below w) r
 turn false w rest es r = r
 
@@ -102,8 +104,8 @@ reads [] s k zero h = refl
 reads [] s k (suc f) h = refl
 reads (w ∷ ws) s k f h =
     let after : Request = step_of s k w in
-    turn (eqb after.entry_at k) w (entries_from after (k + 1) ws) (given_from after (k + 1) ws) (reads ws after (k + 1)) f h
+    turn (is_at after.entry k) w (entries_from after (k + 1) ws) (given_from after (k + 1) ws) (reads ws after (k + 1)) f h
 
 pub read_back : (ws : List Text) → L.entries (entries_of ws) ≡ some (given_of ws)
 unfolding entries_of given_of L.entries
-read_back ws = reads ws _ 1 _ (omega arith)
+read_back ws = reads ws _ 0 _ (omega arith)

@@ -1,7 +1,7 @@
 -- An operand REG=VALUE: a register and the value that it starts with, as an entry of the list that crate start takes (request M-107).
 -- Assumes nothing.
-use Rattle.std.specs.Prelude.{ℕ, suc, ◌+◌, Bool, false, [], ◌∷◌, ◌++◌, eqb, ltb, length, take, drop}
-use Rattle.std.proofs.Math.Option.{Option, none}
+use Rattle.std.specs.Prelude.{ℕ, suc, ◌+◌, ◌<◌, ◌≤◌, ◌≡◌, Bool, false, [], ◌∷◌, ◌++◌, eqb, ltb, length, take, drop}
+use Rattle.std.proofs.Math.Option.{Option, none, some}
 use Rattle.reference.specs.Control.{when◌then◌else◌, let_some◌else◌then◌}
 use Rattle.reference.specs.Text.{Text, bytes, starts_with}
 use Rattle.reference.specs.Tape.{to_le_bytes}
@@ -28,3 +28,10 @@ named_value name v = (length name ∷ []) ++ name ++ to_le_bytes 8 v
 
 unfoldable pub entry_bytes : Text → Text
 entry_bytes w = let_some entry_value w else [] then λ v. named_value (take (equals_at w) w) v
+
+-- the name and the value of an entry
+pub record IsEntry (w name : Text) (v : ℕ) : Type 0 where
+  pub value_is : entry_value w ≡ some v
+  pub name_is : name ≡ take (equals_at w) w
+  pub short : length name < 256
+  pub within : length name ≤ length w

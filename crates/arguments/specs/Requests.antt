@@ -2,157 +2,191 @@
 --
 --     VERB [OPTION [VALUE] | OPERAND]..
 --
--- One word after the other is taken (`step_of`), and then all of them are judged together (`judged`). Faults: 1 no verb, 2 no option of
--- this verb, 3 a value that the option does not have, 4 a second -o or -d, 5 one operand too many, 6 an operand that is not what stands
--- there, 7 one too few, 8 the value of an option is missing, 9 -o with several files, 10 a second value for --return or --choose, 11 one of
--- the two is missing, 12 no REG=VALUE. Assumes nothing.
-use Rattle.std.specs.Prelude.{ℕ, ◌+◌, Bool, false, List, [], ◌∷◌, ◌++◌, eqb, ltb, length}
-use Rattle.reference.specs.Control.{when◌then◌else◌, let_some◌else◌then◌}
-use Rattle.reference.specs.Text.{Text, bytes, starts_with}
-use Rattle.words.specs.Splitting.{number_of}
+-- One word after the other is taken (`step_of`), and then all of them are judged together (`judged`). Words are numbered from 0. Assumes
+-- nothing.
+use Rattle.std.specs.Prelude.{ℕ, ◌+◌, Bool, false, List, [], ◌∷◌, ◌++◌, ◌||◌, ltb, length, Option, Some, None, if◌then◌else◌}
+use Rattle.std.proofs.Math.Option.{none, some}
+use Rattle.reference.specs.Text.{Text, bytes, starts_with, ◌≟◌}
 use Rattle.words.specs.Numerals.{integer_in}
-use Rattle.arguments.specs.Tables.{verbs, options, helps, conventions, editions, kind_of, taking, fewest, most}
+use Rattle.arguments.specs.Tables.{meaning_in, verbs, options, conventions, editions, kind_of, takes, is_start, fewest, most}
 use Rattle.arguments.specs.Values.{is_name, value_of}
 use Rattle.arguments.specs.Entries.{is_entry, entry_value, entry_bytes}
+use Rattle.arguments.specs.Words.{is_at}
+use Rattle.arguments.specs.declared.request.Verb.{Verb}
+use Rattle.arguments.specs.declared.request.Verb.TheVariants as verb
+use Rattle.arguments.specs.declared.request.Flag.{Flag}
+use Rattle.arguments.specs.declared.request.Flag.TheVariants as flag
+use Rattle.arguments.specs.declared.request.Kind.{Kind}
+use Rattle.arguments.specs.declared.request.Kind.TheVariants as kind
+use Rattle.arguments.specs.declared.request.Action.TheVariants as action
+use Rattle.arguments.specs.declared.request.Value.TheVariants as value
+use Rattle.arguments.specs.declared.request.Problem.TheVariants as problem
+use Rattle.arguments.specs.declared.request.Destination.{Destination}
+use Rattle.arguments.specs.declared.request.Destination.TheVariants as destination
 use Rattle.arguments.specs.declared.request.Request.{Request}
 use Rattle.arguments.specs.Request.{with_help, with_fault, with_verb, with_pending, with_convention, with_edition}
-use Rattle.arguments.specs.Request.{with_parts, with_profile, with_settle, with_exact, with_goal, with_operand, with_value}
+use Rattle.arguments.specs.Request.{with_parts, with_profile, with_settle, with_exact, with_destination, with_operand, with_value}
 use Rattle.arguments.specs.Request.{with_wanted, with_chosen, with_entry}
 
 -- before the first word: System V, the edition of 2018, all else off
 abbrev pub none_yet : Request
 none_yet =
     record {
-      verb = 0;
+      verb = None;
       help = false;
-      fault = 0;
-      fault_at = 0;
-      pending = 0;
-      convention = 1;
-      edition = 0;
-      parts = false;
-      profile = false;
-      settle = false;
+      fault = None;
+      pending = None;
+      rules = record { convention = 1; settle = false; edition = 0; parts = false; profile = false };
       exact = false;
-      goal = 0;
-      goal_at = 0;
+      destination = destination.StandardOutput;
       operands = 0;
-      first = 0;
-      third = 0;
-      last = 0;
-      value = 0;
-      wanted = 0;
-      wanted_at = 0;
-      chosen_at = 0;
-      entry_at = 0;
+      first = None;
+      third = None;
+      last = None;
+      value = None;
+      wanted = None;
+      chosen = None;
+      entry = None;
     }
 
 -- ---- one word
 
--- the verb at place n of its row
-unfoldable pub put_verb : Request → ℕ → ℕ → Request
-put_verb s k n = when ltb n 15 then with_verb (n + 1) s else with_fault 1 k s
+-- the first word
+abbrev pub take_verb : Request → ℕ → Text → Request
+take_verb s k w = elim (meaning_in verbs w) [ Some v ↦ with_verb v s | None ↦ with_fault problem.UnknownVerb (Some k) s ]
 
 -- the values of -o, -d; -c; -e
-unfoldable pub take_goal : Request → ℕ → ℕ → Request
-take_goal s goal k = when eqb s.goal 0 then with_goal goal k s else with_fault 4 k s
+abbrev pub take_destination : Request → Destination → ℕ → Request
+take_destination s to k =
+    elim s.destination [
+      | destination.StandardOutput ↦ with_destination to s
+      | _ ↦ with_fault problem.SecondDestination (Some k) s
+    ]
 
-unfoldable pub put_convention : Request → ℕ → ℕ → Request
-put_convention s k n = when ltb n 3 then with_convention n s else with_fault 3 k s
+abbrev pub take_convention : Request → ℕ → Text → Request
+take_convention s k w = elim (meaning_in conventions w) [ Some n ↦ with_convention n s | None ↦ with_fault problem.BadValue (Some k) s ]
 
-unfoldable pub put_edition : Request → ℕ → ℕ → Request
-put_edition s k n = when ltb n 2 then with_edition n s else with_fault 3 k s
+abbrev pub take_edition : Request → ℕ → Text → Request
+take_edition s k w = elim (meaning_in editions w) [ Some n ↦ with_edition n s | None ↦ with_fault problem.BadValue (Some k) s ]
 
 -- the values of --return; --choose
-unfoldable pub put_wanted : Request → ℕ → Text → Request
-put_wanted s k w = let_some integer_in w else with_fault 3 k s then λ v. with_wanted v k s
+abbrev pub put_wanted : Request → ℕ → Text → Request
+put_wanted s k w = elim (integer_in w) [ some v ↦ with_wanted v s | none ↦ with_fault problem.BadValue (Some k) s ]
 
-unfoldable pub take_wanted : Request → ℕ → Text → Request
-take_wanted s k w = when eqb s.wanted_at 0 then put_wanted s k w else with_fault 10 k s
+abbrev pub take_wanted : Request → ℕ → Text → Request
+take_wanted s k w = elim s.wanted [ None ↦ put_wanted s k w | Some _ ↦ with_fault problem.SecondValue (Some k) s ]
 
-unfoldable pub take_chosen : Request → ℕ → Request
-take_chosen s k = when eqb s.chosen_at 0 then with_chosen k s else with_fault 10 k s
+abbrev pub take_chosen : Request → ℕ → Request
+take_chosen s k = elim s.chosen [ None ↦ with_chosen k s | Some _ ↦ with_fault problem.SecondValue (Some k) s ]
 
-unfoldable pub take_value : Request → ℕ → Text → Request
-take_value s k w =
-    when eqb s.pending 1 then put_convention s k (number_of conventions w)
-    else when eqb s.pending 2 then put_edition s k (number_of editions w)
-    else when eqb s.pending 6 then take_goal s 1 k
-    else when eqb s.pending 7 then take_goal s 2 k
-    else when eqb s.pending 9 then take_wanted s k w else take_chosen s k
+abbrev pub take_value : Request → Flag → ℕ → Text → Request
+take_value s flag.Convention k w = take_convention s k w
+take_value s flag.Edition k w = take_edition s k w
+take_value s flag.Output k w = take_destination s (destination.File k) k
+take_value s flag.Folder k w = take_destination s (destination.Folder k) k
+take_value s flag.Return k w = take_wanted s k w
+take_value s _ k w = take_chosen s k
 
--- an option that the verb takes, by its place in the row
-unfoldable pub set_option : Request → ℕ → Request
-set_option s n =
-    when eqb n 2 then with_parts s else when eqb n 3 then with_profile s else when eqb n 4 then with_settle s
-    else when eqb n 7 then with_exact s else when ltb n 10 then with_pending (n + 1) s else s
+-- an option that the verb takes
+abbrev pub set_option : Request → Flag → Request
+set_option s flag.Parts = with_parts s
+set_option s flag.Profile = with_profile s
+set_option s flag.Settle = with_settle s
+set_option s flag.Exact = with_exact s
+set_option s option = with_pending option s
 
-unfoldable pub put_option : Request → ℕ → ℕ → Request
-put_option s k n = when eqb (taking s.verb n) 121 then set_option s n else with_fault 2 k s
+abbrev pub put_option : Request → Verb → ℕ → Flag → Request
+put_option s v k option = if takes v option then set_option s option else with_fault problem.UnknownOption (Some k) s
 
-unfoldable pub take_number : Request → ℕ → ℕ → Text → Request
-take_number s k kind w = let_some value_of kind w else with_fault 6 k s then λ v. with_value v (with_operand k s)
+abbrev pub take_option : Request → Verb → ℕ → Text → Request
+take_option s v k w =
+    elim (meaning_in options w) [ Some option ↦ put_option s v k option | None ↦ with_fault problem.UnknownOption (Some k) s ]
 
-unfoldable pub take_name : Request → ℕ → Text → Request
-take_name s k w = when is_name w then with_operand k s else with_fault 6 k s
+abbrev pub put_value : Request → ℕ → Kind → Text → Request
+put_value s k kind w =
+    elim (value_of kind w) [ Some v ↦ with_value v (with_operand k s) | None ↦ with_fault problem.BadOperand (Some k) s ]
 
-unfoldable pub put_operand : Request → ℕ → ℕ → Text → Request
-put_operand s k kind w =
-    when eqb kind 102 then with_operand k s else when eqb kind 45 then with_fault 5 k s else when eqb kind 109 then take_name s k w
-    else take_number s k kind w
+abbrev pub take_name : Request → ℕ → Text → Request
+take_name s k w = if is_name w then with_operand k s else with_fault problem.BadOperand (Some k) s
+
+abbrev pub put_operand : Request → ℕ → Option Kind → Text → Request
+put_operand s k None w = with_fault problem.TooMany (Some k) s
+put_operand s k (Some kind.File) w = with_operand k s
+put_operand s k (Some kind.Name) w = take_name s k w
+put_operand s k (Some kind) w = put_value s k kind w
 
 -- REG=VALUE
-unfoldable pub take_entry : Request → ℕ → Text → Request
-take_entry s k w = let_some entry_value w else with_fault 12 k s then λ v. with_entry k s
+abbrev pub take_entry : Request → ℕ → Text → Request
+take_entry s k w = elim (entry_value w) [ some _ ↦ with_entry k s | none ↦ with_fault problem.BadEntry (Some k) s ]
 
 -- an operand of `start` with a = is an entry of its list, unless it begins as a path
-unfoldable pub take_operand : Request → ℕ → Text → Request
-take_operand s k w =
-    let operand : Request = put_operand s k (kind_of s.verb s.operands) w in
-    when eqb s.verb 15 then (when is_entry w then take_entry s k w else operand) else operand
+abbrev pub take_operand : Request → Verb → ℕ → Text → Request
+take_operand s v k w =
+    let operand : Request = put_operand s k (kind_of v s.operands) w in
+    if is_start v then (if is_entry w then take_entry s k w else operand) else operand
 
 -- begins with a -, and is longer
-unfoldable pub is_option : Text → Bool
-is_option w = when ltb (length w) 2 then false else starts_with w (bytes "-")
+abbrev pub is_option : Text → Bool
+is_option w = if ltb (length w) 2 then false else starts_with w (bytes "-")
+
+abbrev pub is_help : Text → Bool
+is_help w = (w ≟ bytes "-h") || (w ≟ bytes "--help")
+
+-- word k, where no fault was found before it
+abbrev pub take_word : Request → ℕ → Text → Request
+take_word s k w =
+    elim s.verb [
+      | None ↦ take_verb s k w
+      | Some v ↦ elim s.pending [
+        | Some option ↦ take_value s option k w
+        | None ↦ if is_option w then take_option s v k w else take_operand s v k w
+      ]
+    ]
 
 -- word k
 unfoldable pub step_of : Request → ℕ → Text → Request
-step_of s k w =
-    when ltb (number_of helps w) 2 then with_help s else when eqb s.fault 0 then
-    (when eqb s.verb 0 then put_verb s k (number_of verbs w) else when eqb s.pending 0 then
-    (when is_option w then put_option s k (number_of options w) else take_operand s k w)
-    else take_value s k w) else s
+step_of s k w = if is_help w then with_help s else elim s.fault [ Some _ ↦ s | None ↦ take_word s k w ]
 
 -- ---- all words
 
-unfoldable pub judge_files : Request → Request
-judge_files s = when ltb 1 s.operands then with_fault 9 s.goal_at s else s
-
 -- -o stands beside one file; of `state` only `get` has a result
-unfoldable pub judge_goal : Request → Request
-judge_goal s =
-    when eqb s.verb 1 then judge_files s
-    else when eqb s.verb 10 then (when eqb s.value 2 then s else with_fault 2 s.goal_at s)
-    else s
+abbrev pub judge_output : Request → Verb → ℕ → Request
+judge_output s verb.Clean k = if ltb 1 s.operands then with_fault problem.SeveralFiles (Some k) s else s
+judge_output s verb.State k =
+    elim s.value [ Some (value.Action action.Get) ↦ s | _ ↦ with_fault problem.UnknownOption (Some k) s ]
+judge_output s _ k = s
 
 -- `start` needs --return and --choose
-unfoldable pub judge_start : Request → Request
-judge_start s =
-    when eqb s.verb 15
-    then (when eqb s.wanted_at 0 then with_fault 11 0 s else when eqb s.chosen_at 0 then with_fault 11 0 s else s)
-    else s
+abbrev pub judge_start : Request → Verb → Request
+judge_start s verb.Start =
+    elim s.wanted [
+      | None ↦ with_fault problem.Incomplete None s
+      | Some _ ↦ elim s.chosen [ None ↦ with_fault problem.Incomplete None s | Some _ ↦ s ]
+    ]
+judge_start s _ = s
 
-unfoldable pub judge_operands : Request → Request
-judge_operands s =
-    when ltb s.operands (fewest s.verb s.value) then with_fault 7 0 s
-    else when ltb (most s.verb s.value) s.operands then with_fault 5 s.last s
-    else when eqb s.goal 1 then judge_goal s else judge_start s
+abbrev pub judge_options : Request → Verb → Request
+judge_options s v = elim s.destination [ destination.File k ↦ judge_output s v k | _ ↦ judge_start s v ]
+
+abbrev pub exceeds : ℕ → Option ℕ → Bool
+exceeds n None = false
+exceeds n (Some most) = ltb most n
+
+abbrev pub judge_operands : Request → Verb → Request
+judge_operands s v =
+    if ltb s.operands (fewest v s.value) then with_fault problem.TooFew None s
+    else if exceeds s.operands (most v s.value) then with_fault problem.TooMany s.last s
+    else judge_options s v
+
+abbrev pub judge_words : Request → Request
+judge_words s =
+    elim s.verb [
+      | None ↦ with_fault problem.NoVerb None s
+      | Some v ↦ elim s.pending [ Some _ ↦ with_fault problem.NoValue None s | None ↦ judge_operands s v ]
+    ]
 
 unfoldable pub judged : Request → Request
-judged s =
-    when eqb s.fault 0
-    then (when eqb s.verb 0 then with_fault 1 0 s else when eqb s.pending 0 then judge_operands s else with_fault 8 0 s)
-    else s
+judged s = elim s.fault [ Some _ ↦ s | None ↦ judge_words s ]
 
 -- the words from number k on
 unfoldable pub steps_from : Request → ℕ → List Text → Request
@@ -160,7 +194,7 @@ steps_from s k [] = s
 steps_from s k (w ∷ ws) = steps_from (step_of s k w) (k + 1) ws
 
 unfoldable pub request_of : List Text → Request
-request_of ws = judged (steps_from none_yet 1 ws)
+request_of ws = judged (steps_from none_yet 0 ws)
 
 -- ---- the list for the library
 
@@ -170,7 +204,7 @@ entries_from s k [] = []
 entries_from s k (w ∷ ws) =
     let after : Request = step_of s k w in
     let rest : Text = entries_from after (k + 1) ws in
-    (when eqb after.entry_at k then entry_bytes w else []) ++ rest
+    (if is_at after.entry k then entry_bytes w else []) ++ rest
 
 unfoldable pub entries_of : List Text → Text
-entries_of ws = entries_from none_yet 1 ws
+entries_of ws = entries_from none_yet 0 ws

@@ -1,88 +1,138 @@
 -- Which words, options and operands there are, from the help's grammar. Assumes nothing.
-use Rattle.std.specs.Prelude.{ℕ, ◌+◌, ◌*◌, min, List, [], ◌∷◌, ◌++◌, eqb, get_or}
+use Rattle.std.specs.Prelude.{ℕ, Bool, true, false, List, [], ◌∷◌, Option, Some, None, slice_get}
+use Rattle.std.specs.Borrow.{Bor}
 use Rattle.reference.specs.Control.{when◌then◌else◌}
-use Rattle.reference.specs.Text.{Text, bytes}
+use Rattle.reference.specs.Text.{Text, bytes, ◌≟◌}
+use Rattle.arguments.specs.declared.request.Verb.{Verb}
+use Rattle.arguments.specs.declared.request.Verb.TheVariants as verb
+use Rattle.arguments.specs.declared.request.Flag.{Flag}
+use Rattle.arguments.specs.declared.request.Flag.TheVariants as flag
+use Rattle.arguments.specs.declared.request.Kind.{Kind}
+use Rattle.arguments.specs.declared.request.Kind.TheVariants as kind
+use Rattle.arguments.specs.declared.request.Action.{Action}
+use Rattle.arguments.specs.declared.request.Action.TheVariants as action
+use Rattle.arguments.specs.declared.request.Value.{Value}
+use Rattle.arguments.specs.declared.request.Value.TheVariants as value
 
--- ---- rows of words; a word is told by its place
+-- ---- rows of words, each with what it stands for
 
--- what is to be done; the place counts from 1 in a request
-unfoldable pub verbs : List Text
+-- what a word stands for in a row
+unfoldable pub meaning_in : {A : Type 0} → List (Text × A) → Text → Option A
+meaning_in [] w = None
+meaning_in (r ∷ rs) w = let rest = meaning_in rs w in when r.0 ≟ w then Some r.1 else rest
+
+-- a row of the code
+abbrev pub row_of : {A : Type 0} → Bor Text × A → Text × A
+row_of r = (r.0.now, r.1)
+
+-- what is to be done
+abbrev pub verbs : List (Text × Verb)
 verbs =
-    bytes "clean" ∷ bytes "counts" ∷ bytes "check" ∷ bytes "show" ∷ bytes "tape" ∷ bytes "addresses" ∷ bytes "edition" ∷ bytes "offsets"
-    ∷ bytes "laborious" ∷ bytes "state" ∷ bytes "help" ∷ bytes "version" ∷ bytes "--version" ∷ bytes "page" ∷ bytes "start" ∷ []
+    (bytes "clean", verb.Clean) ∷ (bytes "counts", verb.Counts) ∷ (bytes "check", verb.Check) ∷ (bytes "show", verb.Show)
+    ∷ (bytes "tape", verb.Tape) ∷ (bytes "addresses", verb.Addresses) ∷ (bytes "edition", verb.Edition) ∷ (bytes "offsets", verb.Offsets)
+    ∷ (bytes "laborious", verb.Laborious) ∷ (bytes "state", verb.State) ∷ (bytes "help", verb.Help) ∷ (bytes "version", verb.Version)
+    ∷ (bytes "--version", verb.VersionOption) ∷ (bytes "page", verb.Page) ∷ (bytes "start", verb.Start) ∷ []
 
-unfoldable pub options : List Text
+abbrev pub options : List (Text × Flag)
 options =
-    bytes "-c" ∷ bytes "-e" ∷ bytes "--parts" ∷ bytes "--profile" ∷ bytes "--settle" ∷ bytes "-o" ∷ bytes "-d" ∷ bytes "--exact"
-    ∷ bytes "--return" ∷ bytes "--choose" ∷ []
+    (bytes "-c", flag.Convention) ∷ (bytes "-e", flag.Edition) ∷ (bytes "--parts", flag.Parts) ∷ (bytes "--profile", flag.Profile)
+    ∷ (bytes "--settle", flag.Settle) ∷ (bytes "-o", flag.Output) ∷ (bytes "-d", flag.Folder) ∷ (bytes "--exact", flag.Exact)
+    ∷ (bytes "--return", flag.Return) ∷ (bytes "--choose", flag.Choose) ∷ []
 
-unfoldable pub helps : List Text
-helps = bytes "-h" ∷ bytes "--help" ∷ []
+-- the settings' numbers
+abbrev pub conventions : List (Text × ℕ)
+conventions = (bytes "32", 0) ∷ (bytes "sysv", 1) ∷ (bytes "windows", 2) ∷ []
 
-unfoldable pub conventions : List Text
-conventions = bytes "32" ∷ bytes "sysv" ∷ bytes "windows" ∷ []
+abbrev pub editions : List (Text × ℕ)
+editions = (bytes "2018", 0) ∷ (bytes "2024", 1) ∷ []
 
-unfoldable pub editions : List Text
-editions = bytes "2018" ∷ bytes "2024" ∷ []
+abbrev pub actions : List (Text × Action)
+actions =
+    (bytes "list", action.List) ∷ (bytes "save", action.Save) ∷ (bytes "get", action.Get) ∷ (bytes "delete", action.Delete) ∷ []
 
-unfoldable pub actions : List Text
-actions = bytes "list" ∷ bytes "save" ∷ bytes "get" ∷ bytes "delete" ∷ []
+-- ---- what a verb takes
 
--- ---- tables: a row for each verb, the first for none
+-- what its operand behind so many others is; none, if it has no more
+abbrev pub kind_of : Verb → ℕ → Option Kind
+kind_of verb.Clean n = Some kind.File
+kind_of verb.Counts n = Some kind.File
+kind_of verb.Check n = Some kind.File
+kind_of verb.Show n = slice_get (kind.File ∷ []) n
+kind_of verb.Tape n = slice_get (kind.File ∷ []) n
+kind_of verb.Addresses n = slice_get (kind.File ∷ []) n
+kind_of verb.Edition n = slice_get (kind.Edition ∷ kind.File ∷ []) n
+kind_of verb.Offsets n = slice_get (kind.Base ∷ kind.File ∷ []) n
+kind_of verb.Laborious n = slice_get (kind.Number ∷ []) n
+kind_of verb.State n = slice_get (kind.File ∷ kind.Action ∷ kind.Name ∷ kind.File ∷ []) n
+kind_of verb.Help n = slice_get (kind.Verb ∷ []) n
+kind_of verb.Version n = None
+kind_of verb.VersionOption n = None
+kind_of verb.Page n = slice_get (kind.File ∷ []) n
+kind_of verb.Start n = slice_get (kind.File ∷ []) n
 
--- what its operands are, the first to the fourth and the others: f a file or a store, e an edition, b a base, n a number, a an action,
--- m a name, v a verb; - none
-unfoldable pub kinds : Text
-kinds =
-    bytes "-----"
-    ++ bytes "fffff"
-    ++ bytes "fffff"
-    ++ bytes "fffff"
-    ++ bytes "f----"
-    ++ bytes "f----"
-    ++ bytes "f----"
-    ++ bytes "ef---"
-    ++ bytes "bf---"
-    ++ bytes "n----"
-    ++ bytes "famf-"
-    ++ bytes "v----"
-    ++ bytes "-----"
-    ++ bytes "-----"
-    ++ bytes "f----"
-    ++ bytes "f----"
+-- which options it takes: the settings of a cleaning, -o, and each of the others
+abbrev pub takes_settings : Verb → Bool
+takes_settings verb.Clean = true
+takes_settings verb.Counts = true
+takes_settings verb.Page = true
+takes_settings _ = false
 
-unfoldable pub kind_of : ℕ → ℕ → ℕ
-kind_of verb operands = get_or kinds (verb * 5 + min operands 4) 0
+abbrev pub takes_output : Verb → Bool
+takes_output verb.Clean = true
+takes_output verb.Tape = true
+takes_output verb.Addresses = true
+takes_output verb.Edition = true
+takes_output verb.Offsets = true
+takes_output verb.Laborious = true
+takes_output verb.State = true
+takes_output verb.Page = true
+takes_output _ = false
 
--- which options it takes, by their place; the last column stands for a word that is none
-unfoldable pub takings : Text
-takings =
-    bytes "-----------"
-    ++ bytes "yyyyyyy----"
-    ++ bytes "yyyyy------"
-    ++ bytes "-----------"
-    ++ bytes "-------y---"
-    ++ bytes "-----y-----"
-    ++ bytes "-----y-----"
-    ++ bytes "-----y-----"
-    ++ bytes "-----y-----"
-    ++ bytes "-----y-----"
-    ++ bytes "-----y-----"
-    ++ bytes "-----------"
-    ++ bytes "-----------"
-    ++ bytes "-----------"
-    ++ bytes "yyyyyy-----"
-    ++ bytes "--------yy-"
+abbrev pub is_clean : Verb → Bool
+is_clean verb.Clean = true
+is_clean _ = false
 
-unfoldable pub taking : ℕ → ℕ → ℕ
-taking verb option = get_or takings (verb * 11 + min option 10) 0
+abbrev pub is_show : Verb → Bool
+is_show verb.Show = true
+is_show _ = false
 
--- how many operands it needs and takes; 9 as many as `kinds` has. The last four rows are those of `state`, by its action
-abbrev pub row_of : ℕ → ℕ → ℕ
-row_of verb value = when eqb verb 10 then 16 + min value 3 else verb
+abbrev pub is_start : Verb → Bool
+is_start verb.Start = true
+is_start _ = false
 
-unfoldable pub fewest : ℕ → ℕ → ℕ
-fewest verb value = get_or (0 ∷ 0 ∷ 0 ∷ 0 ∷ 0 ∷ 0 ∷ 0 ∷ 1 ∷ 1 ∷ 1 ∷ 0 ∷ 0 ∷ 0 ∷ 0 ∷ 0 ∷ 0 ∷ 2 ∷ 3 ∷ 3 ∷ 3 ∷ []) (row_of verb value) 0
+abbrev pub takes : Verb → Flag → Bool
+takes v flag.Convention = takes_settings v
+takes v flag.Edition = takes_settings v
+takes v flag.Parts = takes_settings v
+takes v flag.Profile = takes_settings v
+takes v flag.Settle = takes_settings v
+takes v flag.Output = takes_output v
+takes v flag.Folder = is_clean v
+takes v flag.Exact = is_show v
+takes v flag.Return = is_start v
+takes v flag.Choose = is_start v
 
-unfoldable pub most : ℕ → ℕ → ℕ
-most verb value = get_or (9 ∷ 9 ∷ 9 ∷ 9 ∷ 9 ∷ 9 ∷ 9 ∷ 9 ∷ 9 ∷ 9 ∷ 9 ∷ 9 ∷ 9 ∷ 9 ∷ 9 ∷ 9 ∷ 2 ∷ 4 ∷ 3 ∷ 3 ∷ []) (row_of verb value) 0
+-- how many operands it needs; those of `state` by its action
+abbrev pub fewest_of : Option Value → ℕ
+fewest_of (Some (value.Action action.Save)) = 3
+fewest_of (Some (value.Action action.Get)) = 3
+fewest_of (Some (value.Action action.Delete)) = 3
+fewest_of _ = 2
+
+abbrev pub fewest : Verb → Option Value → ℕ
+fewest verb.Edition v = 1
+fewest verb.Offsets v = 1
+fewest verb.Laborious v = 1
+fewest verb.State v = fewest_of v
+fewest _ v = 0
+
+-- how many it takes at most, where `kind_of` has more
+abbrev pub most_of : Option Value → ℕ
+most_of (Some (value.Action action.Save)) = 4
+most_of (Some (value.Action action.Get)) = 3
+most_of (Some (value.Action action.Delete)) = 3
+most_of _ = 2
+
+abbrev pub most : Verb → Option Value → Option ℕ
+most verb.State v = Some (most_of v)
+most _ v = None

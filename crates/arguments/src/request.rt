@@ -1,196 +1,178 @@
-// What is known of a request so far. Words are told by their number, the first one being 1; 0 is no word.
+// What is known of a request so far. Words are told by their number, from 0.
 ghost use Rattle.std.specs.Prelude.{◌≡◌};
-ghost use Rattle.arguments.specs.Request.{with_help, with_fault, with_verb, with_pending, with_convention, with_edition};
-ghost use Rattle.arguments.specs.Request.{with_parts, with_profile, with_settle, with_exact, with_goal, with_operand, with_value};
-ghost use Rattle.arguments.specs.Request.{with_wanted, with_chosen, with_entry, one_more, at_first};
+ghost use Rattle.arguments.specs.Request.{with_fault, with_operand};
+ghost use Rattle.arguments.specs.Requests.{none_yet};
 
+use lines::rules::Rules;
+
+// What is to be done; VersionOption is the word `--version`.
+#[derive(Clone, Copy, Debug, PartialEq, Eq)]
+pub enum Verb {
+    Clean,
+    Counts,
+    Check,
+    Show,
+    Tape,
+    Addresses,
+    Edition,
+    Offsets,
+    Laborious,
+    State,
+    Help,
+    Version,
+    VersionOption,
+    Page,
+    Start,
+}
+
+// The options of the verbs.
+#[derive(Clone, Copy, Debug, PartialEq, Eq)]
+pub enum Flag {
+    Convention,
+    Edition,
+    Parts,
+    Profile,
+    Settle,
+    Output,
+    Folder,
+    Exact,
+    Return,
+    Choose,
+}
+
+// What `state` does.
+#[derive(Clone, Copy, Debug, PartialEq, Eq)]
+pub enum Action {
+    List,
+    Save,
+    Get,
+    Delete,
+}
+
+// What an operand is: a file or a store, the name of a state, or what stands for a value.
+#[derive(Clone, Copy, Debug, PartialEq, Eq)]
+pub enum Kind {
+    File,
+    Name,
+    Edition,
+    Base,
+    Number,
+    Action,
+    Verb,
+}
+
+// What an operand stands for.
+#[derive(Clone, Copy, Debug, PartialEq, Eq)]
+pub enum Value {
+    Edition(u8),
+    Number(u64),
+    Action(Action),
+    Verb(Verb),
+}
+
+// What can be wrong with the words.
+#[derive(Clone, Copy, Debug, PartialEq, Eq)]
+pub enum Problem {
+    NoVerb,
+    UnknownVerb,
+    UnknownOption, // of this verb
+    BadValue, // of the option before it
+    SecondDestination,
+    TooMany,
+    BadOperand,
+    TooFew,
+    NoValue, // of the last option
+    SeveralFiles, // with -o
+    SecondValue, // of --return or --choose
+    Incomplete, // one of the two is missing
+    BadEntry, // no REG=VALUE
+}
+
+// What is wrong, and the word by which it is told.
+#[derive(Clone, Copy, Debug, PartialEq, Eq)]
+pub struct Fault {
+    pub problem: Problem,
+    pub word: Option<u64>,
+}
+
+// Where the result goes: the word that names the file, or the folder.
+#[derive(Clone, Copy, Debug, PartialEq, Eq)]
+pub enum Destination {
+    StandardOutput,
+    File(u64),
+    Folder(u64),
+}
+
+// What the words so far ask for.
 #[derive(Clone, Copy)]
 pub struct Request {
-    pub verb: u64, // what is to be done, by its place in the row of verbs, from 1
+    pub verb: Option<Verb>,
     pub help: bool, // -h or --help stands somewhere
-    pub fault: u64, // what is wrong first, and at which word; 0: nothing
-    pub fault_at: u64,
-    pub pending: u64, // the option whose value comes next, by its place in the row of options, from 1
-    pub convention: u64, // settings
-    pub edition: u64,
-    pub parts: bool,
-    pub profile: bool,
-    pub settle: bool,
+    pub fault: Option<Fault>, // what is wrong first
+    pub pending: Option<Flag>, // the option whose value comes next
+    pub rules: Rules, // the settings of a cleaning
     pub exact: bool,
-    pub goal: u64, // where the result goes: 0 standard output, 1 a file, 2 files of a folder; and the word that names it
-    pub goal_at: u64,
+    pub destination: Destination,
     pub operands: u64, // how many words are operands; 9: nine or more
-    pub first: u64, // the first, the third and the last of them
-    pub third: u64,
-    pub last: u64,
-    pub value: u64, // of the operand that stands for a number
-    pub wanted: u64, // of --return, and the words that are its value and that of --choose
-    pub wanted_at: u64,
-    pub chosen_at: u64,
-    pub entry_at: u64, // the last operand that is an entry, REG=VALUE
+    pub first: Option<u64>, // the first, the third and the last of them
+    pub third: Option<u64>,
+    pub last: Option<u64>,
+    pub value: Option<Value>, // of the operand that stands for one
+    pub wanted: Option<u64>, // of --return, and the word that is the value of --choose
+    pub chosen: Option<u64>,
+    pub entry: Option<u64>, // the last operand that is an entry, REG=VALUE
 }
 
 impl Request {
-    pub fn with_help(mut self) -> Self
-        ensures { result ≡ with_help self }
+    // Before the first word: nothing is asked for; the settings are System V and the edition of 2018.
+    pub fn begin() -> Self
+        ensures { result ≡ none_yet }
     {
-        self.help = true;
-        self
+        Request {
+            verb: None,
+            help: false,
+            fault: None,
+            pending: None,
+            rules: Rules {
+                convention: 1,
+                settle: false,
+                edition: 0,
+                parts: false,
+                profile: false,
+            },
+            exact: false,
+            destination: Destination::StandardOutput,
+            operands: 0,
+            first: None,
+            third: None,
+            last: None,
+            value: None,
+            wanted: None,
+            chosen: None,
+            entry: None,
+        }
     }
 
-    pub fn with_fault(mut self, number: u64, k: u64) -> Self
-        ensures { result ≡ with_fault number k self }
+    pub(crate) fn with_fault(self, problem: Problem, word: Option<u64>) -> Self
+        ensures { result ≡ with_fault problem word self }
     {
-        self.fault = number;
-        self.fault_at = k;
-        self
-    }
-
-    pub fn with_verb(mut self, verb: u64) -> Self
-        ensures { result ≡ with_verb verb self }
-    {
-        self.verb = verb;
-        self
-    }
-
-    pub fn with_pending(mut self, option: u64) -> Self
-        ensures { result ≡ with_pending option self }
-    {
-        self.pending = option;
-        self
-    }
-
-    pub fn with_convention(mut self, convention: u64) -> Self
-        ensures { result ≡ with_convention convention self }
-    {
-        self.pending = 0;
-        self.convention = convention;
-        self
-    }
-
-    pub fn with_edition(mut self, edition: u64) -> Self
-        ensures { result ≡ with_edition edition self }
-    {
-        self.pending = 0;
-        self.edition = edition;
-        self
-    }
-
-    pub fn with_parts(mut self) -> Self
-        ensures { result ≡ with_parts self }
-    {
-        self.parts = true;
-        self
-    }
-
-    pub fn with_profile(mut self) -> Self
-        ensures { result ≡ with_profile self }
-    {
-        self.profile = true;
-        self
-    }
-
-    pub fn with_settle(mut self) -> Self
-        ensures { result ≡ with_settle self }
-    {
-        self.settle = true;
-        self
-    }
-
-    pub fn with_exact(mut self) -> Self
-        ensures { result ≡ with_exact self }
-    {
-        self.exact = true;
-        self
-    }
-
-    pub fn with_goal(mut self, goal: u64, k: u64) -> Self
-        ensures { result ≡ with_goal goal k self }
-    {
-        self.pending = 0;
-        self.goal = goal;
-        self.goal_at = k;
-        self
-    }
-
-    pub fn with_value(mut self, value: u64) -> Self
-        ensures { result ≡ with_value value self }
-    {
-        self.value = value;
-        self
-    }
-
-    pub fn with_wanted(mut self, wanted: u64, k: u64) -> Self
-        ensures { result ≡ with_wanted wanted k self }
-    {
-        self.pending = 0;
-        self.wanted = wanted;
-        self.wanted_at = k;
-        self
-    }
-
-    pub fn with_chosen(mut self, k: u64) -> Self
-        ensures { result ≡ with_chosen k self }
-    {
-        self.pending = 0;
-        self.chosen_at = k;
-        self
-    }
-
-    pub fn with_entry(mut self, k: u64) -> Self
-        ensures { result ≡ with_entry k self }
-    {
-        self.entry_at = k;
-        self
+        Request {
+            fault: Some(Fault { problem, word }),
+            ..self
+        }
     }
 
     // One operand more: word k.
-    pub fn with_operand(self, k: u64) -> Self
+    pub(crate) fn with_operand(self, k: u64) -> Self
         ensures { result ≡ with_operand k self }
     {
+        let word = Some(k);
         Request {
-            verb: self.verb,
-            help: self.help,
-            fault: self.fault,
-            fault_at: self.fault_at,
-            pending: self.pending,
-            convention: self.convention,
-            edition: self.edition,
-            parts: self.parts,
-            profile: self.profile,
-            settle: self.settle,
-            exact: self.exact,
-            goal: self.goal,
-            goal_at: self.goal_at,
-            operands: one_more(self.operands),
-            first: at_first(self.operands, 0, self.first, k),
-            third: at_first(self.operands, 2, self.third, k),
-            last: k,
-            value: self.value,
-            wanted: self.wanted,
-            wanted_at: self.wanted_at,
-            chosen_at: self.chosen_at,
-            entry_at: self.entry_at,
+            operands: self.operands.min(8) + 1,
+            first: if self.operands == 0 { word } else { self.first },
+            third: if self.operands == 2 { word } else { self.third },
+            last: word,
+            ..self
         }
     }
-}
-
-// One more, and at most 9.
-fn one_more(n: u64) -> u64
-    ensures { result ≡ one_more n }
-{
-    if n < 9 {
-        return n + 1;
-    }
-    9
-}
-
-// k where so many operands stand before it, otherwise what was.
-fn at_first(n: u64, m: u64, was: u64, k: u64) -> u64
-    ensures { result ≡ at_first n m was k }
-{
-    if n == m {
-        return k;
-    }
-    was
 }

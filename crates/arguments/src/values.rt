@@ -1,69 +1,28 @@
-// Operands that stand for a number.
+// Operands that stand for a value.
 ghost use Rattle.std.specs.Prelude.{◌≡◌};
-ghost use Rattle.words.specs.Splitting.{number_of};
-ghost use Rattle.words.specs.Numerals.{option_of};
-ghost use Rattle.arguments.specs.Tables.{verbs, editions, actions};
-ghost use Rattle.arguments.specs.Values.{below, is_name, value_of};
+ghost use Rattle.arguments.specs.Values.{is_name, value_of};
 
-use crate::word_tables::{action_number, edition_number, verb_number};
-use words::{Value, base_in, number_in};
-
-// A place in a row of words, if it is one.
-fn below(n: u64, count: u64) -> Value
-    ensures { option_of result ≡ below n count }
-{
-    if n < count {
-        return Value::Is(n);
-    }
-    Value::Not
-}
+use crate::request::{Kind, Value};
+use crate::word_tables::{action_in, edition_in, verb_in};
+use words::{base_in, number_in};
 
 // A name has 1 to 8 bytes.
-pub fn is_name(word: &[u8]) -> bool
+pub(crate) fn is_name(word: &[u8]) -> bool
     ensures { result ≡ is_name word.now }
 {
-    if word.len() == 0 {
-        return false;
-    }
-    word.len() < 9
+    (1..=8).contains(&word.len())
 }
 
-fn edition_in(word: &[u8]) -> Value
-    ensures { option_of result ≡ below (number_of editions word.now) 2 }
+// What an operand of a kind stands for.
+pub(crate) fn value_of(kind: Kind, word: &[u8]) -> Option<Value>
+    ensures { result ≡ value_of kind word.now }
 {
-    below(edition_number(word), 2)
-}
-
-fn action_in(word: &[u8]) -> Value
-    ensures { option_of result ≡ below (number_of actions word.now) 4 }
-{
-    below(action_number(word), 4)
-}
-
-fn verb_in(word: &[u8]) -> Value
-    ensures { option_of result ≡ below (number_of verbs word.now) 15 }
-{
-    below(verb_number(word), 15)
-}
-
-// What an operand of a kind stands for (the kinds of `kind_of`).
-pub fn value_of(kind: u8, word: &[u8]) -> Value
-    ensures { option_of result ≡ value_of kind word.now }
-{
-    if kind == b'e' {
-        return edition_in(word);
+    match kind {
+        Kind::Edition => edition_in(word).map(Value::Edition),
+        Kind::Action => action_in(word).map(Value::Action),
+        Kind::Verb => verb_in(word).map(Value::Verb),
+        Kind::Base => base_in(word).map(Value::Number),
+        Kind::Number => number_in(word, 10).map(Value::Number),
+        Kind::File | Kind::Name => None,
     }
-    if kind == b'a' {
-        return action_in(word);
-    }
-    if kind == b'v' {
-        return verb_in(word);
-    }
-    if kind == b'b' {
-        return base_in(word);
-    }
-    if kind == b'n' {
-        return number_in(word, 10);
-    }
-    Value::Not
 }

@@ -1,166 +1,162 @@
-// Which words, options and operands there are. A further verb is a word at the end of its row, and a row of each table.
-ghost use Rattle.std.specs.Prelude.{◌≡◌, length, get_or, ◌+◌, ◌*◌, ◌≤◌, min};
-ghost use Rattle.words.specs.Splitting.{number_of};
-ghost use Rattle.arguments.specs.Tables.{verbs, options, helps, conventions, editions, actions};
-ghost use Rattle.arguments.specs.Tables.{kind_of, taking, row_of, fewest, most};
+// Which words, options and operands there are. A further verb is a row, and what it takes.
+ghost use Rattle.std.specs.Prelude.{◌≡◌, map};
+ghost use Rattle.arguments.specs.Tables.{row_of, meaning_in, verbs, options, conventions, editions, actions};
+ghost use Rattle.arguments.specs.Tables.{kind_of, takes, fewest, most};
 
-use tape::little_endian::wide;
-use words::number_of;
+use crate::request::{Action, Flag, Kind, Value, Verb};
 
-pub fn verb_number(word: &[u8]) -> u64
-    ensures { result ≡ number_of verbs word.now }
+const VERBS: [(&[u8], Verb); 15] = [
+    (b"clean", Verb::Clean),
+    (b"counts", Verb::Counts),
+    (b"check", Verb::Check),
+    (b"show", Verb::Show),
+    (b"tape", Verb::Tape),
+    (b"addresses", Verb::Addresses),
+    (b"edition", Verb::Edition),
+    (b"offsets", Verb::Offsets),
+    (b"laborious", Verb::Laborious),
+    (b"state", Verb::State),
+    (b"help", Verb::Help),
+    (b"version", Verb::Version),
+    (b"--version", Verb::VersionOption),
+    (b"page", Verb::Page),
+    (b"start", Verb::Start),
+];
+
+const OPTIONS: [(&[u8], Flag); 10] = [
+    (b"-c", Flag::Convention),
+    (b"-e", Flag::Edition),
+    (b"--parts", Flag::Parts),
+    (b"--profile", Flag::Profile),
+    (b"--settle", Flag::Settle),
+    (b"-o", Flag::Output),
+    (b"-d", Flag::Folder),
+    (b"--exact", Flag::Exact),
+    (b"--return", Flag::Return),
+    (b"--choose", Flag::Choose),
+];
+
+// Kept: conventions and editions are numbers, as the library's settings (`Rules`) have them for C.
+const CONVENTIONS: [(&[u8], u8); 3] = [(b"32", 0), (b"sysv", 1), (b"windows", 2)];
+
+const EDITIONS: [(&[u8], u8); 2] = [(b"2018", 0), (b"2024", 1)];
+
+const ACTIONS: [(&[u8], Action); 4] = [
+    (b"list", Action::List),
+    (b"save", Action::Save),
+    (b"get", Action::Get),
+    (b"delete", Action::Delete),
+];
+
+// What a word stands for in a row of words.
+fn meaning<T: Copy>(rows: &[(&[u8], T)], word: &[u8]) -> Option<T>
+    ensures { result ≡ meaning_in (map row_of rows.now) word.now }
 {
-    number_of(
-        b"clean\0counts\0check\0show\0tape\0addresses\0edition\0offsets\0laborious\0state\0help\0version\0--version\0page\0start\0",
-        word,
-    )
-}
-
-pub fn option_number(word: &[u8]) -> u64
-    ensures { result ≡ number_of options word.now }
-{
-    number_of(
-        b"-c\0-e\0--parts\0--profile\0--settle\0-o\0-d\0--exact\0--return\0--choose\0",
-        word,
-    )
-}
-
-pub fn help_number(word: &[u8]) -> u64
-    ensures { result ≡ number_of helps word.now }
-{
-    number_of(b"-h\0--help\0", word)
-}
-
-pub fn convention_number(word: &[u8]) -> u64
-    ensures { result ≡ number_of conventions word.now }
-{
-    number_of(b"32\0sysv\0windows\0", word)
-}
-
-pub fn edition_number(word: &[u8]) -> u64
-    ensures { result ≡ number_of editions word.now }
-{
-    number_of(b"2018\02024\0", word)
-}
-
-pub fn action_number(word: &[u8]) -> u64
-    ensures { result ≡ number_of actions word.now }
-{
-    number_of(b"list\0save\0get\0delete\0", word)
-}
-
-// The byte of a table at a place; 0 past its end.
-fn entry(table: &[u8], i: u64) -> u8
-    ensures { result ≡ get_or table.now i 0 }
-{
-    let at = i as usize;
-    if at < table.len() {
-        return table[at];
+    for row in rows {
+        if row.0 == word {
+            return Some(row.1);
+        }
     }
-    0
+    None
 }
 
-// What the next operand of a verb is: f a file or a store, e an edition, b a base, n a number, a an action, m a name, v a verb; - none.
-pub fn kind_of(verb: u64, operands: u64) -> u8
-    ensures { result ≡ kind_of verb operands }
+pub(crate) fn verb_in(word: &[u8]) -> Option<Verb>
+    ensures { result ≡ meaning_in verbs word.now }
 {
-    if 15 < verb {
-        return 0;
+    meaning(&VERBS, word)
+}
+
+pub(crate) fn option_in(word: &[u8]) -> Option<Flag>
+    ensures { result ≡ meaning_in options word.now }
+{
+    meaning(&OPTIONS, word)
+}
+
+pub(crate) fn convention_in(word: &[u8]) -> Option<u8>
+    ensures { result ≡ meaning_in conventions word.now }
+{
+    meaning(&CONVENTIONS, word)
+}
+
+pub(crate) fn edition_in(word: &[u8]) -> Option<u8>
+    ensures { result ≡ meaning_in editions word.now }
+{
+    meaning(&EDITIONS, word)
+}
+
+pub(crate) fn action_in(word: &[u8]) -> Option<Action>
+    ensures { result ≡ meaning_in actions word.now }
+{
+    meaning(&ACTIONS, word)
+}
+
+impl Verb {
+    // What the operand behind so many others is; none, if there are no more.
+    pub(crate) fn kind_of(self, operands: u64) -> Option<Kind>
+        ensures { result ≡ kind_of self operands }
+    {
+        match (self, operands) {
+            (Verb::Clean | Verb::Counts | Verb::Check, _) => Some(Kind::File),
+            (Verb::Show | Verb::Tape | Verb::Addresses | Verb::Page | Verb::Start, 0) => {
+                Some(Kind::File)
+            }
+            (Verb::Edition, 0) => Some(Kind::Edition),
+            (Verb::Offsets, 0) => Some(Kind::Base),
+            (Verb::Edition | Verb::Offsets, 1) => Some(Kind::File),
+            (Verb::Laborious, 0) => Some(Kind::Number),
+            (Verb::State, 0 | 3) => Some(Kind::File),
+            (Verb::State, 1) => Some(Kind::Action),
+            (Verb::State, 2) => Some(Kind::Name),
+            (Verb::Help, 0) => Some(Kind::Verb),
+            _ => None,
+        }
     }
-    entry(
-        b"-----\
-          fffff\
-          fffff\
-          fffff\
-          f----\
-          f----\
-          f----\
-          ef---\
-          bf---\
-          n----\
-          famf-\
-          v----\
-          -----\
-          -----\
-          f----\
-          f----",
-        verb * 5 + least_of(operands, 4),
-    )
-}
 
-// Whether a verb takes an option: y or -.
-pub fn taking(verb: u64, option: u64) -> u8
-    ensures { result ≡ taking verb option }
-{
-    if 15 < verb {
-        return 0;
+    pub(crate) fn takes(self, option: Flag) -> bool
+        ensures { result ≡ takes self option }
+    {
+        match option {
+            Flag::Convention | Flag::Edition | Flag::Parts | Flag::Profile | Flag::Settle => {
+                matches!(self, Verb::Clean | Verb::Counts | Verb::Page)
+            }
+            Flag::Output => matches!(
+                self,
+                Verb::Clean
+                    | Verb::Tape
+                    | Verb::Addresses
+                    | Verb::Edition
+                    | Verb::Offsets
+                    | Verb::Laborious
+                    | Verb::State
+                    | Verb::Page
+            ),
+            Flag::Folder => matches!(self, Verb::Clean),
+            Flag::Exact => matches!(self, Verb::Show),
+            Flag::Return | Flag::Choose => matches!(self, Verb::Start),
+        }
     }
-    entry(
-        b"-----------\
-          yyyyyyy----\
-          yyyyy------\
-          -----------\
-          -------y---\
-          -----y-----\
-          -----y-----\
-          -----y-----\
-          -----y-----\
-          -----y-----\
-          -----y-----\
-          -----------\
-          -----------\
-          -----------\
-          yyyyyy-----\
-          --------yy-",
-        verb * 11 + least_of(option, 10),
-    )
-}
 
-fn action_row(value: u64) -> u64
-    ensures { result ≡ 16 + min value 3 }
-{
-    if value < 3 {
-        return 16 + value;
+    // How many operands a request has at least; one for `state`, whose action is not known, has two.
+    pub(crate) fn fewest(self, value: Option<Value>) -> u64
+        ensures { result ≡ fewest self value }
+    {
+        match (self, value) {
+            (Verb::Edition | Verb::Offsets | Verb::Laborious, _) => 1,
+            (Verb::State, Some(Value::Action(Action::Save | Action::Get | Action::Delete))) => 3,
+            (Verb::State, _) => 2,
+            _ => 0,
+        }
     }
-    19
-}
 
-// The row of a verb and, for `state`, of its action, in the two tables below.
-fn row_of(verb: u64, value: u64) -> u64
-    ensures { result ≡ row_of verb value }
-{
-    if verb != 10 {
-        return verb;
+    // How many it has at most, where `kind_of` has more.
+    pub(crate) fn most(self, value: Option<Value>) -> Option<u64>
+        ensures { result ≡ most self value }
+    {
+        match (self, value) {
+            (Verb::State, Some(Value::Action(Action::Save))) => Some(4),
+            (Verb::State, Some(Value::Action(Action::Get | Action::Delete))) => Some(3),
+            (Verb::State, _) => Some(2),
+            _ => None,
+        }
     }
-    action_row(value)
-}
-
-// How many operands a request has at least.
-pub fn fewest(verb: u64, value: u64) -> u64
-    ensures { result ≡ fewest verb value }
-{
-    wide(entry(
-        b"\x00\x00\x00\x00\x00\x00\x00\x01\x01\x01\x00\x00\x00\x00\x00\x00\x02\x03\x03\x03",
-        row_of(verb, value),
-    ))
-}
-
-// How many it has at most: 9: as many as `kind_of` takes.
-pub fn most(verb: u64, value: u64) -> u64
-    ensures { result ≡ most verb value }
-{
-    wide(entry(
-        b"\x09\x09\x09\x09\x09\x09\x09\x09\x09\x09\x09\x09\x09\x09\x09\x09\x02\x04\x03\x03",
-        row_of(verb, value),
-    ))
-}
-
-// The smaller of two numbers.
-fn least_of(n: u64, m: u64) -> u64
-    ensures { result ≡ min n m }
-{
-    if n < m {
-        return n;
-    }
-    m
 }

@@ -1,14 +1,14 @@
 -- Folding on lists of tokens: what three tokens fold to, and a step at a time. Assumes nothing.
 use Prim.Native.Nat.{ℕ, suc, ◌+◌, ◌-◌, ◌≤◌, ◌<◌}
 use native.Mathlib.Omega.{arith}
-use native.Mathlib.Numerals.{add-one}
 use mathlib.Core.Path.{◌≡◌, refl, sym, ap, ◌∙◌}
 use mathlib.Core.Bool.{Bool, true, false}
 use mathlib.Core.List.{List, [], ◌∷◌, ◌++◌, map-append}
 use mathlib.Core.Option.{Option, none, some}
 use lib.IntN.{ℤ, ◌+ℤ◌, ◌-ℤ◌}
-use lib.ListN.{length, get_or, take, drop, drop_of_length-le, length-map, length-drop}
-use lib.Seq.{take-suc, drop-cons, get_or-drop}
+use lib.ListN.{length, get_or, take, drop, length-map}
+use lib.Seq.{take-suc, take_all, drop-cons}
+use Rattle.std.proofs.lemmas.List.{take_rest}
 use Rattle.reference.specs.Control.{◌and◌, ◌or◌, when◌then◌else◌, let_some◌else◌then◌}
 use Rattle.reference.specs.Text.{Text, bytes, ◌≟◌, starts_with, ends_with}
 use Rattle.reference.specs.Listing.{Token, token, is, Number}
@@ -18,7 +18,7 @@ use Rattle.reference.proofs.Cases.{none-some}
 use Rattle.reference.proofs.Shapes.{folds}
 use Rattle.joining.proofs.Room.{is_sign, signs, keep-room}
 use Rattle.laws.proofs.Scans.{if-true, if-false, and_true, and_false}
-use Rattle.lines.specs.Words.{text_of, token_of, tokens_of, Points, Holds}
+use Rattle.lines.specs.Words.{text_of, token_of, tokens_of}
 use Rattle.build.specs.Folding.{operated, sum_of, number_token, last_of, fold_next, fold_behind}
 
 -- ---- two numbers
@@ -149,67 +149,66 @@ signs_drop (t ∷ ts) = keep-room t ts
 -- ---- in a line of words
 
 module _ (tape area : Text) (line : List ℕ) where
-  pub before-first : {k : ℕ} → k ≡ 0 → true ≡ delim_before (last_of (tokens_of tape area (take k line)))
+  last_at : (k : ℕ) → length line ≡ suc k → last_of (tokens_of tape area line) ≡ some (token_of tape area (get_or line k 0))
+  last_at k h =
+      let split : tokens_of tape area line ≡ tokens_of tape area (take k line) ++ (token_of tape area (get_or line k 0) ∷ []) =
+      ap (tokens_of tape area) (sym (take_all (suc k) line (omega arith)) ∙ take-suc line k 0 (omega arith))
+      ∙ map-append (token_of tape area) (take k line) (get_or line k 0 ∷ []) in
+      ap last_of split ∙ last_snoc (tokens_of tape area (take k line)) (token_of tape area (get_or line k 0))
+
+  pub before_none : length line ≡ 0 → true ≡ delim_before (last_of (tokens_of tape area line))
   unfolding delim_before
-  before-first e = rw e
+  before_none h = rw (sym (take_all 0 line (omega arith)))
 
-  pub last_at : (k : ℕ) → 0 < k → k ≤ length line → last_of (tokens_of tape area (take k line)) ≡ some (token_of tape area (get_or line (k - 1) 0))
-  last_at k h b =
-      let e : k ≡ suc (k - 1) = omega arith in
-      let split : tokens_of tape area (take k line) ≡ tokens_of tape area (take (k - 1) line) ++ (token_of tape area (get_or line (k - 1) 0) ∷ []) =
-      ap (λ (n : ℕ). tokens_of tape area (take n line)) e ∙ ap (tokens_of tape area) (take-suc line (k - 1) 0 (omega arith))
-      ∙ map-append (token_of tape area) (take (k - 1) line) (get_or line (k - 1) 0 ∷ []) in
-      ap last_of split ∙ last_snoc (tokens_of tape area (take (k - 1) line)) (token_of tape area (get_or line (k - 1) 0))
-
-  pub before_at : (k : ℕ) {x : Bool} {s : Text} → 0 < k → k ≤ length line → s ≡ text_of tape area (get_or line (k - 1) 0)
+  pub before_at : {x : Bool} {s : Text} → 0 < length line → s ≡ text_of tape area (get_or line (length line - 1) 0)
       → x ≡ (ends_with s (bytes "(") or ends_with s (bytes ", ") or ends_with s (bytes " = "))
-      → x ≡ delim_before (last_of (tokens_of tape area (take k line)))
+      → x ≡ delim_before (last_of (tokens_of tape area line))
   unfolding delim_before
-  before_at k h b es e = rw (last_at k h b, ← es) e
+  before_at h es e = rw (last_at (length line - 1) (omega arith), ← es) e
 
-  pub after_last : (k : ℕ) → length line ≤ k → true ≡ delim_after (tokens_of tape area (drop k line))
+  pub after_none : length line ≡ 0 → true ≡ delim_after (tokens_of tape area line)
   unfolding delim_after
-  after_last k h = rw (drop_of_length-le line h)
+  after_none h = rw (sym (take_all 0 line (omega arith)))
 
-  pub after_at : (k : ℕ) {x : Bool} {s : Text} → k < length line → s ≡ text_of tape area (get_or line k 0)
+  pub after_at : {x : Bool} {s : Text} → 0 < length line → s ≡ text_of tape area (get_or line 0 0)
       → x ≡ (starts_with s (bytes ")") or starts_with s (bytes ",") or starts_with s (bytes ";"))
-      → x ≡ delim_after (tokens_of tape area (drop k line))
+      → x ≡ delim_after (tokens_of tape area line)
   unfolding delim_after
-  after_at k h es e = rw (drop-cons line k 0 h, ← es) e
+  after_at h es e = rw (drop-cons line 0 0 h) (rw (← es) e)
 
   -- three words
-  pub three : (k : ℕ) → k + 3 ≤ length line → drop k line ≡ get_or line k 0 ∷ get_or line (k + 1) 0 ∷ get_or line (k + 2) 0 ∷ drop (k + 3) line
-  three k h =
-      let e : k + 2 ≡ suc (k + 1) = omega arith in
-      let f : k + 3 ≡ suc (k + 2) = omega arith in
-      let one : drop k line ≡ get_or line k 0 ∷ drop (k + 1) line = rw add-one (drop-cons line k 0 (omega arith)) in
-      let two : drop (k + 1) line ≡ get_or line (k + 1) 0 ∷ drop (k + 2) line = rw e (drop-cons line (k + 1) 0 (omega arith)) in
-      let last : drop (k + 2) line ≡ get_or line (k + 2) 0 ∷ drop (k + 3) line = rw f (drop-cons line (k + 2) 0 (omega arith)) in
+  three : 3 ≤ length line → line ≡ get_or line 0 0 ∷ get_or line 1 0 ∷ get_or line 2 0 ∷ drop 3 line
+  three h =
+      let one : line ≡ get_or line 0 0 ∷ drop 1 line = drop-cons line 0 0 (omega arith) in
+      let two : drop 1 line ≡ get_or line 1 0 ∷ drop 2 line = drop-cons line 1 0 (omega arith) in
+      let last : drop 2 line ≡ get_or line 2 0 ∷ drop 3 line = drop-cons line 2 0 (omega arith) in
       cc
 
-  -- what a call answered, at the three words from `next` on
-  module _ (edition : ℕ) (before : Option Token) (next : ℕ) where
-    pub next-few : length line - next < 3 → number_token none ≡ fold_next edition before (tokens_of tape area (drop next line))
+  -- what a call answered, at the first three words
+  module _ (edition : ℕ) (before : Option Token) where
+    pub next-few : length line < 3 → number_token none ≡ fold_next edition before (tokens_of tape area line)
     unfolding let_some◌else◌then◌
-    next-few h = fold-few edition before (tokens_of tape area (drop next line)) (rw (length-map, length-drop) h)
+    next-few h = fold-few edition before (tokens_of tape area line) (rw length-map h)
 
-    module _ {x : Bool} (h : next + 3 ≤ length line) (ex : x ≡ delim_before before) where
-      pub next_open : x ≡ false → number_token none ≡ fold_next edition before (tokens_of tape area (drop next line))
+    module _ {x : Bool} (h : 3 ≤ length line) (ex : x ≡ delim_before before) where
+      folded-words : {o : Option Token}
+          → o ≡ folded edition before (token_of tape area (get_or line 0 0)) (token_of tape area (get_or line 1 0)) (token_of tape area (get_or line 2 0)) (tokens_of tape area (drop 3 line))
+          → o ≡ fold_next edition before (tokens_of tape area line)
+      folded-words e = e ∙ sym (ap (λ (l : List ℕ). fold_next edition before (tokens_of tape area l)) (three h))
+
+      pub next_open : x ≡ false → number_token none ≡ fold_next edition before (tokens_of tape area line)
       unfolding let_some◌else◌then◌
-      next_open e = rw (three next h) (folded_open edition _ _ _ before _ (sym ex ∙ e))
+      next_open e = folded-words (folded_open edition _ _ _ before _ (sym ex ∙ e))
 
-      module _ {y : Bool} (e : x ≡ true) (ey : y ≡ delim_after (tokens_of tape area (drop (next + 3) line))) where
-        pub next_shut : y ≡ false → number_token none ≡ fold_next edition before (tokens_of tape area (drop next line))
+      module _ {y : Bool} (e : x ≡ true) (ey : y ≡ delim_after (tokens_of tape area (take (length line - 3) (drop 3 line)))) where
+        after_is : y ≡ delim_after (tokens_of tape area (drop 3 line))
+        after_is = rw take_rest at ey
+
+        pub next_shut : y ≡ false → number_token none ≡ fold_next edition before (tokens_of tape area line)
         unfolding let_some◌else◌then◌
-        next_shut f = rw (three next h) (folded_shut edition _ _ _ before _ (sym ex ∙ e) (sym ey ∙ f))
+        next_shut f = folded-words (folded_shut edition _ _ _ before _ (sym ex ∙ e) (sym after_is ∙ f))
 
         pub next-sum : {o : Option ℤ} → y ≡ true
-            → o ≡ sum_of edition (token_of tape area (get_or line next 0)) (token_of tape area (get_or line (next + 1) 0)) (token_of tape area (get_or line (next + 2) 0))
-            → number_token o ≡ fold_next edition before (tokens_of tape area (drop next line))
-        next-sum f g = rw (three next h, g) (folded-sum edition _ _ _ before _ (sym ex ∙ e) (sym ey ∙ f))
-
--- a word of the rest of a line
-pub held_at : {tape area : Text} (next : ℕ) (line : List ℕ) → Holds tape area (drop next line) → (k : ℕ) → next ≤ k → k < length line → Points tape area (get_or line k 0)
-held_at next line h k low high =
-    let e : next + (k - next) ≡ k = omega arith in
-    rw (get_or-drop, e) at (h.at (k - next) (rw length-drop (omega arith)))
+            → o ≡ sum_of edition (token_of tape area (get_or line 0 0)) (token_of tape area (get_or line 1 0)) (token_of tape area (get_or line 2 0))
+            → number_token o ≡ fold_next edition before (tokens_of tape area line)
+        next-sum f g = folded-words (ap number_token g ∙ folded-sum edition _ _ _ before _ (sym ex ∙ e) (sym after_is ∙ f))

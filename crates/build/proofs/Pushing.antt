@@ -7,7 +7,7 @@ use mathlib.Core.Logic.{by_cases}
 use mathlib.Core.Path.{◌≡◌, refl, sym, ap, ◌∙◌}
 use mathlib.Core.Bool.{true, false}
 use mathlib.Core.List.{List, [], ◌∷◌, ◌++◌}
-use lib.Dec.{eqb}
+use lib.Dec.{eqb, ltb}
 use lib.ListN.{length, get_or}
 use lib.Seq.{slice, slice_empty}
 use borrow.Author.Tests.{eq-eqb, ne_eqb, ltb-true, eqb-true, lt-ltb, le-ltb}
@@ -25,7 +25,7 @@ use Rattle.build.proofs.Merging.{push_joined, push_added, push_first, pushes_one
 
 -- ---- the tests
 
-pub joined_here : (k : ℕ) → k ≡ Punct → true ≡ joinable k
+pub joined_here : (k : ℕ) → k ≡ Punct → eqb k Punct ≡ joinable k
 unfolding joinable ◌or◌
 joined_here k e = rw (eq-eqb k Punct e)
 
@@ -34,7 +34,7 @@ unfolding joinable ◌or◌
 joined_else k n = rw (ne_eqb k Punct n)
 
 module _ (kind : ℕ) (tokens : List ℕ) (from : ℕ) (at : Size) where
-  pub extends-not : at.tokens ≤ from → false ≡ extends kind tokens from at
+  pub extends-not : at.tokens ≤ from → ltb from at.tokens ≡ extends kind tokens from at
   unfolding extends ◌and◌
   extends-not h = rw (le-ltb from at.tokens h)
 

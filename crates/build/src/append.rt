@@ -7,7 +7,6 @@ ghost use Rattle.build.specs.State.{used, last_word, Room, Appends};
 
 use crate::used::Size;
 use lines::words;
-use text::copy_bytes;
 
 // Appends a token whose text is in the tape.
 fn add_word(w: u64, tokens: &mut [u64], size: Size) -> Size
@@ -18,9 +17,8 @@ fn add_word(w: u64, tokens: &mut [u64], size: Size) -> Size
     let n = size.tokens;
     tokens[n] = w;
     Size {
-        lines: size.lines,
         tokens: n + 1,
-        text: size.text,
+        ..size
     }
 }
 
@@ -32,12 +30,13 @@ pub fn add_text(kind: u64, s: &[u8], area: &mut [u8], tokens: &mut [u64], size: 
 {
     let n = size.tokens;
     let at = size.text;
-    copy_bytes(s, area, at);
+    let end = at + s.len();
+    area[at..end].copy_from_slice(s);
     tokens[n] = words::token_word(kind, words::IN_AREA, at, s.len());
     Size {
-        lines: size.lines,
         tokens: n + 1,
-        text: at + s.len(),
+        text: end,
+        ..size
     }
 }
 
@@ -52,18 +51,15 @@ pub fn extend_last(s: &[u8], area: &mut [u8], tokens: &mut [u64], size: Size) ->
     let n = size.tokens - 1;
     let at = size.text;
     let w = tokens[n];
-    copy_bytes(s, area, at);
+    let end = at + s.len();
+    area[at..end].copy_from_slice(s);
     tokens[n] = words::token_word(
         words::kind(w),
         words::IN_AREA,
         words::start(w),
         words::len(w) + s.len(),
     );
-    Size {
-        lines: size.lines,
-        tokens: n + 1,
-        text: at + s.len(),
-    }
+    Size { text: end, ..size }
 }
 
 // Appends a token of the old listing as it is: a text in the tape stays there.
@@ -80,13 +76,14 @@ pub fn keep<'a>(
         (token_of tape.now old.now w) (len_of w) area.new tokens.new result }
 {
     if words::buffer(w) == words::IN_TAPE {
-        return add_word(w, tokens, size);
+        add_word(w, tokens, size)
+    } else {
+        add_text(
+            words::kind(w),
+            words::text(tape, old, w),
+            area,
+            tokens,
+            size,
+        )
     }
-    add_text(
-        words::kind(w),
-        words::text(tape, old, w),
-        area,
-        tokens,
-        size,
-    )
 }

@@ -1,33 +1,30 @@
 // Numbers folded in place (`fold` of the Rust): `n + m` and `n - m` between plain delimiters, with a read and a write index. What a fold
 // makes is put at the end of the text in use, and looked at again.
 ghost use Rattle.std.specs.Prelude.{◌≡◌, ◌+◌, ◌≤◌, ◌<◌, length, take, drop};
+ghost use Rattle.reference.specs.Options.{option_of};
 ghost use Rattle.reference.specs.Control.{◌or◌};
 ghost use Rattle.reference.specs.Text.{bytes, ◌≟◌};
 ghost use Rattle.reference.specs.Numbers.{delim_before, delim_after};
 ghost use Rattle.lines.specs.Words.{token_of, tokens_of, Points, Holds};
-ghost use Rattle.numbers.specs.Reading.{meaning};
 ghost use Rattle.build.specs.Folding.{operated, sum_of, number_token, last_of, fold_next, Foldable, Stepped, Folded, signs_room};
 ghost use Rattle.build.specs.Folding.{FoldedLast};
 ghost use Rattle.build.specs.State.{line_now, Room, Built};
 
 use crate::used::Size;
 use lines::words;
-use numbers::{Number, put_number, read_number, wrapping_add, wrapping_sub};
+use numbers::{put_number, read_number, wrapping_add, wrapping_sub};
 
 // a + b or a - b, where both were read.
-fn operate(plus: bool, a: Number, b: Number) -> Number
-    ensures { meaning result ≡ operated plus (meaning a) (meaning b) }
+fn operate(plus: bool, a: Option<i64>, b: Option<i64>) -> Option<i64>
+    ensures { option_of result ≡ operated plus (option_of a) (option_of b) }
 {
-    let Number::Read(x) = a else {
-        return Number::Unread;
-    };
-    let Number::Read(y) = b else {
-        return Number::Unread;
-    };
-    if plus {
-        return Number::Read(wrapping_add(x, y));
-    }
-    Number::Read(wrapping_sub(x, y))
+    let x = a?;
+    let y = b?;
+    Some(if plus {
+        wrapping_add(x, y)
+    } else {
+        wrapping_sub(x, y)
+    })
 }
 
 // Whether a token between two numbers is an operator that folds.
@@ -45,20 +42,17 @@ fn sum_of<'a>(
     operator: u64,
     right: u64,
     edition: u8,
-) -> Number
+) -> Option<i64>
     requires { Points tape.now area.now left × Points tape.now area.now operator × Points tape.now area.now right }
-    ensures { meaning result ≡ sum_of edition (token_of tape.now area.now left)
+    ensures { option_of result ≡ sum_of edition (token_of tape.now area.now left)
         (token_of tape.now area.now operator) (token_of tape.now area.now right) }
 {
-    if words::kind(left) != words::NUMBER {
-        return Number::Unread;
-    }
-    if words::kind(right) != words::NUMBER {
-        return Number::Unread;
+    if words::kind(left) != words::NUMBER || words::kind(right) != words::NUMBER {
+        return None;
     }
     let sign = words::text(tape, area, operator);
     if !is_sign(sign) {
-        return Number::Unread;
+        return None;
     }
     operate(
         text::is_plus(sign),
@@ -67,59 +61,47 @@ fn sum_of<'a>(
     )
 }
 
-// Whether the first `kept` tokens end with a delimiter, or are none.
-fn delimited_before<'a>(tape: &'a [u8], area: &'a [u8], line: &'a [u64], kept: usize) -> bool
-    requires { (kept ≤ length line.now) × Holds tape.now area.now (take kept line.now) }
-    ensures { result ≡ delim_before (last_of (tokens_of tape.now area.now (take kept line.now))) }
+// Whether the tokens before a fold end with a delimiter, or are none.
+fn delimited_before<'a>(tape: &'a [u8], area: &'a [u8], before: &'a [u64]) -> bool
+    requires { Holds tape.now area.now before.now }
+    ensures { result ≡ delim_before (last_of (tokens_of tape.now area.now before.now)) }
 {
-    if kept == 0 {
-        return true;
+    match before.last() {
+        Some(w) => text::delimits_before(words::text(tape, area, *w)),
+        None => true,
     }
-    text::delimits_before(words::text(tape, area, line[kept - 1]))
 }
 
-// Whether the tokens from `at` on begin with a delimiter, or are none.
-fn delimited_after<'a>(tape: &'a [u8], area: &'a [u8], line: &'a [u64], at: usize) -> bool
-    requires { Holds tape.now area.now (drop at line.now) }
-    ensures { result ≡ delim_after (tokens_of tape.now area.now (drop at line.now)) }
+// Whether the tokens after a fold begin with a delimiter, or are none.
+fn delimited_after<'a>(tape: &'a [u8], area: &'a [u8], after: &'a [u64]) -> bool
+    requires { Holds tape.now area.now after.now }
+    ensures { result ≡ delim_after (tokens_of tape.now area.now after.now) }
 {
-    if line.len() <= at {
-        return true;
+    match after.first() {
+        Some(w) => text::delimits_after(words::text(tape, area, *w)),
+        None => true,
     }
-    text::delimits_after(words::text(tape, area, line[at]))
 }
 
-// What the three tokens from `next` on fold to, between plain delimiters; the first `kept` tokens stand before them.
+// What the first three tokens of the rest of a line fold to, between plain delimiters; `before` stands before them.
 fn fold_value<'a>(
     tape: &'a [u8],
     area: &'a [u8],
-    line: &'a [u64],
-    kept: usize,
-    next: usize,
+    before: &'a [u64],
+    rest: &'a [u64],
     edition: u8,
-) -> Number
-    requires { (kept ≤ length line.now) × (next ≤ length line.now) × Holds tape.now area.now (take kept line.now)
-        × Holds tape.now area.now (drop next line.now) }
-    ensures { number_token (meaning result) ≡ fold_next edition (last_of (tokens_of tape.now area.now (take kept line.now)))
-        (tokens_of tape.now area.now (drop next line.now)) }
+) -> Option<i64>
+    requires { Holds tape.now area.now before.now × Holds tape.now area.now rest.now }
+    ensures { number_token (option_of result) ≡ fold_next edition (last_of (tokens_of tape.now area.now before.now))
+        (tokens_of tape.now area.now rest.now) }
 {
-    if line.len() - next < 3 {
-        return Number::Unread;
+    let [left, operator, right, after @ ..] = rest else {
+        return None;
+    };
+    if !delimited_before(tape, area, before) || !delimited_after(tape, area, after) {
+        return None;
     }
-    if !delimited_before(tape, area, line, kept) {
-        return Number::Unread;
-    }
-    if !delimited_after(tape, area, line, next + 3) {
-        return Number::Unread;
-    }
-    sum_of(
-        tape,
-        area,
-        line[next],
-        line[next + 1],
-        line[next + 2],
-        edition,
-    )
+    sum_of(tape, area, *left, *operator, *right, edition)
 }
 
 // How far the folding of a line has come: its first `kept` words are done, those from `next` on are still to be seen; `text` is the text in
@@ -136,26 +118,29 @@ fn fold_step(tape: &[u8], area: &mut [u8], line: &mut [u64], f: Folding, edition
     requires { Foldable tape.now area.old line.old f × (f.next < length line.old) }
     ensures { Stepped edition tape.now area.old line.old f area.new line.new result }
 {
-    let kept = f.kept;
-    let next = f.next;
-    let at = f.text;
-    match fold_value(tape, area, line, kept, next, edition) {
-        Number::Read(v) => {
+    let Folding {
+        kept,
+        next,
+        text: at,
+    } = f;
+    let seen = &line[..];
+    match fold_value(tape, area, &seen[..kept], &seen[next..], edition) {
+        Some(v) => {
             let end = put_number(v, area, at);
             let to = next + 2;
             line[to] = words::token_word(words::NUMBER, words::IN_AREA, at, end - at);
             Folding {
-                kept,
                 next: to,
                 text: end,
+                ..f
             }
         }
-        Number::Unread => {
+        None => {
             line[kept] = line[next];
             Folding {
                 kept: kept + 1,
                 next: next + 1,
-                text: at,
+                ..f
             }
         }
     }
@@ -171,6 +156,7 @@ fn fold(tape: &[u8], area: &mut [u8], line: &mut [u64], text: usize, edition: u8
         next: 0,
         text,
     };
+    // Kept: a step goes one word or two on, and what it makes is read again.
     while f.next < line.len() {
         f = fold_step(tape, area, line, f, edition);
     }

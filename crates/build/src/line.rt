@@ -26,10 +26,8 @@ fn keep_tokens<'a>(
         (text_in (tokens_of tape.now old.now line.now)) (length line.now) area.new tokens.new result }
 {
     let mut s = size;
-    let mut k = 0;
-    while k < line.len() {
-        s = keep(tape, old, line[k], area, tokens, s);
-        k += 1;
+    for w in line {
+        s = keep(tape, old, *w, area, tokens, s);
     }
     s
 }

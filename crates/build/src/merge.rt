@@ -20,10 +20,7 @@ use lines::words;
 fn is_joined(kind: u64) -> bool
     ensures { result ≡ joinable kind }
 {
-    if kind == words::PUNCT {
-        return true;
-    }
-    kind == words::PLAIN
+    kind == words::PUNCT || kind == words::PLAIN
 }
 
 // Whether a token of this kind is joined to the last token of the line that began at `from`.
@@ -32,10 +29,7 @@ fn extends(kind: u64, tokens: &[u64], from: usize, size: Size) -> bool
     ensures { result ≡ state.extends kind tokens.now from size }
 {
     let n = size.tokens;
-    if n <= from {
-        return false;
-    }
-    words::kind(tokens[n - 1]) == kind
+    from < n && words::kind(tokens[n - 1]) == kind
 }
 
 // Appends a Punct or a Text to the line that began at `from`.
@@ -53,9 +47,10 @@ fn push_text(
         (token kind s.now ∷ []) area.new tokens.new result }
 {
     if extends(kind, tokens, from, size) {
-        return extend_last(s, area, tokens, size);
+        extend_last(s, area, tokens, size)
+    } else {
+        add_text(kind, s, area, tokens, size)
     }
-    add_text(kind, s, area, tokens, size)
 }
 
 // Appends a token of the old listing to the line that began at `from`.
@@ -75,9 +70,10 @@ fn push<'a>(
 {
     let kind = words::kind(w);
     if is_joined(kind) {
-        return push_text(kind, words::text(tape, old, w), area, tokens, from, size);
+        push_text(kind, words::text(tape, old, w), area, tokens, from, size)
+    } else {
+        keep(tape, old, w, area, tokens, size)
     }
-    keep(tape, old, w, area, tokens, size)
 }
 
 // Appends the right side x of the old line `source`.
@@ -96,12 +92,9 @@ fn push_expr<'a>(
     ensures { Pushed tape.now area.old tokens.old from size (tokens_of tape.now old.now (expr_words source.now x))
         area.new tokens.new result }
 {
-    let n = x.count;
     let mut s = size;
-    let mut k = 0;
-    while k < n {
+    for k in 0..x.count {
         s = push(tape, old, expr_word(source, x, k), area, tokens, from, s);
-        k += 1;
     }
     s
 }
@@ -153,16 +146,18 @@ fn push_used<'a>(
     ensures { Pushed tape.now area.old tokens.old from size (used_as tape.now old.now source.now j
         (token_of tape.now old.now w)) area.new tokens.new result }
 {
-    let f = j.family;
-    let x = j.expr;
-    let brackets = j.brackets;
-    if !is_of(tape, old, w, f) {
-        return push(tape, old, w, area, tokens, from, size);
+    let Substitution {
+        family,
+        expr,
+        brackets,
+    } = j;
+    if !is_of(tape, old, w, family) {
+        push(tape, old, w, area, tokens, from, size)
+    } else if brackets {
+        push_bracketed(tape, old, source, expr, area, tokens, from, size)
+    } else {
+        push_expr(tape, old, source, expr, area, tokens, from, size)
     }
-    if brackets {
-        return push_bracketed(tape, old, source, x, area, tokens, from, size);
-    }
-    push_expr(tape, old, source, x, area, tokens, from, size)
 }
 
 // Appends the old line with the right side for each token of the family.
@@ -186,10 +181,8 @@ pub fn merge<'a>(
 {
     let from = size.tokens;
     let mut s = size;
-    let mut k = 0;
-    while k < line.len() {
-        s = push_used(tape, old, source, line[k], j, area, tokens, from, s);
-        k += 1;
+    for w in line {
+        s = push_used(tape, old, source, *w, j, area, tokens, from, s);
     }
     s
 }

@@ -17,22 +17,50 @@ use Rattle.reference.proofs.Reading.{Yes, passed_inj, ask-yes, let_refused, let_
 use Rattle.reference.proofs.Guarantee.{demand3-tape}
 use Rattle.straight.specs.Meaning.{Meaning}
 use Rattle.straight.proofs.Cleaning.{call-means}
-use Rattle.lines.specs.Shapes.{found}
-use Rattle.lines.specs.declared.shapes.Position.{Position}
-use Rattle.lines.specs.declared.shapes.Position.TheVariants.{At, Nothing}
 use Rattle.rounds.specs.Runs.{tally_of}
 use Rattle.tape.specs.Questions.{first_no, sizes_in, checked, AcceptedTape}
 use Rattle.tape.specs.declared.questions.Totals.{Totals}
-use Rattle.tape.specs.declared.questions.Checked.{Checked}
-use Rattle.tape.specs.declared.questions.Checked.TheVariants as Checks
 use Rattle.tape.proofs.questions.Reading.{accepted_by}
 use Rattle.tape.proofs.questions.Asking.{none_no, ask_number}
 use Rattle.clean.specs.Replies.{told_of, finished_report, report_of, Summary, summary_of, answer_of, summary, Leaves, Cleans, cleaned, outside}
 use Rattle.clean.specs.Cleaning.{Cleanable, Finishes}
 use Rattle.clean.specs.declared.cleaning.Finished.{Finished}
 use Rattle.clean.specs.declared.told.Told as Code
-use Rattle.clean.specs.declared.entry.Reply as C
-use Rattle.clean.specs.declared.entry.Reply.TheVariants as Said
+use Rattle.answers.specs.declared.Reason.{Reason}
+use Rattle.answers.specs.declared.Reason.TheVariants as reason
+use Rattle.answers.specs.declared.Refusal.{Refusal}
+use Rattle.answers.specs.Refusals.{number_of, refusing}
+use Rattle.std.specs.Prelude as std
+use Rattle.std.specs.Result.{MatchResult, IsErrAnd}
+use Rattle.std.specs.Prelude.{Some, None, Ok, Err, Result}
+use Rattle.reference.specs.Options.{option_of}
+
+-- no reason has the number 0
+number_above : (r : Reason) → number_of r ≡ 0 → ⊥
+number_above r = elim r as (λ x. number_of x ≡ 0 → ⊥) [
+  | reason.UnknownConvention ↦ λ e. omega arith
+  | reason.UnknownEdition ↦ λ e. omega arith
+  | reason.TooLittleRoom ↦ λ e. omega arith
+  | reason.NoCommand ↦ λ e. omega arith
+  | reason.CutOff ↦ λ e. omega arith
+  | reason.OutOfPlace ↦ λ e. omega arith
+  | reason.OutOfBounds ↦ λ e. omega arith
+  | reason.TooMany ↦ λ e. omega arith
+  | reason.TooMuchText ↦ λ e. omega arith
+  | reason.Unprintable ↦ λ e. omega arith
+  | reason.BytesAfterEnd ↦ λ e. omega arith
+  | reason.NewKeyword ↦ λ e. omega arith
+  | reason.UnreadNumber ↦ λ e. omega arith
+  | reason.OutsideProfile ↦ λ e. omega arith
+  | reason.NoStartValue ↦ λ e. omega arith
+  | reason.NoRegister ↦ λ e. omega arith
+  | reason.TooManyLines ↦ λ e. omega arith
+  | reason.OutOfReach ↦ λ e. omega arith
+  | reason.NoBase ↦ λ e. omega arith
+  | reason.NotHeld ↦ λ e. omega arith
+  | reason.StoreFull ↦ λ e. omega arith
+  | reason.BrokenCell ↦ λ e. omega arith
+]
 
 -- the report of a summary
 abbrev report_with : Summary → Report
@@ -56,7 +84,7 @@ abbrev door : Rules → ℕ → ℕ → ℕ → List (ℕ × Bool)
 door rules work_a work_b output = (1, is_convention rules) ∷ (9, is_edition rules) ∷ (2, has_room work_a work_b output) ∷ []
 
 -- what a call does is said of any reply that is the same
-pub same_reply : {rules : Rules} {tape work_a work_b out work-a' work-b' out' : List ℕ} {r s : C.Reply} → r ≡ s
+pub same_reply : {rules : Rules} {tape work_a work_b out work-a' work-b' out' : List ℕ} {r s : Result Finished Refusal} → r ≡ s
     → Cleans rules tape work_a work_b out work-a' work-b' out' (report_of r) → Cleans rules tape work_a work_b out work-a' work-b' out' (report_of s)
 same_reply e h = rw e at h
 
@@ -76,7 +104,7 @@ module _ (rules : Rules) (tape work_a work_b out : List ℕ) where
   answer = reply rules tape (length work_a) (length work_b) (length out)
 
   -- what `clean` promises of its answer
-  abbrev Promise : List ℕ → List ℕ → List ℕ → C.Reply → Type 0
+  abbrev Promise : List ℕ → List ℕ → List ℕ → Result Finished Refusal → Type 0
   Promise work-a' work-b' out' r = Cleans rules tape work_a work_b out work-a' work-b' out' (report_of r) × (answer_of r ≡ summary answer)
 
   -- M-106: what is returned is the same
@@ -85,9 +113,9 @@ module _ (rules : Rules) (tape work_a work_b out : List ℕ) where
       let m = call-means rules on tape (length work_a) (length work_b) (length out) c e in
       subst (Meaning rules) (passed_inj (sym m.1 ∙ r)) m.3
 
-  refused : {n p : ℕ} → answer ≡ Refused n p → Promise work_a work_b out (Said.Refused n p)
+  refused : (r : Refusal) → answer ≡ Refused (number_of r.reason) r.place → Promise work_a work_b out (Err r)
   unfolding report output_after work_after
-  refused e = (
+  refused r e = (
     record {
       leaves = rw e (record { report_is = refl; output_is = refl; work_a_is = refl; work_b_is = refl });
       demand3 = demand3-tape rules tape;
@@ -96,41 +124,49 @@ module _ (rules : Rules) (tape work_a work_b out : List ℕ) where
     rw e refl,
   )
 
-  module _ {n : ℕ} (e : n ≡ first_no (door rules (length work_a) (length work_b) (length out))) where
-    -- question 1, 9 or 2 refuses the call
-    pub refused_at_door : (n ≡ 0 → ⊥) → Promise work_a work_b out (Said.Refused n 0)
-    unfolding reply_by
-    refused_at_door z = refused (ask_number (λ number. 0) (door rules (length work_a) (length work_b) (length out)) _ z (sym e))
+  -- question 1, 9 or 2 refuses the call
+  refused_at_door : (r : Reason) → number_of r ≡ first_no (door rules (length work_a) (length work_b) (length out)) → Promise work_a work_b out (Err (record { reason = r; place = 0 }))
+  unfolding reply_by
+  refused_at_door r e =
+      refused (record { reason = r; place = 0 })
+      (ask_number (λ number. 0) (door rules (length work_a) (length work_b) (length out)) _ (number_above r) (sym e))
 
-    module _ (z : n ≡ 0) where
+  -- of what `map_err` and `?` make of its answer
+  pub refused_early : {A : Type 0} (o : Result A Reason) → refusing o ≡ first_no (door rules (length work_a) (length work_b) (length out)) → {m : Result A Refusal}
+      → MatchResult o (λ a. m ≡ Ok a) (λ r. IsErrAnd m (λ x. x ≡ record { reason = r; place = 0 })) → (x : Refusal) → m ≡ Err x → Promise work_a work_b out (Err x)
+  refused_early (Ok a) e h x is = cc
+  refused_early (Err r) e h x is = let same : x ≡ record { reason = r; place = 0 } = rw is at h in rw same (refused_at_door r e)
+
+  module _ {A : Type 0} {o : Result A Reason} (e : refusing o ≡ first_no (door rules (length work_a) (length work_b) (length out))) where
+    module _ {a : A} (z : o ≡ Ok a) where
       open_door : Yes (door rules (length work_a) (length work_b) (length out))
-      open_door = none_no _ (omega arith, (omega arith, (omega arith, tt))) (sym e ∙ z)
+      open_door = none_no _ (omega arith, (omega arith, (omega arith, tt))) (sym e ∙ ap refusing z)
 
       answer_is : answer ≡ (let_passed (read tape) then λ lines. ask_profile rules lines (cleaned rules tape lines))
       unfolding reply_by
       answer_is = ask-yes (λ number. 0) (door rules (length work_a) (length work_b) (length out)) _ open_door
 
       -- a later question refuses the tape
-      pub refused_on_tape : {number place : ℕ} → read tape ≡ Refused number place → Promise work_a work_b out (Said.Refused number place)
-      refused_on_tape r = refused (answer_is ∙ let_refused _ r)
+      pub refused_on_tape : (r : Refusal) → read tape ≡ Refused (number_of r.reason) r.place → Promise work_a work_b out (Err r)
+      refused_on_tape r is = refused r (answer_is ∙ let_refused _ is)
 
       -- the profile does
-      asked : (r : Position) (input : Listing) → found r ≡ outside rules input → ask_profile rules input (cleaned rules tape input)
-          ≡ (let_some (found r) else cleaned rules tape input then λ n. Refused 14 n)
+      asked : (r : std.Option ℕ) (input : Listing) → option_of r ≡ outside rules input → ask_profile rules input (cleaned rules tape input)
+          ≡ (let_some (option_of r) else cleaned rules tape input then λ n. Refused 14 n)
       unfolding ask_profile let_some◌else◌then◌
       asked r input o = go rules.profile refl
         where
           go : (b : Bool) → rules.profile ≡ b
               → (when rules.profile then (let_some (breaks input) else cleaned rules tape input then λ n. Refused 14 n) else cleaned rules tape input)
-              ≡ (let_some (found r) else cleaned rules tape input then λ n. Refused 14 n)
+              ≡ (let_some (option_of r) else cleaned rules tape input then λ n. Refused 14 n)
           go true e = unfold when◌then◌else◌ in rw (o, e) refl
           go false e = unfold when◌then◌else◌ in rw (o, e) refl
 
-      pub refused_in_profile : (a : AcceptedTape tape) (r : Position) → ((input : Listing) → read tape ≡ Passed input → found r ≡ outside rules input)
-          → (n : ℕ) → r ≡ At n → Promise work_a work_b out (Said.Refused 14 n)
+      pub refused_in_profile : (a : AcceptedTape tape) (r : std.Option ℕ) → ((input : Listing) → read tape ≡ Passed input → option_of r ≡ outside rules input)
+          → (n : ℕ) → r ≡ Some n → Promise work_a work_b out (Err (record { reason = reason.OutsideProfile; place = n }))
       unfolding let_some◌else◌then◌
       refused_in_profile a r o n e =
-          refused (answer_is ∙ let_is _ a.reads ∙ asked r a.listing (o a.listing a.reads) ∙ rw e refl)
+          refused (record { reason = reason.OutsideProfile; place = n }) (answer_is ∙ let_is _ a.reads ∙ asked r a.listing (o a.listing a.reads) ∙ rw e refl)
 
       -- none does
       pub cleanable : AcceptedTape tape → Cleanable tape work_a work_b out
@@ -144,10 +180,10 @@ module _ (rules : Rules) (tape work_a work_b out : List ℕ) where
             room = leb-true _ _ (both room.1).1;
           }
 
-      pub finished-call : (a : AcceptedTape tape) (r : Position) → ((input : Listing) → read tape ≡ Passed input → found r ≡ outside rules input) → r ≡ Nothing
+      pub finished-call : (a : AcceptedTape tape) (r : std.Option ℕ) → ((input : Listing) → read tape ≡ Passed input → option_of r ≡ outside rules input) → r ≡ None
           → {work-a' work-b' out' : List ℕ} {f : Finished}
           → Finishes (cleaned rules tape a.listing) work_a work_b out work-a' work-b' out' f
-          → Promise work-a' work-b' out' (Said.Finished f)
+          → Promise work-a' work-b' out' (Ok f)
       finished-call a r o n {f = f} l =
           let e : answer ≡ cleaned rules tape a.listing = answer_is ∙ let_is _ a.reads ∙ asked r a.listing (o a.listing a.reads) ∙ fits in
           let leaves : Leaves (cleaned rules tape a.listing) work_a work_b out _ _ _ _ =
@@ -159,27 +195,27 @@ module _ (rules : Rules) (tape work_a work_b out : List ℕ) where
           } in
           (record { leaves = rw e leaves; demand3 = demand3-tape rules tape; means = same_meaning }, rw e l.summary_is)
         where
-          fits : (let_some (found r) else cleaned rules tape a.listing then λ n. Refused 14 n) ≡ cleaned rules tape a.listing
+          fits : (let_some (option_of r) else cleaned rules tape a.listing then λ n. Refused 14 n) ≡ cleaned rules tape a.listing
           fits = unfold let_some◌else◌then◌ in rw n refl
 
 -- ---- the same, from the answers of `check` and `outside_profile`
 
-module _ (tape : List ℕ) (k : Checked) (ek : checked k ≡ (let_passed (read tape) then λ lines. Passed (sizes_in lines))) where
-  pub accepted-now : (t : Totals) → k ≡ Checks.Passed t → AcceptedTape tape
+module _ (tape : List ℕ) (k : Result Totals Refusal) (ek : checked k ≡ (let_passed (read tape) then λ lines. Passed (sizes_in lines))) where
+  pub accepted-now : (t : Totals) → k ≡ Ok t → AcceptedTape tape
   accepted-now t e = accepted_by tape (sym (ap checked e) ∙ ek)
 
-  module _ (t : Totals) (e : k ≡ Checks.Passed t) (rules : Rules) (work_a work_b out : List ℕ) {n : ℕ}
-      (en : n ≡ first_no (door rules (length work_a) (length work_b) (length out))) (z : n ≡ 0) where
+  module _ (t : Totals) (e : k ≡ Ok t) (rules : Rules) (work_a work_b out : List ℕ) {A : Type 0} {d : Result A Reason}
+      (en : refusing d ≡ first_no (door rules (length work_a) (length work_b) (length out))) {a : A} (z : d ≡ Ok a) where
     pub cleanable_now : Cleanable tape work_a work_b out
     cleanable_now = cleanable rules tape work_a work_b out en z (accepted-now t e)
 
-    module _ (r : Position) (o : (input : Listing) → read tape ≡ Passed input → found r ≡ outside rules input) where
-      pub refused_now : (line : ℕ) → r ≡ At line → Promise rules tape work_a work_b out work_a work_b out (Said.Refused 14 line)
+    module _ (r : std.Option ℕ) (o : (input : Listing) → read tape ≡ Passed input → option_of r ≡ outside rules input) where
+      pub refused_now : (line : ℕ) → r ≡ Some line → Promise rules tape work_a work_b out work_a work_b out (Err (record { reason = reason.OutsideProfile; place = line }))
       refused_now line er = refused_in_profile rules tape work_a work_b out en z (accepted-now t e) r o line er
 
-      pub finished-now : r ≡ Nothing → (work-a' work-b' out' : List ℕ) (f : Finished)
+      pub finished-now : r ≡ None → (work-a' work-b' out' : List ℕ) (f : Finished)
           → ((input : Listing) → read tape ≡ Passed input → Finishes (cleaned rules tape input) work_a work_b out work-a' work-b' out' f)
-          → Promise rules tape work_a work_b out work-a' work-b' out' (Said.Finished f)
+          → Promise rules tape work_a work_b out work-a' work-b' out' (Ok f)
       finished-now er work-a' work-b' out' f h =
           let a = accepted-now t e in
           finished-call rules tape work_a work_b out en z a r o er (h a.listing a.reads)

@@ -2,11 +2,11 @@
 -- the reply's; and a work area that was worked in and wiped. Assumes nothing.
 use Prim.Native.Nat.{ℕ, suc, ◌≤◌, ◌<◌, ◌+◌, zero-le}
 use native.Mathlib.Omega.{arith}
-use native.Mathlib.Nat.{le_trans, min-le_left}
+use native.Mathlib.Nat.{le_trans}
 use mathlib.Core.Path.{◌≡◌, refl, sym, ap, ◌∙◌}
 use mathlib.Core.List.{List, [], ◌∷◌, ◌++◌, map}
-use lib.ListN.{length, drop, take, get_or, length-map, length-take, replicate}
-use lib.Seq.{length-take-le, get_or-take, drop_at}
+use lib.ListN.{length, drop, take, get_or, length-map, replicate}
+use lib.Seq.{length-take-le, get_or-take, take_at, drop_at}
 use Rattle.reference.specs.Text.{Text}
 use Rattle.reference.specs.Listing.{Token, Listing}
 use Rattle.reference.specs.Rules.{Rules}
@@ -71,14 +71,6 @@ bare-limits {lines} l =
 all_mapped : (P : ℕ → Type 0) (f : ℕ → ℕ) (xs : List ℕ) → ((i : ℕ) → i < length xs → P (f (get_or xs i 0))) → All P (map f xs)
 all_mapped P f [] h = tt
 all_mapped P f (x ∷ xs) h = (h 0 (omega arith), all_mapped P f xs (λ i b. h (suc i) (omega arith)))
-
--- a front of a table of 256 words
-pub take-few : {n : ℕ} (xs : List ℕ) → n ≤ length xs → length xs ≡ 256 → length (take n xs) ≤ 256
-take-few {n} xs h e = simp length-take (omega (arith, min-le_left n (length xs)))
-
--- the code's table of 2048 token words
-pub enough-words : 1024 ≤ 2048
-enough-words = omega arith
 
 -- nothing stands in the area yet
 abbrev start : Totals → Size
@@ -169,16 +161,15 @@ module _ {tape tokens lines addresses : List ℕ} {t : Totals} (l : Loaded tape 
 
 -- n bytes at its front are worked in, and wiped
 module _ (work : List ℕ) (h : WORK ≤ length work) {n : ℕ} (u : n ≡ WORK) where
-  pub front_length : length (take n work) ≡ n
+  front_length : length (take n work) ≡ n
   front_length = length-take-le n work (omega arith)
 
-  pub front_fits : WORK ≤ length (take n work)
-  front_fits = omega (arith, front_length)
+  pub front_long : (front : List ℕ) → length front ≡ length (take n work) → length (take n (front ++ drop n work)) ≡ n
+  front_long front k = rw (take_at front (drop n work) n (k ∙ front_length)) (k ∙ front_length)
 
-  pub wiped : (front : List ℕ) → length front ≡ length (take n work)
-      → (c : Cleaned) {work' : List ℕ} → work' ≡ replicate n 0 ++ drop n (front ++ drop n work) → work' ≡ work_after (Passed c) work
+  pub wiped : (front : List ℕ) → length front ≡ length (take n work) → (c : Cleaned) {zeros : List ℕ}
+      → zeros ≡ replicate (length (take n (front ++ drop n work))) 0 → zeros ++ drop n (front ++ drop n work) ≡ work_after (Passed c) work
   unfolding work_after
   wiped front k c e =
-      e
-      ∙ ap (λ (s : List ℕ). replicate n 0 ++ s) (drop_at front (drop n work) n (k ∙ front_length))
-      ∙ ap (λ (i : ℕ). replicate i 0 ++ drop i work) u
+      rw (e, take_at front (drop n work) n (k ∙ front_length), drop_at front (drop n work) n (k ∙ front_length), k, front_length)
+      (ap (λ (i : ℕ). replicate i 0 ++ drop i work) u)

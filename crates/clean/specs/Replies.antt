@@ -1,5 +1,5 @@
 -- What the code's replies mean, and what a call promises. Assumes nothing.
-use Rattle.std.specs.Prelude.{ℕ, ◌≡◌, true, List, length}
+use Rattle.std.specs.Prelude.{ℕ, ◌≡◌, true, List, length, Result, Ok, Err}
 use Rattle.std.proofs.Math.Option.{Option, none}
 use Rattle.reference.specs.Control.{when◌then◌else◌}
 use Rattle.reference.specs.Rules.{Rules}
@@ -16,8 +16,8 @@ use Rattle.straight.specs.Meaning.{Meaning}
 use Rattle.rounds.specs.Runs.{tally_of}
 use Rattle.clean.specs.declared.told.Told.{Told}
 use Rattle.clean.specs.declared.cleaning.Finished.{Finished}
-use Rattle.clean.specs.declared.entry.Reply.{Reply}
-use Rattle.clean.specs.declared.entry.Reply.TheVariants.{Refused, Finished as Done}
+use Rattle.answers.specs.declared.Refusal.{Refusal}
+use Rattle.answers.specs.Refusals.{number_of, answered}
 
 -- ---- the reply in numbers
 
@@ -35,9 +35,9 @@ finished_report f =
       cut = f.cut;
     }
 
-abbrev pub report_of : Reply → R.Report
-report_of (Refused number place) = record { refusal = number; place = place; length = 0; told = R.told (three 0 0 0); removed = 0; cut = 0 }
-report_of (Done f) = finished_report f
+abbrev pub report_of : Result Finished Refusal → R.Report
+report_of (Err r) = record { refusal = number_of r.reason; place = r.place; length = 0; told = R.told (three 0 0 0); removed = 0; cut = 0 }
+report_of (Ok f) = finished_report f
 
 -- ---- the reply as the definition's answer: which of the two it is, and its numbers
 
@@ -52,9 +52,8 @@ summary_of f =
       counts = record { tally = tally_of f.tally; lines_removed = f.removed; results_cut = f.cut };
     }
 
-abbrev pub answer_of : Reply → Answer Summary
-answer_of (Refused number place) = Q.Refused number place
-answer_of (Done f) = Q.Passed (summary_of f)
+abbrev pub answer_of : Result Finished Refusal → Answer Summary
+answer_of = answered summary_of
 
 abbrev pub summary : R.Reply → Answer Summary
 summary (Q.Refused number place) = Q.Refused number place

@@ -1,20 +1,19 @@
 // The question of the profile (request M-106), asked once the tape is read, where the profile is asked for.
 ghost use Rattle.std.specs.Prelude.{◌≡◌};
+ghost use Rattle.reference.specs.Options.{option_of};
 ghost use Rattle.reference.specs.Listing.{Listing};
 ghost use Rattle.reference.specs.Questions.{Passed, read};
 ghost use Rattle.reference.specs.Straight.{breaks};
 ghost use Rattle.lines.specs.Rules.{rules_of};
-ghost use Rattle.lines.specs.Shapes.{found};
 ghost use Rattle.tape.specs.Questions.{AcceptedTape};
 ghost use Rattle.clean.specs.Replies.{outside};
 
 use lines::rules::Rules;
-use lines::shapes::Position;
 
 // The first line that breaks the profile. The tables are this function's own, so a call without the profile has no part in them.
-fn broken(tape: &[u8]) -> Position
+fn broken(tape: &[u8]) -> Option<usize>
     requires { AcceptedTape tape.now }
-    ensures { (input : Listing) → read tape.now ≡ Passed input → found result ≡ breaks input }
+    ensures { (input : Listing) → read tape.now ≡ Passed input → option_of result ≡ breaks input }
 {
     let mut tokens = [0u64; 1024];
     let mut lines = [0u64; 256];
@@ -29,18 +28,13 @@ fn broken(tape: &[u8]) -> Position
         &mut lows,
         &mut highs,
     );
-    let n = loaded.lines;
-    let used = loaded.tokens;
-    formula::breaks(tape, &tokens[..used], &lines[..n])
+    formula::breaks(tape, &tokens[..loaded.tokens], &lines[..loaded.lines])
 }
 
 // The first line that breaks the profile, where the profile is asked for.
-pub fn outside_profile(rules: Rules, tape: &[u8]) -> Position
+pub fn outside_profile(rules: Rules, tape: &[u8]) -> Option<usize>
     requires { AcceptedTape tape.now }
-    ensures { (input : Listing) → read tape.now ≡ Passed input → found result ≡ outside (rules_of rules) input }
+    ensures { (input : Listing) → read tape.now ≡ Passed input → option_of result ≡ outside (rules_of rules) input }
 {
-    if !rules.profile {
-        return Position::Nothing;
-    }
-    broken(tape)
+    if rules.profile { broken(tape) } else { None }
 }

@@ -1,7 +1,7 @@
 // The cleaning of a tape that passed all questions.
 ghost use Rattle.std.specs.Prelude.{◌≡◌};
 ghost use Rattle.reference.specs.Listing.{Listing};
-ghost use Rattle.reference.specs.Questions.{WORK, Passed, read};
+ghost use Rattle.reference.specs.Questions.{Passed, read};
 ghost use Rattle.lines.specs.Rules.{rules_of};
 ghost use Rattle.rounds.specs.Runs.{Ran};
 ghost use Rattle.clean.specs.Replies.{cleaned};
@@ -10,7 +10,6 @@ ghost use Rattle.clean.specs.Cleaning.{Loadable, Writable, ReplyWritten, Cleanab
 use build::used::Size;
 use lines::rules::Rules;
 use rounds::{Outcome, Tally, optimize};
-use text::wipe;
 
 // What a cleaning did: the output's length, what is told of the rounds, the lines removed and the results cut.
 #[derive(Clone, Copy)]
@@ -93,10 +92,11 @@ fn written(rules: Rules, tape: &[u8], area: &mut [u8], area2: &mut [u8], out: &m
         size,
         rules,
     );
-    let left = r.size;
-    let n = left.lines;
-    let used = left.tokens;
-    let text = left.text;
+    let Size {
+        lines: n,
+        tokens: used,
+        text,
+    } = r.size;
     let length = tables::write(
         tape,
         &area[..text],
@@ -107,22 +107,16 @@ fn written(rules: Rules, tape: &[u8], area: &mut [u8], area2: &mut [u8], out: &m
         &highs,
         out,
     );
-    let tally = r.tally;
     Finished {
         length,
-        tally,
+        tally: r.tally,
         removed: r.removed,
         cut: r.cut,
     }
 }
 
-// How many bytes of each work area are used, and are zero afterwards. It is a function and no constant: a proof then has the number as an
-// equation, and no check counts up to it.
-fn work_bytes() -> usize
-    ensures { result ≡ WORK }
-{
-    49152
-}
+// How many bytes of each work area are used, and are zero afterwards.
+const WORK_BYTES: usize = 49152;
 
 // Cleans a tape that passed all questions, and wipes both work areas.
 pub fn finish(
@@ -136,9 +130,14 @@ pub fn finish(
     ensures { (input : Listing) → read tape.now ≡ Passed input → Finishes (cleaned (rules_of rules) tape.now input)
         work_a.old work_b.old out.old work_a.new work_b.new out.new result }
 {
-    let size = work_bytes();
-    let r = written(rules, tape, &mut work_a[..size], &mut work_b[..size], out);
-    wipe(work_a, size);
-    wipe(work_b, size);
+    let r = written(
+        rules,
+        tape,
+        &mut work_a[..WORK_BYTES],
+        &mut work_b[..WORK_BYTES],
+        out,
+    );
+    work_a[..WORK_BYTES].fill(0);
+    work_b[..WORK_BYTES].fill(0);
     r
 }

@@ -6,16 +6,8 @@ ghost use Rattle.clean.specs.Replies.{report_of, answer_of, summary, Cleans};
 
 use crate::asking::outside_profile;
 use crate::cleaning::{Finished, finish};
+use answers::{Reason, Refusal};
 use lines::rules::Rules;
-use lines::shapes::Position;
-use tape::questions::Checked;
-
-// The answer: a question's number and place, or what the cleaning did.
-#[derive(Clone, Copy)]
-pub enum Reply {
-    Refused { number: u64, place: usize },
-    Finished(Finished),
-}
 
 // Cleans the listing of a tape under the settings: in at most three rounds or, where it is to settle, in as many as it takes. A refusal
 // changes nothing that was lent; otherwise the output is the new tape, and the first 49,152 bytes of both work areas are zero afterwards.
@@ -25,24 +17,16 @@ pub fn clean(
     work_a: &mut [u8],
     work_b: &mut [u8],
     out: &mut [u8],
-) -> Reply
+) -> Result<Finished, Refusal>
     ensures cleans { Cleans (rules_of rules) tape.now work_a.old work_b.old out.old work_a.new
         work_b.new out.new (report_of result) }
     ensures result_value { answer_of result ≡ summary (reply (rules_of rules) tape.now
         (length work_a.old) (length work_b.old) (length out.old)) }
 {
-    let number = tape::asked(rules, work_a.len(), work_b.len(), out.len());
-    if number != 0 {
-        return Reply::Refused { number, place: 0 };
-    }
-    match tape::check(tape) {
-        Checked::Refused { number, place } => Reply::Refused { number, place },
-        Checked::Passed(_) => match outside_profile(rules, tape) {
-            Position::At(line) => Reply::Refused {
-                number: 14,
-                place: line,
-            },
-            Position::Nothing => Reply::Finished(finish(rules, tape, work_a, work_b, out)),
-        },
+    tape::asked(rules, work_a.len(), work_b.len(), out.len()).map_err(|reason| reason.at(0))?;
+    tape::check::<false>(tape)?;
+    match outside_profile(rules, tape) {
+        Some(line) => Err(Reason::OutsideProfile.at(line)),
+        None => Ok(finish(rules, tape, work_a, work_b, out)),
     }
 }

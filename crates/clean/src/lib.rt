@@ -6,6 +6,7 @@ mod cleaning; // the whole cleaning of an accepted tape
 mod entry; // the questions, then the cleaning
 mod told; // what is told of the rounds, in numbers
 
-pub use entry::{Reply, clean};
+pub use cleaning::Finished;
+pub use entry::clean;
 pub use rounds::Tally;
-pub use told::{Told, tell};
+pub use told::Told;

@@ -1,13 +1,8 @@
 // What is told of the rounds, in numbers.
-ghost use Rattle.std.specs.Prelude.{◌≡◌};
-ghost use Rattle.reference.specs.Reply as R;
-ghost use Rattle.rounds.specs.Runs.{tally_of};
-ghost use Rattle.clean.specs.Replies.{told_of};
-
 use rounds::Tally;
 
 // The attempts of each of three rounds, or the number of rounds and the attempts in all: the numbers of the other setting are 0.
-#[derive(Clone, Copy)]
+#[derive(Clone, Copy, Default)]
 pub struct Told {
     pub first: u64,
     pub second: u64,
@@ -16,27 +11,32 @@ pub struct Told {
     pub attempts: u64,
 }
 
-pub fn tell(tally: Tally) -> Told
-    ensures { told_of result ≡ R.told (tally_of tally) }
-{
-    match tally {
-        Tally::Three {
-            first,
-            second,
-            third,
-        } => Told {
-            first,
-            second,
-            third,
-            rounds: 0,
-            attempts: 0,
-        },
-        Tally::Settled { rounds, attempts } => Told {
-            first: 0,
-            second: 0,
-            third: 0,
-            rounds,
-            attempts,
-        },
+impl From<Tally> for Told {
+    ghost use Rattle.std.specs.Prelude.{◌≡◌};
+    ghost use Rattle.reference.specs.Reply as R;
+    ghost use Rattle.rounds.specs.Runs.{tally_of};
+    ghost use Rattle.clean.specs.Replies.{told_of};
+
+    ghost from_gives = { λ tally t. told_of t ≡ R.told (tally_of tally) };
+
+    #[tactic(auto, unfolding(reference::specs::Reply::told))]
+    fn from(tally: Tally) -> Told {
+        match tally {
+            Tally::Three {
+                first,
+                second,
+                third,
+            } => Told {
+                first,
+                second,
+                third,
+                ..Told::default()
+            },
+            Tally::Settled { rounds, attempts } => Told {
+                rounds,
+                attempts,
+                ..Told::default()
+            },
+        }
     }
 }

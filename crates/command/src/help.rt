@@ -1,6 +1,6 @@
 // The help, and what is said of wrong use.
 use crate::files::{STDERR, STDOUT, tell};
-use arguments::Request;
+use arguments::{Fault, Problem, Verb};
 use words::nth_word;
 
 // The first lines of the help.
@@ -13,32 +13,51 @@ fn put_front(fd: i32) {
     );
 }
 
-// What is told of a verb, by its number.
-fn put_verb(fd: i32, verb: u64) {
-    let lines = nth_word(
-        b"\0\
-          \x20 clean [SETTINGS] [FILE..] [-o OUT | -d DIR]  the cleaned tapes\n\0\
-          \x20 counts [SETTINGS] [FILE..]                   what a cleaning did, in numbers\n\0\
-          \x20 check [FILE..]                               whether tapes are accepted\n\0\
-          \x20 show [FILE] [--exact]                        a tape as text\n\0\
-          \x20 tape [TEXT] [-o OUT]                         the tape of what show --exact printed\n\0\
-          \x20 addresses [FILE] [-o OUT]                    a tape by offset, with its addresses again\n\0\
-          \x20 edition 2018|2024 [FILE] [-o OUT]            a tape for that edition of C\n\0\
-          \x20 offsets BASE [FILE] [-o OUT]                 a tape by offset from a load address (hexadecimal)\n\0\
-          \x20 laborious N [-o OUT]                         the most laborious tape of N lines, 0 to 256\n\0\
-          \x20 state STORE list                             named states of a listing, eight at most, in the file STORE\n\
-          \x20 state STORE save NAME [FILE]                 under a name of 1 to 8 bytes; makes STORE where it is missing\n\
-          \x20 state STORE get NAME [-o OUT]\n\
-          \x20 state STORE delete NAME\n\0\
-          \x20 help [WORD]                                  this, or what is told of one word\n\0\
-          \x20 version                                      the version\n\0\
-          \0\
-          \x20 page [SETTINGS] [FILE] [-o OUT]              before and after side by side, one HTML page\n\0\
-          \x20 start --return V --choose REG [REG=V..] [FILE]\n\
-          \x20                                              the smallest start value of a register for which a formula returns V\n\0",
-        verb,
-    );
-    io::write_all(fd, lines);
+// What is told of a verb.
+fn lines_of(verb: Verb) -> &'static [u8] {
+    match verb {
+        Verb::Clean => { b"\x20 clean [SETTINGS] [FILE..] [-o OUT | -d DIR]  the cleaned tapes\n" }
+        Verb::Counts => {
+            b"\x20 counts [SETTINGS] [FILE..]                   what a cleaning did, in numbers\n"
+        }
+        Verb::Check => {
+            b"\x20 check [FILE..]                               whether tapes are accepted\n"
+        }
+        Verb::Show => { b"\x20 show [FILE] [--exact]                        a tape as text\n" }
+        Verb::Tape => {
+            b"\x20 tape [TEXT] [-o OUT]                         the tape of what show --exact printed\n"
+        }
+        Verb::Addresses => {
+            b"\x20 addresses [FILE] [-o OUT]                    a tape by offset, with its addresses again\n"
+        }
+        Verb::Edition => {
+            b"\x20 edition 2018|2024 [FILE] [-o OUT]            a tape for that edition of C\n"
+        }
+        Verb::Offsets => {
+            b"\x20 offsets BASE [FILE] [-o OUT]                 a tape by offset from a load address (hexadecimal)\n"
+        }
+        Verb::Laborious => {
+            b"\x20 laborious N [-o OUT]                         the most laborious tape of N lines, 0 to 256\n"
+        }
+        Verb::State => {
+            b"\x20 state STORE list                             named states of a listing, eight at most, in the file STORE\n\
+              \x20 state STORE save NAME [FILE]                 under a name of 1 to 8 bytes; makes STORE where it is missing\n\
+              \x20 state STORE get NAME [-o OUT]\n\
+              \x20 state STORE delete NAME\n"
+        }
+        Verb::Help => {
+            b"\x20 help [WORD]                                  this, or what is told of one word\n"
+        }
+        Verb::Version => { b"\x20 version                                      the version\n" }
+        Verb::VersionOption => b"",
+        Verb::Page => {
+            b"\x20 page [SETTINGS] [FILE] [-o OUT]              before and after side by side, one HTML page\n"
+        }
+        Verb::Start => {
+            b"\x20 start --return V --choose REG [REG=V..] [FILE]\n\
+              \x20                                              the smallest start value of a register for which a formula returns V\n"
+        }
+    }
 }
 
 // What every verb has in common.
@@ -60,73 +79,74 @@ fn put_rest() {
     );
 }
 
+// The verbs in the order of the help.
+const ORDER: [Verb; 14] = [
+    Verb::Clean,
+    Verb::Counts,
+    Verb::Page,
+    Verb::Start,
+    Verb::Check,
+    Verb::Show,
+    Verb::Tape,
+    Verb::Addresses,
+    Verb::Edition,
+    Verb::Offsets,
+    Verb::Laborious,
+    Verb::State,
+    Verb::Help,
+    Verb::Version,
+];
+
 // The whole help.
 fn help_all() {
     put_front(STDOUT);
-    put_verb(STDOUT, 1);
-    put_verb(STDOUT, 2);
-    put_verb(STDOUT, 14);
-    put_verb(STDOUT, 15);
-    let mut verb = 3;
-    while verb < 13 {
-        put_verb(STDOUT, verb);
-        verb += 1;
+    for verb in ORDER {
+        io::write_all(STDOUT, lines_of(verb));
     }
     put_rest();
 }
 
-// The help of a verb by its number; of any other the whole.
-pub(crate) fn help(verb: u64) {
-    if verb == 0 {
-        help_all();
-        return;
+// The help of a verb; without one, and of --version, the whole.
+pub(crate) fn help(verb: Option<Verb>) {
+    match verb {
+        None | Some(Verb::VersionOption) => help_all(),
+        Some(verb) => {
+            io::write_all(STDOUT, lines_of(verb));
+            put_rest();
+        }
     }
-    if verb == 13 {
-        help_all();
-        return;
-    }
-    if 15 < verb {
-        help_all();
-        return;
-    }
-    put_verb(STDOUT, verb);
-    put_rest();
 }
 
-// What is wrong with the words, in words, by the number of the fault (arguments, specs/Requests.antt).
-fn tell_fault(fault: u64) {
-    let words = nth_word(
-        b"\0\
-          is no word of puchkewa\0\
-          is no option here\0\
-          is no value of the option before it\0\
-          is a second place for the result\0\
-          is one word too many\0\
-          is not what must stand here\0\
-          a word is missing at the end\0\
-          the value of the last option is missing\0\
-          takes the result of one file only; -d takes several\0\
-          is a second value for the option before it\0\
-          --return and --choose must both be given\0\
-          is no REG=V with a value V of 64 bits\0",
-        fault,
-    );
-    tell(words);
+// What is wrong with the words, behind the word by which it is told.
+fn words_of(problem: Problem) -> &'static [u8] {
+    match problem {
+        Problem::NoVerb => b"no word says what to do",
+        Problem::UnknownVerb => b"is no word of puchkewa",
+        Problem::UnknownOption => b"is no option here",
+        Problem::BadValue => b"is no value of the option before it",
+        Problem::SecondDestination => b"is a second place for the result",
+        Problem::TooMany => b"is one word too many",
+        Problem::BadOperand => b"is not what must stand here",
+        Problem::TooFew => b"a word is missing at the end",
+        Problem::NoValue => b"the value of the last option is missing",
+        Problem::SeveralFiles => b"takes the result of one file only; -d takes several",
+        Problem::SecondValue => b"is a second value for the option before it",
+        Problem::Incomplete => b"--return and --choose must both be given",
+        Problem::BadEntry => b"is no REG=V with a value V of 64 bits",
+    }
 }
 
 // Wrong use: what is wrong, and the first lines of the help.
-pub(crate) fn tell_wrong(words: &[u8], s: Request) {
+pub(crate) fn tell_wrong(words: &[u8], verb: Option<Verb>, fault: Fault) {
     tell(b"puchkewa: ");
-    if s.fault_at != 0 {
-        tell(nth_word(words, s.fault_at - 1));
+    if let Some(k) = fault.word {
+        tell(nth_word(words, k));
         tell(b" ");
     }
-    if s.verb == 0 && s.fault_at == 0 {
-        tell(b"no word says what to do");
-    } else {
-        tell_fault(s.fault);
-    }
+    tell(words_of(fault.problem));
     tell(b"\n");
     put_front(STDERR);
-    put_verb(STDERR, s.verb);
+    if let Some(verb) = verb {
+        tell(lines_of(verb));
+    }
 }

@@ -1,96 +1,135 @@
-// The file that a page goes to: there whole or not at all (as in files.rt).
-use crate::files::{
-    NOTHING, create_new, front, is_stream, open_update, put_part_name, rename_to, tell, tell_name,
-    tell_unwritten, tell_write_error, unlink,
-};
-use std::fs::File;
-use std::io::{Error, ErrorKind};
+// The file that a result goes to: there whole or not at all. What is no regular file (a device, a pipe) is written to as it is; one that
+// may not be written is not replaced.
+use crate::files::{path_of, tell, tell_write_error};
+use std::alloc::AllocError;
+use std::fs::{File, OpenOptions, remove_file, rename};
+use std::io::{Error, ErrorKind, Seek, Write};
 use std::os::fd::AsRawFd;
+use std::random::RandomSource;
 
-// An open file: a new one beside the path, whose name has `part` bytes, or with 0 what the path itself names.
+// An open file: a new one beside the path, under the name `part`, or what the path itself names.
 #[derive(Drop)]
 pub(crate) struct Goal {
-    pub file: File,
-    pub part: usize,
+    file: File,
+    part: Option<String>,
 }
 
-// A new file beside the path. Its name is put into `name`. None where it cannot be made, which is told.
-fn open_beside(rt: &HostRuntime, path: &[u8], name: &mut [u8]) -> Option<Goal> {
-    let n = put_part_name(rt, path, name);
-    if n == NOTHING {
-        tell_name(path);
-        tell(b"the name is too long\n");
-        return None;
-    }
-    match create_new(rt, front(name, n)) {
-        Ok(file) => Some(Goal { file, part: n }),
-        Err(error) => {
-            tell_write_error(rt, path, &error);
-            None
-        }
-    }
+// A number that no other run is likely to have.
+fn chance(rt: &HostRuntime) -> u64 {
+    let mut bytes = [0u8; 8];
+    let _ = rt.fill_bytes(&mut bytes);
+    u64::from_le_bytes(bytes)
 }
 
-// Opens a path to be written; none where it cannot be, which is told. (As `write_file`.)
-pub(crate) fn open_goal(rt: &HostRuntime, path: &[u8], name: &mut [u8]) -> Option<Goal> {
-    match open_update(rt, path) {
-        Ok(mut file) => {
-            if is_stream(&mut file, path) {
-                return Some(Goal { file, part: 0 });
+// The name beside a path under which its new bytes are written first.
+fn part_name(rt: &HostRuntime, path: &str) -> Result<String, AllocError> {
+    let number = chance(rt);
+    format!(in rt.alloc(); "{path}.part{number}")
+}
+
+// A new file, which is there for nobody else.
+fn create_new(rt: &HostRuntime, path: &str) -> Result<File, Error> {
+    OpenOptions::new()
+        .write(true)
+        .create_new(true)
+        .open(rt, path)
+}
+
+// A file that is there, to be written from its first byte on.
+fn open_update(rt: &HostRuntime, path: &str) -> Result<File, Error> {
+    OpenOptions::new().read(true).write(true).open(rt, path)
+}
+
+// Whether what is open is no regular file: a device, a pipe.
+fn is_stream(file: &mut File, path: &str) -> bool {
+    path.starts_with("/dev/") || file.stream_position().is_err()
+}
+
+fn open_beside(rt: &HostRuntime, path: &str) -> Result<Goal, Error> {
+    let part = part_name(rt, path)?;
+    let file = create_new(rt, part.as_str())?;
+    Ok(Goal {
+        file,
+        part: Some(part),
+    })
+}
+
+impl Goal {
+    // Opens a path to be written.
+    pub(crate) fn open(rt: &HostRuntime, path: &str) -> Result<Goal, Error> {
+        match open_update(rt, path) {
+            Ok(mut file) => {
+                if is_stream(&mut file, path) {
+                    return Ok(Goal { file, part: None });
+                }
             }
-            open_beside(rt, path, name)
-        }
-        Err(error) => {
-            if error.kind() == ErrorKind::NotFound {
-                return open_beside(rt, path, name);
+            Err(error) => {
+                if error.kind() != ErrorKind::NotFound {
+                    return Err(error);
+                }
             }
-            tell_write_error(rt, path, &error);
-            None
+        }
+        open_beside(rt, path)
+    }
+
+    // The number of the open file.
+    pub(crate) fn number(&self) -> i32 {
+        self.file.as_raw_fd()
+    }
+
+    // Closes what was written: the new file gets the path's name; where it cannot, it goes.
+    pub(crate) fn keep(self, rt: &HostRuntime, path: &str) -> Result<(), Error> {
+        let Goal { file, part } = self;
+        drop(file);
+        let Some(part) = part else {
+            return Ok(());
+        };
+        let named = rename(rt, part.as_str(), path);
+        if named.is_err() {
+            let _ = remove_file(rt, part.as_str());
+        }
+        named
+    }
+
+    // Closes what could not be written: the new file goes.
+    pub(crate) fn give_up(self, rt: &HostRuntime) {
+        if let Some(part) = &self.part {
+            let _ = remove_file(rt, part.as_str());
         }
     }
-}
 
-// The number of the open file.
-pub(crate) fn number_of(g: &Goal) -> i32 {
-    g.file.as_raw_fd()
-}
-
-// What could not be written is told, and the new file goes.
-fn undo(rt: &HostRuntime, mut g: Goal, path: &[u8], name: &[u8]) {
-    tell_unwritten(rt, &mut g.file, path);
-    if 0 < g.part {
-        unlink(rt, front(name, g.part));
+    // Why no more could be written, where the system says so when it is asked for one byte more.
+    pub(crate) fn tell_unwritten(&mut self, rt: &HostRuntime, path: &[u8]) {
+        tell_unwritten(rt, &mut self.file, path);
     }
 }
 
-// The new file gets the path's name.
-fn give_name(rt: &HostRuntime, part: &[u8], path: &[u8]) -> Result<(), Error> {
-    match rename_to(rt, part, path) {
-        Ok(_) => Ok(()),
+// Why what is open takes no more, where it says so when it is asked for one byte more.
+pub(crate) fn tell_unwritten<W: Write>(rt: &HostRuntime, to: &mut W, name: &[u8]) {
+    match to.write_all(b"\n") {
+        Ok(_) => {
+            tell(name);
+            tell(b": not all could be written\n");
+        }
+        Err(error) => tell_write_error(rt, name, &error),
+    }
+}
+
+fn try_write(rt: &HostRuntime, path: &[u8], bytes: &[u8]) -> Result<(), Error> {
+    let path = path_of(path)?;
+    let mut goal = Goal::open(rt, path)?;
+    match goal.file.write_all(bytes) {
+        Ok(_) => goal.keep(rt, path),
         Err(error) => {
-            unlink(rt, part);
+            goal.give_up(rt);
             Err(error)
         }
     }
 }
 
-// Closes the file, and answers how long the name of a new one is.
-fn close(g: Goal) -> usize {
-    g.part
-}
-
-// Closes what is written: the new file gets the path's name, if all is there.
-pub(crate) fn close_goal(rt: &HostRuntime, g: Goal, path: &[u8], name: &[u8], done: bool) {
-    if !done {
-        undo(rt, g, path, name);
-        return;
-    }
-    let part = close(g);
-    if part == 0 {
-        return;
-    }
-    match give_name(rt, front(name, part), path) {
-        Ok(_) => {}
-        Err(error) => tell_write_error(rt, path, &error),
+// Writes a file; where it cannot be, that is told.
+pub(crate) fn write_file(rt: &HostRuntime, path: &[u8], bytes: &[u8]) {
+    if let Err(error) = try_write(rt, path, bytes) {
+        tell_write_error(rt, path, &error);
     }
 }

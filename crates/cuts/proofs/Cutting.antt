@@ -2,15 +2,15 @@
 -- whole. Assumes nothing.
 use Prim.Native.Nat.{ℕ, ◌+◌, ◌-◌, ◌≤◌, ◌<◌}
 use native.Mathlib.Omega.{arith}
-use native.Mathlib.Nat.{add-zero}
 use native.Mathlib.Numerals.{add-one}
 use mathlib.Core.Path.{◌≡◌, refl, sym, ap, ◌∙◌}
 use mathlib.Core.Bool.{Bool, true, false}
 use mathlib.Core.List.{List, [], ◌∷◌, ◌++◌, append-nil}
 use mathlib.Core.Option.{some}
+use lib.Dec.{eqb}
+use Rattle.std.specs.Option.{option_eq}
 use lib.ListN.{length, take, drop, get_or, set, length-map, length-take, length-append}
 use lib.Seq.{drop-drop, append_snoc, take_at}
-use borrow.Author.Tests.{ne_eqb}
 use Rattle.reference.specs.Control.{◌and◌, ◌or◌, let_some◌else◌then◌}
 use Rattle.reference.specs.Lists.{windows}
 use Rattle.reference.specs.Text.{Text, bytes, ◌≟◌}
@@ -31,10 +31,7 @@ use Rattle.joining.proofs.Moving.{cut_labels, cut-labelled}
 use Rattle.joining.proofs.Rounds.{cuts_begin, cuts_end, cuts-kept, cuts-cut}
 use Rattle.lines.specs.Words.{text_of, token_of, tokens_of}
 use Rattle.lines.specs.Lines.{Reading, numbered, first_of, count_of, indent_of, with_part, part_of, line_read, listing_read, bare_listing, Lined, Listed}
-use Rattle.lines.specs.Shapes.{found}
 use Rattle.lines.specs.Fams.{fam_text}
-use Rattle.lines.specs.declared.shapes.Position.{Position}
-use Rattle.lines.specs.declared.shapes.Position.TheVariants.{At, Nothing}
 use Rattle.lines.proofs.words.Each.{map-drop, map-set}
 use Rattle.lines.proofs.words.Tokens.{holds-drop}
 use Rattle.lines.proofs.words.Lines.{count-below, with_first, with_count, with_factless, with_read, no_facts, bare_at, bare-means, listed-set}
@@ -42,6 +39,9 @@ use Rattle.lines.proofs.fams.Families.{fam-row}
 use Rattle.lines.proofs.shapes.Places.{found_is, found-not, find_at, get_at}
 use Rattle.life.specs.Labels.{Gathered}
 use Rattle.cuts.specs.Cuts.{keeps_result, Cuttable, labels_now, dead_at, Dropped, Cut}
+use Rattle.std.specs.Prelude as std
+use Rattle.std.specs.Prelude.{Some, None}
+use Rattle.reference.specs.Options.{option_of}
 
 -- ---- a line that keeps a result
 
@@ -59,34 +59,43 @@ called-long ts e = long ts (find_at calls_here (windows ts) 2 (blank-token, blan
     long (a ∷ b ∷ []) h = absurd (omega arith)
     long (a ∷ b ∷ c ∷ rest) h = omega arith
 
-module _ (tape area : Text) (ws : List ℕ) {r : Position} (h : found r ≡ call_in (tokens_of tape area ws)) where
-  pub keeps_uncalled : r ≡ Nothing → false ≡ keeps_result (tokens_of tape area ws)
-  unfolding keeps_result let_some◌else◌then◌ ◌and◌
-  keeps_uncalled e = rw (found-not h e)
+module _ (tape area : Text) (ws : List ℕ) where
+  -- what it says of the first two tokens
+  abbrev to_rax : Bool
+  to_rax =
+      ((text_of tape area (get_or ws 0 0) ≟ bytes "rax") or (text_of tape area (get_or ws 0 0) ≟ bytes "eax"))
+      and (text_of tape area (get_or ws 1 0) ≟ bytes " = ")
 
-  module _ {k : ℕ} (e : r ≡ At k) where
-    pub keeps_elsewhere : (k ≡ 2 → ⊥) → false ≡ keeps_result (tokens_of tape area ws)
+  module _ (r : std.Option ℕ) (h : option_of r ≡ call_in (tokens_of tape area ws)) where
+    pub called-inside : r ≡ Some 2 → 2 < length ws
+    called-inside e = rw (length-map ws (token_of tape area)) at (called-long (tokens_of tape area ws) (found_is h e))
+
+    keeps-at : r ≡ Some 2 → keeps_result (tokens_of tape area ws) ≡ to_rax
     unfolding keeps_result let_some◌else◌then◌ ◌and◌
-    keeps_elsewhere n = rw (found_is h e, ne_eqb k 2 n)
+    keeps-at e =
+        let first = get_at (token_of tape area) ws 0 (omega (arith, called-inside e)) in
+        let second = get_at (token_of tape area) ws 1 (omega (arith, called-inside e)) in
+        rw (found_is h e, first, second)
 
-    module _ (q : k ≡ 2) where
-      pub called-inside : 2 < length ws
-      called-inside = rw (length-map ws (token_of tape area)) at (called-long (tokens_of tape area ws) (found_is h e ∙ ap some q))
+    keeps_none : r ≡ None → keeps_result (tokens_of tape area ws) ≡ false
+    unfolding keeps_result let_some◌else◌then◌ ◌and◌
+    keeps_none e = rw (found-not h e)
 
-      keeps_at : keeps_result (tokens_of tape area ws)
-          ≡ (((text_of tape area (get_or ws 0 0) ≟ bytes "rax") or (text_of tape area (get_or ws 0 0) ≟ bytes "eax")) and (text_of tape area (get_or ws 1 0) ≟ bytes " = "))
-      unfolding keeps_result let_some◌else◌then◌ ◌and◌
-      keeps_at =
-          let first = get_at (token_of tape area) ws 0 (omega (arith, called-inside)) in
-          let second = get_at (token_of tape area) ws 1 (omega (arith, called-inside)) in
-          rw (found_is h e, q, first, second)
+    keeps_other : {k : ℕ} → r ≡ Some k → eqb k 2 ≡ false → keeps_result (tokens_of tape area ws) ≡ false
+    unfolding keeps_result let_some◌else◌then◌ ◌and◌
+    keeps_other e n = rw (found_is h e, n)
 
-      module _ {s : Text} (es : s ≡ text_of tape area (get_or ws 0 0)) {x : Bool} (ex : x ≡ ((s ≟ bytes "rax") or (s ≟ bytes "eax"))) where
-        pub keeps_other : x ≡ false → false ≡ keeps_result (tokens_of tape area ws)
-        keeps_other f = and_here _ (rw es at ex) f ∙ sym keeps_at
+    pub keeps_is : keeps_result (tokens_of tape area ws) ≡ (option_eq eqb r (Some 2) and to_rax)
+    unfolding ◌and◌
+    keeps_is = by r refl
+      where
+        at : {k : ℕ} → r ≡ Some k → (b : Bool) → eqb k 2 ≡ b → keeps_result (tokens_of tape area ws) ≡ (option_eq eqb r (Some 2) and to_rax)
+        at e true q = (let two : r ≡ Some 2 = e ∙ ap Some (same_number q) in keeps-at two ∙ rw two)
+        at e false q = keeps_other e q ∙ rw (e, q)
 
-        pub keeps_assigned : x ≡ true → {t : Text} → t ≡ text_of tape area (get_or ws 1 0) → {y : Bool} → y ≡ (t ≟ bytes " = ") → y ≡ keeps_result (tokens_of tape area ws)
-        keeps_assigned f et ey = and_second (rw es at ex) f (rw et at ey) ∙ sym keeps_at
+        by : (o : std.Option ℕ) → o ≡ r → keeps_result (tokens_of tape area ws) ≡ (option_eq eqb r (Some 2) and to_rax)
+        by None e = keeps_none (sym e) ∙ rw (← e)
+        by (Some k) e = at (sym e) (eqb k 2) refl
 
 -- ---- a result that is never read
 
@@ -104,8 +113,8 @@ module _ (rules : Rules) (tape area : Text) (tokens lines labels : List ℕ) (i 
   dead_is = rw (bare_at tape area tokens [] lines i h) (regroup _ _ _ _)
 
   module _ {ws : List ℕ} (ew : ws ≡ part_of tokens (get_or lines i 0)) {x : Bool} (ex : x ≡ keeps_result (tokens_of tape area ws)) where
-    pub dead_not : x ≡ false → false ≡ dead_at rules tape area tokens lines labels i
-    dead_not f = and_here _ (rw ew at ex) f ∙ sym dead_is
+    pub dead_not : x ≡ false → x ≡ dead_at rules tape area tokens lines labels i
+    dead_not f = f ∙ and_here _ (rw ew at ex) f ∙ sym dead_is
 
     pub dead_then : x ≡ true → {n : ℕ} → n ≡ indent_of (get_or lines i 0) → {y : Bool}
         → y ≡ dead_after (bare_listing tape area tokens lines) i (fam_text tape area 0) n (labels_now tape area tokens lines labels) i (volatile rules)
@@ -158,8 +167,8 @@ module _ (tape area : Text) (tokens : List ℕ) (l : ℕ) (h : Lined tape area t
 
 module _ {tape area : Text} {tokens lines labels : List ℕ} (c : Cuttable tape area tokens lines labels) (rules : Rules) (i : ℕ) (h : i < length lines)
     {x : Bool} (ex : x ≡ dead_at rules tape area tokens lines labels i) where
-  pub dropped-kept : x ≡ false → Dropped rules tape area tokens lines labels i lines 0
-  dropped-kept f = record { kept = λ e. (refl, refl); cut = λ e. absurd (true-false e (sym ex ∙ f)) }
+  pub dropped-kept : x ≡ false → Dropped rules tape area tokens lines labels i lines x
+  dropped-kept f = record { told = ex; kept = λ e. refl; cut = λ e. absurd (true-false e (sym ex ∙ f)) }
 
   module _ (t : x ≡ true) where
     long : 2 < count_of (get_or lines i 0)
@@ -172,13 +181,13 @@ module _ {tape area : Text} {tokens lines labels : List ℕ} (c : Cuttable tape 
     pub cut-first : first_of (get_or lines i 0) + 2 < 65536
     cut-first = omega (arith, long, (c.listed.at i h).inside, c.short)
 
-    pub dropped-cut : {v : ℕ} → v ≡ cut_word (get_or lines i 0) → Dropped rules tape area tokens lines labels i (set lines i v) 1
+    pub dropped-cut : {v : ℕ} → v ≡ cut_word (get_or lines i 0) → Dropped rules tape area tokens lines labels i (set lines i v) true
     dropped-cut {v} ev =
         let l = c.listed.at i h in
         record {
+          told = sym t ∙ ex;
           kept = λ e. absurd (true-false (sym ex ∙ t) e);
           cut = λ e. (
-            refl,
             listed-set c.listed i (rw ev (cut_lined tape area tokens (get_or lines i 0) l cut-count cut-first)),
             λ addresses.
                 map-set (line_read tape area tokens addresses) _ i lines v
@@ -256,7 +265,7 @@ module _ {rules : Rules} {tape area : Text} {tokens start labels : List ℕ} whe
     pub cutting_now : length tokens ≤ 65536 → Cuttable tape area tokens lines labels
     cutting_now h = record { listed = s.listed; short = h; labelled = s.labelled }
 
-    module _ (h : i < length lines) {lines' : List ℕ} {r : ℕ} (d : Dropped rules tape area tokens lines labels i lines' r) where
+    module _ (h : i < length lines) {lines' : List ℕ} {r : Bool} (d : Dropped rules tape area tokens lines labels i lines' r) where
       -- the same of the listing with its addresses
       dead_same : {b : Bool} (addresses : Reading) → dead_at rules tape area tokens lines labels i ≡ b
           → dead_result rules (labels_now tape area tokens start labels) (listing_read tape area tokens addresses lines) i ≡ b
@@ -267,10 +276,10 @@ module _ {rules : Rules} {tape area : Text} {tokens start labels : List ℕ} whe
       inside : (addresses : Reading) → i < length (listing_read tape area tokens addresses lines)
       inside addresses = rw length-map h
 
-      next : (b : Bool) → dead_at rules tape area tokens lines labels i ≡ b → Cutting rules tape area tokens start labels lines' (n + r) (i + 1)
-      next false e =
-          let k = d.kept e in
-          rw (k.0, k.1, add-zero n)
+      pub cutting_kept : r ≡ false → Cutting rules tape area tokens start labels lines' n (i + 1)
+      cutting_kept f =
+          let e = sym d.told ∙ f in
+          rw (d.kept e)
           (record {
             listed = s.listed;
             labelled = s.labelled;
@@ -278,31 +287,23 @@ module _ {rules : Rules} {tape area : Text} {tokens start labels : List ℕ} whe
             few = omega (arith, s.few);
             upto = λ addresses. upto-kept rules _ (s.upto addresses) (inside addresses) (dead_same addresses e);
           })
-      next true e =
+
+      pub cutting_cut : r ≡ true → Cutting rules tape area tokens start labels lines' (n + 1) (i + 1)
+      cutting_cut f =
+          let e = sym d.told ∙ f in
           let k = d.cut e in
           let cut : bare_listing tape area tokens lines' ≡ cut_at i (bare_listing tape area tokens lines) =
-          bare-means tape area tokens numbered lines' ∙ ap bare_lines (k.2 numbered) ∙ sym (cut-bare i (listing_read tape area tokens numbered lines))
+          bare-means tape area tokens numbered lines' ∙ ap bare_lines (k.1 numbered) ∙ sym (cut-bare i (listing_read tape area tokens numbered lines))
           ∙ ap (cut_at i) (sym (bare-means tape area tokens numbered lines)) in
-          rw k.0
-          (record {
-            listed = k.1;
+          record {
+            listed = k.0;
             labelled = rw cut (cut-labelled rules (labels_now tape area tokens lines labels) (bare_listing tape area tokens lines) i e labels s.labelled);
             labels_same =
                 ap (λ (ls : Listing). labels_at ls labels) cut
                 ∙ cut_labels rules (labels_now tape area tokens lines labels) (bare_listing tape area tokens lines) i e labels s.labelled ∙ s.labels_same;
             few = omega (arith, s.few);
-            upto = λ addresses. rw (k.2 addresses) (upto-cut rules _ (s.upto addresses) (inside addresses) (dead_same addresses e));
-          })
-
-      pub cutting_next : Cutting rules tape area tokens start labels lines' (n + r) (i + 1)
-      cutting_next = next (dead_at rules tape area tokens lines labels i) refl
-
-      pub dropped-few : r ≤ 1
-      dropped-few = few (dead_at rules tape area tokens lines labels i) refl
-        where
-          few : (b : Bool) → dead_at rules tape area tokens lines labels i ≡ b → r ≤ 1
-          few false e = omega (arith, (d.kept e).0)
-          few true e = omega (arith, (d.cut e).0)
+            upto = λ addresses. rw (k.1 addresses) (upto-cut rules _ (s.upto addresses) (inside addresses) (dead_same addresses e));
+          }
 
     pub cutting_end : length lines ≤ i → Cut (cuts rules (labels_now tape area tokens start labels) 0) tape area tokens start lines n
     cutting_end h =

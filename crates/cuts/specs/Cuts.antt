@@ -34,11 +34,12 @@ abbrev pub dead_at : Rules → Text → Text → List ℕ → List ℕ → List 
 dead_at rules tape area tokens lines labels i =
     dead_result rules (labels_now tape area tokens lines labels) (bare_listing tape area tokens lines) i
 
--- line i is cut where its result is dead, and r is how many lines that is
-pub record Dropped (rules : Rules) (tape area : Text) (tokens lines labels : List ℕ) (i : ℕ) (lines' : List ℕ) (r : ℕ) : Type 0 where
-  pub kept : dead_at rules tape area tokens lines labels i ≡ false → (r ≡ 0) × (lines' ≡ lines)
+-- line i is cut where its result is dead, and r says whether it is
+pub record Dropped (rules : Rules) (tape area : Text) (tokens lines labels : List ℕ) (i : ℕ) (lines' : List ℕ) (r : Bool) : Type 0 where
+  pub told : r ≡ dead_at rules tape area tokens lines labels i
+  pub kept : dead_at rules tape area tokens lines labels i ≡ false → lines' ≡ lines
   pub cut : dead_at rules tape area tokens lines labels i ≡ true
-      → (r ≡ 1) × Listed tape area tokens lines'
+      → Listed tape area tokens lines'
       × ((addresses : Reading) → listing_read tape area tokens addresses lines' ≡ cut_at i (listing_read tape area tokens addresses lines))
 
 -- the cuts `cuts` were made, one after the other, and r is how many; whatever the addresses are

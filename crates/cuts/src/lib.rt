@@ -11,7 +11,6 @@ ghost use Rattle.cuts.specs.Cuts.{keeps_result, Cuttable, labels_now, dead_at, D
 
 use life::{Followed, dead_after, gather_labels};
 use lines::rules::Rules;
-use lines::shapes::Position;
 use lines::{shapes, words};
 use names::RAX;
 use text::{is_assign, is_result_name};
@@ -21,16 +20,9 @@ fn keeps_result<'a>(tape: &'a [u8], area: &'a [u8], line: &'a [u64]) -> bool
     requires { Holds tape.now area.now line.now }
     ensures { result ≡ keeps_result (tokens_of tape.now area.now line.now) }
 {
-    let Position::At(at) = shapes::call_at(tape, area, line) else {
-        return false;
-    };
-    if at != 2 {
-        return false;
-    }
-    if !is_result_name(words::text(tape, area, line[0])) {
-        return false;
-    }
-    is_assign(words::text(tape, area, line[1]))
+    shapes::call_at(tape, area, line) == Some(2)
+        && is_result_name(words::text(tape, area, line[0]))
+        && is_assign(words::text(tape, area, line[1]))
 }
 
 // Whether line i assigns a result that is never read.
@@ -47,19 +39,17 @@ fn is_dead_result<'a>(
     ensures { result ≡ dead_at (rules_of rules) tape.now area.now tokens.now lines.now labels.now i }
 {
     let l = lines[i];
-    if !keeps_result(tape, area, words::line_of(tokens, l)) {
-        return false;
-    }
     let v = Followed {
         family: RAX,
         indent: words::indent(l),
         start: i,
         rules,
     };
-    dead_after(tape, area, tokens, lines, labels, i, v)
+    keeps_result(tape, area, words::line_of(tokens, l))
+        && dead_after(tape, area, tokens, lines, labels, i, v)
 }
 
-// Cuts the result of line i off, if it is never read, and says how many results that is.
+// Cuts the result of line i off, if it is never read, and says whether it is.
 fn drop_at<'a>(
     tape: &'a [u8],
     area: &'a [u8],
@@ -68,16 +58,16 @@ fn drop_at<'a>(
     labels: &'a [u64],
     i: usize,
     rules: Rules,
-) -> u64
+) -> bool
     requires { Cuttable tape.now area.now tokens.now lines.old labels.now × (i < length lines.old) }
     ensures { Dropped (rules_of rules) tape.now area.now tokens.now lines.old labels.now i lines.new result }
 {
     if !is_dead_result(tape, area, tokens, lines, labels, i, rules) {
-        return 0;
+        return false;
     }
     let l = lines[i];
     lines[i] = words::with_tokens(l, words::first(l) + 2, words::count(l) - 2);
-    1
+    true
 }
 
 // Cuts the dead results of all lines, in turn, the labels standing at these places, and says how many results that is.
@@ -94,10 +84,10 @@ fn drop_results<'a>(
         area.now tokens.now lines.old lines.new result }
 {
     let mut cut = 0;
-    let mut i = 0;
-    while i < lines.len() {
-        cut += drop_at(tape, area, tokens, lines, labels, i, rules);
-        i += 1;
+    for i in 0..lines.len() {
+        if drop_at(tape, area, tokens, lines, labels, i, rules) {
+            cut += 1;
+        }
     }
     cut
 }

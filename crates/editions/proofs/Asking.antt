@@ -7,11 +7,15 @@ use mathlib.Core.List.{List, ◌++◌}
 use mathlib.Core.Option.{none, some}
 use lib.ListN.{length, take, drop}
 use lib.IntN.{ℤ}
+use Rattle.std.specs.Prelude as Std
+use Rattle.std.specs.Prelude.{Some, None}
+use Rattle.std.specs.Option as std
+use Rattle.reference.specs.Options.{option_of}
 use borrow.Author.Tests.{ne_eqb}
 use Rattle.reference.specs.Control.{not, ◌and◌, ◌or◌, when◌then◌else◌, let_some◌else◌then◌}
 use Rattle.reference.specs.Text.{Text, bytes, starts_with, has, ◌≟◌, strip_prefix}
 use Rattle.reference.specs.Numbers.{read_number}
-use Rattle.reference.specs.Listing.{token, is}
+use Rattle.reference.specs.Listing.{Token, token, is}
 use Rattle.reference.specs.Tape as Tape
 use Rattle.reference.specs.Tape.{command_of}
 use Rattle.reference.specs.Questions.{Totals, count_in, is_end, add, no_commands, add_marks}
@@ -24,7 +28,7 @@ use Rattle.books.proofs.Grammar2024.{begins}
 use Rattle.tape.specs.Commands.{command_in, size_of, ends, Stood}
 use Rattle.tape.specs.Questions.{AcceptedTape}
 use Rattle.tape.specs.declared.commands.Command.{Command}
-use Rattle.tape.specs.declared.commands.Command.TheVariants.{Token}
+use Rattle.tape.specs.declared.commands.Command.TheVariants.{Addressed, Plain, Marked, Token as NewToken, End}
 use Rattle.tape.proofs.commands.Standing.{Stands, stands-inside, stood}
 use Rattle.tape.proofs.questions.Asking.{ends_same}
 use Rattle.tape.proofs.questions.Reading.{Reads, reads_begin, reads_on, accepted-passes}
@@ -65,13 +69,13 @@ module _ (s : Text) {x : Bool} (e : x ≡ is_newer s) where
   unfolding has_no_older ◌and◌
   older f = rw (sym e ∙ f) refl
 
-  pub newer_unread : x ≡ true → none ≡ read_number 1 s → true ≡ has_no_older s
+  -- a text that is newer has no older form just where it is not read
+  pub unread-newer : {y : Bool} → x ≡ true → (o : Std.Option ℤ) → option_of o ≡ read_number 1 s → std.is_some o ≡ Std.not y → y ≡ has_no_older s
   unfolding has_no_older ◌and◌ not
-  newer_unread t u = rw (sym e ∙ t, ← u) refl
-
-  pub newer_read : {z : ℤ} → x ≡ true → some z ≡ read_number 1 s → false ≡ has_no_older s
-  unfolding has_no_older ◌and◌ not
-  newer_read t u = rw (sym e ∙ t, ← u) refl
+  unread-newer {y = true} t None u v = rw (sym e ∙ t, ← u) refl
+  unread-newer {y = false} t None u v = cc
+  unread-newer {y = true} t (Some z) u v = cc
+  unread-newer {y = false} t (Some z) u v = rw (sym e ∙ t, ← u) refl
 
 -- ---- tokens
 
@@ -96,9 +100,18 @@ module _ (kind : ℕ) (s : Text) {up : Bool} where
 
 pub token_command : (up : Bool) {x : Bool} (tape : List ℕ) (at kind count : ℕ) {t : Text} → x ≡ earns up (token kind t)
     → t ≡ take count (drop (at + 3) tape)
-    → x ≡ of_command (earns up) (command_in tape at (Token kind count))
+    → x ≡ of_command (earns up) (command_in tape at (NewToken kind count))
 unfolding of_command
 token_command up tape at kind count e u = e ∙ ap (λ (t : Text). earns up (token kind t)) u
+
+pub no_token : (p : Token → Bool) (tape : List ℕ) (at : ℕ) (c : Command) → ((kind count : ℕ) → c ≡ NewToken kind count → ⊥)
+    → false ≡ of_command p (command_in tape at c)
+unfolding of_command
+no_token p tape at (Addressed address indent) n = refl
+no_token p tape at (Plain indent) n = refl
+no_token p tape at (Marked low high) n = refl
+no_token p tape at (NewToken kind count) n = absurd (n kind count refl)
+no_token p tape at End n = refl
 
 -- ---- a walk over an accepted tape
 

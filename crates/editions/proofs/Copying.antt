@@ -105,6 +105,14 @@ pub other-command : (tape : List ℕ) (at kind count : ℕ) → (kind ≡ 2 → 
     → down_command (command_in tape at (NewToken kind count)) ≡ command_in tape at (NewToken kind count)
 other-command tape at kind count n = ap new_token (other-token kind (take count (drop (at + 3) tape)) n)
 
+pub same_command : (tape : List ℕ) (at : ℕ) (c : Command) → ((kind count : ℕ) → c ≡ NewToken kind count → ⊥)
+    → down_command (command_in tape at c) ≡ command_in tape at c
+same_command tape at (Addressed address indent) n = refl
+same_command tape at (Plain indent) n = refl
+same_command tape at (Marked low high) n = refl
+same_command tape at (NewToken kind count) n = absurd (n kind count refl)
+same_command tape at End n = refl
+
 earns_number : (kind : ℕ) (s : Text) → kind ≡ 2 → has_no_older s ≡ true → of_command earns_13 (new_token (token kind s)) ≡ true
 unfolding of_command earns_13 is
 earns_number kind s k t = pair (eq-eqb kind 2 k) t

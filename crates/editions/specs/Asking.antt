@@ -1,12 +1,10 @@
 -- What the code that asks 12 and 13 answers. Assumes nothing.
 use Rattle.std.specs.Prelude.{ℕ, Bool, true, false, List, length}
-use Rattle.std.proofs.Math.Option.{Option, none, some}
+use Rattle.std.proofs.Math.Option.{Option}
 use Rattle.reference.specs.Text.{Text}
 use Rattle.reference.specs.Listing.{Token}
 use Rattle.books.specs.Tables.{words}
 use Rattle.editions.specs.Conversion.{earns_12, earns_13, of_command, first_place}
-use Rattle.editions.specs.declared.questions.Place.{Place}
-use Rattle.editions.specs.declared.questions.Place.TheVariants.{At, Nowhere}
 
 -- the new keywords, a few at a time
 abbrev pub keywords_1 : List Text
@@ -26,7 +24,3 @@ earns false = earns_13
 -- the place of the leftmost command that earns its refusal
 abbrev pub leftmost : Bool → List ℕ → Option ℕ
 leftmost up tape = first_place (of_command (earns up)) (length tape) tape 0
-
-abbrev pub place_of : Place → Option ℕ
-place_of (At place) = some place
-place_of Nowhere = none

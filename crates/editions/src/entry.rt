@@ -5,10 +5,9 @@ ghost use Rattle.answers.specs.Answers.{answer_of, Writes};
 ghost use Rattle.tape.specs.Questions.{AcceptedTape};
 ghost use Rattle.editions.specs.Conversion.{to_2018, to_2024};
 
-use crate::questions::{Place, first_place};
+use crate::questions::first_place;
 use crate::writing::lower;
-use answers::Answer;
-use tape::questions::Checked;
+use answers::{Answer, Reason};
 use text::copy_bytes;
 
 // Once the tape is read.
@@ -16,9 +15,9 @@ fn lowered(tape: &[u8], out: &mut [u8]) -> Answer
     requires { AcceptedTape tape.now × (length tape.now ≤ length out.old) }
     ensures { Writes (to_2018 tape.now (length out.old)) out.old out.new (answer_of result) }
 {
-    match first_place(false, tape) {
-        Place::At(place) => Answer::Refused { number: 13, place },
-        Place::Nowhere => Answer::Passed(lower(tape, out) as u64),
+    match first_place::<false>(tape) {
+        Some(place) => Err(Reason::UnreadNumber.at(place)),
+        None => Ok(lower(tape, out) as u64),
     }
 }
 
@@ -26,11 +25,11 @@ fn raised(tape: &[u8], out: &mut [u8]) -> Answer
     requires { AcceptedTape tape.now × (length tape.now ≤ length out.old) }
     ensures { Writes (to_2024 tape.now (length out.old)) out.old out.new (answer_of result) }
 {
-    match first_place(true, tape) {
-        Place::At(place) => Answer::Refused { number: 12, place },
-        Place::Nowhere => {
+    match first_place::<true>(tape) {
+        Some(place) => Err(Reason::NewKeyword.at(place)),
+        None => {
             copy_bytes(tape, out, 0);
-            Answer::Passed(tape.len() as u64)
+            Ok(tape.len() as u64)
         }
     }
 }
@@ -40,15 +39,10 @@ pub fn to_2018(tape: &[u8], out: &mut [u8]) -> Answer
     ensures { Writes (to_2018 tape.now (length out.old)) out.old out.new (answer_of result) }
 {
     if out.len() < tape.len() {
-        return Answer::Refused {
-            number: 2,
-            place: 0,
-        };
+        return Err(Reason::TooLittleRoom.at(0));
     }
-    match tape::check(tape) {
-        Checked::Refused { number, place } => Answer::Refused { number, place },
-        Checked::Passed(_) => lowered(tape, out),
-    }
+    tape::check::<false>(tape)?;
+    lowered(tape, out)
 }
 
 // From the 2018 edition up to the 2024 edition.
@@ -56,13 +50,8 @@ pub fn to_2024(tape: &[u8], out: &mut [u8]) -> Answer
     ensures { Writes (to_2024 tape.now (length out.old)) out.old out.new (answer_of result) }
 {
     if out.len() < tape.len() {
-        return Answer::Refused {
-            number: 2,
-            place: 0,
-        };
+        return Err(Reason::TooLittleRoom.at(0));
     }
-    match tape::check(tape) {
-        Checked::Refused { number, place } => Answer::Refused { number, place },
-        Checked::Passed(_) => raised(tape, out),
-    }
+    tape::check::<false>(tape)?;
+    raised(tape, out)
 }

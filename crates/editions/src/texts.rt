@@ -6,10 +6,10 @@ ghost use Rattle.tape.specs.Bytes.{Puts};
 ghost use Rattle.editions.specs.Numbers.{without_quotes, down_constant, down_text, has_no_older};
 ghost use Rattle.editions.specs.Lowering.{Ready};
 
-use numbers::{MOST, Natural, begins_binary, put_digits, row};
+use numbers::{MOST, begins_binary, put_digits, row};
 use text::begins_minus;
 
-const QUOTE: u8 = 39;
+const QUOTE: u8 = b'\'';
 
 // Writes a byte that is no quote.
 fn put_byte(b: u8, out: &mut [u8], at: usize) -> usize
@@ -29,10 +29,8 @@ fn put_unquoted(s: &[u8], out: &mut [u8], at: usize) -> usize
     ensures { Puts out.old at (without_quotes s.now) out.new result }
 {
     let mut to = at;
-    let mut i = 0;
-    while i < s.len() {
-        to = put_byte(s[i], out, to);
-        i += 1;
+    for &b in s {
+        to = put_byte(b, out, to);
     }
     to
 }
@@ -56,8 +54,8 @@ fn put_constant(s: &[u8], out: &mut [u8], at: usize) -> usize
         return put_unquoted(s, out, at);
     }
     match row(&s[2..], 2, MOST) {
-        Natural::Read(n) => put_hexadecimal(n, out, at),
-        Natural::Unread => at,
+        Some(n) => put_hexadecimal(n, out, at),
+        None => at,
     }
 }
 

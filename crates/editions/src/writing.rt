@@ -13,7 +13,6 @@ ghost use Rattle.editions.specs.Lowering.{down_command, Lowers, Lowerable};
 use crate::texts::put_down;
 use lines::words::NUMBER;
 use tape::commands::{Command, size_of, text_of};
-use tape::questions::is_end;
 use tape::reader::{known_command, token_text};
 use text::copy_bytes;
 
@@ -44,19 +43,10 @@ fn put_command(tape: &[u8], at: usize, command: Command, out: &mut [u8], to: usi
     ensures { Puts out.old to (write_command (down_command (command_in tape.now at command))) out.new result }
 {
     match command {
-        Command::Addressed {
-            address: _,
-            indent: _,
-        } => put_part(tape, at, 10, out, to),
-        Command::Plain { indent: _ } => put_part(tape, at, 2, out, to),
-        Command::Marked { low: _, high: _ } => put_part(tape, at, 17, out, to), // as it stands
-        Command::Token { kind, count } => {
-            if kind == NUMBER {
-                return put_number(token_text(tape, at, count), out, to);
-            }
-            put_part(tape, at, 3 + count, out, to)
+        Command::Token { kind, count } if kind == NUMBER => {
+            put_number(token_text(tape, at, count), out, to)
         }
-        Command::End => put_part(tape, at, 1, out, to),
+        _ => put_part(tape, at, size_of::<false>(command), out, to),
     }
 }
 
@@ -68,12 +58,13 @@ pub fn lower(tape: &[u8], out: &mut [u8]) -> usize
 {
     let mut at = 0;
     let mut to = 0;
+    // Kept: the steps are as long as the commands, and the end is written too before the loop ends.
     loop {
         let command = known_command(tape, at);
         to = put_command(tape, at, command, out, to);
-        if is_end(command) {
+        if command.is_end() {
             return to;
         }
-        at += size_of(command);
+        at += size_of::<false>(command);
     }
 }

@@ -4,8 +4,10 @@ use native.Mathlib.Nat.{zero-add}
 use native.Mathlib.Omega.{arith}
 use mathlib.Core.Path.{◌≡◌, refl, sym, ap, ◌∙◌}
 use mathlib.Core.List.{List, [], ◌∷◌, ◌++◌, append_assoc}
-use lib.ListN.{length, take, drop, get_or, length-append}
+use lib.ListN.{length, take, drop, length-append}
 use lib.Seq.{take_all, take-length, length-take-le}
+use native.Mathlib.Decide.{dec_le}
+use mathlib.Core.Logic.{by_cases}
 use Rattle.reference.specs.Text.{Text, bytes}
 use Rattle.reference.specs.Rules.{Rules}
 use Rattle.reference.specs.Questions.{WORK, OUTPUT, Answer, Refused, Passed}
@@ -18,8 +20,9 @@ use Rattle.printing.specs.Decimals.{decimal}
 use Rattle.printing.proofs.Decimals.{decimal-length}
 use Rattle.clean.specs.Replies.{report_of, Summary, answer_of, summary, Cleans}
 use Rattle.clean.specs.declared.cleaning.Finished.{Finished}
-use Rattle.clean.specs.declared.entry.Reply as C
-use Rattle.clean.specs.declared.entry.Reply.TheVariants as Said
+use Rattle.std.proofs.Common.{Result, Ok, Err, min}
+use Rattle.answers.specs.declared.Refusal.{Refusal}
+use Rattle.answers.specs.Refusals.{number_of}
 use Rattle.filter.specs.Response.{refusal, shown, settings, LONGEST, response, Shows}
 
 -- ---- a refusal, put piece by piece
@@ -64,7 +67,7 @@ finished-shows (Refused number place) e out o = absurd (refused_passed (sym e))
 finished-shows (Passed c) e out o = record { holds = o; ends = ap (λ (s : Summary). s.length) (passed_inj e) }
 
 module _ (rules : Rules) (tape work_a work_b out : List ℕ) (a : length work_a ≡ WORK) (b : length work_b ≡ WORK) (o : length out ≡ OUTPUT)
-    {work-a' work-b' after : List ℕ} (r : C.Reply)
+    {work-a' work-b' after : List ℕ} (r : Result Finished Refusal)
     (h : Cleans rules tape work_a work_b out work-a' work-b' after (report_of r))
     (v : answer_of r ≡ summary (reply rules tape (length work_a) (length work_b) (length out))) where
   same_answer : {s : Answer Summary} → answer_of r ≡ s → s ≡ summary (reply rules tape WORK WORK OUTPUT)
@@ -73,23 +76,20 @@ module _ (rules : Rules) (tape work_a work_b out : List ℕ) (a : length work_a 
   left : after ≡ output_after (reply rules tape WORK WORK OUTPUT) out
   left = rw (a, b, o) at h.leaves.output_is
 
-  pub shows-refusal : {n p : ℕ} → r ≡ Said.Refused n p → {printed : List ℕ} {k : ℕ} → Shows (refusal n p) after printed k
+  pub shows-refusal : (e : Refusal) → r ≡ Err e → {printed : List ℕ} {k : ℕ} → Shows (refusal (number_of e.reason) e.place) after printed k
       → Shows (shown (reply rules tape WORK WORK OUTPUT)) out printed k
-  shows-refusal e p = refused_shows (reply rules tape WORK WORK OUTPUT) (same_answer (ap answer_of e)) out left p
+  shows-refusal f e p = refused_shows (reply rules tape WORK WORK OUTPUT) (same_answer (ap answer_of e)) out left p
 
-  pub shows-tape : {f : Finished} → r ≡ Said.Finished f → Shows (shown (reply rules tape WORK WORK OUTPUT)) out after f.length
-  shows-tape e = finished-shows (reply rules tape WORK WORK OUTPUT) (same_answer (ap answer_of e)) out left
+  pub shows-tape : (f : Finished) → r ≡ Ok f → Shows (shown (reply rules tape WORK WORK OUTPUT)) out after f.length
+  shows-tape f e = finished-shows (reply rules tape WORK WORK OUTPUT) (same_answer (ap answer_of e)) out left
 
 -- ---- the front of a tape
 
-module _ (rules : Rules) (tape : List ℕ) {most : ℕ} (m : most ≡ LONGEST) {out after : List ℕ} {r : ℕ} where
-  pub front-whole : length tape ≤ most → Shows (shown (reply rules tape WORK WORK OUTPUT)) out after r
-      → Shows (shown (reply rules (take LONGEST tape) WORK WORK OUTPUT)) out after r
-  front-whole h s = rw (take_all LONGEST tape (omega arith)) s
-
-  pub front_cut : {front : List ℕ} → front ≡ take most tape → Shows (shown (reply rules front WORK WORK OUTPUT)) out after r
-      → Shows (shown (reply rules (take LONGEST tape) WORK WORK OUTPUT)) out after r
-  front_cut e s = rw (← m, ← e) s
+pub front_cut : (tape : List ℕ) {most : ℕ} → most ≡ LONGEST → take (min most (length tape)) tape ≡ take LONGEST tape
+front_cut tape {most} m =
+    by_cases (dec_le most (length tape))
+    (λ h. let e : min most (length tape) ≡ LONGEST = omega arith in rw e refl)
+    (λ h. let e : min most (length tape) ≡ length tape = omega arith in rw e (take-length tape ∙ sym (take_all LONGEST tape (omega arith))))
 
 -- ---- the input: nothing, or a convention byte and a tape
 
@@ -98,12 +98,10 @@ unfolding response
 responds_none [] e h = h
 responds_none (x ∷ xs) e h = absurd (omega arith)
 
-pub responds_some : (input : List ℕ) → (length input ≡ 0 → ⊥) → {tape out after : List ℕ} {r : ℕ} → tape ≡ drop 1 input
-    → Shows (shown (reply (settings (get_or input 0 0)) (take LONGEST tape) WORK WORK OUTPUT)) out after r
-    → Shows (response input) out after r
+pub responds_some : {input : List ℕ} (convention : ℕ) (tape : List ℕ) → input ≡ convention ∷ tape → {out after : List ℕ} {r : ℕ}
+    → Shows (shown (reply (settings convention) (take LONGEST tape) WORK WORK OUTPUT)) out after r → Shows (response input) out after r
 unfolding response
-responds_some [] n e h = absurd (n refl)
-responds_some (x ∷ xs) n e h = rw e at h
+responds_some convention tape e h = rw e h
 
 -- ---- its length
 

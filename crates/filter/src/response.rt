@@ -1,22 +1,25 @@
 // What the program answers to an input, put into an output of 59,137 bytes.
-ghost use Rattle.std.specs.Prelude.{◌≡◌, false, ◌≤◌, length, take};
+ghost use Rattle.std.specs.Prelude.{◌≡◌, ◌≤◌, length, take};
 ghost use Rattle.reference.specs.Questions.{WORK, OUTPUT};
 ghost use Rattle.reference.specs.Reply.{reply};
+ghost use Rattle.answers.specs.Refusals.{number_of};
 ghost use Rattle.filter.specs.Response.{refusal, shown, settings, LONGEST, response, Shows};
 
-use clean::{Reply, clean};
+use answers::{Reason, Refusal};
+use clean::clean;
 use lines::rules::Rules;
 use printing::{put, put_decimal};
 
 // Puts the line of a refusal, and says how long it is.
-fn put_refusal(number: u64, place: u64, out: &mut [u8]) -> usize
+fn put_refusal(refused: Refusal, out: &mut [u8]) -> usize
     requires { 53 ≤ length out.old }
-    ensures { Shows (refusal number place) out.old out.new result }
+    ensures { Shows (refusal (number_of refused.reason) refused.place) out.old out.new result }
 {
+    let Refusal { reason, place } = refused;
     let a = put(b"refused ", out, 0);
-    let b = put_decimal(number, out, a);
+    let b = put_decimal(reason.number(), out, a);
     let c = put(b" at ", out, b);
-    let d = put_decimal(place, out, c);
+    let d = put_decimal(place as u64, out, c);
     put(b"\n", out, d)
 }
 
@@ -35,12 +38,13 @@ fn answer(convention: u8, tape: &[u8], out: &mut [u8]) -> usize
         profile: false,
     };
     match clean(rules, tape, &mut work_a, &mut work_b, out) {
-        Reply::Refused { number, place } => put_refusal(number, place as u64, out),
-        Reply::Finished(f) => f.length,
+        Err(refused) => put_refusal(refused, out),
+        Ok(finished) => finished.length,
     }
 }
 
-// The longest tape that is taken. A function and no constant: a proof then has the number as an equation, and no check counts up to it.
+// The longest tape that is taken.
+// Kept: a function and no constant: a proof then has the number as an equation, and no check counts up to it.
 fn longest() -> usize
     ensures { result ≡ LONGEST }
 {
@@ -53,10 +57,7 @@ fn answer_front(convention: u8, tape: &[u8], out: &mut [u8]) -> usize
     ensures { Shows (shown (reply (settings convention) (take LONGEST tape.now) WORK WORK OUTPUT))
         out.old out.new result }
 {
-    let most = longest();
-    if tape.len() <= most {
-        return answer(convention, tape, out);
-    }
+    let most = longest().min(tape.len());
     answer(convention, &tape[..most], out)
 }
 
@@ -65,8 +66,8 @@ pub fn respond(input: &[u8], out: &mut [u8]) -> usize
     requires { length out.old ≡ OUTPUT }
     ensures { Shows (response input.now) out.old out.new result }
 {
-    if input.len() == 0 {
-        return put_refusal(1, 0, out);
+    match input.split_first() {
+        Some((convention, tape)) => answer_front(*convention, tape, out),
+        None => put_refusal(Reason::UnknownConvention.at(0), out),
     }
-    answer_front(input[0], &input[1..], out)
 }

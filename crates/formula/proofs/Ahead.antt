@@ -1,5 +1,6 @@
 -- The answers of `behind_byte`, `behind` and `operator`. Assumes nothing.
 use Rattle.std.proofs.Common.{◌≡◌, ℕ, suc, ◌+◌, ◌<◌, ◌≤◌, Bool, true, false, eqb, List, [], ◌∷◌, ◌++◌, length, get_or, drop, sym, refl, ap, ◌∙◌, add-one, arith, drop-cons, eq-eqb, ne_eqb}
+use Rattle.std.specs.Prelude as std
 use mathlib.Core.Option.{Option, none, some}
 use Rattle.reference.specs.Control.{when◌then◌else◌, let_some◌else◌then◌}
 use Rattle.reference.specs.Text.{Text, bytes}
@@ -8,10 +9,11 @@ use Rattle.reference.specs.Evaluators.{Lexeme, sign, reg, num, junk, lexemes_of,
 use Rattle.laws.proofs.Scans.{if-true, if-false}
 use Rattle.lines.specs.Words.{kind_of, len_of, text_of, token_of, tokens_of, Points}
 use Rattle.lines.proofs.words.Tokens.{len_below, text_length}
-use Rattle.formula.specs.Places.{left, Placed, Readable, ahead_of, Leads, Operates}
-use Rattle.formula.specs.declared.places.Ahead.{Ahead}
-use Rattle.formula.specs.declared.places.Ahead.TheVariants.{At, Nothing}
-use Rattle.formula.specs.declared.places.Operated.TheVariants.{Adds, Takes, Nothing as Unoperated}
+use Rattle.formula.specs.Places.{left, Placed, Readable, ahead_of, operator_of, Leads, Operates}
+use Rattle.formula.specs.declared.places.Place.{Place}
+use Rattle.formula.specs.declared.places.Operation.{Operation}
+use Rattle.formula.specs.declared.places.Sign.{Sign}
+use Rattle.formula.specs.declared.places.Sign.TheVariants.{Plus, Minus}
 use Rattle.formula.proofs.Left.{drop_past, left_end, left_sign, left_over, size_punct, left_other, no_punct, One, a_register, a_number, a_junk, one_of, placed-whole}
 
 -- ---- one byte
@@ -27,22 +29,22 @@ behind_one c t xs (a_number z w n e) = rw e
 behind_one c t xs (a_junk w n e) = rw e
 
 module _ (tape : Text) (line : List ℕ) {o : Option (List Lexeme)} where
-  pub leads_nowhere : o ≡ none → Leads tape line o Nothing
-  leads_nowhere e = record { is = sym e; placed = λ k b q. absurd (let z : ◌≡◌ {A = ℕ} 0 1 = cc in omega arith) }
+  pub leads_nowhere : o ≡ none → Leads tape line o std.None
+  leads_nowhere e = record { is = sym e; placed = λ p q. cc }
 
-  pub leads_to : (k b : ℕ) → o ≡ some (left (tokens_of tape tape line) k b) → Placed line k b → Leads tape line o (At k b)
-  leads_to k b e h = record { is = sym e; placed = same }
+  pub leads_to : (p : Place) → o ≡ some (left (tokens_of tape tape line) p.token p.byte) → Placed line p.token p.byte → Leads tape line o (std.Some p)
+  leads_to p e h = record { is = sym e; placed = same }
     where
-      same : (m n : ℕ) → At k b ≡ At m n → Placed line m n
-      same m n q = let x : k ≡ m = cc in let y : b ≡ n = cc in rw (← x, ← y) h
+      same : (u : Place) → std.Some p ≡ std.Some u → Placed line u.token u.byte
+      same u q = let x : p ≡ u = cc in rw (← x) h
 
 module _ (tape : Text) (line : List ℕ) (h : Readable tape line) (k b : ℕ) (p : Placed line k b) where
-  pub byte_past : (c : ℕ) → length line ≤ k → Leads tape line (behind (c ∷ []) (left (tokens_of tape tape line) k b)) Nothing
+  pub byte_past : (c : ℕ) → length line ≤ k → Leads tape line (behind (c ∷ []) (left (tokens_of tape tape line) k b)) std.None
   unfolding behind
   byte_past c l = leads_nowhere tape line (ap (behind (c ∷ [])) (left_end tape line k b l))
 
   module _ (l : k < length line) {x : ℕ} (ex : x ≡ kind_of (get_or line k 0)) where
-    pub byte_other : (c : ℕ) → (x ≡ Punct → ⊥) → Leads tape line (behind (c ∷ []) (left (tokens_of tape tape line) k b)) Nothing
+    pub byte_other : (c : ℕ) → (x ≡ Punct → ⊥) → Leads tape line (behind (c ∷ []) (left (tokens_of tape tape line) k b)) std.None
     byte_other c n =
         let m : kind_of (get_or line k 0) ≡ Punct → ⊥ = λ e. n (ex ∙ e) in
         leads_nowhere tape line
@@ -67,17 +69,17 @@ module _ (tape : Text) (line : List ℕ) (h : Readable tape line) (k b : ℕ) (p
       found : (c : ℕ) → behind (c ∷ []) (left (tokens_of tape tape line) k b) ≡ (when eqb (get_or s b 0) c then some (left (tokens_of tape tape line) k (b + 1)) else none)
       found c = ap (behind (c ∷ [])) (left_sign tape line k l points kind b inside) ∙ behind-sign c _ _ ∙ rw es refl
 
-      pub byte_differs : (c : ℕ) → (get_or s b 0 ≡ c → ⊥) → Leads tape line (behind (c ∷ []) (left (tokens_of tape tape line) k b)) Nothing
+      pub byte_differs : (c : ℕ) → (get_or s b 0 ≡ c → ⊥) → Leads tape line (behind (c ∷ []) (left (tokens_of tape tape line) k b)) std.None
       byte_differs c n = leads_nowhere tape line (found c ∙ if-false _ _ (ne_eqb _ _ n))
 
-      pub byte_more : (c : ℕ) → get_or s b 0 ≡ c → b + 1 < length s → Leads tape line (behind (c ∷ []) (left (tokens_of tape tape line) k b)) (At k (b + 1))
+      pub byte_more : (c : ℕ) → get_or s b 0 ≡ c → b + 1 < length s → Leads tape line (behind (c ∷ []) (left (tokens_of tape tape line) k b)) (std.Some (record { token = k; byte = b + 1 }))
       byte_more c e m =
-          leads_to tape line k (b + 1) (found c ∙ if-true _ _ (eq-eqb _ _ e))
+          leads_to tape line (record { token = k; byte = b + 1 }) (found c ∙ if-true _ _ (eq-eqb _ _ e))
           (λ q. omega (arith, size_punct tape line k l points kind, text_length points, rw es at m))
 
-      pub byte_last : (c : ℕ) → get_or s b 0 ≡ c → length s ≤ b + 1 → Leads tape line (behind (c ∷ []) (left (tokens_of tape tape line) k b)) (At (k + 1) 0)
+      pub byte_last : (c : ℕ) → get_or s b 0 ≡ c → length s ≤ b + 1 → Leads tape line (behind (c ∷ []) (left (tokens_of tape tape line) k b)) (std.Some (record { token = k + 1; byte = 0 }))
       byte_last c e m =
-          leads_to tape line (k + 1) 0
+          leads_to tape line (record { token = k + 1; byte = 0 })
           (found c ∙ if-true _ _ (eq-eqb _ _ e)
           ∙ ap (λ (r : List Lexeme). some r) (left_over tape line k l points kind (b + 1) (omega (arith, text_length points, rw es at m))))
           (placed-whole tape line h (k + 1))
@@ -96,71 +98,57 @@ behind_two c cs (sign b ∷ xs) = go (eqb b c)
     go true = unfold when◌then◌else◌ in refl
     go false = unfold when◌then◌else◌ in refl
 
-module _ (tape : Text) (line t : List ℕ) (k b i : ℕ) {o : Option (List Lexeme)} (inv : o ≡ behind (drop i t) (left (tokens_of tape tape line) k b)) where
-  pub text_over : length t ≤ i → Placed line k b → Leads tape line o (At k b)
+module _ (tape : Text) (line t : List ℕ) (p : Place) (i : ℕ) {o : Option (List Lexeme)} (inv : o ≡ behind (drop i t) (left (tokens_of tape tape line) p.token p.byte)) where
+  pub text_over : length t ≤ i → Placed line p.token p.byte → Leads tape line o (std.Some p)
   unfolding behind
-  text_over l p = leads_to tape line k b (inv ∙ ap (λ (r : Text). behind r (left (tokens_of tape tape line) k b)) (drop_past i t l)) p
+  text_over l h = leads_to tape line p (inv ∙ ap (λ (r : Text). behind r (left (tokens_of tape tape line) p.token p.byte)) (drop_past i t l)) h
 
-  module _ (l : i < length t) {r : Ahead} (q : Leads tape line (behind (get_or t i 0 ∷ []) (left (tokens_of tape tape line) k b)) r) where
+  module _ (l : i < length t) {r : std.Option Place} (q : Leads tape line (behind (get_or t i 0 ∷ []) (left (tokens_of tape tape line) p.token p.byte)) r) where
     here : o ≡ (let_some (ahead_of (tokens_of tape tape line) r) else none then λ xs. behind (drop (i + 1) t) xs)
     here =
         inv
-        ∙ ap (λ (s : Text). behind s (left (tokens_of tape tape line) k b)) (drop-cons t i 0 l)
-        ∙ behind_two (get_or t i 0) (drop (suc i) t) (left (tokens_of tape tape line) k b)
+        ∙ ap (λ (s : Text). behind s (left (tokens_of tape tape line) p.token p.byte)) (drop-cons t i 0 l)
+        ∙ behind_two (get_or t i 0) (drop (suc i) t) (left (tokens_of tape tape line) p.token p.byte)
         ∙ rw (← q.is, add-one i) refl
 
-    pub text_fails : r ≡ Nothing → Leads tape line o Nothing
+    pub text_fails : r ≡ std.None → Leads tape line o std.None
     unfolding let_some◌else◌then◌
     text_fails e = leads_nowhere tape line (here ∙ rw e refl)
 
-    pub text_goes : (m n : ℕ) → r ≡ At m n → o ≡ behind (drop (i + 1) t) (left (tokens_of tape tape line) m n)
+    pub text_goes : (u : Place) → r ≡ std.Some u → o ≡ behind (drop (i + 1) t) (left (tokens_of tape tape line) u.token u.byte)
     unfolding let_some◌else◌then◌
-    text_goes m n e = here ∙ rw e refl
+    text_goes u e = here ∙ rw e refl
 
-pub leads_placed : {tape : Text} {line : List ℕ} {o : Option (List Lexeme)} {r : Ahead} (k b : ℕ) → Leads tape line o r → r ≡ At k b → Placed line k b
-leads_placed k b q e = q.placed k b e
+pub leads_placed : {tape : Text} {line : List ℕ} {o : Option (List Lexeme)} {r : std.Option Place} (p : Place) → Leads tape line o r → r ≡ std.Some p → Placed line p.token p.byte
+leads_placed p q e = q.placed p e
 
 -- what an answer leads to
-pub leads_some : {tape : Text} {line : List ℕ} {o : Option (List Lexeme)} {r : Ahead} (k b : ℕ) → Leads tape line o r → r ≡ At k b
-    → o ≡ some (left (tokens_of tape tape line) k b)
-leads_some {tape} {line} k b q e = sym q.is ∙ ap (ahead_of (tokens_of tape tape line)) e
+pub leads_some : {tape : Text} {line : List ℕ} {o : Option (List Lexeme)} {r : std.Option Place} (p : Place) → Leads tape line o r → r ≡ std.Some p
+    → o ≡ some (left (tokens_of tape tape line) p.token p.byte)
+leads_some {tape} {line} p q e = sym q.is ∙ ap (ahead_of (tokens_of tape tape line)) e
 
-pub leads_none : {tape : Text} {line : List ℕ} {o : Option (List Lexeme)} {r : Ahead} → Leads tape line o r → r ≡ Nothing → o ≡ none
+pub leads_none : {tape : Text} {line : List ℕ} {o : Option (List Lexeme)} {r : std.Option Place} → Leads tape line o r → r ≡ std.None → o ≡ none
 leads_none {tape} {line} q e = sym q.is ∙ ap (ahead_of (tokens_of tape tape line)) e
 
 -- ---- operators
 
-module _ (tape : Text) (line : List ℕ) (xs : List Lexeme) {r : Ahead} (q : Leads tape line (behind (bytes " + ") xs) r) where
-  pub operator-adds : (k b : ℕ) → r ≡ At k b → Operates tape line (operator xs) (Adds k b)
-  unfolding operator let_some◌else◌then◌
-  operator-adds k b e =
-      record {
-        is = sym (rw (leads_some k b q e) refl);
-        adds_placed = same;
-        takes_placed = λ m n f. absurd (let z : ◌≡◌ {A = ℕ} 0 1 = cc in omega arith);
-      }
+module _ (tape : Text) (line : List ℕ) (xs : List Lexeme) {r : std.Option Place} (q : Leads tape line (behind (bytes " + ") xs) r) where
+  operates : (s : Sign) (p : Place) → operator xs ≡ some (operator_of s, left (tokens_of tape tape line) p.token p.byte) → Placed line p.token p.byte
+      → Operates tape line (operator xs) (std.Some (record { sign = s; place = p }))
+  operates s p e h = record { is = sym e; placed = same }
     where
-      same : (m n : ℕ) → Adds k b ≡ Adds m n → Placed line m n
-      same m n f = let x : k ≡ m = cc in let y : b ≡ n = cc in rw (← x, ← y) (q.placed k b e)
+      same : (u : Operation) → std.Some (record { sign = s; place = p }) ≡ std.Some u → Placed line u.place.token u.place.byte
+      same u f = let x : record { sign = s; place = p } ≡ u = cc in rw (← x) h
 
-  module _ (e : r ≡ Nothing) {s : Ahead} (p : Leads tape line (behind (bytes " - ") xs) s) where
-    pub operator-takes : (k b : ℕ) → s ≡ At k b → Operates tape line (operator xs) (Takes k b)
-    unfolding operator let_some◌else◌then◌
-    operator-takes k b f =
-        record {
-          is = sym (rw (leads_none q e, leads_some k b p f) refl);
-          adds_placed = λ m n f. absurd (let z : ◌≡◌ {A = ℕ} 0 1 = cc in omega arith);
-          takes_placed = same;
-        }
-      where
-        same : (m n : ℕ) → Takes k b ≡ Takes m n → Placed line m n
-        same m n g = let x : k ≡ m = cc in let y : b ≡ n = cc in rw (← x, ← y) (p.placed k b f)
+  pub operator-adds : (p : Place) → r ≡ std.Some p → Operates tape line (operator xs) (std.Some (record { sign = Plus; place = p }))
+  unfolding operator let_some◌else◌then◌
+  operator-adds p e = operates Plus p (rw (leads_some p q e) refl) (q.placed p e)
 
-    pub operator_none : s ≡ Nothing → Operates tape line (operator xs) Unoperated
+  module _ (e : r ≡ std.None) {s : std.Option Place} (z : Leads tape line (behind (bytes " - ") xs) s) where
+    pub operator-takes : (p : Place) → s ≡ std.Some p → Operates tape line (operator xs) (std.Some (record { sign = Minus; place = p }))
     unfolding operator let_some◌else◌then◌
-    operator_none f =
-        record {
-          is = sym (rw (leads_none q e, leads_none p f) refl);
-          adds_placed = λ m n f. absurd (let z : ◌≡◌ {A = ℕ} 0 1 = cc in omega arith);
-          takes_placed = λ m n f. absurd (let z : ◌≡◌ {A = ℕ} 0 1 = cc in omega arith);
-        }
+    operator-takes p f = operates Minus p (rw (leads_none q e, leads_some p z f) refl) (z.placed p f)
+
+    pub operator_none : s ≡ std.None → Operates tape line (operator xs) std.None
+    unfolding operator let_some◌else◌then◌
+    operator_none f = record { is = sym (rw (leads_none q e, leads_none z f) refl); placed = λ p g. cc }

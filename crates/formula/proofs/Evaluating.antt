@@ -1,28 +1,31 @@
 -- The answers of `term` and `expression`, case by case. Assumes nothing.
-use Rattle.std.proofs.Common.{◌≡◌, ℕ, ◌+◌, ◌*◌, ◌<◌, ◌≤◌, Bool, true, false, eqb, List, [], ◌∷◌, ◌++◌, length, get_or, ℤ, sym, refl, ap, ◌∙◌, arith}
+use Rattle.std.proofs.Common.{◌≡◌, ℕ, ◌+◌, ◌*◌, ◌<◌, ◌≤◌, Bool, true, false, eqb, List, ◌∷◌, ◌++◌, length, get_or, ℤ, sym, refl, ap, ◌∙◌, arith}
 use mathlib.Core.Bool.{false≢true}
+use Rattle.std.specs.Prelude as std
 use mathlib.Core.Option.{Option, none, some}
 use lib.ListN.{length-map}
 use Rattle.reference.specs.Control.{◌or◌, when◌then◌else◌, let_some◌else◌then◌}
 use Rattle.reference.specs.Lists.{any}
 use Rattle.reference.specs.Text.{Text, bytes}
 use Rattle.reference.specs.Listing.{Token, Punct}
-use Rattle.reference.specs.Evaluators.{Arithmetic, wide, number_of, Lexeme, sign, lexemes_of, behind, adds, takes, operator, fuel_for, combine}
+use Rattle.reference.specs.Evaluators.{Arithmetic, wide, number_of, Lexeme, sign, lexemes_of, behind, operator, fuel_for, combine}
 use Rattle.straight.proofs.Enough.{behind-length, operator-shorter, expression_of, term_of, further_of, expression_is, term_none, term-register, term_number, term-sign, further_is}
 use Rattle.lines.specs.Words.{kind_of, token_of, tokens_of, Points}
-use Rattle.formula.specs.Places.{left, Placed, Readable, Leads, operated_of, Operates}
+use Rattle.formula.specs.Places.{left, Placed, Readable, Leads, operator_of, operated_of, Operates}
 use Rattle.formula.specs.Terms.{is_junk, has_junk}
-use Rattle.formula.specs.Values.{Pair, pairs, joined, pair_at, no_token, Valued, told, worth_of, Worths, Term, Expression}
-use Rattle.formula.specs.declared.places.Ahead.{Ahead}
-use Rattle.formula.specs.declared.places.Ahead.TheVariants.{At, Nothing}
-use Rattle.formula.specs.declared.places.Operated.{Operated}
-use Rattle.formula.specs.declared.places.Operated.TheVariants.{Adds, Takes, Nothing as Unoperated}
-use Rattle.formula.specs.declared.evaluators.Worth.TheVariants.{Is}
-use Rattle.formula.specs.declared.evaluators.Joins.{Joins}
-use Rattle.formula.specs.declared.evaluators.Joins.TheVariants.{Begins, Adds as Add, Takes as Take}
+use Rattle.formula.specs.Values.{Pair, pairs, joined, pair_at, no_token, Valued, told, pair_of, worth_of, Worths, Term, Expression}
+use Rattle.formula.specs.declared.places.Place.{Place}
+use Rattle.formula.specs.declared.places.Sign.{Sign}
+use Rattle.formula.specs.declared.places.Sign.TheVariants.{Plus, Minus}
+use Rattle.formula.specs.declared.places.Operation.{Operation}
+use Rattle.formula.specs.declared.evaluators.Value.{Value}
 use Rattle.formula.proofs.Left.{left_end, left_sign, size_punct, left_other, no_punct, token_at, One, a_register, a_number, a_junk, one_of, placed-whole}
 use Rattle.formula.proofs.Ahead.{leads_some, leads_none}
 use Rattle.formula.proofs.Junk.{no_junk_at}
+
+-- a value, and the place before the token k
+abbrev pub before_token : ℕ → ℕ → ℕ → Value
+before_token m c k = record { multiplier = m; constant = c; place = record { token = k; byte = 0 } }
 
 -- ---- a term behind a bracket
 
@@ -44,7 +47,7 @@ module _ (number : ℤ → Pair) (σ : Text → Pair) where
 
 -- ---- an expression on the way: where it began, the sum so far, how the next term joins it, and the place of that term
 
-pub record Joining (tape : Text) (line values : List ℕ) (k₀ b₀ : ℕ) (how : Joins) (m c k b : ℕ) : Type 0 where
+pub record Joining (tape : Text) (line values : List ℕ) (k₀ b₀ : ℕ) (how : std.Option Sign) (m c k b : ℕ) : Type 0 where
   pub is : (number : ℤ → Pair) (σ : Text → Pair) → Valued number σ (tokens_of tape tape line) values
       → expression_of (pairs number) σ (left (tokens_of tape tape line) k₀ b₀)
       ≡ (let_some (term_of (pairs number) σ (left (tokens_of tape tape line) k b)) else none then λ r.
@@ -57,60 +60,60 @@ module _ (tape : Text) (line values : List ℕ) where
   -- ---- answers
 
   module _ {xs : List Lexeme} {f : Arithmetic Pair → (Text → Pair) → ℕ → List Lexeme → Option (Pair × List Lexeme)} where
-    breaks_by : (out : List ℕ)
+    breaks_by : (out : Value)
         → ((number : ℤ → Pair) (σ : Text → Pair) → Valued number σ ts values → f (pairs number) σ (fuel_for xs) xs ≡ none) → Worths tape line values xs f (told false out)
     unfolding told
     breaks_by out h =
         record {
           is = λ number σ v. sym (h number σ v);
-          placed = λ m c k b e. absurd (let z : ◌≡◌ {A = ℕ} 0 1 = cc in omega arith);
-          shorter = λ m c k b e. absurd (let z : ◌≡◌ {A = ℕ} 0 1 = cc in omega arith);
+          placed = λ u e. cc;
+          shorter = λ u e. cc;
         }
 
-    worth_by : {out : List ℕ} (m c k b : ℕ) → out ≡ m ∷ c ∷ k ∷ b ∷ []
-        → ((number : ℤ → Pair) (σ : Text → Pair) → Valued number σ ts values → f (pairs number) σ (fuel_for xs) xs ≡ some ((m, c), left ts k b))
-        → Placed line k b → length (left ts k b) < length xs → Worths tape line values xs f (told true out)
+    worth_by : {out : Value} (v : Value) → out ≡ v
+        → ((number : ℤ → Pair) (σ : Text → Pair) → Valued number σ ts values → f (pairs number) σ (fuel_for xs) xs ≡ some (pair_of v, left ts v.place.token v.place.byte))
+        → Placed line v.place.token v.place.byte → length (left ts v.place.token v.place.byte) < length xs → Worths tape line values xs f (told true out)
     unfolding told
-    worth_by m c k b e h p l = rw e (record { is = λ number σ v. sym (h number σ v); placed = same; shorter = less })
+    worth_by v e h p l = rw e (record { is = λ number σ w. sym (h number σ w); placed = same; shorter = less })
       where
-        same : (m' c' k' b' : ℕ) → Is m c k b ≡ Is m' c' k' b' → Placed line k' b'
-        same m' c' k' b' e = let x : k ≡ k' = cc in let y : b ≡ b' = cc in rw (← x, ← y) p
+        same : (u : Value) → std.Some v ≡ std.Some u → Placed line u.place.token u.place.byte
+        same u f = let x : v ≡ u = cc in rw (← x) p
 
-        less : (m' c' k' b' : ℕ) → Is m c k b ≡ Is m' c' k' b' → length (left ts k' b') < length xs
-        less m' c' k' b' e = let x : k ≡ k' = cc in let y : b ≡ b' = cc in rw (← x, ← y) l
+        less : (u : Value) → std.Some v ≡ std.Some u → length (left ts u.place.token u.place.byte) < length xs
+        less u f = let x : v ≡ u = cc in rw (← x) l
 
-    module _ {y : Bool} (out : List ℕ) (q : Worths tape line values xs f (told y out)) where
+    module _ {y : Bool} (out : Value) (q : Worths tape line values xs f (told y out)) where
       pub worth_none : y ≡ false → (number : ℤ → Pair) (σ : Text → Pair) → Valued number σ ts values → f (pairs number) σ (fuel_for xs) xs ≡ none
       unfolding told
       worth_none e number σ v = sym (q.is number σ v) ∙ ap (λ (x : Bool). worth_of ts (told x out)) e
 
       module _ (e : y ≡ true) where
-        so : told y out ≡ Is (get_or out 0 0) (get_or out 1 0) (get_or out 2 0) (get_or out 3 0)
+        so : told y out ≡ std.Some out
         unfolding told
         so = ap (λ (x : Bool). told x out) e
 
         pub worth_some : (number : ℤ → Pair) (σ : Text → Pair) → Valued number σ ts values
-            → f (pairs number) σ (fuel_for xs) xs ≡ some ((get_or out 0 0, get_or out 1 0), left ts (get_or out 2 0) (get_or out 3 0))
+            → f (pairs number) σ (fuel_for xs) xs ≡ some ((out.multiplier, out.constant), left ts out.place.token out.place.byte)
         worth_some number σ v = sym (q.is number σ v) ∙ ap (worth_of ts) so
 
-        pub worth-placed : Placed line (get_or out 2 0) (get_or out 3 0)
-        worth-placed = q.placed _ _ _ _ so
+        pub worth-placed : Placed line out.place.token out.place.byte
+        worth-placed = q.placed _ so
 
-        worth-shorter : length (left ts (get_or out 2 0) (get_or out 3 0)) < length xs
-        worth-shorter = q.shorter _ _ _ _ so
+        worth-shorter : length (left ts out.place.token out.place.byte) < length xs
+        worth-shorter = q.shorter _ so
 
   -- ---- a term
 
   module _ (h : Readable tape line) (k b : ℕ) (p : Placed line k b) where
-    pub term_past : (out : List ℕ) → length line ≤ k → Term tape line values k b (told false out)
+    pub term_past : (out : Value) → length line ≤ k → Term tape line values k b (told false out)
     term_past out l = breaks_by out (λ number σ v. ap (term_of (pairs number) σ) (left_end tape line k b l) ∙ term_none (pairs number) σ)
 
     module _ (l : k < length line) {x : ℕ} (ex : x ≡ kind_of (get_or line k 0)) where
       -- another token than a Punct
-      pub term-worth : (x ≡ Punct → ⊥) → has_junk tape line ≡ false → {m c : ℕ} {out : List ℕ} → m ≡ get_or values (2 * k) 0 → c ≡ get_or values (2 * k + 1) 0
-          → out ≡ m ∷ c ∷ (k + 1) ∷ 0 ∷ [] → Term tape line values k b (told true out)
+      pub term-worth : (x ≡ Punct → ⊥) → has_junk tape line ≡ false → {m c : ℕ} {out : Value} → m ≡ get_or values (2 * k) 0 → c ≡ get_or values (2 * k + 1) 0
+          → out ≡ before_token m c (k + 1) → Term tape line values k b (told true out)
       term-worth n free {m} {c} em ec eo =
-          worth_by m c (k + 1) 0 eo (λ number σ v. ap (term_of (pairs number) σ) whole ∙ go number σ v one) (placed-whole tape line h (k + 1)) fewer
+          worth_by (before_token m c (k + 1)) eo (λ number σ v. ap (term_of (pairs number) σ) whole ∙ go number σ v one) (placed-whole tape line h (k + 1)) fewer
         where
           other : kind_of (get_or line k 0) ≡ Punct → ⊥
           other e = n (ex ∙ e)
@@ -149,7 +152,7 @@ module _ (tape : Text) (line values : List ℕ) where
               junked = unfold is_junk ◌or◌ in rw e refl
 
       -- a Punct: a bracket, or nothing
-      module _ (ep : x ≡ Punct) {r : Ahead} (q : Leads tape line (behind (bytes "(") (left ts k b)) r) where
+      module _ (ep : x ≡ Punct) {r : std.Option Place} (q : Leads tape line (behind (bytes "(") (left ts k b)) r) where
         points : Points tape tape (get_or line k 0)
         points = h.holds.at k l
 
@@ -163,111 +166,100 @@ module _ (tape : Text) (line values : List ℕ) where
             ap (term_of (pairs number) σ) s ∙ term-opened number σ _ _
             ∙ ap (λ (xs : List Lexeme). let_some (behind (bytes "(") xs) else none then λ zs. bracket (expression_of (pairs number) σ zs)) (sym s)
 
-        pub term_unopened : (out : List ℕ) → r ≡ Nothing → Term tape line values k b (told false out)
+        pub term_unopened : (out : Value) → r ≡ std.None → Term tape line values k b (told false out)
         unfolding let_some◌else◌then◌
         term_unopened out e = breaks_by out (λ number σ v. opened number σ ∙ rw (leads_none q e) refl)
 
-        inner : (i j : ℕ) → r ≡ At i j → (number : ℤ → Pair) (σ : Text → Pair)
-            → term_of (pairs number) σ (left ts k b) ≡ bracket (expression_of (pairs number) σ (left ts i j))
+        inner : (i : Place) → r ≡ std.Some i → (number : ℤ → Pair) (σ : Text → Pair)
+            → term_of (pairs number) σ (left ts k b) ≡ bracket (expression_of (pairs number) σ (left ts i.token i.byte))
         unfolding let_some◌else◌then◌
-        inner i j e number σ = opened number σ ∙ rw (leads_some i j q e) refl
+        inner i e number σ = opened number σ ∙ rw (leads_some i q e) refl
 
-        module _ (i j : ℕ) (e : r ≡ At i j) {y : Bool} (out : List ℕ) (w : Expression tape line values i j (told y out)) where
+        module _ (i : Place) (e : r ≡ std.Some i) {y : Bool} (out : Value) (w : Expression tape line values i.token i.byte (told y out)) where
           pub term-broken : y ≡ false → Term tape line values k b (told false out)
           unfolding let_some◌else◌then◌ bracket
-          term-broken f = breaks_by out (λ number σ v. inner i j e number σ ∙ rw (worth_none out w f number σ v) refl)
+          term-broken f = breaks_by out (λ number σ v. inner i e number σ ∙ rw (worth_none out w f number σ v) refl)
 
-          module _ (f : y ≡ true) {u : Ahead} (z : Leads tape line (behind (bytes ")") (left ts (get_or out 2 0) (get_or out 3 0))) u) where
-            pub term_unclosed : u ≡ Nothing → Term tape line values k b (told false out)
+          module _ (f : y ≡ true) {u : std.Option Place} (z : Leads tape line (behind (bytes ")") (left ts out.place.token out.place.byte)) u) where
+            pub term_unclosed : u ≡ std.None → Term tape line values k b (told false out)
             unfolding let_some◌else◌then◌ bracket
-            term_unclosed g = breaks_by out (λ number σ v. inner i j e number σ ∙ rw (worth_some out w f number σ v, leads_none z g) refl)
+            term_unclosed g = breaks_by out (λ number σ v. inner i e number σ ∙ rw (worth_some out w f number σ v, leads_none z g) refl)
 
-            pub term_closed : (i' j' : ℕ) → u ≡ At i' j' → {out' : List ℕ} → out' ≡ get_or out 0 0 ∷ get_or out 1 0 ∷ i' ∷ j' ∷ [] → Term tape line values k b (told true out')
+            pub term_closed : (i' : Place) → u ≡ std.Some i' → {out' : Value} → out' ≡ record out { place = i' } → Term tape line values k b (told true out')
             unfolding let_some◌else◌then◌ bracket
-            term_closed i' j' g eo =
-                worth_by (get_or out 0 0) (get_or out 1 0) i' j' eo
-                (λ number σ v. inner i j e number σ ∙ rw (worth_some out w f number σ v, leads_some i' j' z g) refl) (z.placed i' j' g)
+            term_closed i' g eo =
+                worth_by (record out { place = i' }) eo
+                (λ number σ v. inner i e number σ ∙ rw (worth_some out w f number σ v, leads_some i' z g) refl) (z.placed i' g)
                 (omega (
                   arith,
-                  behind-length (bytes "(") (left ts k b) (left ts i j) (leads_some i j q e),
+                  behind-length (bytes "(") (left ts k b) (left ts i.token i.byte) (leads_some i q e),
                   worth-shorter out w f,
-                  behind-length (bytes ")") (left ts (get_or out 2 0) (get_or out 3 0)) (left ts i' j') (leads_some i' j' z g),
+                  behind-length (bytes ")") (left ts out.place.token out.place.byte) (left ts i'.token i'.byte) (leads_some i' z g),
                 ))
 
   -- ---- an expression
 
-  pub joining_begins : (m c k b : ℕ) → Joining tape line values k b Begins m c k b
+  pub joining_begins : (m c k b : ℕ) → Joining tape line values k b std.None m c k b
   joining_begins m c k b = record { is = λ number σ v. expression_is (pairs number) σ (left ts k b) }
 
-  module _ (k₀ b₀ : ℕ) {how : Joins} (m c k b : ℕ) (inv : Joining tape line values k₀ b₀ how m c k b) {y : Bool} (out : List ℕ) (w : Term tape line values k b (told y out)) where
+  module _ (k₀ b₀ : ℕ) {how : std.Option Sign} (m c k b : ℕ) (inv : Joining tape line values k₀ b₀ how m c k b) {y : Bool} (out : Value) (w : Term tape line values k b (told y out)) where
     pub expression-broken : y ≡ false → Expression tape line values k₀ b₀ (told false out)
     unfolding let_some◌else◌then◌
     expression-broken e = breaks_by out (λ number σ v. inv.is number σ v ∙ rw (worth_none out w e number σ v) refl)
 
     -- behind the term
-    module _ (e : y ≡ true) {m' c' : ℕ} (em : m' ≡ joined how m (get_or out 0 0)) (ec : c' ≡ joined how c (get_or out 1 0)) {o : Operated}
-        (q : Operates tape line (operator (left ts (get_or out 2 0) (get_or out 3 0))) o) where
+    module _ (e : y ≡ true) {m' c' : ℕ} (em : m' ≡ joined how m out.multiplier) (ec : c' ≡ joined how c out.constant) {o : std.Option Operation}
+        (q : Operates tape line (operator (left ts out.place.token out.place.byte)) o) where
       summed : (number : ℤ → Pair) (σ : Text → Pair) → Valued number σ ts values
           → expression_of (pairs number) σ (left ts k₀ b₀)
-          ≡ (let_some (operated_of ts o) else some ((m', c'), left ts (get_or out 2 0) (get_or out 3 0)) then λ p.
+          ≡ (let_some (operated_of ts o) else some ((m', c'), left ts out.place.token out.place.byte) then λ p.
           let_some (term_of (pairs number) σ p.1) else none then λ r. further_of (pairs number) σ (combine (pairs number) p.0 (m', c') r.0) r.1)
       unfolding let_some◌else◌then◌
       summed number σ v =
           inv.is number σ v ∙ rw (worth_some out w e number σ v, ← em, ← ec) refl
-          ∙ further_is (pairs number) σ (m', c') (left ts (get_or out 2 0) (get_or out 3 0)) ∙ rw (← q.is) refl
+          ∙ further_is (pairs number) σ (m', c') (left ts out.place.token out.place.byte) ∙ rw (← q.is) refl
 
-      pub expression-over : length (left ts k b) ≤ length (left ts k₀ b₀) → o ≡ Unoperated → {out' : List ℕ} → out' ≡ m' ∷ c' ∷ get_or out 2 0 ∷ get_or out 3 0 ∷ []
+      pub expression-over : length (left ts k b) ≤ length (left ts k₀ b₀) → o ≡ std.None → {out' : Value} → out' ≡ record out { multiplier = m'; constant = c' }
           → Expression tape line values k₀ b₀ (told true out')
       unfolding let_some◌else◌then◌
       expression-over l f eo =
-          worth_by m' c' (get_or out 2 0) (get_or out 3 0) eo (λ number σ v. summed number σ v ∙ rw f refl) (worth-placed out w e) (omega (arith, worth-shorter out w e))
+          worth_by (record out { multiplier = m'; constant = c' }) eo (λ number σ v. summed number σ v ∙ rw f refl) (worth-placed out w e) (omega (arith, worth-shorter out w e))
 
-      module _ (i j : ℕ) where
-        pub joining_adds : o ≡ Adds i j → Joining tape line values k₀ b₀ Add m' c' i j
-        unfolding let_some◌else◌then◌ combine
-        joining_adds f = record { is = λ number σ v. summed number σ v ∙ rw f refl }
-
-        pub joining_takes : o ≡ Takes i j → Joining tape line values k₀ b₀ Take m' c' i j
-        unfolding let_some◌else◌then◌ combine
-        joining_takes f = record { is = λ number σ v. summed number σ v ∙ rw f refl }
+      pub joining_goes : (i : Operation) → o ≡ std.Some i → Joining tape line values k₀ b₀ (std.Some i.sign) m' c' i.place.token i.place.byte
+      unfolding let_some◌else◌then◌
+      joining_goes i f = record { is = λ number σ v. summed number σ v ∙ rw f (by number σ i.sign) }
+        where
+          by : (number : ℤ → Pair) (σ : Text → Pair) (s : Sign)
+              → (let_some (term_of (pairs number) σ (left ts i.place.token i.place.byte)) else none then λ r.
+              further_of (pairs number) σ (combine (pairs number) (operator_of s) (m', c') r.0) r.1)
+              ≡ (let_some (term_of (pairs number) σ (left ts i.place.token i.place.byte)) else none then λ r.
+              further_of (pairs number) σ (joined (std.Some s) m' r.0.0, joined (std.Some s) c' r.0.1) r.1)
+          by number σ Plus = unfold combine in refl
+          by number σ Minus = unfold combine in refl
 
   -- ---- what is left falls
 
-  pub opens-shorter : (k b : ℕ) {r : Ahead} (i j : ℕ) → Leads tape line (behind (bytes "(") (left ts k b)) r → r ≡ At i j → length (left ts i j) < length (left ts k b)
-  opens-shorter k b i j q e = omega (arith, behind-length (bytes "(") (left ts k b) (left ts i j) (leads_some i j q e))
+  pub opens-shorter : (k b : ℕ) {r : std.Option Place} (i : Place) → Leads tape line (behind (bytes "(") (left ts k b)) r → r ≡ std.Some i
+      → length (left ts i.token i.byte) < length (left ts k b)
+  opens-shorter k b i q e = omega (arith, behind-length (bytes "(") (left ts k b) (left ts i.token i.byte) (leads_some i q e))
 
   -- behind a term and the operator that follows it
-  module _ (k b : ℕ) {y : Bool} (out : List ℕ) (w : Term tape line values k b (told y out)) (e : y ≡ true) {o : Operated}
-      (q : Operates tape line (operator (left ts (get_or out 2 0) (get_or out 3 0))) o) (i j : ℕ) where
-    pub adds_placed : o ≡ Adds i j → Placed line i j
-    adds_placed f = q.adds_placed i j f
+  module _ (k b : ℕ) {y : Bool} (out : Value) (w : Term tape line values k b (told y out)) (e : y ≡ true) {o : std.Option Operation}
+      (q : Operates tape line (operator (left ts out.place.token out.place.byte)) o) (i : Operation) (f : o ≡ std.Some i) where
+    pub next_placed : Placed line i.place.token i.place.byte
+    next_placed = q.placed i f
 
-    pub takes_placed : o ≡ Takes i j → Placed line i j
-    takes_placed f = q.takes_placed i j f
-
-    pub adds-less : o ≡ Adds i j → length (left ts i j) < length (left ts k b)
-    adds-less f =
+    pub next-less : length (left ts i.place.token i.place.byte) < length (left ts k b)
+    next-less =
         omega (
           arith,
           worth-shorter out w e,
-          operator-shorter (left ts (get_or out 2 0) (get_or out 3 0)) (adds, left ts i j) (sym q.is ∙ ap (operated_of ts) f),
-        )
-
-    pub takes-less : o ≡ Takes i j → length (left ts i j) < length (left ts k b)
-    takes-less f =
-        omega (
-          arith,
-          worth-shorter out w e,
-          operator-shorter (left ts (get_or out 2 0) (get_or out 3 0)) (takes, left ts i j) (sym q.is ∙ ap (operated_of ts) f),
+          operator-shorter (left ts out.place.token out.place.byte) (operator_of i.sign, left ts i.place.token i.place.byte) (sym q.is ∙ ap (operated_of ts) f),
         )
 
     -- and not above what was left at the beginning
-    module _ (k₀ b₀ : ℕ) (l : length (left ts k b) ≤ length (left ts k₀ b₀)) where
-      pub adds-within : o ≡ Adds i j → length (left ts i j) ≤ length (left ts k₀ b₀)
-      adds-within f = omega (arith, adds-less f)
-
-      pub takes-within : o ≡ Takes i j → length (left ts i j) ≤ length (left ts k₀ b₀)
-      takes-within f = omega (arith, takes-less f)
+    pub next-within : (k₀ b₀ : ℕ) → length (left ts k b) ≤ length (left ts k₀ b₀) → length (left ts i.place.token i.place.byte) ≤ length (left ts k₀ b₀)
+    next-within k₀ b₀ l = omega (arith, next-less)
 
 -- ---- the measure of a call
 

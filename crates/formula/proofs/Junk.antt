@@ -12,7 +12,7 @@ use Rattle.laws.proofs.Scans.{or_true, or_false, any_append}
 use Rattle.lines.specs.Words.{kind_of, text_of, token_of, tokens_of}
 use Rattle.formula.specs.Terms.{is_junk, has_junk}
 use Rattle.formula.specs.Values.{pairs, Evaluates}
-use Rattle.formula.specs.declared.evaluators.Worth.TheVariants.{Breaks}
+use Rattle.std.specs.Prelude as std
 use Rattle.formula.proofs.Left.{drop_past, punct-lexemes, One, a_register, a_number, a_junk, one_of}
 
 -- ---- what is read has none
@@ -84,7 +84,7 @@ module _ {X : Type 0} (a : Arithmetic X) (σ : Text → X) where
       go none e = refl
       go (some v) e = absurd (false≢true (sym (evaluated before xs v e) ∙ h))
 
-pub whole-junk : (tape : Text) (line values before : List ℕ) {x : Bool} → x ≡ has_junk tape line → x ≡ true → Evaluates tape line values before Breaks
+pub whole-junk : (tape : Text) (line values before : List ℕ) {x : Bool} → x ≡ has_junk tape line → x ≡ true → Evaluates tape line values before std.None
 whole-junk tape line values before e h number σ v = sym (evaluate-junk (pairs number) σ before (lexemes (tokens_of tape tape line)) (sym e ∙ h))
 
 pub no_junk : (tape : Text) (line : List ℕ) {x : Bool} → x ≡ has_junk tape line → x ≡ false → has_junk tape line ≡ false

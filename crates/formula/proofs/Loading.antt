@@ -8,14 +8,14 @@ use Rattle.reference.proofs.Reading.{passed_inj}
 use Rattle.reference.proofs.Tapes.{read-limits}
 use Rattle.lines.specs.Words.{token_of, Holds}
 use Rattle.lines.specs.Lines.{part_of, Reading, own, line_read, listing_read}
-use Rattle.lines.specs.Shapes.{found}
-use Rattle.lines.specs.declared.shapes.Position.{Position}
 use Rattle.lines.proofs.words.Tokens.{text_length}
 use Rattle.tape.specs.declared.questions.Totals.{Totals}
 use Rattle.tables.specs.Tables.{Loaded}
 use Rattle.tables.proofs.loading.Loaded.{loaded-limits}
 use Rattle.formula.specs.Places.{Readable}
 use Rattle.formula.specs.Profile.{Filled}
+use Rattle.std.specs.Prelude as std
+use Rattle.reference.specs.Options.{option_of}
 
 mapped_at : {A B : Type 0} (P : B → Type 0) (f : A → B) (xs : List A) (d : A) → All P (map f xs) → (k : ℕ) → k < length xs → P (f (get_or xs k d))
 mapped_at P f [] d h k l = absurd (omega arith)
@@ -52,6 +52,6 @@ module _ (tape tokens lines addresses : List ℕ) (t : Totals) (l : Loaded tape 
   pub lines_fit : 256 ≡ length lines → t.lines ≤ length lines
   lines_fit e = omega (arith, loaded-limits l)
 
-  pub breaks_is : (r : Position) → ((reading : Reading) → found r ≡ breaks (listing_read tape tape (take t.tokens tokens) reading (take t.lines lines)))
-      → (input : Listing) → read tape ≡ Passed input → found r ≡ breaks input
+  pub breaks_is : (r : std.Option ℕ) → ((reading : Reading) → option_of r ≡ breaks (listing_read tape tape (take t.tokens tokens) reading (take t.lines lines)))
+      → (input : Listing) → read tape ≡ Passed input → option_of r ≡ breaks input
   breaks_is r h input e = h (own addresses) ∙ ap breaks (passed_inj (sym (l.listing tape) ∙ e))

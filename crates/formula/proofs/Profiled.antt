@@ -1,9 +1,8 @@
 -- The profile of a line and of a listing, case by case. Assumes nothing.
-use Rattle.std.proofs.Common.{◌≡◌, ℕ, suc, ◌+◌, ◌-◌, ◌<◌, ◌≤◌, Bool, true, false, not as flip, eqb, List, [], ◌∷◌, length, get_or, take, drop, sym, refl, ap, ◌∙◌, pos_of_ne-zero, add-one, arith}
+use Rattle.std.proofs.Common.{◌≡◌, ℕ, suc, ◌+◌, ◌-◌, ◌<◌, ◌≤◌, Bool, true, false, eqb, List, [], ◌∷◌, length, get_or, take, drop, sym, refl, ap, ◌∙◌, add-one, arith}
 use Rattle.std.proofs.Common.{length-drop, drop-cons, eq-eqb, ne_eqb}
 use mathlib.Core.Path.{subst⁻¹}
 use mathlib.Core.Option.{none, some}
-use borrow.Author.Tests.{not-true, not-false}
 use Rattle.reference.specs.Control.{◌and◌, when◌then◌else◌}
 use Rattle.reference.specs.Lists.{is_some}
 use Rattle.reference.specs.Text.{Text, bytes}
@@ -12,10 +11,9 @@ use Rattle.reference.specs.Evaluators.{modulo, wide}
 use Rattle.reference.specs.Straight.{zeros, assigned_value, returned_value, puncts_apart, assigns_wide, returns_value, breaks_from, breaks}
 use Rattle.laws.proofs.Parts.{to_end}
 use Rattle.laws.proofs.Scans.{if-true, if-false, and_true, and_false}
-use Rattle.lines.specs.Words.{token_of, tokens_of, Points}
-use Rattle.lines.specs.Lines.{first_of, count_of, indent_of, part_of, Reading, line_read, listing_read}
+use Rattle.lines.specs.Words.{token_of, tokens_of}
+use Rattle.lines.specs.Lines.{indent_of, part_of, Reading, line_read, listing_read}
 use Rattle.formula.specs.Places.{Readable}
-use Rattle.formula.specs.Profile.{Filled}
 
 -- ---- the tokens behind the first one
 
@@ -32,72 +30,72 @@ readable-rest tape line h = readable_same tape (to_end 1 line) (rest line h)
 -- ---- a line
 
 module _ (tape : Text) where
-  pub wide-empty : (line : List ℕ) → length line ≡ 0 → false ≡ assigns_wide (tokens_of tape tape line)
+  pub wide-empty : (line : List ℕ) → length line < 1 → false ≡ assigns_wide (tokens_of tape tape line)
   unfolding assigns_wide
   wide-empty [] e = refl
   wide-empty (w ∷ ws) e = absurd (omega arith)
 
-  pub value_empty : (line : List ℕ) → length line ≡ 0 → false ≡ returns_value (tokens_of tape tape line)
+  pub value_empty : (line : List ℕ) → length line < 1 → false ≡ returns_value (tokens_of tape tape line)
   unfolding returns_value
   value_empty [] e = refl
   value_empty (w ∷ ws) e = absurd (omega arith)
 
-  pub wide-other : (line : List ℕ) {x : Bool} → (length line ≡ 0 → ⊥) → x ≡ is_some (wide (token_of tape tape (get_or line 0 0))) → flip x ≡ true
+  pub wide-other : (line : List ℕ) {x : Bool} → 1 ≤ length line → x ≡ is_some (wide (token_of tape tape (get_or line 0 0))) → x ≡ false
       → false ≡ assigns_wide (tokens_of tape tape line)
   unfolding assigns_wide
   wide-other [] n ex hx = refl
-  wide-other (w ∷ ws) n ex hx = sym (and_false _ (sym ex ∙ not-true _ hx))
+  wide-other (w ∷ ws) n ex hx = sym (and_false _ (sym ex ∙ hx))
 
-  pub value_other : (line : List ℕ) {x : Bool} → (length line ≡ 0 → ⊥) → x ≡ is_kw (bytes "return") (token_of tape tape (get_or line 0 0)) → flip x ≡ true
+  pub value_other : (line : List ℕ) {x : Bool} → 1 ≤ length line → x ≡ is_kw (bytes "return") (token_of tape tape (get_or line 0 0)) → x ≡ false
       → false ≡ returns_value (tokens_of tape tape line)
   unfolding returns_value
   value_other [] n ex hx = refl
-  value_other (w ∷ ws) n ex hx = sym (and_false _ (sym ex ∙ not-true _ hx))
+  value_other (w ∷ ws) n ex hx = sym (and_false _ (sym ex ∙ hx))
 
-  pub wide-unread : (line : List ℕ) {x y : Bool} → (length line ≡ 0 → ⊥) → x ≡ is_some (wide (token_of tape tape (get_or line 0 0))) → flip x ≡ false
-      → y ≡ is_some (assigned_value modulo zeros (tokens_of tape tape (take (length line - 1) (drop 1 line)))) → flip y ≡ true
+  pub wide-unread : (line : List ℕ) {x y : Bool} → 1 ≤ length line → x ≡ is_some (wide (token_of tape tape (get_or line 0 0))) → x ≡ true
+      → y ≡ is_some (assigned_value modulo zeros (tokens_of tape tape (take (length line - 1) (drop 1 line)))) → y ≡ false
       → false ≡ assigns_wide (tokens_of tape tape line)
   unfolding assigns_wide
   wide-unread [] n ex hx ey hy = refl
   wide-unread (w ∷ ws) n ex hx ey hy =
-      sym (and_true _ (sym ex ∙ not-false _ hx)
-      ∙ and_false _ (sym (ey ∙ ap (λ (us : List ℕ). is_some (assigned_value modulo zeros (tokens_of tape tape us))) (to_end 1 (w ∷ ws))) ∙ not-true _ hy))
+      sym (and_true _ (sym ex ∙ hx)
+      ∙ and_false _ (sym (ey ∙ ap (λ (us : List ℕ). is_some (assigned_value modulo zeros (tokens_of tape tape us))) (to_end 1 (w ∷ ws))) ∙ hy))
 
-  pub value_unread : (line : List ℕ) {x y : Bool} → (length line ≡ 0 → ⊥) → x ≡ is_kw (bytes "return") (token_of tape tape (get_or line 0 0)) → flip x ≡ false
-      → y ≡ is_some (returned_value modulo zeros (tokens_of tape tape (take (length line - 1) (drop 1 line)))) → flip y ≡ true
+  pub value_unread : (line : List ℕ) {x y : Bool} → 1 ≤ length line → x ≡ is_kw (bytes "return") (token_of tape tape (get_or line 0 0)) → x ≡ true
+      → y ≡ is_some (returned_value modulo zeros (tokens_of tape tape (take (length line - 1) (drop 1 line)))) → y ≡ false
       → false ≡ returns_value (tokens_of tape tape line)
   unfolding returns_value
   value_unread [] n ex hx ey hy = refl
   value_unread (w ∷ ws) n ex hx ey hy =
-      sym (and_true _ (sym ex ∙ not-false _ hx)
-      ∙ and_false _ (sym (ey ∙ ap (λ (us : List ℕ). is_some (returned_value modulo zeros (tokens_of tape tape us))) (to_end 1 (w ∷ ws))) ∙ not-true _ hy))
+      sym (and_true _ (sym ex ∙ hx)
+      ∙ and_false _ (sym (ey ∙ ap (λ (us : List ℕ). is_some (returned_value modulo zeros (tokens_of tape tape us))) (to_end 1 (w ∷ ws))) ∙ hy))
 
-  pub wide_by : (line : List ℕ) {x y r : Bool} → (length line ≡ 0 → ⊥) → x ≡ is_some (wide (token_of tape tape (get_or line 0 0))) → flip x ≡ false
-      → y ≡ is_some (assigned_value modulo zeros (tokens_of tape tape (take (length line - 1) (drop 1 line)))) → flip y ≡ false
+  pub wide_by : (line : List ℕ) {x y r : Bool} → 1 ≤ length line → x ≡ is_some (wide (token_of tape tape (get_or line 0 0))) → x ≡ true
+      → y ≡ is_some (assigned_value modulo zeros (tokens_of tape tape (take (length line - 1) (drop 1 line)))) → y ≡ true
       → ((t a : Text) → r ≡ puncts_apart false (tokens_of t a (take (length line - 1) (drop 1 line))))
       → r ≡ assigns_wide (tokens_of tape tape line)
   unfolding assigns_wide
-  wide_by [] n ex hx ey hy er = absurd (n refl)
+  wide_by [] n ex hx ey hy er = absurd (omega arith)
   wide_by (w ∷ ws) n ex hx ey hy er =
       er tape tape ∙ ap (λ (us : List ℕ). puncts_apart false (tokens_of tape tape us)) (to_end 1 (w ∷ ws))
-      ∙ sym (and_true _ (sym ex ∙ not-false _ hx)
-      ∙ and_true _ (sym (ey ∙ ap (λ (us : List ℕ). is_some (assigned_value modulo zeros (tokens_of tape tape us))) (to_end 1 (w ∷ ws))) ∙ not-false _ hy))
+      ∙ sym (and_true _ (sym ex ∙ hx)
+      ∙ and_true _ (sym (ey ∙ ap (λ (us : List ℕ). is_some (assigned_value modulo zeros (tokens_of tape tape us))) (to_end 1 (w ∷ ws))) ∙ hy))
 
-  pub value_by : (line : List ℕ) {x y r : Bool} → (length line ≡ 0 → ⊥) → x ≡ is_kw (bytes "return") (token_of tape tape (get_or line 0 0)) → flip x ≡ false
-      → y ≡ is_some (returned_value modulo zeros (tokens_of tape tape (take (length line - 1) (drop 1 line)))) → flip y ≡ false
+  pub value_by : (line : List ℕ) {x y r : Bool} → 1 ≤ length line → x ≡ is_kw (bytes "return") (token_of tape tape (get_or line 0 0)) → x ≡ true
+      → y ≡ is_some (returned_value modulo zeros (tokens_of tape tape (take (length line - 1) (drop 1 line)))) → y ≡ true
       → ((t a : Text) → r ≡ puncts_apart false (tokens_of t a (take (length line - 1) (drop 1 line))))
       → r ≡ returns_value (tokens_of tape tape line)
   unfolding returns_value
-  value_by [] n ex hx ey hy er = absurd (n refl)
+  value_by [] n ex hx ey hy er = absurd (omega arith)
   value_by (w ∷ ws) n ex hx ey hy er =
       er tape tape ∙ ap (λ (us : List ℕ). puncts_apart false (tokens_of tape tape us)) (to_end 1 (w ∷ ws))
-      ∙ sym (and_true _ (sym ex ∙ not-false _ hx)
-      ∙ and_true _ (sym (ey ∙ ap (λ (us : List ℕ). is_some (returned_value modulo zeros (tokens_of tape tape us))) (to_end 1 (w ∷ ws))) ∙ not-false _ hy))
+      ∙ sym (and_true _ (sym ex ∙ hx)
+      ∙ and_true _ (sym (ey ∙ ap (λ (us : List ℕ). is_some (returned_value modulo zeros (tokens_of tape tape us))) (to_end 1 (w ∷ ws))) ∙ hy))
 
 -- ---- with its indent
 
-pub here_other : (l indent : ℕ) (b : Bool) {x : ℕ} → x ≡ indent_of l → (x ≡ indent → ⊥) → false ≡ (eqb (indent_of l) indent and b)
-here_other l indent b ex n = sym (and_false b (ne_eqb _ _ (λ e. n (ex ∙ e))))
+pub here_other : (l indent : ℕ) (b : Bool) {x : ℕ} → x ≡ indent_of l → (x ≡ indent → ⊥) → eqb x indent ≡ (eqb (indent_of l) indent and b)
+here_other l indent b {x} ex n = ne_eqb x indent n ∙ sym (and_false b (ne_eqb _ _ (λ e. n (ex ∙ e))))
 
 module _ (tape : Text) (tokens : List ℕ) (l indent : ℕ) {x : ℕ} (ex : x ≡ indent_of l) (e : x ≡ indent) {us : List ℕ} (eu : us ≡ part_of tokens l) {y : Bool} where
   pub here_assigns : y ≡ assigns_wide (tokens_of tape tape us) → y ≡ (eqb (indent_of l) indent and assigns_wide (tokens_of tape tape (part_of tokens l)))
@@ -152,11 +150,11 @@ module _ (tape : Text) (tokens lines : List ℕ) where
         go (m ∷ ms) h = unfold breaks_from in rw (add-one i) refl
 
     module _ (l : i + 1 < length lines) {x : Bool} (ex : x ≡ (eqb (indent_of (get_or lines i 0)) indent and assigns_wide (tokens_of tape tape (part_of tokens (get_or lines i 0))))) where
-      pub step-breaks : flip x ≡ true → (reading : Reading) → some i ≡ breaks (listing_read tape tape tokens reading lines)
-      step-breaks h reading = sym (step reading l ∙ if-false _ _ (sym ex ∙ not-true _ h))
+      pub step-breaks : x ≡ false → (reading : Reading) → some i ≡ breaks (listing_read tape tape tokens reading lines)
+      step-breaks h reading = sym (step reading l ∙ if-false _ _ (sym ex ∙ h))
 
-      pub step-goes : flip x ≡ false → From indent (i + 1)
-      step-goes h reading = step reading l ∙ if-true _ _ (sym ex ∙ not-false _ h)
+      pub step-goes : x ≡ true → From indent (i + 1)
+      step-goes h reading = step reading l ∙ if-true _ _ (sym ex ∙ h)
 
     module _ (l : i + 1 ≡ length lines) {x : Bool} (ex : x ≡ (eqb (indent_of (get_or lines i 0)) indent and returns_value (tokens_of tape tape (part_of tokens (get_or lines i 0))))) where
       last_is : (reading : Reading) → breaks (listing_read tape tape tokens reading lines) ≡ (when x then none else some i)
@@ -168,24 +166,8 @@ module _ (tape : Text) (tokens lines : List ℕ) where
           go [] h = unfold breaks_from in rw ex refl
           go (m ∷ ms) h = absurd (omega arith)
 
-      pub last-breaks : flip x ≡ true → (reading : Reading) → some i ≡ breaks (listing_read tape tape tokens reading lines)
-      last-breaks h reading = sym (last_is reading ∙ if-false _ _ (not-true _ h))
+      pub last-breaks : x ≡ false → (reading : Reading) → some i ≡ breaks (listing_read tape tape tokens reading lines)
+      last-breaks h reading = sym (last_is reading ∙ if-false _ _ (h))
 
-      pub last_fits : flip x ≡ false → (reading : Reading) → none ≡ breaks (listing_read tape tape tokens reading lines)
-      last_fits h reading = sym (last_is reading ∙ if-true _ _ (not-false _ h))
-
--- what a line needs to be asked
-here_inside : (tape : Text) (tokens lines : List ℕ) (k : ℕ) → Filled tape tokens lines → k < length lines
-    → (first_of (get_or lines k 0) + count_of (get_or lines k 0) ≤ length tokens) × Readable tape (part_of tokens (get_or lines k 0))
-here_inside tape tokens lines k h l = ((h.listed.at k l).inside, h.readable k l)
-
-pub before-inside : (tape : Text) (tokens lines : List ℕ) (k last : ℕ) → Filled tape tokens lines → k < last → last + 1 ≡ length lines
-    → (first_of (get_or lines k 0) + count_of (get_or lines k 0) ≤ length tokens) × Readable tape (part_of tokens (get_or lines k 0))
-before-inside tape tokens lines k last h l e = here_inside tape tokens lines k h (omega arith)
-
-pub last-inside : (tape : Text) (tokens lines : List ℕ) (last : ℕ) → Filled tape tokens lines → last + 1 ≡ length lines
-    → (first_of (get_or lines last 0) + count_of (get_or lines last 0) ≤ length tokens) × Readable tape (part_of tokens (get_or lines last 0))
-last-inside tape tokens lines last h e = here_inside tape tokens lines last h (omega arith)
-
-pub first-points : (tape : Text) (line : List ℕ) → Readable tape line → (length line ≡ 0 → ⊥) → Points tape tape (get_or line 0 0)
-first-points tape line h n = h.holds.at 0 (pos_of_ne-zero n)
+      pub last_fits : x ≡ true → (reading : Reading) → none ≡ breaks (listing_read tape tape tokens reading lines)
+      last_fits h reading = sym (last_is reading ∙ if-true _ _ (h))

@@ -2,6 +2,8 @@
 use Rattle.std.proofs.Common.{◌≡◌, ℕ, ◌+◌, ◌<◌, ◌≤◌, Bool, true, false, List, [], ◌++◌, length, get_or, ℤ, sym, refl, ap, ◌∙◌, arith}
 use mathlib.Core.Logic.{by_cases}
 use native.Mathlib.Decide.{ℕ_discrete}
+use Rattle.std.specs.Prelude as std
+use Rattle.std.specs.Option as Option
 use mathlib.Core.Option.{none, some}
 use Rattle.reference.specs.Control.{when◌then◌else◌, let_some◌else◌then◌}
 use Rattle.reference.specs.Lists.{is_some, is_empty}
@@ -13,11 +15,9 @@ use Rattle.laws.proofs.Scans.{if-true, if-false}
 use Rattle.straight.proofs.Values.{read_alike}
 use Rattle.lines.specs.Words.{kind_of, token_of, tokens_of}
 use Rattle.formula.specs.Places.{left, Placed, Readable, Leads}
-use Rattle.formula.specs.Values.{Pair, pairs, Valued, told, Expression, value_of, Evaluates}
-use Rattle.formula.specs.declared.places.Ahead.{Ahead}
-use Rattle.formula.specs.declared.places.Ahead.TheVariants.{At, Nothing}
-use Rattle.formula.specs.declared.evaluators.Worth.{Worth}
-use Rattle.formula.specs.declared.evaluators.Worth.TheVariants.{Is, Breaks}
+use Rattle.formula.specs.Values.{Pair, pairs, Valued, Worth, told, pair_of, Expression, value_of, Evaluates}
+use Rattle.formula.specs.declared.places.Place.{Place}
+use Rattle.formula.specs.declared.evaluators.Value.{Value}
 use Rattle.formula.proofs.Left.{left_end, left_whole, left_sign, size_punct, left_other, no_punct, One, a_register, a_number, a_junk, one_of, placed-whole}
 use Rattle.formula.proofs.Ahead.{leads_some, leads_none}
 use Rattle.formula.proofs.Evaluating.{worth_none, worth_some}
@@ -44,7 +44,7 @@ left_some tape line h k b p l = by_cases (ℕ_discrete (kind_of (get_or line k 0
 pub begin_placed : (tape : Text) (line : List ℕ) → Readable tape line → Placed line 0 0
 begin_placed tape line h = placed-whole tape line h 0
 
-module _ (tape : Text) (line values before : List ℕ) (h : Readable tape line) {r : Ahead}
+module _ (tape : Text) (line values before : List ℕ) (h : Readable tape line) {r : std.Option Place}
     (q : Leads tape line (behind before (left (tokens_of tape tape line) 0 0)) r) where
   abbrev ts : List Token
   ts = tokens_of tape tape line
@@ -57,49 +57,53 @@ module _ (tape : Text) (line values before : List ℕ) (h : Readable tape line) 
   unfolding evaluate
   begun number σ = rw (left_whole tape line 0) refl
 
-  pub whole_unbegun : r ≡ Nothing → Evaluates tape line values before Breaks
+  pub whole_unbegun : r ≡ std.None → Evaluates tape line values before std.None
   unfolding let_some◌else◌then◌
   whole_unbegun e number σ v = sym (begun number σ ∙ rw (leads_none q e) refl)
 
-  module _ (i j : ℕ) (e : r ≡ At i j) {y : Bool} (out : List ℕ) (w : Expression tape line values i j (told y out)) where
-    pub whole-broken : y ≡ false → Evaluates tape line values before Breaks
+  module _ (i : Place) (e : r ≡ std.Some i) {y : Bool} (out : Value) (w : Expression tape line values i.token i.byte (told y out)) where
+    pub whole-broken : y ≡ false → Evaluates tape line values before std.None
     unfolding let_some◌else◌then◌
-    whole-broken f number σ v = sym (begun number σ ∙ rw (leads_some i j q e, worth_none tape line values out w f number σ v) refl)
+    whole-broken f number σ v = sym (begun number σ ∙ rw (leads_some i q e, worth_none tape line values out w f number σ v) refl)
 
-    module _ (f : y ≡ true) {u : Ahead} (z : Leads tape line (behind (bytes ";") (left ts (get_or out 2 0) (get_or out 3 0))) u) where
-      pub whole_unended : u ≡ Nothing → Evaluates tape line values before Breaks
+    module _ (f : y ≡ true) {u : std.Option Place} (z : Leads tape line (behind (bytes ";") (left ts out.place.token out.place.byte)) u) where
+      pub whole_unended : u ≡ std.None → Evaluates tape line values before std.None
       unfolding let_some◌else◌then◌
-      whole_unended g number σ v = sym (begun number σ ∙ rw (leads_some i j q e, worth_some tape line values out w f number σ v, leads_none z g) refl)
+      whole_unended g number σ v = sym (begun number σ ∙ rw (leads_some i q e, worth_some tape line values out w f number σ v, leads_none z g) refl)
 
-      module _ (i' j' : ℕ) (g : u ≡ At i' j') where
+      module _ (i' : Place) (g : u ≡ std.Some i') where
         ended : (number : ℤ → Pair) (σ : Text → Pair) → Valued number σ ts values
-            → evaluate (pairs number) σ before (lexemes ts) ≡ (when is_empty (left ts i' j') then some (get_or out 0 0, get_or out 1 0) else none)
+            → evaluate (pairs number) σ before (lexemes ts) ≡ (when is_empty (left ts i'.token i'.byte) then some (pair_of out) else none)
         unfolding let_some◌else◌then◌
-        ended number σ v = begun number σ ∙ rw (leads_some i j q e, worth_some tape line values out w f number σ v, leads_some i' j' z g) refl
+        ended number σ v = begun number σ ∙ rw (leads_some i q e, worth_some tape line values out w f number σ v, leads_some i' z g) refl
 
-        pub whole_more : i' < length line → Evaluates tape line values before Breaks
-        whole_more l number σ v = sym (ended number σ v ∙ if-false _ _ (left_some tape line h i' j' (z.placed i' j' g) l))
+        pub whole_more : i'.token < length line → Evaluates tape line values before std.None
+        whole_more l number σ v = sym (ended number σ v ∙ if-false _ _ (left_some tape line h i'.token i'.byte (z.placed i' g) l))
 
-        pub whole-ended : length line ≤ i' → Evaluates tape line values before (Is (get_or out 0 0) (get_or out 1 0) i' j')
-        whole-ended l number σ v = sym (ended number σ v ∙ if-true _ _ (ap is_empty (left_end tape line i' j' l)))
+        pub whole-ended : length line ≤ i'.token → Evaluates tape line values before (std.Some (record out { place = i' }))
+        whole-ended l number σ v = sym (ended number σ v ∙ if-true _ _ (ap is_empty (left_end tape line i'.token i'.byte l)))
 
 -- ---- whether a line is worth anything
 
 nothing-valued : (ts : List Token) → Valued (λ z. (0, 0)) (λ x. (0, 0)) ts []
 nothing-valued _ = record { register = λ k x l e. refl; number_is = λ k z l e. refl }
 
-module _ (tape : Text) (line before : List ℕ) (w : Worth) (q : Evaluates tape line [] before w) {x : Bool} (e : x ≡ is_some (value_of w)) where
+module _ (tape : Text) (line before : List ℕ) (w : Worth) (q : Evaluates tape line [] before w) {x : Bool} (e : x ≡ Option.is_some w) where
+  same_some : (w : Worth) → Option.is_some w ≡ is_some (value_of w)
+  same_some (std.Some v) = refl
+  same_some std.None = refl
+
   read_so : x ≡ is_some (evaluate modulo zeros before (lexemes (tokens_of tape tape line)))
   read_so =
-      e ∙ ap is_some (q (λ z. (0, 0)) (λ x. (0, 0)) (nothing-valued (tokens_of tape tape line)))
+      e ∙ same_some w ∙ ap is_some (q (λ z. (0, 0)) (λ x. (0, 0)) (nothing-valued (tokens_of tape tape line)))
       ∙ read_alike (pairs (λ z. (0, 0))) modulo (λ x. (0, 0)) zeros before (lexemes (tokens_of tape tape line))
 
-pub assigns_by : (tape : Text) (line : List ℕ) (w : Worth) → Evaluates tape line [] (bytes " = ") w → {x : Bool} → x ≡ is_some (value_of w)
+pub assigns_by : (tape : Text) (line : List ℕ) (w : Worth) → Evaluates tape line [] (bytes " = ") w → {x : Bool} → x ≡ Option.is_some w
     → x ≡ is_some (assigned_value modulo zeros (tokens_of tape tape line))
 unfolding assigned_value
 assigns_by tape line w q e = read_so tape line (bytes " = ") w q e
 
-pub returns_by : (tape : Text) (line : List ℕ) (w : Worth) → Evaluates tape line [] (bytes " ") w → {x : Bool} → x ≡ is_some (value_of w)
+pub returns_by : (tape : Text) (line : List ℕ) (w : Worth) → Evaluates tape line [] (bytes " ") w → {x : Bool} → x ≡ Option.is_some w
     → x ≡ is_some (returned_value modulo zeros (tokens_of tape tape line))
 unfolding returned_value
 returns_by tape line w q e = read_so tape line (bytes " ") w q e

@@ -1,5 +1,5 @@
 -- Which tokens are worth something: the cases of `is_wide`, `is_tidy` and `is_number`. Assumes nothing.
-use Rattle.std.proofs.Common.{◌≡◌, ℕ, zero, suc, ◌+◌, ◌-◌, ◌%◌, ◌^◌, ◌<◌, ◌≤◌, Bool, true, false, not as flip, eqb, List, [], ◌∷◌, length, get_or, take, drop, ℤ, sym, refl, ap, ◌∙◌, add-one, arith}
+use Rattle.std.proofs.Common.{◌≡◌, ℕ, ◌+◌, ◌-◌, ◌<◌, ◌≤◌, Bool, true, false, not as flip, eqb, List, [], ◌∷◌, length, get_or, take, drop, ℤ, sym, refl, ap, ◌∙◌, add-one, arith}
 use Rattle.std.proofs.Common.{drop-cons, eq-eqb, ne_eqb, le-leb}
 use mathlib.Core.Bool.{false≢true}
 use mathlib.Core.Option.{some}
@@ -11,31 +11,28 @@ use Rattle.reference.specs.Listing.{is, Number, Keyword, Punct}
 use Rattle.reference.specs.Shapes.{is_kw}
 use Rattle.reference.specs.Names.{fam_of}
 use Rattle.reference.specs.Numbers.{parse_c_number}
-use Rattle.reference.specs.Evaluators.{plus, minus, wide, is_tidy, number_of}
+use Rattle.reference.specs.Evaluators.{wide, is_tidy, number_of}
 use Rattle.reference.specs.Straight.{puncts_apart}
 use Rattle.laws.proofs.Parts.{to_end}
 use Rattle.laws.proofs.Scans.{and_true, and_false}
-use Rattle.numbers.specs.declared.parse.Number.{Number as Reading}
-use Rattle.numbers.specs.declared.parse.Number.TheVariants.{Read, Unread}
-use Rattle.numbers.specs.Reading.{meaning}
+use Rattle.std.specs.Prelude as std
 use Rattle.lines.specs.Words.{kind_of, text_of, token_of, tokens_of}
 use Rattle.lines.specs.Fams.{fam_text, named, Names}
 use Rattle.lines.specs.declared.fams.Named.{Named}
-use Rattle.lines.specs.declared.fams.Named.TheVariants.{As, Nothing}
 use Rattle.formula.specs.Terms.{is_plain}
-use Rattle.formula.specs.Values.{joined}
-use Rattle.formula.specs.declared.evaluators.Joins.{Joins}
-use Rattle.formula.specs.declared.evaluators.Joins.TheVariants.{Adds, Takes}
 use Rattle.formula.proofs.Left.{drop_past}
+use Rattle.std.specs.Prelude.{Some, None}
+use Rattle.reference.specs.Options.{option_of}
+use Rattle.std.specs.Option as Option
 
 -- ---- registers
 
-module _ (tape : Text) (w : ℕ) {r : Named} (n : Names tape tape (fam_of (token_of tape tape w)) r) where
-  pub wide-nothing : r ≡ Nothing → false ≡ is_some (wide (token_of tape tape w))
+module _ (tape : Text) (w : ℕ) {r : std.Option Named} (n : Names tape tape (fam_of (token_of tape tape w)) r) where
+  pub wide-nothing : r ≡ None → false ≡ is_some (wide (token_of tape tape w))
   unfolding wide let_some◌else◌then◌
   wide-nothing e = rw (sym n.is ∙ ap (named tape tape) e) refl
 
-  module _ (f k lowest : ℕ) (e : r ≡ As f k lowest) where
+  module _ (f k lowest : ℕ) (e : r ≡ Some (record { family = f; width = k; lowest = lowest })) where
     known : fam_of (token_of tape tape w) ≡ some (record { name = fam_text tape tape f; width = k; lowest = lowest })
     known = sym n.is ∙ ap (named tape tape) e
 
@@ -95,34 +92,17 @@ module _ (tape : Text) (w : ℕ) {k : ℕ} (ek : k ≡ kind_of w) where
     unfolding number_of ◌and◌ when◌then◌else◌
     number_untidy h = rw (same_kind, ← es, ← ex, h) refl
 
-    module _ (h : x ≡ true) (r : Reading) (er : meaning r ≡ parse_c_number s) where
-      parsed : number_of (token_of tape tape w) ≡ meaning r
+    module _ (h : x ≡ true) (r : std.Option ℤ) (er : option_of r ≡ parse_c_number s) where
+      parsed : number_of (token_of tape tape w) ≡ option_of r
       unfolding number_of ◌and◌ when◌then◌else◌
       parsed = rw (same_kind, ← es, ← ex, h, er) refl
 
-      pub number_read : (v : ℤ) → r ≡ Read v → true ≡ is_some (number_of (token_of tape tape w))
-      number_read v e = sym (ap is_some (parsed ∙ ap meaning e))
-
-      pub number_unread : r ≡ Unread → false ≡ is_some (number_of (token_of tape tape w))
-      number_unread e = sym (ap is_some (parsed ∙ ap meaning e))
-
--- ---- values
-
-pub minus_is : (r v w : ℕ) → r < 2 ^ 64 → v < 2 ^ 64 → w < 2 ^ 64 → (r + w) % 2 ^ 64 ≡ v → r ≡ minus v w
-unfolding minus
-minus_is r v w a b c e = omega arith
-
-module _ {how : Joins} (v w : ℕ) {r : ℕ} where
-  pub joined-adds : how ≡ Adds → r ≡ plus v w → r ≡ joined how v w
-  joined-adds e h = h ∙ rw e refl
-
-  pub joined-takes : how ≡ Takes → r ≡ minus v w → r ≡ joined how v w
-  joined-takes e h = h ∙ rw e refl
-
-pub past_zero : (values : List ℕ) (i : ℕ) → length values ≤ i → 0 ≡ get_or values i 0
-past_zero [] i h = refl
-past_zero (v ∷ vs) (suc i) h = past_zero vs i (omega arith)
-past_zero (v ∷ vs) zero h = absurd (omega arith)
+      pub number_parsed : Option.is_some r ≡ is_some (number_of (token_of tape tape w))
+      number_parsed = either r ∙ sym (ap is_some parsed)
+        where
+          either : (r : std.Option ℤ) → Option.is_some r ≡ is_some (option_of r)
+          either (Some v) = refl
+          either None = refl
 
 -- ---- Puncts
 
@@ -137,15 +117,26 @@ module _ (line : List ℕ) (i : ℕ) (tape area : Text) where
     unfolding puncts_apart
     apart_at = rw (add-one, drop-cons line i 0 h)
 
-    module _ {x : ℕ} (ex : x ≡ kind_of (get_or line i 0)) {y : Bool} (ey : y ≡ (behind and eqb x Punct)) where
-      pub apart-fails : y ≡ true → puncts_apart behind (tokens_of tape area (drop i line)) ≡ false
+    module _ {x : ℕ} (ex : x ≡ kind_of (get_or line i 0)) where
+      apart_less : (behind and eqb x Punct) ≡ true → puncts_apart behind (tokens_of tape area (drop i line)) ≡ false
       unfolding is not
-      apart-fails q = apart_at ∙ and_false _ (rw (← ex, sym ey ∙ q))
+      apart_less q = apart_at ∙ and_false _ (rw (← ex, q))
 
-      pub apart-goes : y ≡ false
-          → puncts_apart behind (tokens_of tape area (drop i line)) ≡ puncts_apart (eqb x Punct) (tokens_of tape area (drop (i + 1) line))
+      apart_more : (behind and eqb x Punct) ≡ false → puncts_apart behind (tokens_of tape area (drop i line)) ≡ puncts_apart (eqb x Punct) (tokens_of tape area (drop (i + 1) line))
       unfolding is not
-      apart-goes q = apart_at ∙ and_true _ (rw (← ex, sym ey ∙ q)) ∙ rw ex refl
+      apart_more q = apart_at ∙ and_true _ (rw (← ex, q)) ∙ rw ex refl
+
+      pub apart-fails : behind ≡ true → x ≡ Punct → puncts_apart behind (tokens_of tape area (drop i line)) ≡ false
+      unfolding ◌and◌
+      apart-fails e q = apart_less (rw (e, eq-eqb x Punct q))
+
+      pub apart-first : behind ≡ false → puncts_apart behind (tokens_of tape area (drop i line)) ≡ puncts_apart (eqb x Punct) (tokens_of tape area (drop (i + 1) line))
+      unfolding ◌and◌
+      apart-first e = apart_more (rw e)
+
+      pub apart-second : behind ≡ true → (x ≡ Punct → ⊥) → puncts_apart behind (tokens_of tape area (drop i line)) ≡ puncts_apart (eqb x Punct) (tokens_of tape area (drop (i + 1) line))
+      unfolding ◌and◌
+      apart-second e q = apart_more (rw (e, ne_eqb x Punct q))
 
 -- ---- the Keyword `return`
 

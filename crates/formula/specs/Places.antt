@@ -1,5 +1,6 @@
 -- What a place in a line means: the lexemes that are left there. Assumes nothing.
 use Rattle.std.specs.Prelude.{◌≡◌, ℕ, ◌<◌, ◌≤◌, List, [], ◌∷◌, ◌++◌, length, drop, ◌==◌, slice_index}
+use Rattle.std.specs.Prelude as std
 use Rattle.std.proofs.Math.Option.{Option, none, some}
 use Rattle.reference.specs.Control.{when◌then◌else◌}
 use Rattle.reference.specs.Text.{Text}
@@ -7,10 +8,10 @@ use Rattle.reference.specs.Listing.{Token, Punct}
 use Rattle.reference.specs.Evaluators as E
 use Rattle.reference.specs.Evaluators.{Lexeme, lexemes_of, lexemes, adds, takes}
 use Rattle.lines.specs.Words.{kind_of, len_of, tokens_of, Holds}
-use Rattle.formula.specs.declared.places.Ahead.{Ahead}
-use Rattle.formula.specs.declared.places.Ahead.TheVariants.{At, Nothing}
-use Rattle.formula.specs.declared.places.Operated.{Operated}
-use Rattle.formula.specs.declared.places.Operated.TheVariants.{Adds, Takes, Nothing as Unoperated}
+use Rattle.formula.specs.declared.places.Place.{Place}
+use Rattle.formula.specs.declared.places.Sign.{Sign}
+use Rattle.formula.specs.declared.places.Sign.TheVariants.{Plus, Minus}
+use Rattle.formula.specs.declared.places.Operation.{Operation}
 
 -- without the first b lexemes of the first token
 unfoldable pub left_of : ℕ → List Token → List Lexeme
@@ -34,21 +35,23 @@ pub record Readable (tape : Text) (line : List ℕ) : Type 0 where
   pub holds : Holds tape tape line
   pub filled : (k : ℕ) → k < length line → 1 ≤ len_of (slice_index line k)
 
-abbrev pub ahead_of : List Token → Ahead → Option (List Lexeme)
-ahead_of ts (At k b) = some (left ts k b)
-ahead_of ts Nothing = none
+abbrev pub ahead_of : List Token → std.Option Place → Option (List Lexeme)
+ahead_of ts (std.Some p) = some (left ts p.token p.byte)
+ahead_of ts std.None = none
 
 -- the answer r leads to what the definition o leaves
-pub record Leads (tape : Text) (line : List ℕ) (o : Option (List Lexeme)) (r : Ahead) : Type 0 where
+pub record Leads (tape : Text) (line : List ℕ) (o : Option (List Lexeme)) (r : std.Option Place) : Type 0 where
   pub is : ahead_of (tokens_of tape tape line) r ≡ o
-  pub placed : (k b : ℕ) → r ≡ At k b → Placed line k b
+  pub placed : (p : Place) → r ≡ std.Some p → Placed line p.token p.byte
 
-abbrev pub operated_of : List Token → Operated → Option (E.Operator × List Lexeme)
-operated_of ts (Adds k b) = some (adds, left ts k b)
-operated_of ts (Takes k b) = some (takes, left ts k b)
-operated_of ts Unoperated = none
+abbrev pub operator_of : Sign → E.Operator
+operator_of Plus = adds
+operator_of Minus = takes
 
-pub record Operates (tape : Text) (line : List ℕ) (o : Option (E.Operator × List Lexeme)) (r : Operated) : Type 0 where
+abbrev pub operated_of : List Token → std.Option Operation → Option (E.Operator × List Lexeme)
+operated_of ts (std.Some o) = some (operator_of o.sign, left ts o.place.token o.place.byte)
+operated_of ts std.None = none
+
+pub record Operates (tape : Text) (line : List ℕ) (o : Option (E.Operator × List Lexeme)) (r : std.Option Operation) : Type 0 where
   pub is : operated_of (tokens_of tape tape line) r ≡ o
-  pub adds_placed : (k b : ℕ) → r ≡ Adds k b → Placed line k b
-  pub takes_placed : (k b : ℕ) → r ≡ Takes k b → Placed line k b
+  pub placed : (p : Operation) → r ≡ std.Some p → Placed line p.place.token p.place.byte

@@ -1,15 +1,19 @@
 -- What the evaluators answer, in pairs of numbers modulo 2^64: a multiplier, and a constant. Assumes nothing.
 use Rattle.std.specs.Prelude.{◌≡◌, ℕ, ◌+◌, ◌*◌, ◌<◌, Bool, true, false, List, [], length, ℤ, slice_index, slice_index_or}
+use Rattle.std.specs.Prelude as std
 use Rattle.std.proofs.Math.Option.{Option, none, some}
 use Rattle.reference.specs.Text.{Text}
 use Rattle.reference.specs.Listing.{Token, token}
 use Rattle.reference.specs.Evaluators.{Arithmetic, plus, minus, wide, number_of, Lexeme, lexemes, fuel_for, expression, term, evaluate}
 use Rattle.lines.specs.Words.{tokens_of}
 use Rattle.formula.specs.Places.{left, Placed}
-use Rattle.formula.specs.declared.evaluators.Worth.{Worth}
-use Rattle.formula.specs.declared.evaluators.Worth.TheVariants.{Is, Breaks}
-use Rattle.formula.specs.declared.evaluators.Joins.{Joins}
-use Rattle.formula.specs.declared.evaluators.Joins.TheVariants.{Begins, Adds, Takes}
+use Rattle.formula.specs.declared.places.Sign.{Sign}
+use Rattle.formula.specs.declared.places.Sign.TheVariants.{Plus, Minus}
+use Rattle.formula.specs.declared.evaluators.Value.{Value}
+
+-- a value, or none
+abbrev pub Worth : Type 0
+Worth = std.Option Value
 
 abbrev pub Pair : Type 0
 Pair = ℕ × ℕ
@@ -24,10 +28,10 @@ pairs number =
     }
 
 -- a number of the sum so far, and the same number of the term that joins it
-abbrev pub joined : Joins → ℕ → ℕ → ℕ
-joined Begins v w = w
-joined Adds v w = plus v w
-joined Takes v w = minus v w
+abbrev pub joined : std.Option Sign → ℕ → ℕ → ℕ
+joined std.None v w = w
+joined (std.Some Plus) v w = plus v w
+joined (std.Some Minus) v w = minus v w
 
 -- the pair of the token k
 abbrev pub pair_at : List ℕ → ℕ → Pair
@@ -41,22 +45,25 @@ pub record Valued (number : ℤ → Pair) (σ : Text → Pair) (ts : List Token)
   pub register : (k : ℕ) (x : Text) → k < length ts → wide (slice_index_or ts k no_token) ≡ some x → pair_at values k ≡ σ x
   pub number_is : (k : ℕ) (z : ℤ) → k < length ts → number_of (slice_index_or ts k no_token) ≡ some z → pair_at values k ≡ number z
 
--- the answer that an evaluator leaves: whether there is a value, and the numbers of a value and of the place behind it
-unfoldable pub told : Bool → List ℕ → Worth
-told true out = Is (slice_index out 0) (slice_index out 1) (slice_index out 2) (slice_index out 3)
-told false out = Breaks
+-- the answer that an evaluator leaves: whether there is a value, and a value
+unfoldable pub told : Bool → Value → Worth
+told true out = std.Some out
+told false out = std.None
+
+abbrev pub pair_of : Value → Pair
+pair_of v = (v.multiplier, v.constant)
 
 abbrev pub worth_of : List Token → Worth → Option (Pair × List Lexeme)
-worth_of ts (Is m c k b) = some ((m, c), left ts k b)
-worth_of ts Breaks = none
+worth_of ts (std.Some v) = some (pair_of v, left ts v.place.token v.place.byte)
+worth_of ts std.None = none
 
 -- the answer r is what an evaluator answers of the lexemes xs, whichever pairs the table has; and what is left is less
 pub record Worths (tape : Text) (line values : List ℕ) (xs : List Lexeme)
     (evaluator : Arithmetic Pair → (Text → Pair) → ℕ → List Lexeme → Option (Pair × List Lexeme)) (r : Worth) : Type 0 where
   pub is : (number : ℤ → Pair) (σ : Text → Pair) → Valued number σ (tokens_of tape tape line) values
       → worth_of (tokens_of tape tape line) r ≡ evaluator (pairs number) σ (fuel_for xs) xs
-  pub placed : (m c k b : ℕ) → r ≡ Is m c k b → Placed line k b
-  pub shorter : (m c k b : ℕ) → r ≡ Is m c k b → length (left (tokens_of tape tape line) k b) < length xs
+  pub placed : (v : Value) → r ≡ std.Some v → Placed line v.place.token v.place.byte
+  pub shorter : (v : Value) → r ≡ std.Some v → length (left (tokens_of tape tape line) v.place.token v.place.byte) < length xs
 
 abbrev pub Term : Text → List ℕ → List ℕ → ℕ → ℕ → Worth → Type 0
 Term tape line values k b = Worths tape line values (left (tokens_of tape tape line) k b) term
@@ -65,8 +72,8 @@ abbrev pub Expression : Text → List ℕ → List ℕ → ℕ → ℕ → Worth
 Expression tape line values k b = Worths tape line values (left (tokens_of tape tape line) k b) expression
 
 abbrev pub value_of : Worth → Option Pair
-value_of (Is m c k b) = some (m, c)
-value_of Breaks = none
+value_of (std.Some v) = some (pair_of v)
+value_of std.None = none
 
 -- the answer r is what a whole line is worth
 abbrev pub Evaluates : Text → List ℕ → List ℕ → Text → Worth → Type 0

@@ -5,187 +5,134 @@
 // `values` has a pair for each token of the line, at twice the token's number: what a register is worth there, or a number. Past its end
 // all are 0, so an empty table serves to ask whether a line is read at all.
 //
-// Brackets nest as deep as a tape has bytes, so a level is kept small on the stack: an evaluator leaves its answer in `out`, which all
-// levels share; `term` is called at one place, so that the compiler lays both in one frame; and whether the tokens are registers and
-// numbers of the profile is asked before (`has_junk`), not on the way down.
-ghost use Rattle.std.specs.Prelude.{◌≡◌, false, [], ◌∷◌, slice_index};
-ghost use Rattle.reference.specs.Evaluators.{plus, minus};
+// Brackets nest as deep as a tape has bytes, so a level is kept small on the stack: `term` is called at one place, so that the compiler
+// lays both in one frame; and whether the tokens are registers and numbers of the profile is asked before (`has_junk`), not on the way
+// down.
+// Kept: an evaluator leaves its answer in `out`, which all levels share, and answers a `bool`: with the numbers in what it answers a level
+// took 464 bytes of stack.
+ghost use Rattle.std.specs.Prelude.{◌≡◌, false, slice_index};
 ghost use Rattle.formula.specs.Places.{Placed, Readable};
 ghost use Rattle.formula.specs.Terms.{has_junk};
 ghost use Rattle.formula.specs.Values.{joined, told, Term, Expression, Evaluates};
 
 use crate::places;
-use crate::places::{Ahead, Operated};
+use crate::places::{Place, Sign};
 use crate::terms::has_junk;
 use lines::words;
-use std::num::{wrapping_add_u64, wrapping_sub_u64};
 
-// A value and the place behind it, or that the profile is broken.
-#[derive(Clone, Copy)]
-pub enum Worth {
-    Is {
-        multiplier: u64,
-        constant: u64,
-        token: usize,
-        byte: usize,
-    },
-    Breaks,
+// A value and the place behind it.
+#[derive(Clone, Copy, Debug, PartialEq, Eq)]
+pub struct Value {
+    pub multiplier: u64,
+    pub constant: u64,
+    pub place: Place,
 }
+
+// A value, or none where the profile is broken.
+pub type Worth = Option<Value>;
 
 fn value_at(values: &[u64], i: usize) -> u64
     ensures { result ≡ slice_index values.now i }
 {
-    if values.len() <= i {
-        return 0;
+    values.get(i).copied().unwrap_or(0)
+}
+
+// A term joined to the sum before it by its sign, or the first term.
+fn joined(sign: Option<Sign>, v: u64, w: u64) -> u64
+    ensures { result ≡ joined sign v w }
+{
+    let Some(sign) = sign else {
+        return w;
+    };
+    match sign {
+        Sign::Plus => v.wrapping_add(w),
+        Sign::Minus => v.wrapping_sub(w),
     }
-    values[i]
-}
-
-fn plus(v: u64, w: u64) -> u64
-    ensures { result ≡ plus v w }
-{
-    wrapping_add_u64(v, w)
-}
-
-fn minus(v: u64, w: u64) -> u64
-    ensures { result ≡ minus v w }
-{
-    wrapping_sub_u64(v, w)
-}
-
-// How a term joins the sum before it.
-#[derive(Clone, Copy)]
-pub enum Joins {
-    Begins,
-    Adds,
-    Takes,
-}
-
-fn joined(how: Joins, v: u64, w: u64) -> u64
-    ensures { result ≡ joined how v w }
-{
-    match how {
-        Joins::Begins => w,
-        Joins::Adds => plus(v, w),
-        Joins::Takes => minus(v, w),
-    }
-}
-
-// An answer is left: a value and the place behind it.
-fn tell(out: &mut [u64; 4], multiplier: u64, constant: u64, token: usize, byte: usize)
-    ensures { out.new ≡ multiplier ∷ constant ∷ token ∷ byte ∷ [] }
-{
-    *out = [multiplier, constant, token as u64, byte as u64];
 }
 
 // A term from a place on, left in `out`; false: the profile is broken.
 #[cycle(expression_term)]
-pub fn term<'a>(
-    tape: &'a [u8],
-    line: &'a [u64],
-    values: &'a [u64],
-    token: usize,
-    byte: usize,
-    out: &mut [u64; 4],
-) -> bool
-    requires { Readable tape.now line.now × (has_junk tape.now line.now ≡ false) × Placed line.now token byte }
-    ensures { Term tape.now line.now values.now token byte (told result out.new) }
+pub fn term(tape: &[u8], line: &[u64], values: &[u64], place: Place, out: &mut Value) -> bool
+    requires { Readable tape.now line.now × (has_junk tape.now line.now ≡ false) × Placed line.now place.token place.byte }
+    ensures { Term tape.now line.now values.now place.token place.byte (told result out.new) }
 {
-    if line.len() <= token {
+    if line.len() <= place.token {
         return false;
     }
-    if words::kind(line[token]) != words::PUNCT {
-        let multiplier = value_at(values, 2 * token);
-        let constant = value_at(values, 2 * token + 1);
-        tell(out, multiplier, constant, token + 1, 0);
+    if words::kind(line[place.token]) != words::PUNCT {
+        *out = Value {
+            multiplier: value_at(values, 2 * place.token),
+            constant: value_at(values, 2 * place.token + 1),
+            place: Place {
+                token: place.token + 1,
+                byte: 0,
+            },
+        };
         return true;
     }
-    let Ahead::At(k, b) = places::behind_open(tape, line, token, byte) else {
+    let Some(inner) = places::behind(tape, line, place, b"(") else {
         return false;
     };
-    if !expression(tape, line, values, k, b, out) {
+    if !expression(tape, line, values, inner, out) {
         return false;
     }
-    let multiplier = out[0];
-    let constant = out[1];
-    let Ahead::At(k, b) = places::behind_close(tape, line, out[2] as usize, out[3] as usize) else {
+    let Some(next) = places::behind(tape, line, out.place, b")") else {
         return false;
     };
-    tell(out, multiplier, constant, k, b);
+    out.place = next;
     true
 }
 
 // Terms joined by ` + ` and ` - `, from a place on, left in `out`; false: the profile is broken.
 #[cycle(expression_term)]
-pub fn expression<'a>(
-    tape: &'a [u8],
-    line: &'a [u64],
-    values: &'a [u64],
-    token: usize,
-    byte: usize,
-    out: &mut [u64; 4],
-) -> bool
-    requires { Readable tape.now line.now × (has_junk tape.now line.now ≡ false) × Placed line.now token byte }
-    ensures { Expression tape.now line.now values.now token byte (told result out.new) }
+pub fn expression(tape: &[u8], line: &[u64], values: &[u64], start: Place, out: &mut Value) -> bool
+    requires { Readable tape.now line.now × (has_junk tape.now line.now ≡ false) × Placed line.now start.token start.byte }
+    ensures { Expression tape.now line.now values.now start.token start.byte (told result out.new) }
 {
-    let mut how = Joins::Begins;
-    let mut m = 0;
-    let mut c = 0;
-    let mut k = token;
-    let mut b = byte;
+    let mut sign = None;
+    let mut multiplier = 0;
+    let mut constant = 0;
+    let mut place = start;
     loop {
-        if !term(tape, line, values, k, b, out) {
+        if !term(tape, line, values, place, out) {
             return false;
         }
-        m = joined(how, m, out[0]);
-        c = joined(how, c, out[1]);
-        k = out[2] as usize;
-        b = out[3] as usize;
-        match places::operator(tape, line, k, b) {
-            Operated::Nothing => {
-                tell(out, m, c, k, b);
-                return true;
-            }
-            Operated::Adds(i, j) => {
-                how = Joins::Adds;
-                k = i;
-                b = j;
-            }
-            Operated::Takes(i, j) => {
-                how = Joins::Takes;
-                k = i;
-                b = j;
-            }
-        }
+        multiplier = joined(sign, multiplier, out.multiplier);
+        constant = joined(sign, constant, out.constant);
+        let Some(next) = places::operator(tape, line, out.place) else {
+            out.multiplier = multiplier;
+            out.constant = constant;
+            return true;
+        };
+        sign = Some(next.sign);
+        place = next.place;
     }
 }
 
 // What a line's tokens behind its first one are worth: `before`, an expression, `;`, and nothing more. The place in the answer is their
 // end.
-pub fn evaluate<'a>(tape: &'a [u8], line: &'a [u64], values: &'a [u64], before: &'a [u8]) -> Worth
+pub fn evaluate(tape: &[u8], line: &[u64], values: &[u64], before: &[u8]) -> Worth
     requires { Readable tape.now line.now }
     ensures { Evaluates tape.now line.now values.now before.now result }
 {
     if has_junk(tape, line) {
-        return Worth::Breaks;
+        return None;
     }
-    let Ahead::At(k, b) = places::behind(tape, line, 0, 0, before) else {
-        return Worth::Breaks;
+    let start = places::behind(tape, line, Place { token: 0, byte: 0 }, before)?;
+    let mut value = Value {
+        multiplier: 0,
+        constant: 0,
+        place: start,
     };
-    let mut out = [0; 4];
-    if !expression(tape, line, values, k, b, &mut out) {
-        return Worth::Breaks;
+    if !expression(tape, line, values, start, &mut value) {
+        return None;
     }
-    let Ahead::At(k, b) = places::behind(tape, line, out[2] as usize, out[3] as usize, b";") else {
-        return Worth::Breaks;
-    };
-    if k < line.len() {
-        return Worth::Breaks;
+    let end = places::behind(tape, line, value.place, b";")?;
+    if end.token < line.len() {
+        return None;
     }
-    Worth::Is {
-        multiplier: out[0],
-        constant: out[1],
-        token: k,
-        byte: b,
-    }
+    Some(Value {
+        place: end,
+        ..value
+    })
 }

@@ -6,37 +6,25 @@ ghost use Rattle.reference.specs.Evaluators.{wide, is_tidy, number_of, lexemes_o
 ghost use Rattle.lines.specs.Words.{token_of, Holds, Points};
 ghost use Rattle.formula.specs.Terms.{is_plain, is_junk, has_junk};
 
-use lines::fams::Named;
 use lines::{fams, words};
-use numbers::{Number, parse_c_number};
+use numbers::parse_c_number;
 
 // Whether a token is a 64-bit register and no stack slot.
 pub fn is_wide(tape: &[u8], w: u64) -> bool
     requires { Points tape.now tape.now w }
     ensures { result ≡ is_some (wide (token_of tape.now tape.now w)) }
 {
-    let Named::As(_, width, _) = fams::fam_of(tape, tape, w) else {
+    let Some(n) = fams::fam_of(tape, tape, w) else {
         return false;
     };
-    if width != 64 {
-        return false;
-    }
-    !text::begins_slot(words::text(tape, tape, w))
+    n.width == 64 && !text::begins_slot(words::text(tape, tape, w))
 }
 
 // How often a byte stands in a text.
 fn count_byte(s: &[u8], b: u8) -> usize
     ensures { result ≡ count (nat_eq b) s.now }
 {
-    let mut n = 0;
-    let mut i = 0;
-    while i < s.len() {
-        if s[i] == b {
-            n += 1;
-        }
-        i += 1;
-    }
-    n
+    s.iter().filter(|c| **c == b).count()
 }
 
 // Whether a number without its minus is hexadecimal, or has no zero in front, or is 0.
@@ -71,13 +59,7 @@ pub fn is_number(tape: &[u8], w: u64) -> bool
         return false;
     }
     let s = words::text(tape, tape, w);
-    if !is_tidy(s) {
-        return false;
-    }
-    match parse_c_number(s) {
-        Number::Read(_) => true,
-        Number::Unread => false,
-    }
+    is_tidy(s) && parse_c_number(s).is_some()
 }
 
 // Whether a token is worth something by itself.
@@ -93,23 +75,18 @@ fn is_junk(tape: &[u8], w: u64) -> bool
     requires { Points tape.now tape.now w }
     ensures { result ≡ any is_junk (lexemes_of (token_of tape.now tape.now w)) }
 {
-    if words::kind(w) == words::PUNCT {
-        return false;
-    }
-    !is_term(tape, w)
+    words::kind(w) != words::PUNCT && !is_term(tape, w)
 }
 
 // Whether a line has a token that can stand in no expression, wherever it stands.
-pub fn has_junk<'a>(tape: &'a [u8], line: &'a [u64]) -> bool
+pub fn has_junk(tape: &[u8], line: &[u64]) -> bool
     requires { Holds tape.now tape.now line.now }
     ensures { result ≡ has_junk tape.now line.now }
 {
-    let mut i = 0;
-    while i < line.len() {
-        if is_junk(tape, line[i]) {
+    for w in line {
+        if is_junk(tape, *w) {
             return true;
         }
-        i += 1;
     }
     false
 }

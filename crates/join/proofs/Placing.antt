@@ -2,6 +2,7 @@
 use Prim.Native.Nat.{ℕ, ◌≤◌, ◌<◌}
 use native.Mathlib.Omega.{arith}
 use native.Mathlib.Nat.{le_refl}
+use mathlib.Core.Logic.{◌⊎◌, inl, inr}
 use mathlib.Core.Path.{◌≡◌, sym, ap, ◌∙◌}
 use mathlib.Core.Bool.{Bool, true, false}
 use mathlib.Core.List.{List}
@@ -35,6 +36,9 @@ module _ (vol : List Text) (i : ℕ) (p : Plan) (k : ℕ) (l : Line) where
 
   pub past_last : i < k → p.last < k → false ≡ changes vol i p k l
   past_last h g = sym (changes-later vol i p k l h ∙ and_false _ (lt-leb k p.last g))
+
+  pub unchanged : (k ≤ i) ⊎ ((i < k) × (p.last < k)) → false ≡ changes vol i p k l
+  unchanged e = elim e [ inl h ↦ not-later h | inr h ↦ past_last h.0 h.1 ]
 
   pub by_use : {b : Bool} → i < k → k ≤ p.last → b ≡ is_use (touch l p.fam vol) → b ≡ changes vol i p k l
   by_use h g e = e ∙ sym (changes-later vol i p k l h ∙ and_true _ (le-leb k p.last g))

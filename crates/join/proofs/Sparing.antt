@@ -1,16 +1,18 @@
 -- The room that is free behind the used marks, and the need of lines, added up until it is too much. Assumes nothing.
-use Prim.Native.Nat.{ℕ, ◌+◌, ◌-◌, ◌*◌, ◌≤◌, ◌<◌, zero-le}
+use Prim.Native.Nat.{ℕ, ◌+◌, ◌-◌, ◌*◌, ◌≤◌, ◌<◌, zero-le, max}
 use native.Mathlib.Omega.{arith}
 use native.Mathlib.Decide.{dec_lt}
 use native.Mathlib.Numerals.{add-one}
 use mathlib.Core.Logic.{by_cases}
-use mathlib.Core.Path.{◌≡◌, sym, ap, ◌∙◌}
+use mathlib.Core.Path.{◌≡◌, refl, sym, ap, ◌∙◌}
 use mathlib.Core.Bool.{Bool, true, false}
 use mathlib.Core.List.{List, [], ◌∷◌}
 use lib.Dec.{ltb}
 use lib.ListN.{length, get_or, take, drop, length-take, drop_of_length-le}
 use lib.Seq.{slice, drop-cons}
 use borrow.Author.Tests.{lt-ltb, le-ltb, ltb-true}
+use Rattle.std.specs.Prelude.{sum_by}
+use Rattle.std.proofs.lemmas.List.Sums.{sum_by-cons}
 use Rattle.reference.specs.Text.{Text}
 use Rattle.laws.proofs.Parts.{drop-take}
 use Rattle.lines.specs.Words.{len_of}
@@ -22,25 +24,20 @@ use Rattle.join.specs.Patching.{words_room, line_need, needs, behind, free, Spar
 
 -- ---- the room of words
 
-module _ (ws : List ℕ) (k : ℕ) where
-  pub room_next : k < length ws → words_room (drop k ws) ≡ len_of (get_or ws k 0) + 24 + words_room (drop (k + 1) ws)
-  unfolding words_room
-  room_next h = rw (add-one k, drop-cons ws k 0 h)
-
-  pub room_end : length ws ≤ k → words_room (drop k ws) ≡ 0
-  unfolding words_room
-  room_end h = rw (drop_of_length-le ws h)
-
-pub room_most : (ws : List ℕ) → words_room ws ≤ 65559 * length ws
+pub room_is : (ws : List ℕ) → words_room ws ≡ sum_by len_of ws + 24 * length ws
 unfolding words_room
-room_most [] = zero-le
-room_most (w ∷ ws) = omega (arith, room_most ws, len_below w)
+room_is [] = refl
+room_is (w ∷ ws) = omega (arith, room_is ws, sum_by-cons len_of w ws)
+
+pub text_most : (ws : List ℕ) → sum_by len_of ws ≤ 65535 * length ws
+text_most [] = zero-le
+text_most (w ∷ ws) = omega (arith, text_most ws, sum_by-cons len_of w ws, len_below w)
 
 pub part-short : (words : List ℕ) (l : ℕ) → length (part_of words l) < 2048
 part-short words l = omega (arith, length-take (count_of l) (drop (first_of l) words), count-below l)
 
 pub line_most : (words : List ℕ) (l : ℕ) → words_room (part_of words l) ≤ 134199273
-line_most words l = omega (arith, room_most (part_of words l), part-short words l)
+line_most words l = omega (arith, room_is (part_of words l), text_most (part_of words l), part-short words l)
 
 -- ---- the need of lines
 
@@ -69,12 +66,10 @@ module _ (words : List ℕ) (source : ℕ) (ls : List ℕ) (k left n : ℕ) (inv
   pub need_all : length ls ≤ k → ltb 0 left ≡ ltb (needs words source ls) n
   need_all h = ap (λ (m : ℕ). ltb m left) (sym (need_end words source ls k h)) ∙ inv
 
-pub no_lines : (words : List ℕ) (source from end : ℕ) (ls : List ℕ) → end < from → needs words source (slice from end ls) ≡ 0
-unfolding needs
-no_lines words source from end ls h = rw (drop_of_length-le (take end ls) {i = from} (omega (arith, length-take end ls)))
-
-pub part_need : (words : List ℕ) (source from end : ℕ) (ls : List ℕ) → needs words source (take (end - from) (drop from ls)) ≡ needs words source (slice from end ls)
-part_need words source from end ls = ap (needs words source) (sym (drop-take from end ls))
+pub part_need : (words : List ℕ) (source from end : ℕ) (ls : List ℕ) → needs words source (take (max from end - from) (drop from ls)) ≡ needs words source (slice from end ls)
+part_need words source from end ls =
+    let e : max from end - from ≡ end - from = omega arith in
+    rw e (ap (needs words source) (sym (drop-take from end ls)))
 
 -- ---- enough
 

@@ -3,7 +3,6 @@
 use Prim.Native.Nat.{ℕ, suc, ◌<◌}
 use native.Mathlib.Omega.{arith}
 use mathlib.Core.Path.{◌≡◌, refl, sym, ap, ◌∙◌, subst}
-use mathlib.Core.Bool.{true, false, false≢true}
 use mathlib.Core.List.{List}
 use mathlib.Core.Option.{Option, none, some}
 use lib.ListN.{length, get_or, drop}
@@ -21,8 +20,6 @@ use Rattle.joining.proofs.Bare.{decide-bare, labels_at-bare}
 use Rattle.lines.specs.Lines.{Reading, part_of}
 use Rattle.lines.proofs.words.Lines.{bare-means}
 use Rattle.plan.specs.declared.plans.Join.{Join}
-use Rattle.plan.specs.declared.plans.Plan.{Plan}
-use Rattle.plan.specs.declared.plans.Plan.TheVariants.{Do, Nothing}
 use Rattle.plan.specs.Slots.{slot_names}
 use Rattle.plan.specs.Plans.{planned as plan-in, join_in, Joins, Plans}
 use Rattle.build.specs.State.{used}
@@ -33,6 +30,11 @@ use Rattle.join.specs.Building.{Plannable, Acted}
 use Rattle.join.specs.Carrying.{changed_by, Carried}
 use Rattle.join.specs.Attempts.{Attemptable, Attempted}
 use Rattle.join.proofs.Carrying.{picked_uses}
+use Rattle.std.specs.Prelude as std
+use Rattle.std.specs.Prelude.{Some, None}
+
+some-size : {a b : Size} → Some a ≡ Some b → b ≡ a
+some-size e = cc
 
 module _ (rules : Rules) {tape area : Text} {tokens lines : List ℕ} {area2 : Text} {tokens2 lows highs labels : List ℕ} {slots : Text} {slot-words : List ℕ}
     {i : ℕ} {size : Size} (h : Attemptable tape area tokens lines area2 tokens2 lows highs labels slots slot-words i size) where
@@ -56,18 +58,17 @@ module _ (rules : Rules) {tape area : Text} {tokens lines : List ℕ} {area2 : T
       ∙ rw (bare-means tape (used area size) (used_words tokens size) addresses (used_lines lines size), labels_at-bare now labels) in
       try_at_is rules now i (labels_at now labels) (slot_names slots slot-words) ∙ rw same
 
-  module _ {r : Plan} (d : Plans tape (used area size) (part_of (used_words tokens size) (get_or (used_lines lines size) i 0)) i decided r) where
-    pub nothing-done : r ≡ Nothing → Attempted rules tape area tokens lines lows highs labels slots slot-words i size area tokens lines lows highs
-        (record { joined = false; size = size })
+  module _ {r : std.Option Join} (d : Plans tape (used area size) (part_of (used_words tokens size) (get_or (used_lines lines size) i 0)) i decided r) where
+    pub nothing-done : r ≡ None → Attempted rules tape area tokens lines lows highs labels slots slot-words i size area tokens lines lows highs None
     unfolding let_some◌else◌then◌
     nothing-done e =
         let none-decided : decided ≡ none = sym d.is ∙ ap (plan-in tape (used area size) (part_of (used_words tokens size) (get_or (used_lines lines size) i 0))) e in
         record {
-          failed = λ _. (refl, refl, refl, refl, λ addresses. try_decided addresses ∙ rw none-decided, refl, refl);
-          succeeded = λ t. absurd (false≢true t);
+          failed = λ _. (refl, refl, refl, λ addresses. try_decided addresses ∙ rw none-decided, refl, refl);
+          succeeded = λ after t. cc;
         }
 
-    module _ {j : Join} (e : r ≡ Do j) where
+    module _ {j : Join} (e : r ≡ Some j) where
       abbrev plan : J.Plan
       plan = join_in tape (used area size) (part_of (used_words tokens size) (get_or (used_lines lines size) i 0)) j
 
@@ -94,12 +95,11 @@ module _ (rules : Rules) {tape area : Text} {tokens lines : List ℕ} {area2 : T
       pub joined-done : {area' : Text} {tokens' lines' lows' highs' : List ℕ} {after : Size}
           → Carried rules tape (used area size) (used_words tokens size) (used_lines lines size) j lows highs lows' highs'
           → Acted rules tape (used area size) (used_words tokens size) (used_lines lines size) j area' tokens' lines' after
-          → Attempted rules tape area tokens lines lows highs labels slots slot-words i size area' tokens' lines' lows' highs'
-          (record { joined = true; size = after })
+          → Attempted rules tape area tokens lines lows highs labels slots slot-words i size area' tokens' lines' lows' highs' (Some after)
       unfolding let_some◌else◌then◌
       joined-done m a = record {
-        failed = λ t. absurd (false≢true (sym t));
-        succeeded = λ _. (
+        failed = λ t. cc;
+        succeeded = λ size' t. rw (some-size t) (
           a.current,
           λ addresses. try_decided addresses ∙ rw plan_decided (ap some (sym (rw (d.sound j e).line_is at (a.means addresses)))),
           rw (places_are, (d.sound j e).line_is) at m,

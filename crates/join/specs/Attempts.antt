@@ -1,5 +1,6 @@
 -- What an attempt finds and what it leaves. Assumes nothing.
-use Rattle.std.specs.Prelude.{ℕ, ◌≤◌, ◌<◌, ◌≡◌, true, false, List, length}
+use Rattle.std.specs.Prelude as std
+use Rattle.std.specs.Prelude.{ℕ, ◌≤◌, ◌<◌, ◌≡◌, List, length}
 use Rattle.std.proofs.Math.Option.{Option, none, some}
 use Rattle.reference.specs.Text.{Text}
 use Rattle.reference.specs.Listing.{Listing}
@@ -12,7 +13,6 @@ use Rattle.plan.specs.Slots.{slot_names, Slotted}
 use Rattle.build.specs.declared.used.Size.{Size}
 use Rattle.join.specs.Current.{used_lines, listing_now, bare_now, Current, Lent}
 use Rattle.join.specs.Carrying.{Handed}
-use Rattle.join.specs.declared.attempt.Tried.{Tried}
 
 -- a listing within the limits, the places of its round's labels, and the names that were addressed when the round began
 pub record Attemptable (tape area : Text) (tokens lines : List ℕ) (area2 : Text) (tokens2 lows highs labels : List ℕ) (slots : Text)
@@ -37,17 +37,17 @@ abbrev pub targets_now : Rules → Text → Text → List ℕ → List ℕ → L
 targets_now rules tape area tokens lines labels i at =
     targets rules (bare_now tape area tokens lines at) i (labels_at (bare_now tape area tokens lines at) labels)
 
--- A failed attempt leaves what it found, a successful one the listing that `try_at` answers, whatever is read as an address, and the
--- marks of the line that is gone in those that it was joined into.
+-- A failed attempt leaves what it found; a successful one answers a size, leaves the listing that `try_at` answers, whatever is read as
+-- an address, and the marks of the line that is gone in those that it was joined into.
 pub record Attempted (rules : Rules) (tape area : Text) (tokens lines lows highs labels : List ℕ) (slots : Text) (slot-words : List ℕ)
     (i : ℕ) (at : Size)
-    (area' : Text) (tokens' lines' lows' highs' : List ℕ) (r : Tried) : Type 0 where
-  pub failed : r.joined ≡ false
-      → (r.size ≡ at) × (area' ≡ area) × (tokens' ≡ tokens) × (lines' ≡ lines)
+    (area' : Text) (tokens' lines' lows' highs' : List ℕ) (r : std.Option Size) : Type 0 where
+  pub failed : r ≡ std.None
+      → (area' ≡ area) × (tokens' ≡ tokens) × (lines' ≡ lines)
       × ((addresses : Reading) → tried_at rules tape area tokens lines labels slots slot-words i at addresses ≡ none)
       × (lows' ≡ lows) × (highs' ≡ highs)
-  pub succeeded : r.joined ≡ true
-      → Current tape area' tokens' lines' r.size
+  pub succeeded : (after : Size) → r ≡ std.Some after
+      → Current tape area' tokens' lines' after
       × ((addresses : Reading) → tried_at rules tape area tokens lines labels slots slot-words i at addresses
-      ≡ some (listing_now tape area' tokens' lines' r.size addresses))
+      ≡ some (listing_now tape area' tokens' lines' after addresses))
       × Handed (used_lines lines at) i (targets_now rules tape area tokens lines labels i at) lows highs lows' highs'

@@ -7,7 +7,7 @@ ghost use Rattle.join.specs.Building.{Plannable, Acted};
 
 use crate::patch::patch;
 use crate::rebuild::rebuild;
-use crate::spare::{free, is_short, lesser};
+use crate::spare::{free, is_short};
 use build::used::Size;
 use lines::rules::Rules;
 use plan::plans::Join;
@@ -29,13 +29,16 @@ pub fn apply(
     ensures { Acted (rules_of rules) tape.now (used area.old size) (used_words tokens.old size)
         (used_lines lines.old size) j area.new tokens.new lines.new result }
 {
-    let n = size.lines;
-    let words = size.tokens;
-    let gone = j.line;
-    let last = j.last;
-    let room = lesser(free(area, tokens, size), free(area2, tokens2, size));
-    if !is_short(&tokens[..words], &lines[..n], gone, last, room) {
-        return rebuild(tape, area, tokens, lines, area2, tokens2, j, rules, size);
+    let room = free(area, tokens, size).min(free(area2, tokens2, size));
+    if is_short(
+        &tokens[..size.tokens],
+        &lines[..size.lines],
+        j.line,
+        j.last,
+        room,
+    ) {
+        patch(tape, area, tokens, lines, area2, tokens2, j, rules, size)
+    } else {
+        rebuild(tape, area, tokens, lines, area2, tokens2, j, rules, size)
     }
-    patch(tape, area, tokens, lines, area2, tokens2, j, rules, size)
 }

@@ -7,17 +7,11 @@ use crate::apply::apply;
 use crate::marks::carry_marks;
 use build::used::Size;
 use lines::rules::Rules;
-use plan::plans::{Plan, decide};
+use plan::plans::decide;
 
-// Whether the attempt succeeded, and the size of the listing that it left.
-#[derive(Clone, Copy)]
-pub struct Tried {
-    pub joined: bool,
-    pub size: Size,
-}
-
-// One attempt at line i: joins its definition into its uses, and removes it on success. `labels` are the places of the round's labels,
-// `slots` and `slot_words` the names that were addressed when it began, `lows` and `highs` the marks by the number of the input line.
+// One attempt at line i: joins its definition into its uses and removes it, and answers the size of the listing that it leaves; or None,
+// where it changes nothing. `labels` are the places of the round's labels, `slots` and `slot_words` the names that were addressed when it
+// began, `lows` and `highs` the marks by the number of the input line.
 pub fn try_at<'a>(
     tape: &'a [u8],
     area: &mut [u8],
@@ -33,45 +27,33 @@ pub fn try_at<'a>(
     i: usize,
     size: Size,
     rules: Rules,
-) -> Tried
+) -> Option<Size>
     requires { Attemptable tape.now area.old tokens.old lines.old area2.old tokens2.old lows.old highs.old
         labels.now slots.now slot_words.now i size }
     ensures { Attempted (rules_of rules) tape.now area.old tokens.old lines.old
         lows.old highs.old labels.now slots.now slot_words.now i size
         area.new tokens.new lines.new lows.new highs.new result }
 {
-    let n = size.lines;
-    let used = size.tokens;
-    let text = size.text;
-    let Plan::Do(j) = decide(
+    let j = decide(
         tape,
-        &area[..text],
-        &tokens[..used],
-        &lines[..n],
+        &area[..size.text],
+        &tokens[..size.tokens],
+        &lines[..size.lines],
         labels,
         slots,
         slot_words,
         i,
         rules,
-    ) else {
-        return Tried {
-            joined: false,
-            size,
-        };
-    };
+    )?;
     carry_marks(
         tape,
-        &area[..text],
-        &tokens[..used],
-        &lines[..n],
+        &area[..size.text],
+        &tokens[..size.tokens],
+        &lines[..size.lines],
         lows,
         highs,
         j,
         rules,
     );
-    let after = apply(tape, area, tokens, lines, area2, tokens2, j, rules, size);
-    Tried {
-        joined: true,
-        size: after,
-    }
+    Some(apply(tape, area, tokens, lines, area2, tokens2, j, rules, size))
 }

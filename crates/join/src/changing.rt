@@ -30,14 +30,10 @@ pub fn is_changed<'a>(
     ensures { (source : List ℕ) → result ≡ changes (volatile (rules_of rules)) j.line (join_in tape.now area.now source j) k
         (bare_in tape.now area.now tokens.now l) }
 {
-    if k <= j.line {
+    if k <= j.line || j.last < k {
         return false;
     }
-    if j.last < k {
-        return false;
-    }
-    let f = j.family;
-    life::uses(tape, area, words::line_of(tokens, l), f, rules)
+    life::uses(tape, area, words::line_of(tokens, l), j.family, rules)
 }
 
 // Appends the line l with the right side of the line `source` for each token of the family, numbers being read by an edition.
@@ -57,13 +53,10 @@ pub fn rewrite<'a>(
     ensures { Rewritten edition tape.now area.now tokens.now source (substitution_of j) l
         area2.old tokens2.old size area2.new tokens2.new result }
 {
-    let family = j.family;
-    let expr = j.expr;
-    let brackets = j.brackets;
     let s = Substitution {
-        family,
-        expr,
-        brackets,
+        family: j.family,
+        expr: j.expr,
+        brackets: j.brackets,
     };
     rewrite_line(
         tape, area, tokens, source, l, s, area2, tokens2, size, edition,

@@ -4,10 +4,9 @@
 mod apply; // a plan carried out, one way or the other
 pub mod attempt; // the decision, and what follows it
 mod changing; // a line that a plan changes
-mod copying; // words copied and removed
 mod marks; // the marks of the line that is joined, handed on
 mod patch; // in place: only the lines that change are written
 mod rebuild; // the whole listing written anew
 mod spare; // the room that a plan takes, and the room that there is
 
-pub use attempt::{Tried, try_at};
+pub use attempt::try_at;

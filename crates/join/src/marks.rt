@@ -7,7 +7,6 @@ ghost use Rattle.join.specs.Carrying.{Carried};
 
 use crate::changing::is_changed;
 use lines::rules::Rules;
-use lines::spans::{higher, lower};
 use lines::words;
 use plan::plans::Join;
 
@@ -17,11 +16,12 @@ fn take_in(at: usize, low: u64, high: u64, lows: &mut [u64], highs: &mut [u64])
     ensures lows_after { lows.new ≡ set lows.old at (min (get_or lows.old at 0) low) }
     ensures highs_after { highs.new ≡ set highs.old at (max (get_or highs.old at 0) high) }
 {
-    lows[at] = lower(lows[at], low);
-    highs[at] = higher(highs[at], high);
+    lows[at] = lows[at].min(low);
+    highs[at] = highs[at].max(high);
 }
 
 // Each line that the plan j changes takes in the marks of the line that is joined.
+#[tactic(auto, using(crate::proofs::Carrying::origin_small))]
 pub fn carry_marks<'a>(
     tape: &'a [u8],
     area: &'a [u8],
@@ -37,15 +37,10 @@ pub fn carry_marks<'a>(
     ensures { Carried (rules_of rules) tape.now area.now tokens.now lines.now j
         lows.old highs.old lows.new highs.new }
 {
-    let gone = j.line;
-    let last = j.last;
-    let source = words::origin(lines[gone]);
+    let source = words::origin(lines[j.line]);
     let low = lows[source];
     let high = highs[source];
-    let mut next = gone + 1;
-    while next <= last {
-        let k = next;
-        next += 1;
+    for k in j.line + 1..j.last + 1 {
         let l = lines[k];
         if is_changed(tape, area, tokens, l, k, j, rules) {
             take_in(words::origin(l), low, high, lows, highs);

@@ -8,11 +8,9 @@ ghost use Rattle.join.specs.Building.{Plannable, Acted};
 ghost use Rattle.join.specs.Patching.{need_from, Spare, Patched};
 
 use crate::changing::{is_changed, rewrite};
-use crate::copying::{copy_words, remove_word};
 use build::used::Size;
 use lines::rules::Rules;
 use plan::plans::Join;
-use text::copy_bytes;
 
 // Writes the lines that change behind the used marks, but in the second set; their words take the places of the old ones, and the word of
 // the line that is joined goes.
@@ -33,14 +31,9 @@ fn patch_lines<'a>(
     ensures { Patched (rules_of rules) tape.now area.now tokens.now lines.old j size
         area2.new tokens2.new lines.new result }
 {
-    let gone = j.line;
-    let last = j.last;
-    let source = lines[gone];
+    let source = lines[j.line];
     let mut s = size;
-    let mut next = gone + 1;
-    while next <= last {
-        let k = next;
-        next += 1;
+    for k in j.line + 1..j.last + 1 {
         let l = lines[k];
         if is_changed(tape, area, tokens, l, k, j, rules) {
             let a = rewrite(
@@ -59,11 +52,10 @@ fn patch_lines<'a>(
             s = a.size;
         }
     }
-    remove_word(lines, gone);
+    lines.copy_within(j.line + 1.., j.line);
     Size {
         lines: lines.len() - 1,
-        tokens: s.tokens,
-        text: s.text,
+        ..s
     }
 }
 
@@ -86,23 +78,18 @@ pub fn patch(
     ensures { Acted (rules_of rules) tape.now (used area.old size) (used_words tokens.old size)
         (used_lines lines.old size) j area.new tokens.new lines.new result }
 {
-    let n = size.lines;
-    let words = size.tokens;
-    let text = size.text;
     let after = patch_lines(
         tape,
-        &area[..text],
-        &tokens[..words],
-        &mut lines[..n],
+        &area[..size.text],
+        &tokens[..size.tokens],
+        &mut lines[..size.lines],
         j,
         rules,
         area2,
         tokens2,
         size,
     );
-    let new_text = after.text;
-    let new_words = after.tokens;
-    copy_bytes(&area2[text..new_text], area, text);
-    copy_words(&tokens2[words..new_words], tokens, words);
+    area[size.text..after.text].copy_from_slice(&area2[size.text..after.text]);
+    tokens[size.tokens..after.tokens].copy_from_slice(&tokens2[size.tokens..after.tokens]);
     after
 }

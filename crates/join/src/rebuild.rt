@@ -7,12 +7,10 @@ ghost use Rattle.join.specs.Current.{used_lines, Current, Lent};
 ghost use Rattle.join.specs.Building.{Placeable, Placed, Put, Plannable, Acted, Rebuilt};
 
 use crate::changing::{is_changed, rewrite};
-use crate::copying::copy_words;
 use build::line::{Appended, keep_line};
 use build::used::Size;
 use lines::rules::Rules;
 use plan::plans::Join;
-use text::copy_bytes;
 
 // Appends line k, whose word is l, to the second set: with the right side of the line `source` for each token of the family, or as it is.
 fn build_line<'a>(
@@ -33,7 +31,7 @@ fn build_line<'a>(
         tokens2.old size area2.new tokens2.new result }
 {
     if is_changed(tape, area, tokens, l, k, j, rules) {
-        return rewrite(
+        rewrite(
             tape,
             area,
             tokens,
@@ -44,9 +42,10 @@ fn build_line<'a>(
             tokens2,
             size,
             rules.edition,
-        );
+        )
+    } else {
+        keep_line(tape, area, tokens, l, area2, tokens2, size)
     }
-    keep_line(tape, area, tokens, l, area2, tokens2, size)
 }
 
 // The word of the line that was appended takes its place behind the lines in use.
@@ -57,11 +56,7 @@ fn put_line(a: Appended, lines: &mut [u64]) -> Size
     let s = a.size;
     let n = s.lines;
     lines[n] = a.line;
-    Size {
-        lines: n + 1,
-        tokens: s.tokens,
-        text: s.text,
-    }
+    Size { lines: n + 1, ..s }
 }
 
 // Builds the new listing in the second set; its line words take the place of the old ones.
@@ -87,10 +82,7 @@ fn build<'a>(
         tokens: 0,
         text: 0,
     };
-    let mut next = 0;
-    while next < lines.len() {
-        let k = next;
-        next += 1;
+    for k in 0..lines.len() {
         if k != gone {
             let l = lines[k];
             let a = build_line(
@@ -119,22 +111,17 @@ pub fn rebuild(
     ensures { Acted (rules_of rules) tape.now (used area.old size) (used_words tokens.old size)
         (used_lines lines.old size) j area.new tokens.new lines.new result }
 {
-    let n = size.lines;
-    let words = size.tokens;
-    let text = size.text;
     let after = build(
         tape,
-        &area[..text],
-        &tokens[..words],
-        &mut lines[..n],
+        &area[..size.text],
+        &tokens[..size.tokens],
+        &mut lines[..size.lines],
         j,
         rules,
         area2,
         tokens2,
     );
-    let new_text = after.text;
-    let new_words = after.tokens;
-    copy_bytes(&area2[..new_text], area, 0);
-    copy_words(&tokens2[..new_words], tokens, 0);
+    area[..after.text].copy_from_slice(&area2[..after.text]);
+    tokens[..after.tokens].copy_from_slice(&tokens2[..after.tokens]);
     after
 }

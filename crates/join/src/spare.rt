@@ -1,53 +1,35 @@
 // The room behind the used marks of a set, and the room that the changed lines of a plan take at most.
-ghost use Rattle.std.specs.Prelude.{◌≡◌, ℕ, ◌+◌, ◌≤◌, ◌<◌, min, ltb, length, get_or};
+ghost use Rattle.std.specs.Prelude.{◌≡◌, ℕ, ◌+◌, ◌^◌, ◌≤◌, ◌<◌, min, ltb, length, get_or, sum_by};
 ghost use Rattle.std.proofs.Math.Seq.{slice};
+ghost use Rattle.lines.specs.Words.{len_of};
 ghost use Rattle.lines.specs.Lines.{first_of, count_of, part_of};
 ghost use Rattle.join.specs.Patching.{words_room, needs, behind, free};
 
 use build::used::Size;
 use lines::words;
 
-pub fn lesser(a: usize, b: usize) -> usize
-    ensures { result ≡ min a b }
-{
-    if a < b {
-        return a;
-    }
-    b
-}
-
 // What is free behind the used mark of a list of this length, below the places that a word can name.
+#[tactic(auto, unfolding(crate::specs::Patching::behind))]
 fn behind(length: usize, used: usize) -> usize
     ensures { result ≡ behind length used }
 {
-    let end = lesser(length, 65535);
-    if end < used {
-        return 0;
-    }
-    end - used
+    length.min(65535).saturating_sub(used)
 }
 
 // What is free in a set.
+#[tactic(auto, unfolding(crate::specs::Patching::behind, crate::specs::Patching::free))]
 pub fn free<'a>(area: &'a [u8], tokens: &'a [u64], size: Size) -> usize
     ensures { result ≡ free (length area.now) (length tokens.now) size }
 {
-    let text = behind(area.len(), size.text);
-    let count = behind(tokens.len(), size.tokens);
-    lesser(text, 24 * count)
+    behind(area.len(), size.text).min(24 * behind(tokens.len(), size.tokens))
 }
 
-// A bound on the room of the tokens of these words.
-fn room_of(line: &[u64]) -> usize
-    requires { length line.now < 2048 }
-    ensures { result ≡ words_room line.now }
+// The lengths of the texts of these words.
+fn text_of(line: &[u64]) -> usize
+    requires { sum_by len_of line.now < 2 ^ 64 }
+    ensures { result ≡ sum_by len_of line.now }
 {
-    let mut sum: usize = 0;
-    let mut k = 0;
-    while k < line.len() {
-        sum += words::len(line[k]) + 24;
-        k += 1;
-    }
-    sum
+    line.iter().map(|w| words::len(*w)).sum()
 }
 
 // A bound on the room of the tokens of the line l.
@@ -55,7 +37,8 @@ fn line_room(tokens: &[u64], l: u64) -> usize
     requires { first_of l + count_of l ≤ length tokens.now }
     ensures { result ≡ words_room (part_of tokens.now l) }
 {
-    room_of(words::line_of(tokens, l))
+    let line = words::line_of(tokens, l);
+    text_of(line) + 24 * line.len()
 }
 
 // Whether the need of the lines, with the right side of the line `source` in each, is below n.
@@ -66,14 +49,12 @@ pub fn is_enough<'a>(tokens: &'a [u64], lines: &'a [u64], source: u64, n: usize)
 {
     let base = line_room(tokens, source);
     let mut left = n;
-    let mut k = 0;
-    while k < lines.len() {
-        let need = base + line_room(tokens, lines[k]);
+    for l in lines {
+        let need = base + line_room(tokens, *l);
         if left <= need {
             return false;
         }
         left -= need;
-        k += 1;
     }
     0 < left
 }
@@ -85,9 +66,6 @@ pub fn is_short<'a>(tokens: &'a [u64], lines: &'a [u64], gone: usize, last: usiz
     ensures { result ≡ ltb (needs tokens.now (get_or lines.now gone 0) (slice (gone + 1) (last + 1) lines.now)) n }
 {
     let from = gone + 1;
-    let end = last + 1;
-    if end < from {
-        return 0 < n;
-    }
+    let end = from.max(last + 1);
     is_enough(tokens, &lines[from..end], lines[gone], n)
 }

@@ -78,23 +78,21 @@ lines_snoc [] l = append-nil (write_line l none)
 lines_snoc (x ∷ lines) l =
     rw (lines_snoc lines l) (sym (append_assoc (write_line x none) (write_lines lines []) (write_line l none)))
 
-abbrev Short : Line → Type 0
+abbrev pub Short : Line → Type 0
 Short l = length (write_line l none) ≤ 24
 
 lengths : Short label × Short (move "rbx" "rsi") × Short (move "rbp" "rbx") × Short (move "rbx" "rbp")
 unfolding opened
 lengths = (omega arith, omega arith, omega arith, omega arith)
 
-line_short : (i : ℕ) → Short (line_of i)
+pub line_short : (i : ℕ) → Short (line_of i)
 unfolding line_of
 line_short i = by-if Short (λ e. lengths.0) (λ e. by-if Short (λ e. lengths.1) (λ e. by-if Short (λ e. lengths.2) (λ e. lengths.3)))
 
 -- ---- what stands in the slice
 
-pub put_as : {out out' : List ℕ} {at end : ℕ} (i : ℕ) (l : Line) → line_of i ≡ l → (s : List ℕ) → write_line l none ≡ s
-    → out' ≡ paste out at s (length s) → end ≡ at + length s
-    → Put out at (write_line (line_of i) none) out' end
-put_as i l e s f p q = rw (e, f) (record { bytes_are = p; end_is = q })
+pub line_put : {out out' : List ℕ} {at : ℕ} {s t : List ℕ} → s ≡ t → out' ≡ paste out at s (length s) → Put out at t out' (at + length s)
+line_put e p = rw (← e) (record { bytes_are = p; end_is = refl })
 
 front-put : {out s out₁ t out₂ : List ℕ} {at end : ℕ} → Front out s out₁ at → Put out₁ at t out₂ end → Front out (s ++ t) out₂ end
 front-put {out} {s} {out₁} {t} {out₂} {at} f p =

@@ -8,40 +8,29 @@ ghost use Rattle.answers.specs.Answers.{answer_of, Writes};
 ghost use Rattle.laborious.specs.Listing.{line_of, laborious_tape, laborious_reply};
 ghost use Rattle.laborious.specs.Written.{Put, Front};
 
-use answers::Answer;
+use answers::{Answer, Reason};
 use text::copy_bytes;
+
+// The bytes of line i in a tape.
+fn line_bytes(i: usize) -> &'static [u8]
+    ensures { result.now ≡ write_line (line_of i) none }
+{
+    match i {
+        0 => b"\x02\x00\x14\x01\x00L\x16\x01\x00:",
+        1 => b"\x02\x00\x11\x03\x00rbx\x16\x03\x00 = \x11\x03\x00rsi\x16\x01\x00;",
+        _ if i % 2 == 0 => b"\x02\x00\x11\x03\x00rbp\x16\x03\x00 = \x11\x03\x00rbx\x16\x01\x00;",
+        _ => b"\x02\x00\x11\x03\x00rbx\x16\x03\x00 = \x11\x03\x00rbp\x16\x01\x00;",
+    }
+}
 
 // Puts line i at `at`, and says where it ends.
 fn put_line(i: usize, out: &mut [u8], at: usize) -> usize
     requires { at + 24 ≤ length out.old }
     ensures { Put out.old at (write_line (line_of i) none) out.new result }
 {
-    if i == 0 {
-        copy_bytes(b"\x02\x00\x14\x01\x00L\x16\x01\x00:", out, at);
-        return at + 10;
-    }
-    if i == 1 {
-        copy_bytes(
-            b"\x02\x00\x11\x03\x00rbx\x16\x03\x00 = \x11\x03\x00rsi\x16\x01\x00;",
-            out,
-            at,
-        );
-        return at + 24;
-    }
-    if i % 2 == 0 {
-        copy_bytes(
-            b"\x02\x00\x11\x03\x00rbp\x16\x03\x00 = \x11\x03\x00rbx\x16\x01\x00;",
-            out,
-            at,
-        );
-        return at + 24;
-    }
-    copy_bytes(
-        b"\x02\x00\x11\x03\x00rbx\x16\x03\x00 = \x11\x03\x00rbp\x16\x01\x00;",
-        out,
-        at,
-    );
-    at + 24
+    let line = line_bytes(i);
+    copy_bytes(line, out, at);
+    at + line.len()
 }
 
 // Writes the tape of the listing of n lines, and says how long it is.
@@ -50,10 +39,8 @@ fn write_laborious(n: usize, out: &mut [u8]) -> usize
     ensures { Front out.old (laborious_tape n) out.new result }
 {
     let mut at = 0;
-    let mut i = 0;
-    while i < n {
+    for i in 0..n {
         at = put_line(i, out, at);
-        i += 1;
     }
     out[at] = 255;
     at + 1
@@ -64,16 +51,10 @@ pub fn laborious(n: u64, out: &mut [u8]) -> Answer
     ensures { Writes (laborious_reply n (length out.old)) out.old out.new (answer_of result) }
 {
     if 256 < n {
-        return Answer::Refused {
-            number: 17,
-            place: 0,
-        };
+        return Err(Reason::TooManyLines.at(0));
     }
     if out.len() < 59137 {
-        return Answer::Refused {
-            number: 2,
-            place: 0,
-        };
+        return Err(Reason::TooLittleRoom.at(0));
     }
-    Answer::Passed(write_laborious(n as usize, out) as u64)
+    Ok(write_laborious(n as usize, out) as u64)
 }

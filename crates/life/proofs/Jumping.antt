@@ -22,15 +22,14 @@ use Rattle.joining.specs.Places.{label_at, labels_at, Labelled}
 use Rattle.joining.proofs.Labels.{label_inside, lookup_hit, lookup_miss, lookup_end}
 use Rattle.lines.specs.Words.{text_of, token_of, tokens_of}
 use Rattle.lines.specs.Lines.{indent_of, part_of, bare_in, bare_listing}
-use Rattle.lines.specs.Shapes.{found, symbol_from}
-use Rattle.lines.specs.declared.shapes.Position.{Position}
-use Rattle.lines.specs.declared.shapes.Position.TheVariants.{At, Nothing}
+use Rattle.lines.specs.Shapes.{symbol_from}
 use Rattle.lines.proofs.words.Each.{map-take}
 use Rattle.lines.proofs.words.Lines.{bare_at}
 use Rattle.lines.proofs.shapes.Places.{found_is, found-not, find_at, symbol_at, symbol_fromone}
-use Rattle.life.specs.declared.jumps.Jump.{Jump}
-use Rattle.life.specs.declared.jumps.Jump.TheVariants.{Nothing as Stays, Unknown, To}
 use Rattle.life.specs.Jumps.{jump}
+use Rattle.std.specs.Prelude as std
+use Rattle.std.specs.Prelude.{Some, None}
+use Rattle.reference.specs.Options.{option_of}
 
 -- ---- the last that passes, from the end back: o is what the whole search is to find
 
@@ -140,42 +139,38 @@ module _ (tape area : Text) (tokens lines places : List ℕ) (ok : Labelled (bar
 
 -- ---- where a `goto` jumps to
 
-pub goto_inside : (tape area : Text) (ws : List ℕ) {r : Position} {g : ℕ} → found r ≡ position (is_kw (bytes "goto")) (tokens_of tape area ws) → r ≡ At g → g < length ws
+pub goto_inside : (tape area : Text) (ws : List ℕ) {r : std.Option ℕ} {g : ℕ} → option_of r ≡ position (is_kw (bytes "goto")) (tokens_of tape area ws) → r ≡ Some g → g < length ws
 goto_inside tape area ws {g = g} er e =
     let b = (find_at (is_kw (bytes "goto")) (tokens_of tape area ws) g (token_of tape area 0) (found_is er e)).0 in
     rw (length-map ws (token_of tape area)) at b
 
-pub symbol-inside : (tape area : Text) (ws : List ℕ) (n : ℕ) {s : ℕ} {q : Position} → found q ≡ symbol_from (tokens_of tape area ws) n → q ≡ At s → s < length ws
+pub symbol-inside : (tape area : Text) (ws : List ℕ) (n : ℕ) {s : ℕ} {q : std.Option ℕ} → option_of q ≡ symbol_from (tokens_of tape area ws) n → q ≡ Some s → s < length ws
 symbol-inside tape area ws n {s} eq f = (symbol_at tape area ws n s (found_is eq f)).0
 
 module _ (tape area : Text) (labels : Labels) (line : List ℕ) {ws : List ℕ} (ew : ws ≡ line)
-    (r : Position) (er : found r ≡ position (is_kw (bytes "goto")) (tokens_of tape area ws)) where
-  pub target-stays : r ≡ Nothing → none ≡ goto_target (tokens_of tape area line) labels
+    (r : std.Option ℕ) (er : option_of r ≡ position (is_kw (bytes "goto")) (tokens_of tape area ws)) where
+  pub target-stays : r ≡ None → none ≡ goto_target (tokens_of tape area line) labels
   unfolding goto_target let_some◌else◌then◌
   target-stays e = rw (← ew, found-not er e)
 
-  module _ {g : ℕ} (e : r ≡ At g) where
+  module _ {g : ℕ} (e : r ≡ Some g) where
     at_goto : goto_target (tokens_of tape area line) labels
         ≡ some (let_some (find (is Symbol) (drop (g + 1) (tokens_of tape area ws))) else none then λ t. lookup labels t.text)
     unfolding goto_target let_some◌else◌then◌
     at_goto = rw (← ew, found_is er e, add-one g)
 
-    module _ (q : Position) (eq : found q ≡ symbol_from (tokens_of tape area ws) (g + 1)) where
-      pub target_none : q ≡ Nothing → some none ≡ goto_target (tokens_of tape area line) labels
+    module _ (q : std.Option ℕ) (eq : option_of q ≡ symbol_from (tokens_of tape area ws) (g + 1)) where
+      pub target_none : q ≡ None → some none ≡ goto_target (tokens_of tape area line) labels
       unfolding let_some◌else◌then◌
       target_none f = sym (at_goto ∙ rw (symbol_fromone tape area ws (g + 1) (found-not eq f)))
 
-      module _ {s : ℕ} (f : q ≡ At s) where
+      module _ {s : ℕ} (f : q ≡ Some s) where
         at_symbol : goto_target (tokens_of tape area line) labels ≡ some (lookup labels (text_of tape area (get_or ws s 0)))
         unfolding let_some◌else◌then◌
         at_symbol = at_goto ∙ rw (symbol_at tape area ws (g + 1) s (found_is eq f)).1
 
-        module _ (t : Position) (et : found t ≡ lookup labels (text_of tape area (get_or ws s 0))) where
-          pub target_unknown : t ≡ Nothing → some none ≡ goto_target (tokens_of tape area line) labels
-          target_unknown u = sym (at_symbol ∙ ap some (found-not et u))
-
-          pub target_to : {k : ℕ} → t ≡ At k → some (some k) ≡ goto_target (tokens_of tape area line) labels
-          target_to u = sym (at_symbol ∙ ap some (found_is et u))
+        pub target_label : (t : std.Option ℕ) → option_of t ≡ lookup labels (text_of tape area (get_or ws s 0)) → some (option_of t) ≡ goto_target (tokens_of tape area line) labels
+        target_label t et = ap some et ∙ sym at_symbol
 
 -- ---- whether the scan goes on
 
@@ -189,22 +184,22 @@ module _ (lines : List ℕ) (tape area : Text) (tokens : List ℕ) (fam : Text) 
   abbrev listing : Listing
   listing = bare_listing tape area tokens lines
 
-  module _ (labels : Labels) (l : ℕ) (r : Jump) (er : jump r ≡ goto_target (tokens_of tape area (part_of tokens l)) labels) where
+  module _ (labels : Labels) (l : ℕ) (r : std.Option (std.Option ℕ)) (er : jump r ≡ goto_target (tokens_of tape area (part_of tokens l)) labels) where
     abbrev goes : Bool
     goes = goto_passes listing fam start vs labels (bare_in tape area tokens l)
 
-    pub passes-stays : r ≡ Stays → true ≡ goes
+    pub passes-stays : r ≡ None → true ≡ goes
     unfolding goto_passes let_some◌else◌then◌
     passes-stays e = rw (← er, e)
 
-    pub passes_unknown : r ≡ Unknown → false ≡ goes
+    pub passes_unknown : r ≡ Some None → false ≡ goes
     unfolding goto_passes let_some◌else◌then◌
     passes_unknown e = rw (← er, e)
 
-    module _ {to : ℕ} (e : r ≡ To to) where
+    module _ {q : std.Option ℕ} {to : ℕ} (f : r ≡ Some q) (g : q ≡ Some to) where
       at_target : goes ≡ (when leb to start then rerun_kills listing fam start vs to (listing at to).indent else true)
       unfolding goto_passes let_some◌else◌then◌
-      at_target = rw (← er, e) (unless (leb to start) (rerun_kills listing fam start vs to (listing at to).indent))
+      at_target = rw (← er, f, g) (unless (leb to start) (rerun_kills listing fam start vs to (listing at to).indent))
 
       pub passes_on : start < to → true ≡ goes
       passes_on h = sym (at_target ∙ if-false _ _ (lt-leb to start h))
@@ -223,16 +218,16 @@ module _ (lines : List ℕ) (tape area : Text) (tokens : List ℕ) (fam : Text) 
     unfolding while_passes when◌then◌else◌
     loop_uses t = rw (← ew, ← ex, t)
 
-    module _ (t : x ≡ false) {k : ℕ} (ek : k ≡ indent_of l) (r : Position) (er : found r ≡ last_position (is_do k) (bare_listing tape area tokens (take w lines))) where
-      at_do : loops ≡ (let_some (found r) else false then λ d. not (ltb d start and not (rerun_kills listing fam start vs d k)))
+    module _ (t : x ≡ false) {k : ℕ} (ek : k ≡ indent_of l) (r : std.Option ℕ) (er : option_of r ≡ last_position (is_do k) (bare_listing tape area tokens (take w lines))) where
+      at_do : loops ≡ (let_some (option_of r) else false then λ d. not (ltb d start and not (rerun_kills listing fam start vs d k)))
       unfolding while_passes when◌then◌else◌
       at_do = rw (← ew, ← ex, t, ← ek, ← map-take (bare_in tape area tokens) w lines, ← er)
 
-      pub loop_none : r ≡ Nothing → false ≡ loops
+      pub loop_none : r ≡ None → false ≡ loops
       unfolding let_some◌else◌then◌
       loop_none e = sym (at_do ∙ rw e)
 
-      module _ {d : ℕ} (e : r ≡ At d) where
+      module _ {d : ℕ} (e : r ≡ Some d) where
         at_head : loops ≡ (when ltb d start then rerun_kills listing fam start vs d k else true)
         unfolding let_some◌else◌then◌
         at_head = at_do ∙ rw e (unless (ltb d start) (rerun_kills listing fam start vs d k))

@@ -5,7 +5,7 @@ use native.Mathlib.Omega.{arith}
 use mathlib.Core.Path.{◌≡◌, refl, sym, ap, ◌∙◌}
 use mathlib.Core.Bool.{Bool, true, false}
 use mathlib.Core.List.{List, [], ◌∷◌, ◌++◌, map, map-append, append-nil}
-use lib.ListN.{length, get_or, set, take, drop, length-map, length-append, length-drop, drop_of_length-le}
+use lib.ListN.{length, get_or, set, take, drop, length-map, length-append, length-drop}
 use lib.Seq.{take-suc, take_all, drop-cons, length-take-le, set_at, get_or_at, append_snoc}
 use borrow.Author.Tests.{lt-ltb, le-ltb}
 use Rattle.reference.specs.Control.{when◌then◌else◌}
@@ -80,9 +80,6 @@ module _ (f : ℕ → ℕ) (before : List ℕ) (k : ℕ) {now : List ℕ} (inv :
         let same : get_or now k 0 ≡ get_or before k 0 = rw split (get_or_at (map f (take k before)) _ _ 0 k size) in
         rw (split, e, same, add-one k, take-suc before k 0 h, map-append)
         (set_at (map f (take k before)) _ _ _ k size ∙ sym (append_snoc (map f (take k before)) (f (get_or before k 0)) (drop (suc k) before)))
-
-  pub mapped_end : length before ≤ k → now ≡ map f before
-  mapped_end h = inv ∙ rw (take_all k before h, drop_of_length-le before {i = k} h) (append-nil (map f before))
 
 -- ---- a place when a line is gone
 

@@ -19,27 +19,35 @@ use Rattle.lines.specs.Words.{text_of, token_of, tokens_of}
 use Rattle.lines.specs.Shapes.{expr_words, Assigns}
 use Rattle.lines.specs.Fams.{Fam, fam_text, Names}
 use Rattle.lines.specs.declared.shapes.Expr.{Expr}
-use Rattle.lines.specs.declared.shapes.Assigned.{Assigned}
-use Rattle.lines.specs.declared.shapes.Assigned.TheVariants.{To, Nothing as Unassigned}
 use Rattle.lines.specs.declared.fams.Named.{Named}
-use Rattle.lines.specs.declared.fams.Named.TheVariants.{As, Nothing as Unnamed}
 use Rattle.lines.proofs.shapes.Sides.{assigned_to, assigned-not}
 use Rattle.lines.proofs.fams.Families.{named_as, named-not}
 use Rattle.linefacts.proofs.Lacking.{kills-empty, kills-other}
 use Rattle.life.specs.declared.touches.Touched.{Touched}
 use Rattle.life.specs.declared.touches.Touched.TheVariants.{Nothing, Kill as Kills, Use as Uses}
 use Rattle.life.specs.Touches.{touched, kills_by}
+use Rattle.std.specs.Prelude as std
+use Rattle.std.specs.Prelude.{Some, MatchOption}
 
 -- ---- `kills`
 
-module _ (tape area : Text) (ws : List ℕ) (fam : Text) {r : Assigned} (h : Assigns tape area ws r) where
-  pub kills_none : r ≡ Unassigned → false ≡ kills (tokens_of tape area ws) fam
+module _ (tape area : Text) (ws : List ℕ) (fam : Text) {r : std.Option Expr} (h : Assigns tape area ws r) where
+  pub kills_none : r ≡ std.None → false ≡ kills (tokens_of tape area ws) fam
   unfolding kills let_some◌else◌then◌
   kills_none e = rw (assigned-not h e)
 
-  pub kills_to : {x : Expr} {b : Bool} → r ≡ To x → b ≡ kills_by tape area ws x fam → b ≡ kills (tokens_of tape area ws) fam
+  pub kills_to : {x : Expr} {b : Bool} → r ≡ Some x → b ≡ kills_by tape area ws x fam → b ≡ kills (tokens_of tape area ws) fam
   unfolding kills kills_by let_some◌else◌then◌
   kills_to e eb = eb ∙ rw (assigned_to h e)
+
+-- b is what the code asks of the right side, if there is one
+pub kills_asked : (tape area : Text) (ws : List ℕ) (fam : Text) {r : std.Option Expr} → Assigns tape area ws r → (b : Bool) {P : Expr → Type 0} → MatchOption r (b ≡ false) P
+    → ((x : Expr) → P x → b ≡ kills_by tape area ws x fam) → b ≡ kills (tokens_of tape area ws) fam
+kills_asked tape area ws fam {r} h b {P} m asks = step r refl
+  where
+    step : (v : std.Option Expr) → r ≡ v → b ≡ kills (tokens_of tape area ws) fam
+    step std.None e = (rw e at m) ∙ kills_none tape area ws fam h e
+    step (Some x) e = kills_to tape area ws fam h e (asks x (rw e at m))
 
 -- by the first token, where there is one: x is whether it is of the family
 pub kills-no_token : (tape area : Text) (ws : List ℕ) (fam : Text) → length ws ≡ 0 → false ≡ kills (tokens_of tape area ws) fam
@@ -51,25 +59,30 @@ pub kills-first : (tape area : Text) (ws : List ℕ) (fam : Text) {x : Bool} →
 kills-first tape area [] fam n ex f = absurd (n refl)
 kills-first tape area (w ∷ ws) fam n ex f = sym (kills-other (token_of tape area w) (tokens_of tape area ws) fam (sym ex ∙ f))
 
-module _ (tape area : Text) (ws : List ℕ) (x : Expr) (fam : Text) {r : Named} (h : Names tape area (family (text_of tape area (get_or ws 0 0))) r) where
-  pub by_none : r ≡ Unnamed → false ≡ kills_by tape area ws x fam
+module _ (tape area : Text) (ws : List ℕ) (x : Expr) (fam : Text) {r : std.Option Named} (h : Names tape area (family (text_of tape area (get_or ws 0 0))) r) where
+  pub by_none : r ≡ std.None → false ≡ kills_by tape area ws x fam
   unfolding kills_by let_some◌else◌then◌
   by_none e = rw (named-not h e)
 
-  module _ {g : Fam} {k m : ℕ} (e : r ≡ As g k m) {b : Bool} (eb : b ≡ (fam_text tape area g ≟ fam)) where
+  module _ {g : Fam} {k m : ℕ} (e : r ≡ Some (record { family = g; width = k; lowest = m })) where
     by_name : kills_by tape area ws x fam
         ≡ ((fam_text tape area g ≟ fam) and leb 32 k and not (any (of_family fam) (tokens_of tape area (expr_words ws x))))
     unfolding kills_by let_some◌else◌then◌
     by_name = rw (named_as h e)
 
-    pub by_other : b ≡ false → false ≡ kills_by tape area ws x fam
-    by_other f = and_here _ eb f ∙ sym by_name
+    pub by_narrow : k < 32 → false ≡ kills_by tape area ws x fam
+    unfolding ◌and◌
+    by_narrow w = go (fam_text tape area g ≟ fam) (not (any (of_family fam) (tokens_of tape area (expr_words ws x)))) ∙ sym by_name
+      where
+        go : (b c : Bool) → false ≡ (b and leb 32 k and c)
+        go true c = rw (lt-leb 32 k w)
+        go false c = refl
 
-    pub by_narrow : b ≡ true → k < 32 → false ≡ kills_by tape area ws x fam
-    by_narrow t w = and_second eb t (and_here _ (sym (lt-leb 32 k w)) refl) ∙ sym by_name
+    pub by_other : {b : Bool} → b ≡ (fam_text tape area g ≟ fam) → b ≡ false → false ≡ kills_by tape area ws x fam
+    by_other eb f = and_here _ eb f ∙ sym by_name
 
-    pub by_right : {y : Bool} → b ≡ true → 32 ≤ k → y ≡ any (of_family fam) (tokens_of tape area (expr_words ws x)) → flip y ≡ kills_by tape area ws x fam
-    by_right t w ey = and_second eb t (and_second (sym (le-leb 32 k w)) refl (not_same ey)) ∙ sym by_name
+    pub by_right : {b y : Bool} → b ≡ (fam_text tape area g ≟ fam) → b ≡ true → 32 ≤ k → y ≡ any (of_family fam) (tokens_of tape area (expr_words ws x)) → flip y ≡ kills_by tape area ws x fam
+    by_right eb t w ey = and_second eb t (and_second (sym (le-leb 32 k w)) refl (not_same ey)) ∙ sym by_name
 
 -- ---- `touch_of`
 
@@ -106,22 +119,18 @@ module _ (r : Touched) {t : Touch} (h : touched r ≡ t) where
   unfolding match_touch
   use_use e = rw (← h, e)
 
-  pub use_kill : r ≡ Kills → false ≡ is_use t
-  unfolding match_touch
-  use_kill e = rw (← h, e)
-
-  pub use_none : r ≡ Nothing → false ≡ is_use t
-  unfolding match_touch
-  use_none e = rw (← h, e)
-
-  pub kill_use : {n : ℕ} → r ≡ Uses n → false ≡ is_kill t
-  unfolding match_touch
-  kill_use e = rw (← h, e)
-
   pub kill_kill : r ≡ Kills → true ≡ is_kill t
   unfolding match_touch
   kill_kill e = rw (← h, e)
 
-  pub kill_none : r ≡ Nothing → false ≡ is_kill t
-  unfolding match_touch
-  kill_none e = rw (← h, e)
+pub use_not : (r : Touched) {t : Touch} → touched r ≡ t → ((n : ℕ) → r ≡ Uses n → ⊥) → false ≡ is_use t
+unfolding match_touch
+use_not Nothing h n = rw (← h)
+use_not Kills h n = rw (← h)
+use_not (Uses k) h n = absurd (n k refl)
+
+pub kill_not : (r : Touched) {t : Touch} → touched r ≡ t → (r ≡ Kills → ⊥) → false ≡ is_kill t
+unfolding match_touch
+kill_not Nothing h n = rw (← h)
+kill_not Kills h n = absurd (n refl)
+kill_not (Uses k) h n = rw (← h)

@@ -1,10 +1,9 @@
 -- What the code's answers on jumps mean. Assumes nothing.
 use Rattle.std.specs.Prelude.{ℕ}
+use Rattle.std.specs.Prelude as std
 use Rattle.std.proofs.Math.Option.{Option, none, some}
-use Rattle.life.specs.declared.jumps.Jump.{Jump}
-use Rattle.life.specs.declared.jumps.Jump.TheVariants.{Nothing, Unknown, To}
+use Rattle.reference.specs.Options.{option_of}
 
-abbrev pub jump : Jump → Option (Option ℕ)
-jump Nothing = none
-jump Unknown = some none
-jump (To k) = some (some k)
+abbrev pub jump : std.Option (std.Option ℕ) → Option (Option ℕ)
+jump std.None = none
+jump (std.Some to) = some (option_of to)

@@ -13,8 +13,6 @@ ghost use Rattle.life.specs.Liveness.{returns_at, scan_liveness, liveness_after}
 use crate::jumps::{goto_passes, while_passes};
 use crate::liveness::{Followed, Liveness, liveness_at};
 use linefacts::{is_calling, is_transparent, number_of};
-use lines::fams::Fam;
-use lines::rules::Rules;
 use lines::{fams, shapes, words};
 
 // Whether a line, at most `base_indent` deep, has the Keyword `return`.
@@ -28,35 +26,20 @@ fn returns_at<'a>(
     requires { Lined tape.now area.now tokens.now l }
     ensures { result ≡ returns_at base_indent (bare_in tape.now area.now tokens.now l) }
 {
-    if base_indent < words::indent(l) {
-        return false;
-    }
-    shapes::has_return(tape, area, words::line_of(tokens, l))
+    words::indent(l) <= base_indent && shapes::has_return(tape, area, words::line_of(tokens, l))
 }
 
 // A line that no jump decides.
-fn scan<'a>(
-    tape: &'a [u8],
-    area: &'a [u8],
-    tokens: &'a [u64],
-    l: u64,
-    f: Fam,
-    base_indent: u64,
-    rules: Rules,
-) -> Liveness
-    requires { Lined tape.now area.now tokens.now l × Known tape.now area.now f }
-    ensures { result ≡ scan_liveness (fam_text tape.now area.now f) base_indent (volatile (rules_of rules))
+fn scan<'a>(tape: &'a [u8], area: &'a [u8], tokens: &'a [u64], l: u64, v: Followed) -> Liveness
+    requires { Lined tape.now area.now tokens.now l × Known tape.now area.now v.family }
+    ensures { result ≡ scan_liveness (fam_text tape.now area.now v.family) v.indent (volatile (rules_of v.rules))
         (bare_in tape.now area.now tokens.now l) }
 {
-    match liveness_at(tape, area, tokens, l, f, base_indent, rules) {
+    match liveness_at(tape, area, tokens, l, v) {
         Liveness::Dead => Liveness::Dead,
         Liveness::Live => Liveness::Live,
-        Liveness::Open => {
-            if returns_at(tape, area, tokens, l, base_indent) {
-                return Liveness::Dead;
-            }
-            Liveness::Open
-        }
+        Liveness::Open if returns_at(tape, area, tokens, l, v.indent) => Liveness::Dead,
+        Liveness::Open => Liveness::Open,
     }
 }
 
@@ -81,14 +64,15 @@ fn liveness_after<'a>(
     let l = lines[w];
     if shapes::has_while(tape, area, words::line_of(tokens, l)) {
         if while_passes(tape, area, tokens, lines, w, v) {
-            return Liveness::Open;
+            Liveness::Open
+        } else {
+            Liveness::Live
         }
-        return Liveness::Live;
+    } else if goto_passes(tape, area, tokens, lines, labels, l, v) {
+        scan(tape, area, tokens, l, v)
+    } else {
+        Liveness::Live
     }
-    if !goto_passes(tape, area, tokens, lines, labels, l, v) {
-        return Liveness::Live;
-    }
-    scan(tape, area, tokens, l, v.family, v.indent, v.rules)
 }
 
 // What line w does to the value, by its facts where they tell it: a transparent line does nothing, and a calling one what calls do to the
@@ -118,10 +102,7 @@ fn liveness_by_facts<'a>(
         return Liveness::Open;
     }
     if is_calling(l, n) {
-        if !overwritten {
-            return Liveness::Open;
-        }
-        if words::indent(l) <= v.indent {
+        if overwritten && words::indent(l) <= v.indent {
             return Liveness::Dead; // by the call
         }
         return Liveness::Open;
@@ -149,18 +130,12 @@ pub fn dead_after<'a>(
 {
     let n = number_of(tape, area, v.family);
     let overwritten = fams::is_volatile(tape, area, v.family, v.rules);
-    let mut w = from + 1;
-    while w < lines.len() {
+    for w in from + 1..lines.len() {
         match liveness_by_facts(tape, area, tokens, lines, labels, w, v, n, overwritten) {
-            Liveness::Dead => {
-                return true;
-            }
-            Liveness::Live => {
-                return false;
-            }
+            Liveness::Dead => return true,
+            Liveness::Live => return false,
             Liveness::Open => {}
         }
-        w += 1;
     }
     true
 }

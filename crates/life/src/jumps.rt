@@ -1,5 +1,6 @@
 // Jumps: what a `while` and a `goto` of a line after a definition let the value's scan do.
 ghost use Rattle.std.specs.Prelude.{◌≡◌, ◌<◌, length, get_or};
+ghost use Rattle.reference.specs.Options.{option_of};
 ghost use Rattle.reference.specs.Lists.{last_position};
 ghost use Rattle.reference.specs.Text.{◌≟◌};
 ghost use Rattle.reference.specs.Listing.{◌at◌};
@@ -9,15 +10,11 @@ ghost use Rattle.joining.specs.Places.{labels_at, Labelled};
 ghost use Rattle.lines.specs.Rules.{rules_of};
 ghost use Rattle.lines.specs.Words.{text_of, tokens_of, Points};
 ghost use Rattle.lines.specs.Lines.{part_of, bare_in, bare_listing, Lined, Listed};
-ghost use Rattle.lines.specs.Shapes.{found};
 ghost use Rattle.lines.specs.Fams.{fam_text, Known};
 ghost use Rattle.life.specs.Jumps.{jump};
 
 use crate::liveness::{Followed, rerun_kills};
 use crate::touches;
-use lines::fams::Fam;
-use lines::rules::Rules;
-use lines::shapes::Position;
 use lines::{shapes, words};
 
 // ---- `while`
@@ -27,10 +24,7 @@ fn is_do<'a>(tape: &'a [u8], area: &'a [u8], tokens: &'a [u64], l: u64, indent: 
     requires { Lined tape.now area.now tokens.now l }
     ensures { result ≡ is_do indent (bare_in tape.now area.now tokens.now l) }
 {
-    if words::indent(l) != indent {
-        return false;
-    }
-    shapes::has_do(tape, area, words::line_of(tokens, l))
+    words::indent(l) == indent && shapes::has_do(tape, area, words::line_of(tokens, l))
 }
 
 // The last of the lines with this indent and the Keyword `do`.
@@ -40,18 +34,16 @@ fn do_before<'a>(
     tokens: &'a [u64],
     lines: &'a [u64],
     indent: u64,
-) -> Position
+) -> Option<usize>
     requires { Listed tape.now area.now tokens.now lines.now }
-    ensures { found result ≡ last_position (is_do indent) (bare_listing tape.now area.now tokens.now lines.now) }
+    ensures { option_of result ≡ last_position (is_do indent) (bare_listing tape.now area.now tokens.now lines.now) }
 {
-    let mut n = lines.len();
-    while 0 < n {
-        n -= 1;
+    for n in (0..lines.len()).rev() {
         if is_do(tape, area, tokens, lines[n], indent) {
-            return Position::At(n);
+            return Some(n);
         }
     }
-    Position::Nothing
+    None
 }
 
 // At line w, which has a `while`: the back edge enters the loop's head again.
@@ -74,13 +66,10 @@ pub fn while_passes<'a>(
         return false;
     }
     let indent = words::indent(l);
-    let Position::At(d) = do_before(tape, area, tokens, &lines[..w], indent) else {
+    let Some(d) = do_before(tape, area, tokens, &lines[..w], indent) else {
         return false; // a loop whose head is not known
     };
-    if v.start <= d {
-        return true;
-    }
-    rerun_kills(tape, area, tokens, lines, d, indent, v)
+    v.start <= d || rerun_kills(tape, area, tokens, lines, d, indent, v)
 }
 
 // ---- `goto`
@@ -94,14 +83,6 @@ fn is_named<'a>(tape: &'a [u8], area: &'a [u8], tokens: &'a [u64], l: u64, w: u6
     text::same(words::text(tape, area, line[0]), words::text(tape, area, w))
 }
 
-// The line of label n.
-fn place_at(labels: &[u64], n: usize) -> usize
-    requires { n < length labels.now }
-    ensures { result ≡ get_or labels.now n 0 }
-{
-    labels[n] as usize
-}
-
 // The line of the label with the name that the token word w has for its text; of equal names the last.
 fn label_named<'a>(
     tape: &'a [u8],
@@ -110,31 +91,22 @@ fn label_named<'a>(
     lines: &'a [u64],
     labels: &'a [u64],
     w: u64,
-) -> Position
+) -> Option<usize>
     requires { Listed tape.now area.now tokens.now lines.now
         × Labelled (bare_listing tape.now area.now tokens.now lines.now) labels.now × Points tape.now area.now w }
-    ensures { found result ≡ lookup (labels_at (bare_listing tape.now area.now tokens.now lines.now) labels.now)
+    ensures { option_of result ≡ lookup (labels_at (bare_listing tape.now area.now tokens.now lines.now) labels.now)
         (text_of tape.now area.now w) }
 {
-    let mut n = labels.len();
-    while 0 < n {
-        n -= 1;
-        let at = place_at(labels, n);
+    for n in (0..labels.len()).rev() {
+        let at = labels[n] as usize;
         if is_named(tape, area, tokens, lines[at], w) {
-            return Position::At(at);
+            return Some(at);
         }
     }
-    Position::Nothing
+    None
 }
 
-// Where a line jumps to: it has no `goto`, one to no known label, or one to the label on that line.
-#[derive(Clone, Copy)]
-pub enum Jump {
-    Nothing,
-    Unknown,
-    To(usize),
-}
-
+// Where the `goto` of a line jumps to, if it has one: the line of its label, if that is known.
 fn goto_target<'a>(
     tape: &'a [u8],
     area: &'a [u8],
@@ -142,7 +114,7 @@ fn goto_target<'a>(
     lines: &'a [u64],
     labels: &'a [u64],
     l: u64,
-) -> Jump
+) -> Option<Option<usize>>
     requires { Listed tape.now area.now tokens.now lines.now
         × Labelled (bare_listing tape.now area.now tokens.now lines.now) labels.now
         × Lined tape.now area.now tokens.now l }
@@ -150,16 +122,11 @@ fn goto_target<'a>(
         (labels_at (bare_listing tape.now area.now tokens.now lines.now) labels.now) }
 {
     let line = words::line_of(tokens, l);
-    let Position::At(g) = shapes::goto_at(tape, area, line) else {
-        return Jump::Nothing;
+    let g = shapes::goto_at(tape, area, line)?;
+    let Some(s) = shapes::symbol_from(line, g + 1) else {
+        return Some(None);
     };
-    let Position::At(s) = shapes::symbol_from(line, g + 1) else {
-        return Jump::Unknown;
-    };
-    let Position::At(at) = label_named(tape, area, tokens, lines, labels, line[s]) else {
-        return Jump::Unknown;
-    };
-    Jump::To(at)
+    Some(label_named(tape, area, tokens, lines, labels, line[s]))
 }
 
 // At a line with a `goto` or none: a jump back above the definition runs it again.
@@ -181,14 +148,10 @@ pub fn goto_passes<'a>(
         (bare_in tape.now area.now tokens.now l) }
 {
     match goto_target(tape, area, tokens, lines, labels, l) {
-        Jump::Nothing => true,
-        Jump::Unknown => false,
-        Jump::To(at) => {
-            if v.start < at {
-                return true;
-            }
-            let indent = words::indent(lines[at]);
-            rerun_kills(tape, area, tokens, lines, at, indent, v)
+        None => true,
+        Some(None) => false,
+        Some(Some(at)) => {
+            v.start < at || rerun_kills(tape, area, tokens, lines, at, words::indent(lines[at]), v)
         }
     }
 }

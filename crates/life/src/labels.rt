@@ -7,6 +7,7 @@ ghost use Rattle.life.specs.Labels.{Gathered};
 use lines::{shapes, words};
 
 // Puts the places of the label lines into the front of `labels`, and says how many there are.
+// Kept: a count beside a lent table, since memory is fixed and there is no heap.
 pub fn gather_labels<'a>(
     tape: &'a [u8],
     area: &'a [u8],
@@ -19,13 +20,11 @@ pub fn gather_labels<'a>(
         labels.new result }
 {
     let mut n = 0;
-    let mut k = 0;
-    while k < lines.len() {
-        if shapes::is_label(tape, area, words::line_of(tokens, lines[k])) {
+    for (k, l) in lines.iter().enumerate() {
+        if shapes::is_label(tape, area, words::line_of(tokens, *l)) {
             labels[n] = k as u64;
             n += 1;
         }
-        k += 1;
     }
     n
 }
@@ -34,20 +33,14 @@ pub fn gather_labels<'a>(
 fn shifted(place: u64, i: usize) -> u64
     ensures { result ≡ shift_place i place }
 {
-    let gone = i as u64;
-    if gone < place {
-        return place - 1;
-    }
-    place
+    if (i as u64) < place { place - 1 } else { place }
 }
 
 // The places when line i is gone.
 pub fn shift_labels(labels: &mut [u64], i: usize)
     ensures { labels.new ≡ shift_places i labels.old }
 {
-    let mut k = 0;
-    while k < labels.len() {
-        labels[k] = shifted(labels[k], i);
-        k += 1;
+    for place in labels.iter_mut() {
+        *place = shifted(*place, i);
     }
 }

@@ -30,58 +30,43 @@ pub struct Followed {
     pub rules: Rules,
 }
 
-// A line that reads the value makes it Live, one that overwrites it, at most `deep` deep, Dead.
+// A line that reads the value makes it Live, one that overwrites it, at most `v.indent` deep, Dead.
 pub fn liveness_at<'a>(
     tape: &'a [u8],
     area: &'a [u8],
     tokens: &'a [u64],
     l: u64,
-    f: Fam,
-    deep: u64,
-    rules: Rules,
+    v: Followed,
 ) -> Liveness
-    requires { Lined tape.now area.now tokens.now l × Known tape.now area.now f }
-    ensures { result ≡ line_liveness (fam_text tape.now area.now f) deep (volatile (rules_of rules))
+    requires { Lined tape.now area.now tokens.now l × Known tape.now area.now v.family }
+    ensures { result ≡ line_liveness (fam_text tape.now area.now v.family) v.indent (volatile (rules_of v.rules))
         (bare_in tape.now area.now tokens.now l) }
 {
-    match touches::touch(tape, area, words::line_of(tokens, l), f, rules) {
+    match touches::touch(tape, area, words::line_of(tokens, l), v.family, v.rules) {
         Touched::Use(_) => Liveness::Live,
-        Touched::Kill => {
-            if words::indent(l) <= deep {
-                return Liveness::Dead;
-            }
-            Liveness::Open
-        }
-        Touched::Nothing => Liveness::Open,
+        Touched::Kill if words::indent(l) <= v.indent => Liveness::Dead,
+        Touched::Kill | Touched::Nothing => Liveness::Open,
     }
 }
 
-// Whether the family is overwritten, at most `deep` deep, before any read in the lines.
+// Whether the value is overwritten, at most `v.indent` deep, before any read in the lines.
 pub fn killed_first<'a>(
     tape: &'a [u8],
     area: &'a [u8],
     tokens: &'a [u64],
     lines: &'a [u64],
-    f: Fam,
-    deep: u64,
-    rules: Rules,
+    v: Followed,
 ) -> bool
-    requires { Listed tape.now area.now tokens.now lines.now × Known tape.now area.now f }
+    requires { Listed tape.now area.now tokens.now lines.now × Known tape.now area.now v.family }
     ensures { result ≡ killed_first (bare_listing tape.now area.now tokens.now lines.now)
-        (fam_text tape.now area.now f) deep (volatile (rules_of rules)) }
+        (fam_text tape.now area.now v.family) v.indent (volatile (rules_of v.rules)) }
 {
-    let mut k = 0;
-    while k < lines.len() {
-        match liveness_at(tape, area, tokens, lines[k], f, deep, rules) {
-            Liveness::Dead => {
-                return true;
-            }
-            Liveness::Live => {
-                return false;
-            }
+    for l in lines {
+        match liveness_at(tape, area, tokens, *l, v) {
+            Liveness::Dead => return true,
+            Liveness::Live => return false,
             Liveness::Open => {}
         }
-        k += 1;
     }
     false
 }
@@ -104,13 +89,9 @@ pub fn rerun_kills<'a>(
 {
     let from = to + 1;
     let end = v.start + 1;
-    killed_first(
-        tape,
-        area,
-        tokens,
-        &lines[from..end],
-        v.family,
-        indent + 1,
-        v.rules,
-    )
+    let again = Followed {
+        indent: indent + 1,
+        ..v
+    };
+    killed_first(tape, area, tokens, &lines[from..end], again)
 }

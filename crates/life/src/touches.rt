@@ -8,9 +8,9 @@ ghost use Rattle.lines.specs.Shapes.{Expression};
 ghost use Rattle.lines.specs.Fams.{fam_text, Known};
 ghost use Rattle.life.specs.Touches.{touched, kills_by};
 
-use lines::fams::{Fam, Named};
+use lines::fams::Fam;
 use lines::rules::Rules;
-use lines::shapes::{Assigned, Expr};
+use lines::shapes::Expr;
 use lines::{fams, shapes};
 
 // An overwriting of 32 bits or more that does not read the family, or by a call; or so many tokens of the family.
@@ -26,16 +26,13 @@ fn overwrites_by<'a>(tape: &'a [u8], area: &'a [u8], line: &'a [u64], x: Expr, f
     requires { Holds tape.now area.now line.now × Expression line.now x × Known tape.now area.now f }
     ensures { result ≡ kills_by tape.now area.now line.now x (fam_text tape.now area.now f) }
 {
-    let Named::As(g, width, _) = fams::name_of(tape, area, line[0]) else {
+    let Some(n) = fams::name_of(tape, area, line[0]) else {
         return false;
     };
-    if !fams::same_family(tape, area, g, f) {
+    if n.width < 32 {
         return false;
     }
-    if width < 32 {
-        return false;
-    }
-    !fams::mentions(tape, area, line, x, f)
+    fams::same_family(tape, area, n.family, f) && !fams::mentions(tape, area, line, x, f)
 }
 
 // Whether a line is an assignment to the family, at width 32 or more, whose right side lacks it.
@@ -43,10 +40,7 @@ fn is_overwriting<'a>(tape: &'a [u8], area: &'a [u8], line: &'a [u64], f: Fam) -
     requires { Holds tape.now area.now line.now × Known tape.now area.now f }
     ensures { result ≡ kills (tokens_of tape.now area.now line.now) (fam_text tape.now area.now f) }
 {
-    let Assigned::To(x) = shapes::assignment(tape, area, line) else {
-        return false;
-    };
-    overwrites_by(tape, area, line, x, f)
+    shapes::assignment(tape, area, line).is_some_and(|x| overwrites_by(tape, area, line, x, f))
 }
 
 // Whether a line overwrites the family whole (`is_overwriting`): the first token tells most lines apart.
@@ -54,13 +48,10 @@ fn overwrites<'a>(tape: &'a [u8], area: &'a [u8], line: &'a [u64], f: Fam) -> bo
     requires { Holds tape.now area.now line.now × Known tape.now area.now f }
     ensures { result ≡ kills (tokens_of tape.now area.now line.now) (fam_text tape.now area.now f) }
 {
-    if line.len() == 0 {
-        return false;
+    match line {
+        [w, ..] => fams::is_of(tape, area, *w, f) && is_overwriting(tape, area, line, f),
+        [] => false,
     }
-    if !fams::is_of(tape, area, line[0], f) {
-        return false;
-    }
-    is_overwriting(tape, area, line, f)
 }
 
 pub fn touch<'a>(tape: &'a [u8], area: &'a [u8], line: &'a [u64], f: Fam, rules: Rules) -> Touched
@@ -75,10 +66,7 @@ pub fn touch<'a>(tape: &'a [u8], area: &'a [u8], line: &'a [u64], f: Fam, rules:
     if 0 < uses {
         return Touched::Use(uses);
     }
-    if !shapes::has_call(tape, area, line) {
-        return Touched::Nothing;
-    }
-    if fams::is_volatile(tape, area, f, rules) {
+    if shapes::has_call(tape, area, line) && fams::is_volatile(tape, area, f, rules) {
         return Touched::Kill; // by the call
     }
     Touched::Nothing
@@ -89,11 +77,7 @@ pub fn uses<'a>(tape: &'a [u8], area: &'a [u8], line: &'a [u64], f: Fam, rules: 
     ensures { result ≡ is_use (touch_of (tokens_of tape.now area.now line.now)
         (fam_text tape.now area.now f) (volatile (rules_of rules))) }
 {
-    match touch(tape, area, line, f, rules) {
-        Touched::Use(_) => true,
-        Touched::Kill => false,
-        Touched::Nothing => false,
-    }
+    matches!(touch(tape, area, line, f, rules), Touched::Use(_))
 }
 
 pub fn kills<'a>(tape: &'a [u8], area: &'a [u8], line: &'a [u64], f: Fam, rules: Rules) -> bool
@@ -101,9 +85,5 @@ pub fn kills<'a>(tape: &'a [u8], area: &'a [u8], line: &'a [u64], f: Fam, rules:
     ensures { result ≡ is_kill (touch_of (tokens_of tape.now area.now line.now)
         (fam_text tape.now area.now f) (volatile (rules_of rules))) }
 {
-    match touch(tape, area, line, f, rules) {
-        Touched::Use(_) => false,
-        Touched::Kill => true,
-        Touched::Nothing => false,
-    }
+    matches!(touch(tape, area, line, f, rules), Touched::Kill)
 }

@@ -1,28 +1,27 @@
 -- The numbers of families, the bits of tokens and of lines, and the facts that are made of them. Assumes nothing.
 use Prim.Native.Nat.{ℕ, ◌+◌, ◌-◌, ◌/◌, ◌%◌, ◌^◌, ◌≤◌, ◌<◌}
 use native.Mathlib.Omega.{arith}
-use native.Mathlib.Decide.{ℕ_discrete}
-use mathlib.Core.Logic.{by_cases}
 use mathlib.Core.Path.{◌≡◌, refl, sym, ap, ◌∙◌}
 use mathlib.Core.Bool.{Bool, true, false}
 use mathlib.Core.List.{List}
 use lib.Bits.{bit_or, bit_xor, or_lt, xor_lt}
-use lib.ListN.{length, drop, get_or, set, length-set}
-use lib.Seq.{get_or-set_same, get_or-set_other}
+use lib.ListN.{length, take, get_or}
+use Rattle.std.proofs.lemmas.List.{take_more, map-append}
+use Rattle.laws.proofs.Scans.{any_append}
+use Rattle.reference.specs.Control.{◌or◌}
 use Rattle.reference.specs.Lists.{any, is_some}
 use Rattle.reference.specs.Text.{Text}
 use Rattle.reference.specs.Listing.{Token, is, Symbol}
 use Rattle.reference.specs.Shapes.{call_in}
 use Rattle.names.specs.Families.{is_row}
-use Rattle.lines.specs.Codes.{bucket, family_number}
-use Rattle.lines.specs.Words.{code_of, text_of, token_of, tokens_of, Points}
+use Rattle.lines.specs.Codes.{bucket, family_number, Says}
+use Rattle.lines.specs.Words.{text_of, token_of, tokens_of}
 use Rattle.lines.specs.Facts.{bit, is_control, concerns, Tells}
-use Rattle.lines.specs.Lines.{with_facts, part_of, Lined, Listed}
+use Rattle.lines.specs.Lines.{with_facts, part_of, Lined}
 use Rattle.lines.specs.Fams.{Fam, fam_text}
 use Rattle.lines.proofs.fams.Families.{fam-row, fam-name}
-use Rattle.lines.proofs.words.Scans.{any_next, any_false}
 use Rattle.lines.proofs.words.Lines.{noted-first, noted-count, noted-indent, noted_read, noted-facts}
-use Rattle.lines.proofs.codes.Coding.{says, name-whole, row-numbered, text_numbered}
+use Rattle.lines.proofs.codes.Coding.{name-whole, row-numbered, text_numbered}
 use Rattle.linefacts.specs.Gathering.{seen_by, Bits, CallBits, Noted, AllNoted}
 use Rattle.linefacts.proofs.Bits.{or_left, or_right, low_bit, turn_bit}
 use Rattle.linefacts.proofs.Tokens.{control_fact, symbol_seen, fact_seen}
@@ -30,10 +29,8 @@ use Rattle.linefacts.proofs.Lacking.{any-less, plain-call}
 
 -- ---- the number of a family
 
-pub code_number : {tape area : Text} {w c : ℕ} → Points tape area w → c ≡ code_of w → 36 ≤ c → c % 4 ≡ 0 → c / 4 - 1 ≡ family_number (text_of tape area w)
-code_number {tape} {area} {w} {c} p ec h z =
-    let s = rw (sym ec) at (says tape area w p (λ e. omega arith)) in
-    s.number_is ∙ ap family_number (name-whole c (text_of tape area w) h z)
+pub code_number : {c : ℕ} {s : Text} → Says c s → 36 ≤ c → c % 4 ≡ 0 → c / 4 - 1 ≡ family_number s
+code_number {c} {s} q h z = q.number_is ∙ ap family_number (name-whole c s h z)
 
 pub name_number : (tape area : Text) (w : ℕ) {b : ℕ} {s : Text} → is_row (text_of tape area w) ≡ false → s ≡ text_of tape area w → b ≡ bucket s → 8 + b ≡ family_number (text_of tape area w)
 name_number tape area w n es eb = sym (text_numbered (text_of tape area w) n ∙ ap (λ (x : ℕ). 8 + x) (sym (eb ∙ ap bucket es)))
@@ -46,19 +43,21 @@ text_is tape area h e = e ∙ sym (ap family_number (fam-name tape area h))
 
 -- ---- the bits of a line: one more token
 
-module _ (tape area : Text) (ws : List ℕ) {has k : ℕ} (small : has < 131072)
-    (inv : (i : ℕ) → i < 17 → bit has i ≡ 0 → any (seen_by i) (tokens_of tape area ws) ≡ any (seen_by i) (tokens_of tape area (drop k ws))) where
-  module _ {b : ℕ} (h : k < length ws) (g : Bits b (λ i. seen_by i (token_of tape area (get_or ws k 0)))) where
-    pub more_small : bit_or has b < 131072
-    more_small = or_lt 17 has b small g.small
-
-    pub more_bits : (i : ℕ) → i < 17 → bit (bit_or has b) i ≡ 0 → any (seen_by i) (tokens_of tape area ws) ≡ any (seen_by i) (tokens_of tape area (drop (k + 1) ws))
-    more_bits i l z =
-        any_next (seen_by i) (token_of tape area) ws k (inv i l (or_left has b i z)) {w = get_or ws k 0} h refl refl
-        (g.fails i l (or_right has b i z))
-
-  pub all_bits : length ws ≤ k → Bits has (λ i. any (seen_by i) (tokens_of tape area ws))
-  all_bits h = record { small = small; fails = λ i l z. sym (any_false (seen_by i) (token_of tape area) ws k (inv i l z) h) }
+module _ (tape area : Text) (ws : List ℕ) {has b k : ℕ}
+    (g : Bits has (λ i. any (seen_by i) (tokens_of tape area (take k ws)))) (h : k < length ws) (t : Bits b (λ i. seen_by i (token_of tape area (get_or ws k 0)))) where
+  pub more_bits : Bits (bit_or has b) (λ i. any (seen_by i) (tokens_of tape area (take (k + 1) ws)))
+  unfolding ◌or◌
+  more_bits = record {
+    small = or_lt 17 has b g.small t.small;
+    fails = λ i l z.
+        rw (
+          take_more ws k 0 h,
+          map-append (token_of tape area) (take k ws),
+          any_append (seen_by i) (tokens_of tape area (take k ws)),
+          g.fails i l (or_left has b i z),
+          t.fails i l (or_right has b i z),
+        );
+  }
 
 -- ---- the bits of whether a line calls: x is whether it does
 
@@ -128,29 +127,5 @@ noted_with {tape} {area} {tokens} {ws} {l} {m} h ew s er = rw er (record {
 
 -- ---- lists of lines
 
-pub noted_same : {tape area : Text} {tokens : List ℕ} {l : ℕ} → Lined tape area tokens l → Noted tape area tokens l l
-noted_same h = record { first_is = refl; count_is = refl; means = λ addresses. refl; lined = h }
-
-pub all-noted_same : {tape area : Text} {tokens lines : List ℕ} → Listed tape area tokens lines → AllNoted tape area tokens lines lines
-all-noted_same h = record { long = refl; at = λ k b. noted_same (h.at k b) }
-
-noted_then : {tape area : Text} {tokens : List ℕ} {l m r : ℕ} → Noted tape area tokens l m → Noted tape area tokens m r → Noted tape area tokens l r
-noted_then f g = record {
-  first_is = g.first_is ∙ f.first_is;
-  count_is = g.count_is ∙ f.count_is;
-  means = λ addresses. g.means addresses ∙ f.means addresses;
-  lined = g.lined;
-}
-
-module _ {tape area : Text} {tokens lines after : List ℕ} (r : AllNoted tape area tokens lines after) where
-  -- one more line noted
-  pub all-noted-set : (k : ℕ) {v : ℕ} → k < length after → Noted tape area tokens (get_or after k 0) v → AllNoted tape area tokens lines (set after k v)
-  all-noted-set k {v} b c = record {
-    long = length-set after k v ∙ r.long;
-    at = λ j h. by_cases (ℕ_discrete j k)
-        (λ e. rw (e, get_or-set_same after k v 0 b) (noted_then (r.at k (omega (arith, r.long))) c))
-        (λ n. rw (get_or-set_other after k j v 0 n) (r.at j h));
-  }
-
-  pub all-noted-lined : (k : ℕ) → k < length after → Lined tape area tokens (get_or after k 0)
-  all-noted-lined k b = (r.at k (omega (arith, r.long))).lined
+pub all-noted-lined : {tape area : Text} {tokens lines after : List ℕ} → AllNoted tape area tokens lines after → (k : ℕ) → k < length after → Lined tape area tokens (get_or after k 0)
+all-noted-lined r k b = (r.at k (omega (arith, r.long))).lined

@@ -1,5 +1,5 @@
 -- The bits of one token. Assumes nothing.
-use Prim.Native.Nat.{ℕ, ◌-◌, ◌*◌, ◌/◌, ◌%◌, ◌^◌, ◌≤◌, ◌<◌}
+use Prim.Native.Nat.{ℕ, ◌-◌, ◌*◌, ◌/◌, ◌%◌, ◌^◌, ◌<◌}
 use native.Mathlib.Omega.{arith}
 use native.Mathlib.Decide.{ℕ_discrete}
 use mathlib.Core.Logic.{by_cases}
@@ -18,10 +18,10 @@ use Rattle.reference.proofs.Cases.{fails, none-some}
 use Rattle.names.proofs.Searches.{all-below}
 use Rattle.names.proofs.Texts.{same_true}
 use Rattle.lines.specs.Codes.{Says}
-use Rattle.lines.specs.Words.{kind_of, code_of, text_of, token_of, Points}
+use Rattle.lines.specs.Words.{kind_of, text_of, token_of, Points}
 use Rattle.lines.specs.Facts.{bit, of_number, is_control, concerns}
 use Rattle.lines.proofs.shapes.Tests.{is_it, is_not}
-use Rattle.lines.proofs.codes.Coding.{says, number_below}
+use Rattle.lines.proofs.codes.Coding.{number_below}
 use Rattle.linefacts.specs.Gathering.{seen_by, Bits}
 use Rattle.linefacts.proofs.Bits.{power_bit, set_below, one_shifted}
 
@@ -115,18 +115,12 @@ module _ {tape area : Text} {w : ℕ} (p : Points tape area w) (k : kind_of w �
     fails = λ i b z. by_cases (ℕ_discrete i 16) (λ e. symbol_seen t i e ∙ no_symbol) (λ n. absurd (omega (arith, set_below 65535 16 i all_set (omega arith))));
   }
 
-  module _ {c : ℕ} (ec : c ≡ code_of w) (n : c ≡ 0 → ⊥) where
-    s : Says (code_of w) (text_of tape area w)
-    s = says tape area w p (λ z. n (ec ∙ z))
-
+  module _ {c : ℕ} (s : Says c (text_of tape area w)) where
     number_small : c / 4 - 1 < 15
-    number_small = rw (ec, s.number_is) (number_below _)
+    number_small = rw s.number_is (number_below _)
 
     pub shift_fits : c / 4 - 1 < 64
     shift_fits = omega (arith, number_small)
-
-    pub has_number : 4 ≤ c
-    has_number = rw ec s.least
 
     no_colon : (text_of tape area w ≟ bytes ":") ≡ false
     no_colon = fails (λ e. none-some (sym colon_none ∙ ap family (sym (same_true (text_of tape area w) (bytes ":") e)) ∙ s.family_is))
@@ -140,5 +134,5 @@ module _ {tape area : Text} {w : ℕ} (p : Points tape area w) (k : kind_of w �
     one_family ex = rw (ex ∙ one_shifted (c / 4 - 1) number_small) (record {
       small = let h : 2 ^ (c / 4 - 1) < 2 ^ 15 = pow-lt number_small in omega arith;
       fails = λ i b z. by_bit t i (λ q. no_symbol) (λ q. named-save-calls)
-          (rw (← is_it t 1 refl k, s.family_is, ← s.number_is, ← ec) (ne_eqb (c / 4 - 1) i (λ q. omega (arith, power_bit i, rw q at z))));
+          (rw (← is_it t 1 refl k, s.family_is, ← s.number_is) (ne_eqb (c / 4 - 1) i (λ q. omega (arith, power_bit i, rw q at z))));
     })

@@ -26,13 +26,9 @@ fn is_control<'a>(tape: &'a [u8], area: &'a [u8], w: u64) -> bool
     requires { Points tape.now area.now w }
     ensures { result ≡ is_control (token_of tape.now area.now w) }
 {
-    if words::kind(w) == words::KEYWORD {
-        return true;
-    }
-    if shapes::has_brace(tape, area, w) {
-        return true;
-    }
-    text::is_colon(words::text(tape, area, w))
+    words::kind(w) == words::KEYWORD
+        || shapes::has_brace(tape, area, w)
+        || text::is_colon(words::text(tape, area, w))
 }
 
 // The bit of a Register's family, as its code says; one without a code may be anything.
@@ -40,11 +36,10 @@ fn family_bits<'a>(tape: &'a [u8], area: &'a [u8], w: u64) -> u64
     requires { Points tape.now area.now w × (kind_of w ≡ 1) }
     ensures { Bits result (λ (i : ℕ). seen_by i (token_of tape.now area.now w)) }
 {
-    let c = words::code(w);
-    if c == 0 {
-        return ALL;
+    match words::code(w) {
+        Some(c) => 1u64 << (c / 4 - 1),
+        None => ALL,
     }
-    1u64 << (c / 4 - 1)
 }
 
 // The bits of what a token is.
@@ -70,11 +65,9 @@ fn bits_of<'a>(tape: &'a [u8], area: &'a [u8], line: &'a [u64]) -> u64
     requires { Holds tape.now area.now line.now }
     ensures { Bits result (λ (i : ℕ). any (seen_by i) (tokens_of tape.now area.now line.now)) }
 {
-    let mut has = 0u64;
-    let mut k = 0;
-    while k < line.len() {
-        has = has | token_bits(tape, area, line[k]);
-        k += 1;
+    let mut has = 0;
+    for w in line {
+        has |= token_bits(tape, area, *w);
     }
     has
 }
@@ -119,9 +112,7 @@ pub fn gather_facts<'a>(tape: &'a [u8], area: &'a [u8], tokens: &'a [u64], lines
     requires { Listed tape.now area.now tokens.now lines.old }
     ensures { AllNoted tape.now area.now tokens.now lines.old lines.new }
 {
-    let mut k = 0;
-    while k < lines.len() {
-        lines[k] = with_its_facts(tape, area, tokens, lines[k]);
-        k += 1;
+    for l in lines.iter_mut() {
+        *l = with_its_facts(tape, area, tokens, *l);
     }
 }

@@ -28,10 +28,7 @@ fn is_transparent_save_calls(l: u64, n: u64) -> bool
     requires { n < 15 }
     ensures { result ≡ is_transparent_save_calls l n }
 {
-    if !has_fact(l, n) {
-        return false;
-    }
-    has_fact(l, CONTROL)
+    has_fact(l, n) && has_fact(l, CONTROL)
 }
 
 // Whether the facts of the line l say that it lacks the families of number n, control flow and calls: it is transparent for the family
@@ -40,10 +37,7 @@ pub fn is_transparent(l: u64, n: u64) -> bool
     requires { n < 15 }
     ensures { result ≡ is_transparent l n }
 {
-    if !is_transparent_save_calls(l, n) {
-        return false;
-    }
-    has_fact(l, NO_CALL)
+    is_transparent_save_calls(l, n) && has_fact(l, NO_CALL)
 }
 
 // Whether the facts of the line l say that it lacks the families of number n and control flow, and has a call.
@@ -51,23 +45,17 @@ pub fn is_calling(l: u64, n: u64) -> bool
     requires { n < 15 }
     ensures { result ≡ is_calling l n }
 {
-    if !is_transparent_save_calls(l, n) {
-        return false;
-    }
-    has_fact(l, CALLING)
+    is_transparent_save_calls(l, n) && has_fact(l, CALLING)
 }
 
 fn name_number<'a>(tape: &'a [u8], area: &'a [u8], w: u64) -> u64
     requires { Points tape.now area.now w × (is_row (text_of tape.now area.now w) ≡ false) }
     ensures { result ≡ family_number (text_of tape.now area.now w) }
 {
-    let c = words::code(w);
-    if 36 <= c {
-        if c % 4 == 0 {
-            return c / 4 - 1;
-        }
+    match words::code(w) {
+        Some(c) if 36 <= c && c % 4 == 0 => c / 4 - 1,
+        _ => 8 + codes::bucket(words::text(tape, area, w)),
     }
-    8 + codes::bucket(words::text(tape, area, w))
 }
 
 // The number of a family: its row, or 8 and the bucket of its name.
@@ -75,8 +63,5 @@ pub fn number_of<'a>(tape: &'a [u8], area: &'a [u8], f: Fam) -> u64
     requires { Known tape.now area.now f }
     ensures { result ≡ family_number (fam_text tape.now area.now f) }
 {
-    if f < 8 {
-        return f;
-    }
-    name_number(tape, area, f)
+    if f < 8 { f } else { name_number(tape, area, f) }
 }

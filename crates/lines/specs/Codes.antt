@@ -1,12 +1,13 @@
 -- The code of a name that begins at bit 0: its family and its width in one number, which a token word keeps so that they are found once.
 -- 0 says nothing. Assumes nothing.
-use Rattle.std.specs.Prelude.{ℕ, ◌+◌, ◌-◌, ◌*◌, ◌/◌, ◌%◌, ◌≤◌, ◌<◌, ◌⊎◌, ◌≡◌, List, [], ◌∷◌, eqb, ltb, length, take, get_or}
+use Rattle.std.specs.Prelude.{ℕ, ◌+◌, ◌-◌, ◌*◌, ◌/◌, ◌%◌, ◌≤◌, ◌<◌, ◌≡◌, List, [], ◌∷◌, eqb, ltb, length, take, get_or}
 use Rattle.std.proofs.Math.Option.{some}
 use Rattle.reference.specs.Control.{when◌then◌else◌, let_some◌else◌then◌}
 use Rattle.reference.specs.Lists.{position}
 use Rattle.reference.specs.Text.{Text, ◌≟◌}
 use Rattle.reference.specs.Names.{family}
 use Rattle.names.specs.Families.{ROWS, row_name}
+use Rattle.std.specs.Prelude as std
 
 -- a number below 7 of a name: equal names have equal ones
 unfoldable pub bucket : Text → ℕ
@@ -35,7 +36,12 @@ pub record Says (c : ℕ) (s : Text) : Type 0 where
   pub family_is : family s ≡ some (record { name = coded_name c s; width = coded_width c; lowest = 0 })
   pub number_is : c / 4 - 1 ≡ family_number (coded_name c s)
 
--- the answer of `code_of`
-pub record Codes (s : Text) (c : ℕ) : Type 0 where
-  pub small : c < 64
-  pub true : (c ≡ 0) ⊎ Says c s
+-- the answer of `code_of`: a code that it gives is true of the text
+pub record Codes (s : Text) (o : std.Option ℕ) : Type 0 where
+  pub small : (c : ℕ) → o ≡ std.Some c → c < 64
+  pub true : (c : ℕ) → o ≡ std.Some c → Says c s
+
+-- the answer of `place_of`
+pub record Placed (width : ℕ) (o : std.Option ℕ) : Type 0 where
+  pub small : (k : ℕ) → o ≡ std.Some k → k < 4
+  pub is : (k : ℕ) → o ≡ std.Some k → width ≡ get_or WIDTHS k 0

@@ -7,8 +7,8 @@ use Rattle.reference.specs.Names as N
 use Rattle.names.specs.Families.{row_name, is_row}
 use Rattle.names.specs.Volatile.{number_of}
 use Rattle.lines.specs.Words.{text_of, Points}
+use Rattle.std.specs.Prelude as std
 use Rattle.lines.specs.declared.fams.Named.{Named}
-use Rattle.lines.specs.declared.fams.Named.TheVariants.{As, Nothing}
 
 -- a family in one number: below 8 a row of the table of names, else the token word of its name
 abbrev pub Fam : Type 0
@@ -26,11 +26,11 @@ pub record Known (tape area : Text) (f : Fam) : Type 0 where
 unfoldable pub fam_number : Text → Text → Fam → ℕ
 fam_number tape area f = when ltb f 8 then f else number_of (text_of tape area f)
 
-abbrev pub named : Text → Text → Named → Option N.Fam
-named tape area (As f k l) = some (record { name = fam_text tape area f; width = k; lowest = l })
-named tape area Nothing = none
+abbrev pub named : Text → Text → std.Option Named → Option N.Fam
+named tape area (std.Some n) = some (record { name = fam_text tape area n.family; width = n.width; lowest = n.lowest })
+named tape area std.None = none
 
 -- the answer r says what the definition o says, of a family that is known
-pub record Names (tape area : Text) (o : Option N.Fam) (r : Named) : Type 0 where
+pub record Names (tape area : Text) (o : Option N.Fam) (r : std.Option Named) : Type 0 where
   pub is : named tape area r ≡ o
-  pub known : (f : Fam) (k l : ℕ) → r ≡ As f k l → Known tape area f
+  pub known : (n : Named) → r ≡ std.Some n → Known tape area n.family

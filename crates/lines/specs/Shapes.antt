@@ -7,15 +7,8 @@ use Rattle.reference.specs.Text.{Text, bytes, starts_with}
 use Rattle.reference.specs.Listing.{Token, is, Symbol, Punct}
 use Rattle.reference.specs.Shapes.{Assignment, cut_semicolon, assignment_of}
 use Rattle.lines.specs.Words.{start_of, len_of, without_first, without_last, token_of, tokens_of, Holds}
-use Rattle.lines.specs.declared.shapes.Position.{Position}
-use Rattle.lines.specs.declared.shapes.Position.TheVariants.{At, Nothing}
+use Rattle.std.specs.Prelude as std
 use Rattle.lines.specs.declared.shapes.Expr.{Expr}
-use Rattle.lines.specs.declared.shapes.Assigned.{Assigned}
-use Rattle.lines.specs.declared.shapes.Assigned.TheVariants.{To, Nothing as Unassigned}
-
-abbrev pub found : Position → Option ℕ
-found (At k) = some k
-found Nothing = none
 
 -- the place of the first Symbol from the token `from` on
 unfoldable pub symbol_from : List Token → ℕ → Option ℕ
@@ -50,14 +43,15 @@ pub record Expression (ws : List ℕ) (x : Expr) : Type 0 where
   pub inside : x.first + x.count ≤ length ws
   pub cut_is : x.cut ≡ true → 1 ≤ len_of (get_or (opened ws) (x.first + x.count - 1) 0)
 
-abbrev pub assigned : Text → Text → List ℕ → Assigned → Option Assignment
-assigned tape area ws (To x) = some (record { lhs = token_of tape area (get_or ws 0 0); expr = tokens_of tape area (expr_words ws x) })
-assigned tape area ws Unassigned = none
+abbrev pub assigned : Text → Text → List ℕ → std.Option Expr → Option Assignment
+assigned tape area ws (std.Some x) =
+    some (record { lhs = token_of tape area (get_or ws 0 0); expr = tokens_of tape area (expr_words ws x) })
+assigned tape area ws std.None = none
 
 -- the answer of `assignment`: what the line assigns, and that its right side can be read
-pub record Assigns (tape area : Text) (ws : List ℕ) (r : Assigned) : Type 0 where
+pub record Assigns (tape area : Text) (ws : List ℕ) (r : std.Option Expr) : Type 0 where
   pub is : assigned tape area ws r ≡ assignment_of (tokens_of tape area ws)
-  pub side : (x : Expr) → r ≡ To x → Expression ws x
+  pub side : (x : Expr) → r ≡ std.Some x → Expression ws x
 
 -- a line that begins as an assignment
 pub record Opens (tape area : Text) (ws : List ℕ) : Type 0 where
@@ -72,6 +66,6 @@ sided tape area ws o =
     when is_empty expr then none else some (record { lhs = token_of tape area (get_or ws 0 0); expr = expr })
 
 -- the answer of `right_side`
-pub record Sides (tape area : Text) (ws : List ℕ) (first : ℕ) (r : Assigned) : Type 0 where
+pub record Sides (tape area : Text) (ws : List ℕ) (first : ℕ) (r : std.Option Expr) : Type 0 where
   pub is : assigned tape area ws r ≡ sided tape area ws (cut_semicolon (tokens_of tape area (drop first (opened ws))))
-  pub side : (x : Expr) → r ≡ To x → Expression ws x
+  pub side : (x : Expr) → r ≡ std.Some x → Expression ws x

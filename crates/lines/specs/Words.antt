@@ -1,5 +1,6 @@
 -- What a token word means, and the words that point into their texts. Assumes nothing.
 use Rattle.std.specs.Prelude.{ℕ, ◌+◌, ◌-◌, ◌*◌, ◌/◌, ◌%◌, ◌≤◌, ◌<◌, ◌⊎◌, ◌≡◌, List, map, eqb, length, take, drop, get_or}
+use Rattle.std.specs.Prelude as std
 use Rattle.reference.specs.Control.{when◌then◌else◌}
 use Rattle.reference.specs.Text.{Text}
 use Rattle.reference.specs.Listing.{Token, token}
@@ -62,6 +63,11 @@ pub record Points (tape area : Text) (w : ℕ) : Type 0 where
   pub inside : start_of w + len_of w ≤ length (source tape area (buffer_of w))
   pub short : start_of w + len_of w < 65536
   pub coded : Coded tape w
+
+-- the answer of `code`: the code, which is not 0, and none where it is 0
+pub record CodeIs (w : ℕ) (o : std.Option ℕ) : Type 0 where
+  pub some : (c : ℕ) → o ≡ std.Some c → (c ≡ code_of w) × (c ≡ 0 → ⊥)
+  pub none : o ≡ std.None → code_of w ≡ 0
 
 -- every word of the list points into its text
 pub record Holds (tape area : Text) (ws : List ℕ) : Type 0 where

@@ -1,5 +1,6 @@
 // The families of a listing's tokens (`fam_of` of the Rust), and what a line does with one.
 ghost use Rattle.std.specs.Prelude.{◌≡◌, ◌<◌, length, get_or};
+ghost use Rattle.reference.specs.Options.{option_of};
 ghost use Rattle.reference.specs.Control.{◌and◌};
 ghost use Rattle.reference.specs.Lists.{any, count, position};
 ghost use Rattle.reference.specs.Text.{◌≟◌, has};
@@ -9,54 +10,76 @@ ghost use Rattle.reference.specs.Shapes.{is_written};
 ghost use Rattle.reference.specs.Join.{is_narrow, written_from};
 ghost use Rattle.lines.specs.Rules.{rules_of};
 ghost use Rattle.lines.specs.Words.{text_of, token_of, tokens_of, Points, Holds};
-ghost use Rattle.lines.specs.Shapes.{found, expr_words, Expression};
+ghost use Rattle.lines.specs.Shapes.{expr_words, Expression};
 ghost use Rattle.lines.specs.Fams.{fam_text, fam_number, Known, Names};
 
 use crate::rules::Rules;
-use crate::shapes::{Expr, Position};
+use crate::shapes::Expr;
 use crate::{codes, shapes, words};
 use names::Spelled;
 
 // A family in one number: below 8 a row of the table of names, else the token word of its name.
+// Kept: a word of a text that is not empty is at least 8, so one number needs no tag, and two families of which one is a row compare as
+// numbers; an enum would be no plainer, matched in pairs there.
 pub type Fam = u64;
 
 // A family, a width and a lowest bit.
 #[derive(Clone, Copy)]
-pub enum Named {
-    As(Fam, u64, u64),
-    Nothing,
+pub struct Named {
+    pub family: Fam,
+    pub width: u64,
+    pub lowest: u64,
 }
 
 // The family, the width and the lowest bit of a token's text, read from its bytes.
-fn spelled<'a>(tape: &'a [u8], area: &'a [u8], w: u64) -> Named
+fn spelled<'a>(tape: &'a [u8], area: &'a [u8], w: u64) -> Option<Named>
     requires { Points tape.now area.now w }
     ensures { Names tape.now area.now (family (text_of tape.now area.now w)) result }
 {
     match names::family(words::text(tape, area, w)) {
-        Spelled::Row(row, width, lowest) => Named::As(row, width, lowest),
-        Spelled::Front(n, width) => Named::As(words::first_bytes(w, n), width, 0),
-        Spelled::Nothing => Named::Nothing,
+        Spelled::Row(family, width, lowest) => Some(Named {
+            family,
+            width,
+            lowest,
+        }),
+        Spelled::Front(n, width) => Some(Named {
+            family: words::first_bytes(w, n),
+            width,
+            lowest: 0,
+        }),
+        Spelled::Nothing => None,
     }
 }
 
 // The family, the width and the lowest bit of a token's text, whatever its kind.
-pub fn name_of<'a>(tape: &'a [u8], area: &'a [u8], w: u64) -> Named
+pub fn name_of<'a>(tape: &'a [u8], area: &'a [u8], w: u64) -> Option<Named>
     requires { Points tape.now area.now w }
     ensures { Names tape.now area.now (family (text_of tape.now area.now w)) result }
 {
-    if words::code(w) == 0 {
+    let Some(c) = words::code(w) else {
         return spelled(tape, area, w);
-    }
-    codes::decoded(tape, area, w)
+    };
+    let family = if c < 36 {
+        c / 4 - 1
+    } else if c % 4 == 0 {
+        w
+    } else {
+        words::without_last(w)
+    };
+    Some(Named {
+        family,
+        width: codes::width_of(c),
+        lowest: 0,
+    })
 }
 
 // The family, the width and the lowest bit of a token: of a Register alone.
-pub fn fam_of<'a>(tape: &'a [u8], area: &'a [u8], w: u64) -> Named
+pub fn fam_of<'a>(tape: &'a [u8], area: &'a [u8], w: u64) -> Option<Named>
     requires { Points tape.now area.now w }
     ensures { Names tape.now area.now (fam_of (token_of tape.now area.now w)) result }
 {
     if words::kind(w) != words::REGISTER {
-        return Named::Nothing;
+        return None;
     }
     name_of(tape, area, w)
 }
@@ -65,11 +88,8 @@ pub fn same_family<'a>(tape: &'a [u8], area: &'a [u8], f: Fam, g: Fam) -> bool
     requires { Known tape.now area.now f × Known tape.now area.now g }
     ensures { result ≡ (fam_text tape.now area.now f ≟ fam_text tape.now area.now g) }
 {
-    if f < 8 {
+    if f < 8 || g < 8 {
         return f == g;
-    }
-    if g < 8 {
-        return false;
     }
     codes::same_text(tape, area, f, g)
 }
@@ -82,15 +102,9 @@ pub fn is_of<'a>(tape: &'a [u8], area: &'a [u8], w: u64, f: Fam) -> bool
     if words::kind(w) != words::REGISTER {
         return false;
     }
-    let c = words::code(w);
-    if f < 8 {
-        if c != 0 {
-            return c / 4 == f + 1;
-        }
-    }
-    match fam_of(tape, area, w) {
-        Named::As(g, _, _) => same_family(tape, area, g, f),
-        Named::Nothing => false,
+    match words::code(w) {
+        Some(c) if f < 8 => c / 4 == f + 1,
+        _ => fam_of(tape, area, w).is_some_and(|n| same_family(tape, area, n.family, f)),
     }
 }
 
@@ -99,15 +113,7 @@ pub fn is_narrow_of<'a>(tape: &'a [u8], area: &'a [u8], w: u64, f: Fam) -> bool
     requires { Points tape.now area.now w × Known tape.now area.now f }
     ensures { result ≡ is_narrow (fam_text tape.now area.now f) (token_of tape.now area.now w) }
 {
-    match fam_of(tape, area, w) {
-        Named::As(g, width, _) => {
-            if 32 <= width {
-                return false;
-            }
-            same_family(tape, area, g, f)
-        }
-        Named::Nothing => false,
-    }
+    fam_of(tape, area, w).is_some_and(|n| n.width < 32 && same_family(tape, area, n.family, f))
 }
 
 // The family by its number.
@@ -126,8 +132,7 @@ pub fn is_volatile<'a>(tape: &'a [u8], area: &'a [u8], f: Fam, rules: Rules) -> 
     requires { Known tape.now area.now f }
     ensures { result ≡ has (volatile (rules_of rules)) (fam_text tape.now area.now f) }
 {
-    let n = number_of(tape, area, f);
-    names::overwritten(n, rules.convention)
+    names::overwritten(number_of(tape, area, f), rules.convention)
 }
 
 // ---- in a line
@@ -138,15 +143,7 @@ pub fn mentions<'a>(tape: &'a [u8], area: &'a [u8], line: &'a [u64], x: Expr, f:
     ensures { result ≡ any (of_family (fam_text tape.now area.now f))
         (tokens_of tape.now area.now (expr_words line.now x)) }
 {
-    let n = x.count;
-    let mut k = 0;
-    while k < n {
-        if is_of(tape, area, shapes::expr_word(line, x, k), f) {
-            return true;
-        }
-        k += 1;
-    }
-    false
+    (0..x.count).any(|k| is_of(tape, area, shapes::expr_word(line, x, k), f))
 }
 
 // How many tokens of the family a line has.
@@ -154,30 +151,15 @@ pub fn count_of<'a>(tape: &'a [u8], area: &'a [u8], line: &'a [u64], f: Fam) -> 
     requires { Holds tape.now area.now line.now × Known tape.now area.now f }
     ensures { result ≡ count (of_family (fam_text tape.now area.now f)) (tokens_of tape.now area.now line.now) }
 {
-    let mut n = 0;
-    let mut k = 0;
-    while k < line.len() {
-        if is_of(tape, area, line[k], f) {
-            n += 1;
-        }
-        k += 1;
-    }
-    n
+    line.iter().filter(|w| is_of(tape, area, **w, f)).count()
 }
 
 // The place of the first token of the family.
-pub fn first_of<'a>(tape: &'a [u8], area: &'a [u8], line: &'a [u64], f: Fam) -> Position
+pub fn first_of<'a>(tape: &'a [u8], area: &'a [u8], line: &'a [u64], f: Fam) -> Option<usize>
     requires { Holds tape.now area.now line.now × Known tape.now area.now f }
-    ensures { found result ≡ position (of_family (fam_text tape.now area.now f)) (tokens_of tape.now area.now line.now) }
+    ensures { option_of result ≡ position (of_family (fam_text tape.now area.now f)) (tokens_of tape.now area.now line.now) }
 {
-    let mut k = 0;
-    while k < line.len() {
-        if is_of(tape, area, line[k], f) {
-            return Position::At(k);
-        }
-        k += 1;
-    }
-    Position::Nothing
+    line.iter().position(|w| is_of(tape, area, *w, f))
 }
 
 // Whether a token of the family has less than 32 bits.
@@ -185,14 +167,7 @@ pub fn has_narrow<'a>(tape: &'a [u8], area: &'a [u8], line: &'a [u64], f: Fam) -
     requires { Holds tape.now area.now line.now × Known tape.now area.now f }
     ensures { result ≡ any (is_narrow (fam_text tape.now area.now f)) (tokens_of tape.now area.now line.now) }
 {
-    let mut k = 0;
-    while k < line.len() {
-        if is_narrow_of(tape, area, line[k], f) {
-            return true;
-        }
-        k += 1;
-    }
-    false
+    line.iter().any(|w| is_narrow_of(tape, area, *w, f))
 }
 
 fn writes_at<'a>(tape: &'a [u8], area: &'a [u8], line: &'a [u64], k: usize, f: Fam) -> bool
@@ -200,10 +175,7 @@ fn writes_at<'a>(tape: &'a [u8], area: &'a [u8], line: &'a [u64], k: usize, f: F
     ensures { result ≡ (of_family (fam_text tape.now area.now f) (token_of tape.now area.now (get_or line.now k 0)) and
         is_written (tokens_of tape.now area.now line.now) k) }
 {
-    if !is_of(tape, area, line[k], f) {
-        return false;
-    }
-    shapes::is_written(tape, area, line, k)
+    is_of(tape, area, line[k], f) && shapes::is_written(tape, area, line, k)
 }
 
 // Whether a token of the family is the target of an assignment.
@@ -211,12 +183,5 @@ pub fn writes<'a>(tape: &'a [u8], area: &'a [u8], line: &'a [u64], f: Fam) -> bo
     requires { Holds tape.now area.now line.now × Known tape.now area.now f }
     ensures { result ≡ written_from (fam_text tape.now area.now f) (tokens_of tape.now area.now line.now) }
 {
-    let mut k = 0;
-    while k < line.len() {
-        if writes_at(tape, area, line, k, f) {
-            return true;
-        }
-        k += 1;
-    }
-    false
+    (0..line.len()).any(|k| writes_at(tape, area, line, k, f))
 }

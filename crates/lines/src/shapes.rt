@@ -2,35 +2,26 @@
 //
 // A line is the part of the token words that its line word says; each function says of it what the definition says of its tokens.
 ghost use Rattle.std.specs.Prelude.{◌≡◌, ◌+◌, ◌≤◌, ◌<◌, length, get_or};
+ghost use Rattle.reference.specs.Options.{option_of};
 ghost use Rattle.reference.specs.Lists.{position, is_some};
 ghost use Rattle.reference.specs.Text.{Text, bytes};
 ghost use Rattle.reference.specs.Shapes.{label_tokens, is_kw, kw_in, has_brace, braces_in, calls_here, call_in, begins_assignment};
 ghost use Rattle.reference.specs.Shapes.{is_written, is_operator, is_operator_expr};
 ghost use Rattle.reference.specs.Join.{lone_number};
 ghost use Rattle.lines.specs.Words.{start_of, len_of, token_of, tokens_of, Points, Holds};
-ghost use Rattle.lines.specs.Shapes.{found, symbol_from, is_called, opened, expr_words, Opens, Expression, Sides, Assigns};
+ghost use Rattle.lines.specs.Shapes.{symbol_from, is_called, opened, expr_words, Opens, Expression, Sides, Assigns};
 
 use crate::words;
-
-// A place in a line or in a listing.
-#[derive(Clone, Copy)]
-pub enum Position {
-    At(usize),
-    Nothing,
-}
 
 // Two tokens, a Symbol and `:`.
 pub fn is_label<'a>(tape: &'a [u8], area: &'a [u8], line: &'a [u64]) -> bool
     requires { Holds tape.now area.now line.now }
     ensures { result ≡ label_tokens (tokens_of tape.now area.now line.now) }
 {
-    if line.len() != 2 {
+    let [name, colon] = line else {
         return false;
-    }
-    if !text::is_colon(words::text(tape, area, line[1])) {
-        return false;
-    }
-    words::kind(line[0]) == words::SYMBOL
+    };
+    text::is_colon(words::text(tape, area, *colon)) && words::kind(*name) == words::SYMBOL
 }
 
 // ---- keywords
@@ -39,36 +30,25 @@ fn is_kw<'a>(tape: &'a [u8], area: &'a [u8], w: u64, kw: &'a [u8]) -> bool
     requires { Points tape.now area.now w }
     ensures { result ≡ is_kw kw.now (token_of tape.now area.now w) }
 {
-    if words::kind(w) != words::KEYWORD {
-        return false;
-    }
-    text::same(words::text(tape, area, w), kw)
+    words::kind(w) == words::KEYWORD && text::same(words::text(tape, area, w), kw)
 }
 
 // The place of the first Keyword with that text.
-fn kw_at<'a>(tape: &'a [u8], area: &'a [u8], line: &'a [u64], kw: &'a [u8]) -> Position
+fn kw_at<'a>(tape: &'a [u8], area: &'a [u8], line: &'a [u64], kw: &'a [u8]) -> Option<usize>
     requires { Holds tape.now area.now line.now }
-    ensures { found result ≡ position (is_kw kw.now) (tokens_of tape.now area.now line.now) }
+    ensures { option_of result ≡ position (is_kw kw.now) (tokens_of tape.now area.now line.now) }
 {
-    let mut k = 0;
-    while k < line.len() {
-        if is_kw(tape, area, line[k], kw) {
-            return Position::At(k);
-        }
-        k += 1;
-    }
-    Position::Nothing
+    line.iter().position(|w| is_kw(tape, area, *w, kw))
 }
 
 fn has_kw<'a>(tape: &'a [u8], area: &'a [u8], line: &'a [u64], kw: &'a [u8]) -> bool
     requires { Holds tape.now area.now line.now }
     ensures { result ≡ kw_in (tokens_of tape.now area.now line.now) kw.now }
 {
-    match kw_at(tape, area, line, kw) {
-        Position::At(_) => true,
-        Position::Nothing => false,
-    }
+    line.iter().any(|w| is_kw(tape, area, *w, kw))
 }
+
+// Kept: a name for each keyword that callers ask for; one function would have them spell the keyword's bytes at each call.
 
 pub fn has_do<'a>(tape: &'a [u8], area: &'a [u8], line: &'a [u64]) -> bool
     requires { Holds tape.now area.now line.now }
@@ -98,25 +78,18 @@ pub fn has_return<'a>(tape: &'a [u8], area: &'a [u8], line: &'a [u64]) -> bool
     has_kw(tape, area, line, b"return")
 }
 
-pub fn goto_at<'a>(tape: &'a [u8], area: &'a [u8], line: &'a [u64]) -> Position
+pub fn goto_at<'a>(tape: &'a [u8], area: &'a [u8], line: &'a [u64]) -> Option<usize>
     requires { Holds tape.now area.now line.now }
-    ensures { found result ≡ position (is_kw (bytes "goto")) (tokens_of tape.now area.now line.now) }
+    ensures { option_of result ≡ position (is_kw (bytes "goto")) (tokens_of tape.now area.now line.now) }
 {
     kw_at(tape, area, line, b"goto")
 }
 
 // The place of the first Symbol from `from` on, whatever the texts are.
-pub fn symbol_from(line: &[u64], from: usize) -> Position
-    ensures { (tape area : Text) → found result ≡ symbol_from (tokens_of tape area line.now) from }
+pub fn symbol_from(line: &[u64], from: usize) -> Option<usize>
+    ensures { (tape area : Text) → option_of result ≡ symbol_from (tokens_of tape area line.now) from }
 {
-    let mut k = from;
-    while k < line.len() {
-        if words::kind(line[k]) == words::SYMBOL {
-            return Position::At(k);
-        }
-        k += 1;
-    }
-    Position::Nothing
+    (from..line.len()).find(|k| words::kind(line[*k]) == words::SYMBOL)
 }
 
 // ---- braces and calls
@@ -125,24 +98,14 @@ pub fn has_brace<'a>(tape: &'a [u8], area: &'a [u8], w: u64) -> bool
     requires { Points tape.now area.now w }
     ensures { result ≡ has_brace (token_of tape.now area.now w) }
 {
-    if words::kind(w) != words::PUNCT {
-        return false;
-    }
-    text::has_brace(words::text(tape, area, w))
+    words::kind(w) == words::PUNCT && text::has_brace(words::text(tape, area, w))
 }
 
 pub fn opens_or_closes<'a>(tape: &'a [u8], area: &'a [u8], line: &'a [u64]) -> bool
     requires { Holds tape.now area.now line.now }
     ensures { result ≡ braces_in (tokens_of tape.now area.now line.now) }
 {
-    let mut k = 0;
-    while k < line.len() {
-        if has_brace(tape, area, line[k]) {
-            return true;
-        }
-        k += 1;
-    }
-    false
+    line.iter().any(|w| has_brace(tape, area, *w))
 }
 
 // Whether a token is a Symbol with a bracket after it.
@@ -150,13 +113,9 @@ fn is_called<'a>(tape: &'a [u8], area: &'a [u8], w: u64, next: u64) -> bool
     requires { Points tape.now area.now next }
     ensures { result ≡ is_called (token_of tape.now area.now w) (token_of tape.now area.now next) }
 {
-    if words::kind(w) != words::SYMBOL {
-        return false;
-    }
-    if words::kind(next) != words::PUNCT {
-        return false;
-    }
-    text::begins_bracket(words::text(tape, area, next))
+    words::kind(w) == words::SYMBOL
+        && words::kind(next) == words::PUNCT
+        && text::begins_bracket(words::text(tape, area, next))
 }
 
 // Whether a token, with the one after it, is a call mark.
@@ -164,38 +123,24 @@ fn is_call_mark<'a>(tape: &'a [u8], area: &'a [u8], w: u64, next: u64) -> bool
     requires { Points tape.now area.now w × Points tape.now area.now next }
     ensures { result ≡ calls_here (token_of tape.now area.now w, token_of tape.now area.now next) }
 {
-    if is_called(tape, area, w, next) {
-        return true;
-    }
-    if words::kind(w) != words::KEYWORD {
-        return false;
-    }
-    text::begins_void(words::text(tape, area, w))
+    is_called(tape, area, w, next)
+        || words::kind(w) == words::KEYWORD && text::begins_void(words::text(tape, area, w))
 }
 
 // The place of the first call mark.
-pub fn call_at<'a>(tape: &'a [u8], area: &'a [u8], line: &'a [u64]) -> Position
+pub fn call_at<'a>(tape: &'a [u8], area: &'a [u8], line: &'a [u64]) -> Option<usize>
     requires { Holds tape.now area.now line.now }
-    ensures { found result ≡ call_in (tokens_of tape.now area.now line.now) }
+    ensures { option_of result ≡ call_in (tokens_of tape.now area.now line.now) }
 {
-    let mut k = 0;
-    while k + 1 < line.len() {
-        if is_call_mark(tape, area, line[k], line[k + 1]) {
-            return Position::At(k);
-        }
-        k += 1;
-    }
-    Position::Nothing
+    line.windows(2)
+        .position(|pair| is_call_mark(tape, area, pair[0], pair[1]))
 }
 
 pub fn has_call<'a>(tape: &'a [u8], area: &'a [u8], line: &'a [u64]) -> bool
     requires { Holds tape.now area.now line.now }
     ensures { result ≡ is_some (call_in (tokens_of tape.now area.now line.now)) }
 {
-    match call_at(tape, area, line) {
-        Position::At(_) => true,
-        Position::Nothing => false,
-    }
+    call_at(tape, area, line).is_some()
 }
 
 // ---- assignments
@@ -210,12 +155,6 @@ pub struct Expr {
     pub cut: bool,
 }
 
-#[derive(Clone, Copy)]
-pub enum Assigned {
-    To(Expr),
-    Nothing,
-}
-
 // The token at `at` of a line, without the ` = ` of token 1.
 fn right_word(line: &[u64], at: usize) -> u64
     requires { (at < length line.now) × (3 ≤ len_of (get_or line.now 1 0))
@@ -224,9 +163,10 @@ fn right_word(line: &[u64], at: usize) -> u64
 {
     let w = line[at];
     if at == 1 {
-        return words::without_first(w, 3);
+        words::without_first(w, 3)
+    } else {
+        w
     }
-    w
 }
 
 // Token k of the right side x of a line.
@@ -235,12 +175,11 @@ pub fn expr_word(line: &[u64], x: Expr, k: usize) -> u64
     ensures { result ≡ get_or (expr_words line.now x) k 0 }
 {
     let w = right_word(line, x.first + k);
-    if x.cut {
-        if k + 1 == x.count {
-            return words::without_last(w);
-        }
+    if x.cut && k + 1 == x.count {
+        words::without_last(w)
+    } else {
+        w
     }
-    w
 }
 
 // Whether two tokens are a Register and a Punct that begins with ` = `.
@@ -248,39 +187,35 @@ fn begins_assignment<'a>(tape: &'a [u8], area: &'a [u8], lhs: u64, eq: u64) -> b
     requires { Points tape.now area.now eq }
     ensures { result ≡ begins_assignment (token_of tape.now area.now lhs) (token_of tape.now area.now eq) }
 {
-    if words::kind(lhs) != words::REGISTER {
-        return false;
-    }
-    if words::kind(eq) != words::PUNCT {
-        return false;
-    }
-    text::begins_assign(words::text(tape, area, eq))
+    words::kind(lhs) == words::REGISTER
+        && words::kind(eq) == words::PUNCT
+        && text::begins_assign(words::text(tape, area, eq))
 }
 
 // The right side of a line whose second token begins with ` = `, from the token at `first` on.
-fn right_side<'a>(tape: &'a [u8], area: &'a [u8], line: &'a [u64], first: usize) -> Assigned
+fn right_side<'a>(tape: &'a [u8], area: &'a [u8], line: &'a [u64], first: usize) -> Option<Expr>
     requires { Opens tape.now area.now line.now × (1 ≤ first) × (first ≤ 2) }
     ensures { Sides tape.now area.now line.now first result }
 {
     let n = line.len();
     if n <= first {
-        return Assigned::Nothing;
+        return None;
     }
     let last = right_word(line, n - 1);
     if !text::ends_semicolon(words::text(tape, area, last)) {
-        return Assigned::Nothing;
+        return None;
     }
     if words::len(last) != 1 {
-        return Assigned::To(Expr {
+        return Some(Expr {
             first,
             count: n - first,
             cut: true,
         });
     }
     if n == first + 1 {
-        return Assigned::Nothing;
+        return None;
     }
-    Assigned::To(Expr {
+    Some(Expr {
         first,
         count: n - first - 1,
         cut: false,
@@ -288,21 +223,17 @@ fn right_side<'a>(tape: &'a [u8], area: &'a [u8], line: &'a [u64], first: usize)
 }
 
 // `reg = expr;`: its right side; token 0 is the register. Another assignment is none.
-pub fn assignment<'a>(tape: &'a [u8], area: &'a [u8], line: &'a [u64]) -> Assigned
+pub fn assignment<'a>(tape: &'a [u8], area: &'a [u8], line: &'a [u64]) -> Option<Expr>
     requires { Holds tape.now area.now line.now }
     ensures { Assigns tape.now area.now line.now result }
 {
-    if line.len() < 2 {
-        return Assigned::Nothing;
+    let [lhs, eq, ..] = line else {
+        return None;
+    };
+    if !begins_assignment(tape, area, *lhs, *eq) {
+        return None;
     }
-    let eq = line[1];
-    if !begins_assignment(tape, area, line[0], eq) {
-        return Assigned::Nothing;
-    }
-    if words::len(eq) == 3 {
-        return right_side(tape, area, line, 2);
-    }
-    right_side(tape, area, line, 1)
+    right_side(tape, area, line, if words::len(*eq) == 3 { 2 } else { 1 })
 }
 
 // Whether the right side x of a line is a Number alone, whatever the texts are.
@@ -310,10 +241,7 @@ pub fn is_lone_number(line: &[u64], x: Expr) -> bool
     requires { Expression line.now x }
     ensures { (tape area : Text) → result ≡ lone_number (tokens_of tape area (expr_words line.now x)) }
 {
-    if x.count != 1 {
-        return false;
-    }
-    words::kind(expr_word(line, x, 0)) == words::NUMBER
+    x.count == 1 && words::kind(expr_word(line, x, 0)) == words::NUMBER
 }
 
 // ---- in a line
@@ -323,19 +251,14 @@ pub fn is_written<'a>(tape: &'a [u8], area: &'a [u8], line: &'a [u64], pos: usiz
     requires { Holds tape.now area.now line.now × (pos < length line.now) }
     ensures { result ≡ is_written (tokens_of tape.now area.now line.now) pos }
 {
-    let at = pos + 1;
-    if line.len() <= at {
+    let Some(next) = line.get(pos + 1) else {
+        return false;
+    };
+    if words::kind(*next) != words::PUNCT {
         return false;
     }
-    let next = line[at];
-    if words::kind(next) != words::PUNCT {
-        return false;
-    }
-    let s = words::text(tape, area, next);
-    if text::begins_assign(s) {
-        return true;
-    }
-    text::begins_update(s)
+    let s = words::text(tape, area, *next);
+    text::begins_assign(s) || text::begins_update(s)
 }
 
 // Whether a token is a Punct with a space at an edge, and no comma between its edge spaces.
@@ -348,10 +271,7 @@ fn is_operator<'a>(tape: &'a [u8], area: &'a [u8], w: u64) -> bool
     }
     let s = words::text(tape, area, w);
     let t = text::trim(s);
-    if s.len() <= t.len() {
-        return false;
-    }
-    !text::is_comma(t)
+    t.len() < s.len() && !text::is_comma(t)
 }
 
 // Whether the right side x of a line has an operator among its tokens, of which there are several.
@@ -359,16 +279,5 @@ pub fn is_operator_expr<'a>(tape: &'a [u8], area: &'a [u8], line: &'a [u64], x: 
     requires { Holds tape.now area.now line.now × Expression line.now x }
     ensures { result ≡ is_operator_expr (tokens_of tape.now area.now (expr_words line.now x)) }
 {
-    let n = x.count;
-    if n <= 1 {
-        return false;
-    }
-    let mut k = 0;
-    while k < n {
-        if is_operator(tape, area, expr_word(line, x, k)) {
-            return true;
-        }
-        k += 1;
-    }
-    false
+    1 < x.count && (0..x.count).any(|k| is_operator(tape, area, expr_word(line, x, k)))
 }

@@ -4,17 +4,11 @@ ghost use Rattle.std.specs.Prelude.{◌≡◌, min, max};
 pub fn lower(a: u64, b: u64) -> u64
     ensures { result ≡ min a b }
 {
-    if a < b {
-        return a;
-    }
-    b
+    a.min(b)
 }
 
 pub fn higher(a: u64, b: u64) -> u64
     ensures { result ≡ max a b }
 {
-    if a < b {
-        return b;
-    }
-    a
+    a.max(b)
 }

@@ -7,12 +7,14 @@
 // address in 1 bit, and its origin, the number of the input line that it was, in 8 bits; above them
 // its facts (crate linefacts).
 ghost use Rattle.std.specs.Prelude.{◌≡◌, ◌+◌, ◌≤◌, ◌<◌, length};
-ghost use Rattle.lines.specs.Words.{kind_of, buffer_of, start_of, len_of, code_of, word, with_code, without_first, first_bytes};
-ghost use Rattle.lines.specs.Words.{without_last, text_of, Points};
+ghost use Rattle.lines.specs.Words.{kind_of, buffer_of, start_of, len_of, word, with_code, without_first, first_bytes};
+ghost use Rattle.lines.specs.Words.{without_last, text_of, CodeIs, Points};
 ghost use Rattle.lines.specs.Lines.{first_of, count_of, indent_of, addressed_of, origin_of, facts_of, with_facts, line_word};
 ghost use Rattle.lines.specs.Lines.{with_part, part_of};
 
 // The kinds that the cleaner asks about. (Address is 5 and Prefix is 7.)
+// Kept: numbers, as the bytes of the C interface's tapes say them: a kind is read from three bits of a word to be compared with one of
+// these, and an enum would be made only for that.
 pub const PLAIN: u64 = 0;
 
 pub const REGISTER: u64 = 1;
@@ -26,10 +28,12 @@ pub const SYMBOL: u64 = 4;
 pub const PUNCT: u64 = 6;
 
 // The buffers that hold a text.
+// Kept: a number of one bit of a word, which goes from word to word as it stands.
 pub const IN_TAPE: u64 = 0;
 
 pub const IN_AREA: u64 = 1;
 
+#[tactic(auto, unfolding(crate::specs::Words::word))]
 pub fn token_word(kind: u64, buffer: u64, start: usize, len: usize) -> u64
     requires { (kind < 8) × (buffer < 2) × (start < 65536) × (len < 65536) }
     ensures { result ≡ word kind buffer start len }
@@ -37,38 +41,46 @@ pub fn token_word(kind: u64, buffer: u64, start: usize, len: usize) -> u64
     kind + buffer * 8 + (start as u64) * 16 + (len as u64) * 1048576
 }
 
+#[tactic(auto, unfolding(crate::specs::Words::kind_of))]
 pub fn kind(w: u64) -> u64
     ensures { result ≡ kind_of w }
 {
     w % 8
 }
 
+#[tactic(auto, unfolding(crate::specs::Words::buffer_of))]
 pub fn buffer(w: u64) -> u64
     ensures { result ≡ buffer_of w }
 {
     w / 8 % 2
 }
 
+#[tactic(auto, unfolding(crate::specs::Words::start_of))]
 pub fn start(w: u64) -> usize
     ensures { result ≡ start_of w }
 {
     (w / 16 % 65536) as usize
 }
 
+#[tactic(auto, unfolding(crate::specs::Words::len_of))]
 pub fn len(w: u64) -> usize
     ensures { result ≡ len_of w }
 {
     (w / 1048576 % 65536) as usize
 }
 
-// The code of the token's text, or 0.
-pub fn code(w: u64) -> u64
-    ensures { result ≡ code_of w }
+// The code of the token's text.
+pub fn code(w: u64) -> Option<u64>
+    ensures { CodeIs w result }
 {
-    w / 68719476736
+    match w / 68719476736 {
+        0 => None,
+        c => Some(c),
+    }
 }
 
 // The token with the code c.
+#[tactic(auto, unfolding(crate::specs::Words::with_code))]
 pub fn with_code(w: u64, c: u64) -> u64
     requires { c < 268435456 }
     ensures { result ≡ with_code w c }
@@ -77,6 +89,7 @@ pub fn with_code(w: u64, c: u64) -> u64
 }
 
 // The token without the first n bytes of its text.
+#[tactic(auto, unfolding(crate::specs::Words::without_first))]
 pub fn without_first(w: u64, n: usize) -> u64
     requires { (n ≤ len_of w) × (start_of w + len_of w < 65536) }
     ensures { result ≡ without_first w n }
@@ -85,6 +98,7 @@ pub fn without_first(w: u64, n: usize) -> u64
 }
 
 // The token of the first n bytes of its text.
+#[tactic(auto, unfolding(crate::specs::Words::first_bytes))]
 pub fn first_bytes(w: u64, n: usize) -> u64
     requires { n ≤ len_of w }
     ensures { result ≡ first_bytes w n }
@@ -113,6 +127,7 @@ pub fn text<'a>(tape: &'a [u8], area: &'a [u8], w: u64) -> &'a [u8]
     &area[from..to]
 }
 
+#[tactic(auto, unfolding(crate::specs::Lines::line_word))]
 pub fn line_word(first: usize, count: usize, indent: u64, addressed: u64, origin: usize) -> u64
     requires { (first < 65536) × (count < 2048) × (indent < 64) × (addressed < 2) × (origin < 256) }
     ensures { result ≡ line_word first count indent addressed origin }
@@ -124,18 +139,21 @@ pub fn line_word(first: usize, count: usize, indent: u64, addressed: u64, origin
         + (origin as u64) * 17179869184
 }
 
+#[tactic(auto, unfolding(crate::specs::Lines::first_of))]
 pub fn first(l: u64) -> usize
     ensures { result ≡ first_of l }
 {
     (l % 65536) as usize
 }
 
+#[tactic(auto, unfolding(crate::specs::Lines::count_of))]
 pub fn count(l: u64) -> usize
     ensures { result ≡ count_of l }
 {
     (l / 65536 % 2048) as usize
 }
 
+#[tactic(auto, unfolding(crate::specs::Lines::indent_of))]
 pub fn indent(l: u64) -> u64
     ensures { result ≡ indent_of l }
 {
@@ -143,18 +161,22 @@ pub fn indent(l: u64) -> u64
 }
 
 // 1 if the line has an address, else 0.
+// Kept: a number of one bit of a word, which goes from word to word as it stands.
+#[tactic(auto, unfolding(crate::specs::Lines::addressed_of))]
 pub fn addressed(l: u64) -> u64
     ensures { result ≡ addressed_of l }
 {
     l / 8589934592 % 2
 }
 
+#[tactic(auto, unfolding(crate::specs::Lines::origin_of))]
 pub fn origin(l: u64) -> usize
     ensures { result ≡ origin_of l }
 {
     (l / 17179869184 % 256) as usize
 }
 
+#[tactic(auto, unfolding(crate::specs::Lines::facts_of))]
 pub fn facts(l: u64) -> u64
     ensures { result ≡ facts_of l }
 {
@@ -162,6 +184,7 @@ pub fn facts(l: u64) -> u64
 }
 
 // The line with the facts m.
+#[tactic(auto, unfolding(crate::specs::Lines::with_facts))]
 pub fn with_facts(l: u64, m: u64) -> u64
     requires { m < 4194304 }
     ensures { result ≡ with_facts l m }
@@ -170,6 +193,7 @@ pub fn with_facts(l: u64, m: u64) -> u64
 }
 
 // The line with its tokens elsewhere, or with others, and no facts.
+#[tactic(auto, unfolding(crate::specs::Lines::with_part))]
 pub fn with_tokens(l: u64, first: usize, count: usize) -> u64
     requires { (first < 65536) × (count < 2048) }
     ensures { result ≡ with_part l first count }

@@ -1,22 +1,18 @@
 -- The first part of a text, and what is left: each turn of a loop over lines or fields. Assumes nothing.
-use Prim.Native.Nat.{ℕ, suc, ◌+◌, ◌-◌, ◌≤◌, ◌<◌}
+use Prim.Native.Nat.{ℕ, suc, ◌+◌, ◌≤◌, ◌<◌}
 use native.Mathlib.Omega.{arith}
-use native.Mathlib.Decide.{dec_lt}
-use native.Mathlib.Numerals.{add-one}
-use mathlib.Core.Path.{◌≡◌, refl, sym, ap, ◌∙◌}
-use mathlib.Core.Logic.{by_cases}
+use mathlib.Core.Path.{◌≡◌, refl, ap, ◌∙◌}
 use mathlib.Core.Bool.{true}
 use mathlib.Core.List.{List, [], ◌∷◌, ◌++◌}
 use lib.Dec.{eqb}
-use lib.ListN.{length, take, drop, get_or, take-append-drop, length-take, length-drop, drop_of_length-le}
-use lib.Seq.{drop-cons, drop-drop, get_or-take, get_or-drop, take_all}
-use borrow.Author.Tests.{eq-eqb, ne_eqb, lt-ltb, le-ltb}
+use lib.ListN.{length, get_or}
+use borrow.Author.Tests.{eq-eqb, ne_eqb}
 use Rattle.reference.specs.Control.{when◌then◌else◌}
 use Rattle.reference.specs.Text.{Text}
-use Rattle.laws.proofs.Scans.{if-true, if-false}
 use Rattle.words.specs.Splitting.{onto}
+use Rattle.std.proofs.Common.{Option, Some, None, MatchOption, Bor, length-append}
+use Rattle.std.specs.Option.{unwrap_or}
 use Rattle.listing_text.specs.Exact.{ended, apart}
-use Rattle.listing_text.specs.Parsed.{EndsAt, fields_behind}
 
 -- ---- a text without the byte b
 
@@ -40,7 +36,7 @@ module _ (b : ℕ) where
   ended-last x [] n = rw (ne_eqb x b (n 0 (omega arith)))
   ended-last x (y ∷ t) n = rw (ne_eqb x b (n 0 (omega arith)), ended-last y t (tail_of b x (y ∷ t) n))
 
-  ended-only : (t : Text) → 0 < length t → Without b t → ended b t ≡ t ∷ []
+  pub ended-only : (t : Text) → 0 < length t → Without b t → ended b t ≡ t ∷ []
   ended-only [] h n = absurd (omega arith)
   ended-only (x ∷ t) h n = ended-last x t n
 
@@ -54,82 +50,51 @@ module _ (b : ℕ) where
   apart-only [] n = refl
   apart-only (x ∷ t) n = rw (ne_eqb x b (n 0 (omega arith)), apart-only t (tail_of b x t n))
 
--- ---- the part that begins at an offset
+-- ---- the first part, and what stands behind it
 
-module _ (b : ℕ) (t : Text) {at e : ℕ} (ends : EndsAt b t at e) where
-  part : Text
-  part = take (e - at) (drop at t)
+abbrev pub SplitsAt : ℕ → Text → Text → Option (Bor Text) → Type 0
+SplitsAt b t front behind = MatchOption behind (t ≡ front) (λ more. t ≡ front ++ (b ∷ more.now))
 
-  without : Without b part
-  unfolding part
-  without i l z =
-      let short : i < e - at = omega (arith, l, length-take (e - at) (drop at t)) in
-      ends.before (at + i) (omega arith) (omega (arith, ends.behind))
-      (sym (get_or-drop at t i 0) ∙ sym (get_or-take (e - at) (drop at t) i 0 short) ∙ z)
+-- what is left behind a part
+abbrev pub parts_of : ℕ → Option (Bor Text) → List Text
+parts_of b None = []
+parts_of b (Some t) = apart b t.now
 
-  rest : drop (e - at) (drop at t) ≡ drop e t
-  rest =
-      let s : at + (e - at) ≡ e = omega (arith, ends.behind) in
-      drop-drop (e - at) at t ∙ ap (λ (n : ℕ). drop n t) s
+abbrev pub lines_of : ℕ → Option (Bor Text) → List Text
+lines_of b None = []
+lines_of b (Some t) = ended b t.now
 
-  -- it ends with a b
-  split : e < length t → drop at t ≡ part ++ b ∷ drop (e + 1) t
-  unfolding part
-  split l =
-      let front : part ++ drop e t ≡ drop at t = rw rest at (take-append-drop (e - at) (drop at t)) in
-      let there : drop e t ≡ b ∷ drop (e + 1) t =
-      drop-cons t e 0 l ∙ ap (λ (x : ℕ). x ∷ drop (suc e) t) (ends.there l) ∙ ap (λ (n : ℕ). b ∷ drop n t) (sym (add-one e)) in
-      sym front ∙ ap (λ (u : Text). part ++ u) there
+abbrev pub size_of : Option (Bor Text) → ℕ
+size_of None = 0
+size_of (Some t) = suc (length t.now)
 
-  -- or with the text
-  whole : length t ≤ e → part ≡ drop at t
-  unfolding part
-  whole l = take_all (e - at) (drop at t) (omega (arith, length-drop at t, ends.within))
+pub first_part : (b : ℕ) (t front : Text) (behind : Option (Bor Text)) → Without b front → SplitsAt b t front behind → apart b t ≡ front ∷ parts_of b behind
+first_part b t front None n e = rw e (apart-only b front n)
+first_part b t front (Some more) n e = rw e (apart_then b front more.now n)
 
-  pub first_ended : at < length t → ended b (drop at t) ≡ take (e - at) (drop at t) ∷ ended b (drop (e + 1) t)
-  unfolding part ended
-  first_ended h =
-      by_cases (dec_lt e (length t)) (λ l. ap (ended b) (split l) ∙ ended_then b part (drop (e + 1) t) without)
-      (λ l.
-      let w : part ≡ drop at t = whole (omega arith) in
-      let none : drop (e + 1) t ≡ [] = drop_of_length-le t {i = e + 1} (omega arith) in
-      let some_byte : 0 < length (drop at t) = omega (arith, length-drop at t) in
-      let n : Without b (drop at t) = rw w at without in
-      ended-only b (drop at t) some_byte n ∙ rw (w, none) refl)
+pub first_line : (b : ℕ) (t front : Text) (behind : Option (Bor Text)) → 0 < length t → Without b front → SplitsAt b t front behind → ended b t ≡ front ∷ lines_of b behind
+first_line b t front None h n e = let k : 0 < length front = rw e at h in rw e (ended-only b front k n)
+first_line b t front (Some more) h n e = rw e (ended_then b front more.now n)
 
--- of fields
-module _ (t : Text) {at e : ℕ} (ends : EndsAt 9 t at e) where
-  pub first-apart : apart 9 (drop at t) ≡ take (e - at) (drop at t) ∷ fields_behind t e
-  unfolding part fields_behind
-  first-apart =
-      by_cases (dec_lt e (length t))
-      (λ l.
-      ap (apart 9) (split 9 t ends l) ∙ apart_then 9 (part 9 t ends) (drop (e + 1) t) (without 9 t ends)
-      ∙ ap (λ (r : List Text). part 9 t ends ∷ r) (sym (if-true _ _ (lt-ltb e (length t) l))))
-      (λ l.
-      let w : part 9 t ends ≡ drop at t = whole 9 t ends (omega arith) in
-      let n : Without 9 (drop at t) = rw w at (without 9 t ends) in
-      apart-only 9 (drop at t) n ∙ ap (λ (u : Text). u ∷ []) (sym w)
-      ∙ ap (λ (r : List Text). part 9 t ends ∷ r) (sym (if-false _ _ (le-ltb e (length t) (omega arith)))))
+pub shorter : (b : ℕ) (t front : Text) (behind : Option (Bor Text)) → SplitsAt b t front behind → size_of behind ≤ length t
+shorter b t front None e = omega arith
+shorter b t front (Some more) e = omega (arith, ap length e, length-append front (b ∷ more.now))
 
-pub next_field : (t : Text) {e end : ℕ} → e < length t → EndsAt 9 t (e + 1) end
-    → fields_behind t e ≡ take (end - (e + 1)) (drop (e + 1) t) ∷ fields_behind t end
-unfolding fields_behind
-next_field t {e} l ends = if-true _ _ (lt-ltb e (length t) l) ∙ first-apart t ends
+pub two_parts : (b : ℕ) (t front : Text) (behind : Option (Bor Text)) (rest : Bor Text) (second : Text) (more : Option (Bor Text)) → Without b front → SplitsAt b t front behind
+    → behind ≡ Some rest → Without b second → SplitsAt b rest.now second more → apart b t ≡ front ∷ second ∷ parts_of b more
+two_parts b t front behind rest second more n e is m f =
+    first_part b t front behind n e ∙ ap (λ (o : Option (Bor Text)). front ∷ parts_of b o) is ∙ ap (λ (ts : List Text). front ∷ ts) (first_part b rest.now second more m f)
 
-pub no_field : (t : Text) (e : ℕ) → length t ≤ e → fields_behind t e ≡ []
-unfolding fields_behind
-no_field t e l = if-false _ _ (le-ltb e (length t) l)
-
-pub no_line : (b : ℕ) (t : Text) (at : ℕ) → length t ≤ at → ended b (drop at t) ≡ []
+pub no_lines : (b : ℕ) (t : Text) → length t ≤ 0 → ended b t ≡ []
 unfolding ended
-no_line b t at h = rw (drop_of_length-le t h)
+no_lines b [] h = refl
+no_lines b (x ∷ t) h = absurd (omega arith)
 
--- one byte more that is not b
-pub one_more_byte : (b : ℕ) (t : Text) {at e : ℕ} → ((i : ℕ) → at ≤ i → i < e → get_or t i 0 ≡ b → ⊥) → (get_or t e 0 ≡ b → ⊥)
-    → (i : ℕ) → at ≤ i → i < e + 1 → get_or t i 0 ≡ b → ⊥
-one_more_byte b t {at} {e} f g i h k z =
-    by_cases (dec_lt i e) (λ l. f i h l z)
-    (λ l.
-    let same : i ≡ e = omega arith in
-    g (ap (λ (j : ℕ). get_or t j 0) (sym same) ∙ z))
+-- the text behind a part, empty where none stands there
+pub lines_left : (b : ℕ) (behind : Option (Bor Text)) {x : Bor Text} (none : Bor Text) → x ≡ unwrap_or behind none → none.now ≡ [] → ended b x.now ≡ lines_of b behind
+lines_left b None none e n = no_lines b _ (rw (e, n) (omega arith))
+lines_left b (Some more) none e n = ap (λ (t : Bor Text). ended b t.now) e
+
+pub left-shorter : (behind : Option (Bor Text)) {n : ℕ} {x : Bor Text} (none : Bor Text) → x ≡ unwrap_or behind none → none.now ≡ [] → size_of behind ≤ n → 0 < n → length x.now + 1 ≤ n
+left-shorter None none e n h m = rw (e, n) (omega arith)
+left-shorter (Some more) none e n h m = rw e (omega arith)

@@ -6,6 +6,7 @@ use native.Mathlib.Nat.{pow-le-pow_right}
 use mathlib.Core.Path.{◌≡◌, refl, sym, ap, ◌∙◌}
 use mathlib.Core.Logic.{by_cases}
 use mathlib.Core.List.{[], ◌∷◌}
+use mathlib.Core.Option.{Option, none, some}
 use lib.Dec.{eqb}
 use lib.ListN.{get_or}
 use borrow.Author.Tests.{lt-ltb, le-ltb, ne_eqb}
@@ -15,7 +16,7 @@ use Rattle.laws.proofs.Scans.{if-true, if-false}
 use Rattle.io.specs.Digits.{last_digits, IsDigitCount}
 use Rattle.listing_text.specs.Room.{Page, Adds, puts}
 use Rattle.listing_text.specs.Forms.{hexadecimal, enough, short_hex, letters, blanks, line_end}
-use Rattle.listing_text.proofs.Pages.{adds_none, puts_two}
+use Rattle.listing_text.proofs.Pages.{puts_two}
 
 -- ---- hexadecimal digits
 
@@ -24,13 +25,6 @@ few-digits : (least n : ℕ) {k : ℕ} → least ≤ 16 → n < 2 ^ 64 → IsDig
 few-digits least n {k} l h f =
     by_cases (dec_le k 16) (λ le. le)
     (λ le. absurd (omega (arith, f.2 (omega arith), pow-le-pow_right {n = 16} (omega arith) {i = 16} {j = k - 1} (omega arith))))
-
-module _ (n : ℕ) {k : ℕ} (h : n < 2 ^ 64) where
-  pub sixteen-spelt : IsDigitCount 16 16 n k → last_digits 16 k n ≡ hexadecimal 16 n
-  unfolding hexadecimal
-  sixteen-spelt f =
-      let e : k ≡ 16 = omega (arith, few-digits 16 n (omega arith) h f) in
-      ap (λ (j : ℕ). last_digits 16 j n) e
 
 enough_is : (more j n k : ℕ) → j ≤ k → k ≤ j + more → n < 16 ^ k → (j < k → 16 ^ (k - 1) ≤ n) → enough more j n ≡ k
 unfolding enough
@@ -50,11 +44,20 @@ enough_is (suc more) j n k a b l g =
     absurd (s (rw e l))) in
     if-false _ _ (le-ltb n (16 ^ j) (omega arith)) ∙ enough_is more (suc j) n k (omega arith) (omega arith) l (λ z. g (omega arith)))
 
-pub short-spelt : (n : ℕ) {k : ℕ} → n < 2 ^ 64 → IsDigitCount 16 8 n k → last_digits 16 k n ≡ short_hex n
-unfolding hexadecimal short_hex
-short-spelt n {k} h f =
-    let e : enough 8 8 n ≡ k = enough_is 8 8 n k f.0 (omega (arith, few-digits 8 n (omega arith) h f)) f.1 f.2 in
+-- what crate io spells, of so many digits at least
+pub hex-spelt : (n least : ℕ) {k : ℕ} → least ≤ 16 → n < 2 ^ 64 → IsDigitCount 16 least n k → last_digits 16 k n ≡ hexadecimal (enough (16 - least) least n) n
+unfolding hexadecimal
+hex-spelt n least {k} l h f =
+    let e : enough (16 - least) least n ≡ k = enough_is (16 - least) least n k f.0 (omega (arith, few-digits least n l h f)) f.1 f.2 in
     ap (λ (j : ℕ). last_digits 16 j n) (sym e)
+
+pub sixteen : (n : ℕ) → hexadecimal (enough 0 16 n) n ≡ hexadecimal 16 n
+unfolding enough
+sixteen n = refl
+
+pub short : (n : ℕ) → hexadecimal (enough 8 8 n) n ≡ short_hex n
+unfolding short_hex
+short n = refl
 
 -- ---- blanks and line ends
 
@@ -69,9 +72,9 @@ pub blanks-last : (g : Page) (left : ℕ) → left ≡ 0 → puts g (blanks left
 unfolding blanks puts
 blanks-last g left e = rw e
 
-pub no_line_end : (g : Page) (at : ℕ) → at ≡ 0 → Adds g (line_end at) g
+pub no_line_end : (at : ℕ) → at ≡ 0 → [] ≡ line_end at
 unfolding line_end when◌then◌else◌
-no_line_end g at e = rw e adds_none
+no_line_end at e = rw e
 
 pub some_line_end : (at : ℕ) → (at ≡ 0 → ⊥) → 10 ∷ [] ≡ line_end at
 unfolding line_end when◌then◌else◌
@@ -92,44 +95,44 @@ no_letter (suc (suc (suc (suc (suc (suc (suc zero))))))) n₀ n₁ n₂ n₃ n�
 no_letter (suc (suc (suc (suc (suc (suc (suc (suc k)))))))) n₀ n₁ n₂ n₃ n₄ n₅ n₆ n₇ = refl
 
 -- a token's first byte on the tape, by its letter
-abbrev pub tag : ℕ → ℕ
-tag l = let_some (position (eqb l) letters) else 0 then λ kind. 16 + kind
+abbrev pub tag : ℕ → Option ℕ
+tag l = let_some (position (eqb l) letters) else none then λ kind. some (16 + kind)
 
 module _ {l : ℕ} where
-  pub tag_t : l ≡ 116 → 16 ≡ tag l
+  pub tag_t : l ≡ 116 → some 16 ≡ tag l
   unfolding when◌then◌else◌ let_some◌else◌then◌
   tag_t e = rw e
 
-  pub tag_r : l ≡ 114 → 17 ≡ tag l
+  pub tag_r : l ≡ 114 → some 17 ≡ tag l
   unfolding when◌then◌else◌ let_some◌else◌then◌
   tag_r e = rw e
 
-  pub tag_n : l ≡ 110 → 18 ≡ tag l
+  pub tag_n : l ≡ 110 → some 18 ≡ tag l
   unfolding when◌then◌else◌ let_some◌else◌then◌
   tag_n e = rw e
 
-  pub tag_k : l ≡ 107 → 19 ≡ tag l
+  pub tag_k : l ≡ 107 → some 19 ≡ tag l
   unfolding when◌then◌else◌ let_some◌else◌then◌
   tag_k e = rw e
 
-  pub tag_s : l ≡ 115 → 20 ≡ tag l
+  pub tag_s : l ≡ 115 → some 20 ≡ tag l
   unfolding when◌then◌else◌ let_some◌else◌then◌
   tag_s e = rw e
 
-  pub tag_a : l ≡ 97 → 21 ≡ tag l
+  pub tag_a : l ≡ 97 → some 21 ≡ tag l
   unfolding when◌then◌else◌ let_some◌else◌then◌
   tag_a e = rw e
 
-  pub tag_p : l ≡ 112 → 22 ≡ tag l
+  pub tag_p : l ≡ 112 → some 22 ≡ tag l
   unfolding when◌then◌else◌ let_some◌else◌then◌
   tag_p e = rw e
 
-  pub tag_x : l ≡ 120 → 23 ≡ tag l
+  pub tag_x : l ≡ 120 → some 23 ≡ tag l
   unfolding when◌then◌else◌ let_some◌else◌then◌
   tag_x e = rw e
 
   pub tag_none : (l ≡ 116 → ⊥) → (l ≡ 114 → ⊥) → (l ≡ 110 → ⊥) → (l ≡ 107 → ⊥) → (l ≡ 115 → ⊥) → (l ≡ 97 → ⊥) → (l ≡ 112 → ⊥) → (l ≡ 120 → ⊥)
-      → 0 ≡ tag l
+      → none ≡ tag l
   unfolding when◌then◌else◌ let_some◌else◌then◌
   tag_none t r n k s a p x = rw (ne_eqb l 116 t, ne_eqb l 114 r, ne_eqb l 110 n, ne_eqb l 107 k, ne_eqb l 115 s, ne_eqb l 97 a, ne_eqb l 112 p, ne_eqb l 120 x)
 

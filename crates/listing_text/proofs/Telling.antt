@@ -7,56 +7,40 @@ use mathlib.Core.Logic.{by_cases}
 use mathlib.Core.Bool.{Bool, true, false, not}
 use mathlib.Core.List.{List, [], ◌∷◌, ◌++◌, append-nil}
 use mathlib.Core.Option.{some}
+use mir.Val.{bool_byte}
 use lib.Dec.{eqb, leb, ltb}
 use lib.ListN.{length, take, drop, length-drop}
-use borrow.Author.Tests.{ne_eqb, lt-ltb, le-ltb, le-leb, lt-leb}
+use borrow.Author.Tests.{lt-ltb, le-ltb, le-leb, lt-leb}
+use Rattle.std.specs.Prelude as std
 use Rattle.reference.specs.Control.{when◌then◌else◌, ◌and◌}
 use Rattle.reference.specs.Text.{Text}
-use Rattle.reference.specs.Spans.{Span}
 use Rattle.reference.specs.Listing.{token}
 use Rattle.reference.specs.Tape as Tape
 use Rattle.reference.specs.Tape.{command_of, command_size, new_token}
 use Rattle.reference.specs.Questions.{Totals, Answer, Refused, Passed, Advance, read_command, is_end}
 use Rattle.reference.proofs.Commands.{Sized, sized}
 use Rattle.reference.proofs.Reading.{command_passed}
-use Rattle.tape.specs.Commands.{command_in, found_in, standing}
-use Rattle.tape.specs.Commands.{Sized as Standing}
-use Rattle.tape.specs.declared.commands.Found.TheVariants.{Whole}
+use Rattle.answers.specs.declared.Refusal.{Refusal}
+use Rattle.tape.specs.Commands.{command_in, ends}
 use Rattle.tape.specs.declared.commands.Command.{Command}
 use Rattle.tape.specs.declared.commands.Command.TheVariants.{Addressed, Plain, Marked, Token, End}
 use Rattle.listing_text.specs.Room.{laid, Page, puts, Adds, empty}
-use Rattle.listing_text.specs.Forms.{line_end, short_hex, span_text, span_in, marks_found, marks_at, command_text, TokenEnds}
-use Rattle.listing_text.specs.Showing.{Shown, begun, shown_at, shown_from, Shows}
-use Rattle.listing_text.proofs.Pages.{puts_append, all-put, adds_none}
+use Rattle.listing_text.specs.Forms.{line_end, short_hex, span_text, span_of, command_text, TokenEnds}
+use Rattle.listing_text.specs.Showing.{Shown, begun, shown_at, shown_from, number_told, place_told, Shows}
+use Rattle.listing_text.specs.declared.forms.Span.{Span}
+use Rattle.listing_text.proofs.Pages.{puts_append, all-put}
 
 -- ---- marks to read
 
-module _ {g : Page} (low high lowest highest : ℕ) {x : Bool} (e : x ≡ (eqb lowest low and eqb highest high)) where
-  pub same_span : x ≡ true → Adds g (span_text (record { lowest = low; highest = high }) (some (record { lowest = lowest; highest = highest }))) g
+module _ (own span : Span) where
+  pub same_span : (eqb span.lowest own.lowest and eqb span.highest own.highest) ≡ true → [] ≡ span_text (span_of own) (some (span_of span))
   unfolding span_text when◌then◌else◌
-  same_span t = rw (sym e ∙ t) adds_none
+  same_span t = rw t
 
-  pub other_span : {g₁ : Page} → x ≡ false
-      → Adds g (short_hex lowest ++ (46 ∷ 46 ∷ []) ++ short_hex highest ++ (32 ∷ [])) g₁
-      → Adds g (span_text (record { lowest = low; highest = high }) (some (record { lowest = lowest; highest = highest }))) g₁
+  pub other_span : (eqb span.lowest own.lowest and eqb span.highest own.highest) ≡ false
+      → short_hex span.lowest ++ (46 ∷ 46 ∷ []) ++ short_hex span.highest ++ (32 ∷ []) ≡ span_text (span_of own) (some (span_of span))
   unfolding span_text when◌then◌else◌
-  other_span t a = rw (sym e ∙ t) a
-
-span_same : (tape : List ℕ) (at : ℕ) (c : Command) → span_in (command_in [] 0 c) ≡ span_in (command_in tape at c)
-span_same tape at (Addressed address indent) = refl
-span_same tape at (Plain indent) = refl
-span_same tape at (Marked low high) = refl
-span_same tape at (Token kind count) = refl
-span_same tape at End = refl
-
-module _ (own : Span) (tape : List ℕ) (at : ℕ) where
-  pub marks_here : (c : Command) → found_in tape at (Whole c) ≡ standing tape at
-      → span_text own (span_in (command_in [] 0 c)) ≡ span_text own (marks_at tape at)
-  marks_here c e = ap (span_text own) (span_same tape at c ∙ ap marks_found e)
-
-  pub marks_missing : {n p : ℕ} → Refused n p ≡ standing tape at → [] ≡ span_text own (marks_at tape at)
-  unfolding span_text
-  marks_missing e = ap (λ (a : Answer Standing). span_text own (marks_found a)) e
+  other_span t = rw t
 
 -- ---- a token's text
 
@@ -81,6 +65,13 @@ module _ (tape : List ℕ) (at next : ℕ) (t u : Totals) where
       let long : next - (at + 3) ≡ n = omega (arith, s.0) in
       (omega (arith, s.0), omega (arith, p.0.inside, length-drop at tape, s.0), rw long (take_again count (drop (at + 3) tape)))
   token-ends End e = tt
+
+pub ends_same : (tape : List ℕ) (at : ℕ) (c : Command) → is_end (command_in tape at c) ≡ ends c
+ends_same tape at (Addressed address indent) = refl
+ends_same tape at (Plain indent) = refl
+ends_same tape at (Marked low high) = refl
+ends_same tape at (Token kind count) = refl
+ends_same tape at End = refl
 
 -- ---- each turn
 
@@ -132,14 +123,13 @@ module _ (g : Page) (exact : Bool) (tape : List ℕ) (at : ℕ) (fresh : Bool) (
 
 -- ---- what is asked
 
-module _ (at : ℕ) (fresh : Bool) where
-  pub begun_first : at ≡ 0 → record { lines = 0; tokens = 0; text = 0; fresh = fresh } ≡ begun at fresh
-  unfolding begun when◌then◌else◌
-  begun_first e = rw e
-
-  pub begun-later : (at ≡ 0 → ⊥) → record { lines = 1; tokens = 0; text = 0; fresh = fresh } ≡ begun at fresh
-  unfolding begun when◌then◌else◌
-  begun-later n = rw (ne_eqb at 0 n)
+pub begun_asked : (at : ℕ) (fresh : Bool) {n : ℕ} → n ≡ bool_byte (not (eqb at 0)) → record { lines = n; tokens = 0; text = 0; fresh = fresh } ≡ begun at fresh
+unfolding begun when◌then◌else◌
+begun_asked at fresh e = (λ i. record { lines = (e ∙ go (eqb at 0)) i; tokens = 0; text = 0; fresh = fresh })
+  where
+    go : (b : Bool) → bool_byte (not b) ≡ (when b then 0 else 1)
+    go true = refl
+    go false = refl
 
 -- ---- the end
 
@@ -148,15 +138,16 @@ whole_when m n =
     by_cases (dec_lt m n) (λ h. ap not (lt-ltb m n h) ∙ sym (lt-leb n m h)) (λ h. ap not (le-ltb m n (omega arith)) ∙ sym (le-leb n m (omega arith)))
 
 module _ (out : List ℕ) (s : Shown) {g : Page} {number place : ℕ} (e : record { where_to = g; number = number; place = place } ≡ tells (empty out) s) where
-  pub told-shows : {out' : List ℕ} → out' ≡ g.bytes → Shows s out out' (record { length = g.at; whole = not g.cut; number = number; place = place })
+  pub told-shows : {out' : List ℕ} → out' ≡ g.bytes → {refusal : std.Option Refusal} → number_told refusal ≡ number → place_told refusal ≡ place
+      → Shows s out out' (record { length = g.at; whole = not g.cut; refusal = refusal })
   unfolding tells
-  told-shows f =
+  told-shows f m p =
       let all : g ≡ record { bytes = laid out s.text; at = length (take (length out) s.text); cut = ltb (length out) (length s.text) } =
       ap (λ (k : Told). k.where_to) e ∙ all-put out s.text in
       record {
         bytes_are = f ∙ ap (λ (k : Page). k.bytes) all;
         length_is = ap (λ (k : Page). k.at) all;
         whole_is = ap (λ (k : Page). not k.cut) all ∙ whole_when (length out) (length s.text);
-        number_is = ap (λ (k : Told). k.number) e;
-        place_is = ap (λ (k : Told). k.place) e;
+        number_is = m ∙ ap (λ (k : Told). k.number) e;
+        place_is = p ∙ ap (λ (k : Told). k.place) e;
       }

@@ -11,8 +11,9 @@ use Rattle.words.specs.Splitting.{onto}
 use Rattle.words.specs.Numerals.{number_in}
 use Rattle.listing_text.specs.Room.{laid}
 use Rattle.listing_text.specs.Forms.{letters}
-use Rattle.listing_text.specs.declared.reading.Made.{Made}
-use Rattle.listing_text.specs.declared.reading.Made.TheVariants.{Whole, Full, Wrong}
+use Rattle.std.specs.Prelude.{Result, Ok, Err}
+use Rattle.listing_text.specs.declared.reading.Unmade.{Unmade}
+use Rattle.listing_text.specs.declared.reading.Unmade.TheVariants.{Full, Wrong}
 
 -- ---- lines and fields
 
@@ -115,10 +116,10 @@ tape_of text = lines_read 0 (ended 10 text)
 -- ---- what the code answers of it
 
 -- with room for so many bytes: the tape's length; a wrong line's number; or that the tape does not fit
-unfoldable pub made_of : ℕ → Tape → Made
-made_of room t = let_some t.wrong else (when ltb room (length t.bytes) then Full else Whole (length t.bytes)) then λ n. Wrong n
+unfoldable pub made_of : ℕ → Tape → Result ℕ Unmade
+made_of room t = let_some t.wrong else (when ltb room (length t.bytes) then Err Full else Ok (length t.bytes)) then λ n. Err (Wrong n)
 
 -- the slice holds as much of the bytes as it has room for
-pub record Makes (t : Tape) (out out' : List ℕ) (r : Made) : Type 0 where
+pub record Makes (t : Tape) (out out' : List ℕ) (r : Result ℕ Unmade) : Type 0 where
   pub bytes_are : out' ≡ laid out t.bytes
   pub answer_is : r ≡ made_of (length out) t

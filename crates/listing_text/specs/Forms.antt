@@ -1,8 +1,10 @@
 -- A command of a tape as text, in two forms. To read: the marks where they say more than the address, the address in hexadecimal or blanks,
 -- two blanks an indent, the texts of the tokens. Exact: fields apart by tabs, ADDRESS INDENT [m:LOWEST..HIGHEST] [KIND:TEXT].., which says
 -- all that the tape says. Assumes nothing.
-use Rattle.std.specs.Prelude.{ℕ, zero, suc, ◌+◌, ◌-◌, ◌^◌, ◌≤◌, ◌≡◌, Bool, true, false, List, [], ◌∷◌, ◌++◌, eqb, ltb, length, take, drop}
+use Rattle.std.specs.Prelude.{ℕ, zero, suc, ◌+◌, ◌-◌, ◌^◌, ◌≤◌, ◌≡◌, Bool, true}
+use Rattle.std.specs.Prelude.{false, List, [], ◌∷◌, ◌++◌, eqb, ltb, length, take, drop}
 use Rattle.std.specs.Prelude.{get_or}
+use Rattle.std.specs.Prelude as std
 use Rattle.std.proofs.Math.Option.{Option, none, some}
 use Rattle.reference.specs.Control.{◌and◌, when◌then◌else◌}
 use Rattle.reference.specs.Text.{Text, bytes}
@@ -10,8 +12,9 @@ use Rattle.reference.specs.Spans.{Span}
 use Rattle.reference.specs.Tape.{Command, new_line, marked, new_token, end}
 use Rattle.reference.specs.Questions.{Answer, Refused, Passed}
 use Rattle.tape.specs.Commands.{Sized, standing}
-use Rattle.tape.specs.declared.commands.Command as Code
+use Rattle.tape.specs.declared.commands.Command as Code'
 use Rattle.tape.specs.declared.commands.Command.TheVariants.{Addressed, Plain, Marked, Token, End}
+use Rattle.listing_text.specs.declared.forms.Span as Code
 use Rattle.printing.specs.Decimals.{decimal}
 use Rattle.io.specs.Digits.{last_digits}
 
@@ -57,6 +60,14 @@ exact_command at (new_token t) = (9 ∷ get_or letters t.kind 0 ∷ 58 ∷ []) +
 exact_command at end = line_end at
 
 -- ---- to read
+
+-- the code's span
+abbrev pub span_of : Code.Span → Span
+span_of s = record { lowest = s.lowest; highest = s.highest }
+
+abbrev pub marks_of : std.Option Code.Span → Option Span
+marks_of (std.Some s) = some (span_of s)
+marks_of std.None = none
 
 -- what a line's address says: from it to it; of a line without one nothing, from 1 to 0
 unfoldable pub own_span : Option ℕ → Span
@@ -106,7 +117,7 @@ command_text false tape at next c = read_command_text at (marks_at tape next) c
 -- ---- what the code knows of a command
 
 -- a token's text ends at `next`
-abbrev pub TokenEnds : List ℕ → ℕ → ℕ → Code.Command → Type 0
+abbrev pub TokenEnds : List ℕ → ℕ → ℕ → Code'.Command → Type 0
 TokenEnds tape at next (Addressed address indent) = Unit {0}
 TokenEnds tape at next (Plain indent) = Unit {0}
 TokenEnds tape at next (Marked low high) = Unit {0}

@@ -2,7 +2,7 @@
 use Rattle.std.specs.Prelude.{ℕ, ◌+◌, ◌≡◌, Bool, true, false, List, [], ◌∷◌, ◌++◌, ltb, length, take, drop, set}
 use Rattle.reference.specs.Control.{when◌then◌else◌}
 use Rattle.reference.specs.Text.{Text}
-use Rattle.listing_text.specs.declared.room.Place.{Place}
+use Rattle.listing_text.specs.declared.room.Cursor.{Cursor}
 
 -- a slice whose front holds as much of a text as it has room for; what lies behind the text is as it was
 unfoldable pub laid : List ℕ → Text → List ℕ
@@ -16,8 +16,8 @@ pub record Page : Type 0 where
   pub at : ℕ
   pub cut : Bool
 
-abbrev pub page : List ℕ → Place → Page
-page out p = record { bytes = out; at = p.at; cut = p.cut }
+abbrev pub page : Cursor → Page
+page p = record { bytes = p.out.now; at = p.at; cut = p.cut }
 
 unfoldable pub put_one : Page → ℕ → Page
 put_one g b =
@@ -32,9 +32,10 @@ puts g (b ∷ t) = puts (put_one g b) t
 pub record Adds (g : Page) (t : Text) (g' : Page) : Type 0 where
   pub same : g' ≡ puts g t
 
--- a slice, with a text put at its place, before and after
-abbrev pub Puts : List ℕ → Place → Text → List ℕ → Place → Type 0
-Puts out p t out' p' = Adds (page out p) t (page out' p')
+-- a text is put, into the same slice
+pub record Puts (p : Cursor) (t : Text) (p' : Cursor) : Type 0 where
+  pub adds : Adds (page p) t (page p')
+  pub lent : p'.out.ghost_name ≡ p.out.ghost_name
 
 -- with nothing put yet
 abbrev pub empty : List ℕ → Page

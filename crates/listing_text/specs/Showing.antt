@@ -4,6 +4,9 @@ use Rattle.std.specs.Prelude.{ℕ, zero, suc, ◌≡◌, Bool, false, List, [], 
 use Rattle.reference.specs.Control.{when◌then◌else◌}
 use Rattle.reference.specs.Text.{Text}
 use Rattle.reference.specs.Questions.{Totals, Answer, Refused, Passed, Advance, read_command, is_end}
+use Rattle.std.specs.Prelude.{Option, Some, None}
+use Rattle.answers.specs.declared.Refusal.{Refusal}
+use Rattle.answers.specs.Refusals.{number_of}
 use Rattle.listing_text.specs.Room.{laid}
 use Rattle.listing_text.specs.Forms.{line_end, command_text}
 use Rattle.listing_text.specs.declared.showing.Shown as Code
@@ -40,10 +43,19 @@ shown exact tape = shown_from exact (length tape) tape 0 false
 
 -- ---- what the code answers of it
 
+-- the number and place of a refusal, if there is one
+abbrev pub number_told : Option Refusal → ℕ
+number_told (Some r) = number_of r.reason
+number_told None = 0
+
+abbrev pub place_told : Option Refusal → ℕ
+place_told (Some r) = r.place
+place_told None = 0
+
 -- the slice holds as much of the text as it has room for; the answer says how much that is, whether it is all, and the refusal
 pub record Shows (s : Shown) (out out' : List ℕ) (r : Code.Shown) : Type 0 where
   pub bytes_are : out' ≡ laid out s.text
   pub length_is : r.length ≡ length (take (length out) s.text)
   pub whole_is : r.whole ≡ leb (length s.text) (length out)
-  pub number_is : r.number ≡ s.number
-  pub place_is : r.place ≡ s.place
+  pub number_is : number_told r.refusal ≡ s.number
+  pub place_is : place_told r.refusal ≡ s.place

@@ -8,5 +8,5 @@ mod reading; // the exact form read
 mod room; // bytes put as far as they fit
 mod showing; // a whole tape as text
 
-pub use reading::{Made, put_tape};
+pub use reading::{Unmade, put_tape};
 pub use showing::{Shown, put_listing};

@@ -1,107 +1,68 @@
 // The exact form read, line by line and field by field.
-ghost use Rattle.std.specs.Prelude.{◌≡◌, ◌≤◌, length};
-ghost use Rattle.listing_text.specs.Room.{page, put_one};
-ghost use Rattle.listing_text.specs.Exact.{apart, fields_read, line_read, tape_of, Makes};
-ghost use Rattle.listing_text.specs.Parsed.{PutsRead, EndsAt, fields_behind, made_on};
+ghost use Rattle.std.specs.Prelude.{◌≡◌, ℕ, ◌<◌, ◌∷◌, ◌++◌, length, get_or, MatchOption};
+ghost use Rattle.listing_text.specs.Exact.{apart, line_read, tape_of, Makes};
+ghost use Rattle.listing_text.specs.Parsed.{PutsRead};
 
-use crate::fields::{Laid, put_field, put_head};
-use crate::room::{Place, put_byte};
+use crate::fields::{Malformed, put_field, put_head};
+use crate::room::Cursor;
 
-// Where the part that begins at `at` ends: at the first byte b from there on, or with the text.
-fn part_end(text: &[u8], at: usize, b: u8) -> usize
-    requires { at ≤ length text.now }
-    ensures { EndsAt b text.now at result }
+// A text up to the first byte b, and what stands behind that; nothing where it has none.
+// Kept: std's `split` takes a closure, whose steps a proof that takes two parts before a loop could not follow.
+fn split_once(text: &[u8], b: u8) -> (&[u8], Option<&[u8]>)
+    ensures without { (i : ℕ) → i < length result.0.now → get_or result.0.now i 0 ≡ b → ⊥ }
+    ensures whole { MatchOption result.1 (text.now ≡ result.0.now) (λ behind. text.now ≡ result.0.now ++ (b ∷ behind.now)) }
 {
-    let mut e = at;
-    while e < text.len() {
-        if text[e] == b {
-            return e;
+    for (i, x) in text.iter().enumerate() {
+        if *x == b {
+            return (&text[..i], Some(&text[i + 1..]));
         }
-        e += 1;
     }
-    e
-}
-
-// Puts the fields behind the one that ends at `from`, up to the first that is wrong.
-fn put_fields(line: &[u8], from: usize, out: &mut [u8], p: Place) -> Laid
-    requires { from ≤ length line.now }
-    ensures { PutsRead out.old p (fields_read (fields_behind line.now from)) out.new result }
-{
-    let mut q = p;
-    let mut e = from;
-    while e < line.len() {
-        let at = e + 1;
-        let end = part_end(line, at, b'\t');
-        let r = put_field(&line[at..end], out, q);
-        if !r.right {
-            return r;
-        }
-        q = r.place;
-        e = end;
-    }
-    Laid {
-        place: q,
-        right: true,
-    }
+    (text, None)
 }
 
 // Puts a line, up to the first field that is wrong.
-fn put_line(line: &[u8], out: &mut [u8], p: Place) -> Laid
-    ensures { PutsRead out.old p (line_read (apart 9 line.now)) out.new result }
+fn put_line(line: &[u8], out: &mut Cursor) -> Result<(), Malformed>
+    ensures { PutsRead out.old (line_read (apart 9 line.now)) out.new result }
 {
-    let a = part_end(line, 0, b'\t');
-    if line.len() <= a {
-        return Laid {
-            place: p,
-            right: false,
-        };
+    let (address, behind) = split_once(line, b'\t');
+    let Some(rest) = behind else {
+        return Err(Malformed);
+    };
+    let (indent, mut left) = split_once(rest, b'\t');
+    put_head(address, indent, out)?;
+    while let Some(fields) = left {
+        let (field, more) = split_once(fields, b'\t');
+        put_field(field, out)?;
+        left = more;
     }
-    let from = a + 1;
-    let e = part_end(line, from, b'\t');
-    let r = put_head(&line[0..a], &line[from..e], out, p);
-    if !r.right {
-        return r;
-    }
-    let q = r.place;
-    put_fields(line, e, out, q)
+    Ok(())
 }
 
-// The length of the tape; that it does not fit; or the number of the first line that is not in the exact form, from 0.
-#[derive(Clone, Copy)]
-pub enum Made {
-    Whole(usize),
+// Why a text makes no tape: the tape does not fit, or a line, counted from 0, is not in the exact form.
+#[derive(Clone, Copy, Debug, PartialEq, Eq)]
+pub enum Unmade {
     Full,
     Wrong(u64),
 }
 
-// Ends the tape.
-fn finish(out: &mut [u8], p: Place) -> Made
-    ensures { (out.new ≡ (put_one (page out.old p) 255).bytes)
-        × (result ≡ made_on (put_one (page out.old p) 255)) }
-{
-    let q = put_byte(255, out, p);
-    if q.cut {
-        return Made::Full;
-    }
-    Made::Whole(q.at)
-}
-
-// Reads the exact form: puts the tape of a text.
-pub fn put_tape(text: &[u8], out: &mut [u8]) -> Made
+// Reads the exact form: puts the tape of a text, and answers its length.
+pub fn put_tape(text: &[u8], out: &mut [u8]) -> Result<usize, Unmade>
     ensures { Makes (tape_of text.now) out.old out.new result }
 {
-    let mut p = Place { at: 0, cut: false };
-    let mut at = 0;
-    let mut n: u64 = 0;
-    while at < text.len() {
-        let e = part_end(text, at, b'\n');
-        let r = put_line(&text[at..e], out, p);
-        if !r.right {
-            return Made::Wrong(n);
+    let mut page = Cursor::new(out);
+    let mut n = 0;
+    let mut rest = text;
+    while !rest.is_empty() {
+        let (line, behind) = split_once(rest, b'\n');
+        if put_line(line, &mut page).is_err() {
+            return Err(Unmade::Wrong(n));
         }
-        p = r.place;
-        at = e + 1;
+        rest = behind.unwrap_or(&[]);
         n += 1;
     }
-    finish(out, p)
+    page.put_byte(255);
+    if page.cut {
+        return Err(Unmade::Full);
+    }
+    Ok(page.at)
 }

@@ -4,26 +4,25 @@ ghost use Rattle.tape.specs.Questions.{totals_of};
 ghost use Rattle.listing_text.specs.Showing.{begun, shown, Shows};
 
 use crate::forms::{put_command, put_line_end};
-use crate::room::Place;
-use tape::questions::{Stepped, Totals, is_end, step};
+use crate::room::Cursor;
+use answers::{Reason, Refusal};
+use tape::questions::{NONE, Totals, step};
 
-// How much of the text stands in the slice, whether it is all, and the refusal that ended it; number 0: none.
-#[derive(Clone, Copy)]
+// How much of the text stands in the slice, whether it is all, and the refusal that ended it.
+#[derive(Clone, Copy, Debug, PartialEq, Eq)]
 pub struct Shown {
     pub length: usize,
     pub whole: bool,
-    pub number: u64,
-    pub place: usize,
+    pub refusal: Option<Refusal>,
 }
 
-fn told(p: Place, number: u64, place: usize) -> Shown
-    ensures { result ≡ record { length = p.at; whole = not p.cut; number = number; place = place } }
+fn told(page: &Cursor, refusal: Option<Refusal>) -> Shown
+    ensures { result ≡ record { length = page.now.at; whole = not page.now.cut; refusal = refusal } }
 {
     Shown {
-        length: p.at,
-        whole: !p.cut,
-        number,
-        place,
+        length: page.at,
+        whole: !page.cut,
+        refusal,
     }
 }
 
@@ -32,19 +31,11 @@ fn told(p: Place, number: u64, place: usize) -> Shown
 fn begun(at: usize, fresh: bool) -> Totals
     ensures { totals_of result ≡ begun at fresh }
 {
-    if at == 0 {
-        return Totals {
-            lines: 0,
-            tokens: 0,
-            text: 0,
-            fresh,
-        };
-    }
+    let lines = usize::from(at != 0);
     Totals {
-        lines: 1,
-        tokens: 0,
-        text: 0,
+        lines,
         fresh,
+        ..NONE
     }
 }
 
@@ -53,30 +44,24 @@ fn begun(at: usize, fresh: bool) -> Totals
 pub fn put_listing(tape: &[u8], exact: bool, out: &mut [u8]) -> Shown
     ensures { Shows (shown exact tape.now) out.old out.new result }
 {
-    let mut p = Place { at: 0, cut: false };
+    let mut page = Cursor::new(out);
     let mut at = 0;
     let mut fresh = false;
-    let mut turns = tape.len();
-    while 0 < turns {
-        match step(tape, at, begun(at, fresh)) {
-            Stepped::Refused { number, place } => {
-                let q = put_line_end(at, out, p);
-                return told(q, number, place);
-            }
-            Stepped::Passed {
-                command,
-                next,
-                totals,
-            } => {
-                p = put_command(tape, at, next, command, exact, out, p);
-                if is_end(command) {
-                    return told(p, 0, 0);
+    for _ in 0..tape.len() {
+        match step::<false>(tape, at, begun(at, fresh)) {
+            Ok(advance) => {
+                put_command(tape, at, advance.next, advance.command, exact, &mut page);
+                if advance.command.is_end() {
+                    return told(&page, None);
                 }
-                at = next;
-                fresh = totals.fresh;
+                at = advance.next;
+                fresh = advance.totals.fresh;
+            }
+            Err(refusal) => {
+                put_line_end(at, &mut page);
+                return told(&page, Some(refusal));
             }
         }
-        turns -= 1;
     }
-    told(p, 3, at)
+    told(&page, Some(Reason::NoCommand.at(at)))
 }

@@ -1,39 +1,34 @@
--- Digits by index, and `numbered` of a name that begins with an r. Assumes nothing.
+-- Digits, suffixes, and `numbered` of a name that begins with an r. Assumes nothing.
 use Prim.Native.Nat.{ℕ, suc, ◌+◌, ◌≤◌, ◌<◌}
 use native.Mathlib.Omega.{arith}
-use native.Mathlib.Numerals.{add-one}
 use mathlib.Core.Path.{◌≡◌, refl, sym, ap, ◌∙◌}
-use mathlib.Core.Logic.{◌⊎◌, inl, inr}
-use mathlib.Core.Bool.{Bool, true, false, false≢true}
+use mathlib.Core.Bool.{Bool, true, false, cond, false≢true}
 use mathlib.Core.List.{[], ◌∷◌}
-use mathlib.Core.Option.{Option, none, some}
-use lib.ListN.{length, get_or, take, drop, drop_of_length-le, length-drop}
-use lib.Seq.{drop-cons}
+use mathlib.Core.Option.{none, some}
+use lib.ListN.{length, get_or, take, drop, length-drop}
 use borrow.Author.Tests.{eqb-true, ne_eqb, leb-true}
+use Rattle.std.specs.List.{prefix_len}
 use Rattle.reference.specs.Control.{◌and◌, ◌or◌, when◌then◌else◌, let_some◌else◌then◌}
 use Rattle.reference.specs.Lists.{is_empty}
-use Rattle.reference.specs.Text.{Text, bytes, strip_prefix, starts_with, ◌≟◌}
+use Rattle.reference.specs.Text.{Text, bytes, strip_prefix, starts_with}
 use Rattle.reference.specs.Names.{is_digit, digits_of, suffix, stack_slot, numbered}
 use Rattle.laws.proofs.Scans.{if-true, if-false, same_lengths}
 use Rattle.reference.proofs.Cases.{both}
 use Rattle.names.specs.declared.families.Spelled.TheVariants.{Front, Nothing}
-use Rattle.names.specs.Families.{Spells, suffix_width}
+use Rattle.names.specs.Families.{Spells}
 use Rattle.names.proofs.Texts.{empty, single}
 use Rattle.names.proofs.Spelling.{low_second}
 
--- ---- the digits from i on
+-- ---- digits
 
-module _ (s : Text) (i : ℕ) where
-  pub digits_go : i < length s → is_digit (get_or s i 0) ≡ true → length (digits_of (drop i s)) ≡ 1 + length (digits_of (drop (i + 1) s))
-  unfolding when◌then◌else◌
-  digits_go h e = rw (add-one, drop-cons s i 0 h, e) (omega arith)
-
-  pub digits-stop : i < length s → is_digit (get_or s i 0) ≡ false → length (digits_of (drop i s)) ≡ 0
-  unfolding when◌then◌else◌
-  digits-stop h e = rw (drop-cons s i 0 h, e)
-
-  pub digits_end : length s ≤ i → length (digits_of (drop i s)) ≡ 0
-  digits_end h = rw (drop_of_length-le s {i = i} h)
+pub digits-prefix : (l : Text) → length (digits_of l) ≡ prefix_len is_digit l
+unfolding when◌then◌else◌
+digits-prefix [] = refl
+digits-prefix (c ∷ cs) = step (is_digit c) (digits-prefix cs)
+  where
+    step : (b : Bool) → length (digits_of cs) ≡ prefix_len is_digit cs → length (when b then c ∷ digits_of cs else []) ≡ cond b (1 + prefix_len is_digit cs) 0
+    step true e = omega (arith, e)
+    step false e = refl
 
 digits-take : (l : Text) → take (length (digits_of l)) l ≡ digits_of l
 unfolding when◌then◌else◌
@@ -73,46 +68,28 @@ a_digit (x ∷ d) n = refl
 
 -- ---- the suffix
 
-some_width : (o : Option ℕ) → ((let_some o else 0 then λ w. w) ≡ 0 → ⊥) → o ≡ some (let_some o else 0 then λ w. w)
-unfolding let_some◌else◌then◌
-some_width none n = absurd (n refl)
-some_width (some w) n = refl
-
--- `suffix` by its tests
-abbrev chosen : Bool → Bool → Bool → Bool → Bool → Option ℕ
-chosen a b c d e = when a then some 64 else when b then some 32 else when c then some 16 else when d or e then some 8 else none
-
-no_width : (a b c d e : Bool) → (let_some (chosen a b c d e) else 0 then λ w. w) ≡ 0 → chosen a b c d e ≡ none
-unfolding when◌then◌else◌ let_some◌else◌then◌ ◌or◌
-no_width true b c d e z = absurd (omega arith)
-no_width false true c d e z = absurd (omega arith)
-no_width false false true d e z = absurd (omega arith)
-no_width false false false true e z = absurd (omega arith)
-no_width false false false false true z = absurd (omega arith)
-no_width false false false false false z = refl
-
 module _ (s : Text) where
-  pub no_suffix : length s ≡ 0 → 64 ≡ suffix_width s
-  unfolding suffix_width suffix when◌then◌else◌ let_some◌else◌then◌
+  pub no_suffix : length s ≡ 0 → some 64 ≡ suffix s
+  unfolding suffix when◌then◌else◌
   no_suffix e = rw (empty s e)
 
-  pub long_suffix : (length s ≡ 0 → ⊥) → (length s ≡ 1 → ⊥) → 0 ≡ suffix_width s
-  unfolding suffix_width suffix when◌then◌else◌ let_some◌else◌then◌ ◌or◌
-  long_suffix m n =
+  pub long_suffix : 2 ≤ length s → none ≡ suffix s
+  unfolding suffix when◌then◌else◌ ◌or◌
+  long_suffix n =
       rw (
-        same_lengths s [] m,
-        same_lengths s (bytes "d") n,
-        same_lengths s (bytes "w") n,
-        same_lengths s (bytes "b") n,
-        same_lengths s (bytes "l") n,
+        same_lengths s [] (λ e. omega arith),
+        same_lengths s (bytes "d") (λ e. omega arith),
+        same_lengths s (bytes "w") (λ e. omega arith),
+        same_lengths s (bytes "b") (λ e. omega arith),
+        same_lengths s (bytes "l") (λ e. omega arith),
       )
 
-  pub one_suffix : length s ≡ 1 → {b : ℕ} → get_or s 0 0 ≡ b → suffix_width (b ∷ []) ≡ suffix_width s
-  one_suffix h e = ap suffix_width (sym (single s h ∙ ap (λ (x : ℕ). x ∷ []) e))
+  pub one_suffix : length s ≡ 1 → (b : ℕ) → get_or s 0 0 ≡ b → suffix (b ∷ []) ≡ suffix s
+  one_suffix h b e = ap suffix (sym (single s h ∙ ap (λ (x : ℕ). x ∷ []) e))
 
-pub other-suffix : (b : ℕ) → (b ≡ 100 → ⊥) → (b ≡ 119 → ⊥) → ((b ≡ 98) ⊎ (b ≡ 108) → ⊥) → 0 ≡ suffix_width (b ∷ [])
-unfolding suffix_width suffix when◌then◌else◌ let_some◌else◌then◌ ◌or◌ ◌and◌
-other-suffix b d w l = rw (ne_eqb b 100 d, ne_eqb b 119 w, ne_eqb b 98 (λ e. l (inl e)), ne_eqb b 108 (λ e. l (inr e)))
+pub other-suffix : (b : ℕ) → (b ≡ 100 → ⊥) → (b ≡ 119 → ⊥) → (b ≡ 98 → ⊥) → (b ≡ 108 → ⊥) → none ≡ suffix (b ∷ [])
+unfolding suffix when◌then◌else◌ ◌or◌ ◌and◌
+other-suffix b d w l m = rw (ne_eqb b 100 d, ne_eqb b 119 w, ne_eqb b 98 l, ne_eqb b 108 m)
 
 -- ---- a name with no r in front
 
@@ -122,7 +99,17 @@ other-numbered s e = rw e
 
 -- ---- a name with an r in front, and n where its digits end
 
-module _ (s : Text) (r : starts_with s (bytes "r") ≡ true) {n : ℕ} (en : n ≡ 1 + length (digits_of (drop 1 s))) where
+pub nonempty : (s : Text) → starts_with s (bytes "r") ≡ true → 1 ≤ length s
+nonempty [] r = absurd (false≢true r)
+nonempty (x ∷ s) r = omega arith
+
+module _ (s : Text) (r : starts_with s (bytes "r") ≡ true) {m : ℕ} (em : m ≡ prefix_len is_digit (drop 1 s)) where
+  abbrev n : ℕ
+  n = 1 + m
+
+  en : n ≡ 1 + length (digits_of (drop 1 s))
+  en = omega (arith, digits-prefix (drop 1 s))
+
   opened : numbered s ≡ (when is_empty (digits_of (drop 1 s)) then stack_slot s else let_some (suffix (drop n s)) else none then λ w. some (record { name = take n s; width = w; lowest = 0 }))
   unfolding numbered strip_prefix let_some◌else◌then◌ when◌then◌else◌
   opened = split s r en
@@ -135,25 +122,18 @@ module _ (s : Text) (r : starts_with s (bytes "r") ≡ true) {n : ℕ} (en : n �
           let e : x ≡ 114 = eqb-true x 114 (both r).0 in
           rw (r, t, e, digits-take s)
 
-  nonempty : 1 ≤ length s
-  nonempty = split s r
-    where
-      split : (s : Text) → starts_with s (bytes "r") ≡ true → 1 ≤ length s
-      split [] r = absurd (false≢true r)
-      split (x ∷ s) r = omega arith
-
   pub most : n ≤ length s
-  most = omega (arith, nonempty, digits-most (drop 1 s), length-drop 1 s)
+  most = omega (arith, en, nonempty s r, digits-most (drop 1 s), length-drop 1 s)
 
-  pub bare : n ≡ 1 → numbered s ≡ stack_slot s
-  bare e = opened ∙ if-true _ _ (no_digits (digits_of (drop 1 s)) (omega arith))
+  pub bare : m ≡ 0 → numbered s ≡ stack_slot s
+  bare e = opened ∙ if-true _ _ (no_digits (digits_of (drop 1 s)) (omega (arith, en)))
 
-  module _ (digits : n ≡ 1 → ⊥) where
+  module _ (digits : m ≡ 0 → ⊥) where
     go : numbered s ≡ (let_some (suffix (drop n s)) else none then λ w. some (record { name = take n s; width = w; lowest = 0 }))
-    go = opened ∙ if-false _ _ (a_digit (digits_of (drop 1 s)) (λ e. digits (omega arith)))
+    go = opened ∙ if-false _ _ (a_digit (digits_of (drop 1 s)) (λ e. digits (omega (arith, en))))
 
     second : get_or (take n s) 1 0 < 97
-    second = split s r en digits
+    second = split s r en (λ e. digits (omega arith))
       where
         split : (s : Text) → starts_with s (bytes "r") ≡ true → n ≡ 1 + length (digits_of (drop 1 s)) → (n ≡ 1 → ⊥) → get_or (take n s) 1 0 < 97
         split [] r en f = absurd (false≢true r)
@@ -161,16 +141,10 @@ module _ (s : Text) (r : starts_with s (bytes "r") ≡ true) {n : ℕ} (en : n �
             let t : n ≡ suc (length (digits_of s)) = omega arith in
             rw (t, digits-take s) (digit-first s (λ e. f (omega arith)))
 
-    module _ {w : ℕ} (ew : w ≡ suffix_width (drop n s)) where
-      pub unnumbered : w ≡ 0 → Spells s (numbered s) Nothing
-      unfolding suffix_width suffix let_some◌else◌then◌
-      unnumbered z =
-          let t : Text = drop n s in
-          let e : suffix t ≡ none = no_width (t ≟ []) (t ≟ bytes "d") (t ≟ bytes "w") (t ≟ bytes "b") (t ≟ bytes "l") (sym ew ∙ z) in
-          record { is = sym (go ∙ rw e); sound = tt }
+    pub unnumbered : none ≡ suffix (drop n s) → Spells s (numbered s) Nothing
+    unfolding let_some◌else◌then◌
+    unnumbered e = record { is = sym (go ∙ rw (sym e)); sound = tt }
 
-      pub with_number : (w ≡ 0 → ⊥) → Spells s (numbered s) (Front n w)
-      unfolding suffix_width let_some◌else◌then◌
-      with_number z =
-          let e : suffix (drop n s) ≡ some w = some_width (suffix (drop n s)) (λ f. z (ew ∙ f)) ∙ ap some (sym ew) in
-          record { is = sym (go ∙ rw e); sound = (most, low_second (take n s) second) }
+    pub with_number : {w : ℕ} → some w ≡ suffix (drop n s) → Spells s (numbered s) (Front n w)
+    unfolding let_some◌else◌then◌
+    with_number e = record { is = sym (go ∙ rw (sym e)); sound = (most, low_second (take n s) second) }

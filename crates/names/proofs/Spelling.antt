@@ -10,6 +10,7 @@ use lib.Dec.{eqb, leb}
 use lib.ListN.{length, get_or, get_or-map}
 use lib.Seq.{take-length}
 use borrow.Author.Tests.{eqb-true, leb-true}
+use Rattle.std.proofs.Common as std
 use Rattle.reference.specs.Control.{◌and◌, when◌then◌else◌, let_some◌else◌then◌}
 use Rattle.reference.specs.Lists.{position}
 use Rattle.reference.specs.Text.{Text, bytes, starts_with, ◌≟◌}
@@ -17,7 +18,6 @@ use Rattle.reference.specs.Names.{LEGACY, legacy, stack_slot, numbered, high_byt
 use Rattle.laws.proofs.Scans.{if-true, if-false, same_lengths}
 use Rattle.reference.proofs.Cases.{both, fails}
 use Rattle.names.specs.declared.families.Spelled.TheVariants.{Row, Front, Nothing}
-use Rattle.names.specs.declared.families.Listed.TheVariants.{At, Nothing as Unlisted}
 use Rattle.names.specs.Families.{ROWS, row_name, is_row, Spells, Lists}
 use Rattle.names.proofs.Searches.{all, all-below, below_at, position_none, position_at, any_at}
 use Rattle.names.proofs.Texts.{same_true, has_all}
@@ -87,13 +87,13 @@ module _ (s : Text) where
 
   -- ---- the table first
 
-  pub in_table : {r w : ℕ} → Lists LEGACY s (At r w) → Spells s (family s) (Row r w 0)
+  pub in_table : {r w : ℕ} → Lists LEGACY s (std.Some (record { row = r; width = w })) → Spells s (family s) (Row r w 0)
   unfolding family let_some◌else◌then◌
   in_table {r} {w} h =
       let e : row_name r ≡ get_or (get_or LEGACY r []) 0 [] = get_or-map (λ (names : List Text). get_or names 0 []) LEGACY r [] in
       record { is = ap (λ (l : Text). some (record { name = l; width = w; lowest = 0 })) e ∙ rw (sym h.is); sound = h.inside }
 
-  pub not_in-table : Lists LEGACY s Unlisted → family s ≡ high_byte s
+  pub not_in-table : Lists LEGACY s std.None → family s ≡ high_byte s
   unfolding family let_some◌else◌then◌
   not_in-table h = rw (sym h.is)
 

@@ -1,77 +1,35 @@
 -- A row of the table and the table, row by row. Assumes nothing.
-use Prim.Native.Nat.{ℕ, suc, ◌+◌, ◌≤◌, ◌<◌}
-use native.Mathlib.Omega.{arith}
-use native.Mathlib.Numerals.{add-one}
-use mathlib.Core.Path.{◌≡◌, sym, ap, ◌∙◌}
-use mathlib.Core.Bool.{true, false}
-use mathlib.Core.List.{List, [], ◌∷◌, map}
-use mathlib.Core.Option.{Option, none, some}
-use lib.ListN.{length, get_or, take, drop, drop_of_length-le, length-map, get_or-map}
+use Rattle.std.proofs.Common.{◌≡◌, ℕ, suc, ◌+◌, ◌≤◌, ◌<◌, List, [], ◌∷◌, map, length, get_or, drop, sym, ap, ◌∙◌, arith, add-one, IfSome}
+use Rattle.std.proofs.Common as std
+use Rattle.std.proofs.Math.Option.{Option, none, some}
+use Rattle.std.proofs.lemmas.List.{length-map}
+use lib.ListN.{get_or-map, drop_of_length-le}
 use lib.Seq.{drop-cons}
-use borrow.Author.Tests.{eq-eqb, ne_eqb, lt-ltb, le-ltb}
-use Rattle.reference.specs.Control.{when◌then◌else◌, let_some◌else◌then◌}
+use Rattle.reference.specs.Control.{let_some◌else◌then◌}
 use Rattle.reference.specs.Lists.{position}
+use Rattle.reference.specs.Options.{option_of}
 use Rattle.reference.specs.Text.{Text, ◌≟◌}
 use Rattle.reference.specs.Names.{Fam, legacy}
-use Rattle.laws.proofs.Scans.{if-true, if-false, from, position-begin, position_hit, position_miss, position_end}
-use Rattle.names.specs.declared.families.Listed.TheVariants.{At, Nothing as Unlisted}
-use Rattle.names.specs.Tables.{unpadded, found, Column}
+use Rattle.laws.proofs.Scans.{position-map}
+use Rattle.names.specs.Tables.{unpadded, Column}
 use Rattle.names.specs.Families.{Lists}
-
--- ---- a name
-
-module _ (name : Text) where
-  pub two_bytes : get_or name 2 0 ≡ 0 → unpadded name ≡ take 2 name
-  unfolding unpadded
-  two_bytes e = if-true _ _ (eq-eqb (get_or name 2 0) 0 e)
-
-  pub three-bytes : (get_or name 2 0 ≡ 0 → ⊥) → unpadded name ≡ name
-  unfolding unpadded
-  three-bytes n = if-false _ _ (ne_eqb (get_or name 2 0) 0 n)
+use Rattle.names.proofs.Searches.{position_at}
 
 -- ---- a place in a row
-
-pub found_some : {n : ℕ} → n < 4 → found n ≡ some n
-unfolding found
-found_some {n} h = if-true _ _ (lt-ltb n 4 h)
-
-pub found_none : {n : ℕ} → 4 ≤ n → found n ≡ none
-unfolding found
-found_none {n} h = if-false _ _ (le-ltb n 4 h)
 
 module _ (row : List Text) (s : Text) where
   abbrev pub place : Option ℕ
   place = position (◌≟ s) (map unpadded row)
 
-  -- the search from i on
-  abbrev pub Sought : ℕ → Type 0
-  Sought i = place ≡ from i (position (◌≟ s) (drop i (map unpadded row)))
+  within : (r : std.Option ℕ) → length row ≡ 4 → option_of r ≡ place → IfSome r (λ i. i < 4)
+  within std.None h e = tt
+  within (std.Some i) h e = let w : length (map unpadded row) ≡ 4 = rw length-map h in omega (arith, (position_at (◌≟ s) (map unpadded row) [] (sym e)).0)
 
-  pub seek : Sought 0
-  seek = position-begin (◌≟ s) (map unpadded row)
-
-  module _ (i : ℕ) (h : i < length row) (inv : Sought i) where
-    here : get_or (map unpadded row) i [] ≡ unpadded (get_or row i [])
-    unfolding unpadded when◌then◌else◌
-    here = get_or-map unpadded row i []
-
-    inside : i < length (map unpadded row)
-    inside = rw length-map h
-
-    pub hit : i < 4 → (unpadded (get_or row i []) ≟ s) ≡ true → Column row s i
-    hit k e = record {
-      most = omega arith;
-      is = found_some k ∙ sym (inv ∙ position_hit (◌≟ s) (map unpadded row) i [] inside (ap (◌≟ s) here ∙ e));
-    }
-
-    pub pass : (unpadded (get_or row i []) ≟ s) ≡ false → Sought (i + 1)
-    pass e = inv ∙ position_miss (◌≟ s) (map unpadded row) i [] inside (ap (◌≟ s) here ∙ e)
-
-  pub missed : {i : ℕ} → length row ≡ 4 → i ≡ 4 → Sought i → Column row s i
-  missed {i} l e inv = record {
-    most = omega arith;
-    is = found_none (omega arith) ∙ sym (inv ∙ position_end (◌≟ s) (map unpadded row) i (rw length-map (omega arith)));
-  }
+  -- what a search of the row as it lies answers
+  pub column : (r : std.Option ℕ) → length row ≡ 4 → option_of r ≡ position (λ (name : Text). unpadded name ≟ s) row → Column row s r
+  column r h e =
+      let f : option_of r ≡ place = e ∙ sym (position-map (◌≟ s) unpadded row) in
+      record { within = within r h f; is = f }
 
 -- ---- a table, row by row
 
@@ -101,7 +59,7 @@ module _ (padded : List (List Text)) (s : Text) where
     unfolding legacy next
     at_row = inv ∙ rw (drop-cons table i [] inside-table) (ap (λ (r : List Text). next (position (◌≟ s) r)) row_here)
 
-    pub row_hit : {k w : ℕ} → position (◌≟ s) (map unpadded (get_or padded i [])) ≡ some k → w ≡ get_or WIDTHS k 0 → Lists table s (At i w)
+    pub row_hit : {k w : ℕ} → position (◌≟ s) (map unpadded (get_or padded i [])) ≡ some k → w ≡ get_or WIDTHS k 0 → Lists table s (std.Some (record { row = i; width = w }))
     unfolding next let_some◌else◌then◌
     row_hit e f = record { is = sym (at_row ∙ rw (e, f)); inside = inside-table }
 
@@ -109,6 +67,6 @@ module _ (padded : List (List Text)) (s : Text) where
     unfolding next let_some◌else◌then◌
     row_miss e = at_row ∙ rw (e, add-one)
 
-  pub rows_end : {i : ℕ} → length padded ≤ i → Listed-from i → Lists table s Unlisted
+  pub rows_end : {i : ℕ} → length padded ≤ i → Listed-from i → Lists table s std.None
   unfolding legacy
   rows_end {i} h inv = record { is = sym (inv ∙ rw (drop_of_length-le table {i = i} (rw length-map h))); inside = tt }

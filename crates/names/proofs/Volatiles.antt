@@ -1,28 +1,30 @@
 -- The families that a call overwrites, by number: the constant lists have the names of the definition's lists, and a text has the number of
 -- its name. Assumes nothing.
-use Prim.Native.Nat.{ℕ, ◌+◌, ◌≤◌, ◌<◌}
-use native.Mathlib.Omega.{arith}
+use Prim.Native.Nat.{ℕ, ◌+◌, ◌<◌}
 use mathlib.Core.Path.{◌≡◌, refl, sym, ap, ◌∙◌}
 use mathlib.Core.Bool.{Bool, true, false}
 use mathlib.Core.List.{List, [], ◌∷◌, ◌++◌, map}
 use mathlib.Core.Option.{Option, none, some}
-use native.Mathlib.Decide.{dec_lt, ℕ_discrete}
+use native.Mathlib.Decide.{ℕ_discrete}
 use mathlib.Core.Logic.{by_cases}
 use lib.Dec.{eqb, ltb}
 use lib.ListN.{get_or}
 use lib.Seq.{get_or-append-add}
-use borrow.Author.Tests.{eq-eqb, ne_eqb, ltb-true}
+use borrow.Author.Tests.{ne_eqb, ltb-true}
+use Rattle.std.proofs.Common as std
+use Rattle.std.specs.List.{list_any}
+use Rattle.std.specs.Option.{unwrap_or}
+use Rattle.reference.specs.Options.{option_of}
 use Rattle.reference.specs.Control.{◌and◌, when◌then◌else◌, let_some◌else◌then◌}
 use Rattle.reference.specs.Lists.{any, position}
 use Rattle.reference.specs.Text.{Text, ◌≟◌, has}
 use Rattle.reference.specs.Names.{volatile_of}
 use Rattle.laws.proofs.Scans.{or_false, any-map, any_append}
-use Rattle.names.specs.Tables.{found}
+use Rattle.laws.proofs.Std.{eqb_turn, contains-std}
 use Rattle.names.specs.Families.{ROWS, row_name, is_row}
 use Rattle.names.specs.Volatile.{NEW, name_numbered, number_of}
 use Rattle.names.proofs.Searches.{all, any-agree, none_at, position_none, position_at}
 use Rattle.names.proofs.Texts.{same_true}
-use Rattle.names.proofs.Tables.{found_some, found_none}
 use Rattle.names.proofs.Same.{same_name, has-name, row_number}
 
 -- ---- lists of numbers
@@ -35,16 +37,14 @@ pub record Numbers (volatile : List Text) (numbers : List ℕ) : Type 0 where
   pub known_all : all known numbers ≡ true
   pub named : map name_numbered numbers ≡ volatile
 
-turn : (a b : ℕ) → eqb a b ≡ eqb b a
-turn a b = by_cases (ℕ_discrete a b) (λ e. eq-eqb a b e ∙ sym (eq-eqb b a (sym e))) (λ n. ne_eqb a b n ∙ sym (ne_eqb b a (λ e. n (sym e))))
-
 module _ {volatile : List Text} {numbers : List ℕ} (h : Numbers volatile numbers) where
   by_name : (s : Text) → has volatile s ≡ any (λ k. name_numbered k ≟ s) numbers
   by_name s = ap (λ (l : List Text). has l s) (sym h.named) ∙ any-map (◌≟ s) name_numbered numbers
 
-  pub by_number : (n : ℕ) → any (eqb n) numbers ≡ has volatile (name_numbered n)
+  pub by_number : (n : ℕ) → list_any (λ y. eqb y n) numbers ≡ has volatile (name_numbered n)
   by_number n =
-      any-agree known (eqb n) (λ k. name_numbered k ≟ name_numbered n) numbers h.known_all (λ k e. sym (same_name k n (ltb-true k 12 e) ∙ turn k n))
+      contains-std numbers n
+      ∙ any-agree known (eqb n) (λ k. name_numbered k ≟ name_numbered n) numbers h.known_all (λ k e. sym (same_name k n (ltb-true k 12 e) ∙ eqb_turn k n))
       ∙ sym (by_name (name_numbered n))
 
 module _ (c : ℕ) where
@@ -62,14 +62,10 @@ module _ (c : ℕ) where
 
 -- ---- the number of a text
 
-pub numbered : (s : Text) {r : ℕ} → r ≤ 4 → found r ≡ position (◌≟ s) NEW → 8 + r ≡ number_of s
+pub numbered : (s : Text) (o : std.Option ℕ) → option_of o ≡ position (◌≟ s) NEW → 8 + unwrap_or o 4 ≡ number_of s
 unfolding number_of let_some◌else◌then◌
-numbered s {r} h e =
-    by_cases (dec_lt r 4)
-    (λ k. rw (sym e ∙ found_some k))
-    (λ k.
-    let z : r ≡ 4 = omega (arith, k) in
-    rw (sym e ∙ found_none (omega arith), z))
+numbered s std.None e = rw (sym e)
+numbered s (std.Some i) e = rw (sym e)
 
 module _ (s : Text) (other : is_row s ≡ false) where
   -- a text with a number has that number's name

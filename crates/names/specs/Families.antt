@@ -1,13 +1,12 @@
 -- What the code's answers on families mean. Assumes nothing.
 use Rattle.std.specs.Prelude.{ℕ, ◌≤◌, ◌<◌, ◌≡◌, Bool, false, List, [], map, length, get_or, take}
+use Rattle.std.specs.Prelude as std
 use Rattle.std.proofs.Math.Option.{Option, none, some}
-use Rattle.reference.specs.Control.{let_some◌else◌then◌}
 use Rattle.reference.specs.Text.{Text, has}
-use Rattle.reference.specs.Names.{Fam, LEGACY, legacy, suffix}
+use Rattle.reference.specs.Names.{Fam, LEGACY, legacy}
 use Rattle.names.specs.declared.families.Spelled.{Spelled}
 use Rattle.names.specs.declared.families.Spelled.TheVariants.{Row, Front, Nothing}
 use Rattle.names.specs.declared.families.Listed.{Listed}
-use Rattle.names.specs.declared.families.Listed.TheVariants.{At, Nothing as Unlisted}
 
 -- the families of the table, by row
 abbrev pub ROWS : List Text
@@ -38,20 +37,14 @@ pub record Spells (s : Text) (o : Option Fam) (r : Spelled) : Type 0 where
 
 -- ---- in a table
 
-abbrev pub listed : List (List Text) → Listed → Option Fam
-listed table (At r w) = some (record { name = get_or (get_or table r []) 0 []; width = w; lowest = 0 })
-listed table Unlisted = none
+abbrev pub listed : List (List Text) → std.Option Listed → Option Fam
+listed table (std.Some l) = some (record { name = get_or (get_or table l.row []) 0 []; width = l.width; lowest = 0 })
+listed table std.None = none
 
-abbrev pub In : List (List Text) → Listed → Type 0
-In table (At r w) = r < length table
-In table Unlisted = Unit
+abbrev pub In : List (List Text) → std.Option Listed → Type 0
+In table (std.Some l) = l.row < length table
+In table std.None = Unit
 
-pub record Lists (table : List (List Text)) (s : Text) (r : Listed) : Type 0 where
+pub record Lists (table : List (List Text)) (s : Text) (r : std.Option Listed) : Type 0 where
   pub is : listed table r ≡ legacy table s
   pub inside : In table r
-
--- ---- a suffix
-
--- 0 for none
-unfoldable pub suffix_width : Text → ℕ
-suffix_width s = let_some (suffix s) else 0 then λ w. w

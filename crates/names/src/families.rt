@@ -1,8 +1,10 @@
 // `family` of the Rust, in the order of its tests: the table, the high bytes, r with digits, stack slots. No text is copied.
-ghost use Rattle.std.specs.Prelude.{◌+◌, ◌<◌, ◌≡◌, [], ◌∷◌, map, length, get_or, drop};
-ghost use Rattle.reference.specs.Names.{LEGACY, is_digit, digits_of, stack_slot, numbered, high_byte, family};
+ghost use Rattle.std.specs.Prelude.{◌≡◌, map};
+ghost use Rattle.std.specs.List.{prefix_len};
+ghost use Rattle.reference.specs.Options.{option_of};
+ghost use Rattle.reference.specs.Names.{LEGACY, is_digit, suffix, stack_slot, numbered, high_byte, family};
 ghost use Rattle.names.specs.Tables.{unpadded};
-ghost use Rattle.names.specs.Families.{Spells, Lists, suffix_width};
+ghost use Rattle.names.specs.Families.{Spells, Lists};
 
 use crate::rows::column_in;
 use text::{begins_slot, starts};
@@ -29,6 +31,7 @@ const HIGH: [[u8; 3]; 4] = [*b"ah\0", *b"bh\0", *b"ch\0", *b"dh\0"];
 
 // What the bytes of a name say: a row of the table, its width and its lowest bit; or how many of its bytes name its family, and its
 // width, from bit 0.
+// Kept: three cases of one answer, since `Option` around two of them takes two matches in place of one (d).
 #[derive(Clone, Copy)]
 pub enum Spelled {
     Row(u64, u64, u64),
@@ -36,80 +39,61 @@ pub enum Spelled {
     Nothing,
 }
 
-// A row and a width.
+// A row of the table, and the width of a name in it.
 #[derive(Clone, Copy)]
-enum Listed {
-    At(u64, u64),
-    Nothing,
-}
-
-// The width of the names in a column.
-fn column_width(column: usize) -> u64
-    requires { column < 4 }
-    ensures { result ≡ get_or (64 ∷ 32 ∷ 16 ∷ 8 ∷ []) column 0 }
-{
-    WIDTHS[column]
+struct Listed {
+    row: u64,
+    width: u64,
 }
 
 // The first row that has s among its names, and s's width there.
-fn legacy_in(s: &[u8], names: &[[[u8; 3]; 4]]) -> Listed
-    ensures { Lists (map (map unpadded) names.now) s.now result }
+fn legacy_in(s: &[u8], table: &[[[u8; 3]; 4]]) -> Option<Listed>
+    ensures { Lists (map (map unpadded) table.now) s.now result }
 {
-    let mut row = 0;
-    while row < names.len() {
-        let column = column_in(s, names[row]);
-        if column < 4 {
-            return Listed::At(row as u64, column_width(column));
+    for (row, names) in table.iter().enumerate() {
+        if let Some(column) = column_in(s, names) {
+            return Some(Listed {
+                row: row as u64,
+                width: WIDTHS[column],
+            });
         }
-        row += 1;
     }
-    Listed::Nothing
+    None
 }
 
-// A name of the table, which is laid out once here and lent.
-fn legacy(s: &[u8]) -> Listed
+// A name of the table.
+fn legacy(s: &[u8]) -> Option<Listed>
     ensures { Lists LEGACY s.now result }
 {
-    let names = NAMES;
-    legacy_in(s, &names)
+    legacy_in(s, &NAMES)
 }
 
 fn is_digit(b: u8) -> bool
     ensures { result ≡ is_digit b }
 {
-    b'0' <= b && b <= b'9'
+    b.is_ascii_digit()
 }
 
-// Where the digits that stand from place 1 on end.
-fn digits_end(s: &[u8]) -> usize
-    ensures { result ≡ 1 + length (digits_of (drop 1 s.now)) }
+// How many digits stand in front.
+fn digits(s: &[u8]) -> usize
+    ensures { result ≡ prefix_len is_digit s.now }
 {
-    let mut i = 1;
-    while i < s.len() {
-        if !is_digit(s[i]) {
-            return i;
-        }
-        i += 1;
-    }
-    i
+    s.iter().take_while(|b| is_digit(**b)).count()
 }
 
-// The width that a numbered register's suffix says; 0 for none.
-fn suffix(s: &[u8]) -> u64
-    ensures { result ≡ suffix_width s.now }
+// The width that a numbered register's suffix says.
+fn suffix(s: &[u8]) -> Option<u64>
+    ensures { option_of result ≡ suffix s.now }
 {
-    if s.len() == 0 {
-        return 64;
-    }
-    if s.len() != 1 {
-        return 0;
-    }
-    let b = s[0];
-    match b {
-        b'd' => 32,
-        b'w' => 16,
-        b'b' | b'l' => 8,
-        _ => 0,
+    match s {
+        [] => Some(64),
+        [b] => match *b {
+            b'd' => Some(32),
+            b'w' => Some(16),
+            b'b' | b'l' => Some(8),
+            _ => None,
+        },
+        _ => None,
     }
 }
 
@@ -118,9 +102,10 @@ fn stack_slot(s: &[u8]) -> Spelled
     ensures { Spells s.now (stack_slot s.now) result }
 {
     if begins_slot(s) {
-        return Spelled::Front(s.len(), 64);
+        Spelled::Front(s.len(), 64)
+    } else {
+        Spelled::Nothing
     }
-    Spelled::Nothing
 }
 
 // r with digits and a suffix, and what follows it.
@@ -130,26 +115,24 @@ fn numbered(s: &[u8]) -> Spelled
     if !starts(s, b"r") {
         return stack_slot(s);
     }
-    let n = digits_end(s);
-    if n == 1 {
+    let n = digits(&s[1..]);
+    if n == 0 {
         return stack_slot(s);
     }
-    let width = suffix(&s[n..]);
-    if width == 0 {
-        return Spelled::Nothing;
+    match suffix(&s[1 + n..]) {
+        Some(width) => Spelled::Front(1 + n, width),
+        None => Spelled::Nothing,
     }
-    Spelled::Front(n, width)
 }
 
 // ah, bh, ch, dh, which begin at bit 8, and what follows them.
 fn high_byte(s: &[u8]) -> Spelled
     ensures { Spells s.now (high_byte s.now) result }
 {
-    let row = column_in(s, HIGH);
-    if row < 4 {
-        return Spelled::Row(row as u64, 8, 8);
+    match column_in(s, &HIGH) {
+        Some(row) => Spelled::Row(row as u64, 8, 8),
+        None => numbered(s),
     }
-    numbered(s)
 }
 
 // The family, the width and the lowest bit of a name.
@@ -161,7 +144,7 @@ pub fn family(s: &[u8]) -> Spelled
         return numbered(s);
     }
     match legacy(s) {
-        Listed::At(row, width) => Spelled::Row(row, width, 0),
-        Listed::Nothing => high_byte(s),
+        Some(Listed { row, width }) => Spelled::Row(row, width, 0),
+        None => high_byte(s),
     }
 }

@@ -6,25 +6,20 @@ ghost use Rattle.names.specs.Tables.{unpadded, Column};
 use text::same;
 
 // Whether s is the name.
-fn is_name(s: &[u8], name: [u8; 3]) -> bool
-    ensures { result ≡ (unpadded name ≟ s.now) }
+#[tactic(auto, using(laws::proofs::Std::tests_of_std), unfolding(crate::specs::Tables::unpadded))]
+fn is_name(s: &[u8], name: &[u8; 3]) -> bool
+    ensures { result ≡ (unpadded name.now ≟ s.now) }
 {
     if name[2] == 0 {
-        return same(&name[..2], s);
+        same(&name[..2], s)
+    } else {
+        same(name, s)
     }
-    same(&name, s)
 }
 
-// The place of s in the row; 4 if it is none of the names.
-pub fn column_in(s: &[u8], row: [[u8; 3]; 4]) -> usize
-    ensures { Column row s.now result }
+// The place of s in the row.
+pub fn column_in(s: &[u8], row: &[[u8; 3]; 4]) -> Option<usize>
+    ensures { Column row.now s.now result }
 {
-    let mut i = 0;
-    while i < 4 {
-        if is_name(s, row[i]) {
-            return i;
-        }
-        i += 1;
-    }
-    i
+    row.iter().position(|name| is_name(s, name))
 }

@@ -1,6 +1,5 @@
 // The families that a call overwrites: three constant lists of family numbers, chosen by convention.
-ghost use Rattle.std.specs.Prelude.{◌≡◌, eqb};
-ghost use Rattle.reference.specs.Lists.{any};
+ghost use Rattle.std.specs.Prelude.{◌≡◌};
 ghost use Rattle.reference.specs.Text.{has};
 ghost use Rattle.reference.specs.Names.{volatile_of};
 ghost use Rattle.names.specs.Volatile.{name_numbered, number_of};
@@ -17,26 +16,12 @@ const VOLATILE_1: [u64; 9] = [0, 2, 3, 4, 5, 8, 9, 10, 11];
 
 const VOLATILE_2: [u64; 7] = [0, 2, 3, 8, 9, 10, 11];
 
-// The number of a family that has no row.
+// The number of a family that has no row; 12 for one with no number.
+// Kept: a number for none, which is on no list, so that what is kept of a line in a word holds one number a family (a).
 pub fn number_of(s: &[u8]) -> u64
     ensures { result ≡ number_of s.now }
 {
-    let place = column_in(s, NEW);
-    8 + place as u64
-}
-
-// Whether n is on the list.
-fn among(list: &[u64], n: u64) -> bool
-    ensures { result ≡ any (eqb n) list.now }
-{
-    let mut i = 0;
-    while i < list.len() {
-        if list[i] == n {
-            return true;
-        }
-        i += 1;
-    }
-    false
+    8 + column_in(s, &NEW).unwrap_or(4) as u64
 }
 
 // Whether a call overwrites the family of this number.
@@ -44,8 +29,8 @@ pub fn overwritten(number: u64, convention: u8) -> bool
     ensures { result ≡ has (volatile_of convention) (name_numbered number) }
 {
     match convention {
-        0 => among(&VOLATILE_0, number),
-        1 => among(&VOLATILE_1, number),
-        _ => among(&VOLATILE_2, number),
+        0 => VOLATILE_0.contains(&number),
+        1 => VOLATILE_1.contains(&number),
+        _ => VOLATILE_2.contains(&number),
     }
 }

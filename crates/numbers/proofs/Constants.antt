@@ -1,6 +1,6 @@
 -- Rows of digits with quotes, and constants: each way that a reading function of the 2024 edition returns. Assumes nothing.
-use Rattle.std.proofs.Common.{◌≡◌, ℕ, suc, ◌+◌, ◌-◌, ◌*◌, ◌^◌, ◌<◌, ◌≤◌, Bool, true, false, eqb, [], ◌∷◌, length, get_or, take, drop, ℤ, neg_ℤ, sym, refl, ◌∙◌, add-one, arith, drop_of_length-le}
-use Rattle.std.proofs.Common.{drop-cons, le-ltb, eq-eqb, ne_eqb, eqb-true}
+use Rattle.std.proofs.Common.{◌≡◌, ℕ, suc, ◌+◌, ◌-◌, ◌*◌, ◌^◌, ◌<◌, ◌≤◌, Bool, true, false, eqb, [], ◌∷◌, length, get_or, take, drop, ℤ, neg_ℤ, sym, refl, ◌∙◌, arith}
+use Rattle.std.proofs.Common.{le-ltb, eq-eqb, ne_eqb, eqb-true}
 use mathlib.Core.Option.{Option, none, some}
 use Rattle.reference.specs.Control.{◌and◌, ◌or◌, when◌then◌else◌, let_some◌else◌then◌}
 use Rattle.reference.specs.Text.{Text, bytes, starts_with}
@@ -73,44 +73,41 @@ row-large most radix p digit v s h = by (unquoted digit s)
 
 -- ---- the quote
 
-module _ (s : Text) (i : ℕ) (h : i < length s) where
-  pub past_one : get_or s i 0 ≡ 39 → PastQuote s i (i + 1)
-  past_one e =
-      record {
-        onward = omega arith;
-        inside = omega arith;
-        means = λ radix v. rw (add-one, drop-cons s i 0 h) (row-quote radix v (get_or s i 0) (drop (suc i) s) e);
-      }
+pub past_one : (s : Text) → 1 ≤ length s → get_or s 0 0 ≡ 39 → PastQuote s (drop 1 s)
+past_one [] h e = absurd (omega arith)
+past_one (c ∷ s) h e = record { no_longer = omega arith; means = λ radix v l. row-quote radix v c s e }
 
-  pub past_none : (get_or s i 0 ≡ 39 → ⊥) → PastQuote s i i
-  past_none e =
-      record {
-        onward = omega arith;
-        inside = omega arith;
-        means = λ radix v. rw (drop-cons s i 0 h) (row_same radix v (get_or s i 0) (drop (suc i) s) e);
-      }
+pub past_none : (s : Text) → (1 ≤ length s → get_or s 0 0 ≡ 39 → ⊥) → PastQuote s s
+past_none [] n = record { no_longer = omega arith; means = λ radix v l. absurd (omega arith) }
+past_none (c ∷ s) n = record { no_longer = omega arith; means = λ radix v l. row_same radix v c s (n (omega arith)) }
 
--- ---- the row, where `row radix s` is what comes of a digit at i, after the number v
+-- ---- the row, where `row radix s` is what comes of a digit in front of s, after the number v
 
-module _ (most radix v : ℕ) (s : Text) (i : ℕ) (b : radix ≤ 36) (h : i < length s) where
-  next : row_after radix false v (drop i s) ≡ (let_some (to_digit radix (get_or s i 0)) else none then λ d. row_after radix true (v * radix + d) (drop (i + 1) s))
-  next = rw (add-one, drop-cons s i 0 h) (row-digit radix v b (get_or s i 0) (drop (suc i) s))
+module _ (most radix v : ℕ) (s : Text) (b : radix ≤ 36) (h : 1 ≤ length s) where
+  next : row_after radix false v s ≡ (let_some (to_digit radix (get_or s 0 0)) else none then λ d. row_after radix true (v * radix + d) (drop 1 s))
+  next = by s h
+    where
+      by : (s : Text) → 1 ≤ length s → row_after radix false v s ≡ (let_some (to_digit radix (get_or s 0 0)) else none then λ d. row_after radix true (v * radix + d) (drop 1 s))
+      by [] h = absurd (omega arith)
+      by (c ∷ s) h = row-digit radix v b c s
 
-  pub digit-read : {n : ℕ} → some n ≡ at_most most (with_digit radix v (get_or s i 0))
-      → (n ≤ most) × (at_most most (row_after radix false v (drop i s)) ≡ at_most most (row_after radix true n (drop (i + 1) s)))
-  digit-read e = byte_read most radix v (get_or s i 0) (λ n. row_after radix true n (drop (i + 1) s)) next e
+  pub digit-read : {n : ℕ} → some n ≡ at_most most (with_digit radix v (get_or s 0 0))
+      → (n ≤ most) × (at_most most (row_after radix false v s) ≡ at_most most (row_after radix true n (drop 1 s)))
+  digit-read e = byte_read most radix v (get_or s 0 0) (λ n. row_after radix true n (drop 1 s)) next e
 
-  pub digit-unread : none ≡ at_most most (with_digit radix v (get_or s i 0)) → at_most most (row_after radix false v (drop i s)) ≡ none
+  pub digit-unread : none ≡ at_most most (with_digit radix v (get_or s 0 0)) → at_most most (row_after radix false v s) ≡ none
   digit-unread e =
-      byte_unread most radix v (get_or s i 0) (λ n. row_after radix true n (drop (i + 1) s)) next (λ p n h. row-large most radix p true n _ h) e
+      byte_unread most radix v (get_or s 0 0) (λ n. row_after radix true n (drop 1 s)) next (λ p n h. row-large most radix p true n _ h) e
 
 -- at the end, and past it
-module _ (most radix v : ℕ) (s : Text) (i : ℕ) where
-  pub ends_read : i ≡ length s → v ≤ most → at_most most (row_after radix true v (drop i s)) ≡ some v
-  ends_read h m = let l : length s ≤ i = omega arith in rw (drop_of_length-le s l, row_end radix v) (most_in most v m)
+module _ (most radix v : ℕ) where
+  pub ends_read : (s : Text) → length s ≡ 0 → v ≤ most → at_most most (row_after radix true v s) ≡ some v
+  ends_read [] h m = rw (row_end radix v) (most_in most v m)
+  ends_read (c ∷ s) h m = absurd (omega arith)
 
-  pub ends-cut : length s ≤ i → at_most most (row_after radix false v (drop i s)) ≡ none
-  ends-cut h = rw (drop_of_length-le s h, row_cut radix v) (most_none most)
+  pub ends-cut : (s : Text) → length s < 1 → at_most most (row_after radix false v s) ≡ none
+  ends-cut [] h = rw (row_cut radix v) (most_none most)
+  ends-cut (c ∷ s) h = absurd (omega arith)
 
 -- ---- a row within a bound, as an i64
 

@@ -1,14 +1,13 @@
 -- The digits of a number, and what a printed number is made of. Assumes nothing.
-use Rattle.std.proofs.Common.{◌≡◌, ℕ, zero, suc, ◌+◌, ◌-◌, ◌/◌, ◌%◌, ◌^◌, ◌<◌, ◌≤◌, [], ◌∷◌, ◌++◌, length, sym, refl, ap, ◌∙◌, append_assoc, mod-eq_of_lt, div-lt_iff_lt-mul, one-mul, pow-suc, arith}
+use Rattle.std.proofs.Common.{◌≡◌, ℕ, zero, suc, ◌+◌, ◌/◌, ◌%◌, ◌^◌, ◌<◌, ◌≤◌, [], ◌∷◌, ◌++◌, length, sym, refl, ap, ◌∙◌, append_assoc, mod-eq_of_lt, div-lt_iff_lt-mul, one-mul, pow-suc, arith}
 use Rattle.std.proofs.Common.{length-append, le-ltb, lt-ltb}
 use native.Mathlib.Nat.{pow-zero}
 use native.Mathlib.Decide.{dec_lt}
 use mathlib.Core.Logic.{by_cases}
 use Rattle.reference.specs.Text.{Text}
-use Rattle.reference.specs.Numbers.{digit_byte, digits, show_natural, show, as_i64}
+use Rattle.reference.specs.Numbers.{digit_byte, digits, show_natural}
 use Rattle.laws.proofs.Scans.{if-true, if-false}
 use Rattle.numbers.specs.Writing.{hexadecimal}
-use Rattle.numbers.proofs.Signed.{as_low, as_high}
 
 -- ---- digits to any base
 
@@ -78,11 +77,3 @@ module _ (v : ℕ) where
   pub natural_large : 10 ≤ v → show_natural v ≡ (48 ∷ 120 ∷ []) ++ hexadecimal v
   unfolding show_natural hexadecimal
   natural_large h = if-false _ _ (le-ltb v 10 h)
-
-  pub show-low : v < 2 ^ 63 → show (as_i64 v) ≡ show_natural v
-  unfolding show
-  show-low h = rw (as_low v h)
-
-  pub show_high : 2 ^ 63 ≤ v → v < 2 ^ 64 → show (as_i64 v) ≡ (45 ∷ []) ++ show_natural (2 ^ 64 - 1 - v + 1)
-  unfolding show
-  show_high l h = let e : suc (2 ^ 64 - suc v) ≡ 2 ^ 64 - 1 - v + 1 = omega arith in rw (as_high v l h, e)

@@ -1,18 +1,19 @@
 -- Signed numbers of 64 bits: what the code computes is what the definitions `as_i64` and `wrap` say. Assumes nothing.
-use Rattle.std.proofs.Common.{◌≡◌, ℕ, zero, suc, ◌+◌, ◌-◌, ◌%◌, ◌^◌, ◌<◌, ◌≤◌, true, false, ℤ, pos, negsuc, ◌+ℤ◌, ◌-ℤ◌, neg_ℤ, sym, refl, ap, ◌∙◌, mod-eq_of_lt, arith, w64, SFits, to_z, of_z, le-ltb}
+use Rattle.std.proofs.Common.{◌≡◌, ℕ, zero, suc, ◌-◌, ◌%◌, ◌^◌, ◌<◌, ◌≤◌, true, false, ℤ, pos, negsuc, ◌+ℤ◌, ◌-ℤ◌, neg_ℤ, sym, refl, ap}
+use Rattle.std.proofs.Common.{◌∙◌, mod-lt, mod-eq_of_lt, arith, w64, SFits, to_z, of_z, le-ltb}
 use Rattle.std.proofs.Common.{lt-ltb}
 use native.Mathlib.Nat.{mod-mod}
 use native.Mathlib.Decide.{dec_lt}
 use mathlib.Core.Logic.{by_cases}
 use lib.Dec.{leb-zero}
-use lib.IntN.{+ℤ_idl}
 use lib.Signed.{mag, le_z}
 use mir.ValLaws.{to_z-of_z, to_z_pos}
 use Rattle.reference.specs.Control.{when◌then◌else◌}
 use Rattle.reference.specs.Numbers.{as_i64, wrap}
 use Rattle.laws.proofs.Scans.{if-true, if-false}
 use Rattle.numbers.specs.Bits.{bits_of}
-use Rattle.numbers.proofs.Bits.{bits_add, bits_sub}
+use Rattle.std.specs.Int.{cast_signed, int_wrap, int_wrapping_add, int_wrapping_sub, int_wrapping_neg}
+use Rattle.std.proofs.lemmas.Int.{wrapping_add_is, wrapping_sub_is, wrapping_neg_is}
 
 -- ---- `as i64`
 
@@ -54,22 +55,9 @@ negated (suc n) h =
 
 -- ---- what the code computes with
 
--- -1 - z, for z from 0 on and for z below 0
-pub minus_one-pos : (n : ℕ) → negsuc 0 -ℤ pos n ≡ negsuc n
-minus_one-pos zero = refl
-minus_one-pos (suc n) = ap negsuc (omega arith)
-
+-- -1 - z, for z below 0
 pub minus_one_neg : (n : ℕ) → negsuc 0 -ℤ negsuc n ≡ pos n
 minus_one_neg n = rw (le-ltb (suc n) 1 (omega arith)) (ap pos (omega arith))
-
--- the signed number of bits from 2^63 on
-module _ (n : ℕ) (l : 2 ^ 63 ≤ n) (h : n < 2 ^ 64) where
-  pub signed_high : negsuc 0 -ℤ to_z w64 (2 ^ 64 - 1 - n) ≡ as_i64 n
-  signed_high =
-      rw (to_z_pos w64 (2 ^ 64 - 1 - n) (omega arith), minus_one-pos) (ap negsuc (omega arith) ∙ sym (as_high n l h))
-
-  pub fits_high : SFits w64 (as_i64 n)
-  fits_high = rw (as_high n l h) (record { sfits = omega arith })
 
 -- what a call answered, as the machine reads it back from its bits
 pub read_back : (z : ℤ) → mag z < 2 ^ 63 → to_z w64 (of_z w64 z) ≡ z
@@ -115,15 +103,28 @@ module _ (v : ℤ) (f : SFits w64 v) where
         let m : mag v % 2 ^ 64 ≡ mag v = mod-eq_of_lt (omega arith) in
         omega arith ∙ ap (bits_of 64) (sym (below-zero e))
 
--- ---- sums, differences and negations, through the bits, as the code hands them on
+-- ---- std's words
 
-module _ (a b : ℤ) (fa : SFits w64 a) (fb : SFits w64 b) {p q x : ℕ} (f : p ≡ bits_of 64 (to_z w64 (of_z w64 a))) (g : q ≡ bits_of 64 (to_z w64 (of_z w64 b))) where
-  pub sum_wraps : x ≡ (p + q) % 2 ^ 64 → as_i64 x ≡ wrap (a +ℤ b)
-  sum_wraps e = ap as_i64 (rw (f, g, kept a fa, kept b fb) at e ∙ sym (bits_add 64 a b)) ∙ sym (wrap_bits (a +ℤ b))
+to_z_high : (n : ℕ) → 2 ^ 63 ≤ n → n < 2 ^ 64 → cast_signed w64 n ≡ negsuc (2 ^ 64 - suc n)
+to_z_high n l h = ap (cast_signed w64) (omega arith) ∙ to_z-of_z w64 (negsuc (2 ^ 64 - suc n)) (record { sfits = omega arith })
 
-  pub difference-wraps : x < 2 ^ 64 → (x + q) % 2 ^ 64 ≡ p → as_i64 x ≡ wrap (a -ℤ b)
-  difference-wraps h e =
-      ap as_i64 (bits_sub 64 a b x h (rw (f, g, kept a fa, kept b fb) at e)) ∙ sym (wrap_bits (a -ℤ b))
+pub signed-std : (n : ℕ) → n < 2 ^ 64 → cast_signed w64 n ≡ as_i64 n
+signed-std n h =
+    by_cases (dec_lt n (2 ^ 63))
+    (λ l. to_z_pos w64 n l ∙ sym (as_low n l))
+    (λ l. to_z_high n (omega arith) h ∙ sym (as_high n (omega arith) h))
 
-pub negation_wraps : (v : ℤ) → SFits w64 v → wrap (pos 0 -ℤ to_z w64 (of_z w64 v)) ≡ wrap (neg_ℤ v)
-negation_wraps v f = rw (kept v f) (ap wrap (+ℤ_idl (neg_ℤ v)))
+pub wrap-std : (z : ℤ) → int_wrap w64 z ≡ wrap z
+unfolding int_wrap wrap as_i64
+wrap-std (pos n) = signed-std (n % 2 ^ 64) (mod-lt n (omega arith)) ∙ rw (mod-mod n (2 ^ 64))
+wrap-std (negsuc n) = ap (cast_signed w64) (omega arith) ∙ signed-std (2 ^ 64 - suc (n % 2 ^ 64)) (omega arith)
+
+module _ (a b : ℤ) (f : SFits w64 a) (g : SFits w64 b) where
+  pub sum_wraps : int_wrapping_add w64 a b ≡ wrap (a +ℤ b)
+  sum_wraps = wrapping_add_is w64 a b f g ∙ wrap-std (a +ℤ b)
+
+  pub difference-wraps : int_wrapping_sub w64 a b ≡ wrap (a -ℤ b)
+  difference-wraps = wrapping_sub_is w64 a b f g ∙ wrap-std (a -ℤ b)
+
+pub negation_wraps : (v : ℤ) → SFits w64 v → int_wrapping_neg w64 (to_z w64 (of_z w64 v)) ≡ wrap (neg_ℤ v)
+negation_wraps v f = ap (int_wrapping_neg w64) (kept v f) ∙ wrapping_neg_is w64 v f ∙ wrap-std (neg_ℤ v)

@@ -1,14 +1,15 @@
 -- Texts written one after the other into a slice. Assumes nothing.
-use Rattle.std.proofs.Common.{◌≡◌, ℕ, suc, ◌+◌, ◌-◌, ◌/◌, ◌%◌, ◌^◌, ◌<◌, ◌≤◌, [], ◌∷◌, ◌++◌, length, set, ℤ, sym, refl, ap, ◌∙◌, add-zero, add-one, arith, length-append, w64, SFits, to_z, of_z}
-use lib.Seq.{sets, length-sets, sets-eq, paste, take-length}
+use Rattle.std.proofs.Common.{◌≡◌, ℕ, suc, ◌+◌, ◌/◌, ◌%◌, ◌^◌, ◌<◌, ◌≤◌, [], ◌∷◌, ◌++◌, length, set, ℤ, sym, refl, ap, ◌∙◌, add-zero}
+use Rattle.std.proofs.Common.{add-one, arith, length-append, pos, negsuc, nat_abs, true, false, w64, SFits, to_z, of_z}
+use lib.Signed.{mag, le_z}
 use mir.ValLaws.{to_z-of_z}
+use Rattle.numbers.proofs.Signed.{from_zero, below-zero}
+use lib.Seq.{sets, length-sets, sets-eq, paste, take-length}
 use Rattle.reference.specs.Text.{Text}
-use Rattle.reference.specs.Numbers.{as_i64, digit_byte, show_natural, show}
+use Rattle.reference.specs.Numbers.{digit_byte, show_natural, show}
 use Rattle.reference.proofs.Shapes.{show-length}
-use Rattle.numbers.specs.Bits.{bits_of}
 use Rattle.numbers.specs.Writing.{hexadecimal, Written}
-use Rattle.numbers.proofs.Digits.{hexadecimal_one, hexadecimal_more, longer, natural_small, natural_large, show-low, show_high}
-use Rattle.numbers.proofs.Signed.{as_bits}
+use Rattle.numbers.proofs.Digits.{hexadecimal_one, hexadecimal_more, longer, natural_small, natural_large}
 
 sets_append : (l : Text) (i : ℕ) (s t : Text) → sets l i (s ++ t) ≡ sets (sets l i s) (i + length s) t
 sets_append l i [] t = rw add-zero
@@ -78,25 +79,41 @@ module _ {out : Text} {at v : ℕ} {out₁ : Text} {end : ℕ} where
       rw (natural_large v h)
       (written_then out at (48 ∷ 120 ∷ []) (hexadecimal v) (omega arith) (written_two out at 48 120 (omega arith)) w)
 
--- b is the bits of the number z
-module _ (z : ℤ) (f : SFits w64 z) {b : ℕ} (e : b ≡ bits_of 64 (to_z w64 (of_z w64 z))) where
-  shown : show z ≡ show (as_i64 b)
-  shown = ap show (sym (rw (e, to_z-of_z w64 z f) (as_bits z f)))
+-- b is the number z without its sign, as the machine reads z
+module _ (z : ℤ) (f : SFits w64 z) {b : ℕ} (e : b ≡ nat_abs (to_z w64 (of_z w64 z))) where
+  unsigned : b ≡ nat_abs z
+  unsigned = e ∙ ap nat_abs (to_z-of_z w64 z f)
 
-  module _ (h : b < 2 ^ 63) where
+  module _ (h : le_z (pos 0) (to_z w64 (of_z w64 z)) ≡ true) where
+    shown_low : show z ≡ show_natural b
+    unfolding show
+    shown_low = by z (mag z) (from_zero z f h) unsigned
+      where
+        by : (z : ℤ) (m : ℕ) → z ≡ pos m → b ≡ nat_abs z → show z ≡ show_natural b
+        by (pos n) m p e = rw e refl
+        by (negsuc n) m p e = cc
+
     pub room-positive : length (show_natural b) ≤ 19
-    room-positive = omega (arith, ap length (shown ∙ show-low b h), show-length z)
+    room-positive = omega (arith, ap length shown_low, show-length z)
 
     pub written-positive : {out : Text} {at : ℕ} {out₁ : Text} {end : ℕ} → Written out at (show_natural b) out₁ end → Written out at (show z) out₁ end
-    written-positive w = rw (shown ∙ show-low b h) w
+    written-positive w = rw shown_low w
 
-  module _ (l : 2 ^ 63 ≤ b) (h : b < 2 ^ 64) where
-    pub room-negative : length (show_natural (2 ^ 64 - 1 - b + 1)) ≤ 18
-    room-negative = omega (arith, ap length (shown ∙ show_high b l h), show-length z)
+  module _ (h : le_z (pos 0) (to_z w64 (of_z w64 z)) ≡ false) where
+    shown_high : show z ≡ (45 ∷ []) ++ show_natural b
+    unfolding show
+    shown_high = by z (mag z) (below-zero z f h) unsigned
+      where
+        by : (z : ℤ) (m : ℕ) → z ≡ negsuc m → b ≡ nat_abs z → show z ≡ (45 ∷ []) ++ show_natural b
+        by (pos n) m p e = cc
+        by (negsuc n) m p e = rw e refl
+
+    pub room-negative : length (show_natural b) ≤ 18
+    room-negative = omega (arith, ap length shown_high, show-length z)
 
     pub written-negative : {out : Text} {at : ℕ} {out₁ : Text} {end : ℕ} → at + 19 ≤ length out
-        → Written (set out at 45) (at + 1) (show_natural (2 ^ 64 - 1 - b + 1)) out₁ end → Written out at (show z) out₁ end
+        → Written (set out at 45) (at + 1) (show_natural b) out₁ end → Written out at (show z) out₁ end
     written-negative {out} {at} r w =
-        rw (shown ∙ show_high b l h)
-        (written_then out at (45 ∷ []) (show_natural (2 ^ 64 - 1 - b + 1)) (omega (arith, room-negative))
+        rw shown_high
+        (written_then out at (45 ∷ []) (show_natural b) (omega (arith, room-negative))
         (written_one out at 45 (omega arith)) w)

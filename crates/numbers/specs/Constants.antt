@@ -1,5 +1,5 @@
 -- The parts of `parse_2024` that the functions compute, under a name each. Assumes nothing.
-use Rattle.std.specs.Prelude.{◌≡◌, ℕ, ◌≤◌, Bool, true, false, length, drop, ℤ}
+use Rattle.std.specs.Prelude.{◌≡◌, ℕ, ◌<◌, ◌≤◌, Bool, true, false, length, ℤ}
 use Rattle.std.proofs.Math.Option.{Option, none, some}
 use Rattle.reference.specs.Control.{let_some◌else◌then◌}
 use Rattle.reference.specs.Text.{Text}
@@ -10,11 +10,10 @@ use Rattle.numbers.specs.Reading.{at_most}
 unfoldable pub row_after : ℕ → Bool → ℕ → Text → Option ℕ
 row_after radix digit v s = let_some (unquoted digit s) else none then λ ds. digits_value radix v ds
 
--- behind a digit: from r on a digit must stand, where from i on a quote may
-pub record PastQuote (s : Text) (i r : ℕ) : Type 0 where
-  pub onward : i ≤ r
-  pub inside : r ≤ length s
-  pub means : (radix v : ℕ) → row_after radix true v (drop i s) ≡ row_after radix false v (drop r s)
+-- r is what stands behind a digit, s, without the quote in front: there a digit must stand, where in s a quote may
+pub record PastQuote (s r : Text) : Type 0 where
+  pub no_longer : length r ≤ length s
+  pub means : (radix v : ℕ) → 0 < length s → row_after radix true v s ≡ row_after radix false v r
 
 -- a whole row
 abbrev pub row : ℕ → Text → Option ℕ

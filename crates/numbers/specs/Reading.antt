@@ -1,31 +1,11 @@
 -- What the answers of the reading functions mean, and the parts of `parse_c_number` that they compute. Assumes nothing.
-use Rattle.std.specs.Prelude.{ℕ, ◌+◌, ◌-◌, ◌*◌, ◌^◌, ℤ, pos, neg_ℤ, nat_le, nat_lt}
+use Rattle.std.specs.Prelude.{ℕ, ◌+◌, ◌*◌, ◌^◌, ℤ, pos, neg_ℤ, nat_le, nat_lt}
 use Rattle.std.proofs.Math.Option.{Option, none, some}
-use Rattle.reference.specs.Control.{◌and◌, when◌then◌else◌, let_some◌else◌then◌}
+use Rattle.reference.specs.Control.{when◌then◌else◌, let_some◌else◌then◌}
 use Rattle.reference.specs.Text.{Text, bytes, strip_prefix}
 use Rattle.reference.specs.Numbers.{to_digit, unsigned, read_u64, read_i64, as_i64}
-use Rattle.numbers.specs.declared.parse.Number.{Number}
-use Rattle.numbers.specs.declared.parse.Number.TheVariants as number
-use Rattle.numbers.specs.declared.parse.Natural.{Natural}
-use Rattle.numbers.specs.declared.parse.Natural.TheVariants as natural
-
-abbrev pub meaning : Number → Option ℤ
-meaning (number.Read v) = some v
-meaning number.Unread = none
-
-abbrev pub natural_meaning : Natural → Option ℕ
-natural_meaning (natural.Read n) = some n
-natural_meaning natural.Unread = none
 
 -- ---- parts of the definitions, under a name each
-
--- what a byte is worth as a digit, as `to_digit` has it
-unfoldable pub worth : ℕ → ℕ
-worth c =
-    when nat_le 48 c and nat_le c 57 then c - 48
-    else when nat_le 97 c and nat_le c 122 then c - 87
-    else when nat_le 65 c and nat_le c 90 then c - 55
-    else 99
 
 -- the number with one digit more
 unfoldable pub with_digit : ℕ → ℕ → ℕ → Option ℕ

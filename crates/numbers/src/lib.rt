@@ -8,7 +8,7 @@ mod read; // numbers by an edition
 mod wrapping; // sums, differences and negations that wrap
 
 pub use constant::{begins_binary, row};
-pub use parse::{Natural, Number, parse_c_number};
+pub use parse::parse_c_number;
 pub use print::{put_digits, put_number};
 pub use read::read_number;
 pub use wrapping::{MOST, wrapping_add, wrapping_neg, wrapping_sub};

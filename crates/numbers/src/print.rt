@@ -3,14 +3,13 @@ ghost use Rattle.std.specs.Prelude.{◌≡◌, ◌+◌, ◌%◌, ◌≤◌, leng
 ghost use Rattle.reference.specs.Numbers.{digit_byte, show_natural, show};
 ghost use Rattle.numbers.specs.Writing.{hexadecimal, Written};
 
-use crate::wrapping::{HALF, MOST, bits};
-
 // The last hexadecimal digit.
+#[tactic(auto, using(laws::proofs::Std::tests_of_std))]
 fn last_digit(v: u64) -> u8
     ensures { result ≡ digit_byte (v % 16) }
 {
     let d = (v % 16) as u8;
-    if d < 10 { 48 + d } else { 87 + d }
+    if d < 10 { b'0' + d } else { b'a' + (d - 10) }
 }
 
 // Writes the hexadecimal digits at `at`, and says where they end.
@@ -45,10 +44,9 @@ pub fn put_number(v: i64, out: &mut [u8], at: usize) -> usize
     requires { at + 19 ≤ length out.old }
     ensures { Written out.old at (show v) out.new result }
 {
-    let b = bits(v);
-    if b < HALF {
-        return put_natural(b, out, at);
+    if 0 <= v {
+        return put_natural(v.unsigned_abs(), out, at);
     }
     out[at] = b'-';
-    put_natural(MOST - b + 1, out, at + 1)
+    put_natural(v.unsigned_abs(), out, at + 1)
 }

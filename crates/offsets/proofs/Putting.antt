@@ -9,6 +9,7 @@ use mathlib.Core.Option.{some}
 use lib.ListN.{length, take, drop, set, length-append, length-set, length-drop}
 use lib.Seq.{length-take-le, paste}
 use borrow.Author.Tests.{leb-true}
+use mathlib.Core.Logic.{◌⊎◌, inl, inr}
 use Rattle.reference.specs.Control.{let_some◌else◌then◌}
 use Rattle.reference.specs.Lists.{any}
 use Rattle.reference.specs.Listing.{Listing}
@@ -156,6 +157,13 @@ module _ (based : Bool) (base : ℕ) (tape : List ℕ) (at : ℕ) where
   unfolding move_command write_command_by
   end_same = refl
 
+  -- the commands that have no address
+  pub same_bytes : {c : Command} → ((indent : ℕ) × (c ≡ Plain indent)) ⊎ (((kind : ℕ) × (count : ℕ) × (c ≡ Token kind count)) ⊎ (c ≡ End))
+      → moved_bytes based base tape at c ≡ write_command_by (form_of based) (command_in tape at c)
+  same_bytes (inl (indent, e)) = rw e (plain_same indent)
+  same_bytes (inr (inl (kind, count, e))) = rw e (token_same kind count)
+  same_bytes (inr (inr e)) = rw e end_same
+
   pub line_moved : (address indent : ℕ) → write_command_by (other_form based) (Tape.new_line (some (moved_by based base address)) indent)
       ≡ moved_bytes based base tape at (Addressed address indent)
   unfolding move_command let_some◌else◌then◌
@@ -165,6 +173,26 @@ module _ (based : Bool) (base : ℕ) (tape : List ℕ) (at : ℕ) where
       ≡ moved_bytes based base tape at (Marked low high)
   unfolding move_command
   marks-moved low high = refl
+
+  -- and those that have, once written
+  module _ {form : TapeForm} (f : form ≡ other_form based) {out out' : List ℕ} {to end : ℕ} where
+    pub line_done : (address indent : ℕ) {moved : ℕ} → moved ≡ moved_by based base address
+        → Puts out to (write_command_by form (Tape.new_line (some moved) indent)) out' end
+        → Puts out to (moved_bytes based base tape at (Addressed address indent)) out' end
+    line_done address indent {moved} m p = rw (f, m, line_moved address indent) at p
+
+    pub marks-done : (low high : ℕ) {lowest highest : ℕ} → lowest ≡ moved_by based base low → highest ≡ moved_by based base high
+        → Puts out to (write_command_by form (Tape.marked (record { lowest = lowest; highest = highest }))) out' end
+        → Puts out to (moved_bytes based base tape at (Marked low high)) out' end
+    marks-done low high m n p = rw (f, m, n, marks-moved low high) at p
+
+pub to_old : (based : Bool) → based ≡ true → form_of false ≡ other_form based
+to_old true e = refl
+to_old false e = absurd (false≢true e)
+
+pub to_based : (based : Bool) → based ≡ false → form_of true ≡ other_form based
+to_based false e = refl
+to_based true e = absurd (false≢true (sym e))
 
 module _ {based : Bool} {base : ℕ} {tape : List ℕ} {at next : ℕ} {out : List ℕ} {to : ℕ} where
   pub line_reaches : {address indent : ℕ} → Moves based base tape at next (Addressed address indent) out to → bad_for based base address ≡ false
@@ -186,6 +214,15 @@ module _ {based : Bool} {base : ℕ} {tape : List ℕ} {at next : ℕ} {out : Li
   marks_fit {low} {high} m =
       let size = marks_size (other_form based) out to (moved_by based base low) (moved_by based base high) in
       omega (arith, m.room, ap length (marks-moved based base tape at low high), size)
+
+  module _ {form : TapeForm} (f : form ≡ other_form based) where
+    pub line_room : {address indent : ℕ} → Moves based base tape at next (Addressed address indent) out to
+        → (indent < 256) × (to + (2 + width form) ≤ length out)
+    line_room m = rw f (line_fits m)
+
+    pub marks_room : {low high : ℕ} → Moves based base tape at next (Marked low high) out to
+        → to + (1 + width form + width form) ≤ length out
+    marks_room m = rw f (marks_fit m)
 
 -- ---- the loop
 

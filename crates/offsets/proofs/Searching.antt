@@ -6,9 +6,15 @@ use mathlib.Core.Path.{◌≡◌, refl, sym, ap, ◌∙◌}
 use mathlib.Core.Bool.{Bool, true, false}
 use mathlib.Core.List.{List}
 use mathlib.Core.Option.{none, some}
-use lib.Dec.{leb, ltb}
+use lib.Dec.{leb}
 use lib.ListN.{length, drop, length-drop}
-use borrow.Author.Tests.{leb-true, leb-false, ltb-true, ltb-false, le-leb, lt-leb, lt-ltb, le-ltb}
+use borrow.Author.Tests.{leb-true, leb-false, le-leb, lt-leb, lt-ltb, le-ltb}
+use Rattle.std.specs.Prelude as Std
+use Rattle.std.specs.Prelude.{Some, None, not, Result, Ok, Err}
+use Rattle.answers.specs.declared.Refusal.{Refusal}
+use Rattle.tape.specs.declared.questions.Advance as Code
+use Rattle.tape.specs.Questions.{stepped}
+use Rattle.std.specs.Option.{SomeIff, is_some}
 use Rattle.reference.specs.Control.{◌or◌}
 use Rattle.reference.specs.Lists.{any}
 use Rattle.reference.specs.Tape.{TapeForm, header, command_size_by, command_by}
@@ -38,13 +44,14 @@ above-base base address h = sym (or_false _ (le-ltb address base h) ∙ go (leb 
     go true e = le-leb (base + 2 ^ 32) address (omega (arith, leb-true 4294967296 (address - base) e))
     go false e = lt-leb (base + 2 ^ 32) address (omega (arith, leb-false 4294967296 (address - base) e))
 
-pub left_above : (base offset : ℕ) → base < 2 ^ 64 → ltb (18446744073709551615 - base) offset ≡ wraps base offset
+-- a sum that does not fit is one above 2^64 - 1
+pub sum_over : (base offset : ℕ) (o : Std.Option ℕ) (r : Bool) → SomeIff o (base + offset < 2 ^ 64) (base + offset) → is_some o ≡ not r
+    → r ≡ wraps base offset
 unfolding wraps
-left_above base offset h = sym (go (ltb (18446744073709551615 - base) offset) refl)
-  where
-    go : (b : Bool) → ltb (18446744073709551615 - base) offset ≡ b → leb (2 ^ 64) (base + offset) ≡ b
-    go true e = le-leb (2 ^ 64) (base + offset) (omega (arith, ltb-true (18446744073709551615 - base) offset e))
-    go false e = lt-leb (2 ^ 64) (base + offset) (omega (arith, ltb-false (18446744073709551615 - base) offset e))
+sum_over base offset None true h e = sym (le-leb (2 ^ 64) (base + offset) (omega (arith, h)))
+sum_over base offset None false h e = cc
+sum_over base offset (Some v) true h e = cc
+sum_over base offset (Some v) false h e = sym (lt-leb (2 ^ 64) (base + offset) (omega (arith, h)))
 
 -- one test more that is never met
 pub or_none : (a : Bool) → (a or false) ≡ a
@@ -127,3 +134,9 @@ module _ {form : TapeForm} {bad : ℕ → Bool} {tape : List ℕ} {at : ℕ} {t 
 pub search_passes : {form : TapeForm} {bad : ℕ → Bool} {tape : List ℕ} {at : ℕ} {t : Totals} {lines : Listing} {n p : ℕ} → Searching form bad tape at t
     → read_by form tape ≡ Passed lines → Refused n p ≡ read_command_by form tape at t → ⊥
 search_passes s reads e = refused_passed (sym (read_refused s.reads e) ∙ reads)
+
+pub search_stops : {form : TapeForm} {bad : ℕ → Bool} {tape : List ℕ} {at : ℕ} {t : Totals} {lines : Listing} → Searching form bad tape at t
+    → read_by form tape ≡ Passed lines → (r : Result Code.Advance Refusal) → ((a : Code.Advance) → r ≡ Ok a → ⊥)
+    → stepped tape at r ≡ read_command_by form tape at t → ⊥
+search_stops s reads (Ok a) n e = n a refl
+search_stops s reads (Err f) n e = search_passes s reads e

@@ -1,6 +1,6 @@
 -- What the code's values mean, for either direction: `based` says that the tape that is read is by offset. Assumes nothing.
-use Rattle.std.specs.Prelude.{ℕ, ◌+◌, ◌-◌, ◌≤◌, ◌≡◌, Bool, true, false, List, [], ◌∷◌, length}
-use Rattle.std.proofs.Math.Option.{Option, none, some}
+use Rattle.std.specs.Prelude.{ℕ, ◌+◌, ◌-◌, ◌≤◌, ◌≡◌, Bool, true, false, List, [], ◌∷◌, length, Result}
+use Rattle.std.proofs.Math.Option.{none, some}
 use Rattle.reference.specs.Control.{let_some◌else◌then◌}
 use Rattle.reference.specs.Lists.{any}
 use Rattle.reference.specs.Listing.{Listing}
@@ -8,13 +8,19 @@ use Rattle.reference.specs.Tape as Tape
 use Rattle.reference.specs.Tape.{TapeForm, old, offsets, header, write_command_by, write_by}
 use Rattle.reference.specs.Questions as Q
 use Rattle.reference.specs.Questions.{let_passed◌then◌, read_command_by, read_by, marks_in_by}
+use Rattle.answers.specs.declared.Refusal.{Refusal}
+use Rattle.answers.specs.Refusals.{answered}
 use Rattle.tape.specs.Bytes.{Puts}
 use Rattle.tape.specs.Commands.{form_of, command_in}
 use Rattle.tape.specs.declared.commands.Command.{Command}
 use Rattle.tape.specs.declared.commands.Command.TheVariants.{Addressed, Plain, Marked, Token, End}
 use Rattle.offsets.specs.Offsets.{out_of_reach, wraps, move_lines, move_all_marks, first_with, begins_with_06}
-use Rattle.offsets.specs.declared.reach.First.{First}
-use Rattle.offsets.specs.declared.reach.First.TheVariants.{Nowhere, At}
+
+-- ---- answers
+
+-- a question of the code that has no value to give: 0 where it is answered "yes"
+abbrev pub passing : Result (Unit {0}) Refusal → Q.Answer ℕ
+passing = answered (λ u. 0)
 
 -- ---- the two directions
 
@@ -73,11 +79,6 @@ pub record Read (based : Bool) (tape : List ℕ) : Type 0 where
 pub record Ready (based : Bool) (base : ℕ) (tape : List ℕ) : Type 0 where
   pub read : Read based tape
   pub none_bad : first_with (form_of based) (bad_for based base) tape ≡ none
-
--- the place that the code has found
-abbrev pub first_of : First → Option ℕ
-first_of Nowhere = none
-first_of (At place) = some place
 
 -- 18 alone, and after the tape's questions
 unfoldable pub reach_answer : Bool → ℕ → List ℕ → Q.Answer ℕ

@@ -1,25 +1,24 @@
 // What a tape by offset begins with: 06 and the base.
 ghost use Rattle.std.specs.Prelude.{◌≡◌, [], ◌∷◌, ◌≤◌, length};
 ghost use Rattle.tape.specs.Bytes.{Puts};
+ghost use Rattle.answers.specs.Refusals.{refusing};
 ghost use Rattle.tape.specs.Questions.{first_no};
 ghost use Rattle.offsets.specs.Offsets.{front, base_of, begins_with_06, has_base};
 
+use answers::Reason;
 use tape::little_endian::{number_at, put_number};
 
-// The number of the question that refuses a tape's front, or 0: 19, and then 4 of 06.
-pub fn asked(tape: &[u8]) -> u64
-    ensures { result ≡ first_no ((19, begins_with_06 tape.now) ∷ (4, has_base tape.now) ∷ []) }
+// The question that refuses a tape's front: 19, and then 4 of 06.
+pub fn asked(tape: &[u8]) -> Result<(), Reason>
+    ensures { refusing result ≡ first_no ((19, begins_with_06 tape.now) ∷ (4, has_base tape.now) ∷ []) }
 {
-    if tape.len() == 0 {
-        return 19; // the empty tape too
-    }
-    if tape[0] != 6 {
-        return 19; // before 4
+    if tape.is_empty() || tape[0] != 6 {
+        return Err(Reason::NoBase);
     }
     if tape.len() < 9 {
-        return 4;
+        return Err(Reason::CutOff);
     }
-    0
+    Ok(())
 }
 
 // The base of a tape whose front passed.

@@ -1,97 +1,75 @@
-// Question 18: whether a command has an address that the other form cannot hold, and where the first such command stands. No sum here can
-// wrap: the way back compares the offset with what is left above the base.
+// Question 18: whether a command has an address that the other form cannot hold, and where the first such command stands.
 ghost use Rattle.std.specs.Prelude.{◌≡◌};
+ghost use Rattle.reference.specs.Options.{option_of};
 ghost use Rattle.reference.specs.Lists.{any};
 ghost use Rattle.tape.specs.Commands.{form_of};
 ghost use Rattle.offsets.specs.Offsets.{out_of_reach, wraps, first_with};
-ghost use Rattle.offsets.specs.Calls.{bad_for, held, first_of, Read};
+ghost use Rattle.offsets.specs.Calls.{bad_for, held, Read};
 
 use tape::commands::{Command, header_of};
-use tape::questions::{Stepped, Totals, is_end, step_by};
+use tape::questions::{Advance, NONE, step};
 
 // Whether an address is below the base, or 2^32 or more above it.
 fn out_of_reach(base: u64, address: u64) -> bool
     ensures { result ≡ out_of_reach base address }
 {
-    if address < base {
-        return true;
-    }
-    4294967296 <= address - base
+    address < base || 4294967296 <= address - base
 }
 
 // Whether the sum of base and offset is above 2^64 - 1.
 fn wraps(base: u64, offset: u64) -> bool
     ensures { result ≡ wraps base offset }
 {
-    18446744073709551615 - base < offset
+    base.checked_add(offset).is_none()
 }
 
 // Whether an address, in a tape by offset an offset, has no place in the other form.
-fn is_refused(address: u64, base: u64, based: bool) -> bool
-    ensures { result ≡ bad_for based base address }
+fn is_refused<const BASED: bool>(address: u64, base: u64) -> bool
+    ensures { result ≡ bad_for BASED base address }
 {
-    if based {
-        return wraps(base, address);
+    if BASED {
+        wraps(base, address)
+    } else {
+        out_of_reach(base, address)
     }
-    out_of_reach(base, address)
 }
 
 // Whether a command has such an address: a line its own, marks either of their two.
-fn has_refused(command: Command, base: u64, based: bool) -> bool
-    ensures { result ≡ any (bad_for based base) (held command) }
+fn has_refused<const BASED: bool>(command: Command, base: u64) -> bool
+    ensures { result ≡ any (bad_for BASED base) (held command) }
 {
     match command {
-        Command::Addressed { address, indent: _ } => is_refused(address, base, based),
-        Command::Plain { indent: _ } => false,
+        Command::Addressed { address, .. } => is_refused::<BASED>(address, base),
         Command::Marked { low, high } => {
-            is_refused(low, base, based) || is_refused(high, base, based)
+            is_refused::<BASED>(low, base) || is_refused::<BASED>(high, base)
         }
-        Command::Token { kind: _, count: _ } => false,
-        Command::End => false,
+        Command::Plain { .. } | Command::Token { .. } | Command::End => false,
     }
-}
-
-// Where the first such command stands.
-#[derive(Clone, Copy)]
-pub enum First {
-    Nowhere,
-    At(usize),
 }
 
 // The first command of an accepted tape that has such an address. The walk is the step's, whose totals say that the command passes.
-pub fn first_refused(tape: &[u8], base: u64, based: bool) -> First
-    requires { Read based tape.now }
-    ensures { first_of result ≡ first_with (form_of based) (bad_for based base) tape.now }
+pub fn first_refused<const BASED: bool>(tape: &[u8], base: u64) -> Option<usize>
+    requires { Read BASED tape.now }
+    ensures { option_of result ≡ first_with (form_of BASED) (bad_for BASED base) tape.now }
 {
-    let mut at = header_of(based);
-    let mut totals = Totals {
-        lines: 0,
-        tokens: 0,
-        text: 0,
-        fresh: false,
-    };
-    loop {
-        match step_by(tape, at, totals, based) {
-            Stepped::Refused {
-                number: _,
-                place: _,
-            } => {
-                return First::Nowhere; // no accepted tape comes here
-            }
-            Stepped::Passed {
-                command,
-                next,
-                totals: more,
-            } => {
-                if has_refused(command, base, based) {
-                    return First::At(at);
-                }
-                if is_end(command) {
-                    return First::Nowhere;
-                }
-                at = next;
-                totals = more;
-            }
+    let mut at = header_of::<BASED>();
+    let mut totals = NONE;
+    while let Ok(
+        Advance {
+            command,
+            next,
+            totals: more,
+        },
+    ) = step::<BASED>(tape, at, totals)
+    {
+        if has_refused::<BASED>(command, base) {
+            return Some(at);
         }
+        if command.is_end() {
+            return None;
+        }
+        at = next;
+        totals = more;
     }
+    None // no accepted tape comes here
 }

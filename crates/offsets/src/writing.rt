@@ -5,26 +5,19 @@ ghost use Rattle.std.proofs.Math.Option.{some};
 ghost use Rattle.reference.specs.Tape.{width, new_line, marked, write_command_by};
 ghost use Rattle.tape.specs.Bytes.{Puts};
 ghost use Rattle.tape.specs.Commands.{form_of};
-ghost use Rattle.offsets.specs.Calls.{bad_for, moved_by, other_form, moved_bytes, Moves, Ready, Converts};
+ghost use Rattle.offsets.specs.Calls.{bad_for, moved_by, moved_bytes, Moves, Ready, Converts};
 
-use tape::commands::{Command, header_of, line_byte, marks_byte, text_of, width_of};
+use tape::commands::{Command, header_of, line_byte, marks_byte, width_of};
 use tape::little_endian::put_number;
-use tape::questions::{Stepped, Totals, is_end, step_by};
+use tape::questions::{Advance, NONE, step};
 use text::copy_bytes;
 
-// The other form.
-fn other(based: bool) -> bool
-    ensures { form_of result ≡ other_form based }
-{
-    if based { false } else { true }
-}
-
 // An address as the other form has it.
-fn moved(address: u64, base: u64, based: bool) -> u64
-    requires { bad_for based base address ≡ false }
-    ensures { result ≡ moved_by based base address }
+fn moved<const BASED: bool>(address: u64, base: u64) -> u64
+    requires { bad_for BASED base address ≡ false }
+    ensures { result ≡ moved_by BASED base address }
 {
-    if based {
+    if BASED {
         base + address
     } else {
         address - base
@@ -32,25 +25,25 @@ fn moved(address: u64, base: u64, based: bool) -> u64
 }
 
 // Writes the command of a line with an address.
-fn put_line(address: u64, indent: u64, based: bool, out: &mut [u8], at: usize) -> usize
-    requires { (indent < 256) × (at + (2 + width (form_of based)) ≤ length out.old) }
-    ensures { Puts out.old at (write_command_by (form_of based) (new_line (some address) indent)) out.new result }
+fn put_line<const BASED: bool>(address: u64, indent: u64, out: &mut [u8], at: usize) -> usize
+    requires { (indent < 256) × (at + (2 + width (form_of BASED)) ≤ length out.old) }
+    ensures { Puts out.old at (write_command_by (form_of BASED) (new_line (some address) indent)) out.new result }
 {
-    let w = width_of(based);
-    out[at] = line_byte(based);
+    let w = width_of::<BASED>();
+    out[at] = line_byte::<BASED>();
     put_number(address, w, out, at + 1);
     out[at + (1 + w)] = indent as u8;
     at + (2 + w)
 }
 
 // Writes the command of marks.
-fn put_marks(low: u64, high: u64, based: bool, out: &mut [u8], at: usize) -> usize
-    requires { at + (1 + width (form_of based) + width (form_of based)) ≤ length out.old }
+fn put_marks<const BASED: bool>(low: u64, high: u64, out: &mut [u8], at: usize) -> usize
+    requires { at + (1 + width (form_of BASED) + width (form_of BASED)) ≤ length out.old }
     ensures { Puts out.old at
-        (write_command_by (form_of based) (marked (record { lowest = low; highest = high }))) out.new result }
+        (write_command_by (form_of BASED) (marked (record { lowest = low; highest = high }))) out.new result }
 {
-    let w = width_of(based);
-    out[at] = marks_byte(based);
+    let w = width_of::<BASED>();
+    out[at] = marks_byte::<BASED>();
     put_number(low, w, out, at + 1);
     put_number(high, w, out, at + (1 + w));
     at + (1 + w + w)
@@ -61,72 +54,69 @@ fn put_copy(tape: &[u8], from: usize, end: usize, out: &mut [u8], at: usize) -> 
     requires { (from ≤ end) × (end ≤ length tape.now) × (at + (end - from) ≤ length out.old) }
     ensures { Puts out.old at (take (end - from) (drop from tape.now)) out.new result }
 {
-    let n = end - from;
-    copy_bytes(text_of(tape, from, n), out, at);
-    at + n
+    copy_bytes(&tape[from..end], out, at);
+    at + (end - from)
 }
 
 // Writes the command at an offset of the tape, which ends at `next`, in the other form.
-fn put_command(
+fn put_command<const BASED: bool>(
     tape: &[u8],
     at: usize,
     next: usize,
     command: Command,
     base: u64,
-    based: bool,
     out: &mut [u8],
     to: usize,
 ) -> usize
-    requires { Moves based base tape.now at next command out.old to }
-    ensures { Puts out.old to (moved_bytes based base tape.now at command) out.new result }
+    requires { Moves BASED base tape.now at next command out.old to }
+    ensures { Puts out.old to (moved_bytes BASED base tape.now at command) out.new result }
 {
     match command {
         Command::Addressed { address, indent } => {
-            put_line(moved(address, base, based), indent, other(based), out, to)
+            let address = moved::<BASED>(address, base);
+            if BASED {
+                put_line::<false>(address, indent, out, to)
+            } else {
+                put_line::<true>(address, indent, out, to)
+            }
         }
-        Command::Plain { indent: _ } => put_copy(tape, at, next, out, to),
         Command::Marked { low, high } => {
-            let lowest = moved(low, base, based);
-            put_marks(lowest, moved(high, base, based), other(based), out, to)
+            let low = moved::<BASED>(low, base);
+            let high = moved::<BASED>(high, base);
+            if BASED {
+                put_marks::<false>(low, high, out, to)
+            } else {
+                put_marks::<true>(low, high, out, to)
+            }
         }
-        Command::Token { kind: _, count: _ } => put_copy(tape, at, next, out, to),
-        Command::End => put_copy(tape, at, next, out, to),
+        Command::Plain { .. } | Command::Token { .. } | Command::End => {
+            put_copy(tape, at, next, out, to)
+        }
     }
 }
 
 // Writes the commands of a tape that no question refuses in the other form, from `to` on, and says where they end.
-pub fn put_commands(tape: &[u8], base: u64, based: bool, out: &mut [u8], to: usize) -> usize
-    requires { Ready based base tape.now × (to + 34561 ≤ length out.old) }
-    ensures { Converts based base tape.now out.old to out.new result }
+pub fn put_commands<const BASED: bool>(tape: &[u8], base: u64, out: &mut [u8], to: usize) -> usize
+    requires { Ready BASED base tape.now × (to + 34561 ≤ length out.old) }
+    ensures { Converts BASED base tape.now out.old to out.new result }
 {
-    let mut at = header_of(based);
-    let mut totals = Totals {
-        lines: 0,
-        tokens: 0,
-        text: 0,
-        fresh: false,
-    };
+    let mut at = header_of::<BASED>();
+    let mut totals = NONE;
     let mut end = to;
-    loop {
-        match step_by(tape, at, totals, based) {
-            Stepped::Refused {
-                number: _,
-                place: _,
-            } => {
-                return end; // no accepted tape comes here
-            }
-            Stepped::Passed {
-                command,
-                next,
-                totals: more,
-            } => {
-                end = put_command(tape, at, next, command, base, based, out, end);
-                if is_end(command) {
-                    return end;
-                }
-                at = next;
-                totals = more;
-            }
+    while let Ok(
+        Advance {
+            command,
+            next,
+            totals: more,
+        },
+    ) = step::<BASED>(tape, at, totals)
+    {
+        end = put_command::<BASED>(tape, at, next, command, base, out, end);
+        if command.is_end() {
+            return end;
         }
+        at = next;
+        totals = more;
     }
+    end // no accepted tape comes here
 }

@@ -1,4 +1,3 @@
--- What stands on the page of a listing's bytes: escaped (Escaping), in cells (Cells), by the commands of a tape (Commands).
+-- What stands on the page of a listing's bytes: escaped (Escaping), in cells (Cells).
 pub mod Escaping
 pub mod Cells
-pub mod Commands

@@ -4,7 +4,7 @@
 
 mod cells; // the cells of a line, side by side
 
-ghost use Rattle.std.specs.Prelude.{[], ◌∷◌, ◌+◌, ◌*◌, ◌≤◌, ◌<◌, length};
+ghost use Rattle.std.specs.Prelude.{◌+◌, ◌*◌, ◌≤◌, length};
 ghost use Rattle.numbers.specs.Writing.{Written};
 ghost use Rattle.page.specs.Escaping.{entity, escaped};
 ghost use Rattle.page.specs.Cells.{cell};
@@ -12,36 +12,19 @@ ghost use Rattle.page.specs.Cells.{cell};
 pub use cells::{put_cells, put_line};
 use printing::{put, put_decimal};
 
-// Puts a byte as it is.
-fn put_same(b: u8, out: &mut [u8], at: usize) -> usize
-    requires { at < length out.old }
-    ensures { Written out.old at (b ∷ []) out.new result }
-{
-    out[at] = b;
-    at + 1
-}
-
 // Puts a byte, or its entity.
 fn put_byte(b: u8, out: &mut [u8], at: usize) -> usize
     requires { at + 6 ≤ length out.old }
     ensures { Written out.old at (entity b) out.new result }
 {
-    if b == b'&' {
-        return put(b"&amp;", out, at);
+    match b {
+        b'&' => put(b"&amp;", out, at),
+        b'<' => put(b"&lt;", out, at),
+        b'>' => put(b"&gt;", out, at),
+        b'"' => put(b"&quot;", out, at),
+        b'\'' => put(b"&#39;", out, at),
+        _ => put(&[b], out, at),
     }
-    if b == b'<' {
-        return put(b"&lt;", out, at);
-    }
-    if b == b'>' {
-        return put(b"&gt;", out, at);
-    }
-    if b == b'"' {
-        return put(b"&quot;", out, at);
-    }
-    if b == b'\'' {
-        return put(b"&#39;", out, at);
-    }
-    put_same(b, out, at)
 }
 
 // Puts a text escaped.
@@ -50,10 +33,8 @@ pub fn put_escaped(text: &[u8], out: &mut [u8], at: usize) -> usize
     ensures { Written out.old at (escaped text.now) out.new result }
 {
     let mut end = at;
-    let mut i = 0;
-    while i < text.len() {
-        end = put_byte(text[i], out, end);
-        i += 1;
+    for b in text {
+        end = put_byte(*b, out, end);
     }
     end
 }

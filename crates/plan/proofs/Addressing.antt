@@ -1,6 +1,6 @@
 -- The names that are addressed: no row of the table of names is among them. Assumes nothing.
 use Prim.Native.Nat.{ℕ, ◌+◌, ◌≤◌, ◌<◌}
-use mathlib.Core.Path.{◌≡◌, refl, sym, ap, ◌∙◌}
+use mathlib.Core.Path.{◌≡◌, refl, sym, ◌∙◌}
 use mathlib.Core.Bool.{Bool, true, false}
 use mathlib.Core.List.{List}
 use lib.ListN.{length, get_or, drop}
@@ -14,7 +14,12 @@ use Rattle.names.specs.Families.{row_name}
 use Rattle.names.proofs.Searches.{all-below, below_at}
 use Rattle.lines.specs.Words.{text_of, Holds}
 use Rattle.lines.specs.Fams.{Fam, fam_text}
-use Rattle.lines.proofs.words.Scans.{any-true, any_next, any_false}
+use Rattle.laws.proofs.Scans.{any-map, any_hit, any_miss, any_end}
+use Rattle.laws.proofs.Std.{same-std}
+use Rattle.reference.specs.Lists.{any}
+use lib.Pointwise.{pointwise}
+use lib.Dec.{eqb, leb}
+use borrow.Author.Tests.{lt-leb}
 use Rattle.lines.proofs.fams.Families.{fam-row, fam-name}
 use Rattle.plan.specs.Slots.{slot_names, Slotted}
 
@@ -30,27 +35,30 @@ row_other r h = not-true (below_at 8 (λ k. not (starts_with (row_name k) (bytes
     tested = refl
 
 module _ (tape area slots : Text) (words : List ℕ) {f : Fam} where
-  pub row_unaddressed : Slotted slots words → f < 8 → false ≡ has (slot_names slots words) (fam_text tape area f)
-  row_unaddressed h i = rw (fam-row tape area {f = f} i) (sym (h.only (row_name f) (row_other f i)))
+  pub row_unaddressed : Slotted slots words → f < 8 → leb 8 f ≡ has (slot_names slots words) (fam_text tape area f)
+  row_unaddressed h i = rw (fam-row tape area {f = f} i, lt-leb 8 f i) (sym (h.only (row_name f) (row_other f i)))
 
   pub slot-addressed : {s : Text} {x : Bool} → 8 ≤ f → s ≡ text_of tape area f → x ≡ has (slot_names slots words) s
       → x ≡ has (slot_names slots words) (fam_text tape area f)
   slot-addressed i es ex = rw (fam-name tape area {f = f} i, ← es) ex
 
--- one name after the other: s is the text of the word w
+-- one name after the other: s is the text of the word w, x whether it is the name t
 module _ (slots : Text) (words : List ℕ) (t : Text) (k : ℕ)
     (inv : has (slot_names slots words) t ≡ has (slot_names slots (drop k words)) t) where
-  module _ (h : k < length words) {s : Text} (es : s ≡ text_of slots slots (get_or words k 0)) {x : Bool} (ex : x ≡ (s ≟ t)) where
-    is_same : x ≡ (text_of slots slots (get_or words k 0) ≟ t)
-    is_same = ex ∙ ap (λ (v : Text). v ≟ t) es
+  here : has (slot_names slots words) t ≡ any (λ w. text_of slots slots w ≟ t) (drop k words)
+  here = inv ∙ any-map (◌≟ t) (text_of slots slots) (drop k words)
+
+  module _ (h : k < length words) {s : Text} (es : s ≡ text_of slots slots (get_or words k 0)) {x : Bool} (ex : x ≡ pointwise eqb s t) where
+    told : {y : Bool} → x ≡ y → (text_of slots slots (get_or words k 0) ≟ t) ≡ y
+    told e = rw (← es) (sym (same-std s t) ∙ sym ex ∙ e)
 
     pub among_here : x ≡ true → true ≡ has (slot_names slots words) t
-    among_here e = any-true (◌≟ t) (text_of slots slots) words k inv h refl is_same e
+    among_here e = sym (here ∙ any_hit (λ w. text_of slots slots w ≟ t) words k 0 h (told e))
 
     pub among_next : x ≡ false → has (slot_names slots words) t ≡ has (slot_names slots (drop (k + 1) words)) t
-    among_next e = any_next (◌≟ t) (text_of slots slots) words k inv h refl is_same e
+    among_next e = here ∙ any_miss (λ w. text_of slots slots w ≟ t) words k 0 h (told e) ∙ sym (any-map (◌≟ t) (text_of slots slots) (drop (k + 1) words))
 
   pub among_none : length words ≤ k → false ≡ has (slot_names slots words) t
-  among_none h = any_false (◌≟ t) (text_of slots slots) words k inv h
+  among_none h = sym (here ∙ any_end (λ w. text_of slots slots w ≟ t) words k h)
 
 pub ruleset addressing = (refl, row_unaddressed, slot-addressed, among_here, among_next, among_none)

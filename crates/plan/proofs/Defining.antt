@@ -19,19 +19,17 @@ use Rattle.joining.specs.Plan.{definition_of}
 use Rattle.joining.proofs.Looking.{before_of, reads_begin, reads_hit, reads_miss, reads_end}
 use Rattle.lines.specs.Words.{kind_of, text_of, token_of, tokens_of, Points, Holds}
 use Rattle.lines.specs.Shapes.{expr_words, Expression, Assigns}
-use Rattle.lines.specs.Fams.{Fam, fam_text, Names}
+use Rattle.lines.specs.Fams.{fam_text, Names}
 use Rattle.lines.specs.declared.fams.Named.{Named}
-use Rattle.lines.specs.declared.fams.Named.TheVariants.{As as NamedAs, Nothing as Unnamed}
 use Rattle.lines.specs.declared.shapes.Expr.{Expr}
-use Rattle.lines.specs.declared.shapes.Assigned.{Assigned}
-use Rattle.lines.specs.declared.shapes.Assigned.TheVariants.{To, Nothing as Unassigned}
 use Rattle.lines.proofs.shapes.Places.{get_at}
 use Rattle.lines.proofs.shapes.Right.{expr-long, expr-points}
 use Rattle.lines.proofs.shapes.Sides.{assigned_to, assigned-not, assigned-side}
 use Rattle.lines.proofs.fams.Families.{named_as, named-not, as_known}
 use Rattle.plan.specs.declared.definitions.Definition.{Definition}
-use Rattle.plan.specs.declared.definitions.Defined.TheVariants.{As, Nothing}
 use Rattle.plan.specs.Definitions.{before_at, Defines}
+use Rattle.std.specs.Prelude as std
+use Rattle.std.specs.Prelude.{Some, None}
 
 -- ---- one token of the right side
 
@@ -110,14 +108,14 @@ pub ruleset reads = (reads-begun, reads-true, reads-next, reads-false)
 
 -- ---- the line
 
-as_inj : {d e : Definition} → As d ≡ As e → d ≡ e
+as_inj : {d e : Definition} → Some d ≡ Some e → d ≡ e
 as_inj e = cc
 
-never_as : {d : Definition} {X : Type 0} → Nothing ≡ As d → X
+never_as : {d : Definition} {X : Type 0} → None ≡ Some d → X
 never_as e = absurd (let z : ◌≡◌ {A = ℕ} 0 1 = cc in omega arith)
 
 -- a line that assigns has a first token and a right side
-module _ {tape area : Text} {ws : List ℕ} {r : Assigned} {x : Expr} (h : Assigns tape area ws r) (e : r ≡ To x) where
+module _ {tape area : Text} {ws : List ℕ} {r : std.Option Expr} {x : Expr} (h : Assigns tape area ws r) (e : r ≡ Some x) where
   pub assigned-long : 0 < length ws
   assigned-long = omega (arith, expr-long (assigned-side h e))
 
@@ -127,28 +125,28 @@ module _ {tape area : Text} {ws : List ℕ} {r : Assigned} {x : Expr} (h : Assig
 pub ruleset assigning = (assigned-side, assigned-long, assigned-points)
 
 module _ (tape area : Text) (ws : List ℕ) where
-  undefined : none ≡ definition_of (tokens_of tape area ws) → Defines tape area ws Nothing
-  undefined e = record { is = e; sound = λ d i. never_as i }
+  undefined : none ≡ definition_of (tokens_of tape area ws) → {p : std.Option Definition} → p ≡ None → Defines tape area ws p
+  undefined e ep = rw ep (record { is = e; sound = λ d i. never_as i })
 
   -- r is what the line assigns, n the name of its first token
-  module _ {r : Assigned} (h : Assigns tape area ws r) where
-    pub no_assignment : r ≡ Unassigned → Defines tape area ws Nothing
+  module _ {r : std.Option Expr} (h : Assigns tape area ws r) where
+    pub no_assignment : r ≡ None → {p : std.Option Definition} → p ≡ None → Defines tape area ws p
     unfolding definition_of let_some◌else◌then◌
     no_assignment e = undefined (rw (assigned-not h e))
 
-    module _ {x : Expr} (e : r ≡ To x) {n : Named} (hn : Names tape area (family (text_of tape area (get_or ws 0 0))) n) where
-      pub no_name : n ≡ Unnamed → Defines tape area ws Nothing
+    module _ {x : Expr} (e : r ≡ Some x) {n : std.Option Named} (hn : Names tape area (family (text_of tape area (get_or ws 0 0))) n) where
+      pub no_name : n ≡ None → {p : std.Option Definition} → p ≡ None → Defines tape area ws p
       unfolding definition_of let_some◌else◌then◌
       no_name f = undefined (rw (assigned_to h e, named-not hn f))
 
-      module _ {g : Fam} {k l : ℕ} (f : n ≡ NamedAs g k l) {m : Bool} (em : m ≡ any (of_family (fam_text tape area g)) (tokens_of tape area (expr_words ws x))) where
-        pub mentioned : m ≡ true → Defines tape area ws Nothing
+      module _ {g : Named} (f : n ≡ Some g) {m : Bool} (em : m ≡ any (of_family (fam_text tape area g.family)) (tokens_of tape area (expr_words ws x))) where
+        pub mentioned : m ≡ true → Defines tape area ws None
         unfolding definition_of let_some◌else◌then◌ when◌then◌else◌
-        mentioned t = undefined (rw (assigned_to h e, named_as hn f, ← em, t))
+        mentioned t = undefined (rw (assigned_to h e, named_as hn f, ← em, t)) refl
 
         pub defined_as : m ≡ false → {calls reads : Bool} → calls ≡ is_some (call_in (tokens_of tape area ws))
             → reads ≡ reads_memory (tokens_of tape area (expr_words ws x))
-            → Defines tape area ws (As (record { family = g; width = k; lowest = l; expr = x; calls = calls; reads = reads }))
+            → Defines tape area ws (Some (record { name = g; expr = x; calls = calls; reads = reads }))
         unfolding definition_of let_some◌else◌then◌ when◌then◌else◌
         defined_as t ec er =
             record {

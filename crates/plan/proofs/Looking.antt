@@ -1,34 +1,29 @@
 -- The search for a single use: the cases in which `same_run`, `leaves_inputs` and `look_at` return, and the turns of `use_of`. Assumes nothing.
 use Prim.Native.Nat.{ℕ, ◌+◌, ◌≤◌, ◌<◌}
 use native.Mathlib.Numerals.{add-one}
-use mathlib.Core.Path.{◌≡◌, refl, sym, ◌∙◌}
-use mathlib.Core.Bool.{Bool, true, false, not as flip}
+use mathlib.Core.Path.{◌≡◌, sym, ◌∙◌}
+use mathlib.Core.Bool.{Bool, true, false}
 use mathlib.Core.List.{List}
 use mathlib.Core.Option.{Option, none, some}
-use lib.Dec.{eqb}
 use lib.ListN.{length, get_or, drop}
-use borrow.Author.Tests.{eq-eqb, ne_eqb, not-true, not-false}
-use Rattle.reference.specs.Control.{not, ◌and◌, ◌or◌, when◌then◌else◌, let_some◌else◌then◌}
-use Rattle.reference.specs.Lists.{any, is_some}
+use borrow.Author.Tests.{eq-eqb, ne_eqb}
+use Rattle.reference.specs.Control.{not, ◌and◌, when◌then◌else◌, let_some◌else◌then◌}
+use Rattle.reference.specs.Lists.{any}
 use Rattle.reference.specs.Text.{Text, bytes, starts_with}
 use Rattle.reference.specs.Listing.{Token, ◌at◌}
 use Rattle.reference.specs.Names.{family, of_family}
-use Rattle.reference.specs.Shapes.{label_tokens, braces_in, call_in}
+use Rattle.reference.specs.Shapes.{label_tokens}
 use Rattle.reference.specs.Life.{touch_of, match_touch}
 use Rattle.reference.specs.Join.{reads_memory, harmless, use_from}
-use Rattle.laws.proofs.Scans.{not_same}
 use Rattle.joining.specs.Plan as J
 use Rattle.joining.specs.Plan.{look, use_of}
 use Rattle.joining.proofs.Looking.{mentions, use_here, use_later, use_stops, use_end}
 use Rattle.lines.specs.Words.{text_of, tokens_of}
 use Rattle.lines.specs.Lines.{indent_of, part_of, bare_in, bare_listing}
 use Rattle.lines.specs.Shapes.{expr_words, Assigns}
-use Rattle.lines.specs.Fams.{Fam, fam_text, Names}
+use Rattle.lines.specs.Fams.{fam_text, Names}
 use Rattle.lines.specs.declared.fams.Named.{Named}
-use Rattle.lines.specs.declared.fams.Named.TheVariants.{As as NamedAs, Nothing as Unnamed}
 use Rattle.lines.specs.declared.shapes.Expr.{Expr}
-use Rattle.lines.specs.declared.shapes.Assigned.{Assigned}
-use Rattle.lines.specs.declared.shapes.Assigned.TheVariants.{To, Nothing as Unassigned}
 use Rattle.lines.proofs.shapes.Sides.{assigned_to, assigned-not}
 use Rattle.lines.proofs.fams.Families.{named_as, named-not}
 use Rattle.life.specs.declared.touches.Touched.{Touched}
@@ -40,67 +35,27 @@ use Rattle.plan.specs.declared.uses.Look.{Look}
 use Rattle.plan.specs.declared.uses.Look.TheVariants.{Use, Passes, Stops}
 use Rattle.plan.specs.Uses.{looked, same_run, leaves_inputs}
 use Rattle.plan.proofs.Reaching.{line_at, line_below, line_past}
-
--- ---- lines in one run
-
-module _ (tape area : Text) (tokens : List ℕ) (base : ℕ) {calls : Bool} (l : ℕ) where
-  pub run-calls : calls ≡ true → false ≡ same_run base calls (bare_in tape area tokens l)
-  unfolding same_run not ◌or◌
-  run-calls t = rw t
-
-  module _ (tc : calls ≡ false) {ws : List ℕ} (ew : ws ≡ part_of tokens l) {a : Bool} (ea : a ≡ braces_in (tokens_of tape area ws)) where
-    pub run_braces : a ≡ true → false ≡ same_run base calls (bare_in tape area tokens l)
-    unfolding same_run not ◌or◌
-    run_braces t = rw (tc, ← ew, ← ea, t)
-
-    module _ (ta : a ≡ false) {b : Bool} (eb : b ≡ is_some (call_in (tokens_of tape area ws))) where
-      pub run-called : b ≡ true → false ≡ same_run base calls (bare_in tape area tokens l)
-      unfolding same_run not ◌or◌
-      run-called t = rw (tc, ← ew, ← ea, ta, ← eb, t)
-
-      pub run-indent : b ≡ false → {k : ℕ} → k ≡ indent_of l → eqb k base ≡ same_run base calls (bare_in tape area tokens l)
-      unfolding same_run not ◌or◌
-      run-indent t {k} ek = rw (tc, ← ew, ← ea, ta, ← eb, t, ← ek) (twice (eqb k base))
-        where
-          twice : (x : Bool) → x ≡ not (not x)
-          twice true = refl
-          twice false = refl
-
-pub ruleset sharing = (run-calls, run_braces, run-called, run-indent)
+use Rattle.std.specs.Prelude as std
+use Rattle.std.specs.Prelude.{Some, None}
 
 -- ---- what the right side reads
 
 -- the right side `expr` of the definition; r is what the line assigns, n the name of its first token
-module _ (tape area : Text) (expr : List Token) (ws : List ℕ) {r : Assigned} (h : Assigns tape area ws r) where
-  pub leaves_none : r ≡ Unassigned → false ≡ leaves_inputs expr (tokens_of tape area ws)
+module _ (tape area : Text) (expr : List Token) (ws : List ℕ) {r : std.Option Expr} (h : Assigns tape area ws r) where
+  pub leaves_none : r ≡ None → false ≡ leaves_inputs expr (tokens_of tape area ws)
   unfolding leaves_inputs let_some◌else◌then◌
   leaves_none e = rw (assigned-not h e)
 
-  module _ {x : Expr} (e : r ≡ To x) {n : Named} (hn : Names tape area (family (text_of tape area (get_or ws 0 0))) n) where
-    pub leaves_unnamed : n ≡ Unnamed → false ≡ leaves_inputs expr (tokens_of tape area ws)
+  module _ {x : Expr} (e : r ≡ Some x) {n : std.Option Named} (hn : Names tape area (family (text_of tape area (get_or ws 0 0))) n) where
+    pub leaves_unnamed : n ≡ None → false ≡ leaves_inputs expr (tokens_of tape area ws)
     unfolding leaves_inputs let_some◌else◌then◌
     leaves_unnamed f = rw (assigned_to h e, named-not hn f)
 
-    module _ {g : Fam} {k l : ℕ} (f : n ≡ NamedAs g k l) {m : Bool} (em : m ≡ any (of_family (fam_text tape area g)) expr) where
-      leaves_is : leaves_inputs expr (tokens_of tape area ws) ≡ (not m and not (reads_memory expr and starts_with (text_of tape area (get_or ws 0 0)) (bytes "var_")))
-      unfolding leaves_inputs let_some◌else◌then◌
-      leaves_is = rw (assigned_to h e, named_as hn f, mentions expr (fam_text tape area g), ← em)
-
-      pub leaves-read : m ≡ true → false ≡ leaves_inputs expr (tokens_of tape area ws)
-      unfolding not ◌and◌
-      leaves-read t = sym (leaves_is ∙ rw t)
-
-      module _ (tm : m ≡ false) {b : Bool} (eb : b ≡ reads_memory expr) where
-        pub leaves-unread : flip b ≡ true → true ≡ leaves_inputs expr (tokens_of tape area ws)
-        unfolding not ◌and◌
-        leaves-unread t = sym (leaves_is ∙ rw (tm, ← eb, not-true b t))
-
-        pub leaves-slot : flip b ≡ false → {s : Text} → s ≡ text_of tape area (get_or ws 0 0) → {y : Bool} → y ≡ starts_with s (bytes "var_")
-            → flip y ≡ leaves_inputs expr (tokens_of tape area ws)
-        unfolding not ◌and◌
-        leaves-slot t es ey = not_same ey ∙ sym (leaves_is ∙ rw (tm, ← eb, not-false b t, ← es))
-
-pub ruleset leaving = (leaves_none, leaves_unnamed, leaves-read, leaves-unread, leaves-slot)
+    pub leaves_is : {m : Named} → n ≡ Some m
+        → leaves_inputs expr (tokens_of tape area ws)
+        ≡ (not (any (of_family (fam_text tape area m.family)) expr) and not (reads_memory expr and starts_with (text_of tape area (get_or ws 0 0)) (bytes "var_")))
+    unfolding leaves_inputs let_some◌else◌then◌
+    leaves_is {m} f = rw (assigned_to h e, named_as hn f, mentions expr (fam_text tape area m.family))
 
 -- ---- one line
 
@@ -114,7 +69,7 @@ module _ (tape area : Text) (tokens : List ℕ) (s : ℕ) (d : Definition) (vs :
   unfolding look when◌then◌else◌
   look-label t = rw (← ew, ← ea, t)
 
-  module _ (ta : a ≡ false) {q : Touched} (eq : touched q ≡ touch_of (tokens_of tape area ws) (fam_text tape area d.family) vs) where
+  module _ (ta : a ≡ false) {q : Touched} (eq : touched q ≡ touch_of (tokens_of tape area ws) (fam_text tape area d.name.family) vs) where
     pub look_kill : q ≡ Kill → J.stops ≡ looks
     unfolding look when◌then◌else◌ match_touch
     look_kill e = rw (← ew, ← ea, ta, ← eq, e)
@@ -133,19 +88,19 @@ module _ (tape area : Text) (tokens : List ℕ) (s : ℕ) (d : Definition) (vs :
       unfolding look when◌then◌else◌ match_touch harmless same_run leaves_inputs
       look-rest = rw (eb, ei, ← ew, ← ea, ta, ← eq, e)
 
-      pub look_stop : flip b ≡ true → J.stops ≡ looks
+      pub look_stop : b ≡ false → J.stops ≡ looks
       unfolding when◌then◌else◌ ◌and◌
-      look_stop t = sym (look-rest ∙ rw (not-true b t))
+      look_stop t = sym (look-rest ∙ rw t)
 
-      module _ (tb : flip b ≡ false) {us : List ℕ} (eu : us ≡ part_of tokens s)
+      module _ (tb : b ≡ true) {us : List ℕ} (eu : us ≡ part_of tokens s)
           {y : Bool} (ey : y ≡ leaves_inputs (tokens_of tape area (expr_words us d.expr)) (tokens_of tape area ws)) where
         pub look_pass : y ≡ true → J.passes ≡ looks
         unfolding when◌then◌else◌ ◌and◌
-        look_pass t = sym (look-rest ∙ rw (not-false b tb, ← eu, ← ey, t))
+        look_pass t = sym (look-rest ∙ rw (tb, ← eu, ← ey, t))
 
         pub look-other : y ≡ false → J.stops ≡ looks
         unfolding when◌then◌else◌ ◌and◌
-        look-other t = sym (look-rest ∙ rw (not-false b tb, ← eu, ← ey, t))
+        look-other t = sym (look-rest ∙ rw (tb, ← eu, ← ey, t))
 
 pub ruleset looking = (look-label, look_kill, look-once, look_more, look_stop, look_pass, look-other)
 

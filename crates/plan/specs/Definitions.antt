@@ -11,8 +11,7 @@ use Rattle.lines.specs.Words.{tokens_of}
 use Rattle.lines.specs.Shapes.{expr_words, Expression}
 use Rattle.lines.specs.Fams.{fam_text, Known}
 use Rattle.plan.specs.declared.definitions.Definition.{Definition}
-use Rattle.plan.specs.declared.definitions.Defined.{Defined}
-use Rattle.plan.specs.declared.definitions.Defined.TheVariants.{As, Nothing}
+use Rattle.std.specs.Prelude as std
 
 -- the token before the token k
 unfoldable pub before_at : List Token → ℕ → Option Token
@@ -22,22 +21,22 @@ before_at ts k = when eqb k 0 then none else get ts (k - 1)
 abbrev pub definition_in : Text → Text → List ℕ → Definition → J.Definition
 definition_in tape area ws d =
     record {
-      fam = record { name = fam_text tape area d.family; width = d.width; lowest = d.lowest };
+      fam = record { name = fam_text tape area d.name.family; width = d.name.width; lowest = d.name.lowest };
       expr = tokens_of tape area (expr_words ws d.expr);
       calls = d.calls;
     }
 
-abbrev pub defined : Text → Text → List ℕ → Defined → Option J.Definition
-defined tape area ws (As d) = some (definition_in tape area ws d)
-defined tape area ws Nothing = none
+abbrev pub defined : Text → Text → List ℕ → std.Option Definition → Option J.Definition
+defined tape area ws (std.Some d) = some (definition_in tape area ws d)
+defined tape area ws std.None = none
 
 -- d can be read, and says whether its right side reads memory
 pub record Sound (tape area : Text) (ws : List ℕ) (d : Definition) : Type 0 where
-  pub known : Known tape area d.family
+  pub known : Known tape area d.name.family
   pub side : Expression ws d.expr
   pub reads_is : d.reads ≡ reads_memory (tokens_of tape area (expr_words ws d.expr))
 
 -- the answer of `definition_of`
-pub record Defines (tape area : Text) (ws : List ℕ) (r : Defined) : Type 0 where
+pub record Defines (tape area : Text) (ws : List ℕ) (r : std.Option Definition) : Type 0 where
   pub is : defined tape area ws r ≡ J.definition_of (tokens_of tape area ws)
-  pub sound : (d : Definition) → r ≡ As d → Sound tape area ws d
+  pub sound : (d : Definition) → r ≡ std.Some d → Sound tape area ws d

@@ -13,8 +13,7 @@ use Rattle.reference.specs.Rules.{Rules}
 use Rattle.lines.specs.Shapes.{expr_words, Expression}
 use Rattle.lines.specs.Fams.{fam_text, Known}
 use Rattle.plan.specs.declared.plans.Join.{Join}
-use Rattle.plan.specs.declared.plans.Plan.{Plan}
-use Rattle.plan.specs.declared.plans.Plan.TheVariants.{Do, Nothing}
+use Rattle.std.specs.Prelude as std
 
 -- `plan_use` of a line that is no loop's end and after which the value is not read: the plan for the use among its tokens, line j's
 unfoldable pub plan_among : Rules → J.Definition → List Token → ℕ → Option J.Plan
@@ -34,9 +33,9 @@ join_in tape area ws j =
       brackets = j.brackets;
     }
 
-abbrev pub planned : Text → Text → List ℕ → Plan → Option J.Plan
-planned tape area ws (Do j) = some (join_in tape area ws j)
-planned tape area ws Nothing = none
+abbrev pub planned : Text → Text → List ℕ → std.Option Join → Option J.Plan
+planned tape area ws (std.Some j) = some (join_in tape area ws j)
+planned tape area ws std.None = none
 
 -- j joins line i, and its family and its right side can be read
 pub record Joins (tape area : Text) (ws : List ℕ) (i : ℕ) (j : Join) : Type 0 where
@@ -45,6 +44,6 @@ pub record Joins (tape area : Text) (ws : List ℕ) (i : ℕ) (j : Join) : Type 
   pub side : Expression ws j.expr
 
 -- the answer r, of line i, is the plan o
-pub record Plans (tape area : Text) (ws : List ℕ) (i : ℕ) (o : Option J.Plan) (r : Plan) : Type 0 where
+pub record Plans (tape area : Text) (ws : List ℕ) (i : ℕ) (o : Option J.Plan) (r : std.Option Join) : Type 0 where
   pub is : planned tape area ws r ≡ o
-  pub sound : (j : Join) → r ≡ Do j → Joins tape area ws i j
+  pub sound : (j : Join) → r ≡ std.Some j → Joins tape area ws i j

@@ -12,13 +12,13 @@ ghost use Rattle.plan.specs.Definitions.{definition_in, Sound};
 ghost use Rattle.plan.specs.Slots.{slot_names, Slotted};
 ghost use Rattle.plan.specs.Plans.{plan_among, Plans};
 
-use crate::definitions::{Defined, Definition, definition_of};
+use crate::definitions::{Definition, definition_of};
 use crate::slots::is_addressed;
 use crate::{reaches, uses};
 use life::{Followed, dead_after};
 use lines::fams::Fam;
 use lines::rules::Rules;
-use lines::shapes::{Expr, Position};
+use lines::shapes::Expr;
 use lines::{fams, shapes, words};
 
 // The right side of line `line` takes the place of each token of the family in each line after it, up to line `last`, that uses the family,
@@ -32,25 +32,17 @@ pub struct Join {
     pub expr: Expr,
 }
 
-#[derive(Clone, Copy)]
-pub enum Plan {
-    Do(Join),
-    Nothing,
-}
-
 // The joining of the definition d of line i into its uses up to line `last`.
-fn join_of(i: usize, last: usize, brackets: bool, d: Definition) -> Plan
-    ensures { result ≡ Plan.Do (record { line = i; last = last; brackets = brackets; family = d.family; expr = d.expr }) }
+fn join_of(i: usize, last: usize, brackets: bool, d: Definition) -> Join
+    ensures { result ≡ record { line = i; last = last; brackets = brackets; family = d.name.family; expr = d.expr } }
 {
-    let f = d.family;
-    let x = d.expr;
-    Plan::Do(Join {
+    Join {
         line: i,
         last,
         brackets,
-        family: f,
-        expr: x,
-    })
+        family: d.name.family,
+        expr: d.expr,
+    }
 }
 
 // Constants may be copied into several uses inside one straight-line run.
@@ -63,7 +55,7 @@ fn propagate_constant<'a>(
     i: usize,
     d: Definition,
     rules: Rules,
-) -> Plan
+) -> Option<Join>
     requires { Listed tape.now area.now tokens.now lines.now
         × Labelled (bare_listing tape.now area.now tokens.now lines.now) labels.now
         × Sound tape.now area.now (part_of tokens.now (get_or lines.now i 0)) d × (i < length lines.now) }
@@ -72,19 +64,15 @@ fn propagate_constant<'a>(
         (definition_in tape.now area.now (part_of tokens.now (get_or lines.now i 0)) d)
         (labels_at (bare_listing tape.now area.now tokens.now lines.now) labels.now) (volatile (rules_of rules))) result }
 {
-    let f = d.family;
-    let r = reaches::reach_of(tape, area, tokens, lines, i, f, rules);
-    let last = r.last;
-    if !r.used {
-        return Plan::Nothing;
+    let f = d.name.family;
+    let last = reaches::reach_of(tape, area, tokens, lines, i, f, rules)?;
+    if reaches::ends_at(tape, area, tokens, lines, labels, i, last, f, rules)
+        && reaches::all_take(tape, area, tokens, lines, i, last, f, rules)
+    {
+        Some(join_of(i, last, false, d))
+    } else {
+        None
     }
-    if !reaches::ends_at(tape, area, tokens, lines, labels, i, last, f, rules) {
-        return Plan::Nothing;
-    }
-    if !reaches::all_take(tape, area, tokens, lines, i, last, f, rules) {
-        return Plan::Nothing;
-    }
-    join_of(i, last, false, d)
 }
 
 // Whether the right side x of the line `source` gets brackets where no delimiters spare it.
@@ -99,9 +87,10 @@ fn is_bracketed<'a>(
     ensures { result ≡ is_bracketed (rules_of rules) (tokens_of tape.now area.now (expr_words source.now x)) }
 {
     if rules.profile {
-        return 1 < x.count;
+        1 < x.count
+    } else {
+        shapes::is_operator_expr(tape, area, source, x)
     }
-    shapes::is_operator_expr(tape, area, source, x)
 }
 
 // Whether the right side x of the line `source` wants brackets at the token `pos` of a line.
@@ -119,10 +108,7 @@ fn wants_brackets<'a>(
     ensures { result ≡ wants_brackets (rules_of rules) (tokens_of tape.now area.now (expr_words source.now x))
         (tokens_of tape.now area.now line.now) pos }
 {
-    if !is_bracketed(tape, area, source, x, rules) {
-        return false;
-    }
-    !uses::is_standalone(tape, area, line, pos)
+    is_bracketed(tape, area, source, x, rules) && !uses::is_standalone(tape, area, line, pos)
 }
 
 // The plan for the use among the tokens of `line`, which is line j, of the definition d of line i, whose tokens are `source`.
@@ -135,23 +121,19 @@ fn plan_among<'a>(
     j: usize,
     d: Definition,
     rules: Rules,
-) -> Plan
+) -> Option<Join>
     requires { Holds tape.now area.now source.now × Holds tape.now area.now line.now
         × Sound tape.now area.now source.now d }
     ensures { Plans tape.now area.now source.now i
         (plan_among (rules_of rules) (definition_in tape.now area.now source.now d) (tokens_of tape.now area.now line.now) j)
         result }
 {
-    let f = d.family;
-    let Position::At(pos) = fams::first_of(tape, area, line, f) else {
-        return Plan::Nothing;
-    };
-    if !uses::use_fits(tape, area, line, pos, f, d.width, d.lowest, rules.parts) {
-        return Plan::Nothing;
+    let pos = fams::first_of(tape, area, line, d.name.family)?;
+    if !uses::use_fits(tape, area, line, pos, d.name, rules.parts) {
+        return None;
     }
-    let x = d.expr;
-    let brackets = wants_brackets(tape, area, source, x, line, pos, rules);
-    join_of(i, j, brackets, d)
+    let brackets = wants_brackets(tape, area, source, d.expr, line, pos, rules);
+    Some(join_of(i, j, brackets, d))
 }
 
 // The plan for the use on line j of the definition d of line i.
@@ -165,7 +147,7 @@ fn plan_use<'a>(
     j: usize,
     d: Definition,
     rules: Rules,
-) -> Plan
+) -> Option<Join>
     requires { Listed tape.now area.now tokens.now lines.now
         × Labelled (bare_listing tape.now area.now tokens.now lines.now) labels.now
         × Sound tape.now area.now (part_of tokens.now (get_or lines.now i 0)) d × (i < length lines.now)
@@ -177,17 +159,14 @@ fn plan_use<'a>(
 {
     let s = lines[i];
     let line = words::line_of(tokens, lines[j]);
-    if shapes::has_while(tape, area, line) {
-        return Plan::Nothing;
-    }
     let v = Followed {
-        family: d.family,
+        family: d.name.family,
         indent: words::indent(s),
         start: i,
         rules,
     };
-    if !dead_after(tape, area, tokens, lines, labels, j, v) {
-        return Plan::Nothing;
+    if shapes::has_while(tape, area, line) || !dead_after(tape, area, tokens, lines, labels, j, v) {
+        return None;
     }
     plan_among(tape, area, words::line_of(tokens, s), line, i, j, d, rules)
 }
@@ -202,7 +181,7 @@ fn plan_single<'a>(
     i: usize,
     d: Definition,
     rules: Rules,
-) -> Plan
+) -> Option<Join>
     requires { Listed tape.now area.now tokens.now lines.now
         × Labelled (bare_listing tape.now area.now tokens.now lines.now) labels.now
         × Sound tape.now area.now (part_of tokens.now (get_or lines.now i 0)) d × (i < length lines.now) }
@@ -211,9 +190,7 @@ fn plan_single<'a>(
         (definition_in tape.now area.now (part_of tokens.now (get_or lines.now i 0)) d)
         (labels_at (bare_listing tape.now area.now tokens.now lines.now) labels.now) (volatile (rules_of rules))) result }
 {
-    let Position::At(j) = uses::use_of(tape, area, tokens, lines, i, d, rules) else {
-        return Plan::Nothing;
-    };
+    let j = uses::use_of(tape, area, tokens, lines, i, d, rules)?;
     plan_use(tape, area, tokens, lines, labels, i, j, d, rules)
 }
 
@@ -227,7 +204,7 @@ fn plan_for<'a>(
     i: usize,
     d: Definition,
     rules: Rules,
-) -> Plan
+) -> Option<Join>
     requires { Listed tape.now area.now tokens.now lines.now
         × Labelled (bare_listing tape.now area.now tokens.now lines.now) labels.now
         × Sound tape.now area.now (part_of tokens.now (get_or lines.now i 0)) d × (i < length lines.now) }
@@ -236,14 +213,12 @@ fn plan_for<'a>(
         (definition_in tape.now area.now (part_of tokens.now (get_or lines.now i 0)) d)
         (labels_at (bare_listing tape.now area.now tokens.now lines.now) labels.now) (volatile (rules_of rules))) result }
 {
-    let x = d.expr;
-    if !shapes::is_lone_number(words::line_of(tokens, lines[i]), x) {
-        return plan_single(tape, area, tokens, lines, labels, i, d, rules);
+    if shapes::is_lone_number(words::line_of(tokens, lines[i]), d.expr)
+        && let Some(j) = propagate_constant(tape, area, tokens, lines, labels, i, d, rules)
+    {
+        return Some(j);
     }
-    match propagate_constant(tape, area, tokens, lines, labels, i, d, rules) {
-        Plan::Do(j) => Plan::Do(j),
-        Plan::Nothing => plan_single(tape, area, tokens, lines, labels, i, d, rules),
-    }
+    plan_single(tape, area, tokens, lines, labels, i, d, rules)
 }
 
 // The plan for line i: `labels` are the places of the round's labels, `slots` and `slot_words` the names that were addressed when it began.
@@ -257,7 +232,7 @@ pub fn decide<'a>(
     slot_words: &'a [u64],
     i: usize,
     rules: Rules,
-) -> Plan
+) -> Option<Join>
     requires { Listed tape.now area.now tokens.now lines.now
         × Labelled (bare_listing tape.now area.now tokens.now lines.now) labels.now × Slotted slots.now slot_words.now
         × (i < length lines.now) }
@@ -266,12 +241,9 @@ pub fn decide<'a>(
         (labels_at (bare_listing tape.now area.now tokens.now lines.now) labels.now)
         (slot_names slots.now slot_words.now)) result }
 {
-    let Defined::As(d) = definition_of(tape, area, words::line_of(tokens, lines[i])) else {
-        return Plan::Nothing;
-    };
-    let f = d.family;
-    if is_addressed(tape, area, slots, slot_words, f) {
-        return Plan::Nothing;
+    let d = definition_of(tape, area, words::line_of(tokens, lines[i]))?;
+    if is_addressed(tape, area, slots, slot_words, d.name.family) {
+        return None;
     }
     plan_for(tape, area, tokens, lines, labels, i, d, rules)
 }

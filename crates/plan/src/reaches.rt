@@ -1,6 +1,7 @@
 // How far a constant reaches, and whether every use takes it: the scan and the tests of `propagate_constant` of the Rust.
-ghost use Rattle.std.specs.Prelude.{◌≡◌, suc, ◌<◌, length};
+ghost use Rattle.std.specs.Prelude.{◌≡◌, suc, ◌≤◌, ◌<◌, length};
 ghost use Rattle.std.proofs.Math.Seq.{slice};
+ghost use Rattle.reference.specs.Options.{option_of};
 ghost use Rattle.reference.specs.Rules.{volatile};
 ghost use Rattle.reference.specs.Join.{ends_run, updates_first, bad_use};
 ghost use Rattle.joining.specs.Places.{labels_at, Labelled};
@@ -10,21 +11,14 @@ ghost use Rattle.lines.specs.Words.{tokens_of, Holds};
 ghost use Rattle.lines.specs.Lines.{bare_in, bare_listing, Lined, Listed};
 ghost use Rattle.lines.specs.Rules.{rules_of};
 ghost use Rattle.lines.specs.Fams.{fam_text, Known};
-ghost use Rattle.plan.specs.Reaches.{reach};
+ghost use Rattle.plan.specs.Reaches.{last_of, reached, Reaches};
 
 use life::{Followed, Touched, dead_after};
 use linefacts::{is_calling, is_transparent, number_of};
 use lines::fams::Fam;
 use lines::rules::Rules;
 use lines::{fams, shapes, words};
-
-// Whether a line uses the constant, the last line that uses or overwrites it, and whether the search has ended.
-#[derive(Clone, Copy)]
-pub struct Reach {
-    pub used: bool,
-    pub last: usize,
-    pub ended: bool,
-}
+use std::ops::ControlFlow;
 
 // Whether a line ends the run of lines before it is looked at.
 fn ends_run<'a>(tape: &'a [u8], area: &'a [u8], tokens: &'a [u64], l: u64, base_indent: u64) -> bool
@@ -32,19 +26,14 @@ fn ends_run<'a>(tape: &'a [u8], area: &'a [u8], tokens: &'a [u64], l: u64, base_
     ensures { result ≡ ends_run base_indent (bare_in tape.now area.now tokens.now l) }
 {
     let line = words::line_of(tokens, l);
-    if shapes::is_label(tape, area, line) {
-        return true;
-    }
-    if words::indent(l) != base_indent {
-        return true;
-    }
-    if shapes::has_while(tape, area, line) {
-        return true;
-    }
-    shapes::has_goto(tape, area, line)
+    shapes::is_label(tape, area, line)
+        || words::indent(l) != base_indent
+        || shapes::has_while(tape, area, line)
+        || shapes::has_goto(tape, area, line)
 }
 
-// The reach r, with line j, whose word is l, looked at.
+// With line j, whose word is l, looked at: the last line that uses or overwrites the constant, if a line uses it, `last` being that line
+// before; and whether the search ends or goes on.
 fn reach_at<'a>(
     tape: &'a [u8],
     area: &'a [u8],
@@ -53,38 +42,26 @@ fn reach_at<'a>(
     j: usize,
     base_indent: u64,
     f: Fam,
-    r: Reach,
+    last: Option<usize>,
     rules: Rules,
-) -> Reach
+) -> ControlFlow<Option<usize>, Option<usize>>
     requires { Lined tape.now area.now tokens.now l × Known tape.now area.now f }
-    ensures { reach result ≡ reach_at base_indent (fam_text tape.now area.now f) (volatile (rules_of rules)) j
-        (bare_in tape.now area.now tokens.now l) (reach r) }
+    ensures { (i : _) → Reaches i result (reach_at base_indent (fam_text tape.now area.now f) (volatile (rules_of rules)) j
+        (bare_in tape.now area.now tokens.now l) (reached i last)) }
 {
     if ends_run(tape, area, tokens, l, base_indent) {
-        return Reach {
-            used: r.used,
-            last: r.last,
-            ended: true,
-        };
+        return ControlFlow::Break(last);
     }
     let line = words::line_of(tokens, l);
-    let ended = shapes::opens_or_closes(tape, area, line);
-    match life::touch(tape, area, line, f, rules) {
-        Touched::Nothing => Reach {
-            used: r.used,
-            last: r.last,
-            ended,
-        },
-        Touched::Kill => Reach {
-            used: r.used,
-            last: j,
-            ended: true,
-        },
-        Touched::Use(_) => Reach {
-            used: true,
-            last: j,
-            ended,
-        },
+    let last = match life::touch(tape, area, line, f, rules) {
+        Touched::Nothing => last,
+        Touched::Kill => return ControlFlow::Break(last.and(Some(j))),
+        Touched::Use(_) => Some(j),
+    };
+    if shapes::opens_or_closes(tape, area, line) {
+        ControlFlow::Break(last)
+    } else {
+        ControlFlow::Continue(last)
     }
 }
 
@@ -99,41 +76,30 @@ fn reach_by_facts<'a>(
     base_indent: u64,
     f: Fam,
     n: u64,
-    r: Reach,
+    last: Option<usize>,
     rules: Rules,
-) -> Reach
+) -> ControlFlow<Option<usize>, Option<usize>>
     requires { Lined tape.now area.now tokens.now l × Known tape.now area.now f
         × (n ≡ family_number (fam_text tape.now area.now f)) }
-    ensures { reach result ≡ reach_at base_indent (fam_text tape.now area.now f) (volatile (rules_of rules)) j
-        (bare_in tape.now area.now tokens.now l) (reach r) }
+    ensures { (i : _) → Reaches i result (reach_at base_indent (fam_text tape.now area.now f) (volatile (rules_of rules)) j
+        (bare_in tape.now area.now tokens.now l) (reached i last)) }
 {
     if words::indent(l) == base_indent {
         if is_transparent(l, n) {
-            return Reach {
-                used: r.used,
-                last: r.last,
-                ended: false,
-            };
+            return ControlFlow::Continue(last);
         }
         if is_calling(l, n) {
-            if fams::is_volatile(tape, area, f, rules) {
-                return Reach {
-                    used: r.used,
-                    last: j,
-                    ended: true,
-                };
-            }
-            return Reach {
-                used: r.used,
-                last: r.last,
-                ended: false,
+            return if fams::is_volatile(tape, area, f, rules) {
+                ControlFlow::Break(last.and(Some(j)))
+            } else {
+                ControlFlow::Continue(last)
             };
         }
     }
-    reach_at(tape, area, tokens, l, j, base_indent, f, r, rules)
+    reach_at(tape, area, tokens, l, j, base_indent, f, last, rules)
 }
 
-// How far a constant of line i reaches.
+// The last line that a constant of line i reaches, if a line uses it: the last that uses or overwrites it.
 pub fn reach_of<'a>(
     tape: &'a [u8],
     area: &'a [u8],
@@ -142,27 +108,32 @@ pub fn reach_of<'a>(
     i: usize,
     f: Fam,
     rules: Rules,
-) -> Reach
+) -> Option<usize>
     requires { Listed tape.now area.now tokens.now lines.now × Known tape.now area.now f × (i < length lines.now) }
-    ensures { reach result ≡ reach_of (bare_listing tape.now area.now tokens.now lines.now) i
-        (fam_text tape.now area.now f) (volatile (rules_of rules)) }
+    ensures { option_of result ≡ last_of (reach_of (bare_listing tape.now area.now tokens.now lines.now) i
+        (fam_text tape.now area.now f) (volatile (rules_of rules))) }
 {
     let base_indent = words::indent(lines[i]);
     let n = number_of(tape, area, f);
-    let mut r = Reach {
-        used: false,
-        last: i,
-        ended: false,
-    };
-    let mut j = i + 1;
-    while j < lines.len() {
-        if r.ended {
-            return r;
+    let mut last = None;
+    for j in i + 1..lines.len() {
+        match reach_by_facts(
+            tape,
+            area,
+            tokens,
+            lines[j],
+            j,
+            base_indent,
+            f,
+            n,
+            last,
+            rules,
+        ) {
+            ControlFlow::Continue(reached) => last = reached,
+            ControlFlow::Break(reached) => return reached,
         }
-        r = reach_by_facts(tape, area, tokens, lines[j], j, base_indent, f, n, r, rules);
-        j += 1;
     }
-    r
+    last
 }
 
 // Whether the first token of a line is of the family, and a Punct after it is neither ` = ` nor ` ==`.
@@ -170,21 +141,13 @@ fn updates_first<'a>(tape: &'a [u8], area: &'a [u8], line: &'a [u64], f: Fam) ->
     requires { Holds tape.now area.now line.now × Known tape.now area.now f }
     ensures { result ≡ updates_first (fam_text tape.now area.now f) (tokens_of tape.now area.now line.now) }
 {
-    if line.len() < 2 {
-        return false;
-    }
-    if !fams::is_of(tape, area, line[0], f) {
-        return false;
-    }
-    let next = line[1];
-    if words::kind(next) != words::PUNCT {
-        return false;
-    }
-    let s = words::text(tape, area, next);
-    if text::begins_assign(s) {
-        return false;
-    }
-    !text::begins_equal(s)
+    2 <= line.len()
+        && fams::is_of(tape, area, line[0], f)
+        && words::kind(line[1]) == words::PUNCT
+        && {
+            let s = words::text(tape, area, line[1]);
+            !text::begins_assign(s) && !text::begins_equal(s)
+        }
 }
 
 // Whether a line that uses the family does not only read it, or reads less than 32 bits of it.
@@ -192,13 +155,9 @@ fn bad_use<'a>(tape: &'a [u8], area: &'a [u8], line: &'a [u64], f: Fam) -> bool
     requires { Holds tape.now area.now line.now × Known tape.now area.now f }
     ensures { result ≡ bad_use (fam_text tape.now area.now f) (tokens_of tape.now area.now line.now) }
 {
-    if fams::writes(tape, area, line, f) {
-        return true;
-    }
-    if updates_first(tape, area, line, f) {
-        return true;
-    }
-    fams::has_narrow(tape, area, line, f)
+    fams::writes(tape, area, line, f)
+        || updates_first(tape, area, line, f)
+        || fams::has_narrow(tape, area, line, f)
 }
 
 // Whether a line uses the family and cannot take a constant for it.
@@ -215,10 +174,7 @@ fn refuses_constant<'a>(
         (bare_in tape.now area.now tokens.now l) }
 {
     let line = words::line_of(tokens, l);
-    if !life::uses(tape, area, line, f, rules) {
-        return false;
-    }
-    bad_use(tape, area, line, f)
+    life::uses(tape, area, line, f, rules) && bad_use(tape, area, line, f)
 }
 
 // Whether each line after line i, up to line `last`, that uses the family takes a constant for it.
@@ -232,17 +188,15 @@ pub fn all_take<'a>(
     f: Fam,
     rules: Rules,
 ) -> bool
-    requires { Listed tape.now area.now tokens.now lines.now × Known tape.now area.now f × (i < length lines.now)
+    requires { Listed tape.now area.now tokens.now lines.now × Known tape.now area.now f × (i ≤ last)
         × (last < length lines.now) }
     ensures { result ≡ all_take (fam_text tape.now area.now f) (volatile (rules_of rules))
         (slice (suc i) (suc last) (bare_listing tape.now area.now tokens.now lines.now)) }
 {
-    let mut j = i + 1;
-    while j <= last {
-        if refuses_constant(tape, area, tokens, lines[j], f, rules) {
+    for l in &lines[i + 1..=last] {
+        if refuses_constant(tape, area, tokens, *l, f, rules) {
             return false;
         }
-        j += 1;
     }
     true
 }
@@ -271,8 +225,6 @@ pub fn ends_at<'a>(
         start: i,
         rules,
     };
-    if dead_after(tape, area, tokens, lines, labels, last, v) {
-        return true;
-    }
-    life::kills(tape, area, words::line_of(tokens, lines[last]), f, rules)
+    dead_after(tape, area, tokens, lines, labels, last, v)
+        || life::kills(tape, area, words::line_of(tokens, lines[last]), f, rules)
 }

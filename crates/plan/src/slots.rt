@@ -13,12 +13,10 @@ fn slot_among<'a>(slots: &'a [u8], slot_words: &'a [u64], s: &'a [u8]) -> bool
     requires { Holds slots.now slots.now slot_words.now }
     ensures { result ≡ has (slot_names slots.now slot_words.now) s.now }
 {
-    let mut k = 0;
-    while k < slot_words.len() {
-        if text::same(words::text(slots, slots, slot_words[k]), s) {
+    for w in slot_words {
+        if words::text(slots, slots, *w) == s {
             return true;
         }
-        k += 1;
     }
     false
 }
@@ -34,8 +32,5 @@ pub fn is_addressed<'a>(
     requires { Slotted slots.now slot_words.now × Known tape.now area.now f }
     ensures { result ≡ has (slot_names slots.now slot_words.now) (fam_text tape.now area.now f) }
 {
-    if f < 8 {
-        return false;
-    }
-    slot_among(slots, slot_words, words::text(tape, area, f))
+    8 <= f && slot_among(slots, slot_words, words::text(tape, area, f))
 }

@@ -1,5 +1,6 @@
 // The single use of a definition, and whether the right side can take its place there: the second half of `try_at` of the Rust.
 ghost use Rattle.std.specs.Prelude.{◌≡◌, false, ◌<◌, ltb, eqb, length, get_or};
+ghost use Rattle.reference.specs.Options.{option_of};
 ghost use Rattle.reference.specs.Control.{not, ◌and◌, ◌or◌};
 ghost use Rattle.reference.specs.Rules.{volatile};
 ghost use Rattle.reference.specs.Join.{text_before, text_after, standalone, use_width, use_lowest, is_compound, replaceable};
@@ -8,7 +9,6 @@ ghost use Rattle.lines.specs.Codes.{family_number};
 ghost use Rattle.lines.specs.Words.{tokens_of, Holds};
 ghost use Rattle.lines.specs.Lines.{indent_of, part_of, bare_in, bare_listing, Lined, Listed};
 ghost use Rattle.lines.specs.Rules.{rules_of};
-ghost use Rattle.lines.specs.Shapes.{found};
 ghost use Rattle.lines.specs.Fams.{fam_text, Known};
 ghost use Rattle.plan.specs.Definitions.{definition_in, Sound};
 ghost use Rattle.plan.specs.Uses.{looked, same_run, leaves_inputs};
@@ -18,7 +18,6 @@ use life::Touched;
 use linefacts::{is_calling, is_transparent, number_of};
 use lines::fams::{Fam, Named};
 use lines::rules::Rules;
-use lines::shapes::{Assigned, Position};
 use lines::{fams, shapes, words};
 
 // What a line after a definition is to it: its single use, a line that it may pass, or the end of the search.
@@ -42,17 +41,11 @@ fn same_run<'a>(
     requires { Lined tape.now area.now tokens.now l }
     ensures { result ≡ same_run base_indent calls (bare_in tape.now area.now tokens.now l) }
 {
-    if calls {
-        return false;
-    }
     let line = words::line_of(tokens, l);
-    if shapes::opens_or_closes(tape, area, line) {
-        return false;
-    }
-    if shapes::has_call(tape, area, line) {
-        return false;
-    }
-    words::indent(l) == base_indent
+    !calls
+        && !shapes::opens_or_closes(tape, area, line)
+        && !shapes::has_call(tape, area, line)
+        && words::indent(l) == base_indent
 }
 
 // Whether a line assigns to a register what the definition d, of the line `source`, does not read.
@@ -68,20 +61,14 @@ fn leaves_inputs<'a>(
     ensures { result ≡ leaves_inputs (definition_in tape.now area.now source.now d).expr
         (tokens_of tape.now area.now line.now) }
 {
-    let Assigned::To(_) = shapes::assignment(tape, area, line) else {
+    let Some(_) = shapes::assignment(tape, area, line) else {
         return false;
     };
-    let Named::As(g, _, _) = fams::name_of(tape, area, line[0]) else {
+    let Some(n) = fams::name_of(tape, area, line[0]) else {
         return false;
     };
-    let x = d.expr;
-    if fams::mentions(tape, area, source, x, g) {
-        return false;
-    }
-    if !d.reads {
-        return true;
-    }
-    !text::begins_slot(words::text(tape, area, line[0]))
+    !fams::mentions(tape, area, source, d.expr, n.family)
+        && !(d.reads && text::begins_slot(words::text(tape, area, line[0])))
 }
 
 // What the line l is to the definition d of the line s.
@@ -103,24 +90,12 @@ fn look_at<'a>(
     if shapes::is_label(tape, area, line) {
         return Look::Stops;
     }
-    let f = d.family;
-    match life::touch(tape, area, line, f, rules) {
-        Touched::Nothing => {
-            if !same_run(tape, area, tokens, words::indent(s), d.calls, l) {
-                return Look::Stops;
-            }
-            if leaves_inputs(tape, area, words::line_of(tokens, s), line, d) {
-                return Look::Passes;
-            }
-            Look::Stops
-        }
-        Touched::Kill => Look::Stops,
-        Touched::Use(n) => {
-            if n == 1 {
-                return Look::Use;
-            }
-            Look::Stops
-        }
+    match life::touch(tape, area, line, d.name.family, rules) {
+        Touched::Use(1) => Look::Use,
+        Touched::Nothing
+            if same_run(tape, area, tokens, words::indent(s), d.calls, l)
+                && leaves_inputs(tape, area, words::line_of(tokens, s), line, d) => { Look::Passes }
+        _ => Look::Stops,
     }
 }
 
@@ -137,7 +112,7 @@ fn look_by_facts<'a>(
     rules: Rules,
 ) -> Look
     requires { Lined tape.now area.now tokens.now s × Lined tape.now area.now tokens.now l
-        × Sound tape.now area.now (part_of tokens.now s) d × (n ≡ family_number (fam_text tape.now area.now d.family)) }
+        × Sound tape.now area.now (part_of tokens.now s) d × (n ≡ family_number (fam_text tape.now area.now d.name.family)) }
     ensures { looked result ≡ look (indent_of s) (definition_in tape.now area.now (part_of tokens.now s) d)
         (volatile (rules_of rules)) (bare_in tape.now area.now tokens.now l) }
 {
@@ -147,22 +122,16 @@ fn look_by_facts<'a>(
     if !is_transparent(l, n) {
         return look_at(tape, area, tokens, s, l, d, rules);
     }
-    if d.calls {
-        return Look::Stops;
+    let source = words::line_of(tokens, s);
+    let line = words::line_of(tokens, l);
+    if !d.calls
+        && words::indent(l) == words::indent(s)
+        && leaves_inputs(tape, area, source, line, d)
+    {
+        Look::Passes
+    } else {
+        Look::Stops
     }
-    if words::indent(l) != words::indent(s) {
-        return Look::Stops;
-    }
-    if leaves_inputs(
-        tape,
-        area,
-        words::line_of(tokens, s),
-        words::line_of(tokens, l),
-        d,
-    ) {
-        return Look::Passes;
-    }
-    Look::Stops
 }
 
 // The line with the single use of the definition d of line i: the next line that touches it, through lines that it may pass.
@@ -174,29 +143,22 @@ pub fn use_of<'a>(
     i: usize,
     d: Definition,
     rules: Rules,
-) -> Position
+) -> Option<usize>
     requires { Listed tape.now area.now tokens.now lines.now
         × Sound tape.now area.now (part_of tokens.now (get_or lines.now i 0)) d × (i < length lines.now) }
-    ensures { found result ≡ use_of (bare_listing tape.now area.now tokens.now lines.now) i
+    ensures { option_of result ≡ use_of (bare_listing tape.now area.now tokens.now lines.now) i
         (definition_in tape.now area.now (part_of tokens.now (get_or lines.now i 0)) d) (volatile (rules_of rules)) }
 {
     let s = lines[i];
-    let f = d.family;
-    let n = number_of(tape, area, f);
-    let mut j = i + 1;
-    while j < lines.len() {
+    let n = number_of(tape, area, d.name.family);
+    for j in i + 1..lines.len() {
         match look_by_facts(tape, area, tokens, s, lines[j], d, n, rules) {
-            Look::Use => {
-                return Position::At(j);
-            }
+            Look::Use => return Some(j),
             Look::Passes => {}
-            Look::Stops => {
-                return Position::Nothing;
-            }
+            Look::Stops => return None,
         }
-        j += 1;
     }
-    Position::Nothing
+    None
 }
 
 // ---- the token that uses it
@@ -205,13 +167,7 @@ pub fn use_of<'a>(
 fn widths_fit(width: u64, used: u64) -> bool
     ensures { result ≡ not ((ltb used 32 or ltb width 32) and not (eqb used width)) }
 {
-    if used == width {
-        return true;
-    }
-    if used < 32 {
-        return false;
-    }
-    32 <= width
+    used == width || (32 <= used && 32 <= width)
 }
 
 // The width of the token at `pos`.
@@ -219,10 +175,7 @@ fn use_width<'a>(tape: &'a [u8], area: &'a [u8], line: &'a [u64], pos: usize) ->
     requires { Holds tape.now area.now line.now × (pos < length line.now) }
     ensures { result ≡ use_width (tokens_of tape.now area.now line.now) pos }
 {
-    match fams::name_of(tape, area, line[pos]) {
-        Named::As(_, width, _) => width,
-        Named::Nothing => 64,
-    }
+    fams::name_of(tape, area, line[pos]).map_or(64, |n| n.width)
 }
 
 // Whether the token at `pos` is written through a compound operator: it stands first, and an operator follows that is not ` = `.
@@ -230,21 +183,13 @@ fn is_compound<'a>(tape: &'a [u8], area: &'a [u8], line: &'a [u64], pos: usize) 
     requires { Holds tape.now area.now line.now }
     ensures { result ≡ is_compound (tokens_of tape.now area.now line.now) pos }
 {
-    if pos != 0 {
-        return false;
-    }
-    if line.len() < 2 {
-        return false;
-    }
-    let next = line[1];
-    if words::kind(next) != words::PUNCT {
-        return false;
-    }
-    let s = words::text(tape, area, next);
-    if !text::begins_operator(s) {
-        return false;
-    }
-    !text::begins_assign(s)
+    pos == 0
+        && 2 <= line.len()
+        && words::kind(line[1]) == words::PUNCT
+        && {
+            let s = words::text(tape, area, line[1]);
+            text::begins_operator(s) && !text::begins_assign(s)
+        }
 }
 
 // Whether the use at `pos` may be replaced by an expression of this width, whatever its part.
@@ -253,13 +198,9 @@ fn fits<'a>(tape: &'a [u8], area: &'a [u8], line: &'a [u64], pos: usize, f: Fam,
     ensures { result ≡ replaceable false (record { name = fam_text tape.now area.now f; width = width; lowest = 0 })
         (tokens_of tape.now area.now line.now) pos }
 {
-    if !widths_fit(width, use_width(tape, area, line, pos)) {
-        return false;
-    }
-    if is_compound(tape, area, line, pos) {
-        return false;
-    }
-    !fams::writes(tape, area, line, f)
+    widths_fit(width, use_width(tape, area, line, pos))
+        && !is_compound(tape, area, line, pos)
+        && !fams::writes(tape, area, line, f)
 }
 
 // Whether the token at `pos` has less than 32 bits, and another lowest bit.
@@ -274,40 +215,27 @@ fn begins_elsewhere<'a>(
     ensures { result ≡ (ltb (use_width (tokens_of tape.now area.now line.now) pos) 32
         and not (eqb (use_lowest (tokens_of tape.now area.now line.now) pos) lowest)) }
 {
-    match fams::name_of(tape, area, line[pos]) {
-        Named::As(_, width, from) => {
-            if 32 <= width {
-                return false;
-            }
-            from != lowest
-        }
-        Named::Nothing => false,
-    }
+    fams::name_of(tape, area, line[pos]).is_some_and(|n| n.width < 32 && n.lowest != lowest)
 }
 
-// Whether the use at `pos` may be replaced by an expression that was assigned to this width of f from this lowest bit on.
+// Whether the use at `pos` may be replaced by an expression that was assigned to `name`: its width of its family, from its lowest bit on.
 // Under `parts` a use below 32 bits must be the same part (M-104); its width is asked in any case.
 pub fn use_fits<'a>(
     tape: &'a [u8],
     area: &'a [u8],
     line: &'a [u64],
     pos: usize,
-    f: Fam,
-    width: u64,
-    lowest: u64,
+    name: Named,
     parts: bool,
 ) -> bool
-    requires { Holds tape.now area.now line.now × (pos < length line.now) × Known tape.now area.now f }
-    ensures { result ≡ replaceable parts (record { name = fam_text tape.now area.now f; width = width; lowest = lowest })
+    requires { Holds tape.now area.now line.now × (pos < length line.now) × Known tape.now area.now name.family }
+    ensures { result
+        ≡ replaceable parts
+        (record { name = fam_text tape.now area.now name.family; width = name.width; lowest = name.lowest })
         (tokens_of tape.now area.now line.now) pos }
 {
-    if !fits(tape, area, line, pos, f, width) {
-        return false;
-    }
-    if !parts {
-        return true;
-    }
-    !begins_elsewhere(tape, area, line, pos, lowest)
+    fits(tape, area, line, pos, name.family, name.width)
+        && !(parts && begins_elsewhere(tape, area, line, pos, name.lowest))
 }
 
 // Whether the token at `pos` stands between delimiters.
@@ -316,15 +244,8 @@ pub fn is_standalone<'a>(tape: &'a [u8], area: &'a [u8], line: &'a [u64], pos: u
     ensures { result ≡ standalone (text_before (tokens_of tape.now area.now line.now) pos)
         (text_after (tokens_of tape.now area.now line.now) pos) }
 {
-    if pos == 0 {
-        return false;
-    }
-    let at = pos + 1;
-    if line.len() <= at {
-        return false;
-    }
-    if !text::delimits_before(words::text(tape, area, line[pos - 1])) {
-        return false;
-    }
-    text::delimits_after(words::text(tape, area, line[at]))
+    pos != 0
+        && pos + 1 < line.len()
+        && text::delimits_before(words::text(tape, area, line[pos - 1]))
+        && text::delimits_after(words::text(tape, area, line[pos + 1]))
 }

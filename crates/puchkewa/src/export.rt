@@ -2,12 +2,12 @@
 ghost use Rattle.clean.specs.Replies.{Cleans};
 ghost use Rattle.puchkewa.specs.Exports.{settings_of, exported};
 
-use clean::{Reply, clean, tell};
+use clean::{Told, clean};
 use lines::rules::Rules;
 
 // The settings of a call.
 #[repr(C)]
-#[derive(Clone, Copy)]
+#[derive(Clone, Copy, Debug, PartialEq, Eq)]
 pub struct Settings {
     pub convention: u8,
     pub settle: bool,
@@ -18,7 +18,7 @@ pub struct Settings {
 
 // `refusal` is 0 when finished, else the number of the question that refused, at `place`; then all other numbers are 0.
 #[repr(C)]
-#[derive(Clone, Copy)]
+#[derive(Clone, Copy, Debug, Default, PartialEq, Eq)]
 pub struct Report {
     pub refusal: u64,
     pub place: u64,
@@ -51,24 +51,14 @@ pub fn puchkewa_clean(
         profile: settings.profile,
     };
     match clean(rules, tape, work_a, work_b, out) {
-        Reply::Refused { number, place } => Report {
-            refusal: number,
-            place: place as u64,
-            length: 0,
-            attempts_1: 0,
-            attempts_2: 0,
-            attempts_3: 0,
-            removed: 0,
-            cut: 0,
-            rounds: 0,
-            attempts: 0,
+        Err(refusal) => Report {
+            refusal: refusal.reason.number(),
+            place: refusal.place as u64,
+            ..Report::default()
         },
-        Reply::Finished(f) => {
-            let tally = f.tally;
-            let t = tell(tally);
+        Ok(f) => {
+            let t = Told::from(f.tally);
             Report {
-                refusal: 0,
-                place: 0,
                 length: f.length as u64,
                 attempts_1: t.first,
                 attempts_2: t.second,
@@ -77,6 +67,7 @@ pub fn puchkewa_clean(
                 cut: f.cut,
                 rounds: t.rounds,
                 attempts: t.attempts,
+                ..Report::default()
             }
         }
     }

@@ -9,8 +9,8 @@ mod export_offsets; // tapes by offset from the load address, for C and Rust
 mod export_start; // which start value gives this output, for C and Rust
 mod export_states; // named states, for C and Rust
 
-pub use answers::Answer;
-pub use clean::{Reply, clean};
+pub use answers::{Answer, Reason, Refusal};
+pub use clean::{Finished, clean};
 pub use editions::{to_2018, to_2024};
 pub use export::{Report, Settings, puchkewa_clean};
 pub use export_editions::{puchkewa_to_2018, puchkewa_to_2024};

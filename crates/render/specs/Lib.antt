@@ -1,2 +1,1 @@
--- What is known of a sink after something was put into it.
-pub mod Sinks
+-- The crate has no definitions of its own.

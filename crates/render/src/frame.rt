@@ -1,11 +1,11 @@
 // The constant parts of the page: head, style, legend, script. Nothing is loaded from anywhere; the page's own policy lets only this script
 // run, by its hash (tests/page compares it).
-use crate::sink::{Sink, put, put_text};
+use crate::sink::{Sink, Unwritten, put, put_text};
 use text::same;
 
-fn put_style(s: Sink) -> Sink {
+fn put_style(out: Sink) -> Result<(), Unwritten> {
     put(
-        s,
+        out,
         b"<style>\n\
           :root{--ink:#1b2330;--soft:#667080;--rule:#dde2e9;--gone:#fbeae7;--gonei:#a3301f;--chg:#fff5da;--chgi:#8a6100;--src:#d6e6ff;\
           --srci:#1a5fd0}\n\
@@ -61,26 +61,26 @@ fn put_style(s: Sink) -> Sink {
     )
 }
 
-fn put_name(s: Sink, name: &[u8]) -> Sink {
+fn put_name(out: Sink, name: &[u8]) -> Result<(), Unwritten> {
     if same(name, b"-") {
-        return put(s, b"standard input");
+        return put(out, b"standard input");
     }
-    put_text(s, 8, name)
+    put_text(out, 8, name)
 }
 
-pub(crate) fn put_head(s: Sink, name: &[u8]) -> Sink {
-    let mut t = put(
-        s,
+pub(crate) fn put_head(out: Sink, name: &[u8]) -> Result<(), Unwritten> {
+    put(
+        out,
         b"<!DOCTYPE html>\n<html lang=en>\n<head>\n<meta charset=utf-8>\n\
           <meta http-equiv=\"Content-Security-Policy\" content=\"default-src 'none'; style-src 'unsafe-inline'; script-src \
           'sha256-YWDOdsurXJDcbHzFVglWRkKAQ2ukc3mbMxbAKhMfqpk='\">\n\
           <meta name=viewport content=\"width=device-width\">\n<title>Puchkewa: before and after</title>\n",
-    );
-    t = put_style(t);
-    t = put(t, b"</head>\n<body>\n<h1>Before and after: ");
-    t = put_name(t, name);
+    )?;
+    put_style(out)?;
+    put(out, b"</head>\n<body>\n<h1>Before and after: ")?;
+    put_name(out, name)?;
     put(
-        t,
+        out,
         b"</h1>\n<p><span class=\"key kg\">&minus;</span>joined into the cleaned lines behind its arrow, and gone \
           <span class=\"key kc\">~</span>rewritten <span class=\"key\">&nbsp;</span>as it was \
           <span class=\"key ks\">&#9656;</span>came into the cleaned line that is marked</p>\n\
@@ -93,13 +93,13 @@ pub(crate) fn put_head(s: Sink, name: &[u8]) -> Sink {
     )
 }
 
-pub(crate) fn put_middle(s: Sink) -> Sink {
-    put(s, b"</tbody></table>\n")
+pub(crate) fn put_middle(out: Sink) -> Result<(), Unwritten> {
+    put(out, b"</tbody></table>\n")
 }
 
-pub(crate) fn put_foot(s: Sink) -> Sink {
+pub(crate) fn put_foot(out: Sink) -> Result<(), Unwritten> {
     put(
-        s,
+        out,
         b"<script>\n\
           (function(){'use strict';\n\
           var t=document.getElementById('t'),b=document.getElementById('b'),idle=b.textContent,on=null;\n\

@@ -6,50 +6,26 @@ mod frame; // its constant parts
 mod rows; // the two listings
 mod sheet; // the field engineer's sheet
 mod sink; // where it goes
-mod walking; // lines and tokens by their offsets
+mod walking; // the lines of a tape
 
-ghost use Rattle.render.specs.Sinks.{Later};
-
-use arguments::Request;
 use lines::rules::Rules;
 pub use sheet::Counts;
-pub use sink::Sink;
+pub use sink::{Sink, Unwritten};
 
-fn put_all(
-    sink: Sink,
-    s: Request,
-    rules: Rules,
-    name: &[u8],
-    tape: &[u8],
-    fin: &[u8],
-    counts: Counts,
-) -> Sink {
-    let mut places = [0u64; 256];
-    let mut t = frame::put_head(sink, name);
-    t = rows::put_rows(t, rules, tape, fin, &mut places);
-    t = frame::put_middle(t);
-    t = sheet::put_sheet(t, s, tape, fin, counts, &places);
-    frame::put_foot(t)
-}
-
-// Puts the page of a tape that was cleaned to `fin`. (What a system call wrote no contract can say.)
+// Puts the page of a tape that was cleaned to `fin`, up to the first piece that the system does not take. (What a system call wrote no
+// contract can say.)
 pub fn put_page(
-    sink: Sink,
-    s: Request,
+    out: Sink,
     rules: Rules,
     name: &[u8],
     tape: &[u8],
     fin: &[u8],
     counts: Counts,
-) -> Sink
-    ensures { Later sink result }
-{
-    if !sink.done {
-        return sink;
-    }
-    let after = put_all(sink, s, rules, name, tape, fin, counts);
-    Sink {
-        fd: sink.fd,
-        done: after.done,
-    }
+) -> Result<(), Unwritten> {
+    let mut places = [None; 256];
+    frame::put_head(out, name)?;
+    rows::put_rows(out, rules, tape, fin, &mut places)?;
+    frame::put_middle(out)?;
+    sheet::put_sheet(out, rules, tape, fin, counts, &places)?;
+    frame::put_foot(out)
 }

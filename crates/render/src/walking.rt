@@ -1,219 +1,128 @@
-// Lines and tokens of a tape that was accepted, or that a cleaning wrote, by their offsets. A line goes from its command to the next
-// line's, or to the end. (Read without promises: what stands at an offset is crate tape's.)
-use tape::commands::{Command, Found, text_of};
-use tape::reader::command_from;
-use text::{same, starts};
+// The lines of a tape that was accepted, or that a cleaning wrote, and what is called in it. (Read without promises: what the commands of
+// a tape are is crate walk's.)
+ghost use Rattle.std.specs.Prelude.{length};
+ghost use Rattle.std.specs.Iterator.{at_most};
 
-// Longer than every tape: no number.
-pub(crate) const NOTHING: usize = 18446744073709551615;
+use text::{is_colon, starts};
+use walk::{Commands, Event};
 
-const SYMBOL: u8 = 20;
+pub(crate) const SYMBOL: u64 = 4;
 
-const PUNCT: u8 = 22;
+const PUNCT: u64 = 6;
 
-const END: u8 = 255;
+// From an address to an address.
+#[derive(Clone, Copy, Debug)]
+pub(crate) struct Span {
+    pub low: u64,
+    pub high: u64,
+}
+
+// A line: its address and indent, its marks, and the bytes of its tokens.
+#[derive(Clone, Copy, Debug)]
+pub(crate) struct Line<'a> {
+    pub address: Option<u64>,
+    pub indent: u64,
+    pub marks: Option<Span>,
+    pub tokens: &'a [u8],
+}
 
 // The first n bytes; none where there are not so many.
 pub(crate) fn front(bytes: &[u8], n: usize) -> &[u8] {
-    if n <= bytes.len() {
-        return &bytes[..n];
-    }
-    &bytes[..0]
+    bytes.get(..n).unwrap_or(&[])
 }
 
-// The sum of two numbers; NOTHING where it is no smaller.
-pub(crate) fn plus(n: usize, m: usize) -> usize {
-    if NOTHING - m < n {
-        return NOTHING;
-    }
-    n + m
-}
-
-// ---- commands
-
-fn size(command: Command) -> usize {
-    match command {
-        Command::Addressed {
-            address: _,
-            indent: _,
-        } => 10,
-        Command::Plain { indent: _ } => 2,
-        Command::Marked { low: _, high: _ } => 17,
-        Command::Token { kind: _, count } => plus(3, count),
-        Command::End => 1,
-    }
-}
-
-// Where the command at an offset ends.
-pub(crate) fn after(tape: &[u8], at: usize) -> usize {
-    match command_from(tape, at) {
-        Found::Whole(command) => plus(at, size(command)),
-        Found::Unknown => tape.len(),
-        Found::CutOff => tape.len(),
-    }
-}
-
-// The first byte of the command at an offset; past the tape the end's.
-pub(crate) fn byte_at(tape: &[u8], at: usize) -> u8 {
-    if at < tape.len() {
-        return tape[at];
-    }
-    END
-}
-
-pub(crate) fn is_end(tape: &[u8], at: usize) -> bool {
-    byte_at(tape, at) == END
-}
-
-pub(crate) fn is_token(tape: &[u8], at: usize) -> bool {
-    let b = byte_at(tape, at);
-    if b < 16 {
-        return false;
-    }
-    b < 24
-}
-
-// `count` bytes behind the three that a token begins with.
-fn text_behind(tape: &[u8], at: usize, count: usize) -> &[u8] {
-    if tape.len() < at {
-        return front(tape, 0);
-    }
-    let left = tape.len() - at;
-    if left < 3 {
-        return front(tape, 0);
-    }
-    if left - 3 < count {
-        return front(tape, 0);
-    }
-    text_of(tape, at + 3, count)
-}
-
-// How long the text of a token is; 0 of any other command.
-fn count_of(command: Command) -> usize {
-    match command {
-        Command::Addressed {
-            address: _,
-            indent: _,
-        } => 0,
-        Command::Plain { indent: _ } => 0,
-        Command::Marked { low: _, high: _ } => 0,
-        Command::Token { kind: _, count } => count,
-        Command::End => 0,
-    }
-}
-
-fn count_at(tape: &[u8], at: usize) -> usize {
-    match command_from(tape, at) {
-        Found::Whole(command) => count_of(command),
-        Found::Unknown => 0,
-        Found::CutOff => 0,
-    }
-}
-
-// The text of the token at an offset.
-pub(crate) fn token_at(tape: &[u8], at: usize) -> &[u8] {
-    text_behind(tape, at, count_at(tape, at))
+// The first bytes of a text, up to what it ends with.
+pub(crate) fn before<'a>(bytes: &'a [u8], end: &[u8]) -> &'a [u8] {
+    front(bytes, bytes.len().saturating_sub(end.len()))
 }
 
 // ---- lines
 
-// Where the line that begins at an offset ends.
-pub(crate) fn line_end(tape: &[u8], at: usize) -> usize {
-    let mut e = after(tape, at);
-    while e < tape.len() {
-        if !is_token(tape, e) {
-            if byte_at(tape, e) != 3 {
-                return e;
-            }
-        }
-        let next = after(tape, e);
-        if next <= e {
-            return e;
-        }
-        e = next;
+// What stands behind the tokens that some bytes begin with.
+fn behind_tokens(bytes: &[u8]) -> &[u8] {
+    let mut commands = Commands::new(bytes);
+    let mut end = bytes;
+    while let Some(Event::Token { .. }) = commands.next() {
+        end = commands.as_bytes();
     }
-    e
+    end
 }
 
-// Where its tokens begin: behind its command, and behind its marks if it has any.
-pub(crate) fn body(tape: &[u8], at: usize) -> usize {
-    let e = after(tape, at);
-    if byte_at(tape, e) == 3 {
-        return after(tape, e);
-    }
-    e
+// An iterator over the lines of a tape.
+#[derive(Clone, Copy, Debug)]
+pub(crate) struct Lines<'a> {
+    rest: &'a [u8],
 }
 
-// The bytes of its tokens.
-pub(crate) fn tokens_of(tape: &[u8], at: usize) -> &[u8] {
-    let from = body(tape, at);
-    let to = line_end(tape, at);
-    if to < from {
-        return front(tape, 0);
+impl<'a> Lines<'a> {
+    pub fn new(tape: &'a [u8]) -> Lines<'a> {
+        Lines { rest: tape }
     }
-    if tape.len() < to {
-        return front(tape, 0);
-    }
-    &tape[from..to]
 }
 
-// Whether two lines have the same tokens.
-pub(crate) fn same_tokens(tape: &[u8], at: usize, other: &[u8], to: usize) -> bool {
-    let a = tokens_of(tape, at);
-    let b = tokens_of(other, to);
-    same(a, b)
+impl<'a> Iterator for Lines<'a> {
+    type Item = Line<'a>;
+
+    ghost remaining = { λ s. at_most (length s.rest.now) };
+
+    fn next(&mut self) -> Option<Line<'a>> {
+        let mut commands = Commands::new(self.rest);
+        let Some(Event::Line { address, indent }) = commands.next() else {
+            return None;
+        };
+        let mut body = commands.as_bytes();
+        let mut marks = None;
+        if let Some(Event::Marks { low, high }) = commands.next() {
+            marks = Some(Span { low, high });
+            body = commands.as_bytes();
+        }
+        let rest = behind_tokens(body);
+        if self.rest.len() <= rest.len() {
+            return None;
+        }
+        self.rest = rest;
+        Some(Line {
+            address,
+            indent,
+            marks,
+            tokens: before(body, rest),
+        })
+    }
 }
 
-// The number of the first line that has an address, from 0; NOTHING where none has.
-pub(crate) fn first_addressed(tape: &[u8]) -> usize {
-    let mut n = 0;
-    let mut at = 0;
-    while at < tape.len() {
-        let b = byte_at(tape, at);
-        if b == 1 {
-            return n;
-        }
-        if b == END {
-            return NOTHING;
-        }
-        if b == 2 {
-            n = plus(n, 1);
-        }
-        let next = after(tape, at);
-        if next <= at {
-            return NOTHING;
-        }
-        at = next;
+// The tokens of a line, as texts of a kind.
+fn token(tokens: &[u8], n: usize) -> Option<(u64, &[u8])> {
+    match Commands::new(tokens).nth(n)? {
+        Event::Token { kind, text } => Some((kind, text)),
+        _ => None,
     }
-    NOTHING
 }
 
-// A label is a Symbol and a `:`, and no more (is-label of the reference).
-pub(crate) fn is_label(tape: &[u8], at: usize) -> bool {
-    let first = body(tape, at);
-    if byte_at(tape, first) != SYMBOL {
-        return false;
+// The name of a label, if the line is one: a Symbol and a `:`, and no more (`is_label` of the reference).
+pub(crate) fn label_of<'a>(line: Line<'a>) -> Option<&'a [u8]> {
+    let (kind, name) = token(line.tokens, 0)?;
+    let (_, colon) = token(line.tokens, 1)?;
+    if kind == SYMBOL && is_colon(colon) && token(line.tokens, 2).is_none() {
+        Some(name)
+    } else {
+        None
     }
-    let second = after(tape, first);
-    if !is_token(tape, second) {
-        return false;
-    }
-    if !same(token_at(tape, second), b":") {
-        return false;
-    }
-    !is_token(tape, after(tape, second))
 }
 
 // ---- calls by name
 
-// A Symbol before a Punct that begins `(`.
-pub(crate) fn is_named_call(tape: &[u8], at: usize) -> bool {
-    if byte_at(tape, at) != SYMBOL {
-        return false;
+// The text of a Symbol.
+pub(crate) fn symbol_of(event: Event) -> Option<&[u8]> {
+    match event {
+        Event::Token { kind: SYMBOL, text } => Some(text),
+        _ => None,
     }
-    let next = after(tape, at);
-    if byte_at(tape, next) != PUNCT {
-        return false;
+}
+
+// A bracket that opens behind a name calls it.
+pub(crate) fn opens(event: Event) -> bool {
+    match event {
+        Event::Token { kind, text } => kind == PUNCT && starts(text, b"("),
+        _ => false,
     }
-    starts(token_at(tape, next), b"(")
 }

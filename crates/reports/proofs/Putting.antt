@@ -161,3 +161,5 @@ started-put {out} chosen v h w₁ w₂ w₃ w₄ w₅ =
     let x₅ : Written out 0 (s₄ ++ (41 ∷ 10 ∷ [])) _ _ = written_then out 0 s₄ (41 ∷ 10 ∷ []) (omega arith) x₄ w₅ in
     let same : s₄ ++ (41 ∷ 10 ∷ []) ≡ started chosen v = simp append_assoc in
     rw same at x₅
+
+pub ruleset lengths = (decimal-length, meaning-length, hexadecimal-length, tallied-length)

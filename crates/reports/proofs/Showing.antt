@@ -1,57 +1,26 @@
 -- Bytes put one behind the other as they are shown are the name as it is shown. Assumes nothing.
-use Prim.Native.Nat.{ℕ, ◌+◌, ◌*◌, ◌/◌, ◌%◌, ◌≤◌, ◌<◌}
+use Prim.Native.Nat.{ℕ, ◌+◌, ◌*◌, ◌≤◌, ◌<◌}
 use native.Mathlib.Omega.{arith}
 use native.Mathlib.Numerals.{add-one}
+use Rattle.std.proofs.Common.{Bool, true, false, ◌||◌, ltb, eqb, if◌then◌else◌}
 use mathlib.Core.Path.{◌≡◌, refl, sym, ap, ◌∙◌}
 use mathlib.Core.List.{[], ◌∷◌, ◌++◌, append_assoc, append-nil, flat_map}
 use lib.ListN.{length, take, get_or, length-append, length-take}
 use lib.Seq.{paste-zero, take-suc, take-length}
-use borrow.Author.Tests.{eq-eqb, ne_eqb, lt-ltb, le-ltb}
 use Rattle.reference.specs.Control.{when◌then◌else◌}
 use Rattle.reference.specs.Text.{Text}
-use Rattle.reference.specs.Numbers.{digit_byte}
-use Rattle.reference.proofs.Cases.{by-if}
 use Rattle.numbers.specs.Writing.{Written}
 use Rattle.numbers.proofs.Writing.{written_then}
 use Rattle.reports.specs.Reports.{escape, visible_byte, visible}
 
--- ---- a byte
-
-pub escape-put : {out : Text} {at : ℕ} (b : ℕ) {h l : ℕ} {o₁ o₂ o₃ : Text} {x y r : ℕ} → at + 4 ≤ length out → h ≡ digit_byte (b / 16) → l ≡ digit_byte (b % 16)
-    → Written out at (92 ∷ 120 ∷ []) o₁ x → Written o₁ x (h ∷ []) o₂ y → Written o₂ y (l ∷ []) o₃ r → Written out at (escape b) o₃ r
-unfolding escape
-escape-put {out} {at} b {h} {l} room e f w₁ w₂ w₃ =
-    let s₁ : Text = 92 ∷ 120 ∷ [] in
-    let x₂ : Written out at (s₁ ++ (h ∷ [])) _ _ = written_then out at s₁ (h ∷ []) (omega arith) w₁ w₂ in
-    let x₃ : Written out at ((s₁ ++ (h ∷ [])) ++ (l ∷ [])) _ _ = written_then out at (s₁ ++ (h ∷ [])) (l ∷ []) (omega arith) x₂ w₃ in
-    rw (← e, ← f) x₃
-
-module _ {b : ℕ} {out out' : Text} {at r : ℕ} where
-  pub low-put : b < 32 → Written out at (escape b) out' r → Written out at (visible_byte b) out' r
-  unfolding visible_byte when◌then◌else◌
-  low-put h w = rw (lt-ltb b 32 h) w
-
-  pub high_put : 32 ≤ b → 126 < b → Written out at (escape b) out' r → Written out at (visible_byte b) out' r
-  unfolding visible_byte when◌then◌else◌
-  high_put h k w = rw (le-ltb b 32 h, lt-ltb 126 b k) w
-
-  pub backslash_put : 32 ≤ b → b ≤ 126 → b ≡ 92 → Written out at (escape b) out' r → Written out at (visible_byte b) out' r
-  unfolding visible_byte when◌then◌else◌
-  backslash_put h k e w = rw (le-ltb b 32 h, le-ltb 126 b k, eq-eqb b 92 e) w
-
-  pub plain-put : 32 ≤ b → b ≤ 126 → (b ≡ 92 → ⊥) → Written out at (b ∷ []) out' r → Written out at (visible_byte b) out' r
-  unfolding visible_byte when◌then◌else◌
-  plain-put h k n w = rw (le-ltb b 32 h, le-ltb 126 b k, ne_eqb b 92 n) w
-
-pub ruleset visibles = (low-put, high_put, backslash_put, plain-put)
-
 -- ---- a name, byte by byte
 
 visible_byte-length : (b : ℕ) → length (visible_byte b) ≤ 4
-unfolding visible_byte escape
-visible_byte-length b =
-    by-if (λ (t : Text). length t ≤ 4) (λ e. omega arith)
-    (λ e. by-if (λ (t : Text). length t ≤ 4) (λ f. omega arith) (λ f. by-if (λ (t : Text). length t ≤ 4) (λ g. omega arith) (λ g. omega arith)))
+visible_byte-length b = either (ltb b 32 || ltb 126 b || eqb b 92)
+  where
+    either : (t : Bool) → length (if t then escape b else b ∷ []) ≤ 4
+    either true = omega arith
+    either false = omega arith
 
 visible-length : (t : Text) → length (visible t) ≤ 4 * length t
 unfolding visible flat_map

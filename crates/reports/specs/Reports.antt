@@ -1,7 +1,6 @@
 -- What the command writes of a reply. Assumes nothing.
-use Rattle.std.specs.Prelude.{ℕ, ◌/◌, ◌%◌, eqb, ltb, get_or}
+use Rattle.std.specs.Prelude.{ℕ, ◌/◌, ◌%◌, ◌||◌, eqb, ltb, get_or, if◌then◌else◌}
 use mathlib.Core.List.{List, [], ◌∷◌, ◌++◌, flat_map}
-use Rattle.reference.specs.Control.{when◌then◌else◌}
 use Rattle.reference.specs.Text.{Text, bytes}
 use Rattle.reference.specs.Numbers.{digit_byte}
 use Rattle.reference.specs.Run as R
@@ -69,12 +68,12 @@ started chosen v = chosen ++ bytes " = 0x" ++ hexadecimal v ++ bytes " (" ++ dec
 -- ---- the name of a state
 
 -- \xHH
-unfoldable pub escape : ℕ → Text
-escape b = (92 ∷ 120 ∷ []) ++ (digit_byte (b / 16) ∷ []) ++ (digit_byte (b % 16) ∷ [])
+abbrev pub escape : ℕ → Text
+escape b = 92 ∷ 120 ∷ digit_byte (b / 16) ∷ digit_byte (b % 16) ∷ []
 
 -- a byte that can be printed (20 to 7E) stands as it is, but for the backslash
-unfoldable pub visible_byte : ℕ → Text
-visible_byte b = when ltb b 32 then escape b else when ltb 126 b then escape b else when eqb b 92 then escape b else b ∷ []
+abbrev pub visible_byte : ℕ → Text
+visible_byte b = if ltb b 32 || ltb 126 b || eqb b 92 then escape b else b ∷ []
 
 unfoldable pub visible : Text → Text
 visible t = flat_map visible_byte t

@@ -1,64 +1,84 @@
 // What the command `puchkewa` writes of a reply: the bytes are those of the definitions in specs/Reports.antt.
-#![tactic(auto)]
+//
+// Kept: `out` and `at` are two parameters and no struct, as crate printing has them; the promises (`Written`) speak of both.
+#![tactic(auto, using(crate::proofs::Putting::lengths))]
 
-ghost use Rattle.std.specs.Prelude.{◌≡◌, [], ◌∷◌, ◌++◌, ◌+◌, ◌*◌, ◌≤◌, ◌<◌, length};
+ghost use Rattle.std.specs.Prelude.{◌≡◌, ◌++◌, ◌+◌, ◌*◌, ◌≤◌, ◌<◌, length};
 ghost use Rattle.reference.specs.Numbers.{digit_byte};
 ghost use Rattle.numbers.specs.Writing.{hexadecimal, Written};
 ghost use Rattle.rounds.specs.Runs.{tally_of};
 ghost use Rattle.printing.specs.Decimals.{decimal};
+ghost use Rattle.answers.specs.Refusals.{number_of};
 ghost use Rattle.reports.specs.Reports.{meaning, refusal, three, settled, tallied, counts, started, escape, visible_byte, visible};
 
+use answers::{Reason, Refusal};
 use numbers::put_digits;
 use printing::{put, put_decimal};
 use rounds::Tally;
-use words::nth_word;
 
-// Puts what a refusal by a number means; nothing for a number that no question has.
-fn put_meaning(number: u64, out: &mut [u8], at: usize) -> usize
-    requires { at + 200 ≤ length out.old }
-    ensures { Written out.old at (meaning number) out.new result }
+// What a refusal means.
+#[tactic(auto, unfolding(crate::specs::Reports::meaning, crate::specs::Reports::meanings))]
+fn meaning(reason: Reason) -> &'static [u8]
+    ensures { result.now ≡ meaning (number_of reason) }
 {
-    put(
-        nth_word(
-            b"\0\
-          the convention is not 0, 1 or 2\0\
-          a buffer that was lent is too short\0\
-          no command begins at this offset: the tape has no more bytes, or the byte there begins none\0\
-          the command that begins at this offset runs past the end of the tape\0\
-          at this offset stands a token before any line, or marks that follow no line or have their lowest above their highest\0\
-          at this offset stands an indent above 63, a text with no byte, or a number of more than 24 bytes\0\
-          the byte at this offset, in a text, is not printable (20 to 7E)\0\
-          the tape goes on behind the end that stands at this offset\0\
-          the number edition is not 0 or 1\0\
-          with the command at this offset there are more than 256 lines or 1,024 tokens\0\
-          with the text at this offset there are more than 24,576 bytes of text\0\
-          the Symbol at this offset is a keyword of C's edition of 2024\0\
-          the Number at this offset is binary or has quotes, and the edition of 2024 does not read it\0\
-          the line of this number, counted from 0, is the first that is not as the profile of straight pieces wants it\0\
-          no start value of the chosen register makes the formula return this value\0\
-          the chosen register, or one that has a value, is no 64-bit register (as rax, r8)\0\
-          more than 256 lines are asked for\0\
-          the command at this offset has an address below the base, too far above it, or past the last address\0\
-          the tape does not begin with its base (06)\0\
-          no state is held under this name\0\
-          eight states are held, and this name is new\0\
-          the cell of this number, counted from 0, is damaged\0",
-            number,
-        ),
-        out,
-        at,
-    )
+    match reason {
+        Reason::UnknownConvention => b"the convention is not 0, 1 or 2",
+        Reason::TooLittleRoom => b"a buffer that was lent is too short",
+        Reason::NoCommand => {
+            b"no command begins at this offset: the tape has no more bytes, or the byte there begins none"
+        }
+        Reason::CutOff => b"the command that begins at this offset runs past the end of the tape",
+        Reason::OutOfPlace => {
+            b"at this offset stands a token before any line, or marks that follow no line or have their lowest above their highest"
+        }
+        Reason::OutOfBounds => {
+            b"at this offset stands an indent above 63, a text with no byte, or a number of more than 24 bytes"
+        }
+        Reason::Unprintable => {
+            b"the byte at this offset, in a text, is not printable (20 to 7E)"
+        }
+        Reason::BytesAfterEnd => b"the tape goes on behind the end that stands at this offset",
+        Reason::UnknownEdition => b"the number edition is not 0 or 1",
+        Reason::TooMany => {
+            b"with the command at this offset there are more than 256 lines or 1,024 tokens"
+        }
+        Reason::TooMuchText => {
+            b"with the text at this offset there are more than 24,576 bytes of text"
+        }
+        Reason::NewKeyword => b"the Symbol at this offset is a keyword of C's edition of 2024",
+        Reason::UnreadNumber => {
+            b"the Number at this offset is binary or has quotes, and the edition of 2024 does not read it"
+        }
+        Reason::OutsideProfile => {
+            b"the line of this number, counted from 0, is the first that is not as the profile of straight pieces wants it"
+        }
+        Reason::NoStartValue => {
+            b"no start value of the chosen register makes the formula return this value"
+        }
+        Reason::NoRegister => {
+            b"the chosen register, or one that has a value, is no 64-bit register (as rax, r8)"
+        }
+        Reason::TooManyLines => b"more than 256 lines are asked for",
+        Reason::OutOfReach => {
+            b"the command at this offset has an address below the base, too far above it, or past the last address"
+        }
+        Reason::NoBase => b"the tape does not begin with its base (06)",
+        Reason::NotHeld => b"no state is held under this name",
+        Reason::StoreFull => b"eight states are held, and this name is new",
+        Reason::BrokenCell => b"the cell of this number, counted from 0, is damaged",
+    }
 }
 
 // Puts the line of a refusal at the front, and says how long it is.
-pub fn put_refusal(number: u64, place: u64, out: &mut [u8]) -> usize
+pub fn put_refusal(refused: Refusal, out: &mut [u8]) -> usize
     requires { 256 ≤ length out.old }
-    ensures { Written out.old 0 (refusal number place) out.new result }
+    ensures { Written out.old 0 (refusal (number_of refused.reason) refused.place) out.new result }
 {
-    let a = put_named(b"refused ", number, out, 0);
-    let b = put_named(b" at ", place, out, a);
+    let Refusal { reason, place } = refused;
+    let a = put_named(b"refused ", reason.number(), out, 0);
+    let b = put_named(b" at ", place as u64, out, a);
     let c = put(b": ", out, b);
-    let d = put_meaning(number, out, c);
+    let d = put(meaning(reason), out, c);
     put(b"\n", out, d)
 }
 
@@ -91,6 +111,7 @@ fn put_settled(rounds: u64, attempts: u64, out: &mut [u8], at: usize) -> usize
 }
 
 // Puts what is told of the rounds.
+#[tactic(auto, using(crate::proofs::Putting::lengths), unfolding(crate::specs::Reports::tallied))]
 fn put_tally(tally: Tally, out: &mut [u8], at: usize) -> usize
     requires { at + 73 ≤ length out.old }
     ensures { Written out.old at (tallied (tally_of tally)) out.new result }
@@ -117,14 +138,6 @@ pub fn put_counts(size: u64, tally: Tally, removed: u64, cut: u64, out: &mut [u8
     put(b"\n", out, d)
 }
 
-// Puts a number in hexadecimal.
-fn put_hexadecimal(v: u64, out: &mut [u8], at: usize) -> usize
-    requires { at + 16 ≤ length out.old }
-    ensures { Written out.old at (hexadecimal v) out.new result }
-{
-    put_digits(v, out, at)
-}
-
 // Puts the line of a start value at the front, and says how long it is.
 pub fn put_start(chosen: &[u8], v: u64, out: &mut [u8]) -> usize
     requires { length chosen.now + 45 ≤ length out.old }
@@ -132,18 +145,9 @@ pub fn put_start(chosen: &[u8], v: u64, out: &mut [u8]) -> usize
 {
     let a = put(chosen, out, 0);
     let b = put(b" = 0x", out, a);
-    let c = put_hexadecimal(v, out, b);
+    let c = put_digits(v, out, b);
     let d = put_named(b" (", v, out, c);
     put(b")\n", out, d)
-}
-
-// Puts a byte.
-fn put_byte(b: u8, out: &mut [u8], at: usize) -> usize
-    requires { at < length out.old }
-    ensures { Written out.old at (b ∷ []) out.new result }
-{
-    out[at] = b;
-    at + 1
 }
 
 // A hexadecimal digit.
@@ -159,9 +163,11 @@ fn put_escape(b: u8, out: &mut [u8], at: usize) -> usize
     requires { at + 4 ≤ length out.old }
     ensures { Written out.old at (escape b) out.new result }
 {
-    let x = put(b"\\x", out, at);
-    let y = put_byte(digit_byte(b / 16), out, x);
-    put_byte(digit_byte(b % 16), out, y)
+    put(
+        &[b'\\', b'x', digit_byte(b / 16), digit_byte(b % 16)],
+        out,
+        at,
+    )
 }
 
 // Puts a byte as it is shown.
@@ -169,16 +175,10 @@ fn put_visible_byte(b: u8, out: &mut [u8], at: usize) -> usize
     requires { at + 4 ≤ length out.old }
     ensures { Written out.old at (visible_byte b) out.new result }
 {
-    if b < 32 {
-        return put_escape(b, out, at);
+    match b {
+        b'\\' | 0..=31 | 127..=255 => put_escape(b, out, at),
+        _ => put(&[b], out, at),
     }
-    if 126 < b {
-        return put_escape(b, out, at);
-    }
-    if b == b'\\' {
-        return put_escape(b, out, at);
-    }
-    put_byte(b, out, at)
 }
 
 // Puts a name as it is shown at the front, and says how long it is.
@@ -187,10 +187,8 @@ pub fn put_visible(name: &[u8], out: &mut [u8]) -> usize
     ensures { Written out.old 0 (visible name.now) out.new result }
 {
     let mut end = 0;
-    let mut i = 0;
-    while i < name.len() {
-        end = put_visible_byte(name[i], out, end);
-        i += 1;
+    for b in name {
+        end = put_visible_byte(*b, out, end);
     }
     end
 }

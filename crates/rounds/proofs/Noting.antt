@@ -1,6 +1,6 @@
 -- The names that are addressed, copied into a buffer one after the other: names so far, then those that are still to come, are all; and so for the
 -- bytes and the words that they take. Assumes nothing.
-use Prim.Native.Nat.{ℕ, suc, ◌+◌, ◌≤◌, ◌<◌}
+use Prim.Native.Nat.{ℕ, suc, ◌+◌, ◌-◌, ◌≤◌, ◌<◌}
 use native.Mathlib.Omega.{arith}
 use native.Mathlib.Nat.{le_refl}
 use native.Mathlib.Numerals.{add-one}
@@ -26,6 +26,10 @@ use Rattle.lines.proofs.words.Tokens.{text_length, holds_snoc}
 use Rattle.lines.proofs.words.Lines.{bare_at}
 use Rattle.build.proofs.Appending.{take_behind, behind-points, behind-means}
 use Rattle.plan.specs.Slots.{slot_names}
+use Rattle.std.proofs.Common.{Option, Some, None, Bor, add-zero}
+use Rattle.std.specs.declared.slice.Windows.{Windows}
+use Rattle.std.specs.Slice.Iter.{windows_rest, windows_size, windows_steps}
+use Rattle.std.proofs.lemmas.Iterator.{window_more}
 use Rattle.rounds.specs.declared.slots.Slots.{Slots}
 use Rattle.rounds.specs.Slots.{names_now, Slotting, Roomy, Noted, Gathers}
 
@@ -252,6 +256,80 @@ module _ (tape area : Text) (line : List ℕ) (slots₀ : Text) (words₀ : List
           text_most = omega (arith, s.bytes_left);
           words_most = omega (arith, s.words_left);
         }
+
+-- the pairs that are left, `rest` being what they are taken from
+pub record Pairs (tape area : Text) (line : List ℕ) (slots₀ : Text) (words₀ : List ℕ) (g₀ : Slots) (slots : Text) (words : List ℕ) (g : Slots)
+    (pairs : Windows ℕ) : Type 0 where
+  pub twos : windows_size pairs ≡ 2
+  pub inside : length (windows_rest pairs) ≤ length line
+  pub rest_is : windows_rest pairs ≡ drop (length line - length (windows_rest pairs)) line
+  pub noting : LineNoting tape area line slots₀ words₀ g₀ slots words g (length line - length (windows_rest pairs))
+
+module _ (tape area : Text) (line : List ℕ) (slots₀ : Text) (words₀ : List ℕ) (g₀ : Slots) where
+  pub pairs_begin : {pairs : Windows ℕ} → windows_rest pairs ≡ line → windows_size pairs ≡ 2 → Slotting slots₀ words₀ g₀
+      → Pairs tape area line slots₀ words₀ g₀ slots₀ words₀ g₀ pairs
+  pairs_begin {pairs} e t s =
+      let zero : length line - length (windows_rest pairs) ≡ 0 = rw e (omega arith) in
+      record {
+        twos = t;
+        inside = rw e (omega arith);
+        rest_is = rw zero e;
+        noting = rw zero (line_begins tape area line slots₀ words₀ g₀ s);
+      }
+
+  module _ {slots : Text} {words : List ℕ} {g : Slots} {pairs : Windows ℕ} (s : Pairs tape area line slots₀ words₀ g₀ slots words g pairs) where
+    abbrev place : ℕ
+    place = length line - length (windows_rest pairs)
+
+    module _ (next : Windows ℕ) (r : Option (Bor (List ℕ))) (pair : Bor (List ℕ)) (e : r ≡ Some pair) (steps : windows_steps pairs r next) where
+      turn-of : (length (windows_rest next) + 1 ≡ length (windows_rest pairs))
+          × (windows_rest next ≡ drop (length line - length (windows_rest next)) line)
+          × (windows_size pairs ≤ length (windows_rest pairs))
+          × ((k : ℕ) (d : ℕ) → k < windows_size pairs → get_or pair.now k d ≡ get_or line (place + k) d)
+      turn-of = window_more line pairs next r pair e steps (omega (arith, s.twos)) s.inside s.rest_is
+
+      pair_inside : place + 1 < length line
+      pair_inside = let t = turn-of in omega (arith, t.2, s.twos, s.inside)
+
+      first_is : get_or pair.now 0 0 ≡ get_or line place 0
+      first_is = rw add-zero at (turn-of.3 0 0 (omega (arith, s.twos)))
+
+      second_is : get_or pair.now 1 0 ≡ get_or line (place + 1) 0
+      second_is = turn-of.3 1 0 (omega (arith, s.twos))
+
+      -- what the call on the pair asks
+      pub pair_first : Holds tape area line → Points tape area (get_or pair.now 0 0)
+      pair_first h = rw first_is (h.at place (omega (arith, pair_inside)))
+
+      pub pair_second : Holds tape area line → Points tape area (get_or pair.now 1 0)
+      pair_second h = rw second_is (h.at (place + 1) pair_inside)
+
+      pub pair_room : Holds tape area line → Roomy slots₀ words₀ g₀ (text_in (tokens_of tape area line)) (length line)
+          → length slots ≡ length slots₀ → length words ≡ length words₀ → Roomy slots words g (len_of (get_or pair.now 1 0)) 1
+      pair_room h p es ew = rw second_is (line_room tape area line slots₀ words₀ g₀ place s.noting pair_inside (h.at (place + 1) pair_inside) p es ew)
+
+      -- and what it leaves
+      pub pairs_next : Holds tape area line → {slots' : Text} {words' : List ℕ} {g' : Slots}
+          → Noted (addressed_here ((token_of tape area (get_or pair.now 0 0), token_of tape area (get_or pair.now 1 0)) ∷ [])) (len_of (get_or pair.now 1 0)) 1
+          slots words g slots' words' g'
+          → Pairs tape area line slots₀ words₀ g₀ slots' words' g' next
+      pairs_next h o =
+          let t = turn-of in
+          let further : length line - length (windows_rest next) ≡ place + 1 = omega (arith, t.0, s.inside) in
+          record {
+            twos = steps.0 ∙ s.twos;
+            inside = omega (arith, t.0, s.inside);
+            rest_is = t.1;
+            noting =
+                rw further
+                (line_next tape area line slots₀ words₀ g₀ place s.noting pair_inside (h.at (place + 1) pair_inside) (rw (first_is, second_is) at o));
+          }
+
+    pub pairs_end : (next : Windows ℕ) (r : Option (Bor (List ℕ))) → r ≡ None → windows_steps pairs r next
+        → Noted (addressed_here (windows (tokens_of tape area line))) (text_in (tokens_of tape area line)) (length line) slots₀ words₀ g₀ slots words g
+    pairs_end next r e steps =
+        let last = (rw e at steps).1.0 in
+        line_ends tape area line slots₀ words₀ g₀ place s.noting (omega (arith, last, s.twos, s.inside))
 
 -- ---- the lines of a listing
 

@@ -1,12 +1,12 @@
 -- The run: rounds one after the other, each with what the one before it left, then the cuts. Assumes nothing.
-use Prim.Native.Nat.{ℕ, zero, suc, ◌+◌, ◌-◌, ◌≤◌, ◌<◌}
+use Prim.Native.Nat.{ℕ, zero, suc, ◌+◌, ◌-◌, ◌≤◌}
 use native.Mathlib.Omega.{arith}
 use mathlib.Core.Path.{◌≡◌, refl, sym, ap, ◌∙◌}
 use mathlib.Core.Logic.{◌⊎◌, ⊎_elim, inl, inr}
 use mathlib.Core.Bool.{Bool, true, false}
 use mathlib.Core.List.{List, [], ◌∷◌, ◌++◌, map, map-append, flatten, append-nil, append_assoc}
-use lib.Dec.{eqb, eqb-zero-suc, eqb-suc-zero, eqb-suc-suc}
-use lib.ListN.{length, take, drop, length-append}
+use lib.Dec.{eqb}
+use lib.ListN.{length, take, drop, set, length-append}
 use lib.Seq.{take_at, length-take-le, length_front, append_snoc}
 use borrow.Author.Tests.{eq-eqb, ne_eqb}
 use Rattle.reference.specs.Control.{◌or◌, when◌then◌else◌}
@@ -29,7 +29,7 @@ use Rattle.rounds.specs.declared.run.Tally as Code
 use Rattle.rounds.specs.Carries.{Carries}
 use Rattle.cuts.specs.Cuts.{Cut}
 use Rattle.rounds.specs.Rounds.{Made}
-use Rattle.rounds.specs.Runs.{Runnable, most_rounds, rounds_left, count_after, after_round, Few, Counted, Rounded, tally_of, told_of, counts_of, Ran}
+use Rattle.rounds.specs.Runs.{Runnable, most_rounds, after_round, Few, Counted, Rounded, tally_of, told_of, counts_of, Ran}
 use Rattle.rounds.proofs.Carrying.{carries_none, carries_then, carries_same, numbers_same, cuts-addresses}
 use Rattle.cuts.proofs.Cutting.{last_append}
 use Rattle.rounds.proofs.Turning.{removals_append, now-length, now-few, lent_same}
@@ -47,6 +47,10 @@ removed_some (a ∷ rest) = go a.removed (removed_some rest)
         ⊎ (((b or changed rest) ≡ false) × ((when b then suc (removals rest) else removals rest) ≡ 0))
     go true ih = inl (refl, λ e. omega arith)
     go false ih = ih
+
+-- how many more may be made after a round that removed so many lines
+rounds_left : ℕ → ℕ → ℕ
+rounds_left left removed = when eqb removed 0 then 0 else left - 1
 
 rounds_more : (rules : Rules) (left : ℕ) (lines : Listing) → 1 ≤ left
     → let round = propagate_once rules lines in
@@ -80,76 +84,74 @@ unfolding flatten
 flatten_snoc [] round = append-nil round
 flatten_snoc (first ∷ done) round = rw (flatten_snoc done round) (sym (append_assoc first (flatten done) round))
 
--- the attempts of round k, one round more having been made
-count_snoc : (k : ℕ) (done : List (List Attempt)) (round : List Attempt)
-    → attempts_in k (done ++ (round ∷ [])) ≡ count_after k (length done) (attempts_in k done) (length round)
-unfolding attempts_in count_after when◌then◌else◌
-count_snoc zero [] round = refl
-count_snoc (suc k) [] round = rw (eqb-zero-suc k) refl
-count_snoc zero (first ∷ done) round = rw (eqb-suc-zero (length done)) refl
-count_snoc (suc k) (first ∷ done) round = rw (eqb-suc-suc (length done) k) (count_snoc k done round)
+-- the attempts of the first three rounds
+abbrev three_of : List (List Attempt) → List ℕ
+three_of rounds = attempts_in 0 rounds ∷ attempts_in 1 rounds ∷ attempts_in 2 rounds ∷ []
+
+-- one round more having been made
+three_snoc : (done : List (List Attempt)) (round : List Attempt) → set (three_of done) (length done) (length round) ≡ three_of (done ++ (round ∷ []))
+unfolding attempts_in
+three_snoc [] round = refl
+three_snoc (a ∷ []) round = refl
+three_snoc (a ∷ b ∷ []) round = refl
+three_snoc (a ∷ b ∷ c ∷ rest) round = refl
 
 module _ {done : List (List Attempt)} {s : Progress} (c : Counted done s) (round : List Attempt) (r : Round) (ea : r.attempts ≡ length round)
     (er : r.removed ≡ removals round) where
-  count_is : (k : ℕ) {before : ℕ} → before ≡ attempts_in k done → count_after k s.made before r.attempts ≡ attempts_in k (done ++ (round ∷ []))
-  count_is k e = rw (e, ea, c.made_are) (sym (count_snoc k done round))
-
   counted_next : Counted (done ++ (round ∷ [])) (after_round s r)
   counted_next =
       record {
         made_are = ap (λ (n : ℕ). n + 1) c.made_are ∙ sym (length-append done _);
-        first_is = count_is 0 c.first_is;
-        second_is = count_is 1 c.second_is;
-        third_is = count_is 2 c.third_is;
+        each_is = rw (c.each_is, c.made_are, ea) (three_snoc done round);
         attempts_are = rw (c.attempts_are, ea, flatten_snoc done round) (sym (length-append (flatten done) round));
         removed_is = rw (c.removed_is, er, flatten_snoc done round) (sym (removals_append (flatten done) round));
       }
 
 -- ---- the rounds so far
 
--- Of the rounds of `start`, at most `most`, those in `done` were made, and left `lines`: the others are those of `lines`, at most so many as s says. P is
--- said of the attempts that were made.
-pub record Sofar (rules : Rules) (most : ℕ) (start : Listing) (s : Progress) (lines : Listing) (P : List Attempt → Type 0) : Type 0 where
+-- Of the rounds of `start`, at most `most`, those in `done` were made, and left `lines`: the others are those of `lines`, at most `more`. P is said of
+-- the attempts that were made.
+pub record Sofar (rules : Rules) (most more : ℕ) (start : Listing) (s : Progress) (lines : Listing) (P : List Attempt → Type 0) : Type 0 where
   pub done : List (List Attempt)
-  pub made : rounds_from rules most start ≡ done ++ rounds_from rules s.left lines
+  pub made : rounds_from rules most start ≡ done ++ rounds_from rules more lines
   pub counted : Counted done s
   pub left : after_rounds start done ≡ lines
   pub said : P (flatten done)
 
 -- no round was made yet
-abbrev pub begin : ℕ → Size → Progress
-begin most at = record { left = most; made = 0; first = 0; second = 0; third = 0; attempts = 0; removed = 0; size = at }
+abbrev pub begin : Size → Progress
+begin at = record { made = 0; each = 0 ∷ 0 ∷ 0 ∷ []; attempts = 0; removed = 0; size = at }
 
 module _ (rules : Rules) (most : ℕ) (start : Listing) where
-  sofar_begin : (at : Size) {P : List Attempt → Type 0} → P [] → Sofar rules most start (begin most at) start P
+  sofar_begin : (at : Size) {P : List Attempt → Type 0} → P [] → Sofar rules most most start (begin at) start P
   unfolding after_rounds attempts_in flatten removals
   sofar_begin at p =
       record {
         done = [];
         made = refl;
-        counted = record { made_are = refl; first_is = refl; second_is = refl; third_is = refl; attempts_are = refl; removed_is = refl };
+        counted = record { made_are = refl; each_is = refl; attempts_are = refl; removed_is = refl };
         left = refl;
         said = p;
       }
 
-  module _ {s : Progress} {lines : Listing} {P : List Attempt → Type 0} (u : Sofar rules most start s lines P) where
-    sofar-next : 1 ≤ s.left → (r : Round) {lines' : Listing} → lines' ≡ after_attempts lines (propagate_once rules lines)
+  module _ {more : ℕ} {s : Progress} {lines : Listing} {P : List Attempt → Type 0} (u : Sofar rules most more start s lines P) where
+    sofar-next : 1 ≤ more → (r : Round) {lines' : Listing} → lines' ≡ after_attempts lines (propagate_once rules lines)
         → r.attempts ≡ length (propagate_once rules lines) → r.removed ≡ removals (propagate_once rules lines)
         → {Q : List Attempt → Type 0} → ((done : List Attempt) → P done → Q (done ++ propagate_once rules lines))
-        → Sofar rules most start (after_round s r) lines' Q
+        → Sofar rules most (rounds_left more r.removed) start (after_round s r) lines' Q
     sofar-next h r el ea er next =
         let round : List Attempt = propagate_once rules lines in
         record {
           done = u.done ++ (round ∷ []);
           made =
               rw (er, el)
-              (u.made ∙ ap (λ (more : List (List Attempt)). u.done ++ more) (rounds_more rules s.left lines h) ∙ sym (append_snoc u.done round _));
+              (u.made ∙ ap (λ (rest : List (List Attempt)). u.done ++ rest) (rounds_more rules more lines h) ∙ sym (append_snoc u.done round _));
           counted = counted_next u.counted round r ea er;
           left = after_snoc start u.done round ∙ ap (λ (ls : Listing). after_attempts ls round) u.left ∙ sym el;
           said = rw (flatten_snoc u.done round) (next (flatten u.done) u.said);
         }
 
-    sofar_end : s.left ≡ 0
+    sofar_end : more ≡ 0
         → (lines ≡ after_rounds start (rounds_from rules most start)) × Counted (rounds_from rules most start) s × P (flatten (rounds_from rules most start))
     unfolding rounds_from
     sofar_end h =
@@ -157,14 +159,15 @@ module _ (rules : Rules) (most : ℕ) (start : Listing) where
         u.made ∙ ap (λ (n : ℕ). u.done ++ rounds_from rules n lines) h ∙ append-nil u.done in
         rw all (sym u.left, u.counted, u.said)
 
--- the rounds stand at s: what began as the first listing is now the second
-pub record Going (rules : Rules) (tape area₀ : Text) (tokens₀ lines₀ lows₀ highs₀ : List ℕ) (at₀ : Size) (most : ℕ)
+-- the rounds stand at s, and at most `more` are to come: what began as the first listing is now the second
+pub record Going (rules : Rules) (tape area₀ : Text) (tokens₀ lines₀ lows₀ highs₀ : List ℕ) (at₀ : Size) (most more : ℕ)
     (area : Text) (tokens lines lows highs : List ℕ) (s : Progress) : Type 0 where
   pub current : Current tape area tokens lines s.size
   pub limits : RunLimits (bare_now tape area tokens lines s.size)
   pub few : Few s
+  pub rounds : s.made + more ≤ 257
   pub sofar : (addresses : Reading)
-      → Sofar rules most (listing_now tape area₀ tokens₀ lines₀ at₀ addresses) s (listing_now tape area tokens lines s.size addresses)
+      → Sofar rules most more (listing_now tape area₀ tokens₀ lines₀ at₀ addresses) s (listing_now tape area tokens lines s.size addresses)
       (λ done. Carries done (used_lines lines₀ at₀) lows₀ highs₀ (used_lines lines s.size) lows highs)
 
 most-few : (settle : Bool) {n : ℕ} → n ≤ 256 → most_rounds settle n ≤ 257
@@ -176,56 +179,57 @@ module _ {rules : Rules} {tape area₀ : Text} {tokens₀ lines₀ lows₀ highs
   pub going_begin : {area2 : Text} {tokens2 labels : List ℕ} {slots : Text} {slot-words : List ℕ}
       → Runnable tape area₀ tokens₀ lines₀ area2 tokens2 lows₀ highs₀ labels slots slot-words at₀ → {most : ℕ}
       → most ≡ most_rounds rules.settle at₀.lines
-      → Going rules tape area₀ tokens₀ lines₀ lows₀ highs₀ at₀ most area₀ tokens₀ lines₀ lows₀ highs₀ (begin most at₀)
+      → Going rules tape area₀ tokens₀ lines₀ lows₀ highs₀ at₀ most most area₀ tokens₀ lines₀ lows₀ highs₀ (begin at₀)
   going_begin b e =
       record {
         current = b.current;
         limits = b.limits;
-        few =
-            record {
-              rounds = omega (arith, e, most-few rules.settle (now-few b.current b.limits));
-              attempts = omega arith;
-              removed = omega arith;
-            };
+        few = record { rounds = omega arith; attempts = omega arith; removed = omega arith };
+        rounds = omega (arith, e, most-few rules.settle (now-few b.current b.limits));
         sofar = λ addresses. sofar_begin rules _ _ at₀ (carries_none (used_lines lines₀ at₀) lows₀ highs₀);
       }
 
-  module _ {most : ℕ} {area : Text} {tokens lines lows highs : List ℕ} {s : Progress}
-      (g : Going rules tape area₀ tokens₀ lines₀ lows₀ highs₀ at₀ most area tokens lines lows highs s) where
-    module _ (h : 1 ≤ s.left) {area' : Text} {tokens' lines' lows' highs' : List ℕ} {r : Round}
+  module _ {most more : ℕ} {area : Text} {tokens lines lows highs : List ℕ} {s : Progress}
+      (g : Going rules tape area₀ tokens₀ lines₀ lows₀ highs₀ at₀ most more area tokens lines lows highs s) where
+    module _ (h : 1 ≤ more) {area' : Text} {tokens' lines' lows' highs' : List ℕ} {r : Round}
         (m : Made (propagate_once rules) tape area tokens lines lows highs s.size area' tokens' lines' lows' highs' r) where
-      left_less : (after_round s r).left < s.left
+      going_round : Going rules tape area₀ tokens₀ lines₀ lows₀ highs₀ at₀ most (rounds_left more r.removed) area' tokens' lines' lows' highs' (after_round s r)
       unfolding rounds_left when◌then◌else◌
-      left_less = go (eqb r.removed 0)
-        where
-          go : (b : Bool) → (when b then 0 else s.left - 1) < s.left
-          go true = omega (arith, h)
-          go false = omega (arith, h)
-
-      pub going_next : Going rules tape area₀ tokens₀ lines₀ lows₀ highs₀ at₀ most area' tokens' lines' lows' highs' (after_round s r)
-      going_next =
+      going_round =
           record {
             current = m.current;
             limits = m.limits;
             few =
                 record {
-                  rounds = omega (arith, g.few.rounds, left_less);
+                  rounds = omega (arith, g.rounds, h);
                   attempts = omega (arith, g.few.attempts, m.few);
                   removed = omega (arith, g.few.removed, m.few);
                 };
+            rounds = omega (arith, g.rounds, h, fewer (eqb r.removed 0));
             sofar = λ addresses.
                 sofar-next rules most _ (g.sofar addresses) h r (m.left addresses) (m.attempts_are addresses) (m.removed_is addresses)
                 (λ done had.
                 carries_then done _ (used_lines lines₀ at₀) lows₀ highs₀ (used_lines lines s.size) lows highs
                 (used_lines lines' r.size) lows' highs' had (m.marks addresses));
           }
+        where
+          fewer : (b : Bool) → (when b then 0 else more - 1) ≤ more - 1
+          fewer true = omega arith
+          fewer false = omega arith
 
-      pub going_less : (after_round s r).left < s.left
-      going_less = left_less
+      -- after a round that removed something
+      pub going_next : (r.removed ≡ 0 → ⊥) → Going rules tape area₀ tokens₀ lines₀ lows₀ highs₀ at₀ most (more - 1) area' tokens' lines' lows' highs' (after_round s r)
+      unfolding rounds_left
+      going_next n = rw (if-false 0 (more - 1) (ne_eqb r.removed 0 n)) at going_round
+
+      -- and after one that removed nothing
+      pub going_last : r.removed ≡ 0 → Going rules tape area₀ tokens₀ lines₀ lows₀ highs₀ at₀ most 0 area' tokens' lines' lows' highs' (after_round s r)
+      unfolding rounds_left
+      going_last e = rw (if-true 0 (more - 1) (eq-eqb r.removed 0 e)) at going_round
 
     pub going_end : {area2 : Text} {tokens2 labels : List ℕ} {slots : Text} {slot-words : List ℕ}
         → Runnable tape area₀ tokens₀ lines₀ area2 tokens2 lows₀ highs₀ labels slots slot-words at₀ → most ≡ most_rounds rules.settle at₀.lines
-        → s.left ≡ 0 → Rounded rules tape area₀ tokens₀ lines₀ lows₀ highs₀ at₀ area tokens lines lows highs s
+        → more ≡ 0 → Rounded rules tape area₀ tokens₀ lines₀ lows₀ highs₀ at₀ area tokens lines lows highs s
     unfolding run attempts_of
     going_end b e h =
         let most_is : (addresses : Reading) → limit rules (listing_now tape area₀ tokens₀ lines₀ at₀ addresses) ≡ most =
@@ -240,11 +244,11 @@ module _ {rules : Rules} {tape area₀ : Text} {tokens₀ lines₀ lows₀ highs
 
 -- the tables are large enough for the next round
 pub runnable_again : {rules : Rules} {tape area : Text} {tokens lines : List ℕ} {area2 : Text} {tokens2 lows highs labels : List ℕ} {slots : Text}
-    {slot-words : List ℕ} {at : Size} {most : ℕ}
+    {slot-words : List ℕ} {at : Size} {most more : ℕ}
     (area2' : Text) (tokens2' labels' : List ℕ) (slots' : Text) (slot-words' : List ℕ) {area' : Text} {tokens' lines' : List ℕ}
     (lows' highs' : List ℕ) {s : Progress}
     → Runnable tape area tokens lines area2 tokens2 lows highs labels slots slot-words at
-    → Going rules tape area tokens lines lows highs at most area' tokens' lines' lows' highs' s
+    → Going rules tape area tokens lines lows highs at most more area' tokens' lines' lows' highs' s
     → length area' ≡ length area → length tokens' ≡ length tokens → length area2' ≡ length area2 → length tokens2' ≡ length tokens2
     → length lows' ≡ length lows → length highs' ≡ length highs
     → length labels' ≡ length labels → length slots' ≡ length slots → length slot-words' ≡ length slot-words
@@ -310,7 +314,7 @@ module _ (rules : Rules) {tape area : Text} {tokens lines lows highs : List ℕ}
         let all = run rules (listing_now tape area tokens lines at addresses) in
         let told = m.counted addresses in
         let tally : tally_of t ≡ (counts rules all).tally =
-        et ∙ rw (told.made_are, told.attempts_are, told.first_is, told.second_is, told.third_is) in
+        et ∙ rw (told.made_are, told.attempts_are, told.each_is) in
         let cut : k ≡ length all.cuts = c.count addresses ∙ ap length (cuts-made addresses) in
         λ i. record { tally = tally i; lines_removed = told.removed_is i; results_cut = cut i }
 

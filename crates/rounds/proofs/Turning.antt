@@ -34,7 +34,7 @@ use Rattle.build.specs.Added.{used_words}
 use Rattle.plan.specs.Slots.{slot_names, Slotted}
 use Rattle.join.specs.Current.{used_lines, listing_now, bare_now, Current, Lent}
 use Rattle.join.specs.Attempts.{Attemptable, targets_now, Attempted}
-use Rattle.join.specs.declared.attempt.Tried.{Tried}
+use Rattle.std.specs.Prelude as std
 use Rattle.rounds.specs.declared.rounds.Round.{Round}
 use Rattle.rounds.specs.Carries.{Carries}
 use Rattle.rounds.specs.Rounds.{Failed, Succeeded, Turned, Countable, Roundable, Made, attempts_with}
@@ -138,29 +138,29 @@ module _ (tape area : Text) (tokens lines : List ℕ) (at : Size) where
 -- ---- one attempt
 
 module _ (rules : Rules) {tape area : Text} {tokens lines lows highs labels : List ℕ} {slots : Text} {words : List ℕ} {r : Round}
-    {area' : Text} {tokens' lines' lows' highs' : List ℕ} {t : Tried}
+    {area' : Text} {tokens' lines' lows' highs' : List ℕ} {t : std.Option Size}
     (a : Attempted rules tape area tokens lines lows highs labels slots words r.next r.size area' tokens' lines' lows' highs' t) where
-  pub turn_failed : t.joined ≡ false
+  pub turn_failed : t ≡ std.None
       → Turned rules tape area tokens lines lows highs labels slots words r area' tokens' lines' lows' highs' labels
-      (record { next = r.next + 1; attempts = r.attempts + 1; removed = r.removed; size = t.size })
+      (record { next = r.next + 1; attempts = r.attempts + 1; removed = r.removed; size = r.size })
   turn_failed e =
       let f = a.failed e in
       inl (record {
-        round_is = rw f.0;
-        area_is = f.1;
-        tokens_are = f.2;
-        lines_are = f.3;
-        lows_are = f.5;
-        highs_are = f.6;
+        round_is = refl;
+        area_is = f.0;
+        tokens_are = f.1;
+        lines_are = f.2;
+        lows_are = f.4;
+        highs_are = f.5;
         labels_are = refl;
-        tried = f.4;
+        tried = f.3;
       })
 
-  pub turn_succeeded : t.joined ≡ true → {labels' : List ℕ} → labels' ≡ shift_places r.next labels → {next : ℕ} → next ≡ pred r.next
+  pub turn_succeeded : {after : Size} → t ≡ std.Some after → {labels' : List ℕ} → labels' ≡ shift_places r.next labels → {next : ℕ} → next ≡ pred r.next
       → Turned rules tape area tokens lines lows highs labels slots words r area' tokens' lines' lows' highs' labels'
-      (record { next = next; attempts = r.attempts + 1; removed = r.removed + 1; size = t.size })
-  turn_succeeded e el en =
-      let s = a.succeeded e in
+      (record { next = next; attempts = r.attempts + 1; removed = r.removed + 1; size = after })
+  turn_succeeded {after} e el en =
+      let s = a.succeeded after e in
       inr (record { next_is = en; attempts_are = refl; removed_is = refl; labels_are = el; current = s.0; tried = s.1; handed = s.2 })
 
 -- ---- in the tables

@@ -1,5 +1,5 @@
 -- What a whole run finds and what it leaves. Assumes nothing.
-use Rattle.std.specs.Prelude.{ℕ, ◌+◌, ◌-◌, ◌*◌, ◌≤◌, ◌≡◌, Bool, eqb, length}
+use Rattle.std.specs.Prelude.{ℕ, ◌+◌, ◌*◌, ◌≤◌, ◌≡◌, Bool, [], ◌∷◌, length, get_or, slice_set}
 use mathlib.Core.List.{List, flatten}
 use Rattle.reference.specs.Control.{when◌then◌else◌}
 use Rattle.reference.specs.Text.{Text}
@@ -41,22 +41,11 @@ pub record Runnable (tape area : Text) (tokens lines : List ℕ) (area2 : Text) 
 unfoldable pub most_rounds : Bool → ℕ → ℕ
 most_rounds settle n = when settle then n + 1 else 3
 
--- how many more may be made after a round that removed so many lines
-unfoldable pub rounds_left : ℕ → ℕ → ℕ
-rounds_left left removed = when eqb removed 0 then 0 else left - 1
-
--- the attempts of round k after a round with so many attempts, `made` having been made before it
-unfoldable pub count_after : ℕ → ℕ → ℕ → ℕ → ℕ
-count_after k made before attempts = when eqb made k then attempts else before
-
 abbrev pub after_round : Progress → Round → Progress
 after_round s r =
     record {
-      left = rounds_left s.left r.removed;
       made = s.made + 1;
-      first = count_after 0 s.made s.first r.attempts;
-      second = count_after 1 s.made s.second r.attempts;
-      third = count_after 2 s.made s.third r.attempts;
+      each = slice_set s.each s.made r.attempts;
       attempts = s.attempts + r.attempts;
       removed = s.removed + r.removed;
       size = r.size;
@@ -64,16 +53,14 @@ after_round s r =
 
 -- the counts can be raised: a round makes at most 512 attempts
 pub record Few (s : Progress) : Type 0 where
-  pub rounds : s.made + s.left ≤ 257
+  pub rounds : s.made ≤ 257
   pub attempts : s.attempts ≤ 512 * s.made
   pub removed : s.removed ≤ 512 * s.made
 
 -- what is told of these rounds
 pub record Counted (rounds : List (List R.Attempt)) (s : Progress) : Type 0 where
   pub made_are : s.made ≡ length rounds
-  pub first_is : s.first ≡ R.attempts_in 0 rounds
-  pub second_is : s.second ≡ R.attempts_in 1 rounds
-  pub third_is : s.third ≡ R.attempts_in 2 rounds
+  pub each_is : s.each ≡ R.attempts_in 0 rounds ∷ R.attempts_in 1 rounds ∷ R.attempts_in 2 rounds ∷ []
   pub attempts_are : s.attempts ≡ length (flatten rounds)
   pub removed_is : s.removed ≡ R.removals (flatten rounds)
 
@@ -96,7 +83,7 @@ tally_of (Three first second third) = R.three first second third
 tally_of (Settled rounds attempts) = R.settled rounds attempts
 
 abbrev pub told_of : Bool → Progress → R.Tally
-told_of settle s = when settle then R.settled s.made s.attempts else R.three s.first s.second s.third
+told_of settle s = when settle then R.settled s.made s.attempts else R.three (get_or s.each 0 0) (get_or s.each 1 0) (get_or s.each 2 0)
 
 abbrev pub counts_of : Outcome → R.Counts
 counts_of r = record { tally = tally_of r.tally; lines_removed = r.removed; results_cut = r.cut }

@@ -1,5 +1,4 @@
 // One round: `propagate_once` of the Rust.
-ghost use Rattle.std.specs.Prelude.{◌≡◌, pred};
 ghost use Rattle.reference.specs.Run.{propagate_once};
 ghost use Rattle.lines.specs.Rules.{rules_of};
 ghost use Rattle.join.specs.Attempts.{Attemptable};
@@ -19,16 +18,6 @@ pub struct Round {
     pub attempts: u64,
     pub removed: u64,
     pub size: Size,
-}
-
-// The line to try after line i was removed.
-fn step_back(i: usize) -> usize
-    ensures { result ≡ pred i }
-{
-    if i == 0 {
-        return 0;
-    }
-    i - 1
 }
 
 // One attempt of a round.
@@ -54,26 +43,23 @@ fn turn<'a>(
         area.new tokens.new lines.new lows.new highs.new labels.new result }
 {
     let i = r.next;
-    let before = r.size;
-    let t = try_at(
+    let attempts = r.attempts + 1;
+    let Some(size) = try_at(
         tape, area, tokens, lines, area2, tokens2, lows, highs, labels, slots, slot_words, i,
-        before, rules,
-    );
-    let after = t.size;
-    if !t.joined {
+        r.size, rules,
+    ) else {
         return Round {
             next: i + 1,
-            attempts: r.attempts + 1,
-            removed: r.removed,
-            size: after,
+            attempts,
+            ..r
         };
-    }
+    };
     shift_labels(labels, i);
     Round {
-        next: step_back(i),
-        attempts: r.attempts + 1,
+        next: i.saturating_sub(1),
+        attempts,
         removed: r.removed + 1,
-        size: after,
+        size,
     }
 }
 
@@ -105,6 +91,7 @@ fn turns<'a>(
         removed: 0,
         size,
     };
+    // Kept: an attempt sets the next line one on or one back, so no range or iterator yields the lines.
     while r.next < r.size.lines {
         r = turn(
             tape, area, tokens, lines, area2, tokens2, lows, highs, labels, slots, slot_words, r,
@@ -135,20 +122,11 @@ pub fn propagate_once(
     ensures { Made (propagate_once (rules_of rules)) tape.now area.old tokens.old lines.old lows.old highs.old size
         area.new tokens.new lines.new lows.new highs.new result }
 {
-    let n = size.lines;
-    let used = size.tokens;
-    let text = size.text;
-    let known = gather_labels(tape, &area[..text], &tokens[..used], &lines[..n], labels);
-    let g = gather_slots(
-        tape,
-        &area[..text],
-        &tokens[..used],
-        &lines[..n],
-        slots,
-        slot_words,
-    );
-    let names = g.count;
-    let bytes = g.text;
+    let text = &area[..size.text];
+    let words = &tokens[..size.tokens];
+    let listing = &lines[..size.lines];
+    let known = gather_labels(tape, text, words, listing, labels);
+    let g = gather_slots(tape, text, words, listing, slots, slot_words);
     turns(
         tape,
         area,
@@ -159,8 +137,8 @@ pub fn propagate_once(
         lows,
         highs,
         &mut labels[..known],
-        &slots[..bytes],
-        &slot_words[..names],
+        &slots[..g.text],
+        &slot_words[..g.count],
         size,
         rules,
     )

@@ -8,7 +8,7 @@ ghost use Rattle.lines.specs.Rules.{rules_of};
 ghost use Rattle.join.specs.Current.{Current};
 ghost use Rattle.rounds.specs.Rounds.{Countable};
 ghost use Rattle.rounds.specs.Runs.{SameListing, Runnable, Ran};
-ghost use Rattle.rounds.specs.Runs.{most_rounds, rounds_left, count_after, after_round, Few, tally_of, told_of, Rounded};
+ghost use Rattle.rounds.specs.Runs.{most_rounds, after_round, Few, tally_of, told_of, Rounded};
 
 use crate::rounds::{Round, propagate_once};
 use build::used::Size;
@@ -33,15 +33,12 @@ pub struct Outcome {
     pub size: Size,
 }
 
-// How far the rounds have come: how many more may be made, how many were, the attempts of each of the first three and of all, the lines
-// removed, and the listing's size.
+// How far the rounds have come: how many were made, the attempts of each of the first three and of all, the lines removed, and the
+// listing's size.
 #[derive(Clone, Copy)]
 pub struct Progress {
-    pub left: usize,
-    pub made: u64,
-    pub first: u64,
-    pub second: u64,
-    pub third: u64,
+    pub made: usize,
+    pub each: [u64; 3],
     pub attempts: u64,
     pub removed: u64,
     pub size: Size,
@@ -52,48 +49,24 @@ fn most_rounds(settle: bool, n: usize) -> usize
     requires { n ≤ 256 }
     ensures { result ≡ most_rounds settle n }
 {
-    if settle {
-        return n + 1;
-    }
-    3
-}
-
-// How many more may be made after a round that removed so many lines: none after one that changed nothing.
-fn rounds_left(left: usize, removed: u64) -> usize
-    requires { 1 ≤ left }
-    ensures { result ≡ rounds_left left removed }
-{
-    if removed == 0 {
-        return 0;
-    }
-    left - 1
-}
-
-// The attempts of round k, from 0, after a round with so many attempts, `made` having been made before it.
-fn count_after(k: u64, made: u64, before: u64, attempts: u64) -> u64
-    ensures { result ≡ count_after k made before attempts }
-{
-    if made == k {
-        return attempts;
-    }
-    before
+    if settle { n + 1 } else { 3 }
 }
 
 // One round more.
 fn after_round(s: Progress, r: Round) -> Progress
-    requires { Few s × Countable r × (1 ≤ s.left) }
+    requires { Few s × Countable r }
     ensures { result ≡ after_round s r }
 {
-    let size = r.size;
+    let mut each = s.each;
+    if s.made < 3 {
+        each[s.made] = r.attempts;
+    }
     Progress {
-        left: rounds_left(s.left, r.removed),
         made: s.made + 1,
-        first: count_after(0, s.made, s.first, r.attempts),
-        second: count_after(1, s.made, s.second, r.attempts),
-        third: count_after(2, s.made, s.third, r.attempts),
+        each,
         attempts: s.attempts + r.attempts,
         removed: s.removed + r.removed,
-        size,
+        size: r.size,
     }
 }
 
@@ -102,15 +75,17 @@ fn tally_up(settle: bool, s: Progress) -> Tally
     ensures { tally_of result ≡ told_of settle s }
 {
     if settle {
-        return Tally::Settled {
-            rounds: s.made,
+        Tally::Settled {
+            rounds: s.made as u64,
             attempts: s.attempts,
-        };
-    }
-    Tally::Three {
-        first: s.first,
-        second: s.second,
-        third: s.third,
+        }
+    } else {
+        let [first, second, third] = s.each;
+        Tally::Three {
+            first,
+            second,
+            third,
+        }
     }
 }
 
@@ -135,23 +110,23 @@ fn make_rounds(
     ensures { Rounded (rules_of rules) tape.now area.old tokens.old lines.old lows.old highs.old size
         area.new tokens.new lines.new lows.new highs.new result }
 {
+    let most = most_rounds(rules.settle, size.lines);
     let mut s = Progress {
-        left: most_rounds(rules.settle, size.lines),
         made: 0,
-        first: 0,
-        second: 0,
-        third: 0,
+        each: [0; 3],
         attempts: 0,
         removed: 0,
         size,
     };
-    while s.left != 0 {
-        let before = s.size;
+    for _k in 0..most {
         let r = propagate_once(
             tape, area, tokens, lines, area2, tokens2, lows, highs, labels, slots, slot_words,
-            before, rules,
+            s.size, rules,
         );
         s = after_round(s, r);
+        if r.removed == 0 {
+            break;
+        }
     }
     s
 }
@@ -161,10 +136,12 @@ fn note_facts<'a>(tape: &'a [u8], area: &'a [u8], tokens: &'a [u64], lines: &mut
     requires { Current tape.now area.now tokens.now lines.old size }
     ensures { SameListing tape.now area.now tokens.now lines.old size lines.new }
 {
-    let n = size.lines;
-    let used = size.tokens;
-    let text = size.text;
-    gather_facts(tape, &area[..text], &tokens[..used], &mut lines[..n]);
+    gather_facts(
+        tape,
+        &area[..size.text],
+        &tokens[..size.tokens],
+        &mut lines[..size.lines],
+    );
 }
 
 // The facts are noted, the rounds made, then the cuts.
@@ -193,15 +170,11 @@ pub fn optimize(
         tape, area, tokens, lines, area2, tokens2, lows, highs, labels, slots, slot_words, size,
         rules,
     );
-    let left = s.size;
-    let n = left.lines;
-    let used = left.tokens;
-    let text = left.text;
     let cut = drop_dead_results(
         tape,
-        &area[..text],
-        &tokens[..used],
-        &mut lines[..n],
+        &area[..s.size.text],
+        &tokens[..s.size.tokens],
+        &mut lines[..s.size.lines],
         labels,
         rules,
     );
@@ -209,6 +182,6 @@ pub fn optimize(
         tally: tally_up(rules.settle, s),
         removed: s.removed,
         cut,
-        size: left,
+        size: s.size,
     }
 }

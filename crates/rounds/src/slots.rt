@@ -8,7 +8,7 @@ ghost use Rattle.lines.specs.Lines.{bare_listing, Listed};
 ghost use Rattle.rounds.specs.Slots.{Slotting, Roomy, Noted, Gathers};
 
 use lines::words;
-use text::{begins_slot, copy_bytes, ends_ampersand};
+use text::{begins_slot, ends_ampersand};
 
 // Names that were gathered: how many, and how many bytes they have.
 #[derive(Clone, Copy)]
@@ -33,19 +33,15 @@ fn gather_slot<'a>(
         slots.old slot_words.old g slots.new slot_words.new result }
 {
     let s = words::text(tape, area, w);
-    if !ends_ampersand(words::text(tape, area, before)) {
+    if !ends_ampersand(words::text(tape, area, before)) || !begins_slot(s) {
         return g;
     }
-    if !begins_slot(s) {
-        return g;
-    }
-    let n = g.count;
-    let at = g.text;
-    copy_bytes(s, slots, at);
-    slot_words[n] = words::token_word(words::PLAIN, words::IN_AREA, at, s.len());
+    let end = g.text + s.len();
+    slots[g.text..end].copy_from_slice(s);
+    slot_words[g.count] = words::token_word(words::PLAIN, words::IN_AREA, g.text, s.len());
     Slots {
-        count: n + 1,
-        text: at + s.len(),
+        count: g.count + 1,
+        text: end,
     }
 }
 
@@ -65,10 +61,8 @@ fn gather_line<'a>(
         slot_words.old g slots.new slot_words.new result }
 {
     let mut all = g;
-    let mut k = 0;
-    while k + 1 < line.len() {
-        all = gather_slot(tape, area, line[k], line[k + 1], slots, slot_words, all);
-        k += 1;
+    for pair in line.windows(2) {
+        all = gather_slot(tape, area, pair[0], pair[1], slots, slot_words, all);
     }
     all
 }
@@ -89,17 +83,9 @@ pub fn gather_slots<'a>(
         slot_words.new result }
 {
     let mut all = Slots { count: 0, text: 0 };
-    let mut k = 0;
-    while k < lines.len() {
-        all = gather_line(
-            tape,
-            area,
-            words::line_of(tokens, lines[k]),
-            slots,
-            slot_words,
-            all,
-        );
-        k += 1;
+    for l in lines {
+        let line = words::line_of(tokens, *l);
+        all = gather_line(tape, area, line, slots, slot_words, all);
     }
     all
 }

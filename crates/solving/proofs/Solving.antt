@@ -7,9 +7,9 @@ use native.Mathlib.Nat.{mod-one, mod-mod, mod-add-mod, add-mul-mod_self_right}
 use native.Mathlib.Nat.{sub-zero}
 use lib.Arith.{mod-mul}
 use lib.Pow.{mod-mod-pow}
-use Rattle.solving.specs.declared.Solution.{Solution}
-use Rattle.solving.specs.declared.Solution.TheVariants as solution
 use Rattle.solving.specs.Solutions.{Smallest, Answers, Solves}
+use Rattle.std.specs.Prelude as std
+use Rattle.std.specs.Prelude.{Some, None}
 
 -- ---- numbers modulo 2^(n + 1)
 
@@ -38,6 +38,12 @@ back m u h p =
 
 pub cancel : (m u v h : ℕ) → 0 < m → (u + h) % m ≡ (v + h) % m → u % m ≡ v % m
 cancel m u v h p e = sym (back m u h p) ∙ add_same m (u + h) (v + h) (h * (m - 1)) e ∙ back m v h p
+
+-- a difference that wraps, and what was taken away
+pub sub_back : (c a : ℕ) → c < 2 ^ 64 → a < 2 ^ 64 → ((c + (2 ^ 64 - a)) % 2 ^ 64 + a) % 2 ^ 64 ≡ c
+sub_back c a h k =
+    let s : c + (2 ^ 64 - a) + a ≡ c + 1 * 2 ^ 64 = omega arith in
+    mod-add-mod (c + (2 ^ 64 - a)) (2 ^ 64) a ∙ ap (λ (m : ℕ). m % 2 ^ 64) s ∙ add-mul-mod_self_right c 1 (2 ^ 64) ∙ mod-eq_of_lt h
 
 -- ---- a and c even
 
@@ -243,12 +249,12 @@ module _ (k a b w d : ℕ) (fits : d < 2 ^ k) (e : (d + b) % 2 ^ k ≡ w) (y : �
   summand_off : (a * y + b) % 2 ^ k ≡ w → a * y % 2 ^ k ≡ d
   summand_off q = cancel (2 ^ k) (a * y) d b (pow_pos k) (q ∙ sym e) ∙ mod-eq_of_lt fits
 
-pub answers_same : (P Q : ℕ → Type 0) → ((y : ℕ) → P y → Q y) → ((y : ℕ) → Q y → P y) → (s : Solution) → Answers P s → Answers Q s
-answers_same P Q to from (solution.Smallest x) h =
+pub answers_same : (P Q : ℕ → Type 0) → ((y : ℕ) → P y → Q y) → ((y : ℕ) → Q y → P y) → (s : std.Option ℕ) → Answers P s → Answers Q s
+answers_same P Q to from (Some x) h =
     (h.0, record { does = to x h.1.does; least = λ y lt q. h.1.least y lt (from y q) })
-answers_same P Q to from solution.None h = λ y lt q. h y lt (from y q)
+answers_same P Q to from None h = λ y lt q. h y lt (from y q)
 
-pub with_summand : (a b w d : ℕ) → d < 2 ^ 64 → (d + b) % 2 ^ 64 ≡ w → (s : Solution) → Answers (λ x. a * x % 2 ^ 64 ≡ d) s
+pub with_summand : (a b w d : ℕ) → d < 2 ^ 64 → (d + b) % 2 ^ 64 ≡ w → (s : std.Option ℕ) → Answers (λ x. a * x % 2 ^ 64 ≡ d) s
     → Answers (λ x. (a * x + b) % 2 ^ 64 ≡ w) s
 with_summand a b w d fits e =
     answers_same (λ x. a * x % 2 ^ 64 ≡ d) (λ x. (a * x + b) % 2 ^ 64 ≡ w)

@@ -1,4 +1,7 @@
 -- The call `came_into`: what the answers of the calls that it makes say of it. Assumes nothing.
+use Rattle.std.specs.Prelude.{Result, Ok, Err}
+use Rattle.answers.specs.declared.Reason.{Reason}
+use Rattle.answers.specs.Refusals.{refusing}
 use Prim.Native.Nat.{ℕ, zero, suc, ◌+◌, ◌≤◌, ◌<◌}
 use native.Mathlib.Omega.{arith}
 use mathlib.Core.Path.{◌≡◌, refl, sym, ap, ◌∙◌}
@@ -295,3 +298,8 @@ module _ (rules : Rules) (k : ℕ) (tape : List ℕ) (lent : Lent) where
             said (v.reply_is ∙ ap measured (sym came-reply_is))
             (rw (came-copy_is, came_cleaning_is, came-reply_is)
             (λ i. record { copy = copy_is i; work_a = g.work_a_is i; work_b = g.work_b_is i; output = g.output_is i; flags = v.output_is i }))
+
+-- questions that refuse for no reason have no number
+pub nothing_refused : {A : Type 0} (r : Result A Reason) → ((x : Reason) → r ≡ Err x → ⊥) → refusing r ≡ 0
+nothing_refused (Ok a) n = refl
+nothing_refused (Err x) n = absurd (n x refl)

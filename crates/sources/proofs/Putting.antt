@@ -1,4 +1,9 @@
 -- The loop that writes the copy: what was read so far stands in the output as the copy has it. Assumes nothing.
+use Rattle.std.specs.Prelude.{Result, Ok, Err}
+use Rattle.answers.specs.declared.Refusal.{Refusal}
+use Rattle.tape.specs.declared.questions.Advance as Code
+use Rattle.tape.specs.Questions.{stepped}
+use mathlib.Core.Logic.{◌⊎◌, inl, inr}
 use Prim.Native.Nat.{ℕ, ◌+◌, ◌-◌, ◌≤◌, ◌<◌}
 use native.Mathlib.Omega.{arith}
 use mathlib.Core.Path.{◌≡◌, refl, sym, ap, ◌∙◌}
@@ -103,6 +108,20 @@ module _ (picked : Bool) (tape : List ℕ) (at : ℕ) where
   unfolding copied
   end_copied = refl
 
+  -- a line, and what is copied as it stands
+  abbrev pub IsLine : Command → ℕ → Type 0
+  IsLine c indent = ((address : ℕ) × (c ≡ Addressed address indent)) ⊎ (c ≡ Plain indent)
+
+  pub line_copied : {c : Command} (indent : ℕ) → IsLine c indent
+      → copied picked (command_in tape at c) ≡ write_command (Tape.new_line (address_for picked) indent)
+  line_copied indent (inl (address, e)) = rw e (addressed-copied address indent)
+  line_copied indent (inr e) = rw e (plain_copied indent)
+
+  pub same_copied : {c : Command} → ((kind : ℕ) × (count : ℕ) × (c ≡ Token kind count)) ⊎ (c ≡ End)
+      → copied picked (command_in tape at c) ≡ write_command (command_in tape at c)
+  same_copied (inl (kind, count, e)) = rw e (token-copied kind count)
+  same_copied (inr e) = rw e end_copied
+
 module _ {picked : Bool} {tape : List ℕ} {at next : ℕ} {out : List ℕ} {to : ℕ} where
   pub addressed-fits : {address indent : ℕ} → Copies picked tape at next (Addressed address indent) out to
       → (indent < 256) × (to + length (write_command (Tape.new_line (address_for picked) indent)) ≤ length out)
@@ -113,6 +132,11 @@ module _ {picked : Bool} {tape : List ℕ} {at next : ℕ} {out : List ℕ} {to 
       → (indent < 256) × (to + length (write_command (Tape.new_line (address_for picked) indent)) ≤ length out)
   unfolding is_within copied
   plain_fits {indent} m = (omega (arith, leb-true indent 63 (copies_within m)), m.room)
+
+  pub line_fits : {c : Command} (indent : ℕ) → IsLine picked tape at c indent → Copies picked tape at next c out to
+      → (indent < 256) × (to + length (write_command (Tape.new_line (address_for picked) indent)) ≤ length out)
+  line_fits indent (inl (address, e)) m = addressed-fits (rw e at m)
+  line_fits indent (inr e) m = plain_fits (rw e at m)
 
 -- nothing is written
 pub nothing_put : (out : List ℕ) (to : ℕ) → Puts out to [] out to
@@ -153,8 +177,13 @@ module _ (k : ℕ) (tape : List ℕ) where
 
   module _ {out₀ : List ℕ} {at : ℕ} {t : Totals} {out : List ℕ} {end : ℕ} (w : Writing out₀ at t out end) where
     -- no accepted tape is refused
-    pub writing_passes : {n p : ℕ} {lines : Listing} → read tape ≡ Passed lines → Refused n p ≡ read_command tape at t → ⊥
+    writing_passes : {n p : ℕ} {lines : Listing} → read tape ≡ Passed lines → Refused n p ≡ read_command tape at t → ⊥
     writing_passes e f = refused_passed (sym (read_refused w.reads f) ∙ e)
+
+    pub writing_stops : {lines : Listing} → read tape ≡ Passed lines → (r : Result Code.Advance Refusal) → ((a : Code.Advance) → r ≡ Ok a → ⊥)
+        → stepped tape at r ≡ read_command tape at t → ⊥
+    writing_stops e (Ok a) n f = n a refl
+    writing_stops e (Err r) n f = writing_passes e f
 
     module _ (c : Command) {next : ℕ} {after : Totals}
         (e : Passed (record { command = command_in tape at c; next = next; totals = after }) ≡ read_command tape at t) where

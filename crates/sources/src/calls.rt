@@ -8,30 +8,24 @@ ghost use Rattle.sources.specs.Calls.{FlagsCleaned, lent_as, CameInto};
 
 use crate::copying::put_commands;
 use crate::walking::walk;
-use answers::Answer;
-use clean::{Reply, clean};
+use answers::{Answer, Reason};
+use clean::clean;
 use lines::rules::Rules;
-use tape::commands::text_of;
-use tape::questions::{Checked, asked, check};
+use tape::questions::{asked, check};
+
+// What the copy has at least: the bytes of the longest tape that is accepted.
+const COPY_BYTES: usize = 34561;
 
 // The copy of a tape in which line k alone has an address, and no 03 stands: it stands at the front of `out`, and its length is answered.
 // Where there is no line k, no line has an address. A refusal changes nothing.
 pub fn only(k: usize, tape: &[u8], out: &mut [u8]) -> Answer
     ensures { Writes (only_reply k tape.now (length out.old)) out.old out.new (answer_of result) }
 {
-    if out.len() < 34561 {
-        return Answer::Refused {
-            number: 2,
-            place: 0,
-        };
+    if out.len() < COPY_BYTES {
+        return Err(Reason::TooLittleRoom.at(0));
     }
-    match check(tape) {
-        Checked::Refused { number, place } => Answer::Refused { number, place },
-        Checked::Passed(_) => {
-            let end = put_commands(tape, k, out);
-            Answer::Passed(end as u64)
-        }
-    }
+    check::<false>(tape)?;
+    Ok(put_commands(tape, k, out) as u64)
 }
 
 // Cleans an accepted tape, and writes a flag for each finished line to the front of `flags`: 1 where it has marks, else 0.
@@ -47,13 +41,8 @@ fn flags_of(
     ensures { FlagsCleaned (rules_of rules) tape.now work_a.old work_b.old out.old flags.old work_a.new
         work_b.new out.new flags.new (answer_of result) }
 {
-    match clean(rules, tape, work_a, work_b, out) {
-        Reply::Refused { number, place } => Answer::Refused { number, place },
-        Reply::Finished(_) => {
-            let n = walk(out, flags);
-            Answer::Passed(n as u64)
-        }
-    }
+    clean(rules, tape, work_a, work_b, out)?;
+    Ok(walk(out, flags) as u64)
 }
 
 // Which finished lines line k of a tape comes into: `flags` begins with a byte for each finished line, 1 where line k comes into it, else
@@ -73,21 +62,12 @@ pub fn came_into(
     ensures { CameInto (rules_of rules) k tape.now (lent_as copy.old work_a.old work_b.old out.old flags.old)
         (lent_as copy.new work_a.new work_b.new out.new flags.new) (answer_of result) }
 {
-    let number = asked(rules, work_a.len(), work_b.len(), out.len());
-    if number != 0 {
-        return Answer::Refused { number, place: 0 };
+    if let Err(reason) = asked(rules, work_a.len(), work_b.len(), out.len()) {
+        return Err(reason.at(0));
     }
     if flags.len() < 256 {
-        return Answer::Refused {
-            number: 2,
-            place: 0,
-        };
+        return Err(Reason::TooLittleRoom.at(0));
     }
-    match only(k, tape, copy) {
-        Answer::Refused { number, place } => Answer::Refused { number, place },
-        Answer::Passed(n) => {
-            let made = text_of(copy, 0, n as usize);
-            flags_of(rules, made, work_a, work_b, out, flags)
-        }
-    }
+    let n = only(k, tape, copy)?;
+    flags_of(rules, &copy[..n as usize], work_a, work_b, out, flags)
 }

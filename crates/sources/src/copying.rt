@@ -7,9 +7,9 @@ ghost use Rattle.tape.specs.Commands.{command_in};
 ghost use Rattle.tape.specs.Questions.{AcceptedTape};
 ghost use Rattle.sources.specs.Calls.{address_for, copied, Copies, CopyOf};
 
-use tape::commands::{Command, text_of};
+use tape::commands::Command;
 use tape::little_endian::put_number;
-use tape::questions::{Stepped, Totals, is_end, step};
+use tape::questions::{Advance, NONE, step};
 use text::copy_bytes;
 
 // Writes the command of a line whose address is 0.
@@ -39,9 +39,10 @@ fn put_line(picked: bool, indent: u64, out: &mut [u8], at: usize) -> usize
     ensures { Puts out.old at (write_command (new_line (address_for picked) indent)) out.new result }
 {
     if picked {
-        return put_picked(indent, out, at);
+        put_picked(indent, out, at)
+    } else {
+        put_plain(indent, out, at)
     }
-    put_plain(indent, out, at)
 }
 
 // Copies the bytes of the tape from `from` to `end`.
@@ -49,9 +50,8 @@ fn put_part(tape: &[u8], from: usize, end: usize, out: &mut [u8], at: usize) -> 
     requires { (from ≤ end) × (end ≤ length tape.now) × (at + (end - from) ≤ length out.old) }
     ensures { Puts out.old at (take (end - from) (drop from tape.now)) out.new result }
 {
-    let n = end - from;
-    copy_bytes(text_of(tape, from, n), out, at);
-    at + n
+    copy_bytes(&tape[from..end], out, at);
+    at + (end - from)
 }
 
 // Writes the command at an offset of the tape, which ends at `next`.
@@ -68,11 +68,11 @@ fn put_command(
     ensures { Puts out.old to (copied picked (command_in tape.now at command)) out.new result }
 {
     match command {
-        Command::Addressed { address: _, indent } => put_line(picked, indent, out, to),
-        Command::Plain { indent } => put_line(picked, indent, out, to),
-        Command::Marked { low: _, high: _ } => to,
-        Command::Token { kind: _, count: _ } => put_part(tape, at, next, out, to),
-        Command::End => put_part(tape, at, next, out, to),
+        Command::Addressed { indent, .. } | Command::Plain { indent } => {
+            put_line(picked, indent, out, to)
+        }
+        Command::Marked { .. } => to,
+        Command::Token { .. } | Command::End => put_part(tape, at, next, out, to),
     }
 }
 
@@ -82,34 +82,23 @@ pub fn put_commands(tape: &[u8], k: usize, out: &mut [u8]) -> usize
     ensures { CopyOf k tape.now out.old out.new result }
 {
     let mut at = 0;
-    let mut totals = Totals {
-        lines: 0,
-        tokens: 0,
-        text: 0,
-        fresh: false,
-    };
+    let mut totals = NONE;
     let mut end = 0;
-    loop {
-        match step(tape, at, totals) {
-            Stepped::Refused {
-                number: _,
-                place: _,
-            } => {
-                return end; // no accepted tape comes here
-            }
-            Stepped::Passed {
-                command,
-                next,
-                totals: more,
-            } => {
-                let picked = totals.lines == k;
-                end = put_command(tape, at, next, command, picked, out, end);
-                if is_end(command) {
-                    return end;
-                }
-                at = next;
-                totals = more;
-            }
+    while let Ok(
+        Advance {
+            command,
+            next,
+            totals: more,
+        },
+    ) = step::<false>(tape, at, totals)
+    {
+        let picked = totals.lines == k;
+        end = put_command(tape, at, next, command, picked, out, end);
+        if command.is_end() {
+            return end;
         }
+        at = next;
+        totals = more;
     }
+    end // no accepted tape comes here
 }

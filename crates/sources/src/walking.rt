@@ -6,7 +6,6 @@ ghost use Rattle.tape.specs.Bytes.{Puts};
 ghost use Rattle.sources.specs.Calls.{flag_of, Walkable, marked_last, FlagFits, Flags};
 
 use tape::commands::{Command, size_of};
-use tape::questions::is_end;
 use tape::reader::known_command;
 
 // Sets the flag of the last of n lines.
@@ -14,10 +13,9 @@ fn mark_last(flags: &mut [u8], n: usize)
     requires { n ≤ length flags.old }
     ensures { flags.new ≡ marked_last n flags.old }
 {
-    if n == 0 {
-        return;
+    if 0 < n {
+        flags[n - 1] = 1;
     }
-    flags[n - 1] = 1;
 }
 
 // The flags with one command more, n lines having begun before it.
@@ -26,23 +24,15 @@ fn flag(command: Command, flags: &mut [u8], n: usize) -> usize
     ensures { Flags command n flags.old flags.new result }
 {
     match command {
-        Command::Addressed {
-            address: _,
-            indent: _,
-        } => {
+        Command::Addressed { .. } | Command::Plain { .. } => {
             flags[n] = 0;
             n + 1
         }
-        Command::Plain { indent: _ } => {
-            flags[n] = 0;
-            n + 1
-        }
-        Command::Marked { low: _, high: _ } => {
+        Command::Marked { .. } => {
             mark_last(flags, n);
             n
         }
-        Command::Token { kind: _, count: _ } => n,
-        Command::End => n,
+        Command::Token { .. } | Command::End => n,
     }
 }
 
@@ -53,12 +43,13 @@ pub fn walk(tape: &[u8], flags: &mut [u8]) -> usize
 {
     let mut at = 0;
     let mut n = 0;
+    // Kept: the steps are as long as the commands, and a `while` would read each command in two places.
     loop {
         let command = known_command(tape, at);
-        if is_end(command) {
+        if command.is_end() {
             return n;
         }
         n = flag(command, flags, n);
-        at += size_of(command);
+        at += size_of::<false>(command);
     }
 }

@@ -14,13 +14,13 @@ use Rattle.reference.proofs.Attempts.{is_some_some}
 use Rattle.reference.proofs.Reading.{refused_passed, by_passed, let_is, let_refused, ask-yes}
 use Rattle.reference.proofs.Refusals.{refused_number}
 use Rattle.laws.proofs.Scans.{if-true}
-use Rattle.solving.specs.declared.Solution.TheVariants as solved
 use Rattle.solving.specs.Solutions.{Smallest}
 use Rattle.start.specs.Start.{solution, ask_names, ask_formula, start_reply}
 use Rattle.start.specs.Pairs.{returned_pair}
 use Rattle.start.specs.Smallest.{Asked, Gives, NoneGives, StartValue}
 use Rattle.start.proofs.Formula.{formula_is, in_profile-returns}
 use Rattle.start.proofs.Solved.{solution_by, passed_smallest, refused_none}
+use Rattle.std.specs.Prelude.{Some, None}
 
 refused_as : {number place n p : ℕ} → ◌≡◌ {A = Answer ℕ} (Refused number place) (Refused n p) → number ≡ n
 refused_as e = cc
@@ -72,14 +72,14 @@ module _ (tape : List ℕ) (chosen : Text) (list : List ℕ) (wanted : ℕ) wher
             (λ n e. absurd (refused_passed e))
             (λ e. absurd (refused_passed e))
             (λ q e. (let h = passed_smallest q.lines chosen q.known wanted v e in (q, h.0, h.1)));
-        tells = λ q v l h. asked_reply q ∙ solution_by q.lines chosen q.known wanted (solved.Smallest v) (l, h);
+        tells = λ q v l h. asked_reply q ∙ solution_by q.lines chosen q.known wanted (Some v) (l, h);
         none_works = λ place.
             by_question (λ (r : Answer ℕ). r ≡ Refused 15 place → (q : Asked tape chosen list) × NoneGives q wanted)
             (λ number p r e. absurd (not-the-tape tape p (r ∙ ap (λ (n : ℕ). Refused n p) (refused_as e))))
             (λ n e. absurd (omega (arith, refused_as e)))
             (λ e. absurd (omega (arith, refused_as e)))
             (λ q e. (q, refused_none q.lines chosen q.known wanted 15 place e));
-        refuses = λ q h. asked_reply q ∙ solution_by q.lines chosen q.known wanted solved.None h;
+        refuses = λ q h. asked_reply q ∙ solution_by q.lines chosen q.known wanted None h;
         multiplier = λ q.
             (let p =
             is_some_some (returned_pair chosen q.known q.lines) (in_profile-returns q.lines q.in_profile chosen q.known) in

@@ -1,4 +1,8 @@
 -- The questions of the call, one after the other: what each answer of the code says of the definition's. Assumes nothing.
+use Rattle.std.specs.Option.{ok_or}
+use Rattle.answers.specs.declared.Reason.TheVariants.{NoStartValue}
+use Rattle.answers.specs.declared.Refusal.{Refusal}
+use Rattle.answers.specs.Answers.{answer_of}
 use Prim.Native.Nat.{ℕ, ◌+◌, ◌*◌, ◌%◌, ◌^◌, ◌≤◌}
 use native.Mathlib.Omega.{arith}
 use mathlib.Core.Path.{◌≡◌, refl, sym, ap, ◌∙◌}
@@ -16,15 +20,11 @@ use Rattle.reference.specs.Straight.{breaks}
 use Rattle.reference.proofs.Cases.{bind-some, unless-some, some_inj}
 use Rattle.reference.proofs.Reading.{passed_inj}
 use Rattle.laws.proofs.Scans.{if-true, if-false}
-use Rattle.lines.specs.Shapes.{found}
-use Rattle.lines.specs.declared.shapes.Position.{Position}
-use Rattle.lines.specs.declared.shapes.Position.TheVariants.{At, Nothing}
 use Rattle.lines.specs.Lines.{Reading, own, listing_read}
 use Rattle.tape.specs.declared.questions.Totals.{Totals}
 use Rattle.tables.specs.Tables.{Loaded}
 use Rattle.tables.proofs.loading.Loaded.{loaded-limits}
 use Rattle.formula.proofs.Loading.{filled, pointing, breaks_is}
-use Rattle.solving.specs.declared.Solution.{Solution}
 use Rattle.solving.specs.Solutions.{Answers}
 use Rattle.start.specs.Start.{Entry, entries, is_register, known_entries, solution, ask_names, ask_formula, start_reply}
 use Rattle.start.specs.Pairs.{returned_pair}
@@ -32,6 +32,9 @@ use Rattle.start.specs.Solved.{answered}
 use Rattle.start.specs.Reckoning.{Profiled}
 use Rattle.start.proofs.Solved.{solution_is}
 use Rattle.start.proofs.Pricing.{length-take-most}
+use Rattle.std.specs.Prelude as std
+use Rattle.std.specs.Prelude.{Some, None}
+use Rattle.reference.specs.Options.{option_of}
 
 -- ---- 16 and 15
 
@@ -65,7 +68,7 @@ module _ (chosen : Text) (list : List ℕ) (wanted : ℕ) {x : Bool} (ex : x ≡
             (es, e, b.1 ∙ ap {B = Option (List Entry)} (λ (r : List Entry). some r) (some_inj (unless-some b.2).1))
 
     pub asked_names : flip y ≡ false → (lines : Listing) (m c : ℕ) → ((es : List Entry) → entries list ≡ some es → returned_pair chosen es lines ≡ some (m, c))
-        → (s : Solution) → Answers (λ v. (m * v + c) % 2 ^ 64 ≡ wanted) s → answered s ≡ ask_names lines chosen list wanted
+        → (s : std.Option ℕ) → Answers (λ v. (m * v + c) % 2 ^ 64 ≡ wanted) s → answered s ≡ ask_names lines chosen list wanted
     asked_names q lines m c e s a =
         let k = known q in
         sym (to_list lines ∙ taken k.1 ∙ solution_is chosen k.0 lines m c wanted (e k.0 k.2) s a)
@@ -74,16 +77,21 @@ module _ (chosen : Text) (list : List ℕ) (wanted : ℕ) {x : Bool} (ex : x ≡
             → (let_some (known_entries list) else Refused 16 0 then λ es. solution lines chosen es wanted) ≡ solution lines chosen es wanted
         taken e = unfold let_some◌else◌then◌ in rw e refl
 
+-- the answer of the code
+pub solved_as : (s : std.Option ℕ) {e : Refusal} → e ≡ record { reason = NoStartValue; place = 0 } → answer_of (ok_or s e) ≡ answered s
+solved_as (Some v) r = refl
+solved_as None r = rw r
+
 -- ---- 14
 
-module _ (chosen : Text) (list : List ℕ) (wanted : ℕ) (lines : Listing) (r : Position) (e : found r ≡ breaks lines) where
-  pub out_of_profile : (n : ℕ) → r ≡ At n → Refused 14 n ≡ ask_formula lines chosen list wanted
+module _ (chosen : Text) (list : List ℕ) (wanted : ℕ) (lines : Listing) (r : std.Option ℕ) (e : option_of r ≡ breaks lines) where
+  pub out_of_profile : (n : ℕ) → r ≡ Some n → Refused 14 n ≡ ask_formula lines chosen list wanted
   unfolding ask_formula let_some◌else◌then◌
-  out_of_profile n q = rw (sym e ∙ ap found q) refl
+  out_of_profile n q = rw (sym e ∙ ap option_of q) refl
 
-  in_profile : r ≡ Nothing → ask_formula lines chosen list wanted ≡ ask_names lines chosen list wanted
+  in_profile : r ≡ None → ask_formula lines chosen list wanted ≡ ask_names lines chosen list wanted
   unfolding ask_formula let_some◌else◌then◌
-  in_profile q = rw (sym e ∙ ap found q) refl
+  in_profile q = rw (sym e ∙ ap option_of q) refl
 
 -- ---- the tape's questions
 
@@ -98,17 +106,17 @@ module _ (tape : List ℕ) (chosen : Text) (list : List ℕ) (wanted : ℕ) wher
 
 -- ---- what was loaded
 
-module _ (tape tokens lines addresses : List ℕ) (t : Totals) (l : Loaded tape tokens lines addresses t) (r : Position)
-    (e : (reading : Reading) → found r ≡ breaks (listing_read tape tape (take t.tokens tokens) reading (take t.lines lines))) where
-  pub profiled : r ≡ Nothing → Profiled tape (take t.tokens tokens) (take t.lines lines)
+module _ (tape tokens lines addresses : List ℕ) (t : Totals) (l : Loaded tape tokens lines addresses t) (r : std.Option ℕ)
+    (e : (reading : Reading) → option_of r ≡ breaks (listing_read tape tape (take t.tokens tokens) reading (take t.lines lines))) where
+  pub profiled : r ≡ None → Profiled tape (take t.tokens tokens) (take t.lines lines)
   profiled q =
-      record { filled = filled tape tokens lines addresses t l; holds = pointing tape tokens lines addresses t l; in_profile = λ reading. sym (e reading) ∙ ap found q }
+      record { filled = filled tape tokens lines addresses t l; holds = pointing tape tokens lines addresses t l; in_profile = λ reading. sym (e reading) ∙ ap option_of q }
 
   pub few_words : length (take t.tokens tokens) ≤ 1024
   few_words = omega (arith, length-take-most t.tokens tokens, loaded-limits l)
 
   -- the answer of the loaded listing is that of the tape's
-  pub loaded-answer : r ≡ Nothing → (chosen : Text) (list : List ℕ) (wanted : ℕ) {a : Answer ℕ}
+  pub loaded-answer : r ≡ None → (chosen : Text) (list : List ℕ) (wanted : ℕ) {a : Answer ℕ}
       → ((reading : Reading) → a ≡ ask_names (listing_read tape tape (take t.tokens tokens) reading (take t.lines lines)) chosen list wanted)
       → (input : Listing) → read tape ≡ Passed input → a ≡ ask_formula input chosen list wanted
   loaded-answer q chosen list wanted h input p =

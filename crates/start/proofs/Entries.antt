@@ -226,14 +226,22 @@ module _ (list name : List ℕ) (at : ℕ) (k : Seeks list name at) (r : Item) (
   are : entries (drop at list) ≡ some rest
   are = (k.same es q).1
 
-  pub seeks_over : r ≡ Over → 0 ≡ listed es name
+  seeks_over : r ≡ Over → 0 ≡ listed es name
   unfolding listed
   seeks_over e =
       let none_left : rest ≡ [] = some_inj (sym are ∙ ap entries (over-means _ (sym er ∙ e)) ∙ entries-nil) in
       sym ((k.same es q).2 ∙ ap (λ (r : List Entry). listed r name) none_left)
 
-  pub seeks_cut : r ≡ Cut → 0 ≡ listed es name
+  seeks_cut : r ≡ Cut → 0 ≡ listed es name
   seeks_cut e = absurd (none-some (sym (cut-means _ (sym er ∙ e)) ∙ are))
+
+  pub seeks_end : ((n : ℕ) → r ≡ Named n → ⊥) → 0 ≡ listed es name
+  seeks_end = ends r refl
+    where
+      ends : (i : Item) → r ≡ i → ((n : ℕ) → r ≡ Named n → ⊥) → 0 ≡ listed es name
+      ends (Named n) e h = absurd (h n e)
+      ends Over e h = seeks_over e
+      ends Cut e h = seeks_cut e
 
 pub item_room : (list : List ℕ) (at : ℕ) (r : Item) → r ≡ item_of (drop at list) → (n : ℕ) → r ≡ Named n → at + (n + 9) ≤ length list
 item_room list at r er n e = let h = named-means _ n (sym er ∙ e) in omega (arith, h.room, length-drop at list)

@@ -1,5 +1,5 @@
 -- The table of pairs: what one entry says, how it is filled, and what an assignment does to it. Assumes nothing.
-use Prim.Native.Nat.{ℕ, zero, suc, ◌+◌, ◌-◌, ◌*◌, ◌≤◌, ◌<◌}
+use Prim.Native.Nat.{ℕ, zero, suc, ◌+◌, ◌-◌, ◌*◌, ◌%◌, ◌^◌, ◌≤◌, ◌<◌}
 use native.Mathlib.Omega.{arith}
 use native.Mathlib.Decide.{ℕ_discrete}
 use mathlib.Core.Path.{◌≡◌, refl, sym, ap, ◌∙◌, subst⁻¹}
@@ -8,6 +8,9 @@ use mathlib.Core.Logic.{by_cases}
 use mathlib.Core.List.{List, [], ◌∷◌}
 use mathlib.Core.Option.{Option, some}
 use lib.IntN.{ℤ, pos, negsuc}
+use lib.Signed.{mag}
+use mir.Syntax.{w64}
+use mir.Val.{of_z}
 use lib.ListN.{length, take, drop, get_or, set, length-drop, length-set}
 use lib.Seq.{get_or-set_same, get_or-set_other, get_or-take, get_or-drop, drop-drop, length-take-le}
 use borrow.Author.Tests.{eq-eqb, ne_eqb}
@@ -21,20 +24,18 @@ use Rattle.reference.specs.Straight.{assign, assigned_value, returned_value}
 use Rattle.reference.proofs.Cases.{some_inj, none-some, if_some, bind-some, both, same_number}
 use Rattle.laws.proofs.Scans.{if-true, if-false, and_true, and_false}
 use Rattle.laws.proofs.Parts.{to_end, drop-take}
-use Rattle.numbers.specs.Bits.{bits_of}
-use Rattle.numbers.specs.Reading.{meaning}
-use Rattle.numbers.specs.declared.parse.Number.{Number as Reading}
-use Rattle.numbers.specs.declared.parse.Number.TheVariants.{Read, Unread}
+use Rattle.std.specs.Prelude as std
 use Rattle.lines.specs.Words.{kind_of, text_of, token_of, tokens_of, Points, Holds}
 use Rattle.lines.specs.Lines.{first_of, count_of, part_of}
 use Rattle.formula.specs.Places.{Readable}
-use Rattle.formula.specs.Values.{Pair, pair_at, no_token, value_of, Evaluates}
-use Rattle.formula.specs.declared.evaluators.Worth.{Worth}
-use Rattle.formula.specs.declared.evaluators.Worth.TheVariants.{Is, Breaks}
+use Rattle.formula.specs.Values.{Pair, pair_at, no_token, Worth, value_of, Evaluates}
+use Rattle.formula.specs.declared.evaluators.Value.{Value}
 use Rattle.formula.proofs.Profiled.{readable_same, readable-rest}
 use Rattle.start.specs.Pairs.{affine}
 use Rattle.start.specs.Reckoning.{with_pair, number_pair, Prices, Priced, same_register, Overwritten, Begun, Assigned, Returned}
 use Rattle.start.proofs.Registers.{wide_text}
+use Rattle.std.specs.Prelude.{Some, None}
+use Rattle.reference.specs.Options.{option_of}
 
 -- a token of a table of words
 pub at_token : (tape : Text) (tokens : List ℕ) (k : ℕ) → k < length tokens → get_or (tokens_of tape tape tokens) k no_token ≡ token_of tape tape (get_or tokens k 0)
@@ -54,17 +55,18 @@ length-take-most (suc n) (x ∷ xs) = let r = length-take-most n xs in omega ari
 
 -- ---- numbers
 
-pub bits_are : (z : ℤ) → bits_of 64 z ≡ of_integer z
-unfolding bits_of of_integer
-bits_are (pos n) = refl
-bits_are (negsuc n) = refl
+-- the 64 bits of a signed number are the number modulo 2^64
+pub bits_are : (z : ℤ) → mag z < 2 ^ 63 → of_z w64 z ≡ of_integer z
+unfolding of_integer
+bits_are (pos n) h = omega arith
+bits_are (negsuc n) h = let e : n % 2 ^ 64 ≡ n = omega arith in rw e
 
-module _ {n : Reading} {o : Option ℤ} (m : meaning n ≡ o) (z : ℤ) (e : o ≡ some z) where
-  pub number_read : {v : ℤ} → n ≡ Read v → v ≡ z
-  number_read q = some_inj (sym (ap meaning q) ∙ m ∙ e)
+module _ {n : std.Option ℤ} {o : Option ℤ} (m : option_of n ≡ o) (z : ℤ) (e : o ≡ some z) where
+  pub number_read : {v : ℤ} → n ≡ Some v → v ≡ z
+  number_read q = some_inj (sym (ap option_of q) ∙ m ∙ e)
 
-  pub number_unread : n ≡ Unread → ⊥
-  number_unread q = none-some (sym (ap meaning q) ∙ m ∙ e)
+  pub number_unread : n ≡ None → ⊥
+  number_unread q = none-some (sym (ap option_of q) ∙ m ∙ e)
 
 -- ---- pairs of the table
 
@@ -337,10 +339,10 @@ module _ (tape : Text) (tokens : List ℕ) (l f n : ℕ) (ef : f ≡ first_of l)
 
 -- the answer, and what the definition says of the line
 module _ {r : Worth} {o : Option Pair} {v : Pair} (e : value_of r ≡ o) (q : o ≡ some v) where
-  returned_is : {m c k b : ℕ} → r ≡ Is m c k b → v ≡ (m, c)
+  returned_is : {u : Value} → r ≡ Some u → v ≡ (u.multiplier, u.constant)
   returned_is f = sym (some_inj (sym (ap value_of f) ∙ e ∙ q))
 
-  returned_none : r ≡ Breaks → ⊥
+  returned_none : r ≡ None → ⊥
   returned_none f = none-some (sym (ap value_of f) ∙ e ∙ q)
 
 -- ---- a line that assigns
@@ -366,27 +368,31 @@ module _ (tape : Text) (tokens : List ℕ) (l f : ℕ) (ef : f ≡ first_of l) (
   module _ (values values' : List ℕ) {r : Worth}
       (e : (σ : Text → Pair) → Priced σ (tokens_of tape tape tokens) values
       → value_of r ≡ evaluate affine σ (bytes " = ") (lexemes (drop 1 (tokens_of tape tape (part_of tokens l))))) where
-    pub line_assigned : (m c k b : ℕ) → r ≡ Is m c k b → Overwritten (token_of tape tape (get_or tokens f 0)) (m, c) (tokens_of tape tape tokens) values values'
+    pub line_assigned : (u : Value) → r ≡ Some u → Overwritten (token_of tape tape (get_or tokens f 0)) (u.multiplier, u.constant) (tokens_of tape tape tokens) values values'
         → Assigned (tokens_of tape tape (part_of tokens l)) (tokens_of tape tape tokens) values values'
     unfolding assigned_value
-    line_assigned m c k b q o = λ σ x v h w a.
-        (let same : v ≡ (m, c) = returned_is (e σ h) a q in
+    line_assigned u q o = λ σ x v h w a.
+        (let same : v ≡ (u.multiplier, u.constant) = returned_is (e σ h) a q in
         subst⁻¹ (λ (p : Pair). Priced (assign x p σ) (tokens_of tape tape tokens) values') same
-        (assigned_prices σ (token_of tape tape (get_or tokens f 0)) x (m, c) (ap wide (sym first_is) ∙ w) (tokens_of tape tape tokens) values values' o h))
+        (assigned_prices σ (token_of tape tape (get_or tokens f 0)) x (u.multiplier, u.constant) (ap wide (sym first_is) ∙ w) (tokens_of tape tape tokens) values values' o h))
 
-    pub line_unassigned : r ≡ Breaks → Assigned (tokens_of tape tape (part_of tokens l)) (tokens_of tape tape tokens) values values'
+    pub line_unassigned : r ≡ None → Assigned (tokens_of tape tape (part_of tokens l)) (tokens_of tape tape tokens) values values'
     unfolding assigned_value
     line_unassigned q = λ σ x v h w a. absurd (returned_none (e σ h) a q)
+
+pub broken : (r : Worth) → ((u : Value) → r ≡ Some u → ⊥) → r ≡ None
+broken (Some u) h = absurd (h u refl)
+broken None h = refl
 
 -- ---- a line that returns
 
 module _ (tape : Text) (tokens : List ℕ) (l : ℕ) (values : List ℕ) {r : Worth}
     (e : (σ : Text → Pair) → Priced σ (tokens_of tape tape tokens) values
     → value_of r ≡ evaluate affine σ (bytes " ") (lexemes (drop 1 (tokens_of tape tape (part_of tokens l))))) where
-  pub line_returned : (m c k b : ℕ) → r ≡ Is m c k b → Returned (tokens_of tape tape (part_of tokens l)) (tokens_of tape tape tokens) values (m, c)
+  pub line_returned : (u : Value) → r ≡ Some u → Returned (tokens_of tape tape (part_of tokens l)) (tokens_of tape tape tokens) values (u.multiplier, u.constant)
   unfolding returned_value
-  line_returned m c k b q = λ σ v h a. returned_is (e σ h) a q
+  line_returned u q = λ σ v h a. returned_is (e σ h) a q
 
-  pub line_unreturned : (p : Pair) → r ≡ Breaks → Returned (tokens_of tape tape (part_of tokens l)) (tokens_of tape tape tokens) values p
+  pub line_unreturned : (p : Pair) → r ≡ None → Returned (tokens_of tape tape (part_of tokens l)) (tokens_of tape tape tokens) values p
   unfolding returned_value
   line_unreturned p q = λ σ v h a. absurd (returned_none (e σ h) a q)

@@ -1,4 +1,5 @@
 -- Names of 64-bit registers: what `is_register` answers, and that a 64-bit register is its own family. Assumes nothing.
+use mathlib.Core.Logic.{◌⊎◌, inl, inr}
 use Prim.Native.Nat.{ℕ, zero, suc}
 use mathlib.Core.Path.{◌≡◌, refl, sym, ap, ◌∙◌}
 use mathlib.Core.Bool.{Bool, true, false}
@@ -55,11 +56,15 @@ module _ (name : Text) (x : Bool) (ex : x ≡ starts_with name (bytes "var_")) w
       go (some f) = unfold let_some◌else◌then◌ in ap is_some (if-false (some f.name) none (both_false (eqb f.width 64)))
 
   module _ (h : x ≡ false) (r : Spelled) (s : Spells name (family name) r) where
-    pub row_is : (i w l : ℕ) → r ≡ Row i w l → eqb w 64 ≡ is_register name
+    row_is : (i w l : ℕ) → r ≡ Row i w l → eqb w 64 ≡ is_register name
     row_is i w l e = sym (decided name _ (sym s.is ∙ ap (spelled name) e) x ex h)
 
-    pub front_is : (n w : ℕ) → r ≡ Front n w → eqb w 64 ≡ is_register name
+    front_is : (n w : ℕ) → r ≡ Front n w → eqb w 64 ≡ is_register name
     front_is n w e = sym (decided name _ (sym s.is ∙ ap (spelled name) e) x ex h)
+
+    pub width_is : (w : ℕ) → ((i : ℕ) × (l : ℕ) × (r ≡ Row i w l)) ⊎ ((n : ℕ) × (r ≡ Front n w)) → eqb w 64 ≡ is_register name
+    width_is w (inl (i, l, e)) = row_is i w l e
+    width_is w (inr (n, e)) = front_is n w e
 
     pub nothing_is : r ≡ Nothing → false ≡ is_register name
     nothing_is e = sym (by_family name ∙ rw (sym s.is ∙ ap (spelled name) e) (unfold let_some◌else◌then◌ in refl))

@@ -6,8 +6,8 @@ use mathlib.Core.Bool.{Bool, true, false, false≢true}
 use mathlib.Core.List.{List, [], ◌∷◌, map}
 use mathlib.Core.Option.{Option, none, some}
 use lib.Dec.{eqb}
-use lib.ListN.{length, drop, get_or, length-drop, get_or-map}
-use lib.Seq.{drop-cons}
+use lib.ListN.{length, take, drop, get_or, length-drop, get_or-map}
+use lib.Seq.{drop-cons, get_or-take, length-take-le}
 use borrow.Author.Tests.{ne_eqb}
 use Rattle.reference.specs.Control.{◌and◌, when◌then◌else◌, let_some◌else◌then◌}
 use Rattle.reference.specs.Lists.{is_some}
@@ -235,3 +235,16 @@ module _ (tape : Text) (tokens lines : List ℕ) where
           let g = returning s.0 line (at_end h) in
           s.2 ∙ one_line reading s.0 ∙ g.goes (λ τ. execute affine τ (drop (i + 1) (listing reading)))
           ∙ ap {B = Option Pair} (λ (p : Pair). some p) (a s.0 g.value s.1 g.worth)
+
+-- a line of all but the last
+pub front_line : (lines : List ℕ) (i : ℕ) → i < length (take (length lines - 1) lines)
+    → (suc i < length lines) × (get_or (take (length lines - 1) lines) i 0 ≡ get_or lines i 0)
+front_line lines i h =
+    let n = length-take-le (length lines - 1) lines (omega arith) in
+    (omega arith, get_or-take (length lines - 1) lines i 0 (omega arith))
+
+pub front_over : (lines : List ℕ) (i : ℕ) → i < length lines → length (take (length lines - 1) lines) ≤ i
+    → (length lines - 1 ≡ i) × (length lines ≤ suc i)
+front_over lines i k h =
+    let n = length-take-le (length lines - 1) lines (omega arith) in
+    (omega arith, omega arith)

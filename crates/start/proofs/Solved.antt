@@ -13,8 +13,6 @@ use Rattle.reference.specs.Questions.{Answer, Refused, Passed}
 use Rattle.reference.specs.Straight.{returned}
 use Rattle.reference.proofs.Cases.{by-some, true-false, same_number}
 use Rattle.reference.proofs.Reading.{refused_passed, passed_inj}
-use Rattle.solving.specs.declared.Solution.{Solution}
-use Rattle.solving.specs.declared.Solution.TheVariants as solved
 use Rattle.solving.specs.Solutions.{Smallest, Answers}
 use Rattle.solving.proofs.Solving.{answers_same}
 use Rattle.start.specs.Start.{Entry, start_values, gives, solution}
@@ -22,6 +20,8 @@ use Rattle.start.specs.Pairs.{returned_pair}
 use Rattle.start.specs.Solved.{answered}
 use Rattle.start.proofs.Formula.{formula_is}
 use Rattle.start.proofs.Least.{nothing-below, least_is, nothing-found, least-found}
+use Rattle.std.specs.Prelude as std
+use Rattle.std.specs.Prelude.{Some, None}
 
 module _ (lines : Listing) (chosen : Text) (es : List Entry) (wanted : ℕ) where
   abbrev Works : ℕ → Type 0
@@ -41,11 +41,11 @@ module _ (lines : Listing) (chosen : Text) (es : List Entry) (wanted : ℕ) wher
 
   -- ---- how the answer comes
 
-  pub solution_by : (s : Solution) → Answers Works s → solution lines chosen es wanted ≡ answered s
+  pub solution_by : (s : std.Option ℕ) → Answers Works s → solution lines chosen es wanted ≡ answered s
   unfolding solution let_some◌else◌then◌
-  solution_by (solved.Smallest x) h =
+  solution_by (Some x) h =
       rw (least_is (gives lines chosen es wanted) (2 ^ 64) x h.0 (gives-true x h.1.does) (λ u l. gives-false u (h.1.least u l)))
-  solution_by solved.None h = rw (nothing-below (gives lines chosen es wanted) (2 ^ 64) (λ u l. gives-false u (h u l)))
+  solution_by None h = rw (nothing-below (gives lines chosen es wanted) (2 ^ 64) (λ u l. gives-false u (h u l)))
 
   -- ---- what it says
 
@@ -67,7 +67,7 @@ module _ (lines : Listing) (chosen : Text) (es : List Entry) (wanted : ℕ) wher
 
 -- THE SOLUTION OF m · x + c = wanted IS THE ANSWER FOR THE FORMULA
 pub solution_is : (chosen : Text) (es : List Entry) (lines : Listing) (m c wanted : ℕ) → returned_pair chosen es lines ≡ some (m, c)
-    → (s : Solution) → Answers (λ x. (m * x + c) % 2 ^ 64 ≡ wanted) s → solution lines chosen es wanted ≡ answered s
+    → (s : std.Option ℕ) → Answers (λ x. (m * x + c) % 2 ^ 64 ≡ wanted) s → solution lines chosen es wanted ≡ answered s
 solution_is chosen es lines m c wanted e s h =
     solution_by lines chosen es wanted s
     (answers_same (λ x. (m * x + c) % 2 ^ 64 ≡ wanted) (λ x. returned (start_values chosen es x) lines ≡ wanted)

@@ -10,10 +10,8 @@ ghost use Rattle.start.specs.Reckoning.{Profiled};
 
 use crate::listed::{are_known, is_register};
 use crate::reckoning::reckon;
-use answers::Answer;
-use lines::shapes::Position;
-use solving::{Solution, solve_sum};
-use tape::questions::Checked;
+use answers::{Answer, Reason};
+use solving::solve_sum;
 
 // 16 and 15, and the start value, of a listing in the profile.
 fn solved<'a>(
@@ -28,26 +26,11 @@ fn solved<'a>(
     ensures { (reading : Reading) → answer_of result ≡ ask_names (listing_read tape.now tape.now tokens.now reading lines.now)
         chosen.now list.now wanted }
 {
-    if !is_register(chosen) {
-        return Answer::Refused {
-            number: 16,
-            place: 0,
-        };
-    }
-    if !are_known(list) {
-        return Answer::Refused {
-            number: 16,
-            place: 0,
-        };
+    if !is_register(chosen) || !are_known(list) {
+        return Err(Reason::NoRegister.at(0));
     }
     let p = reckon(tape, tokens, lines, chosen, list);
-    match solve_sum(p.multiplier, p.constant, wanted) {
-        Solution::Smallest(v) => Answer::Passed(v),
-        Solution::None => Answer::Refused {
-            number: 15,
-            place: 0,
-        },
-    }
+    solve_sum(p.multiplier, p.constant, wanted).ok_or(Reason::NoStartValue.at(0))
 }
 
 // 14 and what follows, of a tape that passed its questions.
@@ -69,14 +52,11 @@ fn asked<'a>(tape: &'a [u8], chosen: &'a [u8], list: &'a [u8], wanted: u64) -> A
         &mut lows,
         &mut highs,
     );
-    let n = loaded.lines;
-    let used = loaded.tokens;
-    match formula::breaks(tape, &tokens[..used], &lines[..n]) {
-        Position::At(line) => Answer::Refused {
-            number: 14,
-            place: line,
-        },
-        Position::Nothing => solved(tape, &tokens[..used], &lines[..n], chosen, list, wanted),
+    let tokens = &tokens[..loaded.tokens];
+    let lines = &lines[..loaded.lines];
+    match formula::breaks(tape, tokens, lines) {
+        Some(line) => Err(Reason::OutsideProfile.at(line)),
+        None => solved(tape, tokens, lines, chosen, list, wanted),
     }
 }
 
@@ -85,8 +65,6 @@ fn asked<'a>(tape: &'a [u8], chosen: &'a [u8], list: &'a [u8], wanted: u64) -> A
 pub fn start_value<'a>(tape: &'a [u8], chosen: &'a [u8], list: &'a [u8], wanted: u64) -> Answer
     ensures { answer_of result ≡ start_reply tape.now chosen.now list.now wanted }
 {
-    match tape::check(tape) {
-        Checked::Refused { number, place } => Answer::Refused { number, place },
-        Checked::Passed(_) => asked(tape, chosen, list, wanted),
-    }
+    tape::check::<false>(tape)?;
+    asked(tape, chosen, list, wanted)
 }

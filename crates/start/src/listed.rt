@@ -9,18 +9,11 @@ use names::Spelled;
 use tape::little_endian::number_at;
 
 // What stands at an offset of a list: an entry whose name has so many bytes, nothing more, or an entry that is cut.
-#[derive(Clone, Copy)]
+#[derive(Clone, Copy, Debug, PartialEq, Eq)]
 pub enum Item {
     Named(usize),
     Over,
     Cut,
-}
-
-// A length byte as a number.
-fn length_of(b: u8) -> usize
-    ensures { (result ≡ b) × (result < 256) }
-{
-    b as usize
 }
 
 fn item_at(list: &[u8], at: usize) -> Item
@@ -30,7 +23,7 @@ fn item_at(list: &[u8], at: usize) -> Item
     if list.len() <= at {
         return Item::Over;
     }
-    let n = length_of(list[at]);
+    let n = usize::from(list[at]);
     if list.len() - at < n + 9 {
         return Item::Cut;
     }
@@ -45,8 +38,7 @@ pub fn is_register(name: &[u8]) -> bool
         return false;
     }
     match names::family(name) {
-        Spelled::Row(_, width, _) => width == 64,
-        Spelled::Front(_, width) => width == 64,
+        Spelled::Row(_, width, _) | Spelled::Front(_, width) => width == 64,
         Spelled::Nothing => false,
     }
 }
@@ -56,14 +48,11 @@ pub fn are_known(list: &[u8]) -> bool
     ensures { result ≡ is_some (known_entries list.now) }
 {
     let mut at = 0;
+    // Kept: the steps are as long as the entries, and the two ways to end answer differently.
     loop {
         match item_at(list, at) {
-            Item::Over => {
-                return true;
-            }
-            Item::Cut => {
-                return false;
-            }
+            Item::Over => return true,
+            Item::Cut => return false,
             Item::Named(n) => {
                 let from = at + 1;
                 let to = from + n;
@@ -81,22 +70,13 @@ pub fn value_of(list: &[u8], name: &[u8]) -> u64
     ensures { (es : List Entry) → entries list.now ≡ some es → result ≡ listed es name.now }
 {
     let mut at = 0;
-    loop {
-        match item_at(list, at) {
-            Item::Over => {
-                return 0;
-            }
-            Item::Cut => {
-                return 0;
-            }
-            Item::Named(n) => {
-                let from = at + 1;
-                let to = from + n;
-                if text::same(name, &list[from..to]) {
-                    return number_at(list, to, 8);
-                }
-                at = to + 8;
-            }
+    while let Item::Named(n) = item_at(list, at) {
+        let from = at + 1;
+        let to = from + n;
+        if text::same(name, &list[from..to]) {
+            return number_at(list, to, 8);
         }
+        at = to + 8;
     }
+    0
 }

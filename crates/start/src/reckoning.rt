@@ -17,11 +17,11 @@ ghost use Rattle.start.specs.Reckoning.{pair_of, with_pair, Prices, Priced, same
 ghost use Rattle.start.specs.Reckoning.{Begun, Assigned, Returned, Profiled};
 
 use crate::listed::value_of;
-use formula::evaluators::{Worth, evaluate};
+use formula::evaluators::{Value, evaluate};
 use lines::words;
-use numbers::{MOST, Number, parse_c_number};
+use numbers::parse_c_number;
 
-#[derive(Clone, Copy)]
+#[derive(Clone, Copy, Debug, PartialEq, Eq)]
 pub struct Pair {
     pub multiplier: u64,
     pub constant: u64,
@@ -55,23 +55,13 @@ fn start_pair<'a>(chosen: &'a [u8], list: &'a [u8], name: &'a [u8]) -> Pair
     }
 }
 
-// A signed number modulo 2^64.
-fn modulo(v: i64) -> u64
-    ensures { result ≡ of_integer v }
-{
-    if 0 <= v {
-        return v as u64;
-    }
-    MOST - ((-1 - v) as u64)
-}
-
-// The value of a number; 0 where it is not read.
+// The value of a number modulo 2^64; 0 where it is not read.
 fn number_value(s: &[u8]) -> u64
     ensures { (z : ℤ) → parse_c_number s.now ≡ some z → result ≡ of_integer z }
 {
     match parse_c_number(s) {
-        Number::Read(v) => modulo(v),
-        Number::Unread => 0,
+        Some(v) => v.cast_unsigned(),
+        None => 0,
     }
 }
 
@@ -103,11 +93,8 @@ pub fn fill<'a>(
     ensures { (es : List Entry) → entries list.now ≡ some es → Priced (start_pairs chosen.now es)
         (tokens_of tape.now tape.now tokens.now) values.new }
 {
-    let mut k = 0;
-    while k < tokens.len() {
-        let p = token_pair(tape, tokens[k], chosen, list);
-        store_pair(values, k, p);
-        k += 1;
+    for (k, &w) in tokens.iter().enumerate() {
+        store_pair(values, k, token_pair(tape, w, chosen, list));
     }
 }
 
@@ -118,10 +105,8 @@ fn is_same<'a>(tape: &'a [u8], w: u64, target: u64) -> bool
     requires { Points tape.now tape.now w × Points tape.now tape.now target }
     ensures { result ≡ same_register (token_of tape.now tape.now target) (token_of tape.now tape.now w) }
 {
-    if words::kind(w) != words::REGISTER {
-        return false;
-    }
-    text::same(words::text(tape, tape, w), words::text(tape, tape, target))
+    words::kind(w) == words::REGISTER
+        && text::same(words::text(tape, tape, w), words::text(tape, tape, target))
 }
 
 // Gives every token of a register the pair p.
@@ -131,12 +116,10 @@ fn overwrite<'a>(tape: &'a [u8], tokens: &'a [u64], target: u64, p: Pair, values
     ensures { Overwritten (token_of tape.now tape.now target) (pair_of p)
         (tokens_of tape.now tape.now tokens.now) values.old values.new }
 {
-    let mut k = 0;
-    while k < tokens.len() {
-        if is_same(tape, tokens[k], target) {
+    for (k, &w) in tokens.iter().enumerate() {
+        if is_same(tape, w, target) {
             store_pair(values, k, p);
         }
-        k += 1;
     }
 }
 
@@ -149,7 +132,7 @@ fn behind_first<'a>(
     values: &'a [u64],
     l: u64,
     before: &'a [u8],
-) -> Worth
+) -> Option<Value>
     requires { Begun tape.now tokens.now l × (2 * length tokens.now ≤ length values.now) }
     ensures { (σ : Text → Values.Pair) → Priced σ (tokens_of tape.now tape.now tokens.now) values.now → value_of result
         ≡ evaluate affine σ before.now (lexemes (drop 1 (tokens_of tape.now tape.now (part_of tokens.now l)))) }
@@ -169,21 +152,12 @@ fn assign_line<'a>(tape: &'a [u8], tokens: &'a [u64], l: u64, values: &mut [u64]
     ensures { Assigned (tokens_of tape.now tape.now (part_of tokens.now l))
         (tokens_of tape.now tape.now tokens.now) values.old values.new }
 {
-    match behind_first(tape, tokens, values, l, b" = ") {
-        Worth::Is {
-            multiplier,
-            constant,
-            token: _,
-            byte: _,
-        } => {
-            let first = words::first(l);
-            let p = Pair {
-                multiplier,
-                constant,
-            };
-            overwrite(tape, tokens, tokens[first], p, values);
-        }
-        Worth::Breaks => {}
+    if let Some(v) = behind_first(tape, tokens, values, l, b" = ") {
+        let p = Pair {
+            multiplier: v.multiplier,
+            constant: v.constant,
+        };
+        overwrite(tape, tokens, tokens[words::first(l)], p, values);
     }
 }
 
@@ -194,16 +168,11 @@ fn returned<'a>(tape: &'a [u8], tokens: &'a [u64], values: &'a [u64], l: u64) ->
         (tokens_of tape.now tape.now tokens.now) values.now (pair_of result) }
 {
     match behind_first(tape, tokens, values, l, b" ") {
-        Worth::Is {
-            multiplier,
-            constant,
-            token: _,
-            byte: _,
-        } => Pair {
-            multiplier,
-            constant,
+        Some(v) => Pair {
+            multiplier: v.multiplier,
+            constant: v.constant,
         },
-        Worth::Breaks => Pair {
+        None => Pair {
             multiplier: 0,
             constant: 0,
         },
@@ -219,10 +188,8 @@ fn run<'a>(tape: &'a [u8], tokens: &'a [u64], lines: &'a [u64], values: &mut [u6
         → execute affine σ (listing_read tape.now tape.now tokens.now reading lines.now) ≡ some (pair_of result) }
 {
     let last = lines.len() - 1;
-    let mut i = 0;
-    while i < last {
-        assign_line(tape, tokens, lines[i], values);
-        i += 1;
+    for &line in &lines[..last] {
+        assign_line(tape, tokens, line, values);
     }
     returned(tape, tokens, values, lines[last])
 }

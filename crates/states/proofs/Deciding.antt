@@ -9,13 +9,19 @@ use borrow.Author.Tests.{lt-ltb, le-ltb, eq-eqb, ne_eqb}
 use Rattle.reference.specs.Control.{when◌then◌else◌, let_some◌else◌then◌}
 use Rattle.reference.specs.Lists.{is_some}
 use Rattle.reference.specs.Listing.{Listing}
-use Rattle.reference.specs.Questions.{Answer, Refused, Passed, ask, let_passed◌then◌, read}
-use Rattle.reference.proofs.Reading.{refused_passed}
+use Rattle.reference.specs.Questions.{Refused, Passed, ask, let_passed◌then◌, read}
 use Rattle.laws.proofs.Scans.{or_true, or_false, and_true, and_false}
 use Rattle.states.specs.Store.{Store, Cell, Name, Tape, STORE, ROOM, cell}
 use Rattle.states.specs.Store.{first_byte, name_of, length_of, named, free_cell, is_wrong, wrong_cell}
 use Rattle.states.specs.Calls.{opened, is_whole, held_cell, replaced, taken, spot_for, save_reply}
-use Rattle.states.specs.Answers.{plain}
+use Rattle.states.specs.Answers.{cell_of}
+use Rattle.std.specs.Prelude as Std
+use Rattle.std.specs.Prelude.{Some, None, Ok, Err}
+use Rattle.std.specs.Option.{ok_or}
+use Rattle.reference.specs.Options.{option_of}
+use Rattle.answers.specs.declared.Reason.TheVariants.{StoreFull, NotHeld}
+use Rattle.answers.specs.declared.Refusal.{Refusal}
+use Rattle.answers.specs.Refusals.{number_of}
 
 -- ---- 22
 
@@ -101,12 +107,26 @@ module _ (store : Store) (n : Name) (tape : Tape) {room : Bool} (r : room ≡ is
   unfolding save_reply let_passed◌then◌
   save-read e f = rw (← r, e, f)
 
--- ---- answers in numbers
+-- ---- what the code finds
 
-pub plain_refused : {A : Type 0} (a : Answer A) {number place : ℕ} → Refused number place ≡ plain a → a ≡ Refused number place
-plain_refused (Refused m q) e = cc
-plain_refused (Passed x) e = absurd (refused_passed e)
+module _ (store : Store) (n : Name) where
+  -- the first free cell, or 21
+  pub spot_full : (o : Std.Option ℕ) {e d : Refusal} → named store 8 n ≡ none → option_of o ≡ free_cell store
+      → e ≡ record { reason = StoreFull; place = 0 } → ok_or o e ≡ Err d → Refused (number_of d.reason) d.place ≡ spot_for store n
+  spot_full None {e} {d} f g r h = let k : d ≡ e = cc in rw (k, r) (sym (spot_none store n f (sym g)))
+  spot_full (Some i) f g r h = cc
 
-pub plain_passed : (a : Answer (Unit {0})) {m : ℕ} → Passed m ≡ plain a → a ≡ Passed tt
-plain_passed (Refused m q) e = absurd (refused_passed (sym e))
-plain_passed (Passed x) e = refl
+  pub spot_free : (o : Std.Option ℕ) (e : Refusal) {i : ℕ} → named store 8 n ≡ none → option_of o ≡ free_cell store
+      → ok_or o e ≡ Ok i → Passed (taken i) ≡ spot_for store n
+  spot_free None e f g h = cc
+  spot_free (Some j) e {i} f g h = let k : i ≡ j = cc in rw k (sym (spot_taken store n f (sym g)))
+
+  -- the cell that is held, or 20
+  pub held-found : (room : Bool) (o : Std.Option ℕ) {e : Refusal} → opened store room ≡ Passed tt → option_of o ≡ named store 8 n
+      → e ≡ record { reason = NotHeld; place = 0 } → cell_of (ok_or o e) ≡ held_cell store room n
+  held-found room None f g r = rw r (sym (held_none store n room f (sym g)))
+  held-found room (Some i) f g r = sym (held_some store n room f (sym g))
+
+pub none_of : {A : Type 0} (o : Std.Option A) → ((x : A) → o ≡ Some x → ⊥) → o ≡ None
+none_of None h = refl
+none_of (Some x) h = absurd (h x refl)

@@ -1,29 +1,26 @@
 -- What the code's answers mean, and what the calls that write the store promise. Assumes nothing.
-use Rattle.std.specs.Prelude.{ℕ, ◌≤◌, ◌<◌, ◌≡◌, length}
-use Rattle.std.proofs.Math.Option.{Option, none, some}
+use Rattle.std.specs.Prelude.{ℕ, ◌≤◌, ◌<◌, ◌≡◌, length, Result}
 use Rattle.reference.specs.Questions as Q
 use Rattle.reference.specs.Questions.{Answer}
 use Rattle.states.specs.Store.{Store, Name, Tape, STORE}
 use Rattle.states.specs.Calls.{Spot, replaced, taken, save_reply, after_save, delete_reply, after_delete}
-use Rattle.states.specs.declared.cells.Position.{Position}
-use Rattle.states.specs.declared.cells.Position.TheVariants.{At, Nothing}
-use Rattle.states.specs.declared.calls.Located.{Located}
-use Rattle.states.specs.declared.calls.Located.TheVariants.{Refused, Cell}
+use Rattle.answers.specs.declared.Refusal.{Refusal}
+use Rattle.answers.specs.Refusals.{answered}
 use Rattle.states.specs.declared.calls.Placed.{Placed}
 use Rattle.states.specs.declared.calls.Placed.TheVariants as P
 
-abbrev pub found : Position → Option ℕ
-found (At i) = some i
-found Nothing = none
+abbrev pub cell_of : Result ℕ Refusal → Answer ℕ
+cell_of = answered (λ i. i)
 
-abbrev pub cell_of : Located → Answer ℕ
-cell_of (Refused number place) = Q.Refused number place
-cell_of (Cell i) = Q.Passed i
+abbrev pub opened_of : Result (Unit {0}) Refusal → Answer (Unit {0})
+opened_of = answered (λ u. u)
 
-abbrev pub spot_of : Placed → Answer Spot
-spot_of (P.Refused number place) = Q.Refused number place
-spot_of (P.Replaced i) = Q.Passed (replaced i)
-spot_of (P.Taken i) = Q.Passed (taken i)
+abbrev pub spot : Placed → Spot
+spot (P.Replaced i) = replaced i
+spot (P.Taken i) = taken i
+
+abbrev pub spot_of : Result Placed Refusal → Answer Spot
+spot_of = answered spot
 
 -- an answer that has no number of its own: saving and deleting answer 0
 abbrev pub plain : {A : Type 0} → Answer A → Answer ℕ

@@ -5,79 +5,55 @@ ghost use Rattle.tape.specs.Bytes.{put};
 ghost use Rattle.states.specs.Store.{CELL, STORE, ROOM, cell, length_of, tape_of};
 ghost use Rattle.states.specs.Calls.{opened, held_cell, spot_for, save_reply, restore_reply, body};
 ghost use Rattle.answers.specs.Answers.{answer_of, Writes};
-ghost use Rattle.states.specs.Answers.{cell_of, spot_of, plain, Saves, Deletes, InStore};
+ghost use Rattle.states.specs.Answers.{cell_of, spot_of, opened_of, Saves, Deletes, InStore};
 
-use crate::cells::{Position, cell_start, free_cell, held_tape, named, wrong_cell};
+use crate::cells::{cell_start, free_cell, held_tape, named, wrong_cell};
 use crate::sizes::{room_bytes, store_bytes};
-use answers::Answer;
+use answers::{Answer, Reason, Refusal};
 use tape::little_endian::put_number;
-use tape::questions::Checked;
 use text::copy_bytes;
 
-// The cell that is held under a name.
-#[derive(Clone, Copy)]
-pub enum Located {
-    Refused { number: u64, place: usize },
-    Cell(usize),
-}
-
 // The cell that a tape is saved in: the one that is held under the name, or the first free one.
-#[derive(Clone, Copy)]
+#[derive(Clone, Copy, Debug, PartialEq, Eq)]
 pub enum Placed {
-    Refused { number: u64, place: usize },
     Replaced(usize),
     Taken(usize),
 }
 
 // Questions 2 and 22. `room` says whether what is lent is long enough.
-fn opened(store: &[u8], room: bool) -> Answer
+fn opened(store: &[u8], room: bool) -> Result<(), Refusal>
     requires { room ≡ true → STORE ≤ length store.now }
-    ensures { answer_of result ≡ plain (opened store.now room) }
+    ensures { opened_of result ≡ opened store.now room }
 {
     if !room {
-        return Answer::Refused {
-            number: 2,
-            place: 0,
-        };
+        return Err(Reason::TooLittleRoom.at(0));
     }
     match wrong_cell(store) {
-        Position::At(i) => Answer::Refused {
-            number: 22,
-            place: i,
-        },
-        Position::Nothing => Answer::Passed(0),
+        Some(i) => Err(Reason::BrokenCell.at(i)),
+        None => Ok(()),
     }
 }
 
 // ---- saving
 
 // The cell for a tape that passed the tape questions, in a store that passed its own.
-fn place_for(store: &[u8], name: &[u8]) -> Placed
+fn place_for(store: &[u8], name: &[u8]) -> Result<Placed, Refusal>
     requires { STORE ≤ length store.now }
     ensures { spot_of result ≡ spot_for store.now name.now }
 {
-    match named(store, 8, name) {
-        Position::At(i) => Placed::Replaced(i),
-        Position::Nothing => match free_cell(store) {
-            Position::At(i) => Placed::Taken(i),
-            Position::Nothing => Placed::Refused {
-                number: 21,
-                place: 0,
-            },
-        },
+    if let Some(i) = named(store, 8, name) {
+        return Ok(Placed::Replaced(i));
     }
+    let i = free_cell(store).ok_or(Reason::StoreFull.at(0))?;
+    Ok(Placed::Taken(i))
 }
 
-fn save_place(store: &[u8], name: &[u8], tape: &[u8]) -> Placed
+fn save_place(store: &[u8], name: &[u8], tape: &[u8]) -> Result<Placed, Refusal>
     ensures { spot_of result ≡ save_reply store.now name.now tape.now }
 {
-    match opened(store, store_bytes() <= store.len()) {
-        Answer::Refused { number, place } => Placed::Refused { number, place },
-        Answer::Passed(_) => match tape::check(tape) {
-            Checked::Refused { number, place } => Placed::Refused { number, place },
-            Checked::Passed(_) => place_for(store, name),
-        },
-    }
+    opened(store, store_bytes() <= store.len())?;
+    tape::check::<false>(tape)?;
+    place_for(store, name)
 }
 
 // Writes the length and the bytes of a tape from `at` on.
@@ -112,17 +88,11 @@ fn save_named(store: &mut [u8], name: &[u8], tape: &[u8]) -> Answer
     requires { length name.now ≡ 8 }
     ensures { Saves store.old name.now tape.now store.new (answer_of result) }
 {
-    match save_place(store, name, tape) {
-        Placed::Refused { number, place } => Answer::Refused { number, place },
-        Placed::Replaced(i) => {
-            replace(store, i, tape);
-            Answer::Passed(0)
-        }
-        Placed::Taken(i) => {
-            take(store, i, name, tape);
-            Answer::Passed(0)
-        }
+    match save_place(store, name, tape)? {
+        Placed::Replaced(i) => replace(store, i, tape),
+        Placed::Taken(i) => take(store, i, name, tape),
     }
+    Ok(0)
 }
 
 // Saves a tape under a name: in place of the one that is held under it, or in the first free cell. A refusal changes nothing.
@@ -138,27 +108,16 @@ pub fn save(store: &mut [u8], name: &[u8; 8], tape: &[u8]) -> Answer
 fn has_room(store: usize, out: usize) -> bool
     ensures { result ≡ (leb STORE store and leb ROOM out) }
 {
-    if store < store_bytes() {
-        return false;
-    }
-    room_bytes() <= out
+    store_bytes() <= store && room_bytes() <= out
 }
 
 // The cell that is held under a name, as an answer: its number, or 20.
-fn held(store: &[u8], room: bool, name: &[u8]) -> Located
+fn held(store: &[u8], room: bool, name: &[u8]) -> Result<usize, Refusal>
     requires { room ≡ true → STORE ≤ length store.now }
     ensures { cell_of result ≡ held_cell store.now room name.now }
 {
-    match opened(store, room) {
-        Answer::Refused { number, place } => Located::Refused { number, place },
-        Answer::Passed(_) => match named(store, 8, name) {
-            Position::At(i) => Located::Cell(i),
-            Position::Nothing => Located::Refused {
-                number: 20,
-                place: 0,
-            },
-        },
-    }
+    opened(store, room)?;
+    named(store, 8, name).ok_or(Reason::NotHeld.at(0))
 }
 
 // Gives up the cell that begins at `at`.
@@ -173,13 +132,9 @@ fn release(store: &mut [u8], at: usize)
 pub fn delete(store: &mut [u8], name: &[u8; 8]) -> Answer
     ensures { Deletes store.old name.now store.new (answer_of result) }
 {
-    match held(store, store_bytes() <= store.len(), name) {
-        Located::Refused { number, place } => Answer::Refused { number, place },
-        Located::Cell(i) => {
-            release(store, cell_start(i));
-            Answer::Passed(0)
-        }
-    }
+    let i = held(store, store_bytes() <= store.len(), name)?;
+    release(store, cell_start(i));
+    Ok(0)
 }
 
 // ---- coming back
@@ -199,8 +154,6 @@ fn copy_out(store: &[u8], i: usize, out: &mut [u8]) -> usize
 pub fn restore(store: &[u8], name: &[u8; 8], out: &mut [u8]) -> Answer
     ensures { Writes (restore_reply store.now name.now (length out.old)) out.old out.new (answer_of result) }
 {
-    match held(store, has_room(store.len(), out.len()), name) {
-        Located::Refused { number, place } => Answer::Refused { number, place },
-        Located::Cell(i) => Answer::Passed(copy_out(store, i, out) as u64),
-    }
+    let i = held(store, has_room(store.len(), out.len()), name)?;
+    Ok(copy_out(store, i, out) as u64)
 }

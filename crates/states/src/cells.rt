@@ -1,20 +1,14 @@
 // One cell of the store, and cells looked for. Nothing is written.
 ghost use Rattle.std.specs.Prelude.{◌≡◌, ◌≤◌, ◌*◌, ◌<◌, length, ltb};
+ghost use Rattle.reference.specs.Options.{option_of};
 ghost use Rattle.reference.specs.Lists.{is_some};
 ghost use Rattle.states.specs.Store.{CELL, STORE, ROOM, cell, name_of, length_of, tape_of};
 ghost use Rattle.states.specs.Store.{is_free, holds, named, free_cell, is_wrong, wrong_cell};
-ghost use Rattle.states.specs.Answers.{found, InStore};
+ghost use Rattle.states.specs.Answers.{InStore};
 
 use crate::sizes::{cell_bytes, room_bytes};
 use tape::little_endian::number_at;
 use text::same;
-
-// The number of a cell, or that there is none.
-#[derive(Clone, Copy)]
-pub enum Position {
-    At(usize),
-    Nothing,
-}
 
 // Where a cell begins.
 pub fn cell_start(i: usize) -> usize
@@ -29,8 +23,7 @@ pub fn cell_at(store: &[u8], i: usize) -> &[u8]
     ensures { result.now ≡ cell store.now i }
 {
     let at = cell_start(i);
-    let end = at + cell_bytes();
-    &store[at..end]
+    &store[at..at + cell_bytes()]
 }
 
 // ---- one cell
@@ -53,27 +46,22 @@ fn holds(cell: &[u8], name: &[u8]) -> bool
     requires { 13 ≤ length cell.now }
     ensures { result ≡ holds name.now cell.now }
 {
-    if cell[0] != 1 {
-        return false;
-    }
-    same(cell_name(cell), name)
+    cell[0] == 1 && same(cell_name(cell), name)
 }
 
 // ---- cells looked for
 
 // Which of the first k cells is held under a name.
-pub fn named(store: &[u8], k: usize, name: &[u8]) -> Position
+pub fn named(store: &[u8], k: usize, name: &[u8]) -> Option<usize>
     requires { (k ≤ 8) × (STORE ≤ length store.now) }
-    ensures { found result ≡ named store.now k name.now }
+    ensures { option_of result ≡ named store.now k name.now }
 {
-    let mut i = 0;
-    while i < k {
+    for i in 0..k {
         if holds(cell_at(store, i), name) {
-            return Position::At(i);
+            return Some(i);
         }
-        i += 1;
     }
-    Position::Nothing
+    None
 }
 
 fn is_free(cell: &[u8]) -> bool
@@ -83,18 +71,16 @@ fn is_free(cell: &[u8]) -> bool
     cell[0] == 0
 }
 
-pub fn free_cell(store: &[u8]) -> Position
+pub fn free_cell(store: &[u8]) -> Option<usize>
     requires { STORE ≤ length store.now }
-    ensures { found result ≡ free_cell store.now }
+    ensures { option_of result ≡ free_cell store.now }
 {
-    let mut i = 0; // the first of them
-    while i < 8 {
+    for i in 0..8 {
         if is_free(cell_at(store, i)) {
-            return Position::At(i);
+            return Some(i);
         }
-        i += 1;
     }
-    Position::Nothing
+    None
 }
 
 // ---- question 22
@@ -104,10 +90,7 @@ fn is_taken(store: &[u8], i: usize, name: &[u8]) -> bool
     requires { (i ≤ 8) × (STORE ≤ length store.now) }
     ensures { result ≡ is_some (named store.now i name.now) }
 {
-    match named(store, i, name) {
-        Position::At(_) => true,
-        Position::Nothing => false,
-    }
+    named(store, i, name).is_some()
 }
 
 // Whether a length is more than a cell has room for.
@@ -122,31 +105,23 @@ fn is_wrong(store: &[u8], i: usize) -> bool
     ensures { result ≡ is_wrong store.now i }
 {
     let cell = cell_at(store, i);
-    let b = cell[0];
-    if 1 < b {
-        return true;
+    match cell[0] {
+        0 => false,
+        1 => is_long(cell_length(cell)) || is_taken(store, i, cell_name(cell)),
+        _ => true,
     }
-    if b != 1 {
-        return false;
-    }
-    if is_long(cell_length(cell)) {
-        return true;
-    }
-    is_taken(store, i, cell_name(cell))
 }
 
-pub fn wrong_cell(store: &[u8]) -> Position
+pub fn wrong_cell(store: &[u8]) -> Option<usize>
     requires { STORE ≤ length store.now }
-    ensures { found result ≡ wrong_cell store.now }
+    ensures { option_of result ≡ wrong_cell store.now }
 {
-    let mut i = 0;
-    while i < 8 {
+    for i in 0..8 {
         if is_wrong(store, i) {
-            return Position::At(i);
+            return Some(i);
         }
-        i += 1;
     }
-    Position::Nothing
+    None
 }
 
 // ---- the tape of a cell
@@ -156,6 +131,5 @@ pub fn held_tape(store: &[u8], i: usize) -> &[u8]
     ensures { result.now ≡ tape_of (cell store.now i) }
 {
     let cell = cell_at(store, i);
-    let end = 13 + cell_length(cell) as usize;
-    &cell[13..end]
+    &cell[13..13 + cell_length(cell) as usize]
 }

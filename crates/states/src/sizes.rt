@@ -1,4 +1,5 @@
-// The numbers of the store. They are functions and no constants: a proof then has each number as an equation, and no check counts up to it.
+// The numbers of the store.
+// Kept: they are functions and no constants, so that a proof has each number as an equation, and no check counts up to it.
 ghost use Rattle.std.specs.Prelude.{◌≡◌};
 ghost use Rattle.states.specs.Store.{CELL, STORE, ROOM};
 

@@ -1,7 +1,10 @@
 -- The records of lines: the line that one means, what a command makes of them, and what the tables of words have of them. Assumes nothing.
-use Rattle.std.specs.Prelude.{ℕ, ◌+◌, ◌≤◌, ◌<◌, ◌≡◌, true, false, not, List, map, min, max, eqb, length, take, drop, get_or}
-use Rattle.std.proofs.Math.Option.{Option, none, some}
-use Rattle.reference.specs.Control.{when◌then◌else◌}
+use Rattle.std.specs.Prelude as std
+use Rattle.std.specs.Prelude.{ℕ, ◌+◌, ◌≤◌, ◌<◌, ◌≡◌, true, false, List, map, min, max, eqb, length, take, drop, get_or}
+use Rattle.std.specs.Prelude.{Ok}
+use Rattle.std.specs.Bool.{then_some}
+use Rattle.std.proofs.Math.Option.{Option, none}
+use Rattle.reference.specs.Options.{option_of}
 use Rattle.reference.specs.Text.{Text}
 use Rattle.reference.specs.Listing as L
 use Rattle.reference.specs.Listing.{Line, Listing}
@@ -16,19 +19,18 @@ use Rattle.tape.specs.Questions.{totals_of, counted, Counts}
 use Rattle.tables.specs.Tables.{tokens_after, Loaded}
 use Rattle.tape.specs.declared.commands.Command.{Command}
 use Rattle.tape.specs.declared.commands.Command.TheVariants.{Addressed, Plain, Marked, Token, End}
-use Rattle.tape.specs.declared.commands.Found.TheVariants.{Whole}
 use Rattle.tape.specs.declared.questions.Totals.{Totals}
 use Rattle.tables.specs.declared.records.LineRecord.{LineRecord}
 use Rattle.tables.specs.declared.loading.LoadState.{LoadState}
 use Rattle.tables.specs.declared.loading.LoadStep.{LoadStep}
 
 abbrev pub blank : LineRecord
-blank = record { address = 0; addressed = 0; indent = 0; first = 0; count = 0; low = 0; high = 0 }
+blank = record { address = std.None; indent = 0; first = 0; count = 0; low = 0; high = 0 }
 
 -- ---- a record and the line that it means
 
-unfoldable pub address_of : LineRecord → Option ℕ
-address_of r = when eqb r.addressed 1 then some r.address else none
+abbrev pub address_of : LineRecord → Option ℕ
+address_of r = option_of r.address
 
 -- the two numbers that its marks are
 abbrev pub pair_of : LineRecord → Pair
@@ -51,8 +53,7 @@ pub record Sound (tape area : Text) (tokens : List ℕ) (r : LineRecord) : Type 
 abbrev pub record_of : List ℕ → List ℕ → List ℕ → ℕ → LineRecord
 record_of addresses lows highs l =
     record {
-      address = get_or addresses (origin_of l) 0;
-      addressed = addressed_of l;
+      address = then_some (eqb (addressed_of l) 1) (get_or addresses (origin_of l) 0);
       indent = indent_of l;
       first = first_of l;
       count = count_of l;
@@ -65,21 +66,25 @@ records_of addresses lows highs lines = map (record_of addresses lows highs) lin
 
 -- ---- a record and the tables of words
 
+-- 1 for a line with an address, else 0
+abbrev pub flag_of : std.Option ℕ → ℕ
+flag_of (std.Some address) = 1
+flag_of std.None = 0
+
 -- the word of the k-th line
 abbrev pub word_of : ℕ → LineRecord → ℕ
-word_of k r = line_word r.first r.count r.indent r.addressed k
+word_of k r = line_word r.first r.count r.indent (flag_of r.address) k
 
 -- the numbers fit a line word
 pub record RecordFits (r : LineRecord) : Type 0 where
   pub first : r.first < 65536
   pub count : r.count < 2048
   pub indent : r.indent < 64
-  pub addressed : r.addressed < 2
 
 -- the k-th place of the tables has the record's word, and its address if it has one
 pub record Held (r : LineRecord) (k : ℕ) (lines addresses : List ℕ) : Type 0 where
   pub word : get_or lines k 0 ≡ word_of k r
-  pub address : r.addressed ≡ 1 → get_or addresses k 0 ≡ r.address
+  pub address : (a : ℕ) → r.address ≡ std.Some a → get_or addresses k 0 ≡ a
 
 -- so have the first n places, in tables of the usual length
 pub record Holding (records : List LineRecord) (n : ℕ) (lines addresses : List ℕ) : Type 0 where
@@ -114,28 +119,10 @@ pub record Recorded (tape tokens : List ℕ) (records : List LineRecord) (r : To
 -- the record that the command at hand is about, `line` being the record of the last line
 abbrev pub line_after : Command → Totals → LineRecord → LineRecord
 line_after (Addressed address indent) t line =
-    record { address = address; addressed = 1; indent = indent; first = t.tokens; count = 0; low = address; high = address }
-line_after (Plain indent) t line = record { address = 0; addressed = 0; indent = indent; first = t.tokens; count = 0; low = TOP; high = 0 }
-line_after (Marked low high) t line =
-    record {
-      address = line.address;
-      addressed = line.addressed;
-      indent = line.indent;
-      first = line.first;
-      count = line.count;
-      low = min line.low low;
-      high = max line.high high;
-    }
-line_after (Token kind count) t line =
-    record {
-      address = line.address;
-      addressed = line.addressed;
-      indent = line.indent;
-      first = line.first;
-      count = line.count + 1;
-      low = line.low;
-      high = line.high;
-    }
+    record { address = std.Some address; indent = indent; first = t.tokens; count = 0; low = address; high = address }
+line_after (Plain indent) t line = record { address = std.None; indent = indent; first = t.tokens; count = 0; low = TOP; high = 0 }
+line_after (Marked low high) t line = record line { low = min line.low low; high = max line.high high }
+line_after (Token kind count) t line = record line { count = line.count + 1 }
 line_after End t line = line
 
 -- its place, `last` being that of the last line
@@ -147,7 +134,7 @@ place_after (Token kind count) t last = last
 place_after End t last = last
 
 abbrev pub start_of : LoadState
-start_of = record { at = 0; line = 0; totals = record { lines = 0; tokens = 0; text = 0; fresh = false }; going = true }
+start_of = record { at = 0; line = 0; totals = record { lines = 0; tokens = 0; text = 0; fresh = false } }
 
 -- a token's numbers fit its word, and there is room for it
 abbrev pub TakesToken : ℕ → Command → Totals → List ℕ → Type 0
@@ -175,16 +162,27 @@ pub record Takes (tape tokens : List ℕ) (s : LoadState) (line : LineRecord) (c
 -- the command at the offset, known to stand there, can be taken
 pub record Ready (tape tokens : List ℕ) (s : LoadState) (line : LineRecord) : Type 0 where
   pub stood : Stood tape s.at
-  pub takes : (c : Command) → found_in tape s.at (Whole c) ≡ standing tape s.at → Takes tape tokens s line c
+  pub takes : (c : Command) → found_in tape s.at (Ok c) ≡ standing tape s.at → Takes tape tokens s line c
 
 -- one step of loading: the command at the offset was taken
 pub record StepLoads (tape : List ℕ) (s : LoadState) (line : LineRecord) (tokens tokens' : List ℕ) (r : LoadStep) : Type 0 where
   pub command : Command
-  pub stands : found_in tape s.at (Whole command) ≡ standing tape s.at
+  pub stands : found_in tape s.at (Ok command) ≡ standing tape s.at
   pub line_is : r.line ≡ line_after command s.totals line
   pub tokens_are : tokens' ≡ tokens_after s.at command s.totals tokens
   pub at_is : r.next.at ≡ s.at + size_of command
   pub place_is : r.next.line ≡ place_after command s.totals s.line
   pub totals_are : totals_of r.next.totals ≡ counted command (totals_of s.totals)
-  pub going_is : r.next.going ≡ not (ends command)
+  pub goes : ends command ≡ false
   pub bytes : (k : ℕ) → get_or tape k 0 < 256
+
+-- the last: FF stands at the offset
+pub record LoadEnds (tape : List ℕ) (s : LoadState) (tokens tokens' : List ℕ) : Type 0 where
+  pub command : Command
+  pub stands : found_in tape s.at (Ok command) ≡ standing tape s.at
+  pub tokens_are : tokens' ≡ tokens
+  pub over : ends command ≡ true
+
+abbrev pub Loads : List ℕ → LoadState → LineRecord → List ℕ → List ℕ → std.Option LoadStep → Type 0
+Loads tape s line tokens tokens' (std.Some r) = StepLoads tape s line tokens tokens' r
+Loads tape s line tokens tokens' std.None = LoadEnds tape s tokens tokens'

@@ -1,5 +1,5 @@
 -- The bytes of lines, and what writing a listing leaves. Assumes nothing.
-use Rattle.std.specs.Prelude.{ℕ, ◌+◌, ◌≤◌, ◌<◌, ◌≡◌, length, take, drop, get_or}
+use Rattle.std.specs.Prelude.{ℕ, ◌+◌, ◌≤◌, ◌<◌, ◌≡◌, length, drop, get_or}
 use mathlib.Core.List.{List, ◌++◌, map, flat_map}
 use Rattle.reference.specs.Text.{Text}
 use Rattle.reference.specs.Listing.{Token, Line}
@@ -33,9 +33,9 @@ lines_bytes ls = flat_map whole_line ls
 abbrev pub marked_of : Text → Text → List ℕ → LineRecord → MarkedLine
 marked_of tape area tokens r = (line_of tape area tokens r, marks_of (pair_of r))
 
--- the lines of the first n records
-abbrev pub recorded : Text → Text → List ℕ → List LineRecord → ℕ → List MarkedLine
-recorded tape area tokens records n = map (marked_of tape area tokens) (take n records)
+-- the lines of records
+abbrev pub recorded : Text → Text → List ℕ → List LineRecord → List MarkedLine
+recorded tape area tokens records = map (marked_of tape area tokens) records
 
 abbrev pub marked_in : Text → Text → List ℕ → List ℕ → List ℕ → List ℕ → ℕ → MarkedLine
 marked_in tape area tokens addresses lows highs l = (line_in tape area tokens addresses l, marks_of (pair_at lows highs (origin_of l)))
@@ -45,10 +45,9 @@ abbrev pub paged : Text → Text → List ℕ → List ℕ → List ℕ → List
 paged tape area tokens addresses lows highs lines = map (marked_in tape area tokens addresses lows highs) lines
 
 -- they can be written from `at` on
-pub record Writes (tape area : Text) (tokens : List ℕ) (records : List LineRecord) (n : ℕ) (out : List ℕ) (at : ℕ) : Type 0 where
-  pub few : n ≤ length records
-  pub sound : (k : ℕ) → k < n → Sound tape area tokens (get_or records k blank)
-  pub room : at + length (lines_bytes (recorded tape area tokens records n)) ≤ length out
+pub record Writes (tape area : Text) (tokens : List ℕ) (records : List LineRecord) (out : List ℕ) (at : ℕ) : Type 0 where
+  pub sound : (k : ℕ) → k < length records → Sound tape area tokens (get_or records k blank)
+  pub room : at + length (lines_bytes (recorded tape area tokens records)) ≤ length out
 
 -- the front of `out` is the tape, the rest is as before, and the answer is the tape's length
 pub record Wrote (tape out after : List ℕ) (r : ℕ) : Type 0 where

@@ -4,29 +4,26 @@ ghost use Rattle.std.specs.Prelude.{◌≡◌, ◌≤◌, length};
 ghost use Rattle.lines.specs.Words.{Recodes};
 ghost use Rattle.tape.specs.Questions.{AcceptedTape};
 ghost use Rattle.tables.specs.Records.{Fitting, Holding, Marking, Recorded, line_after, place_after, start_of, TakesToken, Grows};
-ghost use Rattle.tables.specs.Records.{Ready, StepLoads};
+ghost use Rattle.tables.specs.Records.{Ready, Loads};
 ghost use Rattle.tables.specs.Tables.{tokens_after, Loaded, LoadedMarks};
 
-use crate::records::{LineRecord, TOP, line_at, store_line};
+use crate::records::{BLANK, LineRecord, TOP, line_at, store_line};
 use lines::codes::coded;
-use lines::spans::{higher, lower};
 use lines::words::{IN_TAPE, line_word, token_word};
 use tape::commands::{Command, size_of};
-use tape::questions::{Totals, count_in, is_end};
+use tape::questions::{NONE, Totals, count_in};
 use tape::reader::known_command;
 
-// Where the loading stands: the offset in the tape, the index of the last line's record, what was read so far, and whether FF
-// is still to come.
-#[derive(Clone, Copy)]
+// Where the loading stands: the offset in the tape, the index of the last line's record, and what was read so far.
+#[derive(Clone, Copy, Debug, PartialEq, Eq)]
 pub struct LoadState {
     pub at: usize,
     pub line: usize,
     pub totals: Totals,
-    pub going: bool,
 }
 
 // The record that a command is about, and where the loading stands after the command.
-#[derive(Clone, Copy)]
+#[derive(Clone, Copy, Debug, PartialEq, Eq)]
 pub struct LoadStep {
     pub line: LineRecord,
     pub next: LoadState,
@@ -40,13 +37,7 @@ fn start() -> LoadState
     LoadState {
         at: 0,
         line: 0,
-        totals: Totals {
-            lines: 0,
-            tokens: 0,
-            text: 0,
-            fresh: false,
-        },
-        going: true,
+        totals: NONE,
     }
 }
 
@@ -57,8 +48,7 @@ fn record_after(command: Command, totals: Totals, line: LineRecord) -> LineRecor
 {
     match command {
         Command::Addressed { address, indent } => LineRecord {
-            address,
-            addressed: 1,
+            address: Some(address),
             indent,
             first: totals.tokens,
             count: 0,
@@ -66,8 +56,7 @@ fn record_after(command: Command, totals: Totals, line: LineRecord) -> LineRecor
             high: address,
         },
         Command::Plain { indent } => LineRecord {
-            address: 0,
-            addressed: 0,
+            address: None,
             indent,
             first: totals.tokens,
             count: 0,
@@ -75,22 +64,13 @@ fn record_after(command: Command, totals: Totals, line: LineRecord) -> LineRecor
             high: 0,
         },
         Command::Marked { low, high } => LineRecord {
-            address: line.address,
-            addressed: line.addressed,
-            indent: line.indent,
-            first: line.first,
-            count: line.count,
-            low: lower(line.low, low),
-            high: higher(line.high, high),
+            low: line.low.min(low),
+            high: line.high.max(high),
+            ..line
         },
-        Command::Token { kind: _, count: _ } => LineRecord {
-            address: line.address,
-            addressed: line.addressed,
-            indent: line.indent,
-            first: line.first,
+        Command::Token { .. } => LineRecord {
             count: line.count + 1,
-            low: line.low,
-            high: line.high,
+            ..line
         },
         Command::End => line,
     }
@@ -101,14 +81,8 @@ fn place_after(command: Command, totals: Totals, last: usize) -> usize
     ensures { result ≡ place_after command totals last }
 {
     match command {
-        Command::Addressed {
-            address: _,
-            indent: _,
-        } => totals.lines,
-        Command::Plain { indent: _ } => totals.lines,
-        Command::Marked { low: _, high: _ } => last,
-        Command::Token { kind: _, count: _ } => last,
-        Command::End => last,
+        Command::Addressed { .. } | Command::Plain { .. } => totals.lines,
+        Command::Marked { .. } | Command::Token { .. } | Command::End => last,
     }
 }
 
@@ -117,41 +91,36 @@ fn add_token(at: usize, command: Command, tokens: &mut [u64], totals: Totals)
     requires { TakesToken at command totals tokens.old }
     ensures { tokens.new ≡ tokens_after at command totals tokens.old }
 {
-    match command {
-        Command::Addressed {
-            address: _,
-            indent: _,
-        } => {}
-        Command::Plain { indent: _ } => {}
-        Command::Marked { low: _, high: _ } => {}
-        Command::Token { kind, count } => {
-            let n = totals.tokens;
-            tokens[n] = token_word(kind, IN_TAPE, at + 3, count);
-        }
-        Command::End => {}
+    if let Command::Token { kind, count } = command {
+        tokens[totals.tokens] = token_word(kind, IN_TAPE, at + 3, count);
     }
 }
 
-// Takes the command at the offset, `line` being the record of the last line.
-fn load_command(tape: &[u8], s: LoadState, line: LineRecord, tokens: &mut [u64]) -> LoadStep
-    requires { Ready tape.now tokens.old s line }
-    ensures { StepLoads tape.now s line tokens.old tokens.new result }
+// Takes the command at the offset, `line` being the record of the last line; at FF there is none to take.
+fn load_command(
+    tape: &[u8],
+    state: LoadState,
+    line: LineRecord,
+    tokens: &mut [u64],
+) -> Option<LoadStep>
+    requires { Ready tape.now tokens.old state line }
+    ensures { Loads tape.now state line tokens.old tokens.new result }
 {
-    let at = s.at;
-    let totals = s.totals;
+    let at = state.at;
+    let totals = state.totals;
     let command = known_command(tape, at);
-    add_token(at, command, tokens, totals);
-    let ended = is_end(command);
-    let next = LoadState {
-        at: at + size_of(command),
-        line: place_after(command, totals, s.line),
-        totals: count_in(command, totals),
-        going: !ended,
-    };
-    LoadStep {
-        line: record_after(command, totals, line),
-        next,
+    if command.is_end() {
+        return None;
     }
+    add_token(at, command, tokens, totals);
+    Some(LoadStep {
+        line: record_after(command, totals, line),
+        next: LoadState {
+            at: at + size_of::<false>(command),
+            line: place_after(command, totals, state.line),
+            totals: count_in(command, totals),
+        },
+    })
 }
 
 // ---- the whole tape
@@ -161,39 +130,38 @@ pub fn fill(tape: &[u8], tokens: &mut [u64], lines: &mut [LineRecord]) -> Totals
     requires { AcceptedTape tape.now × (1024 ≤ length tokens.old) × (256 ≤ length lines.old) }
     ensures { Recorded tape.now tokens.new lines.new result }
 {
-    let mut s = start();
-    while s.going {
-        let k = s.line;
-        let line = line_at(lines, k);
-        let t = load_command(tape, s, line, tokens);
-        store_line(lines, t.next.line, t.line);
-        s = t.next;
+    let mut state = start();
+    while let Some(step) = load_command(tape, state, line_at(lines, state.line), tokens) {
+        store_line(lines, step.next.line, step.line);
+        state = step.next;
     }
-    s.totals
+    state.totals
 }
 
-// Writes the words, the addresses and the marks of the first n records into the tables.
+// Writes the words, the addresses and the marks of the records into the tables.
 fn spread(
-    records: [LineRecord; 256],
-    n: usize,
+    records: &[LineRecord],
     lines: &mut [u64],
     addresses: &mut [u64],
     lows: &mut [u64],
     highs: &mut [u64],
 )
-    requires { (n ≤ 256) × Fitting records n × (256 ≤ length lines.old) × (256 ≤ length addresses.old)
-        × (256 ≤ length lows.old) × (256 ≤ length highs.old) }
-    ensures { Holding records n lines.new addresses.new
-        × Marking records n lows.new highs.new }
+    requires { (length records.now ≤ 256) × Fitting records.now (length records.now) × (256 ≤ length lines.old)
+        × (256 ≤ length addresses.old) × (256 ≤ length lows.old) × (256 ≤ length highs.old) }
+    ensures { Holding records.now (length records.now) lines.new addresses.new
+        × Marking records.now (length records.now) lows.new highs.new }
 {
-    let mut k = 0;
-    while k < n {
-        let r = records[k];
-        lines[k] = line_word(r.first, r.count, r.indent, r.addressed, k);
-        addresses[k] = r.address;
+    for (k, r) in records.iter().enumerate() {
+        lines[k] = line_word(
+            r.first,
+            r.count,
+            r.indent,
+            u64::from(r.address.is_some()),
+            k,
+        );
+        addresses[k] = r.address.unwrap_or(0);
         lows[k] = r.low;
         highs[k] = r.high;
-        k += 1;
     }
 }
 
@@ -213,18 +181,9 @@ fn tabled(
     ensures { Loaded tape.now tokens.new lines.new addresses.new result
         × LoadedMarks tape.now lines.new lows.new highs.new result }
 {
-    let blank = LineRecord {
-        address: 0,
-        addressed: 0,
-        indent: 0,
-        first: 0,
-        count: 0,
-        low: 0,
-        high: 0,
-    };
-    let mut records = [blank; 256];
+    let mut records = [BLANK; 256];
     let totals = fill(tape, tokens, &mut records);
-    spread(records, totals.lines, lines, addresses, lows, highs);
+    spread(&records[..totals.lines], lines, addresses, lows, highs);
     totals
 }
 
@@ -233,10 +192,8 @@ fn code_first(tape: &[u8], tokens: &mut [u64], n: usize)
     requires { n ≤ length tokens.old }
     ensures { Recodes tape.now tokens.old tokens.new }
 {
-    let mut k = 0;
-    while k < n {
-        tokens[k] = coded(tape, tokens[k]);
-        k += 1;
+    for w in &mut tokens[..n] {
+        *w = coded(tape, *w);
     }
 }
 
@@ -256,7 +213,6 @@ pub fn load(
         × LoadedMarks tape.now lines.new lows.new highs.new result }
 {
     let totals = tabled(tape, tokens, lines, addresses, lows, highs);
-    let n = totals.tokens;
-    code_first(tape, tokens, n);
+    code_first(tape, tokens, totals.tokens);
     totals
 }

@@ -4,20 +4,31 @@ ghost use Rattle.tables.specs.Records.{blank};
 
 // Where there are no marks, the highest number there is stands as the lowest address, and 0 as the highest: so marks join by minimum and
 // maximum.
-pub const TOP: u64 = 18446744073709551615;
+// Kept: in a record too the marks are such a pair, as in the tables that it is spread to, where an `Option` would be taken apart and put
+// together again at each read.
+pub const TOP: u64 = u64::MAX;
 
-// A line: its address, 1 if it has one and else 0, its indent, its tokens, `count` of them from `first` on, and its marks, the lowest and
-// the highest address.
-#[derive(Clone, Copy)]
+// A line: its address if it has one, its indent, its tokens, `count` of them from `first` on, and its marks, the lowest and the highest
+// address.
+#[derive(Clone, Copy, Debug, PartialEq, Eq)]
 pub struct LineRecord {
-    pub address: u64,
-    pub addressed: u64,
+    pub address: Option<u64>,
     pub indent: u64,
     pub first: usize,
     pub count: usize,
     pub low: u64,
     pub high: u64,
 }
+
+// What stands in an array of records before they are laid.
+pub const BLANK: LineRecord = LineRecord {
+    address: None,
+    indent: 0,
+    first: 0,
+    count: 0,
+    low: 0,
+    high: 0,
+};
 
 // The record at an index.
 pub fn line_at(lines: &[LineRecord], at: usize) -> LineRecord

@@ -13,7 +13,7 @@ ghost use Rattle.tables.specs.Tables.{marks_for};
 ghost use Rattle.tables.specs.Records.{line_of, pair_of, record_of, records_of, Sound};
 ghost use Rattle.tables.specs.Writing.{token_bytes, line_bytes, tokens_bytes, lines_bytes, recorded, paged, Writes, Wrote};
 
-use crate::records::{LineRecord, line_at, store_line};
+use crate::records::{BLANK, LineRecord, store_line};
 use lines::words::{addressed, count, first, indent, kind, origin, text};
 use tape::little_endian::put_number;
 use text::copy_bytes;
@@ -46,10 +46,10 @@ fn put_line(line: LineRecord, out: &mut [u8], at: usize) -> usize
     requires { (line.indent < 256) × (at + length (line_bytes line) ≤ length out.old) }
     ensures { Puts out.old at (line_bytes line) out.new result }
 {
-    if line.addressed == 1 {
-        return put_addressed(line.address, line.indent, out, at);
+    match line.address {
+        Some(address) => put_addressed(address, line.indent, out, at),
+        None => put_plain(line.indent, out, at),
     }
-    put_plain(line.indent, out, at)
 }
 
 // Writes the command of marks.
@@ -87,26 +87,23 @@ fn put_token(kind: u64, s: &[u8], out: &mut [u8], at: usize) -> usize
 }
 
 // Writes the commands of a line's tokens.
-fn put_tokens<'a>(tape: &'a [u8], area: &'a [u8], ws: &'a [u64], out: &mut [u8], at: usize) -> usize
+fn put_tokens(tape: &[u8], area: &[u8], ws: &[u64], out: &mut [u8], at: usize) -> usize
     requires holds { Holds tape.now area.now ws.now }
     requires ws_in_bounds { at + length (tokens_bytes (tokens_of tape.now area.now ws.now)) ≤ length out.old }
     ensures { Puts out.old at (tokens_bytes (tokens_of tape.now area.now ws.now)) out.new result }
 {
     let mut to = at;
-    let mut k = 0;
-    while k < ws.len() {
-        let w = ws[k];
-        to = put_token(kind(w), text(tape, area, w), out, to);
-        k += 1;
+    for w in ws {
+        to = put_token(kind(*w), text(tape, area, *w), out, to);
     }
     to
 }
 
 // Writes a line.
-fn put_whole_line<'a>(
-    tape: &'a [u8],
-    area: &'a [u8],
-    tokens: &'a [u64],
+fn put_whole_line(
+    tape: &[u8],
+    area: &[u8],
+    tokens: &[u64],
     line: LineRecord,
     out: &mut [u8],
     at: usize,
@@ -118,21 +115,20 @@ fn put_whole_line<'a>(
 {
     let marks = put_line(line, out, at);
     let to = put_marks(line.low, line.high, out, marks);
-    let from = line.first;
-    let end = from + line.count;
-    put_tokens(tape, area, &tokens[from..end], out, to)
+    put_tokens(
+        tape,
+        area,
+        &tokens[line.first..line.first + line.count],
+        out,
+        to,
+    )
 }
 
 // ---- a page: the records of its lines, and their bytes
 
 // The record of the line word at an index.
-fn record_of<'a>(
-    lines: &'a [u64],
-    addresses: &'a [u64],
-    lows: &'a [u64],
-    highs: &'a [u64],
-    at: usize,
-) -> LineRecord
+#[tactic(auto, using(lines::proofs::words::Lines::origin_below))]
+fn record_of(lines: &[u64], addresses: &[u64], lows: &[u64], highs: &[u64], at: usize) -> LineRecord
     requires { (at < length lines.now) × (256 ≤ length addresses.now) × (256 ≤ length lows.now) × (256 ≤ length highs.now) }
     ensures { result ≡ record_of addresses.now lows.now highs.now (get_or lines.now at 0) }
 {
@@ -142,8 +138,7 @@ fn record_of<'a>(
     let low = lows[k];
     let high = highs[k];
     LineRecord {
-        address,
-        addressed: addressed(l),
+        address: (addressed(l) == 1).then_some(address),
         indent: indent(l),
         first: first(l),
         count: count(l),
@@ -153,59 +148,45 @@ fn record_of<'a>(
 }
 
 // Stores the records of the line words, from the first place on.
-fn gather<'a>(
-    lines: &'a [u64],
-    addresses: &'a [u64],
-    lows: &'a [u64],
-    highs: &'a [u64],
-    records: &mut [LineRecord],
-)
+fn gather(lines: &[u64], addresses: &[u64], lows: &[u64], highs: &[u64], records: &mut [LineRecord])
     requires { (length lines.now ≤ length records.old) × (256 ≤ length addresses.now) × (256 ≤ length lows.now)
         × (256 ≤ length highs.now) }
     ensures { records.new ≡ paste records.old 0 (records_of addresses.now lows.now highs.now lines.now)
         (length lines.now) }
 {
-    let n = lines.len();
-    let mut k = 0;
-    while k < n {
-        let line = record_of(lines, addresses, lows, highs, k);
-        store_line(records, k, line);
-        k += 1;
+    for k in 0..lines.len() {
+        store_line(records, k, record_of(lines, addresses, lows, highs, k));
     }
 }
 
-// Writes the lines of the first n records.
-fn put_records<'a>(
-    tape: &'a [u8],
-    area: &'a [u8],
-    tokens: &'a [u64],
+// Writes the lines of the records.
+fn put_records(
+    tape: &[u8],
+    area: &[u8],
+    tokens: &[u64],
     records: &[LineRecord],
-    n: usize,
     out: &mut [u8],
     at: usize,
 ) -> usize
-    requires { Writes tape.now area.now tokens.now records.now n out.old at }
-    ensures { Puts out.old at (lines_bytes (recorded tape.now area.now tokens.now records.now n)) out.new result }
+    requires { Writes tape.now area.now tokens.now records.now out.old at }
+    ensures { Puts out.old at (lines_bytes (recorded tape.now area.now tokens.now records.now)) out.new result }
 {
     let mut to = at;
-    let mut k = 0;
-    while k < n {
-        let line = line_at(records, k);
-        to = put_whole_line(tape, area, tokens, line, out, to);
-        k += 1;
+    for line in records {
+        to = put_whole_line(tape, area, tokens, *line, out, to);
     }
     to
 }
 
 // Writes the lines. Their records are an array of the call's own, lent to `gather` and then to `put_records`.
-fn put_lines<'a>(
-    tape: &'a [u8],
-    area: &'a [u8],
-    tokens: &'a [u64],
-    lines: &'a [u64],
-    addresses: &'a [u64],
-    lows: &'a [u64],
-    highs: &'a [u64],
+fn put_lines(
+    tape: &[u8],
+    area: &[u8],
+    tokens: &[u64],
+    lines: &[u64],
+    addresses: &[u64],
+    lows: &[u64],
+    highs: &[u64],
     out: &mut [u8],
     at: usize,
 ) -> usize
@@ -216,31 +197,22 @@ fn put_lines<'a>(
     ensures { Puts out.old at (lines_bytes (paged tape.now area.now tokens.now addresses.now lows.now highs.now
         lines.now)) out.new result }
 {
-    let blank = LineRecord {
-        address: 0,
-        addressed: 0,
-        indent: 0,
-        first: 0,
-        count: 0,
-        low: 0,
-        high: 0,
-    };
-    let mut records = [blank; 256];
+    let mut records = [BLANK; 256];
     gather(lines, addresses, lows, highs, &mut records);
-    put_records(tape, area, tokens, &records, lines.len(), out, at)
+    put_records(tape, area, tokens, &records[..lines.len()], out, at)
 }
 
 // ---- the whole tape
 
 // Writes the listing's tape to the front of `out`, and says how long it is.
-pub fn write<'a>(
-    tape: &'a [u8],
-    area: &'a [u8],
-    tokens: &'a [u64],
-    lines: &'a [u64],
-    addresses: &'a [u64],
-    lows: &'a [u64],
-    highs: &'a [u64],
+pub fn write(
+    tape: &[u8],
+    area: &[u8],
+    tokens: &[u64],
+    lines: &[u64],
+    addresses: &[u64],
+    lows: &[u64],
+    highs: &[u64],
     out: &mut [u8],
 ) -> usize
     requires listed { Listed tape.now area.now tokens.now lines.now × (length lines.now ≤ 256) }

@@ -1,16 +1,14 @@
 -- What the code's values mean: what is counted so far, with what is still to come. Assumes nothing.
-use Rattle.std.specs.Prelude.{ℕ, ◌+◌, ◌≡◌, Bool, false, List, [], ◌∷◌, eqb}
-use Rattle.std.proofs.Math.Option.{none, some}
+use Rattle.std.specs.Prelude.{ℕ, ◌+◌, ◌≡◌, Bool, false, List, [], ◌∷◌, eqb, length}
+use Rattle.std.proofs.Math.Option.{Option, none, some}
 use Rattle.reference.specs.Control.{◌and◌, when◌then◌else◌}
 use Rattle.reference.specs.Tape as Tape
 use Rattle.reference.specs.Text.{Text, bytes, ◌≟◌}
 use Rattle.reference.specs.Lists.{is_empty}
-use Rattle.reference.specs.Listing.{Token, token, is, Symbol}
+use Rattle.reference.specs.Listing.{Token, is, Symbol}
 use Rattle.reference.specs.Shapes.{label_tokens}
-use Rattle.reference.specs.Claim.{sum, one_if, opens, calls_in}
+use Rattle.reference.specs.Claim.{sum, one_if, opens, calls_in, token_count, text_in, text}
 use Rattle.tape.specs.Questions as Totals
-use Rattle.tape.specs.declared.commands.Command.{Command}
-use Rattle.tape.specs.declared.commands.Command.TheVariants as Code
 use Rattle.walk.specs.Held.{tokens_of, lines_of}
 use Rattle.tallies.specs.declared.sizes.Sizes.{Sizes}
 use Rattle.tallies.specs.declared.casts.Casts.{Casts}
@@ -19,19 +17,34 @@ use Rattle.tallies.specs.declared.labels.Shape.{Shape}
 use Rattle.tallies.specs.declared.labels.Shape.TheVariants.{Empty, Name, Label, Other}
 use Rattle.tallies.specs.declared.labels.Labels.{Labels}
 
+-- ---- one command more, for a total of what is counted so far and of the commands to come
+
+module _ {S R : Type 0} (total : S → List Tape.Command → R) where
+  -- a command is counted, whatever comes behind it
+  pub record Counts (c : Tape.Command) (before after : S) : Type 0 where
+    pub adds : (more : List Tape.Command) → total after more ≡ total before (c ∷ more)
+
+  -- so is a line's, whatever address and indent it has
+  pub record CountsLine (before after : S) : Type 0 where
+    pub line : (address : Option ℕ) (indent : ℕ) → Counts (Tape.new_line address indent) before after
+
 -- ---- sizes
 
 abbrev pub sizes_of : Sizes → Totals.Sizes
 sizes_of s = record { lines = s.lines; tokens = s.tokens; text = s.text }
 
--- those so far with one command more: a token before any line is in none
-abbrev pub sized : Command → Totals.Sizes → Totals.Sizes
-sized (Code.Addressed address indent) s = record { lines = s.lines + 1; tokens = s.tokens; text = s.text }
-sized (Code.Plain indent) s = record { lines = s.lines + 1; tokens = s.tokens; text = s.text }
-sized (Code.Marked low high) s = s
-sized (Code.Token kind count) s =
-    when eqb s.lines 0 then s else record { lines = s.lines; tokens = s.tokens + 1; text = s.text + count }
-sized Code.End s = s
+-- the first tokens to come are the last line's; a token before any line is in none
+abbrev pub first_tokens : ℕ → List Tape.Command → List Token
+first_tokens lines more = when eqb lines 0 then [] else tokens_of more
+
+-- those so far, with those of the commands to come
+abbrev pub sizes_with : Sizes → List Tape.Command → Sizes
+sizes_with s more =
+    record {
+      lines = s.lines + length (lines_of more);
+      tokens = s.tokens + (length (first_tokens s.lines more) + token_count (lines_of more));
+      text = s.text + (text_in (first_tokens s.lines more) + text (lines_of more));
+    }
 
 -- ---- a number of each line's tokens, added up over the lines
 
@@ -40,18 +53,6 @@ module _ {S : Type 0} (with_tokens : S → List Token → ℕ) (of-line : List T
   -- the number with the commands to come
   abbrev pub with_commands : S → List Tape.Command → ℕ
   with_commands s more = with_tokens s (tokens_of more) + sum (λ l. of-line l.tokens) (lines_of more)
-
-  -- a command is counted, whatever comes behind it
-  pub record Takes (c : Tape.Command) (before after : S) : Type 0 where
-    pub adds : (more : List Tape.Command) → with_commands after more ≡ with_commands before (c ∷ more)
-
-  -- a token is counted, whatever comes behind it in its line
-  pub record TakesToken (t : Token) (before after : S) : Type 0 where
-    pub adds : (ts : List Token) → with_tokens after ts ≡ with_tokens before (t ∷ ts)
-
-  -- the beginning of a line is counted, whatever tokens it has
-  pub record TakesLine (before after : S) : Type 0 where
-    pub adds : (ts : List Token) → with_tokens after ts ≡ with_tokens before [] + of-line ts
 
 -- ---- calls through a cast pointer
 
@@ -82,13 +83,6 @@ is_label_with Other ts = false
 -- what it is with one token more: whatever comes behind it
 pub record Shaped (before : Shape) (t : Token) (after : Shape) : Type 0 where
   pub goes_on : (ts : List Token) → is_label_with after ts ≡ is_label_with before (t ∷ ts)
-
--- the first token, of which the kind is looked at, and the second, of which the text is
-pub record BeginsWith (kind : ℕ) (after : Shape) : Type 0 where
-  pub shaped : (s : Text) → Shaped Empty (token kind s) after
-
-pub record GoesOnWith (s : Text) (after : Shape) : Type 0 where
-  pub shaped : (kind : ℕ) → Shaped Name (token kind s) after
 
 -- 1 of a label, 0 of another line
 abbrev pub label_in : List Token → ℕ

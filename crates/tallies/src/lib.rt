@@ -7,6 +7,7 @@ mod calls; // calls of a name
 mod casts; // calls through a cast pointer
 mod labels; // label lines
 mod sizes; // lines, tokens, bytes of text
+mod tally; // the pass over the commands that they share
 
 pub use calls::count_calls;
 pub use casts::count_casts;

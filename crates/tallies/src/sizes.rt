@@ -1,86 +1,59 @@
 // Lines, tokens and bytes of text.
-ghost use Rattle.std.specs.Prelude.{◌≡◌, ◌+◌, ◌^◌, ◌<◌, eqb};
-ghost use Rattle.reference.specs.Control.{when◌then◌else◌};
-ghost use Rattle.tape.specs.Commands.{size_of};
+ghost use Rattle.std.specs.Prelude.{◌≡◌, ◌+◌, refl};
 ghost use Rattle.tape.specs.Questions.{sizes_in};
 ghost use Rattle.walk.specs.Held.{held};
-ghost use Rattle.tallies.specs.Counting.{sizes_of, sized};
+ghost use Rattle.tallies.specs.Counting.{sizes_of, sizes_with};
 
-use tape::commands::Command;
-use walk::{Next, next_at};
+use crate::tally::{Tally, count};
 
-#[derive(Clone, Copy)]
+#[derive(Clone, Copy, Debug, PartialEq, Eq)]
 pub struct Sizes {
     pub lines: usize,
     pub tokens: usize,
     pub text: usize,
 }
 
-fn with_line(s: Sizes) -> Sizes
-    requires { s.lines + 1 < 2 ^ 64 }
-    ensures { sizes_of result ≡ record { lines = s.lines + 1; tokens = s.tokens; text = s.text } }
-{
-    Sizes {
-        lines: s.lines + 1,
-        tokens: s.tokens,
-        text: s.text,
-    }
-}
+impl Tally for Sizes {
+    type Total = Sizes;
 
-// A token before any line is in none.
-fn with_token(s: Sizes, count: usize) -> Sizes
-    requires { (s.tokens + 1 < 2 ^ 64) × (s.text + count < 2 ^ 64) }
-    ensures { sizes_of result ≡ (when eqb s.lines 0 then sizes_of s else record {
-      lines = s.lines;
-      tokens = s.tokens + 1;
-      text = s.text + count;
-    }) }
-{
-    if s.lines == 0 {
-        return s;
-    }
-    Sizes {
-        lines: s.lines,
-        tokens: s.tokens + 1,
-        text: s.text + count,
-    }
-}
+    ghost total = { sizes_with };
 
-fn with_command(command: Command, s: Sizes) -> Sizes
-    requires { s.lines + s.tokens + s.text + size_of command < 2 ^ 64 }
-    ensures { sizes_of result ≡ sized command (sizes_of s) }
-{
-    match command {
-        Command::Addressed {
-            address: _,
-            indent: _,
-        } => with_line(s),
-        Command::Plain { indent: _ } => with_line(s),
-        Command::Marked { low: _, high: _ } => s,
-        Command::Token { kind: _, count } => with_token(s, count),
-        Command::End => s,
+    ghost spent = { λ s. s.lines + s.tokens + s.text };
+
+    fn line(self) -> Sizes {
+        Sizes {
+            lines: self.lines + 1,
+            ..self
+        }
     }
+
+    // A token before any line is in none.
+    fn token(self, kind: u64, text: &[u8]) -> Sizes {
+        if self.lines == 0 {
+            return self;
+        }
+        Sizes {
+            tokens: self.tokens + 1,
+            text: self.text + text.len(),
+            ..self
+        }
+    }
+
+    fn total(self) -> Sizes {
+        self
+    }
+
+    ghost skips_marks = { λ t s more. refl };
 }
 
 // How many lines, tokens and bytes of text a tape holds.
 pub fn count_sizes(tape: &[u8]) -> Sizes
     ensures { sizes_of result ≡ sizes_in (held tape.now) }
 {
-    let mut s = Sizes {
+    let start = Sizes {
         lines: 0,
         tokens: 0,
         text: 0,
     };
-    let mut at = 0;
-    loop {
-        match next_at(tape, at) {
-            Next::Over => {
-                return s;
-            }
-            Next::More { command, next } => {
-                s = with_command(command, s);
-                at = next;
-            }
-        }
-    }
+    count(start, tape)
 }

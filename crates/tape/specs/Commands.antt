@@ -1,14 +1,14 @@
 -- What the code's commands mean, and what stands at an offset of a tape: document 01's questions 3 and 4. Assumes nothing.
-use Rattle.std.specs.Prelude.{ℕ, ◌+◌, ◌≡◌, Bool, true, false, List, [], ◌∷◌, take, drop}
+use Rattle.std.specs.Prelude.{ℕ, ◌+◌, ◌≡◌, Bool, true, false, List, [], ◌∷◌, take, drop, Result}
 use Rattle.std.proofs.Math.Option.{none, some}
 use Rattle.reference.specs.Listing.{token}
 use Rattle.reference.specs.Tape as Tape
 use Rattle.reference.specs.Tape.{TapeForm, old, offsets, width}
-use Rattle.reference.specs.Questions.{is_command_by, ends_inside_by, Answer, Refused, Passed, ask}
+use Rattle.reference.specs.Questions.{is_command_by, ends_inside_by, Answer, Passed, ask}
 use Rattle.tape.specs.declared.commands.Command.{Command}
 use Rattle.tape.specs.declared.commands.Command.TheVariants.{Addressed, Plain, Marked, Token, End}
-use Rattle.tape.specs.declared.commands.Found.{Found}
-use Rattle.tape.specs.declared.commands.Found.TheVariants.{Whole, Unknown, CutOff}
+use Rattle.answers.specs.declared.Refusal.{Refusal}
+use Rattle.answers.specs.Refusals.{answered}
 
 -- the form that code is told by one bit
 abbrev pub form_of : Bool → TapeForm
@@ -52,12 +52,10 @@ ends End = true
 abbrev pub Sized : Type 0
 Sized = Tape.Command × ℕ
 
-abbrev pub found_in_by : TapeForm → List ℕ → ℕ → Found → Answer Sized
-found_in_by form tape at (Whole c) = Passed (command_in tape at c, size_of_by form c)
-found_in_by form tape at Unknown = Refused 3 at
-found_in_by form tape at CutOff = Refused 4 at
+abbrev pub found_in_by : TapeForm → List ℕ → ℕ → Result Command Refusal → Answer Sized
+found_in_by form tape at = answered (λ c. (command_in tape at c, size_of_by form c))
 
-abbrev pub found_in : List ℕ → ℕ → Found → Answer Sized
+abbrev pub found_in : List ℕ → ℕ → Result Command Refusal → Answer Sized
 found_in = found_in_by old
 
 -- the questions 3 and 4, and the command where both are answered "yes"

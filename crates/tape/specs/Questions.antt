@@ -1,19 +1,19 @@
 -- What the code's answers to the questions mean, and what an accepted tape is. Assumes nothing.
-use Rattle.std.specs.Prelude.{ℕ, ◌+◌, ◌≤◌, ◌<◌, ◌≡◌, Bool, true, false, List, [], ◌∷◌, length}
+use Rattle.std.specs.Prelude.{ℕ, ◌+◌, ◌≤◌, ◌<◌, ◌≡◌, Bool, true, false, List, [], ◌∷◌, length, Result}
 use Rattle.reference.specs.Control.{when◌then◌else◌}
 use Rattle.reference.specs.Listing.{Listing}
 use Rattle.reference.specs.Tape as Tape
 use Rattle.reference.specs.Claim.{token_count, text}
 use Rattle.reference.specs.Questions as Q
-use Rattle.reference.specs.Questions.{has_line, is_within, is_few, is_short, is_printable, is_over, Answer, Advance, read}
+use Rattle.reference.specs.Questions.{has_line, is_within, is_few, is_short, is_printable, is_over}
+use Rattle.reference.specs.Questions.{place_at, Answer, Passed, ask, Advance, read}
 use Rattle.tape.specs.Commands.{command_in}
 use Rattle.tape.specs.declared.commands.Command.{Command}
 use Rattle.tape.specs.declared.commands.Command.TheVariants.{Addressed, Plain, Marked, Token, End}
 use Rattle.tape.specs.declared.questions.Totals.{Totals}
-use Rattle.tape.specs.declared.questions.Stepped.{Stepped}
-use Rattle.tape.specs.declared.questions.Stepped.TheVariants.{Passed, Refused}
-use Rattle.tape.specs.declared.questions.Checked.{Checked}
-use Rattle.tape.specs.declared.questions.Checked.TheVariants as C
+use Rattle.tape.specs.declared.questions.Advance as Code
+use Rattle.answers.specs.declared.Refusal.{Refusal}
+use Rattle.answers.specs.Refusals.{answered}
 
 -- the number of the first question that is answered "no", or 0
 unfoldable pub first_no : List (ℕ × Bool) → ℕ
@@ -42,6 +42,14 @@ abbrev pub questions : List ℕ → Q.Totals → Tape.Command → List (ℕ × B
 questions rest t c =
     (5, has_line t c) ∷ (6, is_within c) ∷ (10, is_few t c) ∷ (11, is_short t c) ∷ (7, is_printable c) ∷ (8, is_over rest c) ∷ []
 
+-- the first of them that is answered "no", and its place
+abbrev pub asking : List ℕ → ℕ → Q.Totals → Tape.Command → Answer (Unit {0})
+asking rest at t c = ask (place_at at c) (questions rest t c) (Passed tt)
+
+-- a refusal, or none
+abbrev pub said : Result (Unit {0}) Refusal → Answer (Unit {0})
+said = answered (λ u. u)
+
 -- the totals with one command more, as numbers
 abbrev pub counted : Command → Q.Totals → Q.Totals
 counted (Addressed address indent) t = record { lines = t.lines + 1; tokens = t.tokens; text = t.text; fresh = true }
@@ -61,14 +69,14 @@ Counts End t = Unit {0}
 -- a tape that no question refuses
 pub record AcceptedTape (tape : List ℕ) : Type 0 where
   pub listing : Listing
-  pub reads : read tape ≡ Q.Passed listing
+  pub reads : read tape ≡ Passed listing
 
 -- the answer at an offset of a tape
-abbrev pub stepped : List ℕ → ℕ → Stepped → Answer Advance
-stepped tape at (Passed command next totals) =
-    Q.Passed (record { command = command_in tape at command; next = next; totals = totals_of totals })
-stepped tape at (Refused number place) = Q.Refused number place
+abbrev pub advance_of : List ℕ → ℕ → Code.Advance → Advance
+advance_of tape at a = record { command = command_in tape at a.command; next = a.next; totals = totals_of a.totals }
 
-abbrev pub checked : Checked → Answer Sizes
-checked (C.Passed totals) = Q.Passed (sizes_of totals)
-checked (C.Refused number place) = Q.Refused number place
+abbrev pub stepped : List ℕ → ℕ → Result Code.Advance Refusal → Answer Advance
+stepped tape at = answered (advance_of tape at)
+
+abbrev pub checked : Result Totals Refusal → Answer Sizes
+checked = answered sizes_of

@@ -3,23 +3,14 @@ ghost use Rattle.std.specs.Prelude.{◌≡◌, ◌+◌, ◌≤◌, length, take,
 ghost use Rattle.reference.specs.Tape.{to_le_bytes, from_le_bytes};
 ghost use Rattle.tape.specs.Bytes.{put};
 
-// A byte as a number.
-pub fn wide(b: u8) -> u64
-    ensures { result ≡ b }
-{
-    b as u64
-}
-
 // The number in the n bytes from `at` on.
 pub fn number_at(tape: &[u8], at: usize, n: usize) -> u64
     requires { (n ≤ 8) × (at + n ≤ length tape.now) }
     ensures { result ≡ from_le_bytes (take n (drop at tape.now)) }
 {
     let mut v: u64 = 0;
-    let mut i = n;
-    while 0 < i {
-        i -= 1;
-        v = v * 256 + wide(tape[at + i]);
+    for i in (at..at + n).rev() {
+        v = v * 256 + u64::from(tape[i]);
     }
     v
 }
@@ -30,10 +21,8 @@ pub fn put_number(v: u64, n: usize, out: &mut [u8], at: usize)
     ensures { out.new ≡ put out.old at (to_le_bytes n v) }
 {
     let mut rest = v;
-    let mut i = 0;
-    while i < n {
-        out[at + i] = (rest % 256) as u8;
-        rest = rest / 256;
-        i += 1;
+    for b in &mut out[at..at + n] {
+        *b = (rest % 256) as u8;
+        rest /= 256;
     }
 }

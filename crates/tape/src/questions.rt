@@ -1,24 +1,26 @@
 // Document 01's questions, asked of each command from the left. Nothing is written.
-ghost use Rattle.std.specs.Prelude.{◌≡◌, [], ◌∷◌, ◌+◌, ◌≤◌, leb, length, drop};
-ghost use Rattle.reference.specs.Control.{let_some◌else◌then◌};
+ghost use Rattle.std.specs.Prelude.{◌≡◌, [], ◌∷◌, ◌+◌, ◌^◌, ◌≤◌, ◌<◌, leb, length, drop, IfSome};
+ghost use Rattle.std.proofs.Math.Option.{none};
 ghost use Rattle.reference.specs.Lists.{position};
 ghost use Rattle.reference.specs.Listing.{token};
+ghost use Rattle.reference.specs.Options.{option_of};
 ghost use Rattle.reference.specs.Tape.{new_line, marked, new_token};
-ghost use Rattle.std.proofs.Math.Option.{none};
-ghost use Rattle.reference.specs.Questions.{is_convention, is_edition, has_room, has_line, is_within, is_printable, is_offending, place_at};
-ghost use Rattle.reference.specs.Questions.{read_command_by, read_command, let_passed◌then◌, Passed, read_by, read};
-ghost use Rattle.reference.specs.Steps.{FromHereBy, FromHere};
+ghost use Rattle.reference.specs.Questions.{is_convention, is_edition, has_room, has_line, is_within, is_offending};
+ghost use Rattle.reference.specs.Questions.{read_command_by, let_passed◌then◌, Passed, read_by};
+ghost use Rattle.reference.specs.Steps.{FromHereBy};
+ghost use Rattle.answers.specs.Refusals.{refusing};
 ghost use Rattle.lines.specs.Rules.{rules_of};
-ghost use Rattle.tape.specs.Commands.{form_of, looked_at, command_in, ends};
-ghost use Rattle.tape.specs.Questions.{first_no, questions, totals_of, sizes_in, Counts, counted, stepped, checked};
+ghost use Rattle.tape.specs.Commands.{form_of, looked_at, command_in};
+ghost use Rattle.tape.specs.Questions.{first_no, said, asking, totals_of, sizes_in, Counts, counted, stepped, checked};
 
-use crate::commands::{Command, Found, header_of, size_by, size_of};
-use crate::reader::{command_by, command_from, token_text};
+use crate::commands::{Command, header_of, size_of};
+use crate::reader::{command_at, token_text};
+use answers::{Reason, Refusal};
 use lines::rules::Rules;
 use lines::words::NUMBER;
 
 // What was read so far, and whether the command just before is a line's.
-#[derive(Clone, Copy)]
+#[derive(Clone, Copy, Debug, PartialEq, Eq)]
 pub struct Totals {
     pub lines: usize,
     pub tokens: usize,
@@ -26,185 +28,113 @@ pub struct Totals {
     pub fresh: bool,
 }
 
-// A command that passed the questions, the offset after it and the totals with it; or the number and place of the question that refuses it.
-#[derive(Clone, Copy)]
-pub enum Stepped {
-    Passed {
-        command: Command,
-        next: usize,
-        totals: Totals,
-    },
-    Refused {
-        number: u64,
-        place: usize,
-    },
-}
-
-// The totals of an accepted tape, or the number and place of the question that refuses it.
-#[derive(Clone, Copy)]
-pub enum Checked {
-    Passed(Totals),
-    Refused { number: u64, place: usize },
+// A command that passed the questions, the offset after it and the totals with it.
+#[derive(Clone, Copy, Debug, PartialEq, Eq)]
+pub struct Advance {
+    pub command: Command,
+    pub next: usize,
+    pub totals: Totals,
 }
 
 // ---- one command
 
-fn line_refusal(indent: u64, totals: Totals) -> u64
-    ensures { result ≡ first_no (questions [] (totals_of totals) (new_line none indent)) }
+// The question after 4 that refuses a line at an offset.
+fn ask_line(indent: u64, at: usize, totals: Totals) -> Result<(), Refusal>
+    ensures { said result ≡ asking [] at (totals_of totals) (new_line none indent) }
 {
     if 63 < indent {
-        return 6;
+        return Err(Reason::OutOfBounds.at(at));
     }
     if 256 <= totals.lines {
-        return 10; // 257 lines
+        return Err(Reason::TooMany.at(at)); // 257 lines
     }
-    0
+    Ok(())
 }
 
 // Whether marks may stand here: directly after a line's command, the lowest not above the highest.
 fn marks_follow(low: u64, high: u64, totals: Totals) -> bool
     ensures { result ≡ has_line (totals_of totals) (marked (record { lowest = low; highest = high })) }
 {
-    if !totals.fresh {
-        return false;
-    }
-    low <= high
+    totals.fresh && low <= high
 }
 
+// Whether a text is as long as one of its kind may be.
 fn token_fits(kind: u64, text: &[u8]) -> bool
     ensures { result ≡ is_within (new_token (token kind text.now)) }
 {
-    let n = text.len();
-    if n == 0 {
-        return false;
-    }
-    if kind != NUMBER {
-        return true;
-    }
-    n <= 24
+    !text.is_empty() && (kind != NUMBER || text.len() <= 24)
 }
 
 // Whether a byte of a text is not 20 to 7E.
 fn offends(byte: u8) -> bool
     ensures { result ≡ is_offending byte }
 {
-    if byte < 32 {
-        return true;
-    }
-    126 < byte
+    !matches!(byte, 0x20..=0x7E)
 }
 
-fn printable(kind: u64, text: &[u8]) -> bool
-    ensures { result ≡ is_printable (new_token (token kind text.now)) }
+// Where the first byte of a text that is not 20 to 7E stands.
+fn first_offending(text: &[u8]) -> Option<usize>
+    ensures place { option_of result ≡ position is_offending text.now }
+    ensures inside { IfSome result (λ i. i < length text.now) }
 {
-    let mut i = 0;
-    while i < text.len() {
-        let b = text[i];
-        if offends(b) {
-            return false;
-        }
-        i += 1;
-    }
-    true
-}
-
-// Where the first byte of a text that is not 20 to 7E stands, or 0.
-fn first_offending(text: &[u8]) -> usize
-    ensures { (result ≡ (let_some (position is_offending text.now) else 0 then λ i. i)) × (result ≤ length text.now) }
-{
-    let mut i = 0;
-    while i < text.len() {
-        let b = text[i];
-        if offends(b) {
-            return i;
-        }
-        i += 1;
-    }
-    0
+    text.iter().position(|b| offends(*b))
 }
 
 // Whether all text stays within its limit with a text more.
 fn text_fits(sum: usize, count: usize) -> bool
     ensures { result ≡ leb (sum + count) 24576 }
 {
-    if 24576 < sum {
-        return false;
-    }
-    count <= 24576 - sum
+    sum <= 24576 && count <= 24576 - sum
 }
 
-// The number of the question after 4 that refuses a token, or 0: each test is made, then asked in order.
-fn token_refusal(kind: u64, text: &[u8], totals: Totals) -> u64
-    ensures { result ≡ first_no (questions [] (totals_of totals) (new_token (token kind text.now))) }
+// The question after 4 that refuses a token at an offset.
+fn ask_token(kind: u64, text: &[u8], at: usize, totals: Totals) -> Result<(), Refusal>
+    requires { at + 3 + length text.now < 2 ^ 64 }
+    ensures { said result ≡ asking [] at (totals_of totals) (new_token (token kind text.now)) }
 {
-    let within = token_fits(kind, text);
-    let few = totals.tokens < 1024;
-    let short = text_fits(totals.text, text.len());
-    let legible = printable(kind, text);
     if totals.lines == 0 {
-        return 5;
+        return Err(Reason::OutOfPlace.at(at));
     }
-    if !within {
-        return 6;
+    if !token_fits(kind, text) {
+        return Err(Reason::OutOfBounds.at(at));
     }
-    if !few {
-        return 10; // before 11
+    if 1024 <= totals.tokens {
+        return Err(Reason::TooMany.at(at)); // before 11
     }
-    if !short {
-        return 11; // before 7
+    if !text_fits(totals.text, text.len()) {
+        return Err(Reason::TooMuchText.at(at)); // before 7
     }
-    if !legible {
-        return 7;
+    match first_offending(text) {
+        Some(i) => Err(Reason::Unprintable.at(at + 3 + i)), // the byte's place
+        None => Ok(()),
     }
-    0
 }
 
-// The number of the question after 4 that refuses a command, or 0.
-fn refusal(tape: &[u8], at: usize, command: Command, totals: Totals) -> u64
+// The question after 4 that refuses a command at an offset.
+fn ask(tape: &[u8], at: usize, command: Command, totals: Totals) -> Result<(), Refusal>
     requires { at + looked_at command ≤ length tape.now }
-    ensures { result ≡ first_no (questions (drop at tape.now) (totals_of totals) (command_in tape.now at command)) }
+    ensures { said result ≡ asking (drop at tape.now) at (totals_of totals) (command_in tape.now at command) }
 {
     match command {
-        Command::Addressed { address: _, indent } => line_refusal(indent, totals),
-        Command::Plain { indent } => line_refusal(indent, totals),
+        Command::Addressed { indent, .. } | Command::Plain { indent } => ask_line(
+            indent, at, totals,
+        ),
         Command::Marked { low, high } => {
             if marks_follow(low, high, totals) {
-                0
+                Ok(())
             } else {
-                5
+                Err(Reason::OutOfPlace.at(at))
             }
         }
-        Command::Token { kind, count } => token_refusal(kind, token_text(tape, at, count), totals),
-        Command::End => { if tape.len() - at == 1 { 0 } else { 8 } }
+        Command::Token { kind, count } => ask_token(kind, token_text(tape, at, count), at, totals),
+        Command::End => {
+            if tape.len() - at == 1 {
+                Ok(())
+            } else {
+                Err(Reason::BytesAfterEnd.at(at))
+            }
+        }
     }
-}
-
-// The place of a number that refuses a command: the command's; of 7 the offset of the first offending byte.
-fn place_of(tape: &[u8], at: usize, command: Command, number: u64) -> usize
-    requires { at + looked_at command ≤ length tape.now }
-    ensures { result ≡ place_at at (command_in tape.now at command) number }
-{
-    if number != 7 {
-        return at;
-    }
-    match command {
-        Command::Addressed {
-            address: _,
-            indent: _,
-        } => at,
-        Command::Plain { indent: _ } => at,
-        Command::Marked { low: _, high: _ } => at,
-        Command::Token { kind: _, count } => at + 3 + first_offending(token_text(tape, at, count)),
-        Command::End => at,
-    }
-}
-
-// The text sum so far with one text more.
-fn text_sum(sum: usize, count: usize) -> usize
-    requires { sum + count ≤ 24576 }
-    ensures { result ≡ sum + count }
-{
-    sum + count
 }
 
 // The totals with one command more.
@@ -213,200 +143,81 @@ pub fn count_in(command: Command, totals: Totals) -> Totals
     ensures { totals_of result ≡ counted command (totals_of totals) }
 {
     match command {
-        Command::Addressed {
-            address: _,
-            indent: _,
-        } => Totals {
+        Command::Addressed { .. } | Command::Plain { .. } => Totals {
             lines: totals.lines + 1,
-            tokens: totals.tokens,
-            text: totals.text,
             fresh: true,
+            ..totals
         },
-        Command::Plain { indent: _ } => Totals {
-            lines: totals.lines + 1,
-            tokens: totals.tokens,
-            text: totals.text,
-            fresh: true,
-        },
-        Command::Marked { low: _, high: _ } => Totals {
-            lines: totals.lines,
-            tokens: totals.tokens,
-            text: totals.text,
+        Command::Marked { .. } => Totals {
             fresh: false, // 03 once
+            ..totals
         },
-        Command::Token { kind: _, count } => Totals {
-            lines: totals.lines,
+        Command::Token { count, .. } => Totals {
             tokens: totals.tokens + 1,
-            text: text_sum(totals.text, count),
+            text: totals.text + count,
             fresh: false, // and not behind a token
+            ..totals
         },
         Command::End => totals,
     }
 }
 
-// Reads the command at an offset, the totals so far being given: any, also such as no tape reaches. The answer depends only on them and on
-// the tape from the offset on (`FromHere`, request M-102).
-pub fn step(tape: &[u8], at: usize, totals: Totals) -> Stepped
-    ensures result_value { stepped tape.now at result ≡ read_command tape.now at (totals_of totals) }
-    ensures from_here { FromHere tape.now at (totals_of totals) (stepped tape.now at result) }
+// Reads the command at an offset of a tape of either form, the totals so far being given: any, also such as no tape reaches. The answer
+// depends only on them and on the tape from the offset on (`FromHereBy`, request M-102).
+pub fn step<const BASED: bool>(tape: &[u8], at: usize, totals: Totals) -> Result<Advance, Refusal>
+    ensures result_value { stepped tape.now at result ≡ read_command_by (form_of BASED) tape.now at (totals_of totals) }
+    ensures from_here { FromHereBy (form_of BASED) tape.now at (totals_of totals) (stepped tape.now at result) }
 {
-    match command_from(tape, at) {
-        Found::Unknown => Stepped::Refused {
-            number: 3,
-            place: at,
-        },
-        Found::CutOff => Stepped::Refused {
-            number: 4, // before 5
-            place: at,
-        },
-        Found::Whole(command) => {
-            let number = refusal(tape, at, command, totals);
-            if number != 0 {
-                let place = place_of(tape, at, command, number);
-                return Stepped::Refused { number, place };
-            }
-            Stepped::Passed {
-                command,
-                next: at + size_of(command),
-                totals: count_in(command, totals),
-            }
-        }
-    }
-}
-
-// Reads the command at an offset of a tape of either form. (The cleaning's step has a body of its own: shared with the conversions it was
-// not inlined there.)
-pub fn step_by(tape: &[u8], at: usize, totals: Totals, based: bool) -> Stepped
-    ensures result_value { stepped tape.now at result ≡ read_command_by (form_of based) tape.now at (totals_of totals) }
-    ensures from_here_by { FromHereBy (form_of based) tape.now at (totals_of totals) (stepped tape.now at result) }
-{
-    match command_by(tape, at, based) {
-        Found::Unknown => Stepped::Refused {
-            number: 3,
-            place: at,
-        },
-        Found::CutOff => Stepped::Refused {
-            number: 4,
-            place: at,
-        },
-        Found::Whole(command) => {
-            let number = refusal(tape, at, command, totals);
-            if number != 0 {
-                let offset = place_of(tape, at, command, number);
-                return Stepped::Refused {
-                    number,
-                    place: offset,
-                };
-            }
-            Stepped::Passed {
-                command,
-                next: at + size_by(command, based),
-                totals: count_in(command, totals),
-            }
-        }
-    }
+    let command = command_at::<BASED>(tape, at)?; // 3 and 4 before 5
+    ask(tape, at, command, totals)?;
+    Ok(Advance {
+        command,
+        next: at + size_of::<BASED>(command),
+        totals: count_in(command, totals),
+    })
 }
 
 // ---- the whole tape
 
-pub fn is_end(command: Command) -> bool
-    ensures { result ≡ ends command }
-{
-    match command {
-        Command::Addressed {
-            address: _,
-            indent: _,
-        } => false,
-        Command::Plain { indent: _ } => false,
-        Command::Marked { low: _, high: _ } => false,
-        Command::Token { kind: _, count: _ } => false,
-        Command::End => true,
-    }
-}
+// Nothing is read yet.
+pub const NONE: Totals = Totals {
+    lines: 0,
+    tokens: 0,
+    text: 0,
+    fresh: false,
+};
 
-// Asks the questions of every command.
-pub fn check(tape: &[u8]) -> Checked
-    ensures { checked result ≡ (let_passed (read tape.now) then λ lines. Passed (sizes_in lines)) }
+// Asks the questions of every command of a tape of either form.
+pub fn check<const BASED: bool>(tape: &[u8]) -> Result<Totals, Refusal>
+    ensures { checked result ≡ (let_passed (read_by (form_of BASED) tape.now) then λ lines. Passed (sizes_in lines)) }
 {
-    let mut at = 0;
-    let mut totals = Totals {
-        lines: 0,
-        tokens: 0,
-        text: 0,
-        fresh: false,
-    };
+    let mut at = header_of::<BASED>();
+    let mut totals = NONE;
     loop {
-        match step(tape, at, totals) {
-            Stepped::Refused { number, place } => {
-                return Checked::Refused { number, place };
-            }
-            Stepped::Passed {
-                command,
-                next,
-                totals: more,
-            } => {
-                if is_end(command) {
-                    return Checked::Passed(totals);
-                }
-                at = next;
-                totals = more;
-            }
+        let step = step::<BASED>(tape, at, totals)?;
+        if step.command.is_end() {
+            return Ok(totals);
         }
-    }
-}
-
-// Asks the questions of a tape of either form, from its first command on.
-pub fn check_by(tape: &[u8], based: bool) -> Checked
-    ensures { checked result ≡ (let_passed (read_by (form_of based) tape.now) then λ lines. Passed (sizes_in lines)) }
-{
-    let mut at = header_of(based);
-    let mut totals = Totals {
-        lines: 0,
-        tokens: 0,
-        text: 0,
-        fresh: false,
-    };
-    loop {
-        match step_by(tape, at, totals, based) {
-            Stepped::Refused { number, place } => {
-                return Checked::Refused { number, place };
-            }
-            Stepped::Passed {
-                command,
-                next,
-                totals: more,
-            } => {
-                if is_end(command) {
-                    return Checked::Passed(totals);
-                }
-                at = next;
-                totals = more;
-            }
-        }
+        at = step.next;
+        totals = step.totals;
     }
 }
 
 // ---- before the tape
 
-// The number of the question that refuses the settings (1, 9) or the lengths of what is lent (2), or 0.
-pub fn asked(rules: Rules, work_a: usize, work_b: usize, output: usize) -> u64
-    ensures { result ≡ first_no ((1, is_convention (rules_of rules)) ∷ (9, is_edition (rules_of rules))
+// The question that refuses the settings, or the lengths of what is lent.
+pub fn asked(rules: Rules, work_a: usize, work_b: usize, output: usize) -> Result<(), Reason>
+    ensures { refusing result ≡ first_no ((1, is_convention (rules_of rules)) ∷ (9, is_edition (rules_of rules))
         ∷ (2, has_room work_a work_b output) ∷ []) }
 {
     if 2 < rules.convention {
-        return 1;
+        return Err(Reason::UnknownConvention);
     }
     if 1 < rules.edition {
-        return 9;
+        return Err(Reason::UnknownEdition);
     }
-    if work_a < 49152 {
-        return 2;
+    if work_a < 49152 || work_b < 49152 || output < 59137 {
+        return Err(Reason::TooLittleRoom);
     }
-    if work_b < 49152 {
-        return 2;
-    }
-    if output < 59137 {
-        return 2;
-    }
-    0
+    Ok(())
 }

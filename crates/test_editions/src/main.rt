@@ -8,12 +8,11 @@
 #![tactic(auto)]
 
 ghost use Rattle.std.specs.Prelude.{◌+◌, ◌≤◌, length};
+ghost use Rattle.std.specs.Option.{IfSome};
 
 use answers::{Told, tell};
 use editions::{to_2018, to_2024};
-use tape::commands::text_of;
 use tape::little_endian::number_at;
-use text::same;
 
 // The numbers of standard input and output.
 const STDIN: i32 = 0;
@@ -32,7 +31,7 @@ const BEFORE: u8 = 170;
 const HEADER: usize = 28;
 
 // The numbers of a frame but for its length.
-#[derive(Clone, Copy)]
+#[derive(Clone, Copy, Debug, PartialEq, Eq)]
 struct Frame {
     up: bool,
     output: usize,
@@ -42,7 +41,7 @@ struct Frame {
     value: u64,
 }
 
-#[derive(Clone, Copy)]
+#[derive(Clone, Copy, Debug, PartialEq, Eq)]
 struct Counts {
     calls: u64,
     differ: u64,
@@ -50,18 +49,18 @@ struct Counts {
 
 // ---- the list
 
-// How many bytes the frame at the list's front has; 0 where there is no whole one.
-fn size(list: &[u8]) -> usize
-    ensures { result ≤ length list.now }
+// How many bytes the frame at the list's front has, where there is a whole one.
+fn size(list: &[u8]) -> Option<usize>
+    ensures { IfSome result (λ n. (28 ≤ n) × (n ≤ length list.now)) }
 {
     if list.len() < HEADER {
-        return 0;
+        return None;
     }
     let n = number_at(list, 0, 4) as usize;
-    if list.len() < n {
-        return 0;
+    if n < HEADER || list.len() < n {
+        return None;
     }
-    n
+    Some(n)
 }
 
 fn numbers_of(list: &[u8]) -> Frame
@@ -80,34 +79,23 @@ fn numbers_of(list: &[u8]) -> Frame
 // ---- a call
 
 fn call(up: bool, tape: &[u8], out: &mut [u8]) -> Told {
-    if up {
-        return tell(to_2024(tape, out));
-    }
-    tell(to_2018(tape, out))
+    tell(if up {
+        to_2024(tape, out)
+    } else {
+        to_2018(tape, out)
+    })
 }
 
 fn is_told(r: Told, f: Frame) -> bool {
-    r.refusal == f.refusal && (r.place == f.place && r.value == f.value)
-}
-
-fn is_untouched(s: &[u8]) -> bool {
-    let mut i = 0;
-    while i < s.len() {
-        if s[i] != BEFORE {
-            return false;
-        }
-        i += 1;
-    }
-    true
+    r.refusal == f.refusal && r.place == f.place && r.value == f.value
 }
 
 // Whether the output is the new tape, and past that as before.
 fn is_output(out: &[u8], new: &[u8]) -> bool {
-    let n = new.len();
-    if out.len() < n {
-        return false;
+    match out.strip_prefix(new) {
+        Some(behind) => behind.iter().all(|&byte| byte == BEFORE),
+        None => false,
     }
-    same(text_of(out, 0, n), new) && is_untouched(&out[n..])
 }
 
 // Makes a call, and says whether it did what is wanted.
@@ -121,46 +109,37 @@ fn does(f: Frame, tape: &[u8], new: &[u8], out: &mut [u8]) -> bool {
 }
 
 // Whether the call of a frame does what the frame wants.
-fn agrees(list: &[u8], f: Frame) -> bool
-    requires { 28 ≤ length list.now }
+fn agrees(frame: &[u8], f: Frame) -> bool
+    requires { 28 ≤ length frame.now }
 {
-    let left = list.len() - HEADER;
-    if left < f.tape {
+    let Some((tape, rest)) = frame[HEADER..].split_at_checked(f.tape) else {
         return false;
-    }
-    let n = f.value as usize;
-    if left - f.tape < n {
+    };
+    let Some((new, _)) = rest.split_at_checked(f.value as usize) else {
         return false;
-    }
-    let tape = text_of(list, HEADER, f.tape);
-    let new = text_of(list, HEADER + f.tape, n);
-    let mut out = [BEFORE; ROOM];
-    does(f, tape, new, &mut out)
+    };
+    does(f, tape, new, &mut [BEFORE; ROOM])
 }
 
 // ---- all calls
 
-// The counts with the frame at the list's front, if it goes this way.
-fn counted(list: &[u8], up: bool, counts: Counts) -> Counts
-    requires { (counts.calls ≤ 150000) × (counts.differ ≤ counts.calls) }
+// The counts with a frame, if it goes this way.
+fn counted(frame: &[u8], up: bool, counts: Counts) -> Counts
+    requires { (28 ≤ length frame.now) × (counts.calls ≤ 150000) × (counts.differ ≤ counts.calls) }
     ensures { (result.differ ≤ result.calls) × (result.calls ≤ counts.calls + 1) }
 {
-    if list.len() < HEADER {
-        return counts;
-    }
-    let f = numbers_of(list);
+    let f = numbers_of(frame);
     if f.up != up {
         return counts;
     }
-    if agrees(list, f) {
-        return Counts {
-            calls: counts.calls + 1,
-            differ: counts.differ,
-        };
-    }
-    Counts {
-        calls: counts.calls + 1,
-        differ: counts.differ + 1,
+    let calls = counts.calls + 1;
+    if agrees(frame, f) {
+        Counts { calls, ..counts }
+    } else {
+        Counts {
+            calls,
+            differ: counts.differ + 1,
+        }
     }
 }
 
@@ -168,19 +147,16 @@ fn counted(list: &[u8], up: bool, counts: Counts) -> Counts
 fn replayed(list: &[u8], up: bool) -> Counts
     requires { length list.now ≤ 150000 }
 {
-    let mut at = 0;
+    let mut left = list;
     let mut counts = Counts {
         calls: 0,
         differ: 0,
     };
-    loop {
-        let n = size(&list[at..]);
-        if n == 0 {
-            return counts;
-        }
-        counts = counted(&list[at..], up, counts);
-        at += n;
+    while let Some(n) = size(left) {
+        counts = counted(&left[..n], up, counts);
+        left = &left[n..];
     }
+    counts
 }
 
 fn print(s: &[u8]) {

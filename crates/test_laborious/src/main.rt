@@ -5,8 +5,8 @@
 
 ghost use Rattle.std.specs.Prelude.{◌≤◌, ◌<◌, length};
 
-use answers::Answer;
-use clean::{Reply, tell};
+use answers::{Answer, Refusal};
+use clean::Told;
 use laborious::laborious;
 use lines::rules::Rules;
 
@@ -29,34 +29,23 @@ fn added(h: u64, byte: u8) -> u64
     requires { h < 4294967296 }
     ensures { result < 4294967296 }
 {
-    (h * 65599 + byte as u64) % 4294967291
+    (h * 65599 + u64::from(byte)) % 4294967291
 }
 
 fn sum(bytes: &[u8]) -> u64 {
-    let mut h: u64 = 1;
-    let mut i = 0;
-    while i < bytes.len() {
-        h = added(h, bytes[i]);
-        i += 1;
+    let mut h = 1;
+    for &byte in bytes {
+        h = added(h, byte);
     }
     h
 }
 
 // ---- the first round
 
-fn print_attempts(r: Reply) {
-    match r {
-        Reply::Refused { number, place } => {
-            print(b" refused");
-            print_number(number);
-            print_number(place as u64);
-        }
-        Reply::Finished(f) => {
-            let tally = f.tally;
-            let t = tell(tally);
-            print_number(t.first);
-        }
-    }
+fn print_refusal(refusal: Refusal) {
+    print(b"refused");
+    print_number(refusal.reason.number());
+    print_number(refusal.place as u64);
 }
 
 fn attempts(convention: u8, tape: &[u8]) {
@@ -70,41 +59,37 @@ fn attempts(convention: u8, tape: &[u8]) {
         parts: false,
         profile: false,
     };
-    print_attempts(clean::clean(rules, tape, &mut work_a, &mut work_b, &mut out));
+    match clean::clean(rules, tape, &mut work_a, &mut work_b, &mut out) {
+        Err(refusal) => {
+            print(b" ");
+            print_refusal(refusal);
+        }
+        Ok(f) => print_number(Told::from(f.tally).first),
+    }
 }
 
 fn rounds(tape: &[u8]) {
     print(b", attempts");
-    attempts(0, tape);
-    attempts(1, tape);
-    attempts(2, tape);
+    for convention in 0..3 {
+        attempts(convention, tape);
+    }
 }
 
 // ---- the call
 
-fn front(out: &[u8], n: usize) -> &[u8]
-    requires { n ≤ length out.now }
-{
-    &out[0..n]
-}
-
 fn print_answer(answer: Answer, out: &[u8]) {
     match answer {
-        Answer::Refused { number, place } => {
-            print(b"refused");
-            print_number(number);
-            print_number(place as u64);
-            print(b", bytes");
-            print_number(sum(out));
-        }
-        Answer::Passed(n) => {
+        Err(refusal) => print_refusal(refusal),
+        Ok(n) => {
             print(b"length");
             print_number(n);
-            print(b", bytes");
-            print_number(sum(out));
-            if n <= out.len() as u64 {
-                rounds(front(out, n as usize));
-            }
+        }
+    }
+    print(b", bytes");
+    print_number(sum(out));
+    if let Ok(n) = answer {
+        if n <= out.len() as u64 {
+            rounds(&out[..n as usize]);
         }
     }
 }
@@ -128,10 +113,8 @@ fn listing(n: u64, k: usize)
 }
 
 fn listings() {
-    let mut n = 0;
-    while n < 300 {
+    for n in 0..300 {
         listing(n, 59137);
-        n += 1;
     }
 }
 

@@ -15,16 +15,14 @@ use Rattle.reference.specs.Listing.{token, is, Number}
 use Rattle.reference.specs.Names.{family, volatile_of}
 use Rattle.reference.specs.Numbers.{parse_c_number, read_number, wrap, show, delim_before, delim_after, folded}
 use Rattle.reference.proofs.Cases.{same_number}
-use Rattle.laws.proofs.Scans.{or_true, or_false, if-true, if-false}
+use Rattle.laws.proofs.Scans.{if-true, if-false}
 use Rattle.names.specs.Families.{row_name, Spells}
 use Rattle.names.specs.Volatile.{name_numbered, number_of}
 use Rattle.names.specs.declared.families.Spelled.{Spelled}
 use Rattle.names.specs.declared.families.Spelled.TheVariants.{Row, Front, Nothing}
 use Rattle.names.proofs.Searches.{all-below, below_at}
 use Rattle.names.proofs.Volatiles.{row_overwritten, text_overwritten}
-use Rattle.numbers.specs.declared.parse.Number as N
-use Rattle.numbers.specs.declared.parse.Number.TheVariants.{Read, Unread}
-use Rattle.numbers.specs.Reading.{meaning}
+use Rattle.std.specs.Prelude as std
 use Rattle.numbers.specs.Writing.{Written}
 use Rattle.numbers.proofs.Writing.{written_then}
 use Rattle.printing.specs.Decimals.{decimal}
@@ -32,6 +30,8 @@ use Rattle.test_leaves.specs.Fields.{before, behind, behind_words, lines}
 use Rattle.test_leaves.specs.Answers.{register, family_answer, value, combined, fold_answer, convention, overwrites, yes_no, answer_to, answer, expected, differing}
 use Rattle.test_leaves.proofs.Separators.{before-length, behind-length, next_line}
 use Rattle.printing.proofs.Decimals.{decimal-length}
+use Rattle.std.specs.Prelude.{Some, None}
+use Rattle.reference.specs.Options.{option_of}
 
 -- ---- names
 
@@ -123,12 +123,12 @@ module _ (a b : Text) where
   unfolding combined fold_answer folded read_number delim_before delim_after is ◌and◌ ◌or◌ when◌then◌else◌
   difference_folds = folds (λ x y. x -ℤ y) (parse_c_number a) (parse_c_number b)
 
-module _ {n : N.Number} where
-  pub value_read : {v v' : ℤ} → n ≡ Read v → v' ≡ v → show v' ≡ value (meaning n)
+module _ {n : std.Option ℤ} where
+  pub value_read : {v v' : ℤ} → n ≡ Some v → v' ≡ v → show v' ≡ value (option_of n)
   unfolding value let_some◌else◌then◌
   value_read e f = rw (e, f)
 
-  pub value_unread : n ≡ Unread → bytes "unread" ≡ value (meaning n)
+  pub value_unread : n ≡ None → bytes "unread" ≡ value (option_of n)
   unfolding value let_some◌else◌then◌
   value_unread e = rw e
 
@@ -198,23 +198,15 @@ module _ (line : Text) {q w v : Text} (e : q ≡ before line 32) (f : w ≡ behi
   second : v ≡ behind_words 2 line
   second = g ∙ ap (λ (t : Text). behind t 32) f
 
-  pub expects_family : (q ≟ bytes "family") ≡ true → v ≡ expected line
-  unfolding expected
-  expects_family h = second ∙ sym (if-true _ _ (or_true _ (rw e at h)))
-
-  module _ (n : (q ≟ bytes "family") ≡ false) where
-    pub expects_number : (q ≟ bytes "number") ≡ true → v ≡ expected line
+  -- where a call answered whether the question has one operand
+  module _ {b : Bool} (o : b ≡ ((q ≟ bytes "family") or (q ≟ bytes "number") or (q ≟ bytes "constant"))) where
+    pub expects-second : b ≡ true → v ≡ expected line
     unfolding expected
-    expects_number h = second ∙ sym (if-true _ _ (or_false _ (rw e at n) ∙ or_true _ (rw e at h)))
+    expects-second h = second ∙ sym (if-true _ _ (rw e at (sym o ∙ h)))
 
-    module _ (m : (q ≟ bytes "number") ≡ false) where
-      pub expects_constant : (q ≟ bytes "constant") ≡ true → v ≡ expected line
-      unfolding expected
-      expects_constant h = second ∙ sym (if-true _ _ (or_false _ (rw e at n) ∙ or_false _ (rw e at m) ∙ (rw e at h)))
-
-      pub expects_other : (q ≟ bytes "constant") ≡ false → {u : Text} → u ≡ behind v 32 → u ≡ expected line
-      unfolding expected
-      expects_other h k = k ∙ ap (λ (t : Text). behind t 32) second ∙ sym (if-false _ _ (or_false _ (rw e at n) ∙ or_false _ (rw e at m) ∙ (rw e at h)))
+    pub expects-third : b ≡ false → {u : Text} → u ≡ behind v 32 → u ≡ expected line
+    unfolding expected
+    expects-third h k = k ∙ ap (λ (t : Text). behind t 32) second ∙ sym (if-false _ _ (rw e at (sym o ∙ h)))
 
 -- ---- a line's question: q, a and b are its first three words, w and v what stands behind the first and the second
 

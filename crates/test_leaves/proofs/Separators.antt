@@ -1,13 +1,16 @@
--- What stands before a separator and behind it: by index, as parts, and how long; a text's first line. Assumes nothing.
+-- What stands before a separator and behind it: its place, as parts, and how long; a text's first line. Assumes nothing.
 use Prim.Native.Nat.{ℕ, suc, ◌+◌, ◌-◌, ◌≤◌, ◌<◌}
 use native.Mathlib.Omega.{arith}
 use native.Mathlib.Decide.{ℕ_discrete}
 use native.Mathlib.Numerals.{add-one}
+use mathlib.Core.Bool.{Bool, true, false, cond, not as flip}
+use lib.Dec.{eqb}
+use Rattle.std.specs.List.{prefix_len}
 use mathlib.Core.Path.{◌≡◌, refl, sym, ap, ◌∙◌}
 use mathlib.Core.Logic.{by_cases}
 use mathlib.Core.List.{[], ◌∷◌}
-use lib.ListN.{length, take, drop, get_or, length-take, length-drop, drop_of_length-le}
-use lib.Seq.{drop-cons, drop-length}
+use lib.ListN.{length, take, drop, length-take, length-drop, drop_of_length-le}
+use lib.Seq.{drop-length}
 use borrow.Author.Tests.{eq-eqb, ne_eqb}
 use Rattle.reference.specs.Control.{when◌then◌else◌}
 use Rattle.reference.specs.Text.{Text}
@@ -30,18 +33,17 @@ module _ (b x : ℕ) (xs : Text) where
   unfolding behind when◌then◌else◌
   behind_miss n = rw (ne_eqb x b n)
 
--- ---- the search, by index
+-- ---- the place of the first b
 
-module _ (s : Text) (b i : ℕ) where
-  pub found_hit : i < length s → get_or s i 0 ≡ b → length (before (drop i s) b) ≡ 0
-  found_hit h e = rw (drop-cons s i 0, before_hit b (get_or s i 0) (drop (suc i) s) e)
-
-  pub found_miss : i < length s → (get_or s i 0 ≡ b → ⊥) → length (before (drop i s) b) ≡ 1 + length (before (drop (i + 1) s) b)
-  found_miss h n = rw (add-one, drop-cons s i 0, before_miss b (get_or s i 0) (drop (suc i) s) n) (omega arith)
-
-  pub found_end : length s ≤ i → length (before (drop i s) b) ≡ 0
-  unfolding before
-  found_end h = rw (drop_of_length-le s h)
+pub place_is : (s : Text) (b : ℕ) → length (before s b) ≡ prefix_len (λ x. flip (eqb x b)) s
+unfolding before when◌then◌else◌
+place_is [] b = refl
+place_is (x ∷ xs) b = step (eqb x b) (place_is xs b)
+  where
+    step : (t : Bool) → length (before xs b) ≡ prefix_len (λ x. flip (eqb x b)) xs
+        → length (when t then [] else x ∷ before xs b) ≡ cond (flip t) (1 + prefix_len (λ x. flip (eqb x b)) xs) 0
+    step true e = refl
+    step false e = omega (arith, e)
 
 -- ---- the parts
 

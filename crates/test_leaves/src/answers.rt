@@ -9,9 +9,10 @@
 //
 // An answer is written into a slice of the caller's, and its length returned.
 ghost use Rattle.std.specs.Prelude.{◌≡◌, ◌+◌, ◌≤◌, ◌<◌, length};
-ghost use Rattle.reference.specs.Text.{bytes};
+ghost use Rattle.reference.specs.Options.{option_of};
+ghost use Rattle.reference.specs.Control.{◌or◌};
+ghost use Rattle.reference.specs.Text.{bytes, ◌≟◌};
 ghost use Rattle.names.specs.Families.{row_name};
-ghost use Rattle.numbers.specs.Reading.{meaning};
 ghost use Rattle.numbers.specs.Writing.{Written};
 ghost use Rattle.test_leaves.specs.Answers.{register, family_answer, value, combined, convention, overwrites, yes_no};
 ghost use Rattle.test_leaves.specs.Answers.{answer_to, answer};
@@ -19,7 +20,6 @@ ghost use Rattle.test_leaves.specs.Answers.{expected};
 
 use crate::fields::{before, behind};
 use names::Spelled;
-use numbers::Number;
 use printing::{put, put_decimal};
 use text::same;
 
@@ -41,9 +41,7 @@ fn put_row(row: u64, width: u64, out: &mut [u8]) -> usize
     requires { (row < 8) × (24 ≤ length out.old) }
     ensures { Written out.old 0 (register (row_name row) width) out.new result }
 {
-    let i = row as usize;
-    let family = ROWS[i];
-    put_register(&family, width, out)
+    put_register(&ROWS[row as usize], width, out)
 }
 
 fn put_family(name: &[u8], out: &mut [u8]) -> usize
@@ -57,42 +55,39 @@ fn put_family(name: &[u8], out: &mut [u8]) -> usize
     }
 }
 
-fn put_value(n: Number, out: &mut [u8]) -> usize
+fn put_value(n: Option<i64>, out: &mut [u8]) -> usize
     requires { 19 ≤ length out.old }
-    ensures { Written out.old 0 (value (meaning n)) out.new result }
+    ensures { Written out.old 0 (value (option_of n)) out.new result }
 {
     match n {
-        Number::Read(v) => numbers::put_number(v, out, 0),
-        Number::Unread => put(b"unread", out, 0),
+        Some(v) => numbers::put_number(v, out, 0),
+        None => put(b"unread", out, 0),
     }
 }
 
 // a + b or a - b
-fn folded(a: &[u8], b: &[u8], minus: bool) -> Number
-    ensures { meaning result ≡ combined minus a.now b.now }
+fn folded(a: &[u8], b: &[u8], minus: bool) -> Option<i64>
+    ensures { option_of result ≡ combined minus a.now b.now }
 {
-    let Number::Read(x) = numbers::parse_c_number(a) else {
-        return Number::Unread;
-    };
-    let Number::Read(y) = numbers::parse_c_number(b) else {
-        return Number::Unread;
-    };
+    let x = numbers::parse_c_number(a)?;
+    let y = numbers::parse_c_number(b)?;
     if minus {
-        return Number::Read(numbers::wrapping_sub(x, y));
+        Some(numbers::wrapping_sub(x, y))
+    } else {
+        Some(numbers::wrapping_add(x, y))
     }
-    Number::Read(numbers::wrapping_add(x, y))
 }
 
 fn convention(s: &[u8]) -> u8
     ensures { result ≡ convention s.now }
 {
     if same(s, b"0") {
-        return 0;
+        0
+    } else if same(s, b"1") {
+        1
+    } else {
+        2
     }
-    if same(s, b"1") {
-        return 1;
-    }
-    2
 }
 
 fn overwrites(convention: u8, name: &[u8]) -> bool
@@ -110,9 +105,10 @@ fn put_yes_no(b: bool, out: &mut [u8]) -> usize
     ensures { Written out.old 0 (yes_no b) out.new result }
 {
     if b {
-        return put(b"yes", out, 0);
+        put(b"yes", out, 0)
+    } else {
+        put(b"no", out, 0)
     }
-    put(b"no", out, 0)
 }
 
 // The answer to a question with the operands a and b.
@@ -121,24 +117,20 @@ fn put_answer_to(question: &[u8], a: &[u8], b: &[u8], out: &mut [u8]) -> usize
     ensures { Written out.old 0 (answer_to question.now a.now b.now) out.new result }
 {
     if same(question, b"family") {
-        return put_family(a, out);
+        put_family(a, out)
+    } else if same(question, b"number") {
+        put_value(numbers::parse_c_number(a), out)
+    } else if same(question, b"sum") {
+        put_value(folded(a, b, false), out)
+    } else if same(question, b"difference") {
+        put_value(folded(a, b, true), out)
+    } else if same(question, b"volatile") {
+        put_yes_no(overwrites(convention(a), b), out)
+    } else if same(question, b"constant") {
+        put_value(numbers::read_number(1, a), out)
+    } else {
+        put(b"no such question", out, 0)
     }
-    if same(question, b"number") {
-        return put_value(numbers::parse_c_number(a), out);
-    }
-    if same(question, b"sum") {
-        return put_value(folded(a, b, false), out);
-    }
-    if same(question, b"difference") {
-        return put_value(folded(a, b, true), out);
-    }
-    if same(question, b"volatile") {
-        return put_yes_no(overwrites(convention(a), b), out);
-    }
-    if same(question, b"constant") {
-        return put_value(numbers::read_number(1, a), out);
-    }
-    put(b"no such question", out, 0)
 }
 
 // Writes the answer to the line's question at the front of `out`, and says how long it is: at most 24 bytes more than the line.
@@ -155,20 +147,23 @@ pub fn put_answer(line: &[u8], out: &mut [u8]) -> usize
     )
 }
 
+// Whether a question has one operand, and not two.
+#[tactic(auto, using(laws::proofs::Std::tests_of_std))]
+fn has_one_operand(question: &[u8]) -> bool
+    ensures { result ≡ ((question.now ≟ bytes "family") or (question.now ≟ bytes "number") or (question.now ≟ bytes "constant")) }
+{
+    same(question, b"family") || same(question, b"number") || same(question, b"constant")
+}
+
 // The answer on the line: all that stands behind the question.
 pub fn expected(line: &[u8]) -> &[u8]
     ensures { result.now ≡ expected line.now }
 {
     let question = before(line, b' ');
     let answer = behind(behind(line, b' '), b' ');
-    if same(question, b"family") {
-        return answer;
+    if has_one_operand(question) {
+        answer
+    } else {
+        behind(answer, b' ')
     }
-    if same(question, b"number") {
-        return answer;
-    }
-    if same(question, b"constant") {
-        return answer;
-    }
-    behind(answer, b' ')
 }

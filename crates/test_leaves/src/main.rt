@@ -53,18 +53,14 @@ fn compared(input: &[u8], out: &mut [u8]) -> Tally
     let mut left = input;
     let mut lines = 0;
     let mut differing = 0;
-    while 0 < left.len() {
+    while !left.is_empty() {
         if !agrees(before(left, b'\n'), out) {
             differing += 1;
         }
         lines += 1;
-        let next = behind(left, b'\n');
-        left = next;
+        left = behind(left, b'\n');
     }
-    Tally {
-        lines: lines,
-        differing: differing,
-    }
+    Tally { lines, differing }
 }
 
 fn report(tally: Tally) {

@@ -3,9 +3,6 @@
 // the answers of the Rust behind the same questions.
 #![tactic(auto)]
 
-use tape::commands::text_of;
-use tape::questions::Checked;
-
 // The number of standard output.
 const STDOUT: i32 = 1;
 
@@ -46,15 +43,13 @@ fn write_number(n: usize) {
 
 // Writes the answer to a tape.
 fn answer(tape: &[u8]) {
-    match tape::check(tape) {
-        Checked::Passed(_) => {
-            write(b": accepted\n");
-        }
-        Checked::Refused { number, place } => {
+    match tape::check::<false>(tape) {
+        Ok(_) => write(b": accepted\n"),
+        Err(refusal) => {
             write(b": refused ");
-            io::print_decimal(STDOUT, number);
+            io::print_decimal(STDOUT, refusal.reason.number());
             write(b" at ");
-            write_number(place);
+            write_number(refusal.place);
             write(b"\n");
         }
     }
@@ -63,7 +58,7 @@ fn answer(tape: &[u8]) {
 // Writes the answer to the first n bytes.
 fn answer_first(tape: &[u8], n: usize) {
     if n <= tape.len() {
-        answer(text_of(tape, 0, n));
+        answer(&tape[..n]);
     }
 }
 
@@ -71,30 +66,25 @@ fn answer_first(tape: &[u8], n: usize) {
 
 // Puts bytes behind the first `at`, if there is room, and says where they end.
 fn append(buffer: &mut [u8], at: usize, part: &[u8]) -> usize {
-    if buffer.len() < at {
+    if buffer.len() < at || buffer.len() - at < part.len() {
         return at;
     }
-    if buffer.len() - at < part.len() {
-        return at;
-    }
-    text::copy_bytes(part, buffer, at);
-    at + part.len()
+    let end = at + part.len();
+    buffer[at..end].copy_from_slice(part);
+    end
 }
 
 fn append_times(buffer: &mut [u8], at: usize, part: &[u8], times: usize) -> usize {
     let mut to = at;
-    let mut k = 0;
-    while k < times {
+    for _ in 0..times {
         to = append(buffer, to, part);
-        k += 1;
     }
     to
 }
 
 // A line with one token, of a command's kind, whose text is a byte many times.
 fn append_token(buffer: &mut [u8], command: u8, byte: u8, times: usize) -> usize {
-    let low = (times % 256) as u8;
-    let high = (times / 256 % 256) as u8;
+    let [low, high, ..] = times.to_le_bytes();
     let n = append(buffer, 0, &[0x02, 0x00, command, low, high]);
     append_times(buffer, n, &[byte], times)
 }
@@ -117,7 +107,7 @@ fn lines(buffer: &mut [u8], count: usize) {
 
 fn indent(depth: u8) {
     write(b"indent ");
-    write_number(depth as usize);
+    write_number(usize::from(depth));
     answer(&[0x02, depth, 0xFF]);
 }
 
@@ -153,7 +143,7 @@ fn number(buffer: &mut [u8], count: usize) {
 
 fn byte(b: u8) {
     write(b"byte ");
-    write_number(b as usize);
+    write_number(usize::from(b));
     answer(&[0x02, 0x00, 0x10, 0x01, 0x00, b, 0xFF]);
 }
 
@@ -185,9 +175,9 @@ fn refusals() {
 // A line with a 03 from `low` to `high`.
 fn span(buffer: &mut [u8], low: u8, high: u8) {
     write(b"03 from ");
-    write_number(low as usize);
+    write_number(usize::from(low));
     write(b" to ");
-    write_number(high as usize);
+    write_number(usize::from(high));
     let n = append(buffer, 0, &[0x02, 0x00, 0x03, low]);
     let n = append_times(buffer, n, &[0x00], 7);
     let n = append(buffer, n, &[high]);
@@ -214,18 +204,16 @@ fn marks_after(buffer: &mut [u8], tape: &[u8], n: usize) {
     write(b"example, 03 after ");
     write_number(n);
     write(b" bytes");
-    let to = append(buffer, 0, text_of(tape, 0, n));
+    let to = append(buffer, 0, &tape[..n]);
     let to = append(buffer, to, &MARKS);
-    let to = append(buffer, to, text_of(tape, n, tape.len() - n));
+    let to = append(buffer, to, &tape[n..]);
     answer_first(buffer, to);
 }
 
 // A tape with a 03 put in, at every offset in turn.
 fn marks_everywhere(buffer: &mut [u8], tape: &[u8]) {
-    let mut n = 0;
-    while n <= tape.len() {
+    for n in 0..=tape.len() {
         marks_after(buffer, tape, n);
-        n += 1;
     }
 }
 
@@ -240,7 +228,7 @@ fn answer_last(buffer: &mut [u8], n: usize, last: &[u8]) {
 
 fn line_257(buffer: &mut [u8], indent: u8) {
     write(b"line 257, indent ");
-    write_number(indent as usize);
+    write_number(usize::from(indent));
     let n = append_times(buffer, 0, &[0x02, 0x00], 256);
     answer_last(buffer, n, &[0x02, indent]);
 }
@@ -256,7 +244,7 @@ fn token_1025(buffer: &mut [u8], token: &[u8], last: &[u8]) {
 fn past_text(buffer: &mut [u8], command: u8, byte: u8, times: u8) {
     let n = append_token(buffer, 0x10, b'a', 24576);
     let n = append(buffer, n, &[command, times, 0x00]);
-    let n = append_times(buffer, n, &[byte], times as usize);
+    let n = append_times(buffer, n, &[byte], usize::from(times));
     answer_last(buffer, n, &[]);
 }
 
@@ -307,10 +295,8 @@ fn truncation(what: &[u8], tape: &[u8], n: usize) {
 
 // Every truncation of a tape, and the whole.
 fn truncations(what: &[u8], tape: &[u8]) {
-    let mut n = 0;
-    while n <= tape.len() {
+    for n in 0..=tape.len() {
         truncation(what, tape, n);
-        n += 1;
     }
 }
 

@@ -6,12 +6,11 @@
 // value; the length of the tape; the length of the wanted tape.
 #![tactic(auto)]
 
-ghost use Rattle.std.specs.Prelude.{◌≡◌, ◌+◌, ◌≤◌, ◌<◌, length};
+ghost use Rattle.std.specs.Prelude.{◌+◌, ◌≤◌, ◌<◌, length};
+ghost use Rattle.std.specs.Option.{IfSome};
 
-use answers::{Answer, Told, tell};
-use tape::commands::text_of;
+use answers::{Told, tell};
 use tape::little_endian::number_at;
-use text::{copy_bytes, same};
 
 // The numbers of standard input and output.
 const STDIN: i32 = 0;
@@ -29,7 +28,7 @@ const MARK: u8 = 170;
 const HEADER: usize = 64;
 
 // How many calls there were each way, and how many differ.
-#[derive(Clone, Copy)]
+#[derive(Clone, Copy, Debug, PartialEq, Eq)]
 struct Counts {
     there: u64,
     back: u64,
@@ -44,114 +43,102 @@ fn print_number(n: u64) {
     io::print_decimal(STDOUT, n);
 }
 
-// ---- the frame at the list's front
+// ---- a frame
 
-// The number at an offset, or 0 where the list ends before.
-fn number(list: &[u8], from: usize) -> u64 {
-    if list.len() < 8 {
-        return 0;
-    }
-    if list.len() - 8 < from {
-        return 0;
-    }
-    number_at(list, from, 8)
+// The numbers of a frame.
+#[derive(Clone, Copy, Debug, PartialEq, Eq)]
+struct Frame {
+    there: bool,
+    base: u64,
+    output: usize,
+    refusal: u64,
+    place: u64,
+    value: u64,
+    tape: usize,
+    wanted: usize,
 }
 
-// `n` bytes from an offset on, or none where the list ends before.
-fn part(list: &[u8], from: usize, n: usize) -> &[u8] {
-    if list.len() < from {
-        return text_of(list, 0, 0);
+fn numbers_of(list: &[u8]) -> Frame
+    requires { 64 ≤ length list.now }
+{
+    Frame {
+        there: number_at(list, 0, 8) == 0,
+        base: number_at(list, 8, 8),
+        output: number_at(list, 16, 8) as usize,
+        refusal: number_at(list, 24, 8),
+        place: number_at(list, 32, 8),
+        value: number_at(list, 40, 8),
+        tape: number_at(list, 48, 8) as usize,
+        wanted: number_at(list, 56, 8) as usize,
     }
-    if list.len() - from < n {
-        return text_of(list, 0, 0);
-    }
-    text_of(list, from, n)
 }
 
-// How many bytes the frame has; 0 where the list has no whole frame.
-fn size(list: &[u8]) -> usize
-    ensures { result ≤ length list.now }
+// How many bytes the frame at the list's front has, where there is a whole one.
+fn size(list: &[u8]) -> Option<usize>
+    ensures { IfSome result (λ n. (64 ≤ n) × (n ≤ length list.now)) }
 {
     if list.len() < HEADER {
-        return 0;
+        return None;
     }
+    let f = numbers_of(list);
     let left = list.len() - HEADER;
-    let tape = number(list, 48) as usize;
-    if left < tape {
-        return 0;
+    if left < f.tape || left - f.tape < f.wanted {
+        return None;
     }
-    let wanted = number(list, 56) as usize;
-    if left - tape < wanted {
-        return 0;
-    }
-    HEADER + tape + wanted
-}
-
-fn tape_of(list: &[u8]) -> &[u8] {
-    part(list, HEADER, number(list, 48) as usize)
-}
-
-fn wanted_of(list: &[u8]) -> &[u8] {
-    let tape = number(list, 48) as usize;
-    if list.len() < tape {
-        return text_of(list, 0, 0);
-    }
-    part(list, HEADER + tape, number(list, 56) as usize)
+    Some(HEADER + f.tape + f.wanted)
 }
 
 // ---- one call
 
-fn call(list: &[u8], out: &mut [u8]) -> Answer {
-    if number(list, 0) == 0 {
-        return offsets::to_offsets(number(list, 8), tape_of(list), out);
-    }
-    offsets::from_offsets(tape_of(list), out)
+fn call(f: Frame, tape: &[u8], out: &mut [u8]) -> Told {
+    tell(if f.there {
+        offsets::to_offsets(f.base, tape, out)
+    } else {
+        offsets::from_offsets(tape, out)
+    })
 }
 
-fn is_wanted(list: &[u8], told: Told) -> bool {
-    if number(list, 24) != told.refusal {
-        return false;
-    }
-    if number(list, 32) != told.place {
-        return false;
-    }
-    number(list, 40) == told.value
+fn is_wanted(told: Told, f: Frame) -> bool {
+    told.refusal == f.refusal && told.place == f.place && told.value == f.value
 }
 
-// Puts the wanted tape to the front.
-fn want(list: &[u8], out: &mut [u8]) {
-    let wanted = wanted_of(list);
-    if wanted.len() <= out.len() {
-        copy_bytes(wanted, out, 0);
+// Whether the output is the wanted tape, and past that as before.
+fn is_output(out: &[u8], wanted: &[u8]) -> bool {
+    match out.strip_prefix(wanted) {
+        Some(behind) => behind.iter().all(|&byte| byte == MARK),
+        None => false,
     }
 }
 
-fn is_right(list: &[u8], told: Told, out: &[u8], written: &[u8]) -> bool {
-    if !is_wanted(list, told) {
+fn is_right(f: Frame, told: Told, out: &[u8], wanted: &[u8]) -> bool {
+    if !is_wanted(told, f) {
         print(b"another reply\n");
         return false;
     }
-    if !same(out, written) {
+    if !is_output(out, wanted) {
         print(b"another output\n");
         return false;
     }
     true
 }
 
-fn agrees_in(list: &[u8], out: &mut [u8], written: &mut [u8]) -> bool {
-    let lent = number(list, 16) as usize;
-    if out.len() < lent {
+// Makes a call, and says whether it did what is wanted.
+fn does(f: Frame, tape: &[u8], wanted: &[u8], out: &mut [u8]) -> bool {
+    let n = f.output;
+    if out.len() < n {
         return false;
     }
-    let told = tell(call(list, &mut out[..lent]));
-    want(list, written);
-    is_right(list, told, out, written)
+    let told = call(f, tape, &mut out[..n]);
+    is_right(f, told, out, wanted)
 }
 
-fn agrees(list: &[u8]) -> bool {
-    let mut out = [MARK; LONG_OUT];
-    let mut written = [MARK; LONG_OUT];
-    agrees_in(list, &mut out, &mut written)
+fn agrees(frame: &[u8], f: Frame) -> bool
+    requires { 64 ≤ length frame.now }
+{
+    let Some((tape, wanted)) = frame[HEADER..].split_at_checked(f.tape) else {
+        return false;
+    };
+    does(f, tape, wanted, &mut [MARK; LONG_OUT])
 }
 
 // ---- the list
@@ -163,16 +150,16 @@ fn one_if(b: bool) -> u64
     if b { 1 } else { 0 }
 }
 
-// The counts with the frame at the list's front.
-fn counted(list: &[u8], counts: Counts) -> Counts
-    requires { (counts.there < 150000) × (counts.back < 150000) × (counts.differ < 150000) }
+// The counts with a frame.
+fn counted(frame: &[u8], counts: Counts) -> Counts
+    requires { (64 ≤ length frame.now) × (counts.there < 150000) × (counts.back < 150000) × (counts.differ < 150000) }
     ensures { (result.there ≤ counts.there + 1) × (result.back ≤ counts.back + 1) × (result.differ ≤ counts.differ + 1) }
 {
-    let there = number(list, 0) == 0;
-    let right = agrees(list);
+    let f = numbers_of(frame);
+    let right = agrees(frame, f);
     Counts {
-        there: counts.there + one_if(there),
-        back: counts.back + one_if(!there),
+        there: counts.there + one_if(f.there),
+        back: counts.back + one_if(!f.there),
         differ: counts.differ + one_if(!right),
     }
 }
@@ -186,15 +173,11 @@ fn replayed(list: &[u8]) -> Counts
         back: 0,
         differ: 0,
     };
-    loop {
-        let n = size(left);
-        if n == 0 {
-            return counts;
-        }
-        counts = counted(left, counts);
-        let next = &left[n..];
-        left = next;
+    while let Some(n) = size(left) {
+        counts = counted(&left[..n], counts);
+        left = &left[n..];
     }
+    counts
 }
 
 fn run(list: &[u8]) {

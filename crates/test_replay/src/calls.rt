@@ -12,7 +12,8 @@ use crate::frames::{
     ATTEMPTS, CUT, FIRST, LENGTH, OUT, PLACE, REFUSAL, REMOVED, ROUNDS, SECOND, SETTINGS, THIRD,
     WORK_A, WORK_B, number, output_of, tape_of,
 };
-use clean::{Reply, Tally, Told, tell};
+use answers::Refusal;
+use clean::{Finished, Tally, Told};
 use lines::rules::Rules;
 use text::{copy_bytes, same, wipe};
 
@@ -77,22 +78,23 @@ fn are_told(list: &[u8], t: Told, removed: u64) -> bool
 }
 
 // Whether a reply is the one that the frame wants.
-fn is_wanted(list: &[u8], r: Reply) -> bool
+fn is_wanted(list: &[u8], r: Result<Finished, Refusal>) -> bool
     requires { Whole list.now }
     ensures { result ≡ is_wanted list.now (report_of r) }
 {
     match r {
-        Reply::Refused { number, place } => {
+        Err(refusal) => {
             let none = Tally::Three {
                 first: 0,
                 second: 0,
                 third: 0,
             };
-            is_report(list, number, place as u64, 0, 0) && are_told(list, tell(none), 0)
+            is_report(list, refusal.reason.number(), refusal.place as u64, 0, 0)
+                && are_told(list, Told::from(none), 0)
         }
-        Reply::Finished(f) => {
-            let tally = f.tally;
-            is_report(list, 0, 0, f.length as u64, f.cut) && are_told(list, tell(tally), f.removed)
+        Ok(f) => {
+            is_report(list, 0, 0, f.length as u64, f.cut)
+                && are_told(list, Told::from(f.tally), f.removed)
         }
     }
 }
@@ -124,7 +126,7 @@ fn want_out(list: &[u8], out: &mut [u8])
 // ---- the call
 
 // Whether the reply is right; says so where it is not.
-fn reply_right(list: &[u8], r: Reply) -> bool
+fn reply_right(list: &[u8], r: Result<Finished, Refusal>) -> bool
     requires { Whole list.now }
     ensures { result ≡ is_wanted list.now (report_of r) }
 {
@@ -149,7 +151,7 @@ fn part_right(part: &[u8], wanted: &[u8], what: &[u8]) -> bool
 // Whether the reply is right and each part is as wanted.
 fn all_right<'a>(
     list: &'a [u8],
-    r: Reply,
+    r: Result<Finished, Refusal>,
     work_a: &'a [u8],
     work_b: &'a [u8],
     out: &'a [u8],
@@ -166,7 +168,13 @@ fn all_right<'a>(
 }
 
 // Whether a reply and the lent parts are as wanted, what is wanted being made from parts that hold the mark everywhere.
-fn is_right<'a>(list: &'a [u8], r: Reply, work_a: &'a [u8], work_b: &'a [u8], out: &'a [u8]) -> bool
+fn is_right<'a>(
+    list: &'a [u8],
+    r: Result<Finished, Refusal>,
+    work_a: &'a [u8],
+    work_b: &'a [u8],
+    out: &'a [u8],
+) -> bool
     requires { Whole list.now }
     ensures { result ≡ is_right list.now (report_of r) work_a.now work_b.now out.now }
 {

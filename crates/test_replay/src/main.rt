@@ -21,7 +21,7 @@ const STDOUT: i32 = 1;
 // The longest list that is read.
 const LONGEST: usize = 650000;
 
-#[derive(Clone, Copy)]
+#[derive(Clone, Copy, Debug, PartialEq, Eq)]
 struct Counts {
     tapes: u64,
     differ: u64,
@@ -44,42 +44,18 @@ fn print_counts(counts: Counts) {
 
 fn print_class(class: u64) {
     match class {
-        0 => {
-            print(b"realistic: ");
-        }
-        1 => {
-            print(b"one detail of the Rust: ");
-        }
-        2 => {
-            print(b"unusual tokens: ");
-        }
-        3 => {
-            print(b"much text in the areas: ");
-        }
-        4 => {
-            print(b"at the limits: ");
-        }
-        5 => {
-            print(b"damaged: ");
-        }
-        6 => {
-            print(b"refused before the tape: ");
-        }
-        7 => {
-            print(b"settling: ");
-        }
-        8 => {
-            print(b"marks: ");
-        }
-        9 => {
-            print(b"editions: ");
-        }
-        10 => {
-            print(b"parts: ");
-        }
-        _ => {
-            print(b"straight pieces: ");
-        }
+        0 => print(b"realistic: "),
+        1 => print(b"one detail of the Rust: "),
+        2 => print(b"unusual tokens: "),
+        3 => print(b"much text in the areas: "),
+        4 => print(b"at the limits: "),
+        5 => print(b"damaged: "),
+        6 => print(b"refused before the tape: "),
+        7 => print(b"settling: "),
+        8 => print(b"marks: "),
+        9 => print(b"editions: "),
+        10 => print(b"parts: "),
+        _ => print(b"straight pieces: "),
     }
 }
 
@@ -132,12 +108,11 @@ fn run(list: &[u8]) {
     if LONGEST < list.len() {
         return;
     }
-    let mut class = 0;
     let mut sum = Counts {
         tapes: 0,
         differ: 0,
     };
-    while class < 12 {
+    for class in 0..12 {
         let counts = replayed(list, class);
         print_class(class);
         print_counts(counts);
@@ -145,7 +120,6 @@ fn run(list: &[u8]) {
             tapes: sum.tapes + counts.tapes,
             differ: sum.differ + counts.differ,
         };
-        class += 1;
     }
     print_counts(sum);
 }

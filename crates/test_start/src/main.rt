@@ -8,10 +8,10 @@
 #![tactic(auto)]
 
 ghost use Rattle.std.specs.Prelude.{◌+◌, ◌≤◌, length};
+ghost use Rattle.std.specs.Option.{IfSome};
 
 use answers::{Told, tell};
 use start::start_value;
-use tape::commands::text_of;
 use tape::little_endian::number_at;
 
 // The numbers of standard input and output.
@@ -28,7 +28,7 @@ const HEADER: usize = 64;
 const OTHERS: u64 = 3;
 
 // The numbers of a frame but for its length.
-#[derive(Clone, Copy)]
+#[derive(Clone, Copy, Debug, PartialEq, Eq)]
 struct Frame {
     returned: u64,
     refusal: u64,
@@ -39,7 +39,7 @@ struct Frame {
     values: usize,
 }
 
-#[derive(Clone, Copy)]
+#[derive(Clone, Copy, Debug, PartialEq, Eq)]
 struct Counts {
     calls: u64,
     differ: u64,
@@ -47,18 +47,18 @@ struct Counts {
 
 // ---- the list
 
-// How many bytes the frame at the list's front has; 0 where there is no whole one.
-fn size(list: &[u8]) -> usize
-    ensures { result ≤ length list.now }
+// How many bytes the frame at the list's front has, where there is a whole one.
+fn size(list: &[u8]) -> Option<usize>
+    ensures { IfSome result (λ n. (64 ≤ n) × (n ≤ length list.now)) }
 {
     if list.len() < HEADER {
-        return 0;
+        return None;
     }
     let n = number_at(list, 0, 8) as usize;
-    if list.len() < n {
-        return 0;
+    if n < HEADER || list.len() < n {
+        return None;
     }
-    n
+    Some(n)
 }
 
 fn numbers_of(list: &[u8]) -> Frame
@@ -78,29 +78,22 @@ fn numbers_of(list: &[u8]) -> Frame
 // ---- a call
 
 fn is_told(r: Told, f: Frame) -> bool {
-    r.refusal == f.refusal && (r.place == f.place && r.value == f.value)
+    r.refusal == f.refusal && r.place == f.place && r.value == f.value
 }
 
 // Whether the call of a frame answers what the frame wants.
-fn agrees(list: &[u8], f: Frame) -> bool
-    requires { 64 ≤ length list.now }
+fn agrees(frame: &[u8], f: Frame) -> bool
+    requires { 64 ≤ length frame.now }
 {
-    let left = list.len() - HEADER;
-    let t = f.tape;
-    if left < t {
+    let Some((tape, rest)) = frame[HEADER..].split_at_checked(f.tape) else {
         return false;
-    }
-    let c = f.chosen;
-    if left - t < c {
+    };
+    let Some((chosen, rest)) = rest.split_at_checked(f.chosen) else {
         return false;
-    }
-    let v = f.values;
-    if left - t - c < v {
+    };
+    let Some((values, _)) = rest.split_at_checked(f.values) else {
         return false;
-    }
-    let tape = text_of(list, HEADER, t);
-    let chosen = text_of(list, HEADER + t, c);
-    let values = text_of(list, HEADER + t + c, v);
+    };
     is_told(tell(start_value(tape, chosen, values, f.returned)), f)
 }
 
@@ -113,27 +106,23 @@ fn sort_of(refusal: u64) -> u64 {
     }
 }
 
-// The counts with the frame at the list's front, if its answer is of the sort.
-fn counted(list: &[u8], sort: u64, counts: Counts) -> Counts
-    requires { (counts.calls ≤ 150000) × (counts.differ ≤ counts.calls) }
+// The counts with a frame, if its answer is of the sort.
+fn counted(frame: &[u8], sort: u64, counts: Counts) -> Counts
+    requires { (64 ≤ length frame.now) × (counts.calls ≤ 150000) × (counts.differ ≤ counts.calls) }
     ensures { (result.differ ≤ result.calls) × (result.calls ≤ counts.calls + 1) }
 {
-    if list.len() < HEADER {
-        return counts;
-    }
-    let f = numbers_of(list);
+    let f = numbers_of(frame);
     if sort_of(f.refusal) != sort {
         return counts;
     }
-    if agrees(list, f) {
-        return Counts {
-            calls: counts.calls + 1,
-            differ: counts.differ,
-        };
-    }
-    Counts {
-        calls: counts.calls + 1,
-        differ: counts.differ + 1,
+    let calls = counts.calls + 1;
+    if agrees(frame, f) {
+        Counts { calls, ..counts }
+    } else {
+        Counts {
+            calls,
+            differ: counts.differ + 1,
+        }
     }
 }
 
@@ -141,19 +130,16 @@ fn counted(list: &[u8], sort: u64, counts: Counts) -> Counts
 fn replayed(list: &[u8], sort: u64) -> Counts
     requires { length list.now ≤ 150000 }
 {
-    let mut at = 0;
+    let mut left = list;
     let mut counts = Counts {
         calls: 0,
         differ: 0,
     };
-    loop {
-        let n = size(&list[at..]);
-        if n == 0 {
-            return counts;
-        }
-        counts = counted(&list[at..], sort, counts);
-        at += n;
+    while let Some(n) = size(left) {
+        counts = counted(&left[..n], sort, counts);
+        left = &left[n..];
     }
+    counts
 }
 
 fn print(s: &[u8]) {

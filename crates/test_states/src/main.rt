@@ -13,7 +13,8 @@
 // and the third number says how many bytes there are.
 #![tactic(auto)]
 
-ghost use Rattle.std.specs.Prelude.{◌+◌, ◌≤◌, ◌<◌, ◌≡◌, length};
+ghost use Rattle.std.specs.Prelude.{◌+◌, ◌≤◌, ◌<◌, length};
+ghost use Rattle.std.specs.Option.{IfSome};
 
 use answers::{Answer, tell};
 use tape::little_endian::number_at;
@@ -49,15 +50,13 @@ fn added(h: u64, byte: u8) -> u64
     requires { h < 4294967296 }
     ensures { result < 4294967296 }
 {
-    (h * 65599 + byte as u64) % 4294967291
+    (h * 65599 + u64::from(byte)) % 4294967291
 }
 
 fn sum(bytes: &[u8]) -> u64 {
-    let mut h: u64 = 1;
-    let mut i = 0;
-    while i < bytes.len() {
-        h = added(h, bytes[i]);
-        i += 1;
+    let mut h = 1;
+    for &byte in bytes {
+        h = added(h, byte);
     }
     h
 }
@@ -80,19 +79,18 @@ fn number(frame: &[u8], at: usize) -> usize
     number_at(frame, at, 4) as usize
 }
 
-// How many bytes the frame at the list's front has; 0 where the list has no whole frame.
-fn size(list: &[u8]) -> usize
-    ensures upper_bound { result ≤ length list.now }
-    ensures lower_bound { (result ≡ 0 → ⊥) → 20 ≤ result }
+// How many bytes the frame at the list's front has, where the list has a whole frame.
+fn size(list: &[u8]) -> Option<usize>
+    ensures { IfSome result (λ n. (20 ≤ n) × (n ≤ length list.now)) }
 {
     if list.len() < HEADER {
-        return 0;
+        return None;
     }
     let n = number(list, 8);
     if list.len() - HEADER < n {
-        return 0;
+        return None;
     }
-    HEADER + n
+    Some(HEADER + n)
 }
 
 fn name_of(frame: &[u8]) -> [u8; 8]
@@ -111,18 +109,10 @@ fn bytes_of(frame: &[u8]) -> &[u8]
 
 // ---- what a frame asks for
 
-fn fill(store: &mut [u8], byte: u8) {
-    let mut i = 0;
-    while i < store.len() {
-        store[i] = byte;
-        i += 1;
-    }
-}
-
 fn begin(frame: &[u8], store: &mut [u8], lent: usize)
     requires { 20 ≤ length frame.now }
 {
-    fill(store, frame[12]);
+    store.fill(frame[12]);
     print(b"begin");
     print_number(lent as u64);
     print(b"\n");
@@ -132,13 +122,10 @@ fn damage(frame: &[u8], store: &mut [u8], at: usize)
     requires { 20 ≤ length frame.now }
 {
     let bytes = bytes_of(frame);
-    if store.len() < at {
+    if store.len() < at || store.len() - at < bytes.len() {
         return;
     }
-    if store.len() - at < bytes.len() {
-        return;
-    }
-    text::copy_bytes(bytes, store, at);
+    store[at..at + bytes.len()].copy_from_slice(bytes);
     print(b"damage");
     print_number(at as u64);
     print(b"\n");
@@ -182,15 +169,9 @@ fn call(kind: usize, frame: &[u8], store: &mut [u8], lent: usize)
     requires { (20 ≤ length frame.now) × (lent ≤ length store.old) }
 {
     match kind {
-        2 => {
-            save(frame, store, lent);
-        }
-        3 => {
-            restore_marked(frame, store, lent, number(frame, 4));
-        }
-        4 => {
-            delete(frame, store, lent);
-        }
+        2 => save(frame, store, lent),
+        3 => restore_marked(frame, store, lent, number(frame, 4)),
+        4 => delete(frame, store, lent),
         _ => {}
     }
 }
@@ -199,18 +180,18 @@ fn call(kind: usize, frame: &[u8], store: &mut [u8], lent: usize)
 fn step(frame: &[u8], store: &mut [u8], lent: usize) -> usize
     requires { 20 ≤ length frame.now }
 {
-    let kind = number(frame, 0);
     let n = number(frame, 4);
-    if kind == 0 {
-        begin(frame, store, n);
-        return n;
-    }
-    if kind == 1 {
-        damage(frame, store, n);
-        return lent;
-    }
-    if lent <= store.len() {
-        call(kind, frame, store, lent);
+    match number(frame, 0) {
+        0 => {
+            begin(frame, store, n);
+            return n;
+        }
+        1 => damage(frame, store, n),
+        kind => {
+            if lent <= store.len() {
+                call(kind, frame, store, lent);
+            }
+        }
     }
     lent
 }
@@ -218,14 +199,9 @@ fn step(frame: &[u8], store: &mut [u8], lent: usize) -> usize
 fn run(list: &[u8], store: &mut [u8]) {
     let mut left = list;
     let mut lent = 0;
-    loop {
-        let n = size(left);
-        if n == 0 {
-            return;
-        }
+    while let Some(n) = size(left) {
         lent = step(&left[..n], store, lent);
-        let next = &left[n..];
-        left = next;
+        left = &left[n..];
     }
 }
 

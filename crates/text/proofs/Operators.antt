@@ -26,3 +26,5 @@ pub first-operator : (t : Text) → (length t ≡ 0 → ⊥) → starts_with_ope
 unfolding starts_with_operator
 first-operator [] n = absurd (n refl)
 first-operator (x ∷ t) n = refl
+
+pub ruleset rows = (by_rows, no_operator, first-operator)

@@ -7,11 +7,7 @@ pub fn copy_bytes(from: &[u8], to: &mut [u8], at: usize)
     requires { at + length from.now ≤ length to.old }
     ensures { to.new ≡ paste to.old at from.now (length from.now) }
 {
-    let mut i = 0;
-    while i < from.len() {
-        to[at + i] = from[i];
-        i += 1;
-    }
+    to[at..at + from.len()].copy_from_slice(from)
 }
 
 // Writes zeros to the first n bytes.
@@ -19,9 +15,5 @@ pub fn wipe(area: &mut [u8], n: usize)
     requires { n ≤ length area.old }
     ensures { area.new ≡ replicate n 0 ++ drop n area.old }
 {
-    let mut i = 0;
-    while i < n {
-        area[i] = 0;
-        i += 1;
-    }
+    area[..n].fill(0)
 }

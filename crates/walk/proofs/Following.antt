@@ -1,12 +1,11 @@
--- The commands from an offset on: what an answer at that offset says of them. Assumes nothing.
-use Prim.Native.Nat.{ℕ, zero, suc, ◌+◌, ◌≤◌}
+-- The commands of some bytes, by what stands at their head. Assumes nothing.
+use Prim.Native.Nat.{ℕ, zero, suc, ◌≤◌}
 use native.Mathlib.Omega.{arith}
 use native.Mathlib.Nat.{le_refl}
 use mathlib.Core.Path.{◌≡◌, refl, sym, ap, ◌∙◌}
 use mathlib.Core.Bool.{Bool, true, false}
 use mathlib.Core.List.{List, [], ◌∷◌}
 use lib.ListN.{length, drop, length-drop}
-use lib.Seq.{drop-drop}
 use borrow.Author.Tests.{leb-true, le-leb}
 use Rattle.reference.specs.Control.{not, ◌and◌, when◌then◌else◌}
 use Rattle.reference.specs.Tape as Tape
@@ -16,13 +15,14 @@ use Rattle.reference.proofs.Cases.{both, pair, fails, not-true, true-false}
 use Rattle.reference.proofs.Commands.{Form, form_of, is_form}
 use Rattle.reference.proofs.Reading.{ask-yes, refused_passed, size_positive}
 use Rattle.laws.proofs.Scans.{if-true, if-false}
-use Rattle.tape.specs.Commands.{command_in, size_of, standing, standing_by}
+use Rattle.tape.specs.Commands.{command_in, size_of, ends, found_in, standing, standing_by}
+use Rattle.answers.specs.declared.Refusal.{Refusal}
 use Rattle.tape.specs.declared.commands.Command.{Command}
 use Rattle.tape.specs.declared.commands.Command.TheVariants.{Addressed, Plain, Marked, Token, End}
-use Rattle.tape.proofs.commands.Standing.{Stands, stands-inside}
-use Rattle.walk.specs.declared.Next.TheVariants.{More, Over}
+use Rattle.tape.proofs.commands.Standing.{Stands, stands}
+use Rattle.std.specs.Prelude.{Result, Ok, Err, Some, None}
+use Rattle.std.specs.Result.{result_ok}
 use Rattle.walk.specs.Held.{goes_on, commands_from, commands}
-use Rattle.walk.specs.Walk.{Follows}
 
 -- ---- the fuel is enough
 
@@ -73,37 +73,36 @@ unfolding commands commands_from
 over [] e = refl
 over (x ∷ xs) e = if-false _ _ e
 
--- ---- at an offset
+-- ---- what the code finds at the head
 
--- every command but the end has two bytes or more
-two_bytes : (tape : List ℕ) (at : ℕ) (c : Command) → is_end (command_in tape at c) ≡ false → 2 ≤ size_of c
-two_bytes tape at (Addressed address indent) e = omega arith
-two_bytes tape at (Plain indent) e = omega arith
-two_bytes tape at (Marked low high) e = omega arith
-two_bytes tape at (Token kind count) e = omega arith
-two_bytes tape at End e = absurd (true-false refl e)
+ends_same : (rest : List ℕ) (c : Command) → is_end (command_in rest 0 c) ≡ ends c
+ends_same rest (Addressed address indent) = refl
+ends_same rest (Plain indent) = refl
+ends_same rest (Marked low high) = refl
+ends_same rest (Token kind count) = refl
+ends_same rest End = refl
 
-module _ (tape : List ℕ) (at : ℕ) where
-  over_follows : goes_on (drop at tape) ≡ false → Follows tape at Over
-  over_follows e = record { commands_are = sym (over (drop at tape) e); inside = tt }
-
-  pub refused_follows : {n : ℕ} → Refused n at ≡ standing tape at → Follows tape at Over
+module _ (rest : List ℕ) where
+  refused : {n place : ℕ} → Refused n place ≡ standing rest 0 → commands rest ≡ []
   unfolding goes_on standing_by
-  refused_follows e = over_follows (fails (λ y. (let b = both y in refused_passed (e ∙ ask-yes _ _ _ (b.0, ((both b.1).0, tt))))))
+  refused e = over rest (fails (λ y. (let b = both y in refused_passed (e ∙ ask-yes _ _ _ (b.0, ((both b.1).0, tt))))))
 
-  module _ {c : Command} (s : Stands tape at c) where
-    pub end_follows : is_end (command_in tape at c) ≡ true → Follows tape at Over
-    end_follows e = over_follows (fails (λ y. true-false (rw s.same at e) (goes (drop at tape) y).2))
+  pub stands_ok : {c : Command} (r : Result Command Refusal) → found_in rest 0 r ≡ standing rest 0 → Some c ≡ result_ok r → Stands rest 0 c
+  stands_ok {c} (Ok d) e h = let k : c ≡ d = cc in rw k (stands e)
+  stands_ok (Err x) e h = absurd cc
 
-    stays : is_end (command_in tape at c) ≡ false → goes_on (drop at tape) ≡ true
+  -- no command stands there
+  pub none_stands : (r : Result Command Refusal) → found_in rest 0 r ≡ standing rest 0 → result_ok r ≡ None → commands rest ≡ []
+  none_stands (Ok d) e h = absurd cc
+  none_stands (Err x) e h = refused e
+
+  module _ {c : Command} (s : Stands rest 0 c) where
+    pub end_stands : ends c ≡ true → commands rest ≡ []
+    end_stands e = over rest (fails (λ y. true-false (rw s.same at (ends_same rest c ∙ e)) (goes rest y).2))
+
+    stays : ends c ≡ false → goes_on rest ≡ true
     unfolding goes_on ends_inside_by not
-    stays e = pair (is_form (drop at tape) s.known) (pair (le-leb _ _ s.inside) (rw (rw s.same at e)))
+    stays e = pair (is_form rest s.known) (pair (le-leb _ _ s.inside) (rw (rw s.same at (ends_same rest c ∙ e))))
 
-    pub more_follows : {next : ℕ} → is_end (command_in tape at c) ≡ false → next ≡ at + size_of c → Follows tape at (More c next)
-    more_follows {next} e n =
-        let m = more (drop at tape) (stays e) in
-        let i = stands-inside s in
-        record {
-          commands_are = rw (n, s.same, s.size, ← drop-drop (command_size (drop at tape)) at tape) (sym m);
-          inside = (n, omega (arith, two_bytes tape at c e), rw n i.1);
-        }
+    pub more_stands : ends c ≡ false → commands rest ≡ command_in rest 0 c ∷ commands (drop (size_of c) rest)
+    more_stands e = rw (s.same, s.size) (more rest (stays e))

@@ -1,2 +1,4 @@
--- The commands from an offset on: what an answer at that offset says of them (Following).
+-- The commands of some bytes, by what stands at their head (Following), and how many bytes they take (Spending).
 pub mod Following
+pub mod Spending
+pub mod Offsets

@@ -1,15 +1,18 @@
 -- The first word of a slice, and what is left: each turn of a loop over words. Assumes nothing.
 use Prim.Native.Nat.{ℕ, zero, suc, ◌+◌, ◌-◌, ◌≤◌, ◌<◌}
 use native.Mathlib.Omega.{arith}
-use native.Mathlib.Decide.{dec_lt}
+use native.Mathlib.Decide.{dec_lt, ℕ_discrete}
 use native.Mathlib.Numerals.{add-one}
 use mathlib.Core.Path.{◌≡◌, refl, sym, ap, ◌∙◌}
 use mathlib.Core.Logic.{by_cases}
-use mathlib.Core.Bool.{true, false}
+use mathlib.Core.Bool.{Bool, true, false, not as flip, true≢false}
 use mathlib.Core.List.{List, [], ◌∷◌, ◌++◌}
 use lib.ListN.{length, take, drop, get_or, take-append-drop, length-take, length-drop, drop_of_length-le}
 use lib.Seq.{drop-cons, drop-drop, get_or-take, get_or-drop, take_all}
-use borrow.Author.Tests.{ne_eqb}
+use lib.Dec.{eqb}
+use borrow.Author.Tests.{eq-eqb, ne_eqb}
+use Rattle.std.specs.List.{prefix_len}
+use Rattle.std.proofs.lemmas.List.Sums.{prefix_len-le-length, prefix_len_passes, prefix_len_stops}
 use Rattle.reference.specs.Control.{when◌then◌else◌}
 use Rattle.reference.specs.Text.{Text, ◌≟◌}
 use Rattle.laws.proofs.Scans.{if-true, if-false}
@@ -95,11 +98,25 @@ pub no_word : (words : List ℕ) (at : ℕ) → length words ≤ at → split (d
 unfolding split
 no_word words at h = rw (drop_of_length-le words h)
 
--- one byte more that is not 0
-pub one_more_byte : (words : List ℕ) {at e : ℕ} → ((i : ℕ) → at ≤ i → i < e → get_or words i 0 ≡ 0 → ⊥) → (get_or words e 0 ≡ 0 → ⊥)
-    → (i : ℕ) → at ≤ i → i < e + 1 → get_or words i 0 ≡ 0 → ⊥
-one_more_byte words {at} {e} f g i h k z =
-    by_cases (dec_lt i e) (λ l. f i h l z)
-    (λ l.
-    let same : i ≡ e = omega arith in
-    g (ap (λ (j : ℕ). get_or words j 0) (sym same) ∙ z))
+-- where a word ends, as the bytes before the first 0 tell it
+not-zero : (b : ℕ) → flip (eqb b 0) ≡ true → b ≡ 0 → ⊥
+not-zero b e z = true≢false (sym e ∙ ap flip (eq-eqb b 0 z))
+
+is_zero : (b : ℕ) → flip (eqb b 0) ≡ false → b ≡ 0
+is_zero b e = by_cases (ℕ_discrete b 0) (λ z. z) (λ n. absurd (true≢false (sym (ap flip (ne_eqb b 0 n)) ∙ e)))
+
+pub ends : (words : List ℕ) (at : ℕ) → at ≤ length words → EndsAt words at (at + prefix_len (λ b. flip (eqb b 0)) (drop at words))
+ends words at h =
+    let p : ℕ → Bool = λ b. flip (eqb b 0) in
+    let n : ℕ = prefix_len p (drop at words) in
+    let most : n ≤ length (drop at words) = prefix_len-le-length p (drop at words) in
+    let total : length (drop at words) ≡ length words - at = length-drop at words in
+    record {
+      behind = omega arith;
+      within = omega (arith, most, total);
+      before = λ i l k z.
+          (let here : at + (i - at) ≡ i = omega arith in
+          not-zero (get_or (drop at words) (i - at) 0) (prefix_len_passes p (drop at words) (i - at) 0 (omega arith))
+          (get_or-drop at words (i - at) 0 ∙ ap (λ (j : ℕ). get_or words j 0) here ∙ z));
+      there = λ l. sym (get_or-drop at words n 0) ∙ is_zero (get_or (drop at words) n 0) (prefix_len_stops p (drop at words) 0 (omega (arith, total)));
+    }

@@ -3,18 +3,16 @@ use Rattle.std.specs.Prelude.{ℕ, ◌+◌, ◌-◌, ◌*◌, ◌^◌, [], ◌�
 use Rattle.std.proofs.Math.Option.{Option, none, some}
 use Rattle.reference.specs.Control.{when◌then◌else◌, let_some◌else◌then◌}
 use Rattle.reference.specs.Text.{Text, bytes, starts_with}
-use Rattle.words.specs.declared.numerals.Value.{Value}
-use Rattle.words.specs.declared.numerals.Value.TheVariants.{Is, Not}
-
-abbrev pub option_of : Value → Option ℕ
-option_of (Is v) = some v
-option_of Not = none
 
 -- 0 to 9, A to F, a to f; 16 for another byte
 unfoldable pub digit : ℕ → ℕ
 digit b =
     when ltb b 48 then 16 else when ltb b 58 then b - 48 else when ltb b 65 then 16 else when ltb b 71 then b - 55
     else when ltb b 97 then 16 else when ltb b 103 then b - 87 else 16
+
+-- a digit to a base of 16 or less
+unfoldable pub digit_in : ℕ → ℕ → Option ℕ
+digit_in base b = when leb base (digit b) then none else some (digit b)
 
 -- the number that digits stand for, behind a number v
 unfoldable pub digits_from : ℕ → ℕ → Text → Option ℕ

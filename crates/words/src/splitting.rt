@@ -1,25 +1,28 @@
 // The words of a slice: each ends with a byte 0, the last one there or with the slice.
-ghost use Rattle.std.specs.Prelude.{◌≡◌, ◌+◌, ◌≤◌, [], length, get_or};
+ghost use Rattle.std.specs.Prelude.{◌≡◌, ◌≤◌, [], not, eqb, length, get_or};
+ghost use Rattle.std.specs.List.{prefix_len};
 ghost use Rattle.words.specs.Splitting.{split, number_of, EndsAt};
 
 use text::same;
+
+// How many bytes stand before the first 0.
+fn before_zero(s: &[u8]) -> usize
+    ensures { result ≡ prefix_len (λ b. not (eqb b 0)) s.now }
+{
+    s.iter().take_while(|b| **b != 0).count()
+}
 
 // Where the word that begins at `at` ends: at the first 0 from there on, or with the slice.
 pub fn word_end(words: &[u8], at: usize) -> usize
     requires { at ≤ length words.now }
     ensures { EndsAt words.now at result }
 {
-    let mut e = at;
-    while e < words.len() {
-        if words[e] == 0 {
-            return e;
-        }
-        e += 1;
-    }
-    e
+    at + before_zero(&words[at..])
 }
 
 // The number of a word in a row of words, from 0; how many there are, if it is none of them.
+// Kept: a jump from word to word, since `split` of a row that ends with a 0 has an empty piece more; and a number for none, which falls
+// into the `_` of a caller's `match` as a number of no meaning does (d).
 pub fn number_of(row: &[u8], word: &[u8]) -> u64
     ensures { result ≡ number_of (split row.now) word.now }
 {
@@ -37,6 +40,7 @@ pub fn number_of(row: &[u8], word: &[u8]) -> u64
 }
 
 // The word of a row that has a number, from 0; nothing past the last one.
+// Kept: a jump from word to word, as in `number_of` (d).
 pub fn nth_word(row: &[u8], n: u64) -> &[u8]
     ensures { result.now ≡ get_or (split row.now) n [] }
 {

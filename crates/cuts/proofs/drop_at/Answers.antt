@@ -1,18 +1,10 @@
 -- `cuts::drop_at` meets its contract. Assumes nothing.
-use native.Mathlib.Omega.{arith}
-use Rattle.cuts.proofs.Cutting.{cut-fewer, dropped-kept, cut-count, cut-first, dropped-cut}
+use Rattle.std.proofs.Common.{rules}
+use Rattle.cuts.proofs.Cutting.{dropped-kept, cut-first, cut-count, cut-fewer, dropped-cut}
 use Rattle.cuts.proofs.drop_at.Goals as goal
 
 pub returns-then-not-is_dead_result : goal.returns-then-not-is_dead_result
-returns-then-not-is_dead_result c =
-    let p = c.requires in
-    dropped-kept p.0 _ c.args.i p.1 c.is_dead_result.ensures c.if-not-is_dead_result.true
-
-pub overflow_add-first : goal.overflow_add-first
-overflow_add-first c =
-    let p = c.requires in
-    let low = cut-first p.0 _ c.args.i p.1 c.is_dead_result.ensures c.if-not-is_dead_result.false in
-    omega (arith, c.first.ensures)
+returns-then-not-is_dead_result c = search (rules, dropped-kept)
 
 pub overflow_sub-count : goal.overflow_sub-count
 overflow_sub-count c =

@@ -1,6 +1,6 @@
 -- What a code says: families' numbers, the family of a word that has a code, texts whose codes differ, and the codes that are made.
 -- Assumes nothing.
-use Prim.Native.Nat.{ℕ, ◌+◌, ◌-◌, ◌*◌, ◌/◌, ◌%◌, ◌≤◌, ◌<◌}
+use Prim.Native.Nat.{ℕ, zero, suc, ◌+◌, ◌-◌, ◌*◌, ◌/◌, ◌%◌, ◌≤◌, ◌<◌}
 use native.Mathlib.Omega.{arith}
 use native.Mathlib.Decide.{ℕ_discrete}
 use mathlib.Core.Logic.{◌⊎◌, inl, inr, by_cases}
@@ -25,12 +25,13 @@ use Rattle.names.specs.declared.families.Spelled.TheVariants.{Row as InRow, Fron
 use Rattle.names.proofs.Searches.{position_none, position_at, any_at, all-below, below_at}
 use Rattle.names.proofs.Texts.{same_true}
 use Rattle.names.proofs.Same.{same_row}
-use Rattle.lines.specs.Codes.{bucket, family_number, WIDTHS, coded_width, coded_name, Says, Codes}
-use Rattle.lines.specs.Words.{kind_of, buffer_of, start_of, len_of, code_of, first_bytes, text_of, token_of, Coded, Points}
-use Rattle.lines.specs.declared.fams.Named.TheVariants.{As}
+use Rattle.lines.specs.Codes.{bucket, family_number, WIDTHS, coded_width, coded_name, Says, Codes, Placed}
+use Rattle.lines.specs.Words.{kind_of, buffer_of, start_of, len_of, code_of, first_bytes, text_of, token_of, Coded, CodeIs, Points}
 use Rattle.lines.specs.Fams.{fam_text, Names}
 use Rattle.lines.proofs.words.Tokens.{in_tape, text_length, first-bytes-means, first-bytes-points}
 use Rattle.lines.proofs.fams.Families.{fam-row, row-names, word-names}
+use Rattle.std.specs.Prelude.{Some, None}
+use Rattle.std.specs.Prelude as std
 
 -- ---- the numbers of families
 
@@ -108,43 +109,39 @@ module _ (c : ℕ) (s : Text) where
 
 -- ---- a word with a code
 
-module _ (tape area : Text) (w : ℕ) (p : Points tape area w) (n : code_of w ≡ 0 → ⊥) where
-  pub says : Says (code_of w) (text_of tape area w)
+module _ (tape area : Text) (w : ℕ) (p : Points tape area w) where
+  -- what `code` answers is true of the text
+  pub says : {o : std.Option ℕ} {c : ℕ} → CodeIs w o → o ≡ Some c → Says c (text_of tape area w)
   unfolding Coded text_of
-  says = step p.coded
+  says {c = c} h e = let t = h.some c e in step t.0 t.1 p.coded
     where
-      step : (code_of w ≡ 0) ⊎ ((buffer_of w ≡ 0) × Says (code_of w) (take (len_of w) (drop (start_of w) tape))) → Says (code_of w) (text_of tape area w)
-      step (inl e) = absurd (n e)
-      step (inr h) = rw (in_tape tape area h.0) h.1
+      step : c ≡ code_of w → (c ≡ 0 → ⊥) → (code_of w ≡ 0) ⊎ ((buffer_of w ≡ 0) × Says (code_of w) (take (len_of w) (drop (start_of w) tape))) → Says c (text_of tape area w)
+      step ec n (inl z) = absurd (n (ec ∙ z))
+      step ec n (inr t) = rw (in_tape tape area t.0, ec) t.1
 
-  pub has_byte : 1 ≤ len_of w
-  has_byte = omega (arith, says.some_byte, text_length p)
-
-  pub has_place : {c : ℕ} → c ≡ code_of w → 1 ≤ c / 4
-  has_place ec = omega (arith, says.least)
-
-  module _ {c k : ℕ} (ec : c ≡ code_of w) (ek : k ≡ coded_width c) where
-    here : Says c (text_of tape area w)
-    here = rw ec says
+  module _ {c : ℕ} (q : Says c (text_of tape area w)) where
+    pub has_byte : 1 ≤ len_of w
+    has_byte = omega (arith, q.some_byte, text_length p)
 
     text_number : 36 ≤ c → is_row (coded_name c (text_of tape area w)) ≡ false
-    text_number h = no_row (coded_name c (text_of tape area w)) (omega (arith, here.number_is))
+    text_number h = no_row (coded_name c (text_of tape area w)) (omega (arith, q.number_is))
 
-    pub decoded_row : c < 36 → Names tape area (family (text_of tape area w)) (As (c / 4 - 1) k 0)
-    decoded_row h = row-names tape area (omega (arith, here.least)) (rw (ek, ← name-row c (text_of tape area w) h) (sym here.family_is))
+    module _ {k : ℕ} (ek : k ≡ coded_width c) where
+      pub decoded_row : c < 36 → Names tape area (family (text_of tape area w)) (Some (record { family = (c / 4 - 1); width = k; lowest = 0 }))
+      decoded_row h = row-names tape area (omega (arith, q.least)) (rw (ek, ← name-row c (text_of tape area w) h) (sym q.family_is))
 
-    pub decoded_whole : 36 ≤ c → c % 4 ≡ 0 → Names tape area (family (text_of tape area w)) (As w k 0)
-    decoded_whole h e =
-        let t : coded_name c (text_of tape area w) ≡ text_of tape area w = name-whole c (text_of tape area w) h e in
-        word-names tape area _ p (ap is_row (sym t) ∙ text_number h) (rw ek (ap (λ (x : Text). some (record { name = x; width = coded_width c; lowest = 0 })) (sym t) ∙ sym here.family_is))
+      pub decoded_whole : 36 ≤ c → c % 4 ≡ 0 → Names tape area (family (text_of tape area w)) (Some (record { family = w; width = k; lowest = 0 }))
+      decoded_whole h e =
+          let t : coded_name c (text_of tape area w) ≡ text_of tape area w = name-whole c (text_of tape area w) h e in
+          word-names tape area _ p (ap is_row (sym t) ∙ text_number h) (rw ek (ap (λ (x : Text). some (record { name = x; width = coded_width c; lowest = 0 })) (sym t) ∙ sym q.family_is))
 
-    pub decoded_front : 36 ≤ c → (c % 4 ≡ 0 → ⊥) → {v : ℕ} → v ≡ first_bytes w (len_of w - 1) → Names tape area (family (text_of tape area w)) (As v k 0)
-    decoded_front h m {v} ev =
-        let b : len_of w - 1 ≤ len_of w = omega arith in
-        let l : length (text_of tape area w) - 1 ≡ len_of w - 1 = ap (λ (x : ℕ). x - 1) (text_length p) in
-        let t : text_of tape area (first_bytes w (len_of w - 1)) ≡ coded_name c (text_of tape area w) =
-        ap (λ (x : Token). x.text) (first-bytes-means tape area w (len_of w - 1) p b) ∙ ap (λ (x : ℕ). take x (text_of tape area w)) (sym l) ∙ sym (name-front c (text_of tape area w) h m) in
-        rw ev (word-names tape area _ (first-bytes-points tape area w (len_of w - 1) p b) (rw t (text_number h)) (rw (ek, t) (sym here.family_is)))
+      pub decoded_front : 36 ≤ c → (c % 4 ≡ 0 → ⊥) → {v : ℕ} → v ≡ first_bytes w (len_of w - 1) → Names tape area (family (text_of tape area w)) (Some (record { family = v; width = k; lowest = 0 }))
+      decoded_front h m {v} ev =
+          let b : len_of w - 1 ≤ len_of w = omega arith in
+          let l : length (text_of tape area w) - 1 ≡ len_of w - 1 = ap (λ (x : ℕ). x - 1) (text_length p) in
+          let t : text_of tape area (first_bytes w (len_of w - 1)) ≡ coded_name c (text_of tape area w) =
+          ap (λ (x : Token). x.text) (first-bytes-means tape area w (len_of w - 1) p b) ∙ ap (λ (x : ℕ). take x (text_of tape area w)) (sym l) ∙ sym (name-front c (text_of tape area w) h m) in
+          rw ev (word-names tape area _ (first-bytes-points tape area w (len_of w - 1) p b) (rw t (text_number h)) (rw (ek, t) (sym q.family_is)))
 
 -- ---- a row's code
 
@@ -158,13 +155,12 @@ row-coded c s f q h =
     let i = q.least in
     ne_eqb (c / 4) (f + 1) n ∙ sym (fails (λ t. n (omega (arith, q.number_is, ap family_number (same_true (coded_name c s) (row_name f) t), row-numbered f h)))))
 
-module _ (tape area : Text) (w f : ℕ) {k : ℕ} (ek : k ≡ kind_of w) where
-  pub of_coded : {c : ℕ} → Points tape area w → k ≡ Register → c ≡ code_of w → (c ≡ 0 → ⊥) → f < 8 → eqb (c / 4) (f + 1) ≡ of_family (fam_text tape area f) (token_of tape area w)
-  unfolding of_family fam_of is let_some◌else◌then◌
-  of_coded {c} p e ec n h =
-      let q : Says c (text_of tape area w) = rw ec (says tape area w p (λ z. n (ec ∙ z))) in
-      rw (eq-eqb (kind_of w) Register (sym ek ∙ e), fam-row tape area {f = f} h)
-      (rw (if-true {A = Option NFam} (family (text_of tape area w)) none refl, q.family_is) (row-coded c (text_of tape area w) f q h))
+pub of_coded : (tape area : Text) (w f : ℕ) {k : ℕ} → k ≡ kind_of w → {c : ℕ}
+    → Says c (text_of tape area w) → k ≡ Register → f < 8 → eqb (c / 4) (f + 1) ≡ of_family (fam_text tape area f) (token_of tape area w)
+unfolding of_family fam_of is let_some◌else◌then◌
+of_coded tape area w f ek {c} q e h =
+    rw (eq-eqb (kind_of w) Register (sym ek ∙ e), fam-row tape area {f = f} h)
+    (rw (if-true {A = Option NFam} (family (text_of tape area w)) none refl, q.family_is) (row-coded c (text_of tape area w) f q h))
 
 -- ---- codes that differ
 
@@ -187,30 +183,20 @@ width_place a b h k e = sym (width_back a h) ∙ ap back e ∙ width_back b k
 pub one_code : {a b : ℕ} {s : Text} → Says a s → Says b s → a ≡ b
 unfolding coded_width
 one_code {a} {b} {s} f g =
-    let e : ◌≡◌ {A = NFam} (record { name = coded_name a s; width = coded_width a; lowest = 0 }) (record { name = coded_name b s; width = coded_width b; lowest = 0 }) = some_inj (sym f.family_is ∙ g.family_is) in
+    let e : ◌≡◌ {A = NFam} (record { name = coded_name a s; width = coded_width a; lowest = 0 })
+    (record { name = coded_name b s; width = coded_width b; lowest = 0 }) = some_inj (sym f.family_is ∙ g.family_is) in
     let n : coded_name a s ≡ coded_name b s = ap (λ (x : NFam). x.name) e in
     let m : a / 4 - 1 ≡ b / 4 - 1 = f.number_is ∙ ap family_number n ∙ sym g.number_is in
     let k : a % 4 ≡ b % 4 = width_place (a % 4) (b % 4) (omega arith) (omega arith) (ap (λ (x : NFam). x.width) e) in
     omega (arith, f.least, g.least)
 
-pub codes_differ : (tape area : Text) {v w a b : ℕ} → Points tape area v → Points tape area w → a ≡ code_of v → b ≡ code_of w → (a ≡ b → ⊥) → (a ≡ 0 → ⊥) → (b ≡ 0 → ⊥)
-    → false ≡ (text_of tape area v ≟ text_of tape area w)
-codes_differ tape area {v} {w} p q ea eb d na nb = sym (fails (λ t.
-    let f : Says (code_of v) (text_of tape area v) = says tape area v p (λ z. na (ea ∙ z)) in
-    let g : Says (code_of w) (text_of tape area w) = says tape area w q (λ z. nb (eb ∙ z)) in
-    d (ea ∙ one_code (rw (same_true (text_of tape area v) (text_of tape area w) t) at f) g ∙ sym eb)))
+pub codes_differ : {a b : ℕ} {s t : Text} → Says a s → Says b t → (a ≡ b → ⊥) → false ≡ (s ≟ t)
+codes_differ {s = s} {t = t} f g d = sym (fails (λ e. d (one_code (rw (same_true s t e) at f) g)))
 
 pub same_by : (tape area : Text) (v w : ℕ) {x : Bool} {s t : Text} → s ≡ text_of tape area v → t ≡ text_of tape area w → x ≡ (s ≟ t) → x ≡ (text_of tape area v ≟ text_of tape area w)
 same_by tape area v w es et e = rw (← es, ← et) e
 
 -- ---- the codes that are made
-
-pub width_at : (c k : ℕ) → c % 4 ≡ k → get_or WIDTHS k 0 ≡ coded_width c
-unfolding coded_width
-width_at c k e = rw e
-
-pub width-last : (c : ℕ) → (c % 4 ≡ 0 → ⊥) → (c % 4 ≡ 1 → ⊥) → (c % 4 ≡ 2 → ⊥) → 8 ≡ coded_width c
-width-last c a b d = width_at c 3 (omega (arith, a, b, d))
 
 pub spelled_as : {s : Text} {q r : Spelled} → Spells s (family s) q → q ≡ r → Spells s (family s) r
 spelled_as h e = rw e at h
@@ -221,45 +207,60 @@ spelled-wide h e f = rw (e, f) at h
 pub spelled-low : {s : Text} {q : Spelled} {r w l : ℕ} → Spells s (family s) q → q ≡ InRow r w l → l ≡ 0 → Spells s (family s) (InRow r w 0)
 spelled-low h e f = rw (e, f) at h
 
-pub no_code : (s : Text) → Codes s 0
-no_code s = record { small = omega arith; true = inl refl }
+pub no_code : (s : Text) → Codes s None
+no_code s = record { small = λ c e. cc; true = λ c e. absurd (let f : ⊥ = cc in f) }
+
+-- what `place_of` tells of a place
+pub placed : {w : ℕ} {o : std.Option ℕ} → Placed w o → {k : ℕ} → o ≡ Some k → (k < 4) × (w ≡ get_or WIDTHS k 0)
+placed h {k} e = (h.small k e, h.is k e)
+
+-- a place that is not that of 64 bits
+pub front-place : {w k : ℕ} → w ≡ get_or WIDTHS k 0 → (w ≡ 64 → ⊥) → 1 ≤ k
+front-place {k = zero} e n = absurd (n e)
+front-place {k = suc k} e n = omega arith
+
+some_code : {s : Text} {x : ℕ} → x < 64 → Says x s → Codes s (Some x)
+some_code {s} {x} h q = record { small = λ c e. let i : x ≡ c = cc in omega arith; true = λ c e. let i : x ≡ c = cc in rw i at q }
 
 module _ {s : Text} where
-  pub code_row : {r w x : ℕ} (k : ℕ) → Spells s (family s) (InRow r w 0) → (length s ≡ 0 → ⊥) → k < 4 → w ≡ get_or WIDTHS k 0 → x ≡ 4 + 4 * r + k → Codes s x
+  pub code_row : {r w x : ℕ} (k : ℕ) → Spells s (family s) (InRow r w 0) → (length s ≡ 0 → ⊥) → k < 4 → w ≡ get_or WIDTHS k 0 → x ≡ 4 + 4 * r + k → Codes s (Some x)
   unfolding coded_width
   code_row {r} {w} k h n b e ex = rw ex (
       let i : r < 8 = h.sound in
       let q : (4 + 4 * r + k) / 4 - 1 ≡ r = omega arith in
       let m : (4 + 4 * r + k) % 4 ≡ k = omega arith in
       let t : coded_name (4 + 4 * r + k) s ≡ row_name r = name-row (4 + 4 * r + k) s (omega arith) ∙ ap row_name q in
-      record {
-        small = omega arith;
-        true = inr (record { least = omega arith; some_byte = omega (arith, n); family_is = sym h.is ∙ rw (t, m, e); number_is = q ∙ sym (ap family_number t ∙ row-numbered r i) });
-      })
+      some_code (omega arith) (record { least = omega arith; some_byte = omega (arith, n); family_is = sym h.is ∙ rw (t, m, e); number_is = q ∙ sym (ap family_number t ∙ row-numbered r i) }))
 
-  pub code-whole : {n x : ℕ} → Spells s (family s) (Front n 64) → (n ≡ 0 → ⊥) → n ≡ length s → x ≡ bucket s → Codes s (36 + 4 * x)
+  pub code-whole : {n x : ℕ} → Spells s (family s) (Front n 64) → (n ≡ 0 → ⊥) → n ≡ length s → x ≡ bucket s → Codes s (Some (36 + 4 * x))
   unfolding coded_width
   code-whole {n} h z e ex = rw ex (
       let b = bucket-below s in
       let m : (36 + 4 * bucket s) % 4 ≡ 0 = omega arith in
       let t : coded_name (36 + 4 * bucket s) s ≡ s = name-whole (36 + 4 * bucket s) s (omega arith) m in
       let u : take n s ≡ s = ap (λ (x : ℕ). take x s) e ∙ take-length s in
-      record {
-        small = omega arith;
-        true = inr (record { least = omega arith; some_byte = omega (arith, z); family_is = sym h.is ∙ rw (t, m, u); number_is = let q : (36 + 4 * bucket s) / 4 - 1 ≡ 8 + bucket s = omega arith in q ∙ sym (ap family_number t ∙ text_numbered s (ap is_row (sym u) ∙ h.sound.1)) });
-      })
+      some_code (omega arith)
+      (record {
+        least = omega arith;
+        some_byte = omega (arith, z);
+        family_is = sym h.is ∙ rw (t, m, u);
+        number_is = let q : (36 + 4 * bucket s) / 4 - 1 ≡ 8 + bucket s = omega arith in q ∙ sym (ap family_number t ∙ text_numbered s (ap is_row (sym u) ∙ h.sound.1));
+      }))
 
-  pub code-front : {n w x y : ℕ} (k : ℕ) → Spells s (family s) (Front n w) → n + 1 ≡ length s → x ≡ bucket (take n s) → 1 ≤ k → k < 4 → w ≡ get_or WIDTHS k 0 → y ≡ 36 + 4 * x + k → Codes s y
+  pub code-front : {n w x y : ℕ} (k : ℕ) → Spells s (family s) (Front n w) → n + 1 ≡ length s → x ≡ bucket (take n s) → 1 ≤ k → k < 4 → w ≡ get_or WIDTHS k 0 → y ≡ 36 + 4 * x + k → Codes s (Some y)
   unfolding coded_width
   code-front {n} {w} {x} {y} k h z ex l b e ey = rw ey (
       let below : x < 7 = rw ex (bucket-below (take n s)) in
       let m : (36 + 4 * x + k) % 4 ≡ k = omega arith in
       let j : length s - 1 ≡ n = omega arith in
       let t : coded_name (36 + 4 * x + k) s ≡ take n s = name-front (36 + 4 * x + k) s (omega arith) (λ o. omega arith) ∙ ap (λ (i : ℕ). take i s) j in
-      record {
-        small = omega arith;
-        true = inr (record { least = omega arith; some_byte = omega arith; family_is = sym h.is ∙ rw (t, m, e); number_is = let q : (36 + 4 * x + k) / 4 - 1 ≡ 8 + x = omega arith in q ∙ ap (λ (i : ℕ). 8 + i) ex ∙ sym (ap family_number t ∙ text_numbered (take n s) h.sound.1) });
-      })
+      some_code (omega arith)
+      (record {
+        least = omega arith;
+        some_byte = omega arith;
+        family_is = sym h.is ∙ rw (t, m, e);
+        number_is = let q : (36 + 4 * x + k) / 4 - 1 ≡ 8 + x = omega arith in q ∙ ap (λ (i : ℕ). 8 + i) ex ∙ sym (ap family_number t ∙ text_numbered (take n s) h.sound.1);
+      }))
 
 -- `search (needs, coding)` proves what the functions on codes leave
-pub ruleset coding = (refl, bucket-short, bucket-long, has_byte, has_place, decoded_row, decoded_whole, decoded_front, codes_differ, same_by, no_code, code-whole, spelled_as, spelled-wide, spelled-low)
+pub ruleset coding = (refl, bucket-short, bucket-long, same_by, no_code, code-whole, spelled_as, spelled-wide, spelled-low)

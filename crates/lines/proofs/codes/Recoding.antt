@@ -3,12 +3,13 @@ use Prim.Native.Nat.{ℕ, suc, ◌+◌, ◌-◌, ◌<◌, min}
 use native.Mathlib.Nat.{lt_of_lt_of_le, min-le_left, min-le_right}
 use native.Mathlib.Omega.{arith}
 use native.Mathlib.Decide.{ℕ_discrete}
-use mathlib.Core.Logic.{◌⊎◌, inl, inr, by_cases}
+use mathlib.Core.Logic.{◌⊎◌, inr, by_cases}
 use mathlib.Core.Path.{◌≡◌, refl, sym, ◌∙◌}
 use mathlib.Core.List.{List, [], ◌∷◌, map}
 use lib.ListN.{length, take, drop, get_or, set, length-take, length-drop, length-set}
 use lib.Seq.{get_or-take, get_or-drop, get_or-set_same, get_or-set_other}
 use Rattle.reference.specs.Text.{Text}
+use Rattle.std.specs.Prelude as std
 use Rattle.lines.specs.Codes.{Says, Codes}
 use Rattle.lines.specs.Words.{buffer_of, start_of, len_of, with_code, text_of, token_of, tokens_of, Coded, Holds, Recoded, Recodes}
 use Rattle.lines.specs.Lines.{first_of, count_of, part_of, line_in, listing_of, Lined, Listed}
@@ -20,13 +21,13 @@ use Rattle.lines.proofs.words.Tokens.{coded_kind, coded_place, coded_start, code
 pub recoded_same : (tape : Text) (w : ℕ) → Recoded tape w w
 recoded_same tape w = record { means = λ area. refl; points = λ area p. p }
 
-module _ (tape : Text) (w : ℕ) {p s l c r : ℕ} (ep : p ≡ buffer_of w) (z : p ≡ 0) (es : s ≡ start_of w) (el : l ≡ len_of w) (h : Codes (take (s + l - s) (drop s tape)) c) (er : r ≡ with_code w c) where
+module _ (tape : Text) (w : ℕ) {p s l c r : ℕ} (ep : p ≡ buffer_of w) (z : p ≡ 0) (es : s ≡ start_of w) (el : l ≡ len_of w) {o : std.Option ℕ}
+    (h : Codes (take (s + l - s) (drop s tape)) o) (ec : o ≡ std.Some c) (er : r ≡ with_code w c) where
   same_part : take (s + l - s) (drop s tape) ≡ take (len_of w) (drop (start_of w) tape)
   same_part = let k : s + l - s ≡ len_of w = omega arith in rw (k, es)
 
-  code-true : (c ≡ 0) ⊎ Says c (take (s + l - s) (drop s tape)) → (c ≡ 0) ⊎ ((buffer_of w ≡ 0) × Says c (take (len_of w) (drop (start_of w) tape)))
-  code-true (inl e) = inl e
-  code-true (inr f) = inr (sym ep ∙ z, rw same_part at f)
+  code-true : (c ≡ 0) ⊎ ((buffer_of w ≡ 0) × Says c (take (len_of w) (drop (start_of w) tape)))
+  code-true = let f = h.true c ec in inr (sym ep ∙ z, rw same_part at f)
 
   pub recoded_with : Recoded tape w r
   unfolding Coded text_of
@@ -35,7 +36,7 @@ module _ (tape : Text) (w : ℕ) {p s l c r : ℕ} (ep : p ≡ buffer_of w) (z :
     points = λ area p. record {
       inside = rw (coded_place w c, coded_start w c, coded-len w c) p.inside;
       short = rw (coded_start w c, coded-len w c) p.short;
-      coded = rw (coded_place w c, coded_start w c, coded-len w c, coded-code w c) (code-true h.true);
+      coded = rw (coded_place w c, coded_start w c, coded-len w c, coded-code w c) code-true;
     };
   })
 

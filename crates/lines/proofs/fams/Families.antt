@@ -2,7 +2,7 @@
 use Prim.Native.Nat.{ℕ, ◌≤◌, ◌<◌}
 use native.Mathlib.Omega.{arith}
 use native.Mathlib.Decide.{dec_lt}
-use mathlib.Core.Logic.{by_cases}
+use mathlib.Core.Logic.{◌⊎◌, inl, inr, by_cases}
 use mathlib.Core.Path.{◌≡◌, refl, sym, ap, ◌∙◌}
 use mathlib.Core.Bool.{Bool, true, false}
 use mathlib.Core.Option.{Option, none, some}
@@ -25,9 +25,10 @@ use Rattle.names.proofs.Bytes.{some_byte}
 use Rattle.names.proofs.Volatiles.{row_overwritten, text_overwritten}
 use Rattle.lines.specs.Words.{kind_of, len_of, first_bytes, text_of, token_of, Points}
 use Rattle.lines.specs.declared.fams.Named.{Named}
-use Rattle.lines.specs.declared.fams.Named.TheVariants.{As, Nothing}
 use Rattle.lines.specs.Fams.{Fam, fam_text, fam_number, Known, Names}
 use Rattle.lines.proofs.words.Tokens.{text_length, first-bytes-means, first-bytes-points}
+use Rattle.std.specs.Prelude as std
+use Rattle.std.specs.Prelude.{Some, None, MatchOption}
 
 -- ---- a family: a row below 8, else a name
 
@@ -71,8 +72,13 @@ module _ (tape area : Text) {f g : Fam} (kf : Known tape area f) (kg : Known tap
       (λ i. rw (fam-row tape area {f = f} h, fam-row tape area {f = g} i) (sym (same_row f g h i)))
       (λ i. ne_eqb f g (λ e. omega arith) ∙ sym (rw (fam-row tape area {f = f} h, fam-name tape area {f = g} i) (row-not_text f (text_of tape area g) h (kg.no_row i))))
 
-  pub name-not-row : 8 ≤ f → g < 8 → false ≡ (fam_text tape area f ≟ fam_text tape area g)
+  name-not-row : 8 ≤ f → g < 8 → false ≡ (fam_text tape area f ≟ fam_text tape area g)
   name-not-row h i = rw (fam-name tape area {f = f} h, fam-row tape area {f = g} i) (sym (text_not_row g (text_of tape area f) i (kf.no_row h)))
+
+  -- where one of the two is a row, their numbers tell
+  pub same_with_row : (f < 8) ⊎ ((8 ≤ f) × (g < 8)) → eqb f g ≡ (fam_text tape area f ≟ fam_text tape area g)
+  same_with_row (inl h) = same_as_row h
+  same_with_row (inr h) = ne_eqb f g (λ e. omega arith) ∙ name-not-row h.0 h.1
 
   pub same_as_name : {x : Bool} → 8 ≤ f → 8 ≤ g → x ≡ (text_of tape area f ≟ text_of tape area g) → x ≡ (fam_text tape area f ≟ fam_text tape area g)
   same_as_name h i e = rw (fam-name tape area {f = f} h, fam-name tape area {f = g} i) e
@@ -85,44 +91,44 @@ fam_overwritten tape area c f k = row_or-name f
 
 -- ---- names
 
-same_as : {f g : Fam} {k l m n : ℕ} → As f k m ≡ As g l n → f ≡ g
+same_as : {m n : Named} → ◌≡◌ {A = std.Option Named} (Some m) (Some n) → m ≡ n
 same_as e = cc
 
-never_as : {f : Fam} {k l : ℕ} {X : Type 0} → Nothing ≡ As f k l → X
+never_as : {n : Named} {X : Type 0} → ◌≡◌ {A = std.Option Named} None (Some n) → X
 never_as e = absurd (let z : ◌≡◌ {A = ℕ} 0 1 = cc in omega arith)
 
 -- what a caller knows of the answer
-module _ {tape area : Text} {o : Option N.Fam} {r : Named} (h : Names tape area o r) where
-  pub named_as : {f : Fam} {k l : ℕ} → r ≡ As f k l → o ≡ some (record { name = fam_text tape area f; width = k; lowest = l })
+module _ {tape area : Text} {o : Option N.Fam} {r : std.Option Named} (h : Names tape area o r) where
+  pub named_as : {n : Named} → r ≡ Some n → o ≡ some (record { name = fam_text tape area n.family; width = n.width; lowest = n.lowest })
   named_as e = rw (← h.is, e)
 
-  pub named-not : r ≡ Nothing → o ≡ none
+  pub named-not : r ≡ None → o ≡ none
   named-not e = rw (← h.is, e)
 
-  pub as_known : {f : Fam} {k l : ℕ} → r ≡ As f k l → Known tape area f
-  as_known {f} {k} {l} e = h.known f k l e
+  pub as_known : {n : Named} → r ≡ Some n → Known tape area n.family
+  as_known {n} e = h.known n e
 
 -- and the answers that are made
 module _ (tape area : Text) where
-  no_name : Names tape area none Nothing
-  no_name = record { is = refl; known = λ f k l e. never_as e }
+  no_name : Names tape area none None
+  no_name = record { is = refl; known = λ m e. never_as e }
 
-  pub row-names : {r k l : ℕ} {o : Option N.Fam} → r < 8 → some (record { name = row_name r; width = k; lowest = l }) ≡ o → Names tape area o (As r k l)
-  row-names {r} h e = record { is = rw (fam-row tape area {f = r} h) e; known = λ f l m i. rw (sym (same_as i)) (row-known tape area h) }
+  pub row-names : {r k l : ℕ} {o : Option N.Fam} → r < 8 → some (record { name = row_name r; width = k; lowest = l }) ≡ o → Names tape area o (Some (record { family = r; width = k; lowest = l }))
+  row-names {r} h e = record { is = rw (fam-row tape area {f = r} h) e; known = λ m i. rw (← ap (λ (x : Named). x.family) (same_as i)) (row-known tape area h) }
 
   pub word-names : {w k l : ℕ} (s : Text) → Points tape area w → is_row (text_of tape area w) ≡ false
-      → some (record { name = text_of tape area w; width = k; lowest = l }) ≡ family s → Names tape area (family s) (As w k l)
+      → some (record { name = text_of tape area w; width = k; lowest = l }) ≡ family s → Names tape area (family s) (Some (record { family = w; width = k; lowest = l }))
   word-names {w} s p n e =
       let h = name-least w (omega (arith, text_length p, some_byte s _ (sym e))) in
-      record { is = rw (fam-name tape area {f = w} h) e; known = λ f l m i. rw (sym (same_as i)) (record { points = λ _. p; no_row = λ _. n }) }
+      record { is = rw (fam-name tape area {f = w} h) e; known = λ m i. rw (← ap (λ (x : Named). x.family) (same_as i)) (record { points = λ _. p; no_row = λ _. n }) }
 
 -- s is the token's text, q what its bytes say
 module _ (tape area : Text) (w : ℕ) {s : Text} (es : s ≡ text_of tape area w) {q : Spelled} (h : Spells s (family s) q) where
-  pub named-row : {r k l : ℕ} → q ≡ InRow r k l → Names tape area (family (text_of tape area w)) (As r k l)
+  pub named-row : {r k l : ℕ} → q ≡ InRow r k l → Names tape area (family (text_of tape area w)) (Some (record { family = r; width = k; lowest = l }))
   named-row e = let g = rw e at h in row-names tape area g.sound (g.is ∙ ap family es)
 
-  pub named_none : q ≡ Unspelled → Names tape area (family (text_of tape area w)) Nothing
-  named_none e = let g = rw e at h in record { is = g.is ∙ ap family es; known = λ f l m i. never_as i }
+  pub named_none : q ≡ Unspelled → Names tape area (family (text_of tape area w)) None
+  named_none e = let g = rw e at h in record { is = g.is ∙ ap family es; known = λ m i. never_as i }
 
   module _ (p : Points tape area w) {n k : ℕ} (e : q ≡ Front n k) where
     front : Spells s (family s) (Front n k)
@@ -131,18 +137,18 @@ module _ (tape area : Text) (w : ℕ) {s : Text} (es : s ≡ text_of tape area w
     pub front-inside : n ≤ len_of w
     front-inside = omega (arith, front.sound.0, ap length es, text_length p)
 
-    pub named-front : {v : ℕ} → v ≡ first_bytes w n → Names tape area (family (text_of tape area w)) (As v k 0)
+    pub named-front : {v : ℕ} → v ≡ first_bytes w n → Names tape area (family (text_of tape area w)) (Some (record { family = v; width = k; lowest = 0 }))
     named-front i =
         let t : text_of tape area (first_bytes w n) ≡ take n s = ap (λ (x : Token). x.text) (first-bytes-means tape area w n p front-inside) ∙ rw es in
         rw i (word-names tape area _ (first-bytes-points tape area w n p front-inside) (rw t front.sound.1) (rw t (front.is ∙ ap family es)))
 
 -- k is the kind of the token
 module _ (tape area : Text) (w : ℕ) {k : ℕ} (ek : k ≡ kind_of w) where
-  pub fam-other : (k ≡ Register → ⊥) → Names tape area (fam_of (token_of tape area w)) Nothing
+  pub fam-other : (k ≡ Register → ⊥) → Names tape area (fam_of (token_of tape area w)) None
   unfolding fam_of is
   fam-other n = rw (if-false {A = Option N.Fam} (family (text_of tape area w)) none (ne_eqb (kind_of w) Register (λ f. n (ek ∙ f)))) (no_name tape area)
 
-  pub fam-register : {r : Named} → k ≡ Register → Names tape area (family (text_of tape area w)) r → Names tape area (fam_of (token_of tape area w)) r
+  pub fam-register : {r : std.Option Named} → k ≡ Register → Names tape area (family (text_of tape area w)) r → Names tape area (fam_of (token_of tape area w)) r
   unfolding fam_of is
   fam-register e h = rw (if-true {A = Option N.Fam} (family (text_of tape area w)) none (eq-eqb (kind_of w) Register (sym ek ∙ e))) h
 
@@ -158,32 +164,50 @@ unfolding ◌and◌
 and_false true = refl
 and_false false = refl
 
-module _ (tape area : Text) (w : ℕ) {r : Named} (h : Names tape area (fam_of (token_of tape area w)) r) (fam : Text) where
-  pub of_none : r ≡ Nothing → false ≡ of_family fam (token_of tape area w)
+module _ (tape area : Text) (w : ℕ) {r : std.Option Named} (h : Names tape area (fam_of (token_of tape area w)) r) (fam : Text) where
+  pub of_none : r ≡ None → false ≡ of_family fam (token_of tape area w)
   unfolding of_family let_some◌else◌then◌
   of_none e = rw (← h.is, e)
 
-  pub narrow_none : r ≡ Nothing → false ≡ is_narrow fam (token_of tape area w)
+  pub narrow_none : r ≡ None → false ≡ is_narrow fam (token_of tape area w)
   unfolding is_narrow let_some◌else◌then◌
   narrow_none e = rw (← h.is, e)
 
-  module _ {g : Fam} {k m : ℕ} (e : r ≡ As g k m) where
-    pub narrow_wide : 32 ≤ k → false ≡ is_narrow fam (token_of tape area w)
+  module _ {n : Named} (e : r ≡ Some n) where
+    pub narrow_wide : 32 ≤ n.width → false ≡ is_narrow fam (token_of tape area w)
     unfolding is_narrow let_some◌else◌then◌
-    narrow_wide l = rw (← h.is, e, le-ltb k 32 l) (sym (and_false (fam_text tape area g ≟ fam)))
+    narrow_wide l = rw (← h.is, e, le-ltb n.width 32 l) (sym (and_false (fam_text tape area n.family ≟ fam)))
 
     -- x is whether the token's family is this one
-    module _ {x : Bool} (ex : x ≡ (fam_text tape area g ≟ fam)) where
+    module _ {x : Bool} (ex : x ≡ (fam_text tape area n.family ≟ fam)) where
       pub of_as : x ≡ of_family fam (token_of tape area w)
       unfolding of_family let_some◌else◌then◌
       of_as = rw (← h.is, e) ex
 
-      pub narrow_as : k < 32 → x ≡ is_narrow fam (token_of tape area w)
+      pub narrow_as : n.width < 32 → x ≡ is_narrow fam (token_of tape area w)
       unfolding is_narrow let_some◌else◌then◌
-      narrow_as l = rw (← h.is, e, lt-ltb k 32 l) (ex ∙ sym (and_true (fam_text tape area g ≟ fam)))
+      narrow_as l = rw (← h.is, e, lt-ltb n.width 32 l) (ex ∙ sym (and_true (fam_text tape area n.family ≟ fam)))
+
+-- b is what the code asks of the family, if there is one
+module _ (tape area : Text) (w : ℕ) {r : std.Option Named} (h : Names tape area (fam_of (token_of tape area w)) r) (fam : Text) (b : Bool) {P : Named → Type 0} (m : MatchOption r (b ≡ false) P) where
+  pub of_asked : ((n : Named) → P n → b ≡ (fam_text tape area n.family ≟ fam)) → b ≡ of_family fam (token_of tape area w)
+  of_asked asks = step r refl
+    where
+      step : (v : std.Option Named) → r ≡ v → b ≡ of_family fam (token_of tape area w)
+      step None e = (rw e at m) ∙ of_none tape area w h fam e
+      step (Some n) e = of_as tape area w h fam e (asks n (rw e at m))
+
+  pub narrow_asked : ((n : Named) → P n → n.width < 32 → b ≡ (fam_text tape area n.family ≟ fam)) → ((n : Named) → P n → 32 ≤ n.width → b ≡ false) → b ≡ is_narrow fam (token_of tape area w)
+  narrow_asked asks wide = step r refl
+    where
+      step : (v : std.Option Named) → r ≡ v → b ≡ is_narrow fam (token_of tape area w)
+      step None e = (rw e at m) ∙ narrow_none tape area w h fam e
+      step (Some n) e = by_cases (dec_lt n.width 32)
+          (λ l. narrow_as tape area w h fam e (asks n (rw e at m) l) l)
+          (λ l. let k : 32 ≤ n.width = omega (arith, l) in wide n (rw e at m) k ∙ narrow_wide tape area w h fam e k)
 
 pub of_other : (tape area : Text) (w : ℕ) (fam : Text) {k : ℕ} → k ≡ kind_of w → (k ≡ Register → ⊥) → false ≡ of_family fam (token_of tape area w)
 of_other tape area w fam ek n = of_none tape area w (fam-other tape area w ek n) fam refl
 
 -- `search (needs, families)` proves what the functions on one token leave
-pub ruleset families = (same_as_row, name-not-row, same_as_name, name-points, number_row, number_name, named-row, named_none, front-inside, named-front, fam-other, fam-register, as_known, of_none, of_other, of_as, narrow_none, narrow_wide, narrow_as)
+pub ruleset families = (same_as_name, name-points, number_row, number_name, named-row, named_none, front-inside, named-front, fam-other, fam-register, as_known, of_none, of_other, of_as, narrow_none, narrow_wide, narrow_as)

@@ -1,62 +1,33 @@
--- `written_from`, token by token. Assumes nothing.
-use Prim.Native.Nat.{ℕ, zero, suc, ◌+◌, ◌≤◌, ◌<◌}
-use native.Mathlib.Numerals.{add-one}
-use mathlib.Core.Path.{◌≡◌, refl, sym, ap, ◌∙◌}
-use mathlib.Core.Bool.{Bool, true, false}
+-- `written_from`, place by place. Assumes nothing.
+use Prim.Native.Nat.{ℕ, suc, ◌+◌, ◌<◌}
+use native.Mathlib.Omega.{arith}
+use native.Mathlib.Nat.{add-zero, zero-add}
+use mathlib.Core.Path.{◌≡◌, refl, sym, ap}
+use mathlib.Core.Bool.{Bool}
 use mathlib.Core.List.{List, [], ◌∷◌}
-use lib.ListN.{length, get_or, drop, drop_of_length-le}
-use lib.Seq.{drop-cons}
-use Rattle.reference.specs.Control.{◌and◌, ◌or◌}
-use Rattle.reference.specs.Lists.{get}
+use lib.ListN.{length, get_or, length-map, get_or-map}
+use Rattle.std.specs.List.{list_any, range_with_len}
+use Rattle.reference.specs.Control.{◌and◌}
 use Rattle.reference.specs.Text.{Text}
 use Rattle.reference.specs.Listing.{Token}
 use Rattle.reference.specs.Names.{of_family}
 use Rattle.reference.specs.Shapes.{is_written}
 use Rattle.reference.specs.Join.{written_from}
-use Rattle.laws.proofs.Scans.{or_true, or_false}
 use Rattle.lines.specs.Words.{token_of, tokens_of}
-use Rattle.lines.proofs.words.Each.{map-drop}
+use Rattle.laws.proofs.Std.{or-std}
 
-get_after : {A : Type 0} (s : List A) (k : ℕ) → get (drop k s) 1 ≡ get s (suc k)
-get_after [] zero = refl
-get_after (x ∷ xs) zero = refl
-get_after [] (suc k) = refl
-get_after (x ∷ xs) (suc k) = get_after xs k
+-- t asks of the places of a line, from a on, whether one of the family stands there that is written
+written_places : (fam : Text) (d : Token) (t : ℕ → Bool) (ts : List Token) (a : ℕ) → ((k : ℕ) → k < length ts → t (a + k) ≡ (of_family fam (get_or ts k d) and is_written ts k))
+    → list_any t (range_with_len a (length ts)) ≡ written_from fam ts
+unfolding written_from is_written
+written_places fam d t [] a h = refl
+written_places fam d t (x ∷ xs) a h =
+    rw (sym (rw add-zero at (h 0 (omega arith))), written_places fam d t xs (a + 1) (λ k b. let e : a + 1 + k ≡ a + suc k = omega arith in rw e (h (suc k) (omega arith))))
+    (or-std (t a) (written_from fam xs))
 
--- what is written is said of a place in the line
-written_here : (ts : List Token) (k : ℕ) → is_written (drop k ts) 0 ≡ is_written ts k
-unfolding is_written
-written_here ts k = rw (get_after ts k)
-
-written-cons : (fam : Text) (t : Token) (ts : List Token) → written_from fam (t ∷ ts) ≡ ((of_family fam t and is_written (t ∷ ts) 0) or written_from fam ts)
-unfolding written_from
-written-cons fam t ts = refl
-
-module _ (tape area fam : Text) (ws : List ℕ) (k : ℕ) (inv : written_from fam (tokens_of tape area ws) ≡ written_from fam (tokens_of tape area (drop k ws))) where
-  module _ (h : k < length ws) {x : Bool} (ex : x ≡ (of_family fam (token_of tape area (get_or ws k 0)) and is_written (tokens_of tape area ws) k)) where
-    head : tokens_of tape area (drop k ws) ≡ token_of tape area (get_or ws k 0) ∷ tokens_of tape area (drop (k + 1) ws)
-    head = rw (add-one, drop-cons ws k 0)
-
-    place : is_written (token_of tape area (get_or ws k 0) ∷ tokens_of tape area (drop (k + 1) ws)) 0 ≡ is_written (tokens_of tape area ws) k
-    place =
-        ap (λ (ts : List Token). is_written ts 0) (sym head ∙ map-drop (token_of tape area) k ws) ∙ written_here (tokens_of tape area ws) k
-
-    step : written_from fam (tokens_of tape area ws) ≡ (x or written_from fam (tokens_of tape area (drop (k + 1) ws)))
-    step =
-        inv
-        ∙ ap (written_from fam) head
-        ∙ written-cons fam (token_of tape area (get_or ws k 0)) (tokens_of tape area (drop (k + 1) ws))
-        ∙ ap (λ (b : Bool). (of_family fam (token_of tape area (get_or ws k 0)) and b) or written_from fam (tokens_of tape area (drop (k + 1) ws))) place
-        ∙ ap (λ (b : Bool). b or written_from fam (tokens_of tape area (drop (k + 1) ws))) (sym ex)
-
-    pub written-true : x ≡ true → true ≡ written_from fam (tokens_of tape area ws)
-    written-true e = sym (step ∙ or_true _ e)
-
-    pub written_next : x ≡ false → written_from fam (tokens_of tape area ws) ≡ written_from fam (tokens_of tape area (drop (k + 1) ws))
-    written_next e = step ∙ or_false _ e
-
-  pub written-false : length ws ≤ k → false ≡ written_from fam (tokens_of tape area ws)
-  unfolding written_from
-  written-false h = sym (inv ∙ rw (drop_of_length-le ws {i = k} h))
-
-pub ruleset writing = (refl, written-true, written_next, written-false)
+pub written_any : (tape area fam : Text) (ws : List ℕ)
+    → list_any (λ k. of_family fam (token_of tape area (get_or ws k 0)) and is_written (tokens_of tape area ws) k) (range_with_len 0 (length ws)) ≡ written_from fam (tokens_of tape area ws)
+written_any tape area fam ws =
+    rw (sym (length-map ws (token_of tape area)))
+    (written_places fam (token_of tape area 0) _ (tokens_of tape area ws) 0
+    (λ k b. rw zero-add (ap (λ t. of_family fam t and is_written (tokens_of tape area ws) k) (sym (get_or-map (token_of tape area) ws k 0)))))

@@ -20,12 +20,12 @@ use Rattle.reference.proofs.Cases.{both, true-false}
 use Rattle.laws.proofs.Scans.{if-true, if-false, starts_short}
 use Rattle.lines.specs.Words.{kind_of, len_of, without_first, text_of, token_of, tokens_of, Points, Holds}
 use Rattle.lines.specs.declared.shapes.Expr.{Expr}
-use Rattle.lines.specs.declared.shapes.Assigned.{Assigned}
-use Rattle.lines.specs.declared.shapes.Assigned.TheVariants.{To, Nothing}
 use Rattle.lines.specs.Shapes.{opened, expr_words, Expression, Opens, Sides, Assigns, sided}
 use Rattle.lines.proofs.words.Tokens.{text_length, without_first-means, holds-drop}
 use Rattle.lines.proofs.shapes.Right.{opened-length, opened-holds, expr-length}
 use Rattle.lines.proofs.shapes.Cuts.{cut_open, cut-gone, cut-kept}
+use Rattle.std.specs.Prelude as std
+use Rattle.std.specs.Prelude.{Some, None}
 
 -- ---- texts
 
@@ -51,21 +51,21 @@ unfolding let_some◌else◌then◌ when◌then◌else◌
 some_side tape area ws [] h = absurd (omega arith)
 some_side tape area ws (t ∷ ts) h = refl
 
-no_to : {x : Expr} {X : Type 0} → Nothing ≡ To x → X
+no_to : {x : Expr} {X : Type 0} → None ≡ Some x → X
 no_to e = absurd (let z : ◌≡◌ {A = ℕ} 0 1 = cc in omega arith)
 
 module _ {tape area : Text} {ws : List ℕ} {first : ℕ} (o : Opens tape area ws) (low : 1 ≤ first) where
-  nothing : none ≡ sided tape area ws (cut_semicolon (tokens_of tape area (drop first (opened ws)))) → Sides tape area ws first Nothing
+  nothing : none ≡ sided tape area ws (cut_semicolon (tokens_of tape area (drop first (opened ws)))) → Sides tape area ws first None
   nothing e = record { is = e; side = λ x f. no_to f }
 
   something : (x : Expr) → Expression ws x → cut_semicolon (tokens_of tape area (drop first (opened ws))) ≡ some (tokens_of tape area (expr_words ws x))
-      → Sides tape area ws first (To x)
+      → Sides tape area ws first (Some x)
   something x h e = record {
     is = some_side tape area ws (tokens_of tape area (expr_words ws x)) (rw (length-map, expr-length h) h.some) ∙ ap (sided tape area ws) (sym e);
     side = λ y f. let q : x ≡ y = cc in rw (sym q) h;
   }
 
-  pub side-empty : length ws ≤ first → Sides tape area ws first Nothing
+  pub side-empty : length ws ≤ first → Sides tape area ws first None
   unfolding cut_semicolon let_some◌else◌then◌
   side-empty h =
       let e : drop first (opened ws) ≡ [] = drop_of_length-le (opened ws) {i = first} (rw opened-length h) in
@@ -105,7 +105,7 @@ module _ {tape area : Text} {ws : List ℕ} {first : ℕ} (o : Opens tape area w
         told : {y : Bool} → b ≡ y → ends_with (text_of tape area (get_or base last 0)) (bytes ";") ≡ y
         told f = rw (last_word, ← es) (sym eb ∙ f)
 
-        pub side_open : b ≡ false → Sides tape area ws first Nothing
+        pub side_open : b ≡ false → Sides tape area ws first None
         unfolding let_some◌else◌then◌
         side_open f = nothing (rw (cut_open tape area last base base-length (told f)))
 
@@ -113,7 +113,7 @@ module _ {tape area : Text} {ws : List ℕ} {first : ℕ} (o : Opens tape area w
           some_byte : 1 ≤ len_of w
           some_byte = omega (arith, ends_some (text_of tape area w) (rw (← es) (sym eb ∙ ends)), text_length last-points)
 
-          pub side-kept : (n ≡ 1 → ⊥) → Sides tape area ws first (To (record { first = first; count = length ws - first; cut = true }))
+          pub side-kept : (n ≡ 1 → ⊥) → Sides tape area ws first (Some (record { first = first; count = length ws - first; cut = true }))
           unfolding expr_words when◌then◌else◌
           side-kept f =
               something (record { first = first; count = length ws - first; cut = true })
@@ -126,11 +126,11 @@ module _ {tape area : Text} {ws : List ℕ} {first : ℕ} (o : Opens tape area w
             gone : cut_semicolon (tokens_of tape area base) ≡ some (tokens_of tape area (take last base))
             gone = cut-gone tape area last base base-length base-holds (told ends) (rw (last_word, ← en) one)
 
-            pub side-only : length ws ≡ first + 1 → Sides tape area ws first Nothing
+            pub side-only : length ws ≡ first + 1 → Sides tape area ws first None
             unfolding let_some◌else◌then◌ when◌then◌else◌
             side-only f = let z : last ≡ 0 = omega arith in nothing (rw (gone, z))
 
-            pub side-gone : (length ws ≡ first + 1 → ⊥) → Sides tape area ws first (To (record { first = first; count = length ws - first - 1; cut = false }))
+            pub side-gone : (length ws ≡ first + 1 → ⊥) → Sides tape area ws first (Some (record { first = first; count = length ws - first - 1; cut = false }))
             unfolding expr_words when◌then◌else◌
             side-gone f =
                 something (record { first = first; count = length ws - first - 1; cut = false })
@@ -182,12 +182,12 @@ module _ (tape area : Text) where
       ∙ ap (λ (ts : List Token). sided tape area (w ∷ u ∷ us) (cut_semicolon ts)) (right-words w u us (o.holds.at 1 o.long) o.mark (begins w u e).0)
 
 module _ {tape area : Text} {ws : List ℕ} (h : Holds tape area ws) where
-  pub assigned-short : length ws < 2 → Assigns tape area ws Nothing
+  pub assigned-short : length ws < 2 → Assigns tape area ws None
   assigned-short l = record { is = assign-short tape area ws l; side = λ x f. no_to f }
 
   -- b is whether the line begins as an assignment, n the length of the token with ` = `
   module _ (l : 1 < length ws) {b : Bool} (eb : b ≡ begins_assignment (token_of tape area (get_or ws 0 0)) (token_of tape area (get_or ws 1 0))) where
-    pub assigned-other : b ≡ false → Assigns tape area ws Nothing
+    pub assigned-other : b ≡ false → Assigns tape area ws None
     assigned-other f = record { is = assign_other tape area ws l (sym eb ∙ f); side = λ x f. no_to f }
 
     module _ (f : b ≡ true) where
@@ -198,10 +198,10 @@ module _ {tape area : Text} {ws : List ℕ} (h : Holds tape area ws) where
         mark = omega (arith, text_length (h.at 1 l), starts_three (text_of tape area (get_or ws 1 0)) (begins tape area (get_or ws 0 0) (get_or ws 1 0) (sym eb ∙ f)).1);
       }
 
-      from-side : {first : ℕ} {r : Assigned} → Sides tape area ws first r → (when eqb (len_of (get_or ws 1 0)) 3 then 2 else 1) ≡ first → Assigns tape area ws r
+      from-side : {first : ℕ} {r : std.Option Expr} → Sides tape area ws first r → (when eqb (len_of (get_or ws 1 0)) 3 then 2 else 1) ≡ first → Assigns tape area ws r
       from-side s e = record { is = s.is ∙ sym (assign_some tape area ws opens (sym eb ∙ f) ∙ rw e); side = s.side }
 
-      module _ {n : ℕ} (en : n ≡ len_of (get_or ws 1 0)) {r : Assigned} where
+      module _ {n : ℕ} (en : n ≡ len_of (get_or ws 1 0)) {r : std.Option Expr} where
         pub assigned-next : n ≡ 3 → Sides tape area ws 2 r → Assigns tape area ws r
         assigned-next e s = from-side s (if-true _ _ (eq-eqb _ _ (sym en ∙ e)))
 
@@ -209,14 +209,14 @@ module _ {tape area : Text} {ws : List ℕ} (h : Holds tape area ws) where
         assigned-rest e s = from-side s (if-false _ _ (ne_eqb _ _ (λ q. e (en ∙ q))))
 
 -- what a caller knows of the answer
-pub assigned_to : {tape area : Text} {ws : List ℕ} {r : Assigned} {x : Expr} → Assigns tape area ws r → r ≡ To x
+pub assigned_to : {tape area : Text} {ws : List ℕ} {r : std.Option Expr} {x : Expr} → Assigns tape area ws r → r ≡ Some x
     → assignment_of (tokens_of tape area ws) ≡ some (record { lhs = token_of tape area (get_or ws 0 0); expr = tokens_of tape area (expr_words ws x) })
 assigned_to h e = rw (← h.is, e)
 
-pub assigned-not : {tape area : Text} {ws : List ℕ} {r : Assigned} → Assigns tape area ws r → r ≡ Nothing → assignment_of (tokens_of tape area ws) ≡ none
+pub assigned-not : {tape area : Text} {ws : List ℕ} {r : std.Option Expr} → Assigns tape area ws r → r ≡ None → assignment_of (tokens_of tape area ws) ≡ none
 assigned-not h e = rw (← h.is, e)
 
-pub assigned-side : {tape area : Text} {ws : List ℕ} {r : Assigned} {x : Expr} → Assigns tape area ws r → r ≡ To x → Expression ws x
+pub assigned-side : {tape area : Text} {ws : List ℕ} {r : std.Option Expr} {x : Expr} → Assigns tape area ws r → r ≡ Some x → Expression ws x
 assigned-side {x = x} h e = h.side x e
 
 -- `search (needs, sides)` proves what `right_side` and `assignment` leave

@@ -33,7 +33,11 @@ kind_fails t k b e h = and_here b (is_not t k e h) refl
 pub kind_holds : (t : Token) (k : ℕ) {b : Bool} {x : ℕ} {y : Bool} → x ≡ t.kind → x ≡ k → y ≡ b → y ≡ (is k t and b)
 kind_holds t k e h f = and_second (is_it t k e h) refl f
 
-pub ruleset kinds = (is_it, is_not, is_test, kind_fails, kind_holds)
+-- the same of the test itself, where it fails
+pub kind_stops : (t : Token) (k : ℕ) (b : Bool) {x : ℕ} → x ≡ t.kind → (x ≡ k → ⊥) → eqb x k ≡ (is k t and b)
+kind_stops t k b e h = ne_eqb _ _ h ∙ kind_fails t k b e h
+
+pub ruleset kinds = (is_it, is_not, is_test, kind_fails, kind_holds, kind_stops)
 
 -- ---- operators
 

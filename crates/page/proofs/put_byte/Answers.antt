@@ -3,20 +3,20 @@ use Rattle.page.proofs.Putting.{entities}
 use borrow.Author.Rules.{rules}
 use Rattle.page.proofs.put_byte.Goals as goal
 
-pub returns-then-b-eq38 : goal.returns-then-b-eq38
-returns-then-b-eq38 c = search (rules, entities)
+pub returns-in-38 : goal.returns-in-38
+returns-in-38 c = search (rules, entities)
 
-pub returns-then-b-eq60 : goal.returns-then-b-eq60
-returns-then-b-eq60 c = search (rules, entities)
+pub returns-in-60 : goal.returns-in-60
+returns-in-60 c = search (rules, entities)
 
-pub returns-then-b-eq62 : goal.returns-then-b-eq62
-returns-then-b-eq62 c = search (rules, entities)
+pub returns-in-62 : goal.returns-in-62
+returns-in-62 c = search (rules, entities)
 
-pub returns-then-b-eq34 : goal.returns-then-b-eq34
-returns-then-b-eq34 c = search (rules, entities)
+pub returns-in-34 : goal.returns-in-34
+returns-in-34 c = search (rules, entities)
 
-pub returns-then-b-eq39 : goal.returns-then-b-eq39
-returns-then-b-eq39 c = search (rules, entities)
+pub returns-in-39 : goal.returns-in-39
+returns-in-39 c = search (rules, entities)
 
-pub returns : goal.returns
-returns c = search (rules, entities)
+pub returns-in_default : goal.returns-in_default
+returns-in_default c = search (rules, entities)

@@ -7,17 +7,17 @@ use borrow.Author.Rules.{rules}
 use Rattle.page.proofs.Putting.{none_put, room_left, one_more, all-put}
 use Rattle.page.proofs.put_escaped.Goals as goal
 
-pub loop-i-init : goal.loop-i-init
-loop-i-init c = (search rules, none_put _ c.args.text.now _, refl)
+pub loop-b-init : goal.loop-b-init
+loop-b-init c = (search rules, none_put _ c.args.text.now _, refl)
 
 pub put_byte-end-requires : goal.put_byte-end-requires
-put_byte-end-requires c = let h : c.loop-i.i < length c.args.text.now = search rules in
-    omega (arith, room_left c.args.text.now c.loop-i.i c.args.at h c.requires c.loop-i.invariant.1.end_is)
+put_byte-end-requires c = let h : c.loop-b.b-index < length c.args.text.now = search rules in
+    omega (arith, room_left c.args.text.now c.loop-b.b-index c.args.at h c.requires c.loop-b.invariant.1.end_is)
 
-pub loop-i-preserved : goal.loop-i-preserved
-loop-i-preserved c = let a = c.args in
-    let h : c.loop-i.i < length a.text.now = search rules in
-    (search rules, one_more _ a.text.now a.at c.loop-i.i h c.requires c.loop-i.invariant.1 c.put_byte-end.ensures, search rules)
+pub loop-b-preserved : goal.loop-b-preserved
+loop-b-preserved c = let a = c.args in
+    let h : c.loop-b.b-index < length a.text.now = search rules in
+    (search rules, one_more _ a.text.now a.at c.loop-b.b-index h c.requires c.loop-b.invariant.1 c.put_byte-end.ensures, search rules)
 
 pub returns : goal.returns
-returns c = all-put _ c.args.text.now _ c.loop-i.i (omega arith) c.loop-i.invariant.1
+returns c = all-put _ c.args.text.now _ c.loop-b.b-index (search rules) c.loop-b.invariant.1

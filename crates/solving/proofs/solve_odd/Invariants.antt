@@ -1,10 +1,6 @@
--- What the loops of `solving::solve_odd` keep true, and what falls at each turn.
-use Rattle.std.proofs.Common.{◌-◌}
+-- What the loop of `solving::solve_odd` keeps true.
 use Rattle.solving.proofs.Solving.{Turn}
 use Rattle.solving.proofs.solve_odd.Given as goal
 
 abbrev pub invariant-loop-i : goal.invariant-loop-i
-invariant-loop-i l = Turn 63 l.a l.c l.n l.i l.x l.bit l.rest
-
-abbrev pub decreases-loop-i : goal.decreases-loop-i
-decreases-loop-i l = l.n - l.i
+invariant-loop-i l = Turn 63 l.a l.c l.n l._i l.x l.bit l.rest

@@ -37,11 +37,12 @@ use Rattle.lines.proofs.words.Lines.{word_origin}
 use Rattle.tape.specs.Commands.{command_in, size_of, ends}
 use Rattle.tape.specs.Questions.{Sizes, sizes_in, totals_of, counted, Counts}
 use Rattle.tables.specs.Tables.{marks_for, Loaded, LoadedMarks}
-use Rattle.tables.specs.Records.{blank, pair_of, Holding, Marking, MarksRecorded, Recorded, line_after, place_after}
+use Rattle.tables.specs.Records.{blank, flag_of, pair_of, Holding, Marking, MarksRecorded, Recorded, line_after, place_after}
 use Rattle.tape.specs.declared.commands.Command.{Command}
 use Rattle.tape.specs.declared.commands.Command.TheVariants.{Addressed, Plain, Marked, Token, End}
 use Rattle.tape.specs.declared.questions.Totals.{Totals}
 use Rattle.tables.specs.declared.records.LineRecord.{LineRecord}
+use Rattle.tables.proofs.loading.Records.{flag_low}
 use Rattle.tape.proofs.commands.Standing.{Stands}
 use Rattle.tape.proofs.questions.Asking.{advanced, ends_same}
 use Rattle.tape.proofs.questions.Reading.{Reads, reads_begin, reads_on, read_passed, marks_passed}
@@ -257,6 +258,15 @@ marking_more {records} {k} {lows} {highs} b m =
 pub marking_none : (records : List LineRecord) {lows highs : List ℕ} → 256 ≤ length lows → 256 ≤ length highs → Marking records 0 lows highs
 marking_none records a b = record { long_lows = a; long_highs = b; at = λ k h. absurd (omega arith) }
 
+pub marking-front : (records : List LineRecord) (n : ℕ) {lows highs : List ℕ} → n ≤ length records → Marking (take n records) (length (take n records)) lows highs
+    → Marking records n lows highs
+marking-front records n few m =
+    record {
+      long_lows = m.long_lows;
+      long_highs = m.long_highs;
+      at = λ k b. rw (get_or-take n records k blank b) at (m.at k (omega (arith, length-take-le n records few)));
+    }
+
 module _ {tape tokens lines addresses lows highs : List ℕ} {records : List LineRecord} {r : Totals} (d : Recorded tape tokens records r)
     (h : Holding records r.lines lines addresses) (m : Marking records r.lines lows highs) where
   loaded : Loaded tape tokens lines addresses r
@@ -266,7 +276,7 @@ module _ {tape tokens lines addresses lows highs : List ℕ} {records : List Lin
   origin_at k b =
       let w : LineRecord = get_or records k blank in
       let f = d.fitting k b in
-      rw (h.at k b).word (word_origin w.first w.count w.indent w.addressed k f.first f.count f.indent f.addressed (omega (arith, d.few)))
+      rw (h.at k b).word (word_origin w.first w.count w.indent (flag_of w.address) k f.first f.count f.indent (flag_low w.address) (omega (arith, d.few)))
 
   pub loaded-marks : LoadedMarks tape lines lows highs r
   loaded-marks =

@@ -7,25 +7,29 @@ use mathlib.Core.Path.{◌≡◌, refl, sym, ap, ◌∙◌}
 use mathlib.Core.List.{List, [], ◌∷◌, ◌++◌, map}
 use mathlib.Core.Option.{Option, none, some}
 use lib.Dec.{eqb}
+use Rattle.std.specs.Prelude as std
+use Rattle.std.specs.Option.{unwrap_or}
 use lib.ListN.{length, take, drop, get_or, set, length-set}
 use lib.Seq.{take-suc, get_or-take, get_or-set_same, get_or-set_other, set-get_or, length-take-le}
-use borrow.Author.Tests.{ne_eqb}
 use Rattle.reference.specs.Control.{when◌then◌else◌}
 use Rattle.reference.specs.Text.{Text}
 use Rattle.reference.specs.Listing.{Line}
 use Rattle.reference.specs.Questions.{Passed}
-use Rattle.laws.proofs.Scans.{if-false}
 use Rattle.lines.specs.Words.{tokens_of}
 use Rattle.lines.specs.Lines.{line_in}
 use Rattle.lines.proofs.words.Each.{map_same}
 use Rattle.lines.proofs.words.Lines.{line_word-means}
-use Rattle.tables.specs.Records.{blank, word_of, RecordFits, Held, Holding, Fitting}
+use Rattle.tables.specs.Records.{blank, flag_of, word_of, RecordFits, Held, Holding, Fitting}
 use Rattle.tables.specs.Tables.{Loaded}
 use Rattle.tape.specs.declared.questions.Totals.{Totals}
 use Rattle.tables.specs.declared.records.LineRecord.{LineRecord}
 
 pub holding_none : (records : List LineRecord) {lines addresses : List ℕ} → 256 ≤ length lines → 256 ≤ length addresses → Holding records 0 lines addresses
 holding_none records a b = record { long_lines = a; long_addresses = b; at = λ k h. absurd (omega arith) }
+
+pub flag_low : (o : std.Option ℕ) → flag_of o < 2
+flag_low (std.Some a) = omega arith
+flag_low std.None = omega arith
 
 -- ---- another record at k: the others are as before
 
@@ -37,7 +41,7 @@ module _ (records : List LineRecord) {n : ℕ} (k n' : ℕ) (r : LineRecord) (he
       (λ e. rw (get_or-set_other records k j r blank e) (f j (others j b e)))
 
   module _ {lines addresses : List ℕ} (addresses' : List ℕ) (low : k < 256) (long : length addresses' ≡ length addresses)
-      (same : (j : ℕ) → (j ≡ k → ⊥) → get_or addresses' j 0 ≡ get_or addresses j 0) (its : r.addressed ≡ 1 → get_or addresses' k 0 ≡ r.address)
+      (same : (j : ℕ) → (j ≡ k → ⊥) → get_or addresses' j 0 ≡ get_or addresses j 0) (its : (a : ℕ) → r.address ≡ std.Some a → get_or addresses' k 0 ≡ a)
       (h : Holding records n lines addresses) where
     held_here : Held (get_or (set records k r) k blank) k (set lines k (word_of k r)) addresses'
     held_here =
@@ -48,7 +52,7 @@ module _ (records : List LineRecord) {n : ℕ} (k n' : ℕ) (r : LineRecord) (he
     held-there j b e =
         let o = h.at j (others j b e) in
         rw (get_or-set_other records k j r blank e)
-        (record { word = get_or-set_other lines k j (word_of k r) 0 e ∙ o.word; address = λ a. same j e ∙ o.address a })
+        (record { word = get_or-set_other lines k j (word_of k r) 0 e ∙ o.word; address = λ a f. same j e ∙ o.address a f })
 
     pub holding-set : Holding (set records k r) n' (set lines k (word_of k r)) addresses'
     holding-set =
@@ -59,16 +63,31 @@ module _ (records : List LineRecord) {n : ℕ} (k n' : ℕ) (r : LineRecord) (he
         }
 
 -- the tables take the next record
-pub holding_more : {records : List LineRecord} {k : ℕ} {lines addresses : List ℕ} {w : ℕ} → k < 256 → w ≡ word_of k (get_or records k blank)
-    → Holding records k lines addresses → Holding records (k + 1) (set lines k w) (set addresses k (get_or records k blank).address)
-holding_more {records} {k} {lines} {addresses} low e h =
+pub holding_more : {records : List LineRecord} {k : ℕ} {lines addresses : List ℕ} {w a : ℕ} → k < 256 → w ≡ word_of k (get_or records k blank)
+    → a ≡ unwrap_or (get_or records k blank).address 0 → Holding records k lines addresses → Holding records (k + 1) (set lines k w) (set addresses k a)
+holding_more {records} {k} {lines} {addresses} {a = a} low e f h =
     let r : LineRecord = get_or records k blank in
     let more = holding-set records k (k + 1) r (ap (λ (l : List LineRecord). get_or l k blank) (set-get_or records k blank)) (λ j b d. omega arith)
-    (set addresses k r.address) low (length-set addresses k r.address)
-    (λ j d. get_or-set_other addresses k j r.address 0 d)
-    (λ a. get_or-set_same addresses k r.address 0 (omega (arith, h.long_addresses)))
+    (set addresses k a) low (length-set addresses k a)
+    (λ j d. get_or-set_other addresses k j a 0 d)
+    (λ x d. get_or-set_same addresses k a 0 (omega (arith, h.long_addresses)) ∙ f ∙ ap (λ (o : std.Option ℕ). unwrap_or o 0) d)
     h in
     rw e (rw (set-get_or records k blank) at more)
+
+-- and the first of them
+module _ (records : List LineRecord) (n : ℕ) where
+  pub fitting-front : n ≤ length records → Fitting records n → Fitting (take n records) (length (take n records))
+  fitting-front few f k b =
+      let low : k < n = omega (arith, length-take-le n records few) in
+      rw (get_or-take n records k blank low) (f k low)
+
+  pub holding-front : {lines addresses : List ℕ} → n ≤ length records → Holding (take n records) (length (take n records)) lines addresses → Holding records n lines addresses
+  holding-front {lines} {addresses} few h =
+      record {
+        long_lines = h.long_lines;
+        long_addresses = h.long_addresses;
+        at = λ k b. rw (get_or-take n records k blank b) at (h.at k (omega (arith, length-take-le n records few)));
+      }
 
 -- ---- tables that hold the same records
 
@@ -86,20 +105,22 @@ module _ {records : List LineRecord} {n : ℕ} {lines addresses lines' addresses
       take_same n lines lines' (omega (arith, h.long_lines)) (omega (arith, h'.long_lines)) (λ k b. (h.at k b).word ∙ sym (h'.at k b).word)
 
   same_address : (k : ℕ) → k < n
-      → let a = (get_or records k blank).addressed in
-      (when eqb a 1 then some (get_or addresses k 0) else none) ≡ (when eqb a 1 then some (get_or addresses' k 0) else none)
-  same_address k b =
-      let a : ℕ = (get_or records k blank).addressed in
-      by_cases (ℕ_discrete a 1)
-      (λ e. ap (λ (x : ℕ). when eqb a 1 then some x else none) ((h.at k b).address e ∙ sym ((h'.at k b).address e)))
-      (λ e. if-false (some (get_or addresses k 0)) none (ne_eqb a 1 e) ∙ sym (if-false (some (get_or addresses' k 0)) none (ne_eqb a 1 e)))
+      → let f = flag_of (get_or records k blank).address in
+      (when eqb f 1 then some (get_or addresses k 0) else none) ≡ (when eqb f 1 then some (get_or addresses' k 0) else none)
+  unfolding when◌then◌else◌
+  same_address k b = either (get_or records k blank).address (h.at k b).address (h'.at k b).address
+    where
+      either : (o : std.Option ℕ) {x y : ℕ} → ((a : ℕ) → o ≡ std.Some a → x ≡ a) → ((a : ℕ) → o ≡ std.Some a → y ≡ a)
+          → (when eqb (flag_of o) 1 then some x else none) ≡ (when eqb (flag_of o) 1 then some y else none)
+      either (std.Some a) f g = ap some (f a refl ∙ sym (g a refl))
+      either std.None f g = refl
 
   module _ (tape area : Text) (tokens : List ℕ) where
     same_line : (k : ℕ) → k < n → line_in tape area tokens addresses (get_or lines k 0) ≡ line_in tape area tokens addresses' (get_or lines k 0)
     same_line k b =
         let r : LineRecord = get_or records k blank in
         let fits = f k b in
-        let means = line_word-means r.first r.count r.indent r.addressed k fits.first fits.count fits.indent fits.addressed (omega arith) tape area tokens in
+        let means = line_word-means r.first r.count r.indent (flag_of r.address) k fits.first fits.count fits.indent (flag_low r.address) (omega arith) tape area tokens in
         let line : Option ℕ → Line = λ a. record { address = a; indent = r.indent; tokens = tokens_of tape area (take r.count (drop r.first tokens)) } in
         rw (h.at k b).word (means addresses ∙ ap line (same_address k b) ∙ sym (means addresses'))
 

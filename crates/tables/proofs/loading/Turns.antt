@@ -1,9 +1,9 @@
--- The loop that step-loads the lines of an accepted tape as records: the reading comes to its offset with its totals, and tables that hold the records so
+-- The loop that loads the lines of an accepted tape as records: the reading comes to its offset with its totals, and tables that hold the records so
 -- far mean the lines so far. Assumes nothing.
 use Prim.Native.Nat.{ℕ, ◌+◌, ◌-◌, ◌≤◌, ◌<◌}
 use native.Mathlib.Omega.{arith}
 use mathlib.Core.Path.{◌≡◌, refl, sym, ap, ◌∙◌}
-use mathlib.Core.Bool.{Bool, true, false, not, false≢true}
+use mathlib.Core.Bool.{false}
 use mathlib.Core.List.{List}
 use lib.ListN.{length, get_or, set, replicate, length-set, length-replicate}
 use lib.Seq.{get_or-set_same, get_or-set_other, set-get_or}
@@ -14,10 +14,11 @@ use Rattle.tape.specs.Commands.{size_of, ends, found_in, standing}
 use Rattle.reference.proofs.LittleEndian.{Bytes}
 use Rattle.tape.specs.Questions.{totals_of, counted, AcceptedTape}
 use Rattle.tables.specs.Tables.{Adds, Added, longer, tokens_after, lines_after, addresses_after}
-use Rattle.tables.specs.Records.{blank, word_of, RecordFits, Holding, Fitting, Recorded, line_after, place_after, start_of, TakesToken, Grows, Ready, StepLoads}
+use Rattle.tables.specs.Records.{blank, flag_of, word_of, RecordFits, Holding, Fitting, Recorded, line_after, place_after, start_of, TakesToken, Grows, Ready, StepLoads, LoadEnds}
 use Rattle.tape.specs.declared.commands.Command.{Command}
 use Rattle.tape.specs.declared.commands.Command.TheVariants.{Addressed, Plain, Marked, Token, End}
-use Rattle.tape.specs.declared.commands.Found.TheVariants.{Whole}
+use Rattle.std.specs.Prelude as std
+use Rattle.std.specs.Prelude.{Ok}
 use Rattle.tape.specs.declared.questions.Totals.{Totals}
 use Rattle.tables.specs.declared.records.LineRecord.{LineRecord}
 use Rattle.tables.specs.declared.loading.LoadState.{LoadState}
@@ -25,7 +26,7 @@ use Rattle.tables.specs.declared.loading.LoadStep.{LoadStep}
 use Rattle.tape.proofs.commands.Standing.{stands}
 use Rattle.tables.proofs.loading.Filling.{Filled, filled_none, filled-stood, Turn, turn_room, turn_counts, turn_moves, turn_begun, turn_passed, turn_adds, turn_more, turn_ends}
 use Rattle.tables.proofs.loading.Marks.{Noted, noted_none, noted_more, noted-ends}
-use Rattle.tables.proofs.loading.Records.{holding_none, fitting-set, holding-set, loaded-held}
+use Rattle.tables.proofs.loading.Records.{flag_low, holding_none, fitting-set, holding-set, loaded-held}
 
 pub record Going (tape tokens : List ℕ) (records : List LineRecord) (s : LoadState) : Type 0 where
   pub lines : List ℕ
@@ -54,39 +55,20 @@ going_start tape tokens records =
 
 -- one token more
 longer-word : (k : ℕ) (r : LineRecord) → k < 256 → RecordFits r → r.count < 2047
-    → longer (word_of k r) ≡ line_word r.first (r.count + 1) r.indent r.addressed k
+    → longer (word_of k r) ≡ line_word r.first (r.count + 1) r.indent (flag_of r.address) k
 unfolding with_part
 longer-word k r low f few =
     let F = r.first in
     let C = r.count in
     let I = r.indent in
-    let A = r.addressed in
+    let A = flag_of r.address in
     rw (
       word_first F C I A k f.first f.count,
       word_count F C I A k f.first f.count,
       word-indent F C I A k f.first f.count f.indent,
-      word-addressed F C I A k f.first f.count f.indent f.addressed,
-      word_origin F C I A k f.first f.count f.indent f.addressed low,
+      word-addressed F C I A k f.first f.count f.indent (flag_low r.address),
+      word_origin F C I A k f.first f.count f.indent (flag_low r.address) low,
     )
-
-not-true : {b : Bool} → not b ≡ true → b ≡ false
-not-true {b = true} e = sym e
-not-true {b = false} e = refl
-
-not-false : {b : Bool} → not b ≡ false → b ≡ true
-not-false {b = true} e = refl
-not-false {b = false} e = sym e
-
-abbrev totals-from : Q.Totals → Totals
-totals-from t = record { lines = t.lines; tokens = t.tokens; text = t.text; fresh = t.fresh }
-
--- turns that are left at most
-abbrev pub left_of : Bool → ℕ → ℕ
-left_of true n = n
-left_of false n = 0
-
-abbrev pub left : List ℕ → LoadState → ℕ
-left tape s = left_of s.going (length tape - s.at + 1)
 
 -- ---- a turn
 
@@ -98,7 +80,7 @@ module _ {tape tokens : List ℕ} {records : List LineRecord} {s : LoadState} (k
   abbrev line : LineRecord
   line = get_or records s.line blank
 
-  module _ {c : Command} (e : found_in tape s.at (Whole c) ≡ standing tape s.at) where
+  module _ {c : Command} (e : found_in tape s.at (Ok c) ≡ standing tape s.at) where
     turn_at : Turn tape tokens g.lines g.addresses s.at t c
     turn_at =
         record {
@@ -116,7 +98,7 @@ module _ {tape tokens : List ℕ} {records : List LineRecord} {s : LoadState} (k
   last_word : 0 < t.lines → get_or g.lines s.line 0 ≡ word_of s.line line
   last_word b = (g.holding.at s.line (last-inside b)).word
 
-  last-address : 0 < t.lines → line.addressed ≡ 1 → get_or g.addresses s.line 0 ≡ line.address
+  last-address : 0 < t.lines → (a : ℕ) → line.address ≡ std.Some a → get_or g.addresses s.line 0 ≡ a
   last-address b = (g.holding.at s.line (last-inside b)).address
 
   last_fits : 0 < t.lines → RecordFits line
@@ -127,7 +109,7 @@ module _ {tape tokens : List ℕ} {records : List LineRecord} {s : LoadState} (k
       let f = last_fits b in
       ap (λ (i : ℕ). count_of (get_or g.lines i 0)) (sym (g.last b))
       ∙ ap count_of (last_word b)
-      ∙ word_count line.first line.count line.indent line.addressed s.line f.first f.count
+      ∙ word_count line.first line.count line.indent (flag_of line.address) s.line f.first f.count
 
   takes-token : (c : Command) → Adds s.at c t g.lines → TakesToken s.at c t tokens
   takes-token (Addressed address indent) a = tt
@@ -172,11 +154,11 @@ module _ {tape tokens : List ℕ} {records : List LineRecord} {s : LoadState} (k
         let n : ℕ = t.lines in
         holding-set records n (n + 1) (line_after (Addressed address indent) t line) (get_or-set_same records n _ blank (omega (arith, a.1))) (λ j b e. omega arith) (set g.addresses n address) a.1
         (length-set g.addresses n address) (λ j e. get_or-set_other g.addresses n j address 0 e)
-        (λ _. get_or-set_same g.addresses n address 0 (omega (arith, a.1, g.holding.long_addresses))) g.holding
+        (λ x e. get_or-set_same g.addresses n address 0 (omega (arith, a.1, g.holding.long_addresses)) ∙ cc) g.holding
     holding-after (Plain indent) a =
         let n : ℕ = t.lines in
         holding-set records n (n + 1) (line_after (Plain indent) t line) (get_or-set_same records n _ blank (omega (arith, a.1))) (λ j b e. omega arith) g.addresses a.1 refl (λ j e. refl)
-        (λ e. absurd (omega arith)) g.holding
+        (λ x e. cc) g.holding
     holding-after (Marked low high) a =
         let in_lines = last-inside a.0 in
         let r : LineRecord = line_after (Marked low high) t line in
@@ -197,20 +179,20 @@ module _ {tape tokens : List ℕ} {records : List LineRecord} {s : LoadState} (k
     fitting-after : (c : Command) → Adds s.at c t g.lines → Fitting (records_after c) (count_after c)
     fitting-after (Addressed address indent) a =
         fitting-set records t.lines (t.lines + 1) _ (get_or-set_same records t.lines _ blank (omega (arith, a.1))) (λ j b e. omega arith) g.fitting
-        (record { first = omega arith; count = omega arith; indent = a.0; addressed = omega arith })
+        (record { first = omega arith; count = omega arith; indent = a.0 })
     fitting-after (Plain indent) a =
         fitting-set records t.lines (t.lines + 1) _ (get_or-set_same records t.lines _ blank (omega (arith, a.1))) (λ j b e. omega arith) g.fitting
-        (record { first = omega arith; count = omega arith; indent = a.0; addressed = omega arith })
+        (record { first = omega arith; count = omega arith; indent = a.0 })
     fitting-after (Marked low high) a =
         let f = last_fits a.0 in
         let in_lines = last-inside a.0 in
         fitting-set records s.line t.lines (line_after (Marked low high) t line) (get_or-set_same records s.line _ blank (omega arith)) (λ j h e. h) g.fitting
-        (record { first = f.first; count = f.count; indent = f.indent; addressed = f.addressed })
+        (record { first = f.first; count = f.count; indent = f.indent })
     fitting-after (Token kind count) a =
         let f = last_fits a.3 in
         let in_lines = last-inside a.3 in
         fitting-set records s.line t.lines (line_after (Token kind count) t line) (get_or-set_same records s.line _ blank (omega arith)) (λ j h e. h) g.fitting
-        (record { first = f.first; count = omega (arith, grows (Token kind count) a); indent = f.indent; addressed = f.addressed })
+        (record { first = f.first; count = omega (arith, grows (Token kind count) a); indent = f.indent })
     fitting-after End a = rw (set-get_or records s.line blank) g.fitting
 
   last-after : (c : Command) → 0 < count_after c → place_after c t s.line ≡ count_after c - 1
@@ -223,9 +205,9 @@ module _ {tape tokens : List ℕ} {records : List LineRecord} {s : LoadState} (k
   -- ---- what a turn leaves
 
   -- (the fields of `StepLoads`, so that the command does not hang on what they say of u)
-  module _ {u : LoadStep} {tokens' : List ℕ} (c : Command) (stood-there : found_in tape s.at (Whole c) ≡ standing tape s.at) (line_is : u.line ≡ line_after c t line)
+  module _ {u : LoadStep} {tokens' : List ℕ} (c : Command) (stood-there : found_in tape s.at (Ok c) ≡ standing tape s.at) (line_is : u.line ≡ line_after c t line)
       (tokens_are : tokens' ≡ tokens_after s.at c t tokens) (at_is : u.next.at ≡ s.at + size_of c) (place_is : u.next.line ≡ place_after c t s.line)
-      (totals_are : totals_of u.next.totals ≡ counted c (totals_of t)) (going_is : u.next.going ≡ not (ends c)) (bytes : Bytes tape) where
+      (totals_are : totals_of u.next.totals ≡ counted c (totals_of t)) (goes : ends c ≡ false) (bytes : Bytes tape) where
     turn_here : Turn tape tokens g.lines g.addresses s.at t c
     turn_here = turn_at stood-there
 
@@ -242,11 +224,10 @@ module _ {tape tokens : List ℕ} {records : List LineRecord} {s : LoadState} (k
         place_low (Token kind count) a = b
         place_low End a = b
 
-    going_by : u.next.going ≡ true → Going tape tokens' (set records u.next.line u.line) u.next
-    going_by e =
+    going_by : Going tape tokens' (set records u.next.line u.line) u.next
+    going_by =
         let a = turn_adds turn_here in
         let room = turn_room turn_here in
-        let goes : ends c ≡ false = not-true (sym going_is ∙ e) in
         let added : Added s.at c t tokens g.lines g.addresses tokens' (lines_after c t g.lines) (addresses_after c t g.addresses) =
         record { tokens_are = tokens_are; lines_are = refl; addresses_are = refl } in
         record {
@@ -262,48 +243,28 @@ module _ {tape tokens : List ℕ} {records : List LineRecord} {s : LoadState} (k
               (turn_counts turn_here) goes at_is totals_are);
         }
 
-    recorded : ends c ≡ true → Recorded tape tokens records t
-    recorded e =
-        let few = (turn_room turn_here).few_lines in
-        record {
-          loaded = λ lines addresses h. loaded-held few g.fitting g.holding h (turn_ends turn_here e);
-          fitting = g.fitting;
-          few = few;
-          marks = noted-ends g.noted {c = c} (stands stood-there) (turn_passed turn_here) e;
-        }
-
-    over_by : u.next.going ≡ false → Recorded tape tokens' (set records u.next.line u.line) u.next.totals
-    over_by e =
-        let over : ends c ≡ true = not-false (sym going_is ∙ e) in
-        let same = at_end c over in
-        let totals : u.next.totals ≡ t = ap totals-from (totals_are ∙ same.2) in
-        rw (place_is, line_is, tokens_are, totals, same.0, same.1) (recorded over)
-      where
-        -- FF changes nothing
-        at_end : (c : Command) → ends c ≡ true
-            → (records_after c ≡ records) × (tokens_after s.at c t tokens ≡ tokens) × (counted c (totals_of t) ≡ totals_of t)
-        at_end (Addressed address indent) e = absurd (false≢true e)
-        at_end (Plain indent) e = absurd (false≢true e)
-        at_end (Marked low high) e = absurd (false≢true e)
-        at_end (Token kind count) e = absurd (false≢true e)
-        at_end End e = (set-get_or records s.line blank, refl, refl)
-
-    less_by : s.going ≡ true → left tape u.next < left tape s
-    less_by e = rw (e, at_is) (less u.next.going)
-      where
-        less : (b : Bool) → left_of b (length tape - (s.at + size_of c) + 1) < length tape - s.at + 1
-        less true = omega (arith, turn_moves turn_here)
-        less false = omega arith
+    less_by : length tape - u.next.at < length tape - s.at
+    less_by = rw at_is (omega (arith, turn_moves turn_here))
 
   module _ {u : LoadStep} {tokens' : List ℕ} (l : StepLoads tape s line tokens tokens' u) where
     pub step-loaded_line : s.line < 256 → u.next.line < 256
-    step-loaded_line = line_by l.command l.stands l.line_is l.tokens_are l.at_is l.place_is l.totals_are l.going_is l.bytes
+    step-loaded_line = line_by l.command l.stands l.line_is l.tokens_are l.at_is l.place_is l.totals_are l.goes l.bytes
 
-    pub step-loaded-going : u.next.going ≡ true → Going tape tokens' (set records u.next.line u.line) u.next
-    step-loaded-going = going_by l.command l.stands l.line_is l.tokens_are l.at_is l.place_is l.totals_are l.going_is l.bytes
+    pub step-loaded-going : Going tape tokens' (set records u.next.line u.line) u.next
+    step-loaded-going = going_by l.command l.stands l.line_is l.tokens_are l.at_is l.place_is l.totals_are l.goes l.bytes
 
-    pub step-loaded-over : u.next.going ≡ false → Recorded tape tokens' (set records u.next.line u.line) u.next.totals
-    step-loaded-over = over_by l.command l.stands l.line_is l.tokens_are l.at_is l.place_is l.totals_are l.going_is l.bytes
+    pub step-loaded-less : length tape - u.next.at < length tape - s.at
+    step-loaded-less = less_by l.command l.stands l.line_is l.tokens_are l.at_is l.place_is l.totals_are l.goes l.bytes
 
-    pub step-loaded-less : s.going ≡ true → left tape u.next < left tape s
-    step-loaded-less = less_by l.command l.stands l.line_is l.tokens_are l.at_is l.place_is l.totals_are l.going_is l.bytes
+  -- FF changes nothing
+  pub load-ended : {tokens' : List ℕ} → LoadEnds tape s tokens tokens' → Recorded tape tokens' records t
+  load-ended l =
+      let u = turn_at {c = l.command} l.stands in
+      let few = (turn_room u).few_lines in
+      rw l.tokens_are
+      (record {
+        loaded = λ lines addresses h. loaded-held few g.fitting g.holding h (turn_ends u l.over);
+        fitting = g.fitting;
+        few = few;
+        marks = noted-ends g.noted {c = l.command} (stands l.stands) (turn_passed u) l.over;
+      })

@@ -6,13 +6,12 @@ use mathlib.Core.Option.{none, some}
 use mathlib.Core.List.{List, [], ◌∷◌, ◌++◌, map, flat_map, map-append, append-nil}
 use lib.ListN.{length, take, drop, set, get_or, length-append, length-set, take-append-drop, drop_of_length-le}
 use lib.Seq.{drop-drop, drop-cons, paste}
-use borrow.Author.Tests.{eq-eqb, ne_eqb}
+use Rattle.std.specs.Prelude as std
 use Rattle.reference.specs.Listing.{token, Line}
 use Rattle.reference.specs.Spans.{Marks}
 use Rattle.reference.specs.Tape.{to_le_bytes, new_line, marked, write_command, write_marks, write_line, write_lines, write, write_by, write_command_by, write_line_by, write_lines_by, write_marks_by}
 use Rattle.reference.proofs.LittleEndian.{to_length}
 use Rattle.reference.proofs.Writing.{flat_append}
-use Rattle.laws.proofs.Scans.{if-true, if-false}
 use Rattle.joining.specs.Carried.{marks_of, pair_at}
 use Rattle.joining.proofs.Carried.{some_marks, no_marks}
 use Rattle.lines.specs.Words.{tokens_of}
@@ -20,7 +19,7 @@ use Rattle.lines.specs.Lines.{origin_of, line_in, listing_of}
 use Rattle.tape.specs.Bytes.{put, Puts}
 use Rattle.tape.proofs.little_endian.Bytes.{put_front, put_none, put_pasted, put_one, put-length, put_append, put-cons, puts-length}
 use Rattle.tables.specs.Tables.{marks_for}
-use Rattle.tables.specs.Records.{address_of, pair_of, part_at, line_of}
+use Rattle.tables.specs.Records.{pair_of, part_at, line_of}
 use Rattle.tables.specs.Writing.{token_bytes, line_bytes, tokens_bytes, lines_bytes, paged, Wrote}
 use Rattle.tables.specs.declared.records.LineRecord.{LineRecord}
 
@@ -155,13 +154,11 @@ pub marked_size : (low high : ℕ) → length (write_command (marked (record { l
 unfolding write_command_by
 marked_size low high = omega (arith, length-append (to_le_bytes 8 low) (to_le_bytes 8 high), to_length 8 low, to_length 8 high)
 
-pub addressed-bytes : (r : LineRecord) → r.addressed ≡ 1 → line_bytes r ≡ write_command (new_line (some r.address) r.indent)
-unfolding address_of
-addressed-bytes r e = rw (if-true (some r.address) none (eq-eqb r.addressed 1 e))
+pub addressed-bytes : (r : LineRecord) {address : ℕ} → r.address ≡ std.Some address → line_bytes r ≡ write_command (new_line (some address) r.indent)
+addressed-bytes r e = rw e
 
-pub plain-bytes : (r : LineRecord) → (r.addressed ≡ 1 → ⊥) → line_bytes r ≡ write_command (new_line none r.indent)
-unfolding address_of
-plain-bytes r e = rw (if-false (some r.address) none (ne_eqb r.addressed 1 e))
+pub plain-bytes : (r : LineRecord) → r.address ≡ std.None → line_bytes r ≡ write_command (new_line none r.indent)
+plain-bytes r e = rw e
 
 pub addressed_size : (address indent : ℕ) → length (write_command (new_line (some address) indent)) ≡ 10
 unfolding write_command_by

@@ -16,7 +16,7 @@ use Rattle.reference.proofs.Commands.{FormBy, is_address, is_plain, is_marks, is
 use Rattle.reference.proofs.Reading.{ask-yes, ask_no, ask_passed, passed_inj, size_positive}
 use Rattle.tape.specs.Commands.{command_in, size_of_by, Sized, found_in_by, standing_by, Stood}
 use Rattle.tape.specs.declared.commands.Command.{Command}
-use Rattle.tape.specs.declared.commands.Found.TheVariants.{Whole}
+use Rattle.std.specs.Prelude.{Ok}
 
 module _ (form : TapeForm) (tape : List ℕ) (at : ℕ) where
   -- the command's bytes and what follows them
@@ -136,7 +136,7 @@ pub stood : (tape : List ℕ) (at : ℕ) → FormBy old (drop at tape) → comma
 stood tape at f h = record { what = _; stands = sym (whole old tape at f (rw length-drop at h)) }
 
 module _ (form : TapeForm) {tape : List ℕ} {at : ℕ} where
-  pub stands_by : {c : Command} → found_in_by form tape at (Whole c) ≡ standing_by form tape at → StandsBy form tape at c
+  pub stands_by : {c : Command} → found_in_by form tape at (Ok c) ≡ standing_by form tape at → StandsBy form tape at c
   unfolding standing_by ends_inside_by
   stands_by {c} e =
       let r = ask_passed _ _ _ _ (sym e) in
@@ -156,5 +156,5 @@ module _ {form : TapeForm} {tape : List ℕ} {at : ℕ} where
       let size = s.size in
       omega arith
 
-pub stands : {tape : List ℕ} {at : ℕ} {c : Command} → found_in_by old tape at (Whole c) ≡ standing_by old tape at → Stands tape at c
+pub stands : {tape : List ℕ} {at : ℕ} {c : Command} → found_in_by old tape at (Ok c) ≡ standing_by old tape at → Stands tape at c
 stands = stands_by old

@@ -3,10 +3,12 @@ use Prim.Native.Nat.{ℕ, ◌+◌, ◌≤◌, ◌<◌}
 use native.Mathlib.Nat.{add-zero, zero-add}
 use native.Mathlib.Omega.{arith}
 use native.Mathlib.Numerals.{add-one}
-use mathlib.Core.Path.{◌≡◌, sym, ap, ◌∙◌}
+use mathlib.Core.Path.{◌≡◌, refl, sym, ap, ◌∙◌}
 use mathlib.Core.List.{List, [], ◌∷◌, ◌++◌, append_assoc, append-nil}
 use lib.ListN.{length, take, drop, set, length-append, length-drop, take-append-drop}
 use lib.Seq.{length-take-le, take-length, take_at, drop_at, drop-drop, set_split, append_snoc, paste}
+use borrow.Rule.Slice.PartMut.{put_mid}
+use Rattle.std.proofs.lemmas.Slice.{put_mid-paste}
 use Rattle.tape.specs.Bytes.{put, Puts}
 
 module _ (out : List ℕ) where
@@ -22,6 +24,10 @@ module _ (out : List ℕ) where
     pub put_pasted : (bytes : List ℕ) → paste out at bytes (length bytes) ≡ put out at bytes
     unfolding put
     put_pasted bytes = rw take-length
+
+    -- what a part of a slice holds, written through the part
+    pub put_part : {ys : List ℕ} (bytes : List ℕ) {k : ℕ} → ys ≡ bytes → k ≡ length bytes → put_mid at k out ys ≡ put out at bytes
+    put_part {ys} bytes {k} e n = put_mid-paste at k out ys bytes (length bytes) e (sym n) refl ∙ put_pasted bytes
 
     pub put_one : (b : ℕ) → at < length out → set out at b ≡ put out at (b ∷ [])
     unfolding put

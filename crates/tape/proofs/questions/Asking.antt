@@ -1,29 +1,28 @@
--- The questions of one command: by the number of the first "no", and as the code asks them after `command_from`. Assumes nothing.
-use Prim.Native.Nat.{ℕ, ◌+◌, ◌-◌, ◌≤◌, ◌<◌}
+-- The questions of one command: by the number of the first "no", and as the code asks them after `command_at`. Assumes nothing.
+use Prim.Native.Nat.{ℕ, suc, ◌+◌, ◌-◌, ◌≤◌, ◌<◌}
 use native.Mathlib.Omega.{arith}
 use mathlib.Core.Path.{◌≡◌, refl, sym, ap, ◌∙◌}
 use mathlib.Core.Bool.{Bool, true, false}
 use mathlib.Core.List.{List, [], ◌∷◌, ◌++◌}
-use mathlib.Core.Option.{Option, none}
+use mathlib.Core.Option.{Option, none, some}
 use lib.ListN.{length, take, drop, length-drop, drop_of_length-le}
 use lib.Seq.{length-take-le}
-use borrow.Author.Tests.{leb-true, le-leb, ne_eqb}
-use Rattle.reference.specs.Control.{when◌then◌else◌, let_some◌else◌then◌}
-use Rattle.reference.specs.Lists.{position, is_empty}
+use borrow.Author.Tests.{leb-true, le-leb}
+use Rattle.reference.specs.Control.{◌or◌, when◌then◌else◌, let_some◌else◌then◌}
+use Rattle.reference.specs.Lists.{is_some, any, position, is_empty}
 use Rattle.reference.specs.Listing.{Token, token}
 use Rattle.reference.specs.Spans.{Span}
-use Rattle.reference.specs.Tape as Tape
 use Rattle.reference.specs.Tape.{TapeForm, new_line, marked, new_token, end, command_by}
 use Rattle.reference.specs.Questions as Q
-use Rattle.reference.specs.Questions.{is_command_by, ends_inside_by, has_line, is_within, is_few, is_short, is_printable, is_over, is_offending, first_offending, place_at, is_end, Answer, Refused}
+use Rattle.reference.specs.Questions.{is_command_by, ends_inside_by, has_line, is_within, is_few, is_short, is_printable, is_over, first_offending, place_at, is_end, Answer, Refused}
 use Rattle.reference.specs.Questions.{Passed, ask, count_in, Advance, read_command_by}
 use Rattle.reference.specs.Steps.{FromHereBy}
 use Rattle.reference.proofs.Cases.{by-if}
 use Rattle.reference.proofs.Commands.{is_form}
-use Rattle.reference.proofs.Reading.{Yes, ask-yes, refused_passed, advance_by}
+use Rattle.reference.proofs.Reading.{Yes, ask-yes, ask_passed, refused_passed, advance_by}
 use Rattle.reference.proofs.Steps.{step-from_here_by}
 use Rattle.tape.specs.Commands.{command_in, size_of_by, looked_at, ends, standing_by}
-use Rattle.tape.specs.Questions.{first_no, totals_of, questions, counted, Counts}
+use Rattle.tape.specs.Questions.{first_no, totals_of, questions, asking, counted, Counts}
 use Rattle.tape.specs.declared.commands.Command.{Command}
 use Rattle.tape.specs.declared.commands.Command.TheVariants.{Addressed, Plain, Marked, Token as NewToken, End}
 use Rattle.tape.specs.declared.questions.Totals.{Totals}
@@ -69,83 +68,88 @@ module _ {A : Type 0} (place : ℕ → ℕ) where
 
 -- ---- the questions after 4, kind by kind
 
-module _ (rest : List ℕ) (t : Q.Totals) where
-  pub line_refuses : (address : Option ℕ) (indent : ℕ) {r : ℕ} → r ≡ first_no (questions [] t (new_line none indent))
-      → r ≡ first_no (questions rest t (new_line address indent))
-  unfolding has_line is_within is_few is_short is_printable is_over
-  line_refuses address indent e = e
+module _ (rest : List ℕ) (at : ℕ) (t : Q.Totals) where
+  -- of a line, whatever its address
+  pub line_asked : (address : Option ℕ) (indent : ℕ) → asking [] at t (new_line none indent) ≡ asking rest at t (new_line address indent)
+  unfolding ask has_line is_within is_few is_short is_printable is_over place_at first_offending
+  line_asked address indent = refl
 
-  pub marks_fit : (s : Span) {x : Bool} → x ≡ has_line t (marked s) → x ≡ true → 0 ≡ first_no (questions rest t (marked s))
-  unfolding first_no is_within is_few is_short is_printable is_over when◌then◌else◌
+  pub marks_fit : (s : Span) {x : Bool} → x ≡ has_line t (marked s) → x ≡ true → Passed tt ≡ asking rest at t (marked s)
+  unfolding ask is_within is_few is_short is_printable is_over when◌then◌else◌
   marks_fit s e f = rw (sym e ∙ f)
 
-  pub marks_misplaced : (s : Span) {x : Bool} → x ≡ has_line t (marked s) → x ≡ false → 5 ≡ first_no (questions rest t (marked s))
-  unfolding first_no when◌then◌else◌
+  pub marks_misplaced : (s : Span) {x : Bool} → x ≡ has_line t (marked s) → x ≡ false → Refused 5 at ≡ asking rest at t (marked s)
+  unfolding ask place_at when◌then◌else◌
   marks_misplaced s e f = rw (sym e ∙ f)
 
-  token_asked : (s : Token) → first_no (questions [] t (new_token s)) ≡ first_no (questions rest t (new_token s))
+  token_asked : (s : Token) → asking [] at t (new_token s) ≡ asking rest at t (new_token s)
   unfolding is_over
   token_asked s = refl
 
-  end_asked : first_no (questions rest t end) ≡ (when is_empty (drop 1 rest) then 0 else 8)
-  unfolding first_no has_line is_within is_few is_short is_printable is_over when◌then◌else◌
+  end_asked : asking rest at t end ≡ (when is_empty (drop 1 rest) then Passed tt else Refused 8 at)
+  unfolding ask has_line is_within is_few is_short is_printable is_over place_at when◌then◌else◌
   end_asked = refl
 
 module _ (tape : List ℕ) (at : ℕ) (t : Q.Totals) where
   -- of the token's text, a part of the tape
-  pub token-refuses : (kind count : ℕ) {text : List ℕ} {r : ℕ} → r ≡ first_no (questions [] t (new_token (token kind text))) → text ≡ take count (drop (at + 3) tape)
-      → r ≡ first_no (questions (drop at tape) t (command_in tape at (NewToken kind count)))
-  token-refuses kind count e f =
-      e ∙ ap (λ (s : List ℕ). first_no (questions [] t (new_token (token kind s)))) f ∙ token_asked (drop at tape) t (token kind (take count (drop (at + 3) tape)))
+  pub text_asked : (kind count : ℕ) {text : List ℕ} → text ≡ take count (drop (at + 3) tape)
+      → asking [] at t (new_token (token kind text)) ≡ asking (drop at tape) at t (command_in tape at (NewToken kind count))
+  text_asked kind count f =
+      ap (λ (s : List ℕ). asking [] at t (new_token (token kind s))) f ∙ token_asked (drop at tape) at t (token kind (take count (drop (at + 3) tape)))
 
-  pub end_over : length tape - at ≡ 1 → 0 ≡ first_no (questions (drop at tape) t end)
+  pub end_over : length tape - at ≡ 1 → Passed tt ≡ asking (drop at tape) at t end
   unfolding when◌then◌else◌
   end_over h =
       let e : drop 1 (drop at tape) ≡ [] = drop_of_length-le (drop at tape) {i = 1} (rw length-drop (omega arith)) in
-      sym (end_asked (drop at tape) t ∙ rw e)
+      sym (end_asked (drop at tape) at t ∙ rw e)
 
-  pub end_follows : at + 1 ≤ length tape → (length tape - at ≡ 1 → ⊥) → 8 ≡ first_no (questions (drop at tape) t end)
+  pub end_follows : at + 1 ≤ length tape → (length tape - at ≡ 1 → ⊥) → Refused 8 at ≡ asking (drop at tape) at t end
   unfolding when◌then◌else◌
   end_follows h n =
       let more : 0 < length (drop 1 (drop at tape)) = rw (length-drop 1 (drop at tape), length-drop at tape) (omega (arith, n)) in
-      sym (end_asked (drop at tape) t ∙ rw (not-empty (drop 1 (drop at tape)) more))
+      sym (end_asked (drop at tape) at t ∙ rw (not-empty (drop 1 (drop at tape)) more))
     where
       not-empty : (s : List ℕ) → 0 < length s → is_empty s ≡ false
       not-empty [] h = absurd (omega arith)
       not-empty (x ∷ s) h = refl
 
--- ---- the place of a refusal
-
-module _ (at : ℕ) where
-  pub place_same : (c : Tape.Command) {n : ℕ} → (n ≡ 7 → ⊥) → at ≡ place_at at c n
-  unfolding place_at when◌then◌else◌
-  place_same c {n} h = rw (ne_eqb n 7 h)
-
-  -- a command without a text
-  pub place_textless : (c : Tape.Command) {n : ℕ} → n ≡ 7 → first_offending c ≡ 0 → at ≡ place_at at c n
-  unfolding place_at when◌then◌else◌
-  place_textless c e f = rw (e, f) (omega arith)
-
-  pub place_token : (tape : List ℕ) (kind count : ℕ) {n r : ℕ} {text : List ℕ} → n ≡ 7 → r ≡ (let_some (position is_offending text) else 0 then λ i. i)
-      → text ≡ take count (drop (at + 3) tape) → at + 3 + r ≡ place_at at (command_in tape at (NewToken kind count)) n
-  unfolding place_at first_offending when◌then◌else◌
-  place_token tape kind count e f g = rw (e, f, g) (omega arith)
+-- a search for a place finds one just where there is one
+module _ {A : Type 0} (p : A → Bool) where
+  pub found : (s : List A) → is_some (position p s) ≡ any p s
+  unfolding ◌or◌ when◌then◌else◌ let_some◌else◌then◌
+  found [] = refl
+  found (x ∷ s) = either (p x) (position p s) (found s)
+    where
+      either : (b : Bool) (o : Option ℕ) {r : Bool} → is_some o ≡ r → is_some (when b then some 0 else (let_some o else none then λ k. some (suc k))) ≡ (b or r)
+      either true o e = refl
+      either false none e = e
+      either false (some k) e = e
 
 -- ---- one command
 
-pub looked-less : (form : TapeForm) (c : Command) → looked_at c ≤ size_of_by form c
+looked-less : (form : TapeForm) (c : Command) → looked_at c ≤ size_of_by form c
 looked-less form (Addressed address indent) = omega arith
 looked-less form (Plain indent) = omega arith
 looked-less form (Marked low high) = omega arith
 looked-less form (NewToken kind count) = omega arith
 looked-less form End = omega arith
 
+-- every question after 4 is answered "yes"
+pub all_yes : (tape : List ℕ) (at : ℕ) (t : Q.Totals) (c : Command) → Passed tt ≡ asking (drop at tape) at t (command_in tape at c)
+    → Yes (questions (drop at tape) t (command_in tape at c))
+all_yes tape at t c e = (ask_passed _ _ _ _ (sym e)).0
+
+pub looked_inside : {form : TapeForm} {tape : List ℕ} {at : ℕ} {c : Command} → StandsBy form tape at c → at + looked_at c ≤ length tape
+looked_inside {form} {c = c} s = omega (arith, stands-inside s, looked-less form c)
+
 module _ (form : TapeForm) (tape : List ℕ) (at : ℕ) where
   -- question 3 or 4 refuses it
   pub stops : (t : Q.Totals) {n p : ℕ} → Refused n p ≡ standing_by form tape at → Refused n p ≡ read_command_by form tape at t
   unfolding standing_by read_command_by ask place_at when◌then◌else◌
   stops t e =
-      sym (ask-front (place_at at (command_by form (drop at tape))) ((3, is_command_by form (drop at tape)) ∷ (4, ends_inside_by form (drop at tape)) ∷ []) (questions (drop at tape) t (command_by form (drop at tape))) _ _ (sym e))
+      let rest = drop at tape in
+      let c = command_by form rest in
+      sym (ask-front (place_at at c) ((3, is_command_by form rest) ∷ (4, ends_inside_by form rest) ∷ []) (questions rest t c) _ _ (sym e))
 
   text_long : {kind count : ℕ} → StandsBy form tape at (NewToken kind count) → length (take count (drop (at + 3) tape)) ≡ count
   text_long {count = count} s = length-take-le count (drop (at + 3) tape) (rw length-drop (omega (arith, stands-inside s)))
@@ -176,18 +180,13 @@ module _ (form : TapeForm) (tape : List ℕ) (at : ℕ) where
         ∙ rw (← advanced_same s, s.same)
 
     -- a later question refuses it
-    pub refuses : {c : Command} {n place : ℕ} → StandsBy form tape at c → (n ≡ 0 → ⊥) → n ≡ first_no (questions (drop at tape) t (command_in tape at c))
-        → place ≡ place_at at (command_in tape at c) n → Refused n place ≡ read_command_by form tape at t
-    refuses s z e p = rw p (sym (asks s ∙ ask_number _ _ _ z (sym e)))
+    pub refuses : {c : Command} {n place : ℕ} → StandsBy form tape at c → Refused n place ≡ asking (drop at tape) at t (command_in tape at c)
+        → Refused n place ≡ read_command_by form tape at t
+    refuses {c} s e = sym (asks s ∙ ask-front (place_at at (command_in tape at c)) (questions (drop at tape) t (command_in tape at c)) [] tt _ (sym e))
 
     -- none does
-    pub all_yes : (c : Command) {n : ℕ} → n ≡ 0 → n ≡ first_no (questions (drop at tape) t (command_in tape at c))
-        → Yes (questions (drop at tape) t (command_in tape at c))
-    all_yes c z e = none_no _ (omega arith, (omega arith, (omega arith, (omega arith, (omega arith, (omega arith, tt)))))) (sym e ∙ z)
-
-    pub passes : {c : Command} {n : ℕ} → StandsBy form tape at c → n ≡ 0 → n ≡ first_no (questions (drop at tape) t (command_in tape at c))
-        → Passed (advanced c) ≡ read_command_by form tape at t
-    passes {c} s z e = sym (asks s ∙ ask-yes _ _ _ (all_yes c z e))
+    pub passes : {c : Command} → StandsBy form tape at c → Passed tt ≡ asking (drop at tape) at t (command_in tape at c) → Passed (advanced c) ≡ read_command_by form tape at t
+    passes {c} s e = sym (asks s ∙ ask-yes _ _ _ (all_yes tape at t c e))
 
   pub within-counts : {c : Command} (t : Totals) → StandsBy form tape at c → is_few (totals_of t) (command_in tape at c) ≡ true
       → is_short (totals_of t) (command_in tape at c) ≡ true → Counts c t

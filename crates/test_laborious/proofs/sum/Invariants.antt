@@ -1,11 +1,6 @@
--- What the loops of `test_laborious::sum` keep true, and what falls at each turn.
-use Prim.Native.Nat.{◌-◌, ◌<◌}
-use lib.ListN.{length}
+-- What the loop of `test_laborious::sum` keeps true.
+use Prim.Native.Nat.{◌<◌}
 use Rattle.test_laborious.proofs.sum.Given as goal
 
--- `test_laborious::sum` is safe and ends. Assumes nothing.
-abbrev pub invariant-loop-i : goal.invariant-loop-i
-invariant-loop-i l = l.h < 4294967296
-
-abbrev pub decreases-loop-i : goal.decreases-loop-i
-decreases-loop-i l = length l.bytes - l.i
+abbrev pub invariant-loop-byte : goal.invariant-loop-byte
+invariant-loop-byte l = l.h < 4294967296

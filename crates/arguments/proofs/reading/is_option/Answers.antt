@@ -1,13 +1,9 @@
 -- `arguments::reading::is_option` meets its contract. Assumes nothing.
-use Rattle.words.proofs.Branches.{branches}
-use Rattle.arguments.specs.Requests.{is_option}
-use borrow.Author.Rules.{rules}
+use Rattle.std.proofs.Common.{◌∙◌, le-ltb}
+use Rattle.laws.proofs.Std.{starts-std}
+use Rattle.reference.specs.Text.{bytes}
 use Rattle.arguments.proofs.reading.is_option.Goals as goal
 
-pub returns-then-word-lt2 : goal.returns-then-word-lt2
-unfolding is_option
-returns-then-word-lt2 c = search (rules, branches) depth 12
-
-pub returns : goal.returns
-unfolding is_option
-returns c = search (rules, branches) depth 12
+pub returns-then-word-ge2 : goal.returns-then-word-ge2
+returns-then-word-ge2 c = let w = c.args.word.now in
+    rw (le-ltb _ 2 c.if-word-ge2.true) (c.starts_with.ensures.value ∙ starts-std w (bytes "-"))

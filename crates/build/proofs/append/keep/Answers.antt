@@ -24,8 +24,8 @@ add_text-requires c =
     let l : length text.result.now ≤ len_of a.w = omega (arith, ap length text.ensures, text_length p.0) in
     (omega (arith, kind.ensures, kind_below a.w), room_within l (le_refl _) p.1)
 
-pub returns : goal.returns
-returns c =
+pub returns-else-buffer-eq-IN_TAPE : goal.returns-else-buffer-eq-IN_TAPE
+returns-else-buffer-eq-IN_TAPE c =
     let text = c.text in
     let a = c.args in
     let p = c.requires in

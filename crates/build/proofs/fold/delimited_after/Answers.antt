@@ -1,23 +1,18 @@
 -- `build::fold::delimited_after` meets its contract. Assumes nothing.
 use native.Mathlib.Omega.{arith}
-use native.Mathlib.Nat.{add-zero}
-use lib.ListN.{length-drop}
-use lib.Seq.{get_or-drop}
-use Rattle.build.proofs.Folding.{after_last, after_at}
+use mathlib.Core.Path.{ap, ◌∙◌}
+use Rattle.lines.specs.Words.{text_of}
+use Rattle.build.proofs.Folding.{after_none, after_at}
 use Rattle.build.proofs.fold.delimited_after.Goals as goal
 
-pub returns-then-line-at : goal.returns-then-line-at
-returns-then-line-at c =
+pub returns-in-Some : goal.returns-in-Some
+returns-in-Some c =
     let a = c.args in
-    after_last a.tape.now a.area.now a.line.now a.at c.if-line-at.true
+    let h = c.in-Some.ensures in
+    after_at a.tape.now a.area.now a.after.now h.item.3.0 (c.text.ensures ∙ ap (text_of a.tape.now a.area.now) (h.item.3.1 0)) c.delimits_after.ensures
 
-pub text-requires : goal.text-requires
-text-requires c =
-    let p = c.requires in
-    rw (get_or-drop, add-zero) at (p.at 0 (rw length-drop (omega arith)))
-
-pub returns : goal.returns
-returns c =
+pub returns-in-None : goal.returns-in-None
+returns-in-None c =
     let a = c.args in
-    let if1 = c.if-line-at in
-    after_at a.tape.now a.area.now a.line.now a.at if1.false c.text.ensures c.delimits_after.ensures
+    let h = c.in-None.ensures in
+    after_none a.tape.now a.area.now a.after.now (omega (arith, h.item.3))

@@ -1,24 +1,18 @@
 -- `build::fold::delimited_before` meets its contract. Assumes nothing.
 use native.Mathlib.Omega.{arith}
-use Prim.Native.Nat.{◌-◌}
-use lib.Seq.{get_or-take, length-take-le}
-use Rattle.build.proofs.Folding.{before-first, before_at}
+use mathlib.Core.Path.{ap, ◌∙◌}
+use Rattle.lines.specs.Words.{text_of}
+use Rattle.build.proofs.Folding.{before_none, before_at}
 use Rattle.build.proofs.fold.delimited_before.Goals as goal
 
-pub returns-then-kept-eq0 : goal.returns-then-kept-eq0
-returns-then-kept-eq0 c =
+pub returns-in-Some : goal.returns-in-Some
+returns-in-Some c =
     let a = c.args in
-    before-first a.tape.now a.area.now a.line.now c.if-kept-eq0.true
+    let h = c.in-Some.ensures in
+    before_at a.tape.now a.area.now a.before.now h.item.3.0 (c.text.ensures ∙ ap (text_of a.tape.now a.area.now) (h.item.3.1 0)) c.delimits_before.ensures
 
-pub text-requires : goal.text-requires
-text-requires c =
+pub returns-in-None : goal.returns-in-None
+returns-in-None c =
     let a = c.args in
-    let p = c.requires in
-    let k = a.kept in
-    rw (get_or-take k a.line.now (k - 1) 0 (omega arith)) at (p.1.at (k - 1) (rw (length-take-le k a.line.now p.0) (omega arith)))
-
-pub returns : goal.returns
-returns c =
-    let a = c.args in
-    let p = c.requires in
-    before_at a.tape.now a.area.now a.line.now a.kept (omega arith) p.0 c.text.ensures c.delimits_before.ensures
+    let h = c.in-None.ensures in
+    before_none a.tape.now a.area.now a.before.now (omega (arith, h.item.3))

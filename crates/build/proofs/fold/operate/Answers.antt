@@ -1,35 +1,35 @@
 -- `build::fold::operate` meets its contract. Assumes nothing.
-use mathlib.Core.Path.{◌≡◌, ap}
+use mathlib.Core.Path.{◌≡◌, ap, ◌∙◌}
 use mir.Syntax.{w64}
 use mir.Val.{to_z, of_z}
 use borrow.Author.Rules.{rules}
-use Rattle.numbers.specs.Reading.{meaning}
+use Rattle.reference.specs.Options.{option_of}
 use Rattle.numbers.proofs.Signed.{read_back}
 use Rattle.build.proofs.Folding.{unread_left, unread-right, read-sum, read-difference}
 use Rattle.build.proofs.fold.operate.Goals as goal
 
-pub returns-in_default : goal.returns-in_default
-returns-in_default c =
+pub returns-in_err-x : goal.returns-in_err-x
+returns-in_err-x c =
     let a = c.args in
-    unread_left a.plus (meaning a.b) (ap meaning c.in_default.is)
+    ap option_of c.from_residual.ensures ∙ unread_left a.plus (option_of a.b) (ap option_of c.in_err-x.was)
 
-pub returns-in_default-b : goal.returns-in_default-b
-returns-in_default-b c =
+pub returns-in_err-y : goal.returns-in_err-y
+returns-in_err-y c =
     let a = c.args in
-    unread-right a.plus (meaning a.b) (ap meaning c.in-Read.is) (ap meaning c.in_default-b.is)
+    ap option_of c.from_residual-in_err-y.ensures ∙ unread-right a.plus (option_of a.b) (ap option_of c.in_ok-x.was) (ap option_of c.in_err-y.was)
 
 pub returns-then-plus : goal.returns-then-plus
 returns-then-plus c =
     let a = c.args in
-    let x : to_z w64 (of_z w64 c.in-Read.x) ≡ c.in-Read.x = search rules in
-    let y : to_z w64 (of_z w64 c.in-Read-b.y) ≡ c.in-Read-b.y = search rules in
-    read-sum a.plus (meaning a.b) (ap meaning c.in-Read.is) (ap meaning c.in-Read-b.is) x y
+    let x : to_z w64 (of_z w64 c.in_ok-x.x) ≡ c.in_ok-x.x = search rules in
+    let y : to_z w64 (of_z w64 c.in_ok-y.y) ≡ c.in_ok-y.y = search rules in
+    read-sum a.plus (option_of a.b) (ap option_of c.in_ok-x.was) (ap option_of c.in_ok-y.was) x y
     (read_back _ c.wrapping_add.type_inv) c.if-plus.true c.wrapping_add.ensures
 
-pub returns : goal.returns
-returns c =
+pub returns-else-plus : goal.returns-else-plus
+returns-else-plus c =
     let a = c.args in
-    let x : to_z w64 (of_z w64 c.in-Read.x) ≡ c.in-Read.x = search rules in
-    let y : to_z w64 (of_z w64 c.in-Read-b.y) ≡ c.in-Read-b.y = search rules in
-    read-difference a.plus (meaning a.b) (ap meaning c.in-Read.is) (ap meaning c.in-Read-b.is) x y
+    let x : to_z w64 (of_z w64 c.in_ok-x.x) ≡ c.in_ok-x.x = search rules in
+    let y : to_z w64 (of_z w64 c.in_ok-y.y) ≡ c.in_ok-y.y = search rules in
+    read-difference a.plus (option_of a.b) (ap option_of c.in_ok-x.was) (ap option_of c.in_ok-y.was) x y
     (read_back _ c.wrapping_sub.type_inv) c.if-plus.false c.wrapping_sub.ensures

@@ -4,11 +4,6 @@ use Rattle.lines.proofs.words.Lines.{count-below}
 use Rattle.build.proofs.Adding.{part_length, added-kept}
 use Rattle.build.proofs.line.keep_line.Goals as goal
 
-pub keep_tokens-s-requires : goal.keep_tokens-s-requires
-keep_tokens-s-requires c =
-    let p = c.requires in
-    rw c.line_of.ensures (p.lined.holds, rw (part_length p.lined) p.has_room)
-
 pub with_tokens-requires : goal.with_tokens-requires
 with_tokens-requires c =
     let p = c.requires in

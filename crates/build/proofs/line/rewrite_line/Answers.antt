@@ -4,7 +4,7 @@ use Rattle.lines.specs.Lines.{part_of}
 use Rattle.build.specs.Substitution.{right_of}
 use Rattle.build.specs.Added.{unmerged}
 use Rattle.build.proofs.LineAdding.{room-merge, room-fold, line_added_folded}
-use Rattle.build.proofs.Adding.{count_fits, added_rewritten}
+use Rattle.build.proofs.Adding.{added_rewritten}
 use Rattle.build.proofs.line.rewrite_line.Goals as goal
 
 pub merge-merged-requires : goal.merge-merged-requires
@@ -24,18 +24,6 @@ fold_last-s-requires c =
     let p = c.requires in
     let l = rw (line_of.ensures, line-of2.ensures) at merge.ensures in
     (l.built, room-fold (unmerged a.tape.now a.old.now a.old_tokens.now a.source a.j a.l) p.numbers_short p.has_room l merge.auto.area merge.auto.tokens)
-
-pub with_tokens-requires : goal.with_tokens-requires
-with_tokens-requires c =
-    let a = c.args in
-    let line_of = c.line_of in
-    let line-of2 = c.line_of-2 in
-    let merge = c.merge-merged in
-    let p = c.requires in
-    let fold-last = c.fold_last-s in
-    let l = rw (line_of.ensures, line-of2.ensures) at merge.ensures in
-    let f = line_added_folded (unmerged a.tape.now a.old.now a.old_tokens.now a.source a.j a.l) p.numbers_short p.has_room l fold-last.ensures in
-    (p.first_fits, count_fits f a.l p.first_fits p.few)
 
 pub returns : goal.returns
 returns c =

@@ -5,5 +5,5 @@ use Rattle.build.proofs.merge.is_joined.Goals as goal
 pub returns-then-kind-eq-PUNCT : goal.returns-then-kind-eq-PUNCT
 returns-then-kind-eq-PUNCT c = joined_here c.args.kind c.if-kind-eq-PUNCT.true
 
-pub returns : goal.returns
-returns c = joined_else c.args.kind c.if-kind-eq-PUNCT.false
+pub returns-else-kind-eq-PUNCT : goal.returns-else-kind-eq-PUNCT
+returns-else-kind-eq-PUNCT c = joined_else c.args.kind c.if-kind-eq-PUNCT.false

@@ -26,22 +26,13 @@ push_text-requires c =
       room_within (omega (arith, ap length c.text.ensures)) (le_refl _) p.1.room,
     )
 
-pub returns-then-is_joined : goal.returns-then-is_joined
-returns-then-is_joined c =
-    let kind = c.kind-kind in
-    let text = c.text in
-    let push-text = c.push_text in
-    let a = c.args in
-    let p = c.requires in
-    rw (kind.ensures, text.ensures) at (push-text.ensures a.tape.now p.1.built)
-
 pub keep-requires : goal.keep-requires
 keep-requires c =
     let p = c.requires in
     (p.0, room_within (omega (arith, text_length p.0)) (le_refl _) p.1.room)
 
-pub returns : goal.returns
-returns c =
+pub returns-else-is_joined : goal.returns-else-is_joined
+returns-else-is_joined c =
     let p = c.requires in
     let a = c.args in
     let is-joined = c.is_joined in

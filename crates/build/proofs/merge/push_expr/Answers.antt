@@ -1,7 +1,6 @@
 -- `build::merge::push_expr` meets its contract. Assumes nothing.
 use Prim.Native.Nat.{◌+◌, ◌<◌}
 use native.Mathlib.Omega.{arith}
-use mathlib.Core.Path.{refl, ◌∙◌}
 use lib.ListN.{length, drop}
 use lib.Seq.{take_all}
 use Rattle.lines.specs.Words.{tokens_of}
@@ -11,43 +10,28 @@ use Rattle.build.proofs.Pushes.{pushed_none, pushed_then, ready_then, tokens_mor
 use Rattle.build.proofs.merge.push_expr.Goals as goal
 
 pub loop-k-init : goal.loop-k-init
-loop-k-init c =
-    let p = c.requires in
-    (omega arith, refl, refl, refl, pushed_none p.2)
+loop-k-init c = pushed_none c.requires.2
 
 pub push-s-requires : goal.push-s-requires
 push-s-requires c =
     let a = c.args in
     let l = c.loop-k in
     let p = c.requires in
-    let expr-word = c.expr_word in
-    let i = l.invariant in
     let ws = expr_words a.source.now a.x in
     let h : l.k < length ws = omega (arith, expr-length p.1) in (
-      expr-points p.0 p.1 (omega arith) expr-word.ensures,
-      rw expr-word.ensures (ready_then i.4 _ (tokens_of a.tape.now a.old.now (drop (l.k + 1) ws)) p.2.room (tokens-split a.tape.now a.old.now ws l.k h) i.2 i.3),
+      expr-points p.0 p.1 (omega arith) c.expr_word.ensures,
+      rw c.expr_word.ensures (ready_then l.invariant _ (tokens_of a.tape.now a.old.now (drop (l.k + 1) ws)) p.2.room (tokens-split a.tape.now a.old.now ws l.k h) l.auto.area l.auto.tokens),
     )
 
 pub loop-k-preserved : goal.loop-k-preserved
 loop-k-preserved c =
     let a = c.args in
     let l = c.loop-k in
-    let p = c.requires in
-    let push = c.push-s in
-    let expr-word = c.expr_word in
-    let i = l.invariant in
     let ws = expr_words a.source.now a.x in
-    let h : l.k < length ws = omega (arith, expr-length p.1) in (
-      omega arith,
-      i.1,
-      push.auto.area ∙ i.2,
-      push.auto.tokens ∙ i.3,
-      rw (tokens_more a.tape.now a.old.now ws l.k h) (pushed_then i.4 (rw expr-word.ensures at push.ensures)),
-    )
+    let h : l.k < length ws = omega (arith, expr-length c.requires.1) in
+    rw (tokens_more a.tape.now a.old.now ws l.k h) (pushed_then l.invariant (rw c.expr_word.ensures at c.push-s.ensures))
 
 pub returns : goal.returns
 returns c =
-    let a = c.args in
-    let p = c.requires in
-    let ws = expr_words a.source.now a.x in
-    rw (take_all c.loop-k.k ws (omega (arith, expr-length p.1))) at c.loop-k.invariant.4
+    let ws = expr_words c.args.source.now c.args.x in
+    rw (take_all c.loop-k.k ws (omega (arith, expr-length c.requires.1))) at c.loop-k.invariant

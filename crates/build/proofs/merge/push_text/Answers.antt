@@ -27,8 +27,8 @@ returns-then-extends c =
     pushed_joined b extend-last.auto.area extend-last.auto.tokens p.3.text_fits (le_refl _) (extend-last.ensures.0 tape) l.0 extend-last.ensures.1
     (join-now _ (token a.kind a.s.now) l.1 p.0)
 
-pub returns : goal.returns
-returns c =
+pub returns-else-extends : goal.returns-else-extends
+returns-else-extends c =
     let add-text = c.add_text in
     let p = c.requires in
     let a = c.args in

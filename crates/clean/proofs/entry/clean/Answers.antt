@@ -1,45 +1,51 @@
 -- `clean::entry::clean` meets its contract: no call is refused wrongly, and every lent byte is told. Assumes nothing.
-use mathlib.Core.Path.{sym, ap, ◌∙◌}
+use mathlib.Core.Path.{◌≡◌}
 use borrow.Author.Rules.{rules}
+use Rattle.std.specs.Prelude.{Ok, Err}
+use Rattle.std.specs.Result.{MatchResult, IsErrAnd}
 use Rattle.lines.specs.Rules.{rules_of}
-use Rattle.tape.specs.Questions.{checked}
 use Rattle.tape.proofs.questions.Reading.{refused_by}
-use Rattle.clean.proofs.Replying.{refused_at_door, refused_on_tape, accepted-now, cleanable_now, refused_now, finished-now}
+use Rattle.clean.proofs.Replying.{refused_early, refused_on_tape, accepted-now, cleanable_now, refused_now, finished-now}
 use Rattle.clean.proofs.entry.clean.Goals as goal
 
-pub returns-then-number-ne0 : goal.returns-then-number-ne0
-returns-then-number-ne0 c =
+pub returns-in_err-map_err : goal.returns-in_err-map_err
+returns-in_err-map_err c =
+    let h : MatchResult c.asked.result (λ a. c.map_err.result ≡ Ok a) (λ r. IsErrAnd c.map_err.result (λ x. x ≡ record { reason = r; place = 0 })) = search rules in
+    let k : c.from_residual.result ≡ Err c.in_err-map_err.field-0.0 = search rules in
     let a = c.args in
-    let p =
-    refused_at_door (rules_of a.rules) a.tape.now a.work_a.now a.work_b.now a.out.now c.asked-number.ensures c.if-number-ne0.true in
-    record { cleans = p.0; result_value = p.1 }
+    let p = refused_early (rules_of a.rules) a.tape.now a.work_a.now a.work_b.now a.out.now c.asked.result c.asked.ensures h _ c.in_err-map_err.was in
+    rw k (record { cleans = p.0; result_value = p.1 })
+
+pub returns-in_err-check : goal.returns-in_err-check
+returns-in_err-check c =
+    let k : c.from_residual-in_err-check.result ≡ Err c.in_err-check.field-0.0 = search rules in
+    let d : c.asked.result ≡ Ok c.in_ok-map_err.field-0 = search rules in
+    let a = c.args in
+    let p = refused_on_tape (rules_of a.rules) a.tape.now a.work_a.now a.work_b.now a.out.now c.asked.ensures d _ (refused_by a.tape.now c.in_err-check.ensures) in
+    rw k (record { cleans = p.0; result_value = p.1 })
 
 pub outside_profile-requires : goal.outside_profile-requires
-outside_profile-requires c = search (rules, accepted-now)
+outside_profile-requires c = accepted-now c.args.tape.now c.check.result c.check.ensures _ c.in_ok-check.was
 
 pub finish-requires : goal.finish-requires
-finish-requires c = search (rules, cleanable_now)
+finish-requires c =
+    let d : c.asked.result ≡ Ok c.in_ok-map_err.field-0 = search rules in
+    let a = c.args in
+    cleanable_now a.tape.now c.check.result c.check.ensures _ c.in_ok-check.was (rules_of a.rules) a.work_a.now a.work_b.now a.out.now c.asked.ensures d
 
-pub returns-in-Refused : goal.returns-in-Refused
-returns-in-Refused c =
+pub returns-in-Some : goal.returns-in-Some
+returns-in-Some c =
+    let d : c.asked.result ≡ Ok c.in_ok-map_err.field-0 = search rules in
+    let a = c.args in
+    let p = refused_now a.tape.now c.check.result c.check.ensures _ c.in_ok-check.was (rules_of a.rules) a.work_a.now a.work_b.now a.out.now
+    c.asked.ensures d c.outside_profile.result c.outside_profile.ensures _ c.in-Some.is in
+    rw c.at.ensures (record { cleans = p.0; result_value = p.1 })
+
+pub returns-in-None : goal.returns-in-None
+returns-in-None c =
+    let d : c.asked.result ≡ Ok c.in_ok-map_err.field-0 = search rules in
     let a = c.args in
     let p =
-    refused_on_tape (rules_of a.rules) a.tape.now a.work_a.now a.work_b.now a.out.now c.asked-number.ensures c.if-number-ne0.false
-    (refused_by a.tape.now (sym (ap checked c.in-Refused.is) ∙ c.check.ensures)) in
-    record { cleans = p.0; result_value = p.1 }
-
-pub returns-in-At : goal.returns-in-At
-returns-in-At c =
-    let a = c.args in
-    let p =
-    refused_now a.tape.now c.check.result c.check.ensures _ c.in-Passed.is (rules_of a.rules) a.work_a.now a.work_b.now a.out.now
-    c.asked-number.ensures c.if-number-ne0.false c.outside_profile.result c.outside_profile.ensures _ c.in-At.is in
-    record { cleans = p.0; result_value = p.1 }
-
-pub returns-in-Nothing : goal.returns-in-Nothing
-returns-in-Nothing c =
-    let a = c.args in
-    let p =
-    finished-now a.tape.now c.check.result c.check.ensures _ c.in-Passed.is (rules_of a.rules) a.work_a.now a.work_b.now a.out.now
-    c.asked-number.ensures c.if-number-ne0.false c.outside_profile.result c.outside_profile.ensures c.in-Nothing.is _ _ _ _ c.finish.ensures in
+    finished-now a.tape.now c.check.result c.check.ensures _ c.in_ok-check.was (rules_of a.rules) a.work_a.now a.work_b.now a.out.now
+    c.asked.ensures d c.outside_profile.result c.outside_profile.ensures c.in-None.is _ _ _ _ c.finish.ensures in
     record { cleans = p.0; result_value = p.1 }

@@ -16,17 +16,17 @@ slice_bounds-row-start c = slice_bounds-row-count c
 pub put_hexadecimal-requires : goal.put_hexadecimal-requires
 put_hexadecimal-requires c =
     row_room c.args.s.now c.begins_binary.ensures c.requires.0 c.if-not-begins_binary.false c.args.at
-    (c.in-Read.ensures) c.requires.1
+    (c.in-Some.ensures) c.requires.1
 
-pub returns-in-Read : goal.returns-in-Read
-returns-in-Read c =
+pub returns-in-Some : goal.returns-in-Some
+returns-in-Some c =
     rw
     (row_read c.args.s.now c.begins_binary.ensures c.requires.0 c.if-not-begins_binary.false
-    (c.in-Read.ensures))
+    (c.in-Some.ensures))
     c.put_hexadecimal.ensures
 
-pub returns-in-Unread : goal.returns-in-Unread
-returns-in-Unread c =
+pub returns-in-None : goal.returns-in-None
+returns-in-None c =
     absurd
     (row-unread c.args.s.now c.begins_binary.ensures c.requires.0 c.if-not-begins_binary.false
-    (c.in-Unread.ensures))
+    (c.in-None.ensures))

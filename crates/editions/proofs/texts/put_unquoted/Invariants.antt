@@ -1,12 +1,6 @@
--- What the loops of `editions::texts::put_unquoted` keep true, and what falls at each turn.
-use Prim.Native.Nat.{◌-◌}
-use lib.ListN.{length}
+-- What the loop of `editions::texts::put_unquoted` keeps true.
 use Rattle.editions.proofs.Putting.{Rest}
 use Rattle.editions.proofs.texts.put_unquoted.Given as goal
 
--- Assumes nothing.
-abbrev pub invariant-loop-i : goal.invariant-loop-i
-invariant-loop-i l = Rest l.s l.initial.out l.at l.out l.to l.i
-
-abbrev pub decreases-loop-i : goal.decreases-loop-i
-decreases-loop-i l = length l.s - l.i
+abbrev pub invariant-loop-b : goal.invariant-loop-b
+invariant-loop-b l = Rest l.s l.initial.out l.at l.out l.to l.b-index

@@ -4,12 +4,12 @@ use Rattle.filter.specs.Response.{settings}
 use borrow.Author.Rules.{rules}
 use Rattle.filter.proofs.response.answer.Goals as goal
 
-pub returns-in-Refused : goal.returns-in-Refused
-returns-in-Refused c = let a = c.args in
+pub returns-in-Err : goal.returns-in-Err
+returns-in-Err c = let a = c.args in
     shows-refusal (settings a.convention) a.tape.now _ _ a.out.now (search rules) (search rules) c.requires c.clean.result c.clean.ensures.cleans c.clean.ensures.result_value
-    c.in-Refused.is c.put_refusal.ensures
+    _ c.in-Err.is c.put_refusal.ensures
 
-pub returns-in-Finished : goal.returns-in-Finished
-returns-in-Finished c = let a = c.args in
+pub returns-in-Ok : goal.returns-in-Ok
+returns-in-Ok c = let a = c.args in
     shows-tape (settings a.convention) a.tape.now _ _ a.out.now (search rules) (search rules) c.requires c.clean.result c.clean.ensures.cleans c.clean.ensures.result_value
-    c.in-Finished.is
+    _ c.in-Ok.is

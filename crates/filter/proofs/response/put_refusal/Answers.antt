@@ -5,14 +5,14 @@ use borrow.Author.Rules.{rules}
 use Rattle.filter.proofs.response.put_refusal.Goals as goal
 
 pub put-c-requires : goal.put-c-requires
-put-c-requires c = search (rules, decimal-length c.args.number)
+put-c-requires c = search (rules, decimal-length c.number.result)
 
 pub put_decimal-d-requires : goal.put_decimal-d-requires
-put_decimal-d-requires c = search (rules, decimal-length c.args.number)
+put_decimal-d-requires c = search (rules, decimal-length c.number.result)
 
 pub put-requires : goal.put-requires
-put-requires c = let a = c.args in search (rules, decimal-length a.number, decimal-length a.place)
+put-requires c = search (rules, decimal-length c.number.result, decimal-length c.args.refused.place)
 
 pub returns : goal.returns
 returns c =
-    refusal-put c.args.out.now c.args.number c.args.place c.requires c.put-a.ensures c.put_decimal-b.ensures c.put-c.ensures c.put_decimal-d.ensures c.put.ensures
+    refusal-put c.args.out.now _ _ c.requires c.put-a.ensures (rw c.number.ensures at c.put_decimal-b.ensures) c.put-c.ensures c.put_decimal-d.ensures c.put.ensures

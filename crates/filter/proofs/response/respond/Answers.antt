@@ -1,10 +1,9 @@
 -- `filter::response::respond` meets its contract. Assumes nothing.
-use Rattle.laws.proofs.Parts.{to_end}
 use Rattle.filter.proofs.Responding.{responds_none, responds_some}
 use Rattle.filter.proofs.response.respond.Goals as goal
 
-pub returns-then-input-eq0 : goal.returns-then-input-eq0
-returns-then-input-eq0 c = responds_none c.args.input.now c.if-input-eq0.true c.put_refusal.ensures
+pub returns-in-Some : goal.returns-in-Some
+returns-in-Some c = responds_some _ _ c.in-Some.ensures.cases.0 c.answer_front.ensures
 
-pub returns : goal.returns
-returns c = responds_some c.args.input.now c.if-input-eq0.false (to_end 1 c.args.input.now) c.answer_front.ensures
+pub returns-in-None : goal.returns-in-None
+returns-in-None c = responds_none c.args.input.now c.in-None.ensures.cases (rw c.at.ensures at c.put_refusal.ensures)

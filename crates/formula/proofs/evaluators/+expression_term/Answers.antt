@@ -4,8 +4,8 @@ use Rattle.formula.proofs.Ahead.{leads_placed}
 use Rattle.formula.proofs.Evaluating as E
 use Rattle.formula.proofs.evaluators.+expression_term.Goals as goal
 
-pub expression-loop-how-init : goal.expression-loop-how-init
-expression-loop-how-init t c = (search (rules, E.joining_begins), search rules, search rules)
+pub expression-loop-sign-init : goal.expression-loop-sign-init
+expression-loop-sign-init t c = (search (rules, E.joining_begins), search rules, search rules)
 
 pub expression-term-requires : goal.expression-term-requires
 expression-term-requires t c = (search (rules, E.below_turn), search rules)
@@ -16,23 +16,17 @@ expression-returns-then-not-term t c = search (rules, E.expression-broken)
 pub expression-operator-requires : goal.expression-operator-requires
 expression-operator-requires t c = (search rules, E.worth-placed _ _ _ _ c.term.ensures c.if-not-term.false)
 
-pub expression-returns-in-Nothing : goal.expression-returns-in-Nothing
-expression-returns-in-Nothing t c = search (rules, E.expression-over)
+pub expression-returns-in_default : goal.expression-returns-in_default
+expression-returns-in_default t c = search (rules, E.expression-over)
 
-pub expression-loop-how-smaller-in-Adds : goal.expression-loop-how-smaller-in-Adds
-expression-loop-how-smaller-in-Adds t c = search (rules, E.adds-less)
+pub expression-loop-sign-smaller : goal.expression-loop-sign-smaller
+expression-loop-sign-smaller t c = search (rules, E.next-less)
 
-pub expression-loop-how-preserved-in-Adds : goal.expression-loop-how-preserved-in-Adds
-expression-loop-how-preserved-in-Adds t c = (search (rules, E.joining_adds), search (rules, E.adds_placed), search (rules, E.adds-within))
+pub expression-loop-sign-preserved : goal.expression-loop-sign-preserved
+expression-loop-sign-preserved t c = (search (rules, E.joining_goes), search (rules, E.next_placed), search (rules, E.next-within))
 
-pub expression-loop-how-smaller : goal.expression-loop-how-smaller
-expression-loop-how-smaller t c = search (rules, E.takes-less)
-
-pub expression-loop-how-preserved : goal.expression-loop-how-preserved
-expression-loop-how-preserved t c = (search (rules, E.joining_takes), search (rules, E.takes_placed), search (rules, E.takes-within))
-
-pub term-returns-then-line-token : goal.term-returns-then-line-token
-term-returns-then-line-token t c = search (rules, E.term_past)
+pub term-returns-then-line-place : goal.term-returns-then-line-place
+term-returns-then-line-place t c = search (rules, E.term_past)
 
 pub term-returns-then-kind-ne-PUNCT : goal.term-returns-then-kind-ne-PUNCT
 term-returns-then-kind-ne-PUNCT t c = search (rules, E.term-worth)
@@ -46,11 +40,11 @@ term-expression-requires t c = (search (rules, E.below_bracket, E.opens-shorter)
 pub term-returns-then-not-expression : goal.term-returns-then-not-expression
 term-returns-then-not-expression t c = search (rules, E.term-broken)
 
-pub term-behind_close-requires : goal.term-behind_close-requires
-term-behind_close-requires t c = (search rules, E.worth-placed _ _ _ _ c.expression.ensures c.if-not-expression.false)
+pub term-behind-requires-2 : goal.term-behind-requires-2
+term-behind-requires-2 t c = (search rules, E.worth-placed _ _ _ _ c.expression.ensures c.if-not-expression.false)
 
-pub term-returns-in_default-behind_close : goal.term-returns-in_default-behind_close
-term-returns-in_default-behind_close t c = search (rules, E.term_unclosed)
+pub term-returns-in_default-behind : goal.term-returns-in_default-behind
+term-returns-in_default-behind t c = search (rules, E.term_unclosed)
 
 pub term-returns : goal.term-returns
 term-returns t c = search (rules, E.term_closed)

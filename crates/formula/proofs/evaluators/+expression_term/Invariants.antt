@@ -11,16 +11,16 @@ abbrev pub size : List ℕ → List ℕ → ℕ → ℕ → ℕ
 size tape line k b = length (left (tokens_of tape tape line) k b)
 
 abbrev pub decreases-expression : goal.decreases-expression
-decreases-expression l = size l.tape.now l.line.now l.token l.byte + size l.tape.now l.line.now l.token l.byte + 1
+decreases-expression l = size l.tape.now l.line.now l.start.token l.start.byte + size l.tape.now l.line.now l.start.token l.start.byte + 1
 
 abbrev pub decreases-term : goal.decreases-term
-decreases-term l = size l.tape.now l.line.now l.token l.byte + size l.tape.now l.line.now l.token l.byte
+decreases-term l = size l.tape.now l.line.now l.place.token l.place.byte + size l.tape.now l.line.now l.place.token l.place.byte
 
-abbrev pub invariant-expression-loop-how : goal.invariant-expression-loop-how
-invariant-expression-loop-how l =
-    Joining l.tape l.line l.values l.token l.byte l.how l.m l.c l.k l.b
-    × Placed l.line l.k l.b
-    × (size l.tape l.line l.k l.b ≤ size l.tape l.line l.token l.byte)
+abbrev pub invariant-expression-loop-sign : goal.invariant-expression-loop-sign
+invariant-expression-loop-sign l =
+    Joining l.tape l.line l.values l.fn.start.token l.fn.start.byte l.sign l.multiplier l.constant l.place.token l.place.byte
+    × Placed l.line l.place.token l.place.byte
+    × (size l.tape l.line l.place.token l.place.byte ≤ size l.tape l.line l.fn.start.token l.fn.start.byte)
 
-abbrev pub decreases-expression-loop-how : goal.decreases-expression-loop-how
-decreases-expression-loop-how l = size l.tape l.line l.k l.b
+abbrev pub decreases-expression-loop-sign : goal.decreases-expression-loop-sign
+decreases-expression-loop-sign l = size l.tape l.line l.place.token l.place.byte

@@ -10,10 +10,10 @@ pub returns-then-has_junk : goal.returns-then-has_junk
 returns-then-has_junk c = search (rules, whole-junk)
 
 pub behind-requires : goal.behind-requires
-behind-requires c = search (rules, begin_placed)
+behind-requires c = (search rules, begin_placed _ _ c.requires)
 
-pub returns-in_default : goal.returns-in_default
-returns-in_default c = search (rules, whole_unbegun)
+pub returns-in_err-start : goal.returns-in_err-start
+returns-in_err-start c = rw c.from_residual.ensures (search (rules, whole_unbegun))
 
 pub expression-requires : goal.expression-requires
 expression-requires c = (search rules, search (rules, no_junk), search (rules, leads_placed))
@@ -24,13 +24,15 @@ returns-then-not-expression c = search (rules, whole-broken)
 pub behind-requires-2 : goal.behind-requires-2
 behind-requires-2 c = (search rules, worth-placed _ _ _ _ c.expression.ensures c.if-not-expression.false)
 
-pub returns-in_default-behind : goal.returns-in_default-behind
-returns-in_default-behind c = search (rules, whole_unended)
+pub returns-in_err-end : goal.returns-in_err-end
+returns-in_err-end c = rw c.from_residual-in_err-end.ensures (search (rules, whole_unended))
 
-pub returns-then-k-line : goal.returns-then-k-line
-returns-then-k-line c = search (rules, whole_more)
+pub returns-then-end-line : goal.returns-then-end-line
+returns-then-end-line c = let start = c.in_ok-start in
+    let end = c.in_ok-end in
+    whole_more _ _ _ _ c.requires c.behind.ensures start.start start.was _ c.expression.ensures c.if-not-expression.false c.behind-2.ensures end.end end.was c.if-end-line.true
 
 pub returns : goal.returns
-returns c =
-    whole-ended _ _ _ _ (search rules) c.behind.ensures _ _ (search rules) _ c.expression.ensures c.if-not-expression.false c.behind-2.ensures
-    c.in-At-behind.k c.in-At-behind.b (search rules) c.if-k-line.false
+returns c = let start = c.in_ok-start in
+    let end = c.in_ok-end in
+    whole-ended _ _ _ _ c.requires c.behind.ensures start.start start.was _ c.expression.ensures c.if-not-expression.false c.behind-2.ensures end.end end.was c.if-end-line.false

@@ -1,10 +1,12 @@
 -- `formula::evaluators::joined` meets its contract. Assumes nothing.
-use Rattle.formula.proofs.Worthy.{joined-adds, joined-takes}
-use Rattle.std.proofs.Common.{rules}
+use native.Mathlib.Omega.{arith}
+use Rattle.reference.specs.Evaluators.{plus, minus}
 use Rattle.formula.proofs.evaluators.joined.Goals as goal
 
-pub returns-in-Adds : goal.returns-in-Adds
-returns-in-Adds c = search (rules, joined-adds)
+pub returns-in-Plus : goal.returns-in-Plus
+unfolding plus
+returns-in-Plus c = rw (c.in-Some.is, c.in-Plus.is)
 
-pub returns-in-Takes : goal.returns-in-Takes
-returns-in-Takes c = search (rules, joined-takes)
+pub returns-in-Minus : goal.returns-in-Minus
+unfolding minus
+returns-in-Minus c = rw (c.in-Some.is, c.in-Minus.is) (omega arith)

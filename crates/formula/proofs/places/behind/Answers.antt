@@ -3,14 +3,17 @@ use Rattle.std.proofs.Common.{refl, rules}
 use Rattle.formula.proofs.Ahead.{text_over, text_fails, text_goes, leads_placed}
 use Rattle.formula.proofs.places.behind.Goals as goal
 
-pub loop-i-init : goal.loop-i-init
-loop-i-init c = (refl, search rules)
+pub loop-c-init : goal.loop-c-init
+loop-c-init c = (refl, search rules)
 
-pub returns-in-Nothing : goal.returns-in-Nothing
-returns-in-Nothing c = search (rules, text_fails)
+pub behind_byte-requires : goal.behind_byte-requires
+behind_byte-requires c = (search rules, c.loop-c.invariant.1)
 
-pub loop-i-preserved : goal.loop-i-preserved
-loop-i-preserved c = (search (rules, text_goes), search (rules, leads_placed))
+pub returns-in_err-place : goal.returns-in_err-place
+returns-in_err-place c = rw c.from_residual.ensures (search (rules, text_fails))
+
+pub loop-c-preserved : goal.loop-c-preserved
+loop-c-preserved c = (search (rules, text_goes), search (rules, leads_placed))
 
 pub returns : goal.returns
 returns c = search (rules, text_over)

@@ -1,22 +1,23 @@
 -- `formula::profile::assigns_wide` meets its contract. Assumes nothing.
-use Rattle.formula.proofs.Profiled.{first-points, readable-rest, wide-empty, wide-other, wide-unread, wide_by}
-use Rattle.std.proofs.Common.{rules}
+use Rattle.std.proofs.Common.{sym, ◌∙◌}
+use Rattle.formula.proofs.Profiled.{wide-empty, wide-other, wide-unread, wide_by}
 use Rattle.formula.proofs.profile.assigns_wide.Goals as goal
+use Rattle.formula.proofs.profile.assigns_wide.Goals.{then-is_wide, else-is_wide}
 
-pub returns-then-line-eq0 : goal.returns-then-line-eq0
-returns-then-line-eq0 c = search (rules, wide-empty)
+pub returns-in-empty : goal.returns-in-empty
+returns-in-empty c = wide-empty _ _ c.in-empty.len_below
 
-pub is_wide-requires : goal.is_wide-requires
-is_wide-requires c = search (rules, first-points)
+pub returns-then-assigns : goal.returns-then-assigns
+returns-then-assigns c =
+    elim c.if-is_wide.branch [
+      | then-is_wide w ↦ wide_by _ _ c.in-len1-up.len_at_least c.is_wide.ensures w.if-is_wide.true w.assigns.ensures (sym w.value-is ∙ c.if-assigns.true) c.puncts_apart.ensures
+      | else-is_wide w ↦ let e = w.value-is in let f = w.if-is_wide.false in let g = c.if-assigns.true in cc
+    ]
 
-pub returns-then-not-is_wide : goal.returns-then-not-is_wide
-returns-then-not-is_wide c = search (rules, wide-other)
-
-pub assigns-requires : goal.assigns-requires
-assigns-requires c = search (rules, readable-rest)
-
-pub returns-then-not-assigns : goal.returns-then-not-assigns
-returns-then-not-assigns c = search (rules, wide-unread)
-
-pub returns : goal.returns
-returns c = search (rules, wide_by)
+pub returns-else-assigns : goal.returns-else-assigns
+returns-else-assigns c =
+    rw c.if-assigns.false
+    (elim c.if-is_wide.branch [
+      | then-is_wide w ↦ wide-unread _ _ c.in-len1-up.len_at_least c.is_wide.ensures w.if-is_wide.true w.assigns.ensures (sym w.value-is ∙ c.if-assigns.false)
+      | else-is_wide w ↦ wide-other _ _ c.in-len1-up.len_at_least c.is_wide.ensures w.if-is_wide.false
+    ])

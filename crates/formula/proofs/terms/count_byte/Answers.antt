@@ -1,23 +1,12 @@
 -- `formula::terms::count_byte` meets its contract. Assumes nothing.
-use Rattle.std.proofs.Common.{eqb, sym, arith, rules, eq-eqb, ne_eqb}
-use Rattle.laws.proofs.Scans.{count_hit, count_miss, count_end}
+use Rattle.std.proofs.Common.{◌≡◌, ℕ, rules, Bool, eqb, count_by, ap, ◌∙◌}
+use Rattle.reference.specs.Lists.{count}
+use Rattle.laws.proofs.Std.{count-std, eqb_turn}
 use Rattle.formula.proofs.terms.count_byte.Goals as goal
-use Rattle.formula.proofs.terms.count_byte.Goals.{then-s-i, else-s-i}
-
-pub loop-i-init : goal.loop-i-init
-loop-i-init c = (search rules, search rules, search rules)
-
-pub loop-i-preserved : goal.loop-i-preserved
-loop-i-preserved c =
-    let l = c.loop-i in
-    let a = c.args in
-    elim c.if-s-i.branch [
-      | then-s-i w ↦ (omega arith, omega arith, omega (arith, count_hit (eqb a.b) a.s.now l.i 0 (search rules) (eq-eqb _ _ (sym w.if-s-i.true))))
-      | else-s-i w ↦ (omega arith, omega arith, omega (arith, count_miss (eqb a.b) a.s.now l.i 0 (search rules) (ne_eqb _ _ (λ e. w.if-s-i.false (sym e)))))
-    ]
 
 pub returns : goal.returns
 returns c =
-    let l = c.loop-i in
-    let a = c.args in
-    omega (arith, l.invariant.2, count_end (eqb a.b) a.s.now l.i (search rules))
+    let b = c.args.b in
+    let s = c.args.s.now in
+    let e : c.count.result ≡ count_by (λ y. eqb y b) s = search rules in
+    e ∙ count-std (λ y. eqb y b) s ∙ ap (λ (p : ℕ → Bool). count p s) (λ i y. eqb_turn y b i)

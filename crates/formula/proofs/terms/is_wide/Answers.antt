@@ -4,10 +4,10 @@ use Rattle.std.proofs.Common.{rules}
 use Rattle.formula.proofs.terms.is_wide.Goals as goal
 
 pub returns-in_default : goal.returns-in_default
-returns-in_default c = search (rules, wide-nothing, wide-narrow, wide_by)
+returns-in_default c = search (rules, wide-nothing)
 
-pub returns-then-width-ne64 : goal.returns-then-width-ne64
-returns-then-width-ne64 c = search (rules, wide-nothing, wide-narrow, wide_by)
+pub returns-then-n-eq64 : goal.returns-then-n-eq64
+returns-then-n-eq64 c = search (rules, wide_by)
 
-pub returns : goal.returns
-returns c = search (rules, wide-nothing, wide-narrow, wide_by)
+pub returns-else-n-eq64 : goal.returns-else-n-eq64
+returns-else-n-eq64 c = search (rules, wide-narrow)

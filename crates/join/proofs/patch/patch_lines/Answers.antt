@@ -6,89 +6,59 @@ use lib.ListN.{length}
 use Rattle.join.proofs.Placing.{rewritable, placed_rewritten}
 use Rattle.join.proofs.Rows.{last-inside}
 use Rattle.join.proofs.Sparing.{spare_as}
+use Rattle.join.proofs.Removing.{removed}
 use Rattle.join.proofs.Patching.{same_word, next-inside, placeable_now, patch_begun, patch_kept, patch_placed, patched}
 use Rattle.join.proofs.patch.patch_lines.Goals as goal
+use Rattle.join.proofs.patch.patch_lines.Goals.{then-is_changed, else-is_changed}
 
-pub loop-next-init : goal.loop-next-init
-loop-next-init c =
+pub loop-k-init : goal.loop-k-init
+loop-k-init c =
     let a = c.args in
     let p = c.requires in
-    (omega (arith, p.0.inside), refl, refl, omega arith, patch_begun p.0 a.size p.1 p.2 a.area2.now a.tokens2.now)
-
-pub overflow_add-next-in-loop-next : goal.overflow_add-next-in-loop-next
-overflow_add-next-in-loop-next c = omega (arith, last-inside c.requires.0, c.loop-next-test.true)
-
-pub bounds-lines-k : goal.bounds-lines-k
-bounds-lines-k c = omega (arith, last-inside c.requires.0, c.loop-next-test.true, c.loop-next.invariant.4.as_many)
+    record { inside = omega (arith, p.0.inside); patching = patch_begun p.0 a.size p.1 p.2 a.area2.now a.tokens2.now }
 
 pub is_changed-requires : goal.is_changed-requires
 is_changed-requires c =
     let a = c.args in
     let p = c.requires in
-    let l = c.loop-next in
-    let i = l.invariant in
-    let hl = c.loop-next-test.true in
-    let b : l.next < length a.lines.now = next-inside p.0 a.size p.1 p.2 i.4 hl in
-    (rw (same_word p.0 a.size p.1 p.2 i.4) (p.0.listed.at l.next b), p.0.joins.known)
+    let l = c.loop-k in
+    let i = l.invariant.patching in
+    let b : l.k < length a.lines.now = next-inside p.0 a.size p.1 p.2 i (omega arith) in
+    (rw (same_word p.0 a.size p.1 p.2 i) (p.0.listed.at l.k b), p.0.joins.known)
 
 pub rewrite-a-requires : goal.rewrite-a-requires
 rewrite-a-requires c =
     let a = c.args in
     let p = c.requires in
-    let l = c.loop-next in
-    let i = l.invariant in
-    let hl = c.loop-next-test.true in
-    let b : l.next < length a.lines.now = next-inside p.0 a.size p.1 p.2 i.4 hl in
-    rewritable (placeable_now p.0 a.size p.1 p.2 i.4 hl (λ e. omega (arith, i.3)) refl (spare_as p.3 i.1 i.2))
+    let l = c.loop-k in
+    rewritable (placeable_now p.0 a.size p.1 p.2 l.invariant.patching (omega arith) (λ e. omega arith) refl (spare_as p.3 l.auto.area2 l.auto.tokens2))
     (c.is_changed.ensures _) c.if-is_changed.true
 
-pub offset_bounds-lines-k-then-is_changed : goal.offset_bounds-lines-k-then-is_changed
-offset_bounds-lines-k-then-is_changed c = omega (arith, last-inside c.requires.0, c.loop-next-test.true, c.loop-next.invariant.4.as_many)
-
-pub bounds-lines-k-then-is_changed : goal.bounds-lines-k-then-is_changed
-bounds-lines-k-then-is_changed c = omega (arith, last-inside c.requires.0, c.loop-next-test.true, c.loop-next.invariant.4.as_many)
-
-pub loop-next-smaller-then-is_changed : goal.loop-next-smaller-then-is_changed
-loop-next-smaller-then-is_changed c = omega (arith, last-inside c.requires.0, c.loop-next-test.true)
-
-pub loop-next-preserved-then-is_changed : goal.loop-next-preserved-then-is_changed
-loop-next-preserved-then-is_changed c =
+pub loop-k-preserved : goal.loop-k-preserved
+loop-k-preserved c =
     let a = c.args in
     let p = c.requires in
-    let l = c.loop-next in
-    let i = l.invariant in
-    let hl = c.loop-next-test.true in
-    let b : l.next < length a.lines.now = next-inside p.0 a.size p.1 p.2 i.4 hl in
-    let n : l.next ≡ a.j.line → ⊥ = λ e. omega (arith, i.3) in
-    let r = c.rewrite-a in
-    let la = r.auto.area2 ∙ i.1 in
-    let lt = r.auto.tokens2 ∙ i.2 in (
-      omega arith,
-      la,
-      lt,
-      omega (arith, i.3),
-      patch_placed p.0 a.size p.1 p.2 i.4 hl n refl
-          (placed_rewritten (placeable_now p.0 a.size p.1 p.2 i.4 hl n refl (spare_as p.3 i.1 i.2)) (c.is_changed.ensures _) c.if-is_changed.true r.ensures) (spare_as p.3 la lt),
-    )
-
-pub loop-next-smaller : goal.loop-next-smaller
-loop-next-smaller c = omega (arith, last-inside c.requires.0, c.loop-next-test.true)
-
-pub loop-next-preserved : goal.loop-next-preserved
-loop-next-preserved c =
-    let a = c.args in
-    let p = c.requires in
-    let l = c.loop-next in
-    let i = l.invariant in
-    let hl = c.loop-next-test.true in
-    let b : l.next < length a.lines.now = next-inside p.0 a.size p.1 p.2 i.4 hl in
-    (omega arith, i.1, i.2, omega (arith, i.3), patch_kept p.0 a.size p.1 p.2 i.4 hl (c.is_changed.ensures _) c.if-is_changed.false)
-
-pub remove_word-requires : goal.remove_word-requires
-remove_word-requires c = omega (arith, c.requires.0.inside, c.loop-next.invariant.4.as_many)
+    let l = c.loop-k in
+    let i = l.invariant.patching in
+    let n : l.k ≡ a.j.line → ⊥ = λ e. omega arith in
+    record {
+      inside = omega (arith, last-inside p.0);
+      patching = elim c.if-is_changed.branch [
+        | then-is_changed w ↦
+            let r = w.rewrite-a in
+            rw (w.lines-is, w.area2-is, w.tokens2-is, w.s-is)
+            (patch_placed p.0 a.size p.1 p.2 i (omega arith) n refl
+            (placed_rewritten (placeable_now p.0 a.size p.1 p.2 i (omega arith) n refl (spare_as p.3 l.auto.area2 l.auto.tokens2)) (c.is_changed.ensures _) w.if-is_changed.true r.ensures)
+            (spare_as p.3 (r.auto.area2 ∙ l.auto.area2) (r.auto.tokens2 ∙ l.auto.tokens2)))
+        | else-is_changed w ↦
+            rw (w.lines-is, w.area2-is, w.tokens2-is, w.s-is) (patch_kept p.0 a.size p.1 p.2 i (omega arith) (c.is_changed.ensures _) w.if-is_changed.false)
+      ];
+    }
 
 pub returns : goal.returns
 returns c =
     let p = c.requires in
-    let i = c.loop-next.invariant in
-    patched p.0 c.args.size p.1 p.2 i.4 i.3 c.loop-next-test.false i.0 c.remove_word.auto.words c.remove_word.ensures
+    let l = c.loop-k in
+    let i = l.invariant in
+    patched p.0 c.args.size p.1 p.2 i.patching (omega arith) (omega arith) i.inside c.copy_within.ensures.len
+    (removed l.lines c.args.j.line (omega (arith, p.0.inside, i.patching.as_many)) c.copy_within.ensures.after)

@@ -1,15 +1,13 @@
--- What the loops of `join::patch::patch_lines` keep true, and what falls at each turn.
-use Prim.Native.Nat.{◌-◌, ◌≤◌, ◌<◌}
-use mathlib.Core.Path.{◌≡◌}
+-- What the loop of `join::patch::patch_lines` keeps true.
+use Prim.Native.Nat.{◌≤◌}
 use lib.ListN.{length}
 use Rattle.lines.specs.Rules.{rules_of}
 use Rattle.join.specs.Patching.{Patching}
 use Rattle.join.proofs.patch.patch_lines.Given as goal
 
-abbrev pub invariant-loop-next : goal.invariant-loop-next
-invariant-loop-next l = (l.next ≤ length l.initial.lines)
-    × (length l.area2 ≡ length l.initial.area2) × (length l.tokens2 ≡ length l.initial.tokens2)
-    × (l.j.line < l.next) × Patching (rules_of l.rules) l.tape l.area l.tokens l.initial.lines l.j l.initial.s l.next l.area2 l.tokens2 l.lines l.s
-
-abbrev pub decreases-loop-next : goal.decreases-loop-next
-decreases-loop-next l = length l.initial.lines - l.next
+abbrev pub invariant-loop-k : goal.invariant-loop-k
+invariant-loop-k l =
+    record {
+      inside : l.k ≤ length l.initial.lines;
+      patching : Patching (rules_of l.rules) l.tape l.area l.tokens l.initial.lines l.j l.initial.s l.k l.area2 l.tokens2 l.lines l.s;
+    }

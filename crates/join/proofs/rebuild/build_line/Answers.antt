@@ -18,7 +18,7 @@ keep_line-requires c =
     let a = c.args in
     keepable c.requires (c.is_changed.ensures (part_of a.tokens.now a.source)) c.if-is_changed.false
 
-pub returns : goal.returns
-returns c =
+pub returns-else-is_changed : goal.returns-else-is_changed
+returns-else-is_changed c =
     let a = c.args in
     placed-kept c.requires (c.is_changed.ensures (part_of a.tokens.now a.source)) c.if-is_changed.false c.keep_line.ensures

@@ -1,13 +1,9 @@
--- What the loops of `join::spare::is_enough` keep true, and what falls at each turn.
-use Prim.Native.Nat.{◌-◌, ◌≤◌}
+-- What the loop of `join::spare::is_enough` keeps true.
 use mathlib.Core.Path.{◌≡◌}
 use lib.Dec.{ltb}
-use lib.ListN.{length, drop}
+use lib.ListN.{drop}
 use Rattle.join.specs.Patching.{needs}
 use Rattle.join.proofs.spare.is_enough.Given as goal
 
-abbrev pub invariant-loop-k : goal.invariant-loop-k
-invariant-loop-k l = (ltb (needs l.tokens l.source (drop l.k l.lines)) l.left ≡ ltb (needs l.tokens l.source l.lines) l.n) × (l.k ≤ length l.lines)
-
-abbrev pub decreases-loop-k : goal.decreases-loop-k
-decreases-loop-k l = length l.lines - l.k
+abbrev pub invariant-loop-l : goal.invariant-loop-l
+invariant-loop-l l = ltb (needs l.tokens l.source (drop l.l-index l.lines)) l.left ≡ ltb (needs l.tokens l.source l.lines) l.n

@@ -1,7 +1,5 @@
--- What the loops of `life::dead::dead_after` keep true, and what falls at each turn.
-use Prim.Native.Nat.{◌-◌}
-use mathlib.Core.Path.{◌≡◌}
-use lib.ListN.{length}
+-- What the loop of `life::dead::dead_after` keeps true: the answer is that of the lines from w on. Assumes nothing.
+use Rattle.std.proofs.Common.{◌≡◌}
 use Rattle.reference.specs.Life.{dead_after}
 use Rattle.reference.specs.Rules.{volatile}
 use Rattle.joining.specs.Places.{labels_at}
@@ -17,6 +15,3 @@ invariant-loop-w l =
     (labels_at (bare_listing l.tape l.area l.tokens l.lines) l.labels) l.v.start (volatile (rules_of l.v.rules))
     ≡ dead-rest l.tape l.area l.tokens l.lines (fam_text l.tape l.area l.v.family) l.v.indent
     (labels_at (bare_listing l.tape l.area l.tokens l.lines) l.labels) l.v.start (volatile (rules_of l.v.rules)) l.w
-
-abbrev pub decreases-loop-w : goal.decreases-loop-w
-decreases-loop-w l = length l.lines - l.w

@@ -1,8 +1,9 @@
 -- `life::dead::liveness_by_facts` meets its contract. Assumes nothing.
 use borrow.Author.Rules.{rules}
-use borrow.Author.Tests.{not-true, not-false}
+use borrow.Author.Tests.{not-false}
 use Rattle.linefacts.proofs.Lacking.{number_fits}
 use Rattle.life.proofs.Scanning.{after_transparent, after_keeping, after-calling, after_deep}
+use Rattle.life.proofs.dead.liveness_by_facts.Goals.{else-overwritten-via-then-overwritten+else-indent-v, else-overwritten-via-else-overwritten}
 use Rattle.life.proofs.dead.liveness_by_facts.Goals as goal
 
 pub is_transparent-requires : goal.is_transparent-requires
@@ -15,11 +16,6 @@ returns-then-is_transparent c =
 pub is_calling-requires : goal.is_calling-requires
 is_calling-requires c = search (rules, number_fits)
 
-pub returns-then-not-overwritten : goal.returns-then-not-overwritten
-returns-then-not-overwritten c =
-    after_keeping c.args.lines.now _ _ _ _ _ _ _ _ c.args.w _ (c.requires.0.at c.args.w (search rules)) c.requires.5
-    c.is_calling.ensures c.if-is_calling.true c.requires.6 (search (rules, not-true))
-
 pub returns-then-indent-v : goal.returns-then-indent-v
 returns-then-indent-v c =
     after-calling c.args.lines.now _ _ _ _ _ _ _ _ c.args.w _ (c.requires.0.at c.args.w (search rules)) c.requires.5
@@ -27,5 +23,11 @@ returns-then-indent-v c =
 
 pub returns-then-is_calling : goal.returns-then-is_calling
 returns-then-is_calling c =
-    after_deep c.args.lines.now _ _ _ _ _ _ _ _ c.args.w _ (c.requires.0.at c.args.w (search rules)) c.requires.5
-    c.is_calling.ensures c.if-is_calling.true c.requires.6 (search (rules, not-false)) c.indent.ensures c.if-indent-v.false
+    elim c.else-overwritten.branch [
+      | else-overwritten-via-then-overwritten+else-indent-v w ↦
+          after_deep c.args.lines.now _ _ _ _ _ _ _ _ c.args.w _ (c.requires.0.at c.args.w (search rules)) c.requires.5
+          c.is_calling.ensures c.if-is_calling.true c.requires.6 w.if-overwritten.true w.indent.ensures w.if-indent-v.false
+      | else-overwritten-via-else-overwritten w ↦
+          after_keeping c.args.lines.now _ _ _ _ _ _ _ _ c.args.w _ (c.requires.0.at c.args.w (search rules)) c.requires.5
+          c.is_calling.ensures c.if-is_calling.true c.requires.6 w.if-overwritten.false
+    ]

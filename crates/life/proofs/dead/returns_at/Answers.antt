@@ -1,17 +1,12 @@
 -- `life::dead::returns_at` meets its contract. Assumes nothing.
 use borrow.Author.Rules.{rules}
-use Rattle.life.proofs.Reading.{reading}
 use Rattle.life.proofs.Scanning.{returns_deep, returns_here}
+use borrow.Author.Tests.{lt-leb}
+use mathlib.Core.Path.{◌∙◌}
 use Rattle.life.proofs.dead.returns_at.Goals as goal
 
-pub returns-then-base_indent-indent : goal.returns-then-base_indent-indent
-returns-then-base_indent-indent c = search (rules, returns_deep, returns_here)
+pub returns-then-indent-base_indent : goal.returns-then-indent-base_indent
+returns-then-indent-base_indent c = search (rules, returns_here)
 
-pub line_of-requires : goal.line_of-requires
-line_of-requires c = search (rules, reading)
-
-pub has_return-requires : goal.has_return-requires
-has_return-requires c = search (rules, reading)
-
-pub returns : goal.returns
-returns c = search (rules, returns_deep, returns_here)
+pub returns-else-indent-base_indent : goal.returns-else-indent-base_indent
+returns-else-indent-base_indent c = lt-leb _ _ c.if-indent-base_indent.false ∙ search (rules, returns_deep)

@@ -1,7 +1,9 @@
 -- `life::jumps::goto_target` meets its contract. Assumes nothing.
 use borrow.Author.Rules.{rules}
-use Rattle.life.proofs.Jumping.{target-stays, goto_inside, target_none, symbol-inside, target_unknown, target_to}
+use Rattle.life.proofs.Jumping.{target-stays, goto_inside, target_none, symbol-inside, target_label}
 use Rattle.life.proofs.Reading.{reading, lined-holds}
+use mathlib.Core.Path.{◌≡◌}
+use Rattle.std.specs.Prelude.{Some, None}
 use Rattle.life.proofs.jumps.goto_target.Goals as goal
 
 pub line_of-line-requires : goal.line_of-line-requires
@@ -11,45 +13,44 @@ pub goto_at-requires : goal.goto_at-requires
 goto_at-requires c = search (rules, reading)
 
 pub returns-in_default : goal.returns-in_default
-returns-in_default c = search (rules, target-stays)
+returns-in_default c =
+    let a = c.args in
+    let e = c.symbol_from.ensures a.tape.now a.area.now in
+    let w : c.goto_at.result ≡ Some c.in_ok-g.g = c.in_ok-g.was in
+    search (rules, target_none)
 
 pub overflow_add-g : goal.overflow_add-g
 overflow_add-g c =
     let a = c.args in
-    let h = goto_inside a.tape.now a.area.now c.line_of-line.result.now c.goto_at.ensures c.in-At.is in
+    let h = goto_inside a.tape.now a.area.now c.line_of-line.result.now c.goto_at.ensures c.in_ok-g.was in
     search rules
-
-pub returns-in_default-symbol_from : goal.returns-in_default-symbol_from
-returns-in_default-symbol_from c =
-    let a = c.args in
-    let e = c.symbol_from.ensures a.tape.now a.area.now in
-    search (rules, target_none)
 
 pub offset_bounds-line-s : goal.offset_bounds-line-s
 offset_bounds-line-s c =
     let a = c.args in
-    let h = symbol-inside a.tape.now a.area.now c.line_of-line.result.now _ (c.symbol_from.ensures a.tape.now a.area.now) c.in-At-symbol_from.is in
+    let h = symbol-inside a.tape.now a.area.now c.line_of-line.result.now _ (c.symbol_from.ensures a.tape.now a.area.now) c.in-Some.is in
     search rules
 
 pub bounds-line-s : goal.bounds-line-s
 bounds-line-s c =
     let a = c.args in
-    symbol-inside a.tape.now a.area.now c.line_of-line.result.now _ (c.symbol_from.ensures a.tape.now a.area.now) c.in-At-symbol_from.is
+    symbol-inside a.tape.now a.area.now c.line_of-line.result.now _ (c.symbol_from.ensures a.tape.now a.area.now) c.in-Some.is
 
 pub label_named-requires : goal.label_named-requires
 label_named-requires c =
     let a = c.args in
     let p = c.requires in
-    (p.0, p.1, (lined-holds p.2 c.line_of-line.ensures).at _ (symbol-inside a.tape.now a.area.now c.line_of-line.result.now _ (c.symbol_from.ensures a.tape.now a.area.now) c.in-At-symbol_from.is))
-
-pub returns-in_default-label_named : goal.returns-in_default-label_named
-returns-in_default-label_named c =
-    let a = c.args in
-    let e = c.symbol_from.ensures a.tape.now a.area.now in
-    search (rules, target_unknown)
+    (p.0, p.1, (lined-holds p.2 c.line_of-line.ensures).at _ (symbol-inside a.tape.now a.area.now c.line_of-line.result.now _ (c.symbol_from.ensures a.tape.now a.area.now) c.in-Some.is))
 
 pub returns : goal.returns
 returns c =
     let a = c.args in
     let e = c.symbol_from.ensures a.tape.now a.area.now in
-    search (rules, target_to)
+    let w : c.goto_at.result ≡ Some c.in_ok-g.g = c.in_ok-g.was in
+    search (rules, target_label)
+
+pub returns-in_err-g : goal.returns-in_err-g
+returns-in_err-g c =
+    let w : c.goto_at.result ≡ None = c.in_err-g.was in
+    let r = c.from_residual.ensures in
+    search (rules, target-stays)

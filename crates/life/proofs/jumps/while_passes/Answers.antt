@@ -1,10 +1,11 @@
 -- `life::jumps::while_passes` meets its contract. Assumes nothing.
-use mathlib.Core.Path.{sym}
+use mathlib.Core.Path.{sym, ◌∙◌}
 use lib.Seq.{length-take-le}
 use borrow.Author.Rules.{rules}
 use Rattle.lines.proofs.words.Lines.{indent-below, listed-take}
 use Rattle.life.proofs.Jumping.{loop_uses, loop_none, loop-after, loop_around}
 use Rattle.life.proofs.Reading.{lined-holds}
+use borrow.Author.Tests.{le-leb}
 use Rattle.life.proofs.jumps.while_passes.Goals as goal
 
 pub line_of-requires : goal.line_of-requires
@@ -26,10 +27,10 @@ pub returns-in_default : goal.returns-in_default
 returns-in_default c = search (rules, loop_none c.args.lines.now)
 
 pub returns-then-v-d : goal.returns-then-v-d
-returns-then-v-d c = search (rules, loop-after c.args.lines.now)
+returns-then-v-d c = le-leb _ _ c.if-v-d.true ∙ search (rules, loop-after c.args.lines.now)
 
 pub rerun_kills-requires : goal.rerun_kills-requires
 rerun_kills-requires c = let p = c.requires in (p.0, p.1, search rules, p.3, rw c.indent-indent.ensures (indent-below _))
 
-pub returns : goal.returns
-returns c = search (rules, loop_around c.args.lines.now)
+pub returns-else-v-d : goal.returns-else-v-d
+returns-else-v-d c = search (rules, loop_around c.args.lines.now)

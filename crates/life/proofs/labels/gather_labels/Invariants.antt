@@ -1,12 +1,8 @@
--- What the loops of `life::labels::gather_labels` keep true, and what falls at each turn.
-use Prim.Native.Nat.{◌≤◌, ◌-◌}
-use lib.ListN.{length}
+-- What the loop of `life::labels::gather_labels` keeps true: the places among the first k lines stand in front. Assumes nothing.
+use Rattle.std.proofs.Common.{◌≤◌}
 use Rattle.life.specs.Labels.{Gathered}
 use Rattle.life.proofs.Places.{found_in}
 use Rattle.life.proofs.labels.gather_labels.Given as goal
 
 abbrev pub invariant-loop-k : goal.invariant-loop-k
-invariant-loop-k l = (l.n ≤ l.k) × (l.k ≤ length l.lines) × Gathered (found_in l.tape l.area l.tokens l.lines l.k) l.initial.labels l.labels l.n
-
-abbrev pub decreases-loop-k : goal.decreases-loop-k
-decreases-loop-k l = length l.lines - l.k
+invariant-loop-k l = (l.n ≤ l.k) × Gathered (found_in l.tape l.area l.tokens l.lines l.k) l.initial.labels l.labels l.n

@@ -1,16 +1,8 @@
 -- `life::labels::shift_labels` meets its contract. Assumes nothing.
-use mathlib.Core.Path.{refl}
-use lib.ListN.{length-set}
-use borrow.Author.Rules.{rules}
+use native.Mathlib.Omega.{arith}
 use Rattle.joining.specs.Places.{shift_place}
-use Rattle.life.proofs.Places.{mapped_next, mapped_end}
+use Rattle.life.proofs.Places.{mapped_next}
 use Rattle.life.proofs.labels.shift_labels.Goals as goal
 
-pub loop-k-init : goal.loop-k-init
-loop-k-init c = (search rules, refl, refl)
-
-pub loop-k-preserved : goal.loop-k-preserved
-loop-k-preserved c = (search rules, search (rules, length-set), mapped_next (shift_place c.args.i) _ c.loop-k.k c.loop-k.invariant.2 (search rules) c.shifted.ensures)
-
-pub returns : goal.returns
-returns c = mapped_end (shift_place c.args.i) _ c.loop-k.k c.loop-k.invariant.2 (search rules)
+pub loop-place-preserved : goal.loop-place-preserved
+loop-place-preserved c = mapped_next (shift_place c.args.i) _ c.loop-place.place-index c.loop-place.invariant (omega arith) c.shifted.ensures

@@ -5,8 +5,8 @@ use Rattle.lines.proofs.words.Lines.{listed_at}
 use Rattle.life.proofs.Scanning.{killed_dead, killed_live, killed_open, killed_end}
 use Rattle.life.proofs.liveness.killed_first.Goals as goal
 
-pub loop-k-init : goal.loop-k-init
-loop-k-init c = refl
+pub loop-l-init : goal.loop-l-init
+loop-l-init c = refl
 
 pub liveness_at-requires : goal.liveness_at-requires
 liveness_at-requires c = search (rules, listed_at)
@@ -17,8 +17,8 @@ returns-in-Dead c = search (rules, killed_dead)
 pub returns-in-Live : goal.returns-in-Live
 returns-in-Live c = search (rules, killed_live)
 
-pub loop-k-preserved : goal.loop-k-preserved
-loop-k-preserved c = search (rules, killed_open)
+pub loop-l-preserved : goal.loop-l-preserved
+loop-l-preserved c = search (rules, killed_open)
 
 pub returns : goal.returns
 returns c = search (rules, killed_end)

@@ -2,6 +2,8 @@
 use borrow.Author.Rules.{rules}
 use Rattle.life.proofs.Reading.{reading}
 use Rattle.life.proofs.Scanning.{liveness_use, liveness_none, liveness_kill, liveness_deep}
+use mathlib.Core.Path.{refl}
+use Rattle.life.specs.declared.touches.Touched.TheVariants.{Nothing}
 use Rattle.life.proofs.liveness.liveness_at.Goals as goal
 
 pub line_of-requires : goal.line_of-requires
@@ -10,14 +12,14 @@ line_of-requires c = search (rules, reading)
 pub touch-requires : goal.touch-requires
 touch-requires c = search (rules, reading)
 
-pub returns-then-indent-deep : goal.returns-then-indent-deep
-returns-then-indent-deep c = search (rules, liveness_use, liveness_none, liveness_kill, liveness_deep)
-
 pub returns-in-Use : goal.returns-in-Use
 returns-in-Use c = search (rules, liveness_use)
 
-pub returns-else-indent-deep : goal.returns-else-indent-deep
-returns-else-indent-deep c = search (rules, liveness_use, liveness_none, liveness_kill, liveness_deep)
+pub returns-in-Kill : goal.returns-in-Kill
+returns-in-Kill c = search (rules, liveness_kill)
 
-pub returns-in-Nothing : goal.returns-in-Nothing
-returns-in-Nothing c = search (rules, liveness_use, liveness_none, liveness_kill, liveness_deep)
+pub returns-in-Kill-2 : goal.returns-in-Kill-2
+returns-in-Kill-2 c = search (rules, liveness_deep)
+
+pub returns-in-Kill-2-2 : goal.returns-in-Kill-2-2
+returns-in-Kill-2-2 c = let a = c.args in liveness_none a.tape.now a.area.now a.tokens.now a.l _ _ _ c.line_of.ensures Nothing c.in-Kill-2.ensures refl

@@ -1,13 +1,10 @@
 -- `life::touches::kills` meets its contract. Assumes nothing.
 use borrow.Author.Rules.{rules}
-use Rattle.life.proofs.Touching.{kill_use, kill_kill, kill_none}
+use Rattle.life.proofs.Touching.{kill_kill, kill_not}
 use Rattle.life.proofs.touches.kills.Goals as goal
 
-pub returns-in-Use : goal.returns-in-Use
-returns-in-Use c = search (rules, kill_use, kill_none)
-
 pub returns-in-Kill : goal.returns-in-Kill
-returns-in-Kill c = search (rules, kill_use, kill_kill, kill_none)
+returns-in-Kill c = search (rules, kill_kill)
 
-pub returns-in-Nothing : goal.returns-in-Nothing
-returns-in-Nothing c = search (rules, kill_use, kill_kill, kill_none)
+pub returns-in_default : goal.returns-in_default
+returns-in_default c = kill_not _ c.touch.ensures c.in_default.not-Kill

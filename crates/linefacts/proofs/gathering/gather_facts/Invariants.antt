@@ -1,11 +1,6 @@
--- What the loops of `linefacts::gathering::gather_facts` keep true, and what falls at each turn.
-use Prim.Native.Nat.{◌-◌}
-use lib.ListN.{length}
+-- What the loop of `linefacts::gathering::gather_facts` keeps true: each line is as it was, or with its facts. Assumes nothing.
 use Rattle.linefacts.specs.Gathering.{AllNoted}
 use Rattle.linefacts.proofs.gathering.gather_facts.Given as goal
 
-abbrev pub invariant-loop-k : goal.invariant-loop-k
-invariant-loop-k l = AllNoted l.tape l.area l.tokens l.initial.lines l.lines
-
-abbrev pub decreases-loop-k : goal.decreases-loop-k
-decreases-loop-k l = length l.lines - l.k
+abbrev pub invariant-loop-l : goal.invariant-loop-l
+invariant-loop-l l = AllNoted l.tape l.area l.tokens l.initial.lines l.lines

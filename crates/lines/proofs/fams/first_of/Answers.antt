@@ -1,20 +1,13 @@
 -- `lines::fams::first_of` meets its contract. Assumes nothing.
 use borrow.Author.Rules.{rules}
-use Rattle.lines.proofs.words.Tokens.{holds_at}
-use Rattle.lines.proofs.words.Scans.{scans}
+use Rattle.lines.proofs.words.Chains.{serves_words, position_words}
+use Rattle.reference.specs.Names.{of_family}
+use Rattle.lines.specs.Words.{token_of}
+use Rattle.lines.specs.Fams.{fam_text}
 use Rattle.lines.proofs.fams.first_of.Goals as goal
 
-pub loop-k-init : goal.loop-k-init
-loop-k-init c = search (rules, scans)
-
-pub is_of-requires : goal.is_of-requires
-is_of-requires c = search (rules, holds_at)
-
-pub returns-then-is_of : goal.returns-then-is_of
-returns-then-is_of c = search (rules, scans)
-
-pub loop-k-preserved : goal.loop-k-preserved
-loop-k-preserved c = search (rules, scans)
+pub position-requires-clause-callable : goal.position-requires-clause-callable
+position-requires-clause-callable c = serves_words c.requires.0 (cc) (λ x q k. search rules) (λ x p. search rules)
 
 pub returns : goal.returns
-returns c = search (rules, scans)
+returns c = let a = c.args in position_words (of_family (fam_text a.tape.now a.area.now a.f)) (token_of a.tape.now a.area.now) a.line.now _ _ _ c.position.ensures.ran (cc) (λ x b q k. search rules)

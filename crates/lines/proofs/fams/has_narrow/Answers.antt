@@ -1,20 +1,13 @@
 -- `lines::fams::has_narrow` meets its contract. Assumes nothing.
 use borrow.Author.Rules.{rules}
-use Rattle.lines.proofs.words.Tokens.{holds_at}
-use Rattle.lines.proofs.words.Scans.{scans}
+use Rattle.lines.proofs.words.Chains.{serves_words, any_words}
+use Rattle.reference.specs.Join.{is_narrow}
+use Rattle.lines.specs.Words.{token_of}
+use Rattle.lines.specs.Fams.{fam_text}
 use Rattle.lines.proofs.fams.has_narrow.Goals as goal
 
-pub loop-k-init : goal.loop-k-init
-loop-k-init c = search (rules, scans)
-
-pub is_narrow_of-requires : goal.is_narrow_of-requires
-is_narrow_of-requires c = search (rules, holds_at)
-
-pub returns-then-is_narrow_of : goal.returns-then-is_narrow_of
-returns-then-is_narrow_of c = search (rules, scans)
-
-pub loop-k-preserved : goal.loop-k-preserved
-loop-k-preserved c = search (rules, scans)
+pub any-requires-clause-callable : goal.any-requires-clause-callable
+any-requires-clause-callable c = serves_words c.requires.0 (cc) (λ x q k. search rules) (λ x p. search rules)
 
 pub returns : goal.returns
-returns c = search (rules, scans)
+returns c = let a = c.args in any_words (is_narrow (fam_text a.tape.now a.area.now a.f)) (token_of a.tape.now a.area.now) a.line.now _ _ _ c.any.ensures.ran (cc) (λ x b q k. search rules)

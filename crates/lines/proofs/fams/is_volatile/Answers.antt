@@ -9,5 +9,5 @@ use Rattle.lines.proofs.fams.is_volatile.Goals as goal
 
 pub returns : goal.returns
 returns c = c.overwritten.ensures
-    ∙ ap (λ (n : ℕ). has (volatile_of c.args.rules.convention) (name_numbered n)) c.number_of-n.ensures
+    ∙ ap (λ (n : ℕ). has (volatile_of c.args.rules.convention) (name_numbered n)) c.number_of.ensures
     ∙ fam_overwritten c.args.tape.now c.args.area.now c.args.rules.convention c.args.f c.requires

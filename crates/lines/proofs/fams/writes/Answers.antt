@@ -1,16 +1,23 @@
 -- `lines::fams::writes` meets its contract. Assumes nothing.
 use borrow.Author.Rules.{rules}
-use Rattle.lines.proofs.fams.Writing.{writing}
+use native.Mathlib.Omega.{arith}
+use mathlib.Core.Path.{◌∙◌}
+use lib.ListN.{length, get_or}
+use Rattle.std.proofs.lemmas.Iterator.{YieldsList-from_range}
+use Rattle.std.proofs.lemmas.Iterator.Search.{any_from_yields_List}
+use Rattle.reference.specs.Control.{◌and◌}
+use Rattle.reference.specs.Names.{of_family}
+use Rattle.reference.specs.Shapes.{is_written}
+use Rattle.lines.specs.Words.{token_of, tokens_of}
+use Rattle.lines.specs.Fams.{fam_text}
+use Rattle.lines.proofs.fams.Writing.{written_any}
 use Rattle.lines.proofs.fams.writes.Goals as goal
 
-pub loop-k-init : goal.loop-k-init
-loop-k-init c = search (rules, writing)
-
-pub returns-then-writes_at : goal.returns-then-writes_at
-returns-then-writes_at c = search (rules, writing)
-
-pub loop-k-preserved : goal.loop-k-preserved
-loop-k-preserved c = search (rules, writing)
-
 pub returns : goal.returns
-returns c = search (rules, writing)
+returns c =
+    let a = c.args in
+    let n = length a.line.now in
+    let of = of_family (fam_text a.tape.now a.area.now a.f) in
+    any_from_yields_List (λ k. of (token_of a.tape.now a.area.now (get_or a.line.now k 0)) and is_written (tokens_of a.tape.now a.area.now a.line.now) k) _ _ _ c.any.ensures.ran
+    (YieldsList-from_range 0 n n (cc) (omega arith)) (λ x b q k. search rules)
+    ∙ written_any a.tape.now a.area.now (fam_text a.tape.now a.area.now a.f) a.line.now

@@ -1,26 +1,30 @@
 -- `lines::shapes::assignment` meets its contract. Assumes nothing.
 use borrow.Author.Rules.{rules}
-use Rattle.lines.proofs.words.Tokens.{holds_at}
-use Rattle.lines.proofs.shapes.Sides.{sides, opens}
+use Rattle.lines.proofs.shapes.Sides.{sides, opens, assigned-short, assigned-next, assigned-rest}
+use native.Mathlib.Omega.{arith}
+use Rattle.lines.proofs.shapes.assignment.Goals.{then-len-eq3, else-len-eq3}
 use Rattle.lines.proofs.shapes.assignment.Goals as goal
 
-pub returns-then-line-lt2 : goal.returns-then-line-lt2
-returns-then-line-lt2 c = search (rules, sides)
-
-pub begins_assignment-requires : goal.begins_assignment-requires
-begins_assignment-requires c = search (rules, holds_at)
+pub returns-in_default : goal.returns-in_default
+returns-in_default c = let h = c.in_default.len_below in assigned-short c.requires (omega arith)
 
 pub returns-then-not-begins_assignment : goal.returns-then-not-begins_assignment
-returns-then-not-begins_assignment c = search (rules, sides)
+returns-then-not-begins_assignment c = let h = c.in-len2-up.len_at_least in search (rules, sides)
 
 pub right_side-requires : goal.right_side-requires
-right_side-requires c = (opens (search rules) (search rules) c.begins_assignment.ensures c.if-not-begins_assignment.false, search rules, search rules)
-
-pub returns-then-len-eq3 : goal.returns-then-len-eq3
-returns-then-len-eq3 c = search (rules, sides)
-
-pub right_side-requires-2 : goal.right_side-requires-2
-right_side-requires-2 c = (opens (search rules) (search rules) c.begins_assignment.ensures c.if-not-begins_assignment.false, search rules, search rules)
+right_side-requires c = (
+  opens c.requires (omega (arith, c.in-len2-up.len_at_least)) c.begins_assignment.ensures c.if-not-begins_assignment.false,
+  elim c.if-len-eq3.branch [ then-len-eq3 w ↦ omega arith | else-len-eq3 w ↦ omega arith ],
+  elim c.if-len-eq3.branch [ then-len-eq3 w ↦ omega arith | else-len-eq3 w ↦ omega arith ],
+)
 
 pub returns : goal.returns
-returns c = search (rules, sides)
+returns c =
+    elim c.if-len-eq3.branch [
+      | then-len-eq3 w ↦
+          let s = rw w.right_side-is at c.right_side.ensures in
+          assigned-next c.requires (omega (arith, c.in-len2-up.len_at_least)) c.begins_assignment.ensures c.if-not-begins_assignment.false c.len.ensures w.if-len-eq3.true s
+      | else-len-eq3 w ↦
+          let s = rw w.right_side-is at c.right_side.ensures in
+          assigned-rest c.requires (omega (arith, c.in-len2-up.len_at_least)) c.begins_assignment.ensures c.if-not-begins_assignment.false c.len.ensures w.if-len-eq3.false s
+    ]

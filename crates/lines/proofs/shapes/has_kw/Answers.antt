@@ -1,13 +1,13 @@
 -- `lines::shapes::has_kw` meets its contract. Assumes nothing.
 use borrow.Author.Rules.{rules}
-use Rattle.reference.specs.Shapes.{kw_in}
-use Rattle.lines.proofs.shapes.Places.{any_some, any_none}
+use Rattle.lines.proofs.words.Chains.{serves_words, any_words}
+use Rattle.reference.specs.Shapes.{is_kw, kw_in}
+use Rattle.lines.specs.Words.{token_of}
 use Rattle.lines.proofs.shapes.has_kw.Goals as goal
 
-pub returns-in-At : goal.returns-in-At
-unfolding kw_in
-returns-in-At c = search (rules, any_some)
+pub any-requires-clause-callable : goal.any-requires-clause-callable
+any-requires-clause-callable c = serves_words c.requires (cc) (λ x q k. search rules) (λ x p. search rules)
 
-pub returns-in-Nothing : goal.returns-in-Nothing
+pub returns : goal.returns
 unfolding kw_in
-returns-in-Nothing c = search (rules, any_none)
+returns c = let a = c.args in any_words (is_kw a.kw.now) (token_of a.tape.now a.area.now) a.line.now _ _ _ c.any.ensures.ran (cc) (λ x b q k. search rules)

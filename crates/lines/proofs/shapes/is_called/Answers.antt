@@ -1,18 +1,20 @@
 -- `lines::shapes::is_called` meets its contract. Assumes nothing.
 use borrow.Author.Rules.{rules}
 use Rattle.laws.proofs.Scans.{tests}
-use Rattle.lines.specs.Shapes.{is_called}
 use Rattle.lines.proofs.shapes.Tests.{kinds}
+use Rattle.lines.specs.Shapes.{is_called}
+use mathlib.Core.Path.{◌∙◌}
+use Rattle.lines.proofs.shapes.is_called.Goals.{then-kind-eq-SYMBOL, else-kind-eq-SYMBOL}
 use Rattle.lines.proofs.shapes.is_called.Goals as goal
 
-pub returns-then-kind-ne-SYMBOL : goal.returns-then-kind-ne-SYMBOL
+pub returns-then-kind-eq-PUNCT : goal.returns-then-kind-eq-PUNCT
 unfolding is_called
-returns-then-kind-ne-SYMBOL c = search (rules, tests, kinds)
+returns-then-kind-eq-PUNCT c = search (rules, tests, kinds, ← c.text.ensures)
 
-pub returns-then-kind-ne-PUNCT : goal.returns-then-kind-ne-PUNCT
+pub returns-else-kind-eq-PUNCT : goal.returns-else-kind-eq-PUNCT
 unfolding is_called
-returns-then-kind-ne-PUNCT c = search (rules, tests, kinds)
-
-pub returns : goal.returns
-unfolding is_called
-returns c = search (rules, tests, kinds, ← c.text.ensures)
+returns-else-kind-eq-PUNCT c =
+    elim c.if-kind-eq-SYMBOL.branch [
+      | then-kind-eq-SYMBOL w ↦ w.value-is ∙ search (rules, tests, kinds)
+      | else-kind-eq-SYMBOL w ↦ w.value-is ∙ search (rules, tests, kinds)
+    ]

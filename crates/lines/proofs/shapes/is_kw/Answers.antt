@@ -1,13 +1,13 @@
 -- `lines::shapes::is_kw` meets its contract. Assumes nothing.
 use borrow.Author.Rules.{rules}
-use Rattle.reference.specs.Shapes.{is_kw}
 use Rattle.lines.proofs.shapes.Tests.{kinds}
+use Rattle.reference.specs.Shapes.{is_kw}
 use Rattle.lines.proofs.shapes.is_kw.Goals as goal
 
-pub returns-then-kind-ne-KEYWORD : goal.returns-then-kind-ne-KEYWORD
+pub returns-then-kind-eq-KEYWORD : goal.returns-then-kind-eq-KEYWORD
 unfolding is_kw
-returns-then-kind-ne-KEYWORD c = search (rules, kinds)
+returns-then-kind-eq-KEYWORD c = search (rules, kinds, ← c.text.ensures)
 
-pub returns : goal.returns
+pub returns-else-kind-eq-KEYWORD : goal.returns-else-kind-eq-KEYWORD
 unfolding is_kw
-returns c = search (rules, kinds, ← c.text.ensures)
+returns-else-kind-eq-KEYWORD c = search (rules, kinds)

@@ -1,20 +1,12 @@
 -- `lines::shapes::kw_at` meets its contract. Assumes nothing.
 use borrow.Author.Rules.{rules}
-use Rattle.lines.proofs.words.Tokens.{holds_at}
-use Rattle.lines.proofs.words.Scans.{scans}
+use Rattle.lines.proofs.words.Chains.{serves_words, position_words}
+use Rattle.reference.specs.Shapes.{is_kw}
+use Rattle.lines.specs.Words.{token_of}
 use Rattle.lines.proofs.shapes.kw_at.Goals as goal
 
-pub loop-k-init : goal.loop-k-init
-loop-k-init c = search (rules, scans)
-
-pub is_kw-requires : goal.is_kw-requires
-is_kw-requires c = search (rules, holds_at)
-
-pub returns-then-is_kw : goal.returns-then-is_kw
-returns-then-is_kw c = search (rules, scans)
-
-pub loop-k-preserved : goal.loop-k-preserved
-loop-k-preserved c = search (rules, scans)
+pub position-requires-clause-callable : goal.position-requires-clause-callable
+position-requires-clause-callable c = serves_words c.requires (cc) (λ x q k. search rules) (λ x p. search rules)
 
 pub returns : goal.returns
-returns c = search (rules, scans)
+returns c = let a = c.args in position_words (is_kw a.kw.now) (token_of a.tape.now a.area.now) a.line.now _ _ _ c.position.ensures.ran (cc) (λ x b q k. search rules)

@@ -1,24 +1,13 @@
 -- `lines::shapes::opens_or_closes` meets its contract. Assumes nothing.
 use borrow.Author.Rules.{rules}
-use Rattle.reference.specs.Shapes.{braces_in}
-use Rattle.lines.proofs.words.Tokens.{holds_at}
-use Rattle.lines.proofs.words.Scans.{scans}
+use Rattle.reference.specs.Shapes.{has_brace, braces_in}
+use Rattle.lines.specs.Words.{token_of}
+use Rattle.lines.proofs.words.Chains.{serves_words, any_words}
 use Rattle.lines.proofs.shapes.opens_or_closes.Goals as goal
 
-pub loop-k-init : goal.loop-k-init
-loop-k-init c = search (rules, scans)
-
-pub has_brace-requires : goal.has_brace-requires
-has_brace-requires c = search (rules, holds_at)
-
-pub returns-then-has_brace : goal.returns-then-has_brace
-unfolding braces_in
-returns-then-has_brace c = search (rules, scans)
-
-pub loop-k-preserved : goal.loop-k-preserved
-unfolding braces_in
-loop-k-preserved c = search (rules, scans)
+pub any-requires-clause-callable : goal.any-requires-clause-callable
+any-requires-clause-callable c = serves_words c.requires (cc) (λ x q k. search rules) (λ x p. search rules)
 
 pub returns : goal.returns
 unfolding braces_in
-returns c = search (rules, scans)
+returns c = let a = c.args in any_words has_brace (token_of a.tape.now a.area.now) a.line.now _ _ _ c.any.ensures.ran (cc) (λ x b q k. search rules)

@@ -5,8 +5,8 @@ use Rattle.listing_text.proofs.fields.address_of.Goals as goal
 pub returns-then-same : goal.returns-then-same
 returns-then-same c = address_missing _ c.same.ensures c.if-same.true
 
-pub returns-in-Is : goal.returns-in-Is
-returns-in-Is c = address_is _ c.same.ensures c.if-same.false (c.in-Is.ensures)
+pub returns-in_err-number_in : goal.returns-in_err-number_in
+returns-in_err-number_in c = rw c.from_residual.ensures (address-wrong _ c.same.ensures c.if-same.false c.in_err-number_in.ensures)
 
-pub returns-in-Not : goal.returns-in-Not
-returns-in-Not c = address-wrong _ c.same.ensures c.if-same.false (c.in-Not.ensures)
+pub returns : goal.returns
+returns c = address_is _ c.same.ensures c.if-same.false c.in_ok-number_in.ensures

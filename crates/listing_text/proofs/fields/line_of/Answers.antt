@@ -1,14 +1,12 @@
 -- `listing_text::fields::line_of` meets its contract. Assumes nothing.
-use mathlib.Core.Path.{ap, ◌∙◌}
-use Rattle.listing_text.specs.Parsed.{read_of}
-use Rattle.listing_text.proofs.Fielding.{line_large, line_known, line_unread}
+use Rattle.listing_text.proofs.Fielding.{no_address, no_indent, line_known}
 use Rattle.listing_text.proofs.fields.line_of.Goals as goal
 
-pub returns-then-n-gt255 : goal.returns-then-n-gt255
-returns-then-n-gt255 c = line_large c.args.a.now c.args.i.now (c.in-Is.ensures) c.if-n-gt255.true
+pub returns-in_err-address : goal.returns-in_err-address
+returns-in_err-address c = rw c.from_residual.ensures (no_address _ _ c.in_err-address.ensures)
 
-pub returns-else-n-gt255 : goal.returns-else-n-gt255
-returns-else-n-gt255 c = c.line_with.ensures ∙ ap read_of (line_known c.args.a.now c.args.i.now (c.in-Is.ensures) c.if-n-gt255.false c.address_of-address.ensures)
+pub returns-in_err-indent : goal.returns-in_err-indent
+returns-in_err-indent c = rw c.from_residual-in_err-indent.ensures (no_indent _ _ c.in_ok-address.ensures c.in_err-indent.ensures)
 
-pub returns-in-Not : goal.returns-in-Not
-returns-in-Not c = line_unread c.args.a.now c.args.i.now (c.in-Not.ensures)
+pub returns : goal.returns
+returns c = line_known _ _ c.in_ok-address.ensures c.in_ok-indent.ensures

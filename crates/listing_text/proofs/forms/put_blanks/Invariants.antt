@@ -1,13 +1,13 @@
--- What the loops of `listing_text::forms::put_blanks` keep true, and what falls at each turn.
+-- What the loop of `listing_text::forms::put_blanks` keeps true: what is left is still to be put.
+use Prim.Native.Nat.{◌-◌}
 use mathlib.Core.Path.{◌≡◌}
-use lib.ListN.{length}
 use Rattle.listing_text.specs.Room.{page, puts}
 use Rattle.listing_text.specs.Forms.{blanks}
 use Rattle.listing_text.proofs.forms.put_blanks.Given as goal
 
--- the blanks that are left are still to be put
-abbrev pub invariant-loop-left : goal.invariant-loop-left
-invariant-loop-left l = (length l.out ≡ length l.initial.out) × (puts (page l.out l.q) (blanks l.left) ≡ puts (page l.initial.out l.initial.q) (blanks l.indent))
-
-abbrev pub decreases-loop-left : goal.decreases-loop-left
-decreases-loop-left l = l.left
+abbrev pub invariant-loop : goal.invariant-loop
+invariant-loop l =
+    record {
+      rest : puts (page l.out) (blanks (l.indent - l.counter)) ≡ puts (page l.initial.out) (blanks l.indent);
+      lent : l.out.out.ghost_name ≡ l.initial.out.out.ghost_name;
+    }

@@ -1,15 +1,83 @@
 -- `listing_text::reading::put_line` meets its contract. Assumes nothing.
-use mathlib.Core.Path.{◌∙◌}
-use Rattle.listing_text.proofs.Fielding.{line_alone, head_wrong, head_right}
-use borrow.Author.Rules.{rules}
-use borrow.Author.Tests.{not-true, not-false}
+use native.Mathlib.Omega.{arith}
+use mathlib.Core.Path.{◌≡◌, refl, sym, ap, ◌∙◌}
+use mathlib.Core.List.{List, [], ◌∷◌}
+use Rattle.reference.specs.Text.{Text}
+use Rattle.listing_text.specs.Room.{page}
+use Rattle.listing_text.specs.Exact.{apart, fields_read, line_read}
+use Rattle.listing_text.specs.Parsed.{onto_page}
+use Rattle.listing_text.proofs.Fielding.{lies_wrong, no_fields, head_wrong, head_right, field-wrong, field-right, fields_done}
+use Rattle.listing_text.proofs.Parts.{parts_of, first_part, two_parts}
 use Rattle.listing_text.proofs.reading.put_line.Goals as goal
 
-pub returns-then-line-a : goal.returns-then-line-a
-returns-then-line-a c = record { same = line_alone _ c.args.line.now c.part_end-a.ensures c.if-line-a.true }
+pub returns-in_default : goal.returns-in_default
+returns-in_default c =
+    let s = c.split_once in
+    let g = page c.args.out.now in
+    let one : apart 9 c.args.line.now ≡ s.result.0.now ∷ []
+    = first_part 9 c.args.line.now s.result.0.now s.result.1 s.ensures.without s.ensures.whole ∙ ap (λ o. s.result.0.now ∷ parts_of 9 o) c.in_default.is in
+    record {
+      lays = record { same = no_fields g (s.result.0.now ∷ []) (omega arith) ∙ ap (λ (fs : List Text). onto_page g (line_read fs)) (sym one) };
+      lent = refl;
+    }
 
-pub returns-then-not-r : goal.returns-then-not-r
-returns-then-not-r c = record { same = head_wrong _ c.args.line.now c.part_end-a.ensures (search rules) c.part_end-e.ensures c.put_head-r.ensures (not-true _ c.if-not-r.true) }
+pub returns-in_err-put_head : goal.returns-in_err-put_head
+returns-in_err-put_head c =
+    let s = c.split_once in
+    let t = c.split_once-2 in
+    let g = page c.args.out.now in
+    let two = two_parts 9 c.args.line.now s.result.0.now s.result.1 c.in-Some.rest t.result.0.now t.result.1 s.ensures.without s.ensures.whole c.in-Some.is t.ensures.without t.ensures.whole in
+    record {
+      lays = record {
+        same = lies_wrong c.put_head.new.out c.from_residual.result c.from_residual.ensures.0
+            ∙ head_wrong g s.result.0.now t.result.0.now c.in_err-put_head.ensures.lays (parts_of 9 t.result.1) refl
+            ∙ ap (λ (fs : List Text). onto_page g (line_read fs)) (sym two);
+      };
+      lent = c.in_err-put_head.ensures.lent;
+    }
+
+pub loop-left-init : goal.loop-left-init
+loop-left-init c =
+    let s = c.split_once in
+    let t = c.split_once-2 in
+    let g = page c.args.out.now in
+    let two = two_parts 9 c.args.line.now s.result.0.now s.result.1 c.in-Some.rest t.result.0.now t.result.1 s.ensures.without s.ensures.whole c.in-Some.is t.ensures.without t.ensures.whole in
+    record {
+      told = head_right g s.result.0.now t.result.0.now c.in_ok-put_head.ensures.lays (parts_of 9 t.result.1) refl ∙ ap (λ (fs : List Text). onto_page g (line_read fs)) (sym two);
+      lent = c.in_ok-put_head.ensures.lent;
+    }
+
+pub returns-in_err-put_field : goal.returns-in_err-put_field
+returns-in_err-put_field c =
+    let s = c.split_once-in-Some-left in
+    let g = page c.loop-left.out in
+    let parts : parts_of 9 c.loop-left.left ≡ s.result.0.now ∷ parts_of 9 s.result.1
+    = ap (parts_of 9) c.in-Some-left.is ∙ first_part 9 c.in-Some-left.fields.now s.result.0.now s.result.1 s.ensures.without s.ensures.whole in
+    record {
+      lays = record {
+        same = lies_wrong c.put_field.new.out c.from_residual-in_err-put_field.result c.from_residual-in_err-put_field.ensures.0
+            ∙ field-wrong g s.result.0.now c.in_err-put_field.ensures.lays (parts_of 9 s.result.1) refl
+            ∙ ap (λ (fs : List Text). onto_page g (fields_read fs)) (sym parts) ∙ c.loop-left.invariant.told;
+      };
+      lent = c.in_err-put_field.ensures.lent ∙ c.loop-left.invariant.lent;
+    }
+
+pub loop-left-preserved : goal.loop-left-preserved
+loop-left-preserved c =
+    let s = c.split_once-in-Some-left in
+    let g = page c.loop-left.out in
+    let parts : parts_of 9 c.loop-left.left ≡ s.result.0.now ∷ parts_of 9 s.result.1
+    = ap (parts_of 9) c.in-Some-left.is ∙ first_part 9 c.in-Some-left.fields.now s.result.0.now s.result.1 s.ensures.without s.ensures.whole in
+    record {
+      told = field-right g s.result.0.now c.in_ok-put_field.ensures.lays (parts_of 9 s.result.1) refl ∙ ap (λ (fs : List Text). onto_page g (fields_read fs)) (sym parts)
+          ∙ c.loop-left.invariant.told;
+      lent = c.in_ok-put_field.ensures.lent ∙ c.loop-left.invariant.lent;
+    }
 
 pub returns : goal.returns
-returns c = record { same = c.put_fields.ensures.same ∙ head_right _ c.args.line.now c.part_end-a.ensures (search rules) c.part_end-e.ensures c.put_head-r.ensures (not-false _ c.if-not-r.false) }
+returns c =
+    let g = page c.loop-left.out in
+    record {
+      lays = record { same = fields_done g ∙ ap (λ o. onto_page g (fields_read (parts_of 9 o))) (sym c.in_default-left.is) ∙ c.loop-left.invariant.told };
+      lent = c.loop-left.invariant.lent;
+    }

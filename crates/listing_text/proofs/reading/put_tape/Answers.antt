@@ -1,44 +1,64 @@
--- `listing_text::reading::put_tape` meets its contract: the lines that are left are still to be read. Assumes nothing.
+-- `listing_text::reading::put_tape` meets its contract. Assumes nothing.
+use Prim.Native.Nat.{◌+◌, ◌<◌, ◌≤◌}
 use native.Mathlib.Omega.{arith}
-use mathlib.Core.Path.{refl, ◌∙◌}
-use Rattle.listing_text.specs.Exact.{tape_of}
-use Rattle.listing_text.proofs.Fielding.{line_wrong, line_right, made-wrong, made-right, tape-ends}
+use mathlib.Core.Path.{◌≡◌, refl, sym, ap, ◌∙◌}
+use mathlib.Core.List.{◌∷◌}
+use lib.ListN.{length}
 use borrow.Author.Rules.{rules}
-use borrow.Author.Tests.{not-true, not-false}
+use Rattle.std.proofs.lemmas.Bool.Decides.{nat_tests}
+use Rattle.listing_text.specs.Room.{page}
+use Rattle.listing_text.specs.Exact.{ended, lines_read, tape_of}
+use Rattle.listing_text.proofs.Fielding.{lies_by, ending, line_wrong, line_right, made-wrong, made_cut, made_whole}
+use Rattle.listing_text.proofs.Parts.{lines_of, first_line, no_lines, lines_left, left-shorter, shorter}
 use Rattle.listing_text.proofs.reading.put_tape.Goals as goal
 
-pub loop-at-init : goal.loop-at-init
+pub loop-rest-init : goal.loop-rest-init
 unfolding tape_of
-loop-at-init c = (search rules, search rules, refl, refl)
+loop-rest-init c =
+    record { told = ap (λ g. ending g (lines_read 0 (ended 10 c.args.text.now))) c.new-page.ensures.empty; few = omega arith; lent = refl }
 
-pub slice_bounds-put_line-count : goal.slice_bounds-put_line-count
-slice_bounds-put_line-count c = c.part_end-e.ensures.behind
+pub returns-then-is_err : goal.returns-then-is_err
+returns-then-is_err c =
+    let l = c.loop-rest in
+    let s = c.split_once in
+    let g = page l.page in
+    let more : 0 < length l.rest.now = grind (arith, nat_tests) in
+    let lines : ended 10 l.rest.now ≡ s.result.0.now ∷ lines_of 10 s.result.1
+    = first_line 10 l.rest.now s.result.0.now s.result.1 more s.ensures.without s.ensures.whole in
+    let laid = rw (lies_by c.put_line.new.out c.put_line.result (sym c.is_err.ensures.value ∙ c.if-is_err.true)) at c.put_line.ensures.lays in
+    made-wrong c.args.out.now (tape_of c.args.text.now)
+    (line_wrong g l.n s.result.0.now (lines_of 10 s.result.1) laid refl ∙ ap (λ ls. ending g (lines_read l.n ls)) (sym lines) ∙ l.invariant.told)
+    (search rules)
 
-pub slice_bounds-put_line-start : goal.slice_bounds-put_line-start
-slice_bounds-put_line-start c = c.part_end-e.ensures.behind
+pub loop-rest-preserved : goal.loop-rest-preserved
+loop-rest-preserved c =
+    let l = c.loop-rest in
+    let s = c.split_once in
+    let g = page l.page in
+    let more : 0 < length l.rest.now = grind (arith, nat_tests) in
+    let lines : ended 10 l.rest.now ≡ s.result.0.now ∷ lines_of 10 s.result.1
+    = first_line 10 l.rest.now s.result.0.now s.result.1 more s.ensures.without s.ensures.whole in
+    let laid = rw (lies_by c.put_line.new.out c.put_line.result (sym c.is_err.ensures.value ∙ c.if-is_err.false)) at c.put_line.ensures.lays in
+    let fewer = left-shorter s.result.1 _ c.unwrap_or-rest.ensures refl (shorter 10 l.rest.now s.result.0.now s.result.1 s.ensures.whole) more in
+    record {
+      told = ap (λ ls. ending (page c.put_line.new.out) (lines_read (l.n + 1) ls)) (lines_left 10 s.result.1 _ c.unwrap_or-rest.ensures refl)
+          ∙ line_right g l.n s.result.0.now (lines_of 10 s.result.1) laid refl ∙ ap (λ ls. ending g (lines_read l.n ls)) (sym lines) ∙ l.invariant.told;
+      few = omega (arith, l.invariant.few);
+      lent = c.put_line.ensures.lent ∙ l.invariant.lent;
+    }
 
-pub slice_bounds-put_line-end : goal.slice_bounds-put_line-end
-slice_bounds-put_line-end c = c.part_end-e.ensures.within
-
-pub returns-then-not-r : goal.returns-then-not-r
-returns-then-not-r c = made-wrong _ _ (line_wrong _ c.args.text.now _ c.loop-at-test.true c.part_end-e.ensures c.put_line-r.ensures (not-true _ c.if-not-r.true) ∙ c.loop-at.invariant.3) refl
-
-pub overflow_add-at : goal.overflow_add-at
-overflow_add-at c = omega (arith, c.part_end-e.ensures.within)
-
-pub overflow_add-n : goal.overflow_add-n
-overflow_add-n c = omega arith
-
-pub loop-at-smaller : goal.loop-at-smaller
-loop-at-smaller c = omega (arith, c.part_end-e.ensures.behind, c.part_end-e.ensures.within)
-
-pub loop-at-preserved : goal.loop-at-preserved
-loop-at-preserved c = (
-  omega (arith, c.part_end-e.ensures.within),
-  omega (arith, c.part_end-e.ensures.behind),
-  search rules,
-  line_right _ c.args.text.now _ c.loop-at-test.true c.part_end-e.ensures c.put_line-r.ensures (not-false _ c.if-not-r.false) ∙ c.loop-at.invariant.3,
-)
+pub returns-then-page : goal.returns-then-page
+returns-then-page c =
+    let l = c.loop-rest in
+    let short : length l.rest.now ≤ 0 = grind (arith, nat_tests) in
+    let none = no_lines 10 l.rest.now short in
+    made_cut c.args.out.now (tape_of c.args.text.now) (page l.page) l.n c.put_byte.ensures.adds
+    (ap (λ ls. ending (page l.page) (lines_read l.n ls)) (sym none) ∙ l.invariant.told) (search rules) c.if-page.true
 
 pub returns : goal.returns
-returns c = made-right _ _ (tape-ends _ c.args.text.now _ c.loop-at.at (search rules) ∙ c.loop-at.invariant.3) c.finish.ensures.0 c.finish.ensures.1
+returns c =
+    let l = c.loop-rest in
+    let short : length l.rest.now ≤ 0 = grind (arith, nat_tests) in
+    let none = no_lines 10 l.rest.now short in
+    made_whole c.args.out.now (tape_of c.args.text.now) (page l.page) l.n c.put_byte.ensures.adds
+    (ap (λ ls. ending (page l.page) (lines_read l.n ls)) (sym none) ∙ l.invariant.told) (search rules) c.if-page.false

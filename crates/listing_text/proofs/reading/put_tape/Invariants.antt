@@ -1,17 +1,19 @@
--- What the loops of `listing_text::reading::put_tape` keep true, and what falls at each turn.
-use Prim.Native.Nat.{◌+◌, ◌≤◌, ◌-◌}
+-- What the loop of `listing_text::reading::put_tape` keeps true: the lines that are left are still to be put.
+use Prim.Native.Nat.{◌+◌, ◌≤◌}
 use mathlib.Core.Path.{◌≡◌}
-use lib.ListN.{length, drop}
+use lib.ListN.{length}
 use Rattle.listing_text.specs.Room.{page, empty}
 use Rattle.listing_text.specs.Exact.{ended, lines_read, tape_of}
 use Rattle.listing_text.proofs.Fielding.{ending}
 use Rattle.listing_text.proofs.reading.put_tape.Given as goal
 
--- the lines that are left are still to be read
-abbrev pub invariant-loop-at : goal.invariant-loop-at
-invariant-loop-at l =
-    (l.at ≤ length l.text + 1) × (l.n ≤ l.at) × (length l.out ≡ length l.initial.out)
-    × (ending (page l.out l.p) (lines_read l.n (ended 10 (drop l.at l.text))) ≡ ending (empty l.initial.out) (tape_of l.text))
+abbrev pub invariant-loop-rest : goal.invariant-loop-rest
+invariant-loop-rest l =
+    record {
+      told : ending (page l.page) (lines_read l.n (ended 10 l.rest)) ≡ ending (empty l.fn.out) (tape_of l.fn.text);
+      few : l.n + length l.rest ≤ length l.fn.text;
+      lent : l.page.out.ghost_name ≡ l.initial.page.out.ghost_name;
+    }
 
-abbrev pub decreases-loop-at : goal.decreases-loop-at
-decreases-loop-at l = length l.text + 1 - l.at
+abbrev pub decreases-loop-rest : goal.decreases-loop-rest
+decreases-loop-rest l = length l.rest

@@ -1,4 +1,5 @@
--- What the loops of `listing_text::showing::put_listing` keep true, and what falls at each turn.
+-- What the loop of `listing_text::showing::put_listing` keeps true: what is left is still to be told.
+use Prim.Native.Nat.{◌-◌}
 use mathlib.Core.Path.{◌≡◌}
 use lib.ListN.{length}
 use Rattle.listing_text.specs.Room.{page, empty}
@@ -6,10 +7,9 @@ use Rattle.listing_text.specs.Showing.{shown_from, shown}
 use Rattle.listing_text.proofs.Telling.{tells}
 use Rattle.listing_text.proofs.showing.put_listing.Given as goal
 
--- the commands that are left are still to be shown
-abbrev pub invariant-loop-turns : goal.invariant-loop-turns
-invariant-loop-turns l =
-    (length l.out ≡ length l.initial.out) × (tells (page l.out l.p) (shown_from l.exact l.turns l.tape l.at l.fresh) ≡ tells (empty l.initial.out) (shown l.exact l.tape))
-
-abbrev pub decreases-loop-turns : goal.decreases-loop-turns
-decreases-loop-turns l = l.turns
+abbrev pub invariant-loop : goal.invariant-loop
+invariant-loop l =
+    record {
+      rest : tells (page l.page) (shown_from l.exact (length l.tape - l.counter) l.tape l.at l.fresh) ≡ tells (empty l.fn.out) (shown l.exact l.tape);
+      lent : l.page.out.ghost_name ≡ l.initial.page.out.ghost_name;
+    }

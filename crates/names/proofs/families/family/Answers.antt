@@ -5,10 +5,8 @@ use Rattle.names.proofs.families.family.Goals as goal
 pub returns-then-s-gt3 : goal.returns-then-s-gt3
 returns-then-s-gt3 c = rw (long c.args.s.now c.if-s-gt3.true) c.numbered.ensures
 
-pub returns-in-At : goal.returns-in-At
-returns-in-At c = in_table c.args.s.now (c.in-At.ensures)
+pub returns-in-Some : goal.returns-in-Some
+returns-in-Some c = in_table c.args.s.now (c.in-Some.ensures)
 
-pub returns-in-Nothing : goal.returns-in-Nothing
-returns-in-Nothing c =
-    let s = c.args.s.now in
-    rw (not_in-table s (c.in-Nothing.ensures)) c.high_byte.ensures
+pub returns-in-None : goal.returns-in-None
+returns-in-None c = rw (not_in-table c.args.s.now (c.in-None.ensures)) c.high_byte.ensures

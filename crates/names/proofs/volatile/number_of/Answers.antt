@@ -6,4 +6,4 @@ use Rattle.names.proofs.volatile.number_of.Goals as goal
 
 pub returns : goal.returns
 unfolding unpadded when◌then◌else◌
-returns c = let i = c.column_in-place.ensures in numbered c.args.s.now i.most i.is
+returns c = rw c.unwrap_or.ensures (numbered c.args.s.now c.column_in.result c.column_in.ensures.is)

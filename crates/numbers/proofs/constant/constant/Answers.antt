@@ -25,6 +25,6 @@ pub returns-then-starts : goal.returns-then-starts
 returns-then-starts c =
     c.sized-then-starts.ensures ∙ read_8 _ c.begins_hexadecimal.ensures c.if-begins_hexadecimal.false c.begins_binary.ensures c.if-begins_binary.false c.starts.ensures c.if-starts.true
 
-pub returns : goal.returns
-returns c =
-    c.sized-2.ensures ∙ read_10 _ c.begins_hexadecimal.ensures c.if-begins_hexadecimal.false c.begins_binary.ensures c.if-begins_binary.false c.starts.ensures c.if-starts.false
+pub returns-else-starts : goal.returns-else-starts
+returns-else-starts c =
+    c.sized-else-starts.ensures ∙ read_10 _ c.begins_hexadecimal.ensures c.if-begins_hexadecimal.false c.begins_binary.ensures c.if-begins_binary.false c.starts.ensures c.if-starts.false

@@ -1,6 +1,7 @@
 -- `numbers::constant::parse_2024` meets its contract. Assumes nothing.
 use Rattle.std.proofs.Common.{ℤ, neg_ℤ, ap, ◌∙◌, rules}
 use mathlib.Core.Option.{some}
+use Rattle.reference.specs.Options.{option_of}
 use Rattle.reference.specs.Numbers.{wrap}
 use Rattle.reference.specs.Text.{bytes}
 use Rattle.numbers.proofs.Signed.{read_back}
@@ -17,11 +18,11 @@ slice_bounds-constant-count c = prefix-fits (bytes "-") c.args.s.now c.begins_mi
 pub slice_bounds-constant-start : goal.slice_bounds-constant-start
 slice_bounds-constant-start c = slice_bounds-constant-count c
 
-pub returns-in-Read : goal.returns-in-Read
-returns-in-Read c =
-    ap some (read_back _ c.wrapping_neg.type_inv ∙ c.wrapping_neg.ensures)
-    ∙ ap (λ (z : ℤ). some (wrap (neg_ℤ z))) (read_back c.in-Read.v (search rules))
-    ∙ parse_read _ c.begins_minus.ensures c.if-not-begins_minus.false c.in-Read.ensures
+pub returns-in_err-constant : goal.returns-in_err-constant
+returns-in_err-constant c = ap option_of c.from_residual.ensures ∙ parse_unread _ c.begins_minus.ensures c.if-not-begins_minus.false c.in_err-constant.ensures
 
-pub returns-in-Unread : goal.returns-in-Unread
-returns-in-Unread c = parse_unread _ c.begins_minus.ensures c.if-not-begins_minus.false c.in-Unread.ensures
+pub returns : goal.returns
+returns c =
+    ap some (read_back _ c.wrapping_neg.type_inv ∙ c.wrapping_neg.ensures)
+    ∙ ap (λ (z : ℤ). some (wrap (neg_ℤ z))) (read_back c.in_ok-constant.field-0 (search rules))
+    ∙ parse_read _ c.begins_minus.ensures c.if-not-begins_minus.false c.in_ok-constant.ensures

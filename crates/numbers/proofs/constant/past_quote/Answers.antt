@@ -1,9 +1,11 @@
 -- `numbers::constant::past_quote` meets its contract. Assumes nothing.
+use Rattle.std.proofs.Common.{rules, arith}
+use Rattle.std.proofs.lemmas.List.{take_rest}
 use Rattle.numbers.proofs.Constants.{past_one, past_none}
 use Rattle.numbers.proofs.constant.past_quote.Goals as goal
 
-pub returns-then-s-i-eq-QUOTE : goal.returns-then-s-i-eq-QUOTE
-returns-then-s-i-eq-QUOTE c = past_one _ _ c.requires c.if-s-i-eq-QUOTE.true
+pub returns-in-39 : goal.returns-in-39
+returns-in-39 c = rw take_rest (past_one c.args.s.now (omega arith) (search rules))
 
-pub returns : goal.returns
-returns c = past_none _ _ c.requires c.if-s-i-eq-QUOTE.false
+pub returns-in_default-2 : goal.returns-in_default-2
+returns-in_default-2 c = past_none c.args.s.now (λ h e. search rules)

@@ -1,26 +1,38 @@
 -- `numbers::constant::row` meets its contract. Assumes nothing.
-use Rattle.std.proofs.Common.{sym, refl, ap, ◌∙◌, arith}
+use Rattle.std.proofs.Common.{◌≡◌, ◌<◌, length, drop, sym, ap, ◌∙◌, arith}
+use Rattle.std.proofs.lemmas.List.{take_rest}
+use Rattle.reference.specs.Options.{option_of}
 use Rattle.numbers.specs.Reading.{at_most}
+use Rattle.numbers.proofs.Reading.{none_empty, not_empty}
 use Rattle.numbers.proofs.Constants.{digit-read, digit-unread, ends_read, ends-cut}
 use Rattle.numbers.proofs.constant.row.Goals as goal
 
-pub loop-i-init : goal.loop-i-init
-loop-i-init c = (omega arith, refl)
+pub returns-in_err-v : goal.returns-in_err-v
+returns-in_err-v c =
+    let a = c.args in
+    let l = c.loop-rest in
+    ap option_of c.from_residual.ensures ∙ sym (l.invariant ∙ digit-unread a.most a.radix l.v l.rest.now c.requires c.in-len1-up.len_at_least c.in_err-v.ensures)
 
-pub returns-in-Unread : goal.returns-in-Unread
-returns-in-Unread c =
-    sym (c.loop-i.invariant.1 ∙ digit-unread _ _ _ _ _ c.requires c.loop-i-test.true (c.in-Unread.ensures))
+pub returns-then-is_empty : goal.returns-then-is_empty
+returns-then-is_empty c =
+    let a = c.args in
+    let l = c.loop-rest in
+    let r = digit-read a.most a.radix l.v l.rest.now c.requires c.in-len1-up.len_at_least c.in_ok-v.ensures in
+    let z : length (drop 1 l.rest.now) ≡ 0 = sym (ap length (take_rest l.rest.now 1)) ∙ none_empty _ c.is_empty.ensures c.if-is_empty.true in
+    sym (l.invariant ∙ r.1 ∙ ends_read a.most a.radix c.in_ok-v.v (drop 1 l.rest.now) z r.0)
 
-pub returns-then-i-s : goal.returns-then-i-s
-returns-then-i-s c =
-    let r = digit-read _ _ _ _ _ c.requires c.loop-i-test.true (c.in-Read.ensures) in
-    sym (c.loop-i.invariant.1 ∙ r.1 ∙ ends_read _ _ _ _ _ c.if-i-s.true r.0)
-
-pub loop-i-preserved : goal.loop-i-preserved
-loop-i-preserved c =
-    let r = digit-read _ _ _ _ _ c.requires c.loop-i-test.true (c.in-Read.ensures) in
-    let q = c.past_quote-i.ensures in
-    (q.inside, c.loop-i.invariant.1 ∙ r.1 ∙ ap (at_most _) (q.means _ _))
+pub loop-rest-preserved : goal.loop-rest-preserved
+loop-rest-preserved c =
+    let a = c.args in
+    let l = c.loop-rest in
+    let r = digit-read a.most a.radix l.v l.rest.now c.requires c.in-len1-up.len_at_least c.in_ok-v.ensures in
+    let n = not_empty _ c.is_empty.ensures c.if-is_empty.false in
+    let q = rw take_rest at c.past_quote-rest.ensures in
+    let m : 0 < length (drop 1 l.rest.now) = omega (arith, n, ap length (take_rest l.rest.now 1)) in
+    l.invariant ∙ r.1 ∙ ap (at_most a.most) (q.means a.radix c.in_ok-v.v m)
 
 pub returns : goal.returns
-returns c = sym (c.loop-i.invariant.1 ∙ ends-cut _ _ _ _ _ c.loop-i-test.false)
+returns c =
+    let a = c.args in
+    let l = c.loop-rest in
+    sym (l.invariant ∙ ends-cut a.most a.radix l.v l.rest.now c.in_default.len_below)

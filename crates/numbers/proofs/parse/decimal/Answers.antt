@@ -14,5 +14,5 @@ slice_bounds-negative-start c = slice_bounds-negative-count c
 pub returns-then-begins_minus : goal.returns-then-begins_minus
 returns-then-begins_minus c = c.negative.ensures ∙ decimal-minus _ c.begins_minus.ensures c.if-begins_minus.true
 
-pub returns : goal.returns
-returns c = c.positive.ensures ∙ ap positive c.without_plus.ensures ∙ decimal-plain _ c.begins_minus.ensures c.if-begins_minus.false
+pub returns-else-begins_minus : goal.returns-else-begins_minus
+returns-else-begins_minus c = c.positive.ensures ∙ ap positive c.without_plus.ensures ∙ decimal-plain _ c.begins_minus.ensures c.if-begins_minus.false

@@ -1,6 +1,7 @@
 -- `numbers::parse::parse_c_number` meets its contract. Assumes nothing.
 use Rattle.std.proofs.Common.{ℤ, neg_ℤ, ap, ◌∙◌, rules}
 use mathlib.Core.Option.{some}
+use Rattle.reference.specs.Options.{option_of}
 use Rattle.reference.specs.Numbers.{wrap}
 use Rattle.reference.specs.Text.{bytes}
 use Rattle.numbers.proofs.Signed.{read_back}
@@ -16,11 +17,11 @@ slice_bounds-unnegated-count c = prefix-fits (bytes "-") c.args.s.now c.begins_m
 pub slice_bounds-unnegated-start : goal.slice_bounds-unnegated-start
 slice_bounds-unnegated-start c = slice_bounds-unnegated-count c
 
-pub returns-in-Read : goal.returns-in-Read
-returns-in-Read c =
-    ap some (read_back _ c.wrapping_neg.type_inv ∙ c.wrapping_neg.ensures)
-    ∙ ap (λ (z : ℤ). some (wrap (neg_ℤ z))) (read_back c.in-Read.v (search rules))
-    ∙ parse_read _ c.begins_minus.ensures c.if-not-begins_minus.false c.in-Read.ensures
+pub returns-in_err-unnegated : goal.returns-in_err-unnegated
+returns-in_err-unnegated c = ap option_of c.from_residual.ensures ∙ parse_unread _ c.begins_minus.ensures c.if-not-begins_minus.false c.in_err-unnegated.ensures
 
-pub returns-in-Unread : goal.returns-in-Unread
-returns-in-Unread c = parse_unread _ c.begins_minus.ensures c.if-not-begins_minus.false c.in-Unread.ensures
+pub returns : goal.returns
+returns c =
+    ap some (read_back _ c.wrapping_neg.type_inv ∙ c.wrapping_neg.ensures)
+    ∙ ap (λ (z : ℤ). some (wrap (neg_ℤ z))) (read_back c.in_ok-unnegated.field-0 (search rules))
+    ∙ parse_read _ c.begins_minus.ensures c.if-not-begins_minus.false c.in_ok-unnegated.ensures

@@ -13,5 +13,5 @@ slice_bounds-hexadecimal-start c = slice_bounds-hexadecimal-count c
 pub returns-then-begins_hex : goal.returns-then-begins_hex
 returns-then-begins_hex c = c.hexadecimal.ensures ∙ after_0x _ c.begins_hex.ensures c.if-begins_hex.true
 
-pub returns : goal.returns
-returns c = c.decimal.ensures ∙ without_0x _ c.begins_hex.ensures c.if-begins_hex.false
+pub returns-else-begins_hex : goal.returns-else-begins_hex
+returns-else-begins_hex c = c.decimal.ensures ∙ without_0x _ c.begins_hex.ensures c.if-begins_hex.false

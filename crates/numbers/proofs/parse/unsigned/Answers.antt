@@ -1,25 +1,24 @@
 -- `numbers::parse::unsigned` meets its contract. Assumes nothing.
-use Rattle.std.proofs.Common.{refl, ◌∙◌, arith}
-use Rattle.numbers.proofs.Reading.{digit-read, row-empty, row-unread, row_read}
+use Rattle.std.proofs.Common.{ap, ◌∙◌}
+use Rattle.reference.specs.Options.{option_of}
+use Rattle.numbers.proofs.Reading.{digit-read, none_empty, not_empty, row-empty, row-unread, row_read}
 use Rattle.numbers.proofs.parse.unsigned.Goals as goal
 
-pub returns-then-s-eq0 : goal.returns-then-s-eq0
-returns-then-s-eq0 c = row-empty _ _ _ c.if-s-eq0.true
+pub returns-then-is_empty : goal.returns-then-is_empty
+returns-then-is_empty c = row-empty _ _ _ (none_empty c.args.s.now c.is_empty.ensures c.if-is_empty.true)
 
-pub loop-i-init : goal.loop-i-init
-loop-i-init c = (omega arith, omega arith, refl)
+pub returns-in_err-v : goal.returns-in_err-v
+returns-in_err-v c =
+    let l = c.loop-b in
+    ap option_of c.from_residual.ensures
+    ∙ row-unread _ _ _ _ (not_empty c.args.s.now c.is_empty.ensures c.if-is_empty.false) l.invariant.1 c.loop-b-test.true c.in_err-v.ensures
 
-pub returns-in-Unread : goal.returns-in-Unread
-returns-in-Unread c =
-    let l = c.loop-i in
-    row-unread _ _ _ _ c.if-s-eq0.false l.invariant.2 c.loop-i-test.true
-    (c.in-Unread.ensures)
-
-pub loop-i-preserved : goal.loop-i-preserved
-loop-i-preserved c =
-    let l = c.loop-i in
-    let r = digit-read _ _ _ _ _ c.loop-i-test.true (c.in-Read.ensures) in
-    (omega arith, r.0, l.invariant.2 ∙ r.1)
+pub loop-b-preserved : goal.loop-b-preserved
+loop-b-preserved c =
+    let r = digit-read _ _ _ _ _ c.loop-b-test.true c.in_ok-v.ensures in
+    (r.0, c.loop-b.invariant.1 ∙ r.1)
 
 pub returns : goal.returns
-returns c = row_read _ _ _ _ c.if-s-eq0.false c.loop-i.invariant.2 c.loop-i-test.false c.loop-i.invariant.1
+returns c =
+    let l = c.loop-b in
+    row_read _ _ _ _ (not_empty c.args.s.now c.is_empty.ensures c.if-is_empty.false) l.invariant.1 c.loop-b-test.false l.invariant.0

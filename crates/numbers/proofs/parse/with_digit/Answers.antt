@@ -1,22 +1,35 @@
 -- `numbers::parse::with_digit` meets its contract. Assumes nothing.
-use Rattle.std.proofs.Common.{arith}
-use Rattle.numbers.proofs.Reading.{sum_in, sum_over, with_none, with_over, with_in}
+use Rattle.std.proofs.Common.{ap, ◌∙◌, arith}
+use Rattle.reference.specs.Options.{option_of}
+use Rattle.numbers.proofs.Reading.{with_none, with_over, with_in}
 use Rattle.numbers.proofs.parse.with_digit.Goals as goal
 
-pub returns-then-radix-d : goal.returns-then-radix-d
-returns-then-radix-d c = with_none _ _ _ _ c.worth-d.ensures c.if-radix-d.true
+pub returns-in_err-d : goal.returns-in_err-d
+returns-in_err-d c =
+    let a = c.args in
+    ap option_of c.from_residual.ensures ∙ with_none a.most a.radix a.v a.b c.in_err-d.ensures
 
-pub returns-then-most-d : goal.returns-then-most-d
-returns-then-most-d c = with_over _ _ _ _ c.worth-d.ensures c.if-radix-d.false (omega arith)
+pub returns-in_err-checked_mul : goal.returns-in_err-checked_mul
+returns-in_err-checked_mul c =
+    let a = c.args in
+    ap option_of c.from_residual-in_err-checked_mul.ensures ∙ with_over a.most a.radix a.v a.b c.in_ok-d.ensures (omega (arith, c.ranges.most.fits, c.in_err-checked_mul.ensures))
 
-pub returns-then-most-d-2 : goal.returns-then-most-d-2
-returns-then-most-d-2 c = with_over _ _ _ _ c.worth-d.ensures c.if-radix-d.false (sum_over c.if-radix-d.false c.if-most-d.false c.if-most-d-2.true)
+pub returns-in_err-n : goal.returns-in_err-n
+returns-in_err-n c =
+    let a = c.args in
+    let m = c.in_ok-checked_mul.ensures in
+    ap option_of c.from_residual-in_err-n.ensures ∙ with_over a.most a.radix a.v a.b c.in_ok-d.ensures (omega (arith, m.1, c.ranges.most.fits, c.in_err-n.ensures))
 
-pub overflow_mul-result : goal.overflow_mul-result
-overflow_mul-result c = omega (arith, sum_in c.if-radix-d.false c.if-most-d.false c.if-most-d-2.false, c.ranges.most)
+pub returns-then-n-most : goal.returns-then-n-most
+returns-then-n-most c =
+    let a = c.args in
+    let m = c.in_ok-checked_mul.ensures in
+    let n = c.in_ok-n.ensures in
+    rw (n.1, m.1) (with_in a.most a.radix a.v a.b c.in_ok-d.ensures (omega (arith, m.1, n.1)))
 
-pub overflow_add-result : goal.overflow_add-result
-overflow_add-result c = omega (arith, sum_in c.if-radix-d.false c.if-most-d.false c.if-most-d-2.false, c.ranges.most)
-
-pub returns : goal.returns
-returns c = with_in _ _ _ _ c.worth-d.ensures c.if-radix-d.false (sum_in c.if-radix-d.false c.if-most-d.false c.if-most-d-2.false)
+pub returns-else-n-most : goal.returns-else-n-most
+returns-else-n-most c =
+    let a = c.args in
+    let m = c.in_ok-checked_mul.ensures in
+    let n = c.in_ok-n.ensures in
+    with_over a.most a.radix a.v a.b c.in_ok-d.ensures (omega (arith, m.1, n.1))

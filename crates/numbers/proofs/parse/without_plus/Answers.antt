@@ -12,5 +12,5 @@ slice_bounds-result-start c = slice_bounds-result-count c
 pub returns-then-begins_plus : goal.returns-then-begins_plus
 returns-then-begins_plus c = plus-cut c.args.s.now c.begins_plus.ensures c.if-begins_plus.true
 
-pub returns : goal.returns
-returns c = plus-kept _ c.begins_plus.ensures c.if-begins_plus.false
+pub returns-else-begins_plus : goal.returns-else-begins_plus
+returns-else-begins_plus c = plus-kept _ c.begins_plus.ensures c.if-begins_plus.false

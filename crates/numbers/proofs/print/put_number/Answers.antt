@@ -4,18 +4,15 @@ use Rattle.numbers.proofs.Writing.{room-positive, written-positive, room-negativ
 use Rattle.numbers.proofs.print.put_number.Goals as goal
 
 pub put_natural-requires : goal.put_natural-requires
-put_natural-requires c =
-    omega (arith, c.requires, room-positive _ c.ranges.v c.bits-b.ensures c.if-b-lt-HALF.true)
+put_natural-requires c = omega (arith, c.requires, room-positive c.args.v c.ranges.v c.unsigned_abs.ensures.value c.if-v-ge0.true)
 
-pub returns-then-b-lt-HALF : goal.returns-then-b-lt-HALF
-returns-then-b-lt-HALF c =
-    written-positive _ c.ranges.v c.bits-b.ensures c.if-b-lt-HALF.true c.put_natural.ensures
+pub returns-then-v-ge0 : goal.returns-then-v-ge0
+returns-then-v-ge0 c = written-positive c.args.v c.ranges.v c.unsigned_abs.ensures.value c.if-v-ge0.true c.put_natural.ensures
 
 pub put_natural-requires-2 : goal.put_natural-requires-2
 put_natural-requires-2 c =
-    let r = room-negative _ c.ranges.v c.bits-b.ensures c.if-b-lt-HALF.false c.bits-b.type_inv in
+    let r = room-negative c.args.v c.ranges.v c.unsigned_abs-2.ensures.value c.if-v-ge0.false in
     simp length-set (omega (arith, c.requires, r))
 
 pub returns : goal.returns
-returns c =
-    written-negative _ c.ranges.v c.bits-b.ensures c.if-b-lt-HALF.false c.bits-b.type_inv c.requires c.put_natural-2.ensures
+returns c = written-negative c.args.v c.ranges.v c.unsigned_abs-2.ensures.value c.if-v-ge0.false c.requires c.put_natural-2.ensures

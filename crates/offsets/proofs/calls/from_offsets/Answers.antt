@@ -1,19 +1,21 @@
 -- `offsets::from_offsets` meets its contract: no call is refused wrongly, and every lent byte is told. Assumes nothing.
 use lib.ListN.{length}
-use Rattle.offsets.proofs.Answering.{refused_call, from-small, from_front, fronted}
+use Rattle.answers.specs.Refusals.{refusing}
+use Rattle.offsets.proofs.Answering.{refused_call, from-small, from_front, numbered, fronted}
+use mathlib.Core.Path.{refl, sym, ap, ◌∙◌}
 use Rattle.offsets.proofs.calls.from_offsets.Goals as goal
 
-pub returns-then-out-lt59146 : goal.returns-then-out-lt59146
-returns-then-out-lt59146 c = let a = c.args in
-    refused_call a.out.now (from-small a.tape.now (length a.out.now) c.if-out-lt59146.true)
+pub returns-then-out-lt-OUTPUT_BYTES : goal.returns-then-out-lt-OUTPUT_BYTES
+returns-then-out-lt-OUTPUT_BYTES c = let a = c.args in
+    rw c.at.ensures (refused_call a.out.now (from-small a.tape.now (length a.out.now) c.if-out-lt-OUTPUT_BYTES.true))
 
-pub returns-then-number-ne0 : goal.returns-then-number-ne0
-returns-then-number-ne0 c = let a = c.args in
-    refused_call a.out.now (from_front a.tape.now (length a.out.now) c.if-out-lt59146.false c.asked-number.ensures c.if-number-ne0.true)
+pub returns-in-Err : goal.returns-in-Err
+returns-in-Err c = let a = c.args in
+    rw c.at-in-Err.ensures
+    (refused_call a.out.now
+    (from_front a.tape.now (length a.out.now) c.if-out-lt-OUTPUT_BYTES.false
+    (sym (ap refusing c.in-Err.is) ∙ c.asked.ensures) (numbered c.in-Err.reason)))
 
 pub raise-requires : goal.raise-requires
-raise-requires c = let a = c.args in
-    (fronted a.tape.now c.asked-number.ensures c.if-number-ne0.false, c.if-out-lt59146.false)
-
-pub returns : goal.returns
-returns c = c.raise.ensures
+raise-requires c =
+    (fronted c.args.tape.now (sym (ap refusing c.in-Ok.is) ∙ c.asked.ensures) refl, c.if-out-lt-OUTPUT_BYTES.false)

@@ -1,19 +1,31 @@
--- `offsets::to_offsets` meets its contract: no call is refused wrongly, and every lent byte is told. Assumes nothing.
+-- `offsets::calls::to_offsets` meets its contract. Assumes nothing.
 use lib.ListN.{length}
-use Rattle.offsets.proofs.Answering.{refused_call, to_small, to_refused, ready_is}
+use Rattle.offsets.specs.Calls.{passing}
+use Rattle.offsets.proofs.Answering.{refused_call, to_small, to_refused, ready_is, lowered}
+use Rattle.offsets.proofs.Putting.{front_size}
+use Rattle.std.proofs.lemmas.Result.{err_from_is_err_and}
+use mathlib.Core.Path.{sym, ap, ◌∙◌}
+use native.Mathlib.Omega.{arith}
 use Rattle.offsets.proofs.calls.to_offsets.Goals as goal
 
-pub returns-then-out-lt59146 : goal.returns-then-out-lt59146
-returns-then-out-lt59146 c = let a = c.args in
-    refused_call a.out.now (to_small a.base a.tape.now (length a.out.now) c.if-out-lt59146.true)
+pub returns-then-out-lt-OUTPUT_BYTES : goal.returns-then-out-lt-OUTPUT_BYTES
+returns-then-out-lt-OUTPUT_BYTES c = let a = c.args in
+    rw c.at.ensures (refused_call a.out.now (to_small a.base a.tape.now (length a.out.now) c.if-out-lt-OUTPUT_BYTES.true))
 
-pub lower-requires : goal.lower-requires
-lower-requires c = let a = c.args in
-    (ready_is _ a.base a.tape.now (c.in-Passed.ensures), c.if-out-lt59146.false)
+pub returns-in_err-ready : goal.returns-in_err-ready
+returns-in_err-ready c = let a = c.args in
+    let p = err_from_is_err_and c.from_residual.result c.from_residual.ensures.1 in
+    rw (p.1, p.2)
+    (refused_call a.out.now
+    (to_refused a.base a.tape.now (length a.out.now) c.if-out-lt-OUTPUT_BYTES.false (sym (ap passing c.in_err-ready.was) ∙ c.ready.ensures)))
 
-pub returns-in-Refused : goal.returns-in-Refused
-returns-in-Refused c = let a = c.args in
-    refused_call a.out.now (to_refused a.base a.tape.now (length a.out.now) c.if-out-lt59146.false (c.in-Refused.ensures))
+pub put_commands-requires : goal.put_commands-requires
+put_commands-requires c = let a = c.args in (
+  ready_is _ a.base a.tape.now (sym (ap passing c.in_ok-ready.was) ∙ c.ready.ensures),
+  omega (arith, c.put_front-from.ensures.ends, front_size a.base, c.put_front-from.auto, c.if-out-lt-OUTPUT_BYTES.false),
+)
 
-pub returns-in-Passed : goal.returns-in-Passed
-returns-in-Passed c = c.lower.ensures
+pub returns : goal.returns
+returns c = let a = c.args in
+    lowered a.base a.tape.now a.out.now (ready_is _ a.base a.tape.now (sym (ap passing c.in_ok-ready.was) ∙ c.ready.ensures))
+    c.if-out-lt-OUTPUT_BYTES.false c.put_front-from.ensures c.put_commands.ensures

@@ -5,11 +5,13 @@ use Rattle.tape.specs.Commands.{form_of}
 use Rattle.tape.specs.Questions.{totals_of}
 use Rattle.offsets.specs.Calls.{bad_for}
 use Rattle.offsets.proofs.Searching.{Searching}
+use Rattle.offsets.specs.contracts.reach.first_refused as code
+use denote.Param.{number}
 use Rattle.offsets.proofs.reach.first_refused.Given as goal
 
 -- the first such command is still to come
 abbrev pub invariant-loop-command : goal.invariant-loop-command
-invariant-loop-command l = Searching (form_of l.based) (bad_for l.based l.base) l.tape l.at (totals_of l.totals)
+invariant-loop-command g l = Searching (form_of (code.BASED-type (number g.row.BASED))) (bad_for (code.BASED-type (number g.row.BASED)) l.base) l.tape l.at (totals_of l.totals)
 
 abbrev pub decreases-loop-command : goal.decreases-loop-command
-decreases-loop-command l = length l.tape - l.at
+decreases-loop-command g l = length l.tape - l.at

@@ -4,40 +4,42 @@ use mathlib.Core.Path.{sym, ◌∙◌}
 use Rattle.tape.specs.Commands.{form_of}
 use Rattle.tape.proofs.questions.Asking.{ends_same}
 use Rattle.tape.proofs.questions.Reading.{moves}
-use Rattle.offsets.proofs.Searching.{search_passes}
+use Rattle.offsets.proofs.Searching.{search_stops}
 use Rattle.offsets.proofs.Putting.{writing_begins, writing_moves, writing_on, writing_ends}
+use Rattle.offsets.specs.contracts.writing.put_commands as code
+use denote.Param.{number}
 use Rattle.offsets.proofs.writing.put_commands.Goals as goal
 
 pub loop-command-init : goal.loop-command-init
-loop-command-init c = let a = c.args in
-    rw c.header_of-at.ensures (writing_begins a.based a.base a.tape.now a.out.now a.to)
+loop-command-init g c = let a = c.args in
+    rw c.header_of-at.ensures (writing_begins (code.BASED-type (number g.row.BASED)) a.base a.tape.now a.out.now a.to)
 
-pub returns-in-Refused : goal.returns-in-Refused
-returns-in-Refused c = absurd (search_passes c.loop-command.invariant.searching c.requires.0.read.reads c.in-Refused.ensures.result_value)
+pub returns : goal.returns
+returns g c = absurd (search_stops c.loop-command.invariant.searching c.requires.0.read.reads c.step.result c.in_default.not-Ok c.step.ensures.result_value)
 
 pub put_command-end-requires : goal.put_command-end-requires
-put_command-end-requires c = let l = c.loop-command in
+put_command-end-requires g c = let l = c.loop-command in
     let a = c.args in
-    let p = c.in-Passed in
+    let p = c.in-Ok in
     let e = p.ensures.result_value in
-    writing_moves a.based a.base a.tape.now l.invariant p.command e c.requires.0 c.requires.1
+    writing_moves (code.BASED-type (number g.row.BASED)) a.base a.tape.now l.invariant p.field-0.command e c.requires.0 c.requires.1
 
 pub returns-then-is_end : goal.returns-then-is_end
-returns-then-is_end c = let l = c.loop-command in
+returns-then-is_end g c = let l = c.loop-command in
     let a = c.args in
-    let p = c.in-Passed in
+    let p = c.in-Ok in
     let e = p.ensures.result_value in
-    writing_ends a.based a.base a.tape.now l.invariant p.command e c.requires.0 c.requires.1 c.put_command-end.ensures
-    (ends_same (form_of a.based) a.tape.now l.at p.command ∙ sym c.is_end.ensures ∙ c.if-is_end.true)
+    writing_ends (code.BASED-type (number g.row.BASED)) a.base a.tape.now l.invariant p.field-0.command e c.requires.0 c.requires.1 c.put_command-end.ensures
+    (ends_same (form_of (code.BASED-type (number g.row.BASED))) a.tape.now l.at p.field-0.command ∙ sym c.is_end.ensures ∙ c.if-is_end.true)
 
 pub loop-command-smaller : goal.loop-command-smaller
-loop-command-smaller c = let e = c.in-Passed.ensures.result_value in
+loop-command-smaller g c = let e = c.in-Ok.ensures.result_value in
     omega (arith, moves c.loop-command.invariant.searching.reads e)
 
 pub loop-command-preserved : goal.loop-command-preserved
-loop-command-preserved c = let l = c.loop-command in
+loop-command-preserved g c = let l = c.loop-command in
     let a = c.args in
-    let p = c.in-Passed in
+    let p = c.in-Ok in
     let e = p.ensures.result_value in
-    writing_on a.based a.base a.tape.now l.invariant p.command e c.requires.0 c.requires.1 c.put_command-end.ensures
-    (ends_same (form_of a.based) a.tape.now l.at p.command ∙ sym c.is_end.ensures ∙ c.if-is_end.false)
+    writing_on (code.BASED-type (number g.row.BASED)) a.base a.tape.now l.invariant p.field-0.command e c.requires.0 c.requires.1 c.put_command-end.ensures
+    (ends_same (form_of (code.BASED-type (number g.row.BASED))) a.tape.now l.at p.field-0.command ∙ sym c.is_end.ensures ∙ c.if-is_end.false)

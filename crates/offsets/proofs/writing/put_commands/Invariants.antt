@@ -3,11 +3,13 @@ use Prim.Native.Nat.{◌-◌}
 use lib.ListN.{length}
 use Rattle.tape.specs.Questions.{totals_of}
 use Rattle.offsets.proofs.Putting.{Writing}
+use Rattle.offsets.specs.contracts.writing.put_commands as code
+use denote.Param.{number}
 use Rattle.offsets.proofs.writing.put_commands.Given as goal
 
 -- what was read so far stands in the output, moved
 abbrev pub invariant-loop-command : goal.invariant-loop-command
-invariant-loop-command l = Writing l.based l.base l.tape l.initial.out l.to l.at (totals_of l.totals) l.out l.end
+invariant-loop-command g l = Writing (code.BASED-type (number g.row.BASED)) l.base l.tape l.initial.out l.to l.at (totals_of l.totals) l.out l.end
 
 abbrev pub decreases-loop-command : goal.decreases-loop-command
-decreases-loop-command l = length l.tape - l.at
+decreases-loop-command g l = length l.tape - l.at

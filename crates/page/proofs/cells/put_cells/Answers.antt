@@ -1,40 +1,35 @@
 -- `page::cells::put_cells` meets its contract. Assumes nothing.
-use Prim.Native.Nat.{ℕ, ◌+◌, ◌<◌}
 use native.Mathlib.Omega.{arith}
-use mathlib.Core.Path.{ap}
-use lib.ListN.{length, drop, length-take, length-drop}
-use Rattle.page.proofs.Rowing.{pieces_begin, pieces_end, pieces_on}
+use mathlib.Core.Path.{◌≡◌, ap, ◌∙◌}
+use Rattle.std.proofs.Common.{ℕ, List, ◌+◌, length, min, length-append}
 use borrow.Author.Rules.{rules}
+use Rattle.page.specs.Cells.{cell, cells}
+use Rattle.page.proofs.Rowing.{cell-length, cells-length, coming_begins, coming_on, coming_ends, next_cell, no_cells}
 use Rattle.page.proofs.cells.put_cells.Goals as goal
 
-pub loop-i-init : goal.loop-i-init
-loop-i-init c = pieces_begin c.args.kind c.args.text.now _ c.args.at c.requires
+pub loop-piece-init : goal.loop-piece-init
+loop-piece-init c = let a = c.args in
+    let e : c.into_iter-piece-iterator.result.rest.now ≡ a.text.now = rw c.into_iter-piece-iterator.ensures.into_iter_gives c.chunks-piece-items.ensures.rest in
+    record {
+      size = rw c.into_iter-piece-iterator.ensures.into_iter_gives c.chunks-piece-items.ensures.size;
+      put = rw e (coming_begins a.out.now a.at (cells a.kind a.text.now) (omega (arith, c.requires, cells-length a.kind a.text.now)));
+      room = λ h. rw e (omega (arith, c.requires));
+    }
 
-pub overflow_add-e : goal.overflow_add-e
-overflow_add-e c = omega (arith, c.least.ensures)
-
-pub slice_bounds-put_cell-count : goal.slice_bounds-put_cell-count
-slice_bounds-put_cell-count c = omega (arith, c.least.ensures)
-
-pub slice_bounds-put_cell-start : goal.slice_bounds-put_cell-start
-slice_bounds-put_cell-start c = omega (arith, c.least.ensures)
-
-pub slice_bounds-put_cell-end : goal.slice_bounds-put_cell-end
-slice_bounds-put_cell-end c = omega (arith, c.least.ensures)
-
-pub put_cell-end-requires : goal.put_cell-end-requires
-put_cell-end-requires c = let t = c.args.text.now in
-    let h : c.loop-i.i < length t = omega arith in
-    let p = c.loop-i.invariant in
-    omega (arith, p.room h, p.same, c.least.ensures, length-take c.least.result (drop c.loop-i.i t), length-drop c.loop-i.i t)
-
-pub loop-i-smaller : goal.loop-i-smaller
-loop-i-smaller c = omega (arith, c.least.ensures)
-
-pub loop-i-preserved : goal.loop-i-preserved
-loop-i-preserved c = let t = c.args.text.now in
-    let h : c.loop-i.i < length t = omega arith in
-    pieces_on c.loop-i.invariant h (ap (λ (n : ℕ). c.loop-i.i + n) c.least.ensures) c.put_cell-end.ensures (search rules)
+pub loop-piece-preserved : goal.loop-piece-preserved
+loop-piece-preserved c = let a = c.args in
+    let s = c.in-Some.ensures.steps.1 in
+    let x = c.in-Some.piece.now in
+    let rest = c.loop-piece.piece-iterator.rest.now in
+    let rest₁ = c.next.new.self.rest.now in
+    let long : length x ≡ min 512 (length rest) = rw c.loop-piece.invariant.size at s.1 in
+    let more : length rest ≡ length x + length rest₁ = ap (λ (r : List ℕ). length r) s.0 ∙ length-append x rest₁ in
+    let same : length c.put_cell-end.new.out ≡ length c.loop-piece.out = search rules in
+    record {
+      size = c.in-Some.ensures.steps.0 ∙ c.loop-piece.invariant.size;
+      put = coming_on c.loop-piece.invariant.put (cell a.kind x) (next_cell a.kind rest x rest₁ s.0 long s.2) c.put_cell-end.ensures same;
+      room = λ h. omega (arith, c.loop-piece.invariant.room s.2, cell-length a.kind x, c.put_cell-end.ensures.end_is);
+    }
 
 pub returns : goal.returns
-returns c = pieces_end c.loop-i.invariant (omega arith)
+returns c = coming_ends c.loop-piece.invariant.put (no_cells c.args.kind c.loop-piece.piece-iterator.rest.now (omega (arith, c.in-None.ensures.steps)))

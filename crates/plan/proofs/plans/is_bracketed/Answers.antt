@@ -1,10 +1,13 @@
 -- `plan::plans::is_bracketed` meets its contract. Assumes nothing.
-use borrow.Author.Rules.{rules}
-use Rattle.plan.proofs.Fitting.{bracketed-counted, bracketed_rust}
+use Rattle.std.proofs.Common.{arith}
+use Rattle.reference.specs.Control.{when◌then◌else◌}
+use Rattle.plan.proofs.Fitting.{bracketed_is}
 use Rattle.plan.proofs.plans.is_bracketed.Goals as goal
 
 pub returns-then-rules : goal.returns-then-rules
-returns-then-rules c = search (rules, bracketed-counted)
+unfolding when◌then◌else◌
+returns-then-rules c = grind (arith, bracketed_is)
 
-pub returns : goal.returns
-returns c = search (rules, bracketed_rust)
+pub returns-else-rules : goal.returns-else-rules
+unfolding when◌then◌else◌
+returns-else-rules c = grind (arith, bracketed_is)

@@ -1,22 +1,20 @@
 -- `plan::plans::plan_among` meets its contract. Assumes nothing.
-use borrow.Author.Rules.{rules}
-use Rattle.plan.proofs.Deciding.{sounding, found_inside, placing}
+use Rattle.std.proofs.Common.{rules, refl}
+use Rattle.plan.proofs.Deciding.{sound-known, sound-side, found_inside, among_none, among_unfit, among_joins}
 use Rattle.plan.proofs.plans.plan_among.Goals as goal
 
-pub first_of-requires : goal.first_of-requires
-first_of-requires c = search (rules, sounding)
-
-pub returns-in_default : goal.returns-in_default
-returns-in_default c = search (rules, placing)
+pub returns-in_err-pos : goal.returns-in_err-pos
+returns-in_err-pos c = among_none _ _ _ _ _ _ _ c.args.d _ c.first_of.ensures c.in_err-pos.was (search rules)
 
 pub use_fits-requires : goal.use_fits-requires
-use_fits-requires c = search (rules, sounding, found_inside)
+use_fits-requires c = (c.requires.1, found_inside _ _ _ _ c.first_of.ensures c.in_ok-pos.was, sound-known c.requires.2)
 
 pub returns-then-not-use_fits : goal.returns-then-not-use_fits
-returns-then-not-use_fits c = search (rules, placing)
+returns-then-not-use_fits c = among_unfit _ _ _ _ _ _ _ c.args.d _ c.first_of.ensures c.in_ok-pos.was c.use_fits.ensures (search rules) refl
 
 pub wants_brackets-brackets-requires : goal.wants_brackets-brackets-requires
-wants_brackets-brackets-requires c = search (rules, sounding, found_inside)
+wants_brackets-brackets-requires c = (c.requires.0, sound-side c.requires.2 (search rules), c.requires.1, found_inside _ _ _ _ c.first_of.ensures c.in_ok-pos.was)
 
 pub returns : goal.returns
-returns c = search (rules, placing)
+returns c =
+    among_joins _ _ _ _ _ _ _ c.args.d _ c.first_of.ensures c.in_ok-pos.was c.use_fits.ensures (search rules) c.requires.2 c.wants_brackets-brackets.ensures c.join_of.ensures

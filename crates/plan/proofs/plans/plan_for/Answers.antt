@@ -1,20 +1,15 @@
 -- `plan::plans::plan_for` meets its contract. Assumes nothing.
-use borrow.Author.Rules.{rules}
-use Rattle.plan.proofs.Reading.{reading}
-use Rattle.plan.proofs.Deciding.{sounding, choosing}
+use Rattle.std.proofs.Common.{rules}
+use Rattle.plan.proofs.Deciding.{choosing}
 use Rattle.plan.proofs.plans.plan_for.Goals as goal
+use Rattle.plan.proofs.plans.plan_for.Goals.{else-is_lone_number-via-else-is_lone_number, else-is_lone_number-via-then-is_lone_number+in-None-1}
 
-pub line_of-requires : goal.line_of-requires
-line_of-requires c = search (rules, reading)
+pub returns : goal.returns
+returns c = search (rules, choosing)
 
-pub is_lone_number-requires : goal.is_lone_number-requires
-is_lone_number-requires c = search (rules, sounding)
-
-pub returns-then-not-is_lone_number : goal.returns-then-not-is_lone_number
-returns-then-not-is_lone_number c = search (rules, choosing)
-
-pub returns-in-Do : goal.returns-in-Do
-returns-in-Do c = search (rules, choosing)
-
-pub returns-in-Nothing : goal.returns-in-Nothing
-returns-in-Nothing c = search (rules, choosing)
+pub returns-2 : goal.returns-2
+returns-2 c =
+    elim c.else-is_lone_number.branch [
+      | else-is_lone_number-via-else-is_lone_number w ↦ search (rules, choosing)
+      | else-is_lone_number-via-then-is_lone_number+in-None-1 w ↦ search (rules, choosing)
+    ]

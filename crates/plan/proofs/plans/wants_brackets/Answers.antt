@@ -1,10 +1,13 @@
 -- `plan::plans::wants_brackets` meets its contract. Assumes nothing.
-use borrow.Author.Rules.{rules}
-use Rattle.plan.proofs.Fitting.{brackets-not, brackets_by}
+use Rattle.std.proofs.Common.{rules}
+use Rattle.joining.specs.Plan.{wants_brackets}
+use Rattle.laws.proofs.Scans.{tests}
 use Rattle.plan.proofs.plans.wants_brackets.Goals as goal
 
-pub returns-then-not-is_bracketed : goal.returns-then-not-is_bracketed
-returns-then-not-is_bracketed c = search (rules, brackets-not)
+pub returns-then-is_bracketed : goal.returns-then-is_bracketed
+unfolding wants_brackets
+returns-then-is_bracketed c = search (rules, tests)
 
-pub returns : goal.returns
-returns c = search (rules, brackets_by)
+pub returns-else-is_bracketed : goal.returns-else-is_bracketed
+unfolding wants_brackets
+returns-else-is_bracketed c = search (rules, tests)

@@ -1,17 +1,14 @@
 -- `plan::reaches::ends_at` meets its contract. Assumes nothing.
-use borrow.Author.Rules.{rules}
-use Rattle.plan.proofs.Reading.{reading}
-use Rattle.plan.proofs.Reaching.{ends-dead, ends_kill}
+use Rattle.std.proofs.Common.{arith}
+use Rattle.std.proofs.lemmas.Grind.{common_steps}
+use Rattle.reference.specs.Control.{◌or◌}
+use Rattle.plan.proofs.Reaching.{ends_is}
 use Rattle.plan.proofs.reaches.ends_at.Goals as goal
 
 pub returns-then-dead_after : goal.returns-then-dead_after
-returns-then-dead_after c = search (rules, ends-dead)
+unfolding ◌or◌
+returns-then-dead_after c = grind (arith, common_steps, ends_is)
 
-pub line_of-requires : goal.line_of-requires
-line_of-requires c = search (rules, reading)
-
-pub kills-requires : goal.kills-requires
-kills-requires c = search (rules, reading)
-
-pub returns : goal.returns
-returns c = search (rules, ends_kill)
+pub returns-else-dead_after : goal.returns-else-dead_after
+unfolding ◌or◌
+returns-else-dead_after c = grind (arith, common_steps, ends_is)

@@ -1,14 +1,10 @@
 -- `plan::slots::is_addressed` meets its contract. Assumes nothing.
-use borrow.Author.Rules.{rules}
-use Rattle.lines.proofs.fams.Families.{name-points}
-use Rattle.plan.proofs.Addressing.{addressing}
+use Rattle.std.proofs.Common.{rules}
+use Rattle.plan.proofs.Addressing.{row_unaddressed, slot-addressed}
 use Rattle.plan.proofs.slots.is_addressed.Goals as goal
 
-pub returns-then-f-lt8 : goal.returns-then-f-lt8
-returns-then-f-lt8 c = search (rules, addressing)
+pub returns-then-f-ge8 : goal.returns-then-f-ge8
+returns-then-f-ge8 c = search (rules, slot-addressed)
 
-pub text-requires : goal.text-requires
-text-requires c = search (rules, name-points)
-
-pub returns : goal.returns
-returns c = search (rules, addressing)
+pub returns-else-f-ge8 : goal.returns-else-f-ge8
+returns-else-f-ge8 c = search (rules, row_unaddressed)

@@ -1,23 +1,18 @@
 -- `plan::uses::is_compound` meets its contract. Assumes nothing.
-use borrow.Author.Rules.{rules}
-use Rattle.lines.proofs.words.Tokens.{holds_at}
-use Rattle.plan.proofs.Fitting.{compounding}
+use Rattle.std.proofs.Common.{arith}
+use Rattle.std.proofs.lemmas.Bool.Decides.{nat_tests}
+use Rattle.reference.specs.Control.{not, ◌and◌}
+use Rattle.plan.proofs.Fitting.{compound_is}
 use Rattle.plan.proofs.uses.is_compound.Goals as goal
 
-pub returns-then-pos-ne0 : goal.returns-then-pos-ne0
-returns-then-pos-ne0 c = search (rules, compounding)
+pub returns-then-begins_operator : goal.returns-then-begins_operator
+unfolding not ◌and◌
+returns-then-begins_operator c = grind (arith, nat_tests, compound_is)
 
-pub returns-then-line-lt2 : goal.returns-then-line-lt2
-returns-then-line-lt2 c = search (rules, compounding)
+pub returns-else-begins_operator : goal.returns-else-begins_operator
+unfolding not ◌and◌
+returns-else-begins_operator c = grind (arith, nat_tests, compound_is)
 
-pub returns-then-kind-ne-PUNCT : goal.returns-then-kind-ne-PUNCT
-returns-then-kind-ne-PUNCT c = search (rules, compounding)
-
-pub text-s-requires : goal.text-s-requires
-text-s-requires c = search (rules, holds_at)
-
-pub returns-then-not-begins_operator : goal.returns-then-not-begins_operator
-returns-then-not-begins_operator c = search (rules, compounding)
-
-pub returns : goal.returns
-returns c = search (rules, compounding)
+pub returns-else-kind-eq-PUNCT : goal.returns-else-kind-eq-PUNCT
+unfolding not ◌and◌
+returns-else-kind-eq-PUNCT c = let e = compound_is c.args.tape.now c.args.area.now c.args.line.now c.args.pos in grind (arith, nat_tests)

@@ -1,12 +1,14 @@
 -- `plan::uses::leaves_inputs` meets its contract. Assumes nothing.
-use borrow.Author.Rules.{rules}
-use Rattle.lines.proofs.fams.Families.{as_known}
+use Rattle.std.proofs.Common.{rules, arith}
+use Rattle.reference.specs.Control.{not, ◌and◌}
 use Rattle.plan.proofs.Defining.{assigning}
-use Rattle.plan.proofs.Looking.{leaving}
+use Rattle.plan.proofs.Looking.{leaves_none, leaves_unnamed, leaves_is}
+use Rattle.lines.specs.Words.{tokens_of}
+use Rattle.lines.specs.Shapes.{expr_words}
 use Rattle.plan.proofs.uses.leaves_inputs.Goals as goal
 
 pub returns-in_default : goal.returns-in_default
-returns-in_default c = search (rules, leaving)
+returns-in_default c = search (rules, leaves_none)
 
 pub bounds-line-0 : goal.bounds-line-0
 bounds-line-0 c = search (rules, assigning)
@@ -15,22 +17,24 @@ pub name_of-requires : goal.name_of-requires
 name_of-requires c = search (rules, assigning)
 
 pub returns-in_default-name_of : goal.returns-in_default-name_of
-returns-in_default-name_of c = search (rules, leaving)
+returns-in_default-name_of c = search (rules, leaves_unnamed)
 
-pub mentions-requires : goal.mentions-requires
-mentions-requires c = search (rules, as_known)
-
-pub returns-then-mentions : goal.returns-then-mentions
-returns-then-mentions c = search (rules, leaving)
-
-pub returns-then-not-d : goal.returns-then-not-d
-returns-then-not-d c = search (rules, leaving)
-
-pub bounds-line-0-2 : goal.bounds-line-0-2
-bounds-line-0-2 c = search (rules, assigning)
+pub bounds-line-0-then-d : goal.bounds-line-0-then-d
+bounds-line-0-then-d c = search (rules, assigning)
 
 pub text-requires : goal.text-requires
 text-requires c = search (rules, assigning)
 
-pub returns : goal.returns
-returns c = search (rules, leaving)
+pub returns-after-d : goal.returns-after-d
+unfolding not ◌and◌
+returns-after-d c =
+    let e = leaves_is c.args.tape.now c.args.area.now (tokens_of c.args.tape.now c.args.area.now (expr_words c.args.source.now c.args.d.expr)) c.args.line.now
+    c.assignment.ensures c.in-Some.is c.name_of.ensures c.in-Some-name_of.is in
+    let b = c.requires.2.reads_is in grind arith
+
+pub returns-else-not-mentions : goal.returns-else-not-mentions
+unfolding not ◌and◌
+returns-else-not-mentions c =
+    let e = leaves_is c.args.tape.now c.args.area.now (tokens_of c.args.tape.now c.args.area.now (expr_words c.args.source.now c.args.d.expr)) c.args.line.now
+    c.assignment.ensures c.in-Some.is c.name_of.ensures c.in-Some-name_of.is in
+    let b = c.requires.2.reads_is in grind arith

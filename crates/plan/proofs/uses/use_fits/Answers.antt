@@ -1,13 +1,14 @@
 -- `plan::uses::use_fits` meets its contract. Assumes nothing.
-use borrow.Author.Rules.{rules}
-use Rattle.plan.proofs.Fitting.{parting}
+use Rattle.std.proofs.Common.{arith}
+use Rattle.std.proofs.lemmas.Grind.{common_steps}
+use Rattle.reference.specs.Control.{not, ◌and◌}
+use Rattle.plan.proofs.Fitting.{part_is}
 use Rattle.plan.proofs.uses.use_fits.Goals as goal
 
-pub returns-then-not-fits : goal.returns-then-not-fits
-returns-then-not-fits c = search (rules, parting)
+pub returns-after-parts : goal.returns-after-parts
+unfolding not ◌and◌
+returns-after-parts c = grind (arith, common_steps, part_is)
 
-pub returns-then-not-parts : goal.returns-then-not-parts
-returns-then-not-parts c = search (rules, parting)
-
-pub returns : goal.returns
-returns c = search (rules, parting)
+pub returns-else-fits : goal.returns-else-fits
+unfolding not ◌and◌
+returns-else-fits c = grind (arith, common_steps, part_is)

@@ -1,14 +1,11 @@
 -- `plan::uses::use_width` meets its contract. Assumes nothing.
-use borrow.Author.Rules.{rules}
-use Rattle.lines.proofs.words.Tokens.{holds_at}
-use Rattle.plan.proofs.Fitting.{width-named, width_unnamed}
+use Rattle.std.proofs.Common.{rules, ◌≡◌}
+use Rattle.std.specs.Option.{MatchOption}
+use Rattle.lines.specs.declared.fams.Named.{Named}
+use Rattle.plan.proofs.Fitting.{width_is}
 use Rattle.plan.proofs.uses.use_width.Goals as goal
 
-pub name_of-requires : goal.name_of-requires
-name_of-requires c = search (rules, holds_at)
-
-pub returns-in-As : goal.returns-in-As
-returns-in-As c = search (rules, width-named)
-
-pub returns-in-Nothing : goal.returns-in-Nothing
-returns-in-Nothing c = search (rules, width_unnamed)
+pub returns : goal.returns
+returns c =
+    let h : MatchOption c.name_of.result (c.map_or.result ≡ 64) (λ (m : Named). c.map_or.result ≡ m.width) = search rules in
+    search (rules, width_is)

@@ -1,13 +1,17 @@
 -- `plan::uses::widths_fit` meets its contract. Assumes nothing.
-use borrow.Author.Rules.{rules}
-use Rattle.plan.proofs.Fitting.{widths_same, widths_narrow, widths_wide}
+use Rattle.std.proofs.Common.{arith}
+use Rattle.std.proofs.lemmas.Bool.Decides.{nat_tests}
+use Rattle.reference.specs.Control.{not, ◌and◌, ◌or◌}
 use Rattle.plan.proofs.uses.widths_fit.Goals as goal
 
 pub returns-then-used-width : goal.returns-then-used-width
-returns-then-used-width c = search (rules, widths_same)
+unfolding not ◌and◌ ◌or◌
+returns-then-used-width c = grind (arith, nat_tests)
 
-pub returns-then-used-lt32 : goal.returns-then-used-lt32
-returns-then-used-lt32 c = search (rules, widths_narrow)
+pub returns-then-used-ge32 : goal.returns-then-used-ge32
+unfolding not ◌and◌ ◌or◌
+returns-then-used-ge32 c = grind (arith, nat_tests)
 
-pub returns : goal.returns
-returns c = search (rules, widths_wide)
+pub returns-else-used-ge32 : goal.returns-else-used-ge32
+unfolding not ◌and◌ ◌or◌
+returns-else-used-ge32 c = grind (arith, nat_tests)

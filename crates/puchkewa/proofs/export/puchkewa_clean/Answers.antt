@@ -1,11 +1,9 @@
 -- `puchkewa::export::puchkewa_clean` meets its contract: what `clean` says of its answer. Assumes nothing.
 use Rattle.reference.specs.Reply.{told}
-use Rattle.clean.proofs.Replying.{same_reply, same_told}
 use Rattle.puchkewa.proofs.export.puchkewa_clean.Goals as goal
 
-pub returns-in-Refused : goal.returns-in-Refused
+pub returns-in-Err : goal.returns-in-Err
 unfolding told
-returns-in-Refused c = same_reply c.in-Refused.is c.clean.ensures.cleans
-
-pub returns-in-Finished : goal.returns-in-Finished
-returns-in-Finished c = same_told c.in-Finished.f c.tell-t.result c.tell-t.ensures (same_reply c.in-Finished.is c.clean.ensures.cleans)
+returns-in-Err c = let d = c.default.ensures.1.1 in
+    rw (c.number.ensures, d.0, d.1.0, d.1.1.0, d.1.1.1.0, d.1.1.1.1.0, d.1.1.1.1.1.0, d.1.1.1.1.1.1.0, d.1.1.1.1.1.1.1)
+    c.in-Err.ensures.cleans

@@ -1,48 +1,32 @@
 -- `rounds::run::make_rounds` meets its contract. Assumes nothing.
-use native.Mathlib.Omega.{arith}
-use mathlib.Core.Path.{refl, ◌∙◌}
-use Rattle.rounds.proofs.Turning.{now-few}
-use Rattle.rounds.proofs.Running.{going_begin, going_next, going_less, going_end, runnable_again}
+use Rattle.std.proofs.Common.{◌≡◌, ◌+◌, ◌-◌, arith, refl}
+use Rattle.rounds.proofs.Running.{going_begin, going_next, going_last, going_end, runnable_again}
 use Rattle.rounds.proofs.run.make_rounds.Goals as goal
-
-pub most_rounds-requires : goal.most_rounds-requires
-most_rounds-requires c = let p = c.requires in now-few p.current p.limits
-
-pub loop-s-init : goal.loop-s-init
-loop-s-init c = (refl, refl, refl, refl, refl, refl, refl, refl, refl, refl, going_begin c.requires c.most_rounds.ensures)
 
 pub propagate_once-r-requires : goal.propagate_once-r-requires
 propagate_once-r-requires c =
-    let l = c.loop-s in
-    let i = l.invariant in
-    runnable_again l.area2 l.tokens2 l.labels l.slots l.slot_words l.lows l.highs c.requires i.10
-    i.0 i.1 i.3 i.4 i.5 i.6 i.7 i.8 i.9
+    let l = c.loop-k in
+    let a = l.auto in
+    runnable_again l.area2 l.tokens2 l.labels l.slots l.slot_words l.lows l.highs c.requires l.invariant
+    a.area a.tokens a.area2 a.tokens2 a.lows a.highs a.labels a.slots a.slot_words
 
 pub after_round-s-requires : goal.after_round-s-requires
-after_round-s-requires c = (c.loop-s.invariant.10.few, c.propagate_once-r.ensures.few, omega (arith, c.loop-s-test.true))
+after_round-s-requires c = (c.loop-k.invariant.few, c.propagate_once-r.ensures.few)
 
-pub loop-s-smaller : goal.loop-s-smaller
-loop-s-smaller c =
-    let left = c.loop-s-test.true in
-    rw c.after_round-s.ensures (going_less c.loop-s.invariant.10 (omega arith) c.propagate_once-r.ensures)
+pub loop-k-init : goal.loop-k-init
+loop-k-init c =
+    let e : c.most_rounds-most.result - 0 ≡ c.most_rounds-most.result = omega arith in rw e (going_begin c.requires c.most_rounds-most.ensures)
 
-pub loop-s-preserved : goal.loop-s-preserved
-loop-s-preserved c =
-    let r = c.propagate_once-r in
-    let left = c.loop-s-test.true in
-    let i = c.loop-s.invariant in (
-      r.auto.area ∙ i.0,
-      r.auto.tokens ∙ i.1,
-      r.auto.lines ∙ i.2,
-      r.auto.area2 ∙ i.3,
-      r.auto.tokens2 ∙ i.4,
-      r.auto.lows ∙ i.5,
-      r.auto.highs ∙ i.6,
-      r.auto.labels ∙ i.7,
-      r.auto.slots ∙ i.8,
-      r.auto.slot_words ∙ i.9,
-      rw c.after_round-s.ensures (going_next i.10 (omega arith) r.ensures),
-    )
+pub loop-k-preserved : goal.loop-k-preserved
+loop-k-preserved c =
+    let m = c.most_rounds-most.result in
+    let e : m - (c.loop-k._k + 1) ≡ m - c.loop-k._k - 1 = omega arith in
+    rw (e, c.after_round-s.ensures) (going_next c.loop-k.invariant (omega (arith, c.loop-k-test.true)) c.propagate_once-r.ensures c.if-r-eq0.false)
 
-pub returns : goal.returns
-returns c = going_end c.loop-s.invariant.10 c.requires c.most_rounds.ensures c.loop-s-test.false
+pub returns-after-loop-k : goal.returns-after-loop-k
+returns-after-loop-k c = going_end c.loop-k.invariant c.requires c.most_rounds-most.ensures (omega (arith, c.loop-k-test.false))
+
+pub returns-then-r-eq0 : goal.returns-then-r-eq0
+returns-then-r-eq0 c =
+    rw c.after_round-s.ensures
+    (going_end (going_last c.loop-k.invariant (omega (arith, c.loop-k-test.true)) c.propagate_once-r.ensures c.if-r-eq0.true) c.requires c.most_rounds-most.ensures refl)

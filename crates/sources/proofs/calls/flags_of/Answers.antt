@@ -2,20 +2,26 @@
 use native.Mathlib.Omega.{arith}
 use Rattle.lines.specs.Rules.{rules_of}
 use Rattle.sources.proofs.Answering.{flags_refused, flags_walkable, flags-written}
+use mathlib.Core.Path.{sym, ap, ◌∙◌}
+use Rattle.std.proofs.lemmas.Result.{err_from_is_err_and}
+use Rattle.clean.specs.Replies.{answer_of}
 use Rattle.sources.proofs.calls.flags_of.Goals as goal
 
-pub walk-n-requires : goal.walk-n-requires
-walk-n-requires c =
+pub walk-requires : goal.walk-requires
+walk-requires c =
     let a = c.args in
     flags_walkable (rules_of a.rules) a.tape.now a.work_a.now a.work_b.now a.out.now a.flags.now c.clean.ensures.cleans.leaves
-    (λ i. omega (arith, c.type_inv.tape i)) c.in-Finished.ensures.result_value c.requires.1
+    (λ i. omega (arith, c.type_inv.tape i)) (sym (ap answer_of c.in_ok-clean.was) ∙ c.clean.ensures.result_value) c.requires.1
 
-pub returns-in-Refused : goal.returns-in-Refused
-returns-in-Refused c = let a = c.args in
-    flags_refused (rules_of a.rules) a.tape.now a.work_a.now a.work_b.now a.out.now a.flags.now c.clean.ensures.cleans.leaves c.in-Refused.ensures.result_value
+pub returns-in_err-clean : goal.returns-in_err-clean
+returns-in_err-clean c = let a = c.args in
+    let p = err_from_is_err_and c.from_residual.result c.from_residual.ensures.1 in
+    rw (p.1, p.2)
+    (flags_refused (rules_of a.rules) a.tape.now a.work_a.now a.work_b.now a.out.now a.flags.now c.clean.ensures.cleans.leaves
+    (sym (ap answer_of c.in_err-clean.was) ∙ c.clean.ensures.result_value))
 
-pub returns-in-Finished : goal.returns-in-Finished
-returns-in-Finished c =
+pub returns : goal.returns
+returns c =
     let a = c.args in
     flags-written (rules_of a.rules) a.tape.now a.work_a.now a.work_b.now a.out.now a.flags.now c.clean.ensures.cleans.leaves
-    (λ i. omega (arith, c.type_inv.tape i)) c.in-Finished.ensures.result_value c.walk-n.ensures
+    (λ i. omega (arith, c.type_inv.tape i)) (sym (ap answer_of c.in_ok-clean.was) ∙ c.clean.ensures.result_value) c.walk.ensures

@@ -1,22 +1,29 @@
--- `sources::only` meets its contract: no call is refused wrongly, and every lent byte is told. Assumes nothing.
+-- `sources::calls::only` meets its contract. Assumes nothing.
 use lib.ListN.{length}
+use mathlib.Core.Path.{sym, ap, ◌∙◌}
+use Rattle.std.proofs.lemmas.Result.{err_from_is_err_and}
+use Rattle.tape.specs.Questions.{checked}
 use Rattle.tape.proofs.questions.Reading.{refused_by, accepted_by}
 use Rattle.offsets.proofs.Answering.{refused_call}
 use Rattle.sources.proofs.Answering.{only-small, only_refused, only-written}
 use Rattle.sources.proofs.calls.only.Goals as goal
 
-pub returns-then-out-lt34561 : goal.returns-then-out-lt34561
-returns-then-out-lt34561 c = let a = c.args in
-    refused_call a.out.now (only-small a.k a.tape.now (length a.out.now) c.if-out-lt34561.true)
+pub returns-then-out-lt-COPY_BYTES : goal.returns-then-out-lt-COPY_BYTES
+returns-then-out-lt-COPY_BYTES c = let a = c.args in
+    rw c.at.ensures (refused_call a.out.now (only-small a.k a.tape.now (length a.out.now) c.if-out-lt-COPY_BYTES.true))
 
-pub put_commands-end-requires : goal.put_commands-end-requires
-put_commands-end-requires c = let a = c.args in
-    (accepted_by a.tape.now (c.in-Passed.ensures), c.if-out-lt34561.false)
+pub put_commands-requires : goal.put_commands-requires
+put_commands-requires c = (accepted_by c.args.tape.now (sym (ap checked c.in_ok-check.was) ∙ c.check.ensures), c.if-out-lt-COPY_BYTES.false)
 
-pub returns-in-Refused : goal.returns-in-Refused
-returns-in-Refused c = let a = c.args in
-    refused_call a.out.now (only_refused a.k a.tape.now (length a.out.now) c.if-out-lt34561.false (refused_by a.tape.now (c.in-Refused.ensures)))
+pub returns-in_err-check : goal.returns-in_err-check
+returns-in_err-check c = let a = c.args in
+    let p = err_from_is_err_and c.from_residual.result c.from_residual.ensures.1 in
+    rw (p.1, p.2)
+    (refused_call a.out.now
+    (only_refused a.k a.tape.now (length a.out.now) c.if-out-lt-COPY_BYTES.false
+    (refused_by a.tape.now (sym (ap checked c.in_err-check.was) ∙ c.check.ensures))))
 
-pub returns-in-Passed : goal.returns-in-Passed
-returns-in-Passed c = let a = c.args in
-    only-written a.k a.tape.now a.out.now (accepted_by a.tape.now (c.in-Passed.ensures)) c.if-out-lt34561.false c.put_commands-end.ensures
+pub returns : goal.returns
+returns c = let a = c.args in
+    only-written a.k a.tape.now a.out.now (accepted_by a.tape.now (sym (ap checked c.in_ok-check.was) ∙ c.check.ensures))
+    c.if-out-lt-COPY_BYTES.false c.put_commands.ensures

@@ -12,6 +12,6 @@ returns-then-picked c = let e = c.if-picked.true in
 pub put_plain-requires : goal.put_plain-requires
 put_plain-requires c = (c.requires.0, plain-room c.args.indent c.args.at _ c.requires.1 c.if-picked.false)
 
-pub returns : goal.returns
-returns c = let e = c.if-picked.false in
+pub returns-else-picked : goal.returns-else-picked
+returns-else-picked c = let e = c.if-picked.false in
     rw (plain-address e) c.put_plain.ensures

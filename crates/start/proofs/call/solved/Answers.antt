@@ -1,25 +1,23 @@
 -- `start::call::solved` meets its contract. Assumes nothing.
-use mathlib.Core.Path.{sym, ap, ◌∙◌}
+use mathlib.Core.Path.{ap, ◌∙◌}
 use mathlib.Core.Bool.{not as flip}
-use Rattle.start.specs.Solved.{answered}
-use Rattle.start.proofs.Asking.{unknown_chosen, unknown_list, asked_names}
+use Rattle.answers.specs.Answers.{answer_of}
+use Rattle.start.proofs.Asking.{unknown_chosen, unknown_list, asked_names, solved_as}
 use Rattle.start.proofs.call.solved.Goals as goal
+use Rattle.start.proofs.call.solved.Goals.{then-not-is_register-via-then-not-is_register, then-not-is_register-via-else-not-is_register+then-not-are_known}
 
 pub returns-then-not-is_register : goal.returns-then-not-is_register
-returns-then-not-is_register c = λ reading. unknown_chosen _ _ _ c.is_register.ensures (ap flip c.if-not-is_register.true) _
+returns-then-not-is_register c = λ reading. rw c.at.ensures (
+    elim c.then-not-is_register.branch [
+      | then-not-is_register-via-then-not-is_register w ↦
+          unknown_chosen _ _ _ c.is_register.ensures (ap flip w.if-not-is_register.true) _
+      | then-not-is_register-via-else-not-is_register+then-not-are_known w ↦
+          unknown_list _ _ _ c.is_register.ensures (ap flip w.if-not-is_register.false) w.are_known.ensures (ap flip w.if-not-are_known.true) _
+    ])
 
-pub returns-then-not-are_known : goal.returns-then-not-are_known
-returns-then-not-are_known c = λ reading.
-    unknown_list _ _ _ c.is_register.ensures (ap flip c.if-not-is_register.false) c.are_known.ensures (ap flip c.if-not-are_known.true) _
-
-pub returns-in-Smallest : goal.returns-in-Smallest
-returns-in-Smallest c = λ reading.
-    (ap answered (sym c.in-Smallest.is)
-    ∙ asked_names _ _ _ c.is_register.ensures (ap flip c.if-not-is_register.false) c.are_known.ensures (ap flip c.if-not-are_known.false) _ _ _
-    (c.reckon-p.ensures reading) c.solve_sum.result c.solve_sum.ensures)
-
-pub returns-in-None : goal.returns-in-None
-returns-in-None c = λ reading.
-    (ap answered (sym c.in-None.is)
+pub returns : goal.returns
+returns c = λ reading.
+    (ap answer_of c.ok_or.ensures.value
+    ∙ solved_as c.solve_sum.result c.at-2.ensures
     ∙ asked_names _ _ _ c.is_register.ensures (ap flip c.if-not-is_register.false) c.are_known.ensures (ap flip c.if-not-are_known.false) _ _ _
     (c.reckon-p.ensures reading) c.solve_sum.result c.solve_sum.ensures)

@@ -9,11 +9,11 @@ returns-then-list-at c = search (rules, over_at)
 pub returns-then-list-at-2 : goal.returns-then-list-at-2
 returns-then-list-at-2 c =
     let a = c.args in
-    let n = c.length_of-n in
-    cut_at a.list.now a.at (search rules) n.result n.ensures.0 (search rules)
+    let n = c.from-n in
+    cut_at a.list.now a.at (search rules) n.result n.ensures (search rules)
 
 pub returns : goal.returns
 returns c =
     let a = c.args in
-    let n = c.length_of-n in
-    named_at a.list.now a.at (search rules) n.result n.ensures.0 (search rules)
+    let n = c.from-n in
+    named_at a.list.now a.at (search rules) n.result n.ensures (search rules)

@@ -1,16 +1,13 @@
 -- `start::listed::value_of` meets its contract. Assumes nothing.
 use borrow.Author.Rules.{rules}
-use Rattle.start.proofs.Entries.{item_room, seeks_first, seeks_over, seeks_cut, seeks_here, seeks_next}
+use Rattle.start.proofs.Entries.{item_room, seeks_first, seeks_end, seeks_here, seeks_next}
 use Rattle.start.proofs.listed.value_of.Goals as goal
 
 pub loop-n-init : goal.loop-n-init
 loop-n-init c = seeks_first _ _
 
-pub returns-in-Over : goal.returns-in-Over
-returns-in-Over c = λ es q. (seeks_over _ _ c.loop-n.at c.loop-n.invariant c.item_at.result c.item_at.ensures es q c.in-Over.is)
-
-pub returns-in-Cut : goal.returns-in-Cut
-returns-in-Cut c = λ es q. (seeks_cut _ _ c.loop-n.at c.loop-n.invariant c.item_at.result c.item_at.ensures es q c.in-Cut.is)
+pub returns : goal.returns
+returns c = λ es q. seeks_end _ _ c.loop-n.at c.loop-n.invariant c.item_at.result c.item_at.ensures es q c.in_default.not-Named
 
 pub overflow_add-to : goal.overflow_add-to
 overflow_add-to c =

@@ -9,8 +9,8 @@ use Rattle.start.proofs.reckoning.fill.Goals as goal
 pub loop-k-init : goal.loop-k-init
 loop-k-init c = ((λ es q. filled-first _ _ _), refl, search rules)
 
-pub token_pair-p-requires : goal.token_pair-p-requires
-token_pair-p-requires c = c.requires.0.at _ c.loop-k-test.true
+pub token_pair-requires : goal.token_pair-requires
+token_pair-requires c = c.requires.0.at _ c.loop-k-test.true
 
 pub store_pair-requires : goal.store_pair-requires
 store_pair-requires c = omega (arith, c.loop-k.invariant.2, c.loop-k-test.true)
@@ -19,7 +19,7 @@ pub loop-k-preserved : goal.loop-k-preserved
 loop-k-preserved c =
     let e = c.store_pair.ensures in
     let long = ap length e ∙ length_with _ _ _ in (
-      (λ es q. filled_next _ c.args.tape.now c.args.tokens.now _ _ (c.loop-k.invariant.0 es q) c.loop-k-test.true c.loop-k.invariant.2 _ (c.token_pair-p.ensures es q) _ e),
+      (λ es q. filled_next _ c.args.tape.now c.args.tokens.now _ _ (c.loop-k.invariant.0 es q) c.loop-k-test.true c.loop-k.invariant.2 _ (c.token_pair.ensures es q) _ e),
       long ∙ c.loop-k.invariant.1,
       omega (arith, long, c.loop-k.invariant.2),
     )

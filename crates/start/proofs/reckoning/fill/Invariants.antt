@@ -1,5 +1,5 @@
--- What the loops of `start::reckoning::fill` keep true, and what falls at each turn.
-use Prim.Native.Nat.{◌-◌, ◌*◌, ◌≤◌}
+-- What the loops of `start::reckoning::fill` keep true.
+use Prim.Native.Nat.{◌*◌, ◌≤◌}
 use mathlib.Core.Path.{◌≡◌}
 use mathlib.Core.List.{List}
 use mathlib.Core.Option.{some}
@@ -14,6 +14,3 @@ abbrev pub invariant-loop-k : goal.invariant-loop-k
 invariant-loop-k l =
     ((es : List Entry) → entries l.list ≡ some es → FilledTo (start_pairs l.chosen es) (tokens_of l.tape l.tape l.tokens) l.k l.values)
     × (length l.values ≡ length l.initial.values) × (2 * length l.tokens ≤ length l.values)
-
-abbrev pub decreases-loop-k : goal.decreases-loop-k
-decreases-loop-k l = length l.tokens - l.k

@@ -1,6 +1,4 @@
--- What the loops of `start::reckoning::overwrite` keep true, and what falls at each turn.
-use Prim.Native.Nat.{◌-◌}
-use lib.ListN.{length}
+-- What the loops of `start::reckoning::overwrite` keep true.
 use Rattle.lines.specs.Words.{token_of}
 use Rattle.start.specs.Reckoning.{pair_of}
 use Rattle.start.proofs.Pricing.{Overwriting}
@@ -9,6 +7,3 @@ use Rattle.start.proofs.reckoning.overwrite.Given as goal
 abbrev pub invariant-loop-k : goal.invariant-loop-k
 invariant-loop-k l =
     Overwriting (token_of l.tape l.tape l.target) (pair_of l.p) l.tape l.tokens l.initial.values l.k l.values
-
-abbrev pub decreases-loop-k : goal.decreases-loop-k
-decreases-loop-k l = length l.tokens - l.k

@@ -6,8 +6,8 @@ use Prim.Native.Nat.{◌+◌, ◌-◌}
 use mathlib.Core.Path.{◌≡◌}
 use Rattle.states.proofs.cells.cell_at.Goals as goal
 
-pub overflow_add-end : goal.overflow_add-end
-overflow_add-end c =
+pub overflow_add-result : goal.overflow_add-result
+overflow_add-result c =
     omega (arith, c.cell_bytes.ensures, c.cell_start-at.ensures, cell-ends c.args.i c.requires.below, store-fits)
 
 pub slice_bounds-result-end : goal.slice_bounds-result-end

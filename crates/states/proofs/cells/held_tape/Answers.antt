@@ -12,8 +12,8 @@ cell_length-requires c =
     rw c.cell_at-cell.ensures
     (cell_head c.args.store.now c.args.i c.requires.0.below c.requires.0.whole)
 
-pub overflow_add-end : goal.overflow_add-end
-overflow_add-end c =
+pub overflow_add-result : goal.overflow_add-result
+overflow_add-result c =
     let e = rw c.cell_at-cell.ensures at c.cell_length.ensures in
     omega (arith, e, c.requires.1, room_fits)
 

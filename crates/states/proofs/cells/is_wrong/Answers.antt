@@ -11,32 +11,25 @@ bounds-cell-0 c =
     let h = cell_head c.args.store.now c.args.i c.requires.below c.requires.whole in
     omega (arith, h, ap length c.cell_at-cell.ensures)
 
-pub returns-then-b-gt1 : goal.returns-then-b-gt1
-returns-then-b-gt1 c =
-    wrong-above c.args.store.now c.args.i c.cell_at-cell.ensures c.if-b-gt1.true
-
-pub returns-then-b-ne1 : goal.returns-then-b-ne1
-returns-then-b-ne1 c =
-    right-free c.args.store.now c.args.i c.cell_at-cell.ensures c.if-b-gt1.false c.if-b-ne1.true
-
 pub cell_length-requires : goal.cell_length-requires
-cell_length-requires c =
-    rw c.cell_at-cell.ensures (cell_head c.args.store.now c.args.i c.requires.below c.requires.whole)
-
-pub returns-then-is_long : goal.returns-then-is_long
-returns-then-is_long c = wrong-long c.args.store.now c.args.i c.cell_at-cell.ensures
-    c.if-b-gt1.false c.if-b-ne1.false
-    (rw c.cell_length.ensures at (sym c.is_long.ensures ∙ c.if-is_long.true))
+cell_length-requires c = rw c.cell_at-cell.ensures (cell_head c.args.store.now c.args.i c.requires.below c.requires.whole)
 
 pub cell_name-requires : goal.cell_name-requires
-cell_name-requires c =
-    rw c.cell_at-cell.ensures
-    (cell_head c.args.store.now c.args.i c.requires.below c.requires.whole)
+cell_name-requires c = rw c.cell_at-cell.ensures (cell_head c.args.store.now c.args.i c.requires.below c.requires.whole)
 
-pub returns : goal.returns
-returns c = c.is_taken.ensures
+pub returns-in-0 : goal.returns-in-0
+returns-in-0 c = right-free c.args.store.now c.args.i c.cell_at-cell.ensures (omega arith) (omega arith)
+
+pub returns-then-is_long : goal.returns-then-is_long
+returns-then-is_long c = c.if-is_long.true
+    ∙ wrong-long c.args.store.now c.args.i c.cell_at-cell.ensures (omega arith) c.in-1.is
+    (rw c.cell_length.ensures at (sym c.is_long.ensures ∙ c.if-is_long.true))
+
+pub returns-else-is_long : goal.returns-else-is_long
+returns-else-is_long c = c.is_taken.ensures
     ∙ rw c.cell_name.ensures
-    (wrong-twice c.args.store.now c.args.i c.cell_at-cell.ensures
-    c.if-b-gt1.false c.if-b-ne1.false
-    (rw c.cell_length.ensures at
-    (sym c.is_long.ensures ∙ c.if-is_long.false)))
+    (wrong-twice c.args.store.now c.args.i c.cell_at-cell.ensures (omega arith) c.in-1.is
+    (rw c.cell_length.ensures at (sym c.is_long.ensures ∙ c.if-is_long.false)))
+
+pub returns-in_default : goal.returns-in_default
+returns-in_default c = wrong-above c.args.store.now c.args.i c.cell_at-cell.ensures (omega arith)

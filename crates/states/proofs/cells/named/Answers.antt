@@ -3,13 +3,12 @@ use Rattle.states.proofs.Contents.{cell_head}
 use Rattle.states.specs.Store.{holds, cell}
 use Rattle.states.proofs.Firsts.{first_begin, first_hit, first_miss, first_end}
 use mathlib.Core.Bool.{true, false}
-use borrow.Author.Rules.{rules}
 use native.Mathlib.Omega.{arith}
 use mathlib.Core.Path.{◌≡◌, sym, ◌∙◌}
 use Rattle.states.proofs.cells.named.Goals as goal
 
 pub loop-i-init : goal.loop-i-init
-loop-i-init c = (search rules, first_begin _ c.args.k)
+loop-i-init c = first_begin _ c.args.k
 
 pub cell_at-requires : goal.cell_at-requires
 cell_at-requires c = record { below = omega arith; whole = c.requires.1 }
@@ -23,18 +22,16 @@ returns-then-holds c = let l = c.loop-i in
     let h = c.holds.ensures in
     let e = c.cell_at.ensures in
     let t : holds c.args.name.now (cell c.args.store.now l.i) ≡ true = rw e at (sym h) ∙ c.if-holds.true in
-    sym (l.invariant.1 ∙ first_hit (λ j. holds c.args.name.now (cell c.args.store.now j)) c.args.k l.i (omega arith) t)
+    sym (l.invariant ∙ first_hit (λ j. holds c.args.name.now (cell c.args.store.now j)) c.args.k l.i (omega arith) t)
 
 pub loop-i-preserved : goal.loop-i-preserved
 loop-i-preserved c = let l = c.loop-i in
     let h = c.holds.ensures in
     let e = c.cell_at.ensures in
-    let t : holds c.args.name.now (cell c.args.store.now l.i) ≡ false = rw e at (sym h) ∙ c.if-holds.false in (
-      search rules,
-      l.invariant.1 ∙ first_miss (λ j. holds c.args.name.now (cell c.args.store.now j)) c.args.k l.i
-          (omega arith) t,
-    )
+    let t : holds c.args.name.now (cell c.args.store.now l.i) ≡ false = rw e at (sym h) ∙ c.if-holds.false in
+    l.invariant ∙ first_miss (λ j. holds c.args.name.now (cell c.args.store.now j)) c.args.k l.i
+    (omega arith) t
 
 pub returns : goal.returns
 returns c = let l = c.loop-i in
-    sym (l.invariant.1 ∙ first_end (λ j. holds c.args.name.now (cell c.args.store.now j)) c.args.k l.i (omega arith))
+    sym (l.invariant ∙ first_end (λ j. holds c.args.name.now (cell c.args.store.now j)) c.args.k l.i (omega arith))

@@ -7,16 +7,10 @@ use Rattle.tables.proofs.writing.put_line.Goals as goal
 
 pub put_addressed-requires : goal.put_addressed-requires
 put_addressed-requires c = let r = c.args.line in
-    let size = ap length (addressed-bytes r c.if-line-eq1.true) ∙ addressed_size r.address r.indent in
+    let size = ap length (addressed-bytes r c.in-Some.is) ∙ addressed_size c.in-Some.address r.indent in
     omega (arith, c.requires)
-
-pub returns-then-line-eq1 : goal.returns-then-line-eq1
-returns-then-line-eq1 c = rw (addressed-bytes c.args.line c.if-line-eq1.true) c.put_addressed.ensures
 
 pub put_plain-requires : goal.put_plain-requires
 put_plain-requires c = let r = c.args.line in
-    let size = ap length (plain-bytes r c.if-line-eq1.false) ∙ plain_size r.indent in
+    let size = ap length (plain-bytes r c.in-None.is) ∙ plain_size r.indent in
     omega (arith, c.requires)
-
-pub returns : goal.returns
-returns c = rw (plain-bytes c.args.line c.if-line-eq1.false) c.put_plain.ensures

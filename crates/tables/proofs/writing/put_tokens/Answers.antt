@@ -2,30 +2,22 @@
 use native.Mathlib.Omega.{arith}
 use mathlib.Core.Path.{ap}
 use lib.ListN.{length, get_or}
-use Rattle.lines.specs.Words.{token_of, text_of, kind_of}
+use Rattle.lines.specs.Words.{text_of, kind_of}
 use Rattle.lines.proofs.words.Tokens.{kind_below}
-use Rattle.tables.specs.Writing.{token_bytes}
-use Rattle.tables.proofs.writing.Putting.{written_begin, written-room, written_more, written_end, token_size}
+use Rattle.tables.proofs.writing.Putting.{written-room, written_more, written_end, token_size}
 use Rattle.tables.proofs.writing.put_tokens.Goals as goal
 
-pub loop-k-init : goal.loop-k-init
-loop-k-init c = let a = c.args in
-    written_begin (token_of a.tape.now a.area.now) token_bytes a.ws.now a.out.now a.at
-
-pub text-requires : goal.text-requires
-text-requires c = c.requires.holds.at c.loop-k.k c.loop-k-test.true
-
 pub put_token-to-requires : goal.put_token-to-requires
-put_token-to-requires c = let l = c.loop-k in
-    let w = get_or c.args.ws.now l.k 0 in
-    let room = written-room l.invariant c.requires.ws_in_bounds 0 c.loop-k-test.true in
+put_token-to-requires c = let l = c.loop-w in
+    let w = get_or c.args.ws.now l.w-index 0 in
+    let room = written-room l.invariant c.requires.ws_in_bounds 0 c.loop-w-test.true in
     let size = token_size (kind_of w) (text_of c.args.tape.now c.args.area.now w) in
     omega (arith, c.kind.ensures, kind_below w, ap length c.text.ensures)
 
-pub loop-k-preserved : goal.loop-k-preserved
-loop-k-preserved c = let l = c.loop-k in
+pub loop-w-preserved : goal.loop-w-preserved
+loop-w-preserved c = let l = c.loop-w in
     let p = rw (c.kind.ensures, c.text.ensures) at c.put_token-to.ensures in
-    written_more l.invariant c.requires.ws_in_bounds 0 c.loop-k-test.true p
+    written_more l.invariant c.requires.ws_in_bounds 0 c.loop-w-test.true p
 
 pub returns : goal.returns
-returns c = written_end c.loop-k.invariant c.loop-k-test.false
+returns c = written_end c.loop-w.invariant c.loop-w-test.false

@@ -14,9 +14,6 @@ pub put_marks-to-requires : goal.put_marks-to-requires
 put_marks-to-requires c = let a = c.args in
     omega (arith, line_room a.tape.now a.area.now a.tokens.now a.line a.at c.requires.1, c.put_line-marks.ensures.ends, c.put_line-marks.auto.out)
 
-pub slice_bounds-put_tokens-end : goal.slice_bounds-put_tokens-end
-slice_bounds-put_tokens-end c = omega (arith, c.requires.0.inside)
-
 pub put_tokens-requires : goal.put_tokens-requires
 put_tokens-requires c = let a = c.args in
     let room = line_room a.tape.now a.area.now a.tokens.now a.line a.at c.requires.1 in

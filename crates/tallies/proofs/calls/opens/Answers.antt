@@ -1,13 +1,13 @@
 -- `tallies::calls::opens` meets its contract. Assumes nothing.
 use Rattle.reference.specs.Listing.{Punct}
 use Rattle.reference.specs.Claim.{opens}
-use Rattle.tallies.proofs.Adding.{kind_no, kind_yes}
+use Rattle.tallies.proofs.Adding.{kind_else, kind_yes}
 use Rattle.tallies.proofs.calls.opens.Goals as goal
 
-pub returns-then-kind-ne-PUNCT : goal.returns-then-kind-ne-PUNCT
+pub returns-then-kind-eq-PUNCT : goal.returns-then-kind-eq-PUNCT
 unfolding opens
-returns-then-kind-ne-PUNCT c = kind_no Punct c.args.kind c.args.text.now _ c.if-kind-ne-PUNCT.true
+returns-then-kind-eq-PUNCT c = kind_yes Punct c.args.kind c.args.text.now c.if-kind-eq-PUNCT.true c.begins_bracket.ensures
 
-pub returns : goal.returns
+pub returns-else-kind-eq-PUNCT : goal.returns-else-kind-eq-PUNCT
 unfolding opens
-returns c = let a = c.args in kind_yes Punct a.kind a.text.now c.if-kind-ne-PUNCT.false c.begins_bracket.ensures
+returns-else-kind-eq-PUNCT c = kind_else Punct c.args.kind c.args.text.now _ c.if-kind-eq-PUNCT.false

@@ -1,27 +1,8 @@
--- `tallies::casts::count_casts` meets its contract: what is counted so far, with what is to come, is the tape's. Assumes nothing.
+-- `tallies::casts::count_casts` meets its contract. Assumes nothing.
 use native.Mathlib.Omega.{arith}
-use mathlib.Core.Path.{sym, ◌∙◌}
-use mathlib.Core.Option.{none}
-use Rattle.reference.specs.Claim.{calls_in}
-use Rattle.tallies.specs.Counting.{casts_with}
-use Rattle.tallies.proofs.Adding.{adding_begins, adding_ends, adding_on, casts_zero, casts_none}
+use Rattle.walk.specs.Held.{commands, tokens_of}
+use Rattle.tallies.proofs.Adding.{casts_zero}
 use Rattle.tallies.proofs.casts.count_casts.Goals as goal
 
-pub loop-command-init : goal.loop-command-init
-loop-command-init c = let a = c.args in (adding_begins casts_with (calls_in none) a.tape.now casts_zero, omega arith, omega arith)
-
-pub returns-in-Over : goal.returns-in-Over
-returns-in-Over c = let a = c.args in
-    sym (casts_none c.loop-command.s) ∙ adding_ends casts_with (calls_in none) c.loop-command.invariant.0 (c.in-Over.ensures)
-
-pub with_command-s-requires : goal.with_command-s-requires
-with_command-s-requires c = let f = c.in-More.ensures in
-    omega (arith, f.inside, c.loop-command.invariant)
-
-pub loop-command-smaller : goal.loop-command-smaller
-loop-command-smaller c = omega (arith, (c.in-More.ensures).inside)
-
-pub loop-command-preserved : goal.loop-command-preserved
-loop-command-preserved c = let a = c.args in
-    let f = c.in-More.ensures in
-    (adding_on casts_with (calls_in none) c.loop-command.invariant.0 f c.with_command-s.ensures.0, omega (arith, f.inside, c.loop-command.invariant, c.with_command-s.ensures.1), f.inside.2)
+pub returns : goal.returns
+returns c = omega (arith, c.count.ensures, casts_zero (tokens_of (commands c.args.tape.now)))

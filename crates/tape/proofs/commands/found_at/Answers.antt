@@ -1,21 +1,21 @@
 -- `tape::commands::found_at` meets its contract. Assumes nothing.
 use native.Mathlib.Omega.{arith}
-use Rattle.reference.specs.Tape.{old}
+use mathlib.Core.Path.{sym, ◌∙◌}
 use Rattle.tape.proofs.commands.Standing.{no_byte, no_command, ending}
 use Rattle.tape.proofs.commands.found_at.Goals as goal
 
 pub returns-then-tape-at : goal.returns-then-tape-at
-returns-then-tape-at c = let a = c.args in no_byte old a.tape.now a.at c.if-tape-at.true
+returns-then-tape-at g c = rw c.at.ensures (no_byte _ _ _ c.if-tape-at.true)
 
-pub returns-then-b : goal.returns-then-b
-returns-then-b c = let a = c.args in
-    ending old a.tape.now a.at c.if-tape-at.false c.if-b.true
+pub returns-in-255 : goal.returns-in-255
+returns-in-255 g c = ending _ _ _ c.if-tape-at.false c.in-255.is
 
-pub returns-then-b-lt16 : goal.returns-then-b-lt16
-returns-then-b-lt16 c = let a = c.args in
-    let marks = c.if-b-eq3.false in
-    no_command old a.tape.now a.at c.if-b-eq1.false c.if-b-eq2.false marks c.if-b.false (λ low high. omega (arith, c.if-b-lt16.true))
-
-pub returns-then-b-gt23 : goal.returns-then-b-gt23
-returns-then-b-gt23 c = let a = c.args in
-    no_command old a.tape.now a.at c.if-b-eq1.false c.if-b-eq2.false c.if-b-eq3.false c.if-b.false (λ low high. omega (arith, c.if-b-gt23.true))
+pub returns-in_default-3 : goal.returns-in_default-3
+returns-in_default-3 g c =
+    rw c.at-in_default-3.ensures
+    (no_command _ _ _
+    (λ e. c.if-b-line_byte.false (e ∙ sym c.line_byte.ensures))
+    (λ e. omega arith)
+    (λ e. c.if-b-marks_byte.false (e ∙ sym c.marks_byte.ensures))
+    (λ e. omega arith)
+    (λ low high. omega arith))

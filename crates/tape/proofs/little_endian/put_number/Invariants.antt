@@ -1,15 +1,11 @@
--- What the loops of `tape::little_endian::put_number` keep true, and what falls at each turn.
-use Prim.Native.Nat.{◌+◌, ◌-◌, ◌≤◌}
+-- What the loop of `tape::little_endian::put_number` keeps true.
+use Prim.Native.Nat.{◌-◌}
 use mathlib.Core.Path.{◌≡◌}
-use lib.ListN.{length}
+use mathlib.Core.List.{◌++◌}
+use lib.ListN.{take}
 use Rattle.reference.specs.Tape.{to_le_bytes}
-use Rattle.tape.specs.Bytes.{put}
 use Rattle.tape.proofs.little_endian.put_number.Given as goal
 
--- What is left of the number, put where the loop stands, makes the whole.
-abbrev pub invariant-loop-i : goal.invariant-loop-i
-invariant-loop-i l =
-    (l.i ≤ l.n) × (put l.out (l.at + l.i) (to_le_bytes (l.n - l.i) l.rest) ≡ put l.initial.out l.at (to_le_bytes l.n l.v)) × (length l.out ≡ length l.initial.out)
-
-abbrev pub decreases-loop-i : goal.decreases-loop-i
-decreases-loop-i l = l.n - l.i
+-- The bytes written, and those of what is left of the number, make the whole.
+abbrev pub invariant-loop-b : goal.invariant-loop-b
+invariant-loop-b l = take l.b-index l.b-items ++ to_le_bytes (l.n - l.b-index) l.rest ≡ to_le_bytes l.n l.v

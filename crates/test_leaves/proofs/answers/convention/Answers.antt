@@ -8,8 +8,8 @@ returns-then-same c = convention_0 _ (sym c.same.ensures ∙ c.if-same.true)
 
 pub returns-then-same-2 : goal.returns-then-same-2
 returns-then-same-2 c =
-    convention_1 _ (sym c.same.ensures ∙ c.if-same.false) (sym c.same-2.ensures ∙ c.if-same-2.true)
+    convention_1 _ (sym c.same.ensures ∙ c.if-same.false) (sym c.same-else-same.ensures ∙ c.if-same-2.true)
 
-pub returns : goal.returns
-returns c =
-    convention_2 _ (sym c.same.ensures ∙ c.if-same.false) (sym c.same-2.ensures ∙ c.if-same-2.false)
+pub returns-else-same-2 : goal.returns-else-same-2
+returns-else-same-2 c =
+    convention_2 _ (sym c.same.ensures ∙ c.if-same.false) (sym c.same-else-same.ensures ∙ c.if-same-2.false)

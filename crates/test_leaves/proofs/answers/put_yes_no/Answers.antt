@@ -6,6 +6,6 @@ pub returns-then-b : goal.returns-then-b
 returns-then-b c =
     rw (← says-yes c.if-b.true) c.put.ensures
 
-pub returns : goal.returns
-returns c =
-    rw (← says_no c.if-b.false) c.put-2.ensures
+pub returns-else-b : goal.returns-else-b
+returns-else-b c =
+    rw (← says_no c.if-b.false) c.put-else-b.ensures

@@ -5,20 +5,20 @@ use Rattle.test_replay.proofs.calls.is_wanted.Goals as goal
 
 pub returns-then-is_report : goal.returns-then-is_report
 returns-then-is_report c =
-    let t = c.tell in
-    rw c.in-Refused.is
-    (and_second c.is_report.ensures c.if-is_report.true (told-right c.args.list.now 0 t.result t.ensures c.are_told.ensures))
+    let t = c.from in
+    rw c.in-Err.is
+    (and_second (rw c.number.ensures at c.is_report.ensures) c.if-is_report.true (told-right c.args.list.now 0 t.result t.ensures c.are_told.ensures))
 
 pub returns-else-is_report : goal.returns-else-is_report
 returns-else-is_report c =
-    rw c.in-Refused.is (and_first _ c.is_report.ensures c.if-is_report.false)
+    rw c.in-Err.is (and_first _ (rw c.number.ensures at c.is_report.ensures) c.if-is_report.false)
 
 pub returns-then-is_report-2 : goal.returns-then-is_report-2
 returns-then-is_report-2 c =
-    let t = c.tell-then-is_report-2 in
-    rw c.in-Finished.is
-    (and_second c.is_report-in-Finished.ensures c.if-is_report-2.true (told-right c.args.list.now c.in-Finished.f.removed t.result t.ensures c.are_told-then-is_report-2.ensures))
+    let t = c.from-then-is_report-2 in
+    rw c.in-Ok.is
+    (and_second c.is_report-in-Ok.ensures c.if-is_report-2.true (told-right c.args.list.now c.in-Ok.f.removed t.result t.ensures c.are_told-then-is_report-2.ensures))
 
 pub returns-else-is_report-2 : goal.returns-else-is_report-2
 returns-else-is_report-2 c =
-    rw c.in-Finished.is (and_first _ c.is_report-in-Finished.ensures c.if-is_report-2.false)
+    rw c.in-Ok.is (and_first _ c.is_report-in-Ok.ensures c.if-is_report-2.false)

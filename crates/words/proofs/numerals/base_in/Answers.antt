@@ -1,9 +1,9 @@
 -- `words::numerals::base_in` meets its contract. Assumes nothing.
+use Rattle.std.proofs.Common.{sym, ◌∙◌}
+use Rattle.std.proofs.lemmas.List.{take_rest}
+use Rattle.words.proofs.Branches.{if_here, if-there, true_of, false_of}
 use Rattle.words.proofs.Digits.{starts_two}
 use Rattle.words.specs.Numerals.{base_in}
-use Rattle.laws.proofs.Parts.{to_end}
-use mathlib.Core.Path.{sym, ◌∙◌}
-use Rattle.words.proofs.Branches.{if_here, if-there, true_of, false_of}
 use Rattle.words.proofs.numerals.base_in.Goals as goal
 
 pub slice_bounds-number_in-count : goal.slice_bounds-number_in-count
@@ -14,8 +14,8 @@ slice_bounds-number_in-start c = starts_two c.args.word.now (sym c.starts.ensure
 
 pub returns-then-starts : goal.returns-then-starts
 unfolding base_in
-returns-then-starts c = if_here _ (true_of c.starts.ensures c.if-starts.true) (rw (to_end 2 c.args.word.now) at c.number_in.ensures)
+returns-then-starts c = if_here _ (true_of c.starts.ensures c.if-starts.true) (rw (take_rest c.args.word.now 2) at c.number_in.ensures)
 
-pub returns : goal.returns
+pub returns-else-starts : goal.returns-else-starts
 unfolding base_in
-returns c = if-there _ (false_of c.starts.ensures c.if-starts.false) c.number_in-2.ensures
+returns-else-starts c = if-there _ (false_of c.starts.ensures c.if-starts.false) c.number_in-else-starts.ensures

@@ -1,33 +1,20 @@
 -- `words::numerals::digit` meets its contract. Assumes nothing.
-use Rattle.words.proofs.Branches.{branches}
-use Rattle.words.specs.Numerals.{digit}
-use borrow.Author.Rules.{rules}
+use Rattle.std.proofs.Common.{ap, ◌∙◌, arith}
+use Rattle.reference.specs.Options.{option_of}
+use Rattle.words.proofs.Digits.{no_digit, a_digit}
 use Rattle.words.proofs.numerals.digit.Goals as goal
 
-pub returns-then-b-lt48 : goal.returns-then-b-lt48
-unfolding digit
-returns-then-b-lt48 c = search (rules, branches) depth 12
+pub returns-in_err-to_digit : goal.returns-in_err-to_digit
+returns-in_err-to_digit c =
+    let v = c.in_err-to_digit.ensures.value in
+    ap option_of c.from_residual.ensures ∙ no_digit c.args.base c.args.b c.requires (grind arith)
 
-pub returns-then-b-lt58 : goal.returns-then-b-lt58
-unfolding digit
-returns-then-b-lt58 c = search (rules, branches) depth 12
+pub returns-then-d-base : goal.returns-then-d-base
+returns-then-d-base c =
+    let v = c.in_ok-to_digit.ensures.value in
+    rw (c.from-d.ensures, v.1, c.from.ensures) (a_digit c.args.base c.args.b c.requires (grind arith))
 
-pub returns-then-b-lt65 : goal.returns-then-b-lt65
-unfolding digit
-returns-then-b-lt65 c = search (rules, branches) depth 12
-
-pub returns-then-b-lt71 : goal.returns-then-b-lt71
-unfolding digit
-returns-then-b-lt71 c = search (rules, branches) depth 12
-
-pub returns-then-b-lt97 : goal.returns-then-b-lt97
-unfolding digit
-returns-then-b-lt97 c = search (rules, branches) depth 12
-
-pub returns-then-b-lt103 : goal.returns-then-b-lt103
-unfolding digit
-returns-then-b-lt103 c = search (rules, branches) depth 12
-
-pub returns : goal.returns
-unfolding digit
-returns c = search (rules, branches) depth 12
+pub returns-else-d-base : goal.returns-else-d-base
+returns-else-d-base c =
+    let v = c.in_ok-to_digit.ensures.value in
+    no_digit c.args.base c.args.b c.requires (grind arith)

@@ -1,6 +1,6 @@
 -- `words::numerals::integer_in` meets its contract. Assumes nothing.
-use mathlib.Core.Path.{sym, ◌∙◌}
-use Rattle.laws.proofs.Parts.{to_end}
+use Rattle.std.proofs.Common.{sym, ◌∙◌}
+use Rattle.std.proofs.lemmas.List.{take_rest}
 use Rattle.words.proofs.Branches.{if_here, if-there, true_of, false_of}
 use Rattle.words.proofs.Digits.{starts_one}
 use Rattle.words.specs.Numerals.{integer_in}
@@ -14,8 +14,8 @@ slice_bounds-negative_in-start c = starts_one c.args.word.now (sym c.starts.ensu
 
 pub returns-then-starts : goal.returns-then-starts
 unfolding integer_in
-returns-then-starts c = if_here _ (true_of c.starts.ensures c.if-starts.true) (rw (to_end 1 c.args.word.now) at c.negative_in.ensures)
+returns-then-starts c = if_here _ (true_of c.starts.ensures c.if-starts.true) (rw (take_rest c.args.word.now 1) at c.negative_in.ensures)
 
-pub returns : goal.returns
+pub returns-else-starts : goal.returns-else-starts
 unfolding integer_in
-returns c = if-there _ (false_of c.starts.ensures c.if-starts.false) c.magnitude_in.ensures
+returns-else-starts c = if-there _ (false_of c.starts.ensures c.if-starts.false) c.magnitude_in.ensures

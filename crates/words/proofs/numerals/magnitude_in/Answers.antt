@@ -1,6 +1,6 @@
 -- `words::numerals::magnitude_in` meets its contract. Assumes nothing.
-use mathlib.Core.Path.{sym, ◌∙◌}
-use Rattle.laws.proofs.Parts.{to_end}
+use Rattle.std.proofs.Common.{sym, ◌∙◌}
+use Rattle.std.proofs.lemmas.List.{take_rest}
 use Rattle.words.proofs.Branches.{if_here, if-there, true_of, false_of}
 use Rattle.words.proofs.Digits.{starts_two}
 use Rattle.words.specs.Numerals.{magnitude_in}
@@ -14,8 +14,8 @@ slice_bounds-unsigned_in-start c = starts_two c.args.word.now (sym c.starts.ensu
 
 pub returns-then-starts : goal.returns-then-starts
 unfolding magnitude_in
-returns-then-starts c = if_here _ (true_of c.starts.ensures c.if-starts.true) (rw (to_end 2 c.args.word.now) at c.unsigned_in.ensures)
+returns-then-starts c = if_here _ (true_of c.starts.ensures c.if-starts.true) (rw (take_rest c.args.word.now 2) at c.unsigned_in.ensures)
 
-pub returns : goal.returns
+pub returns-else-starts : goal.returns-else-starts
 unfolding magnitude_in
-returns c = if-there _ (false_of c.starts.ensures c.if-starts.false) c.unsigned_in-2.ensures
+returns-else-starts c = if-there _ (false_of c.starts.ensures c.if-starts.false) c.unsigned_in-else-starts.ensures

@@ -1,43 +1,43 @@
 -- `words::numerals::unsigned_in` meets its contract. Assumes nothing.
-use native.Mathlib.Omega.{arith}
-use mathlib.Core.Path.{refl, sym, ap, ◌∙◌}
-use Rattle.words.proofs.Branches.{if-there, branches}
-use Rattle.words.proofs.Digits.{stop_64, more_64, over_64, end_64, over, under}
-use Rattle.words.specs.Numerals.{digit, unsigned_in}
-use borrow.Author.Rules.{rules}
+use Rattle.std.proofs.Common.{refl, sym, ap, ◌∙◌, arith}
+use Rattle.reference.specs.Options.{option_of}
+use Rattle.words.proofs.Digits.{stop_64, more_64, over_64, end_64, unsigned-empty, unsigned_from}
 use Rattle.words.proofs.numerals.unsigned_in.Goals as goal
 
-pub returns-then-word-eq0 : goal.returns-then-word-eq0
-unfolding unsigned_in
-returns-then-word-eq0 c = search (rules, branches) depth 12
+pub returns-then-is_empty : goal.returns-then-is_empty
+returns-then-is_empty c = unsigned-empty _ _ c.is_empty.ensures c.if-is_empty.true
 
-pub loop-i-init : goal.loop-i-init
-unfolding unsigned_in
-loop-i-init c = (search rules, search rules, sym (if-there _ (search (rules, branches)) refl))
+pub returns-in_err-d : goal.returns-in_err-d
+returns-in_err-d c =
+    let l = c.loop-b in
+    ap option_of c.from_residual.ensures ∙ stop_64 c.args.base l.v c.args.word.now l.b-index c.loop-b-test.true c.in_err-d.ensures
+    ∙ sym (unsigned_from _ _ c.is_empty.ensures c.if-is_empty.false ∙ l.invariant.1)
 
-pub returns-then-base-d : goal.returns-then-base-d
-returns-then-base-d c = let a = c.args in
-    sym (c.loop-i.invariant.2 ∙ stop_64 a.base c.loop-i.v a.word.now c.loop-i.i (search rules) (c.digit-d.ensures ∙ ap digit c.wide.ensures) c.if-base-d.true)
+pub returns-in_err-checked_mul : goal.returns-in_err-checked_mul
+returns-in_err-checked_mul c =
+    let l = c.loop-b in
+    ap option_of c.from_residual-in_err-checked_mul.ensures
+    ∙ over_64 c.args.base l.v c.args.word.now l.b-index c.loop-b-test.true c.in_ok-d.ensures (omega (arith, c.in_err-checked_mul.ensures))
+    ∙ sym (unsigned_from _ _ c.is_empty.ensures c.if-is_empty.false ∙ l.invariant.1)
 
-pub returns-then-d-base : goal.returns-then-d-base
-returns-then-d-base c = let a = c.args in
-    sym
-    (c.loop-i.invariant.2
-    ∙ over_64 a.base c.loop-i.v a.word.now c.loop-i.i (search rules) (c.digit-d.ensures ∙ ap digit c.wide.ensures) c.requires.0 (search rules) (over c.requires.0 (search rules) c.if-d-base.true))
+pub returns-in_err-v : goal.returns-in_err-v
+returns-in_err-v c =
+    let l = c.loop-b in
+    let m = c.in_ok-checked_mul.ensures in
+    ap option_of c.from_residual-in_err-v.ensures
+    ∙ over_64 c.args.base l.v c.args.word.now l.b-index c.loop-b-test.true c.in_ok-d.ensures (omega (arith, m.1, c.in_err-v.ensures))
+    ∙ sym (unsigned_from _ _ c.is_empty.ensures c.if-is_empty.false ∙ l.invariant.1)
 
-pub overflow_mul-v : goal.overflow_mul-v
-overflow_mul-v c = omega (arith, under {v = c.loop-i.v} {base = c.args.base} {d = c.digit-d.result} c.requires.0 (search rules) c.if-d-base.false)
-
-pub overflow_add-v : goal.overflow_add-v
-overflow_add-v c = record { fits = under {v = c.loop-i.v} {base = c.args.base} {d = c.digit-d.result} c.requires.0 (search rules) c.if-d-base.false }
-
-pub loop-i-preserved : goal.loop-i-preserved
-loop-i-preserved c = let a = c.args in (
-  search rules,
-  under c.requires.0 (search rules) c.if-d-base.false,
-  c.loop-i.invariant.2 ∙ more_64 a.base c.loop-i.v a.word.now c.loop-i.i (search rules) (c.digit-d.ensures ∙ ap digit c.wide.ensures) (search rules),
-)
+pub loop-b-preserved : goal.loop-b-preserved
+loop-b-preserved c =
+    let l = c.loop-b in
+    let m = c.in_ok-checked_mul.ensures in
+    let n = c.in_ok-v.ensures in (
+      omega (arith, m.1, n.0, n.1),
+      l.invariant.1 ∙ more_64 c.args.base l.v c.args.word.now l.b-index c.loop-b-test.true c.in_ok-d.ensures ∙ rw (n.1, m.1) refl,
+    )
 
 pub returns : goal.returns
-returns c = let a = c.args in
-    sym (c.loop-i.invariant.2 ∙ end_64 a.base c.loop-i.v a.word.now c.loop-i.i (search rules) (search rules))
+returns c =
+    let l = c.loop-b in
+    sym (unsigned_from _ _ c.is_empty.ensures c.if-is_empty.false ∙ l.invariant.1 ∙ end_64 c.args.base l.v c.args.word.now l.b-index c.loop-b-test.false l.invariant.0)

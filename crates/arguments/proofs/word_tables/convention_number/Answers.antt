@@ -1,9 +1,0 @@
--- `arguments::word_tables::convention_number` meets its contract. Assumes nothing.
-use Rattle.arguments.specs.Tables.{conventions}
-use Rattle.words.specs.Splitting.{onto, split}
-use Rattle.reference.specs.Control.{when◌then◌else◌}
-use Rattle.arguments.proofs.word_tables.convention_number.Goals as goal
-
-pub returns : goal.returns
-unfolding split onto when◌then◌else◌ conventions
-returns c = c.number_of.ensures

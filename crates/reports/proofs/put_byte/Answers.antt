@@ -1,6 +1,0 @@
--- `reports::put_byte` meets its contract. Assumes nothing.
-use Rattle.numbers.proofs.Writing.{written_one}
-use Rattle.reports.proofs.put_byte.Goals as goal
-
-pub returns : goal.returns
-returns c = written_one _ _ _ c.requires

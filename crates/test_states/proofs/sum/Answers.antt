@@ -1,6 +1,0 @@
--- `test_states::sum` is safe and ends. Assumes nothing.
-use native.Mathlib.Omega.{arith}
-use Rattle.test_states.proofs.sum.Goals as goal
-
-pub loop-i-init : goal.loop-i-init
-loop-i-init c = omega arith
