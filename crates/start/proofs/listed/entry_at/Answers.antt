@@ -1,7 +1,7 @@
--- `start::listed::item_at` meets its contract. Assumes nothing.
-use Rattle.start.proofs.Entries.{over_at, cut_at, named_at}
+-- `start::listed::entry_at` meets its contract. Assumes nothing.
+use Rattle.start.proofs.Entries.{over_at, cut_at, entry_here}
 use borrow.Author.Rules.{rules}
-use Rattle.start.proofs.listed.item_at.Goals as goal
+use Rattle.start.proofs.listed.entry_at.Goals as goal
 
 pub returns-then-list-at : goal.returns-then-list-at
 returns-then-list-at c = search (rules, over_at)
@@ -16,4 +16,4 @@ pub returns : goal.returns
 returns c =
     let a = c.args in
     let n = c.from-n in
-    named_at a.list.now a.at (search rules) n.result n.ensures (search rules)
+    entry_here a.list.now a.at (search rules) n.result n.ensures (search rules)
