@@ -1,8 +1,8 @@
--- `listing_text::room::Cursor::put` meets its contract. Assumes nothing.
+-- `listing_text::room::Clipped::put` meets its contract. Assumes nothing.
 use mathlib.Core.Path.{sym, ◌∙◌}
 use borrow.Author.Rules.{rules}
 use Rattle.listing_text.proofs.Pages.{put_next, put_last}
-use Rattle.listing_text.proofs.room.Cursor.put.Goals as goal
+use Rattle.listing_text.proofs.room.Clipped.put.Goals as goal
 
 pub loop-b-preserved : goal.loop-b-preserved
 loop-b-preserved c =

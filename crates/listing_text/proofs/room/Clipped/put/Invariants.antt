@@ -2,7 +2,7 @@
 use mathlib.Core.Path.{◌≡◌}
 use lib.ListN.{drop}
 use Rattle.listing_text.specs.Room.{page, puts}
-use Rattle.listing_text.proofs.room.Cursor.put.Given as goal
+use Rattle.listing_text.proofs.room.Clipped.put.Given as goal
 
 abbrev pub invariant-loop-b : goal.invariant-loop-b
 invariant-loop-b l =
