@@ -11,6 +11,11 @@ def stub(text):
             if re.match(r'^#\[cycle',L[i].strip()): i+=1; continue
             out.append(L[i]); i+=1; continue
         ind=m.group(1); j=i
+        # a trait's method without a body
+        q=i
+        while q<n and L[q]!=ind+'{' and not L[q].rstrip().endswith(';') and not (q>i and L[q].strip()==''): q+=1
+        if q<n and L[q].rstrip().endswith(';') and not any(L[x]==ind+'{' for x in range(i,q)) and not L[i].rstrip().endswith('{') and not any(L[x].startswith(ind+')') and L[x].rstrip().endswith('{') for x in range(i,q)):
+            out+=L[i:q+1]; i=q+1; continue
         # header
         while True:
             if L[j]==ind+'{': break

@@ -1,11 +1,11 @@
--- The number of each reason, by documents 01 and 02, and what a result means that is refused for one. Document 01: "Where an answer is an
--- enum, a definition gives this paper's number and values for each case of the enum, and the promises use that definition."
--- Assumes nothing.
-use Rattle.std.specs.Prelude.{ℕ}
-use Rattle.std.specs.Prelude.{Result, Ok, Err}
+-- The number of each reason, by documents 01 and 02, the reason of a number, and what a result means that is refused for one. Document 01:
+-- "Where an answer is an enum, a definition gives this paper's number and values for each case of the enum, and the promises use that
+-- definition." Assumes nothing.
+use Rattle.std.specs.Prelude.{ℕ, ◌≡◌, Result, Ok, Err, MatchResult}
 use Rattle.reference.specs.Questions.{Answer, Refused, Passed}
 use Rattle.answers.specs.declared.Reason.{Reason}
 use Rattle.answers.specs.declared.Reason.TheVariants as reason
+use Rattle.answers.specs.declared.UnknownReason.{UnknownReason}
 use Rattle.answers.specs.declared.Refusal.{Refusal}
 
 abbrev pub number_of : Reason → ℕ
@@ -31,6 +31,10 @@ number_of reason.NoBase = 19
 number_of reason.NotHeld = 20
 number_of reason.StoreFull = 21
 number_of reason.BrokenCell = 22
+
+-- the reason of a number, or an error for a number that no reason has
+abbrev pub Numbers : ℕ → Result Reason UnknownReason → Type 0
+Numbers n r = MatchResult r (λ reason. number_of reason ≡ n) (λ _. (reason : Reason) → number_of reason ≡ n → ⊥)
 
 -- the definitions' answer: its number and place, or what f makes of the value
 abbrev pub answered : {A B : Type 0} → (A → B) → Result A Refusal → Answer B

@@ -2,7 +2,7 @@
 #![tactic(auto)]
 
 ghost use Rattle.std.specs.Prelude.{◌≡◌};
-ghost use Rattle.answers.specs.Refusals.{number_of};
+ghost use Rattle.answers.specs.Refusals.{number_of, Numbers};
 ghost use Rattle.answers.specs.Answers.{answer_of, in_numbers, numbers_of};
 
 use std::error::Error;
@@ -39,7 +39,7 @@ pub enum Reason {
 #[derive(Clone, Copy, Debug, PartialEq, Eq, Hash)]
 pub struct Refusal {
     pub reason: Reason,
-    pub place: usize,
+    pub place: u64,
 }
 
 // What a call answers: the length of the output, a start value, or 0.
@@ -82,10 +82,58 @@ impl Reason {
     {
         Refusal {
             reason: self,
-            place,
+            // Kept: a cast: 64 bits hold every `usize`, and `u64::try_from` is no plainer, since it asks what to do where they do not.
+            place: place as u64,
         }
     }
 }
+
+// Of a number that no reason has.
+#[derive(Clone, Copy, Debug, PartialEq, Eq, Hash)]
+pub struct UnknownReason;
+
+impl TryFrom<u64> for Reason {
+    type Error = UnknownReason;
+
+    ghost try_from_gives = { Numbers };
+
+    // The reason of a number.
+    fn try_from(number: u64) -> Result<Self, UnknownReason> {
+        match number {
+            1 => Ok(Reason::UnknownConvention),
+            2 => Ok(Reason::TooLittleRoom),
+            3 => Ok(Reason::NoCommand),
+            4 => Ok(Reason::CutOff),
+            5 => Ok(Reason::OutOfPlace),
+            6 => Ok(Reason::OutOfBounds),
+            7 => Ok(Reason::Unprintable),
+            8 => Ok(Reason::BytesAfterEnd),
+            9 => Ok(Reason::UnknownEdition),
+            10 => Ok(Reason::TooMany),
+            11 => Ok(Reason::TooMuchText),
+            12 => Ok(Reason::NewKeyword),
+            13 => Ok(Reason::UnreadNumber),
+            14 => Ok(Reason::OutsideProfile),
+            15 => Ok(Reason::NoStartValue),
+            16 => Ok(Reason::NoRegister),
+            17 => Ok(Reason::TooManyLines),
+            18 => Ok(Reason::OutOfReach),
+            19 => Ok(Reason::NoBase),
+            20 => Ok(Reason::NotHeld),
+            21 => Ok(Reason::StoreFull),
+            22 => Ok(Reason::BrokenCell),
+            _ => Err(UnknownReason),
+        }
+    }
+}
+
+impl fmt::Display for UnknownReason {
+    fn fmt<W: fmt::Write>(&self, f: &mut fmt::Formatter<W>) -> fmt::Result {
+        f.write_str("no reason has this number")
+    }
+}
+
+impl Error for UnknownReason {}
 
 impl fmt::Display for Refusal {
     fn fmt<W: fmt::Write>(&self, f: &mut fmt::Formatter<W>) -> fmt::Result {
@@ -113,7 +161,7 @@ pub fn tell(answer: Answer) -> Told
     match answer {
         Err(refusal) => Told {
             refusal: refusal.reason.number(),
-            place: refusal.place as u64,
+            place: refusal.place,
             value: 0,
         },
         Ok(value) => Told {

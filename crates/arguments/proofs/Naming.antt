@@ -1,5 +1,5 @@
 -- Operands REG=VALUE: where the first = stands, and the pieces of an entry put one behind the other. Assumes nothing.
-use Prim.Native.Nat.{ℕ, suc, ◌+◌, ◌≤◌, ◌<◌}
+use Prim.Native.Nat.{ℕ, suc, ◌+◌, ◌%◌, ◌≤◌, ◌<◌}
 use native.Mathlib.Omega.{arith}
 use mathlib.Core.Bool.{Bool, true, false}
 use mathlib.Core.Option.{none}
@@ -10,9 +10,8 @@ use Rattle.std.specs.Option.{is_some}
 use Rattle.std.proofs.Common as std
 use lib.Dec.{ltb}
 use borrow.Author.Tests.{ltb-true, ltb-false}
-use mathlib.Core.List.{List, [], ◌∷◌, ◌++◌}
-use lib.ListN.{length, take, drop, length-append, length-take}
-use lib.Seq.{paste-zero}
+use mathlib.Core.List.{List, [], ◌∷◌}
+use lib.ListN.{length, take, drop, get_or, length-append, length-take}
 use borrow.Author.Tests.{lt-ltb, le-ltb}
 use Prim.Native.Nat.{◌-◌}
 use mathlib.Core.Option.{Option}
@@ -25,10 +24,10 @@ use Rattle.reference.specs.Tape.{to_le_bytes}
 use Rattle.reference.proofs.Cases.{by-if, by-some}
 use Rattle.reference.proofs.LittleEndian.{to_length}
 use Rattle.laws.proofs.Scans.{if-true, if-false}
-use Rattle.tape.specs.Bytes.{put}
-use Rattle.tape.proofs.little_endian.Bytes.{put_pasted}
-use Rattle.numbers.specs.Writing.{Written}
-use Rattle.numbers.proofs.Writing.{written_then}
+use Rattle.std.specs.Int.{bytes_low_first}
+use Rattle.text.specs.Cursor.{Puts}
+use Rattle.text.specs.declared.cursor.Cursor.{Cursor}
+use Rattle.text.proofs.Cursors.{puts_none, then_puts}
 use Rattle.arguments.specs.Entries.{equals_at, entry_value, named_value, entry_bytes, IsEntry}
 
 -- where the first = stands, as std's `position` says it
@@ -120,29 +119,19 @@ taken-length false w = omega arith
 
 -- ---- putting
 
-pub nothing_put : (out : Text) (at : ℕ) → Written out at [] out at
-nothing_put out at = record { bytes_are = paste-zero out at []; end_is = omega arith }
-
-pub entry_put : (w : Text) {name : Text} {v : ℕ} {out out' : Text} {at r : ℕ} → IsEntry w name v → Written out at (named_value name v) out' r
-    → Written out at (entry_bytes w) out' r
+pub entry_put : (w : Text) {name : Text} {v : ℕ} {p p' : Cursor} → IsEntry w name v → Puts p (named_value name v) p' → Puts p (entry_bytes w) p'
 unfolding entry_bytes let_some◌else◌then◌
 entry_put w f x = rw f.value_is (rw f.name_is at x)
 
-pub entry_none : (w out : Text) (at : ℕ) → entry_value w ≡ none → Written out at (entry_bytes w) out at
+pub entry_none : (w : Text) {p : Cursor} → entry_value w ≡ none → Puts p (entry_bytes w) p
 unfolding entry_bytes let_some◌else◌then◌
-entry_none w out at e = rw e (nothing_put out at)
+entry_none w e = rw e puts_none
 
-pub value_put : (out : Text) (at v : ℕ) {out' : Text} → out' ≡ put out at (to_le_bytes 8 v) → Written out at (to_le_bytes 8 v) out' (at + 8)
-value_put out at v e =
-    record { bytes_are = e ∙ sym (put_pasted out at (to_le_bytes 8 v)); end_is = omega (arith, to_length 8 v) }
+-- the lowest byte of a number below 256
+pub low_byte : (n : ℕ) → n < 256 → get_or (bytes_low_first 0 8 n) 0 0 ≡ n
+low_byte n h = let e : n % 256 ≡ n = omega arith in e
 
-pub named_put : {out : Text} {at : ℕ} (name : Text) (v : ℕ) {b : ℕ} {o₁ o₂ o₃ : Text} {x y r : ℕ} → at + length name + 9 ≤ length out → b ≡ length name
-    → Written out at (b ∷ []) o₁ x → Written o₁ x name o₂ y → Written o₂ y (to_le_bytes 8 v) o₃ r → Written out at (named_value name v) o₃ r
+pub named_put : (name : Text) (v : ℕ) {b : ℕ} {p p₁ p₂ p₃ : Cursor} → b ≡ length name → p.at ≤ length p.out.now
+    → Puts p (b ∷ []) p₁ → Puts p₁ name p₂ → Puts p₂ (to_le_bytes 8 v) p₃ → Puts p (named_value name v) p₃
 unfolding named_value
-named_put {out} {at} name v {b} h e w₁ w₂ w₃ =
-    let s₁ : Text = b ∷ [] in
-    let n : length (to_le_bytes 8 v) ≡ 8 = to_length 8 v in
-    let x₂ : Written out at (s₁ ++ name) _ _ = written_then out at s₁ name (omega arith) w₁ w₂ in
-    let l : length (s₁ ++ name) ≡ 1 + length name = length-append s₁ name in
-    let x₃ : Written out at ((s₁ ++ name) ++ to_le_bytes 8 v) _ _ = written_then out at (s₁ ++ name) (to_le_bytes 8 v) (omega arith) x₂ w₃ in
-    rw (← e) x₃
+named_put name v e h x y z = then_puts (then_puts (rw e at x) h y) h z

@@ -8,13 +8,16 @@ ghost use Rattle.arguments.specs.Words.{is_at};
 use crate::first_word::{is_at, next_word};
 use crate::request::Request;
 
+// What parts the names of a path.
+const SLASH: u8 = b'/';
+
 // The base name of a path: what stands behind its last slash.
 pub fn base_name(path: &[u8]) -> &[u8]
     ensures { result.now ≡ base_name path.now }
 {
     let mut base = path;
     for (i, b) in path.iter().enumerate() {
-        if *b == b'/' {
+        if *b == SLASH {
             base = &path[i + 1..];
         }
     }

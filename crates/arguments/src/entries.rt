@@ -1,12 +1,10 @@
 // Operands REG=VALUE: the registers of `start` and what they start with. Their list is the one that crate start takes.
-ghost use Rattle.std.specs.Prelude.{◌≡◌, [], ◌+◌, ◌≤◌, ◌<◌, ◌==◌, length, position, MatchOption, if◌then◌else◌};
-ghost use Rattle.reference.specs.Tape.{to_le_bytes};
-ghost use Rattle.numbers.specs.Writing.{Written};
+ghost use Rattle.std.specs.Prelude.{◌≡◌, [], ◌+◌, ◌<◌, ◌==◌, length, position, MatchOption, if◌then◌else◌};
+ghost use Rattle.text.specs.Cursor.{Fits, Puts};
 ghost use Rattle.std.proofs.Math.Option.{none};
 ghost use Rattle.arguments.specs.Entries.{is_entry, entry_value, IsEntry, named_value, entry_bytes};
 
-use printing::put;
-use tape::little_endian::put_number;
+use text::Cursor;
 use words::integer_in;
 
 // Where the first = stands.
@@ -26,52 +24,47 @@ pub(crate) fn is_entry(word: &[u8]) -> bool
     equals_in(word).is_some()
 }
 
+// How long a name can be: its length is told in a byte.
+const LONGEST: usize = 255;
+
 // The name and the value of an entry, if it has one and its name is not too long.
 pub(crate) fn entry_in(word: &[u8]) -> Option<(&[u8], u64)>
     ensures { MatchOption result (entry_value word.now ≡ none) (λ p. IsEntry word.now p.0.now p.1) }
 {
     let n = equals_in(word)?;
-    if 255 < n {
+    if LONGEST < n {
         return None;
     }
     let value = integer_in(&word[n + 1..])?;
     Some((&word[..n], value))
 }
 
-// Puts a value in 8 bytes.
-fn put_value(v: u64, out: &mut [u8], at: usize) -> usize
-    requires { at + 8 ≤ length out.old }
-    ensures { Written out.old at (to_le_bytes 8 v) out.new result }
+// Puts a name behind its length, and its value in 8 bytes.
+fn put_named(name: &[u8], v: u64, out: &mut Cursor)
+    requires { (length name.now < 256) × Fits out.old (length name.now + 9) }
+    ensures { Puts out.old (named_value name.now v) out.new }
 {
-    put_number(v, 8, out, at);
-    at + 8
-}
-
-// Puts a name and its value.
-fn put_named(name: &[u8], v: u64, out: &mut [u8], at: usize) -> usize
-    requires { (length name.now < 256) × (at + length name.now + 9 ≤ length out.old) }
-    ensures { Written out.old at (named_value name.now v) out.new result }
-{
-    let a = put(&[name.len() as u8], out, at);
-    let b = put(name, out, a);
-    put_value(v, out, b)
+    out.put_byte(name.len().to_le_bytes()[0]);
+    out.put(name);
+    out.put_le(v, 8);
 }
 
 // Puts the entry of a word; nothing of a word that is none.
-fn put_entry(word: &[u8], out: &mut [u8], at: usize) -> usize
-    requires { at + length word.now + 9 ≤ length out.old }
-    ensures { Written out.old at (entry_bytes word.now) out.new result }
+fn put_entry(word: &[u8], out: &mut Cursor)
+    requires { Fits out.old (length word.now + 9) }
+    ensures { Puts out.old (entry_bytes word.now) out.new }
 {
-    match entry_in(word) {
-        Some((name, v)) => put_named(name, v, out, at),
-        None => at,
+    if let Some((name, v)) = entry_in(word) {
+        put_named(name, v, out);
     }
 }
 
 // Puts the entry of a word that was taken as one; nothing of any other word.
-pub(crate) fn put_taken(taken: bool, word: &[u8], out: &mut [u8], at: usize) -> usize
-    requires { at + length word.now + 9 ≤ length out.old }
-    ensures { Written out.old at (if taken then entry_bytes word.now else []) out.new result }
+pub(crate) fn put_taken(taken: bool, word: &[u8], out: &mut Cursor)
+    requires { Fits out.old (length word.now + 9) }
+    ensures { Puts out.old (if taken then entry_bytes word.now else []) out.new }
 {
-    if taken { put_entry(word, out, at) } else { at }
+    if taken {
+        put_entry(word, out);
+    }
 }

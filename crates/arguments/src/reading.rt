@@ -6,7 +6,7 @@ ghost use Rattle.arguments.specs.Requests.{put_wanted, take_wanted, take_chosen,
 ghost use Rattle.arguments.specs.Requests.{put_value, take_name, put_operand, take_entry, take_operand, is_option, is_help};
 ghost use Rattle.arguments.specs.Requests.{take_word, step_of, judge_output, judge_start, judge_options, judge_operands, judged};
 ghost use Rattle.arguments.specs.Requests.{request_of, entries_of};
-ghost use Rattle.numbers.specs.Writing.{Written};
+ghost use Rattle.text.specs.Cursor.{Written};
 
 use crate::entries::{entry_in, is_entry, put_taken};
 use crate::first_word::{is_at, next_word};
@@ -14,9 +14,11 @@ use crate::request::{Action, Destination, Flag, Kind, Problem, Request, Value, V
 use crate::values::{is_name, value_of};
 use crate::word_tables::{convention_in, edition_in, option_in, verb_in};
 use lines::rules::Rules;
+use text::Cursor;
 use words::integer_in;
 
 // An option begins with a -; a - alone is standard input.
+#[tactic(auto, using(laws::proofs::Std::tests_of_std))]
 fn is_option(word: &[u8]) -> bool
     ensures { result ≡ is_option word.now }
 {
@@ -336,12 +338,12 @@ pub fn put_entries(words: &[u8], out: &mut [u8]) -> usize
     let mut s = Request::begin();
     let mut k: u64 = 0;
     let mut left = words;
-    let mut end = 0;
+    let mut list = Cursor::new(out, 0);
     while let Some((word, rest)) = next_word(left) {
         s = s.step(k, word);
-        end = put_taken(is_at(s.entry, k), word, out, end);
+        put_taken(is_at(s.entry, k), word, &mut list);
         k += 1;
         left = rest;
     }
-    end
+    list.at
 }

@@ -36,7 +36,7 @@ const OPTIONS: [(&[u8], Flag); 10] = [
     (b"--choose", Flag::Choose),
 ];
 
-// Kept: conventions and editions are numbers, as the library's settings (`Rules`) have them for C.
+// Kept: conventions and editions are numbers, as the C interface hands them over and `Rules` of crate lines holds them.
 const CONVENTIONS: [(&[u8], u8); 3] = [(b"32", 0), (b"sysv", 1), (b"windows", 2)];
 
 const EDITIONS: [(&[u8], u8); 2] = [(b"2018", 0), (b"2024", 1)];

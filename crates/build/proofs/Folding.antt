@@ -186,9 +186,9 @@ module _ (tape area : Text) (line : List ℕ) where
 
   -- what a call answered, at the first three words
   module _ (edition : ℕ) (before : Option Token) where
-    pub next-few : length line < 3 → number_token none ≡ fold_next edition before (tokens_of tape area line)
+    pub next_few : length line < 3 → number_token none ≡ fold_next edition before (tokens_of tape area line)
     unfolding let_some◌else◌then◌
-    next-few h = fold-few edition before (tokens_of tape area line) (rw length-map h)
+    next_few h = fold-few edition before (tokens_of tape area line) (rw length-map h)
 
     module _ {x : Bool} (h : 3 ≤ length line) (ex : x ≡ delim_before before) where
       folded-words : {o : Option Token}
@@ -208,7 +208,10 @@ module _ (tape area : Text) (line : List ℕ) where
         unfolding let_some◌else◌then◌
         next_shut f = folded-words (folded_shut edition _ _ _ before _ (sym ex ∙ e) (sym after_is ∙ f))
 
-        pub next-sum : {o : Option ℤ} → y ≡ true
+        pub next_sum : {o : Option ℤ} → y ≡ true
             → o ≡ sum_of edition (token_of tape area (get_or line 0 0)) (token_of tape area (get_or line 1 0)) (token_of tape area (get_or line 2 0))
             → number_token o ≡ fold_next edition before (tokens_of tape area line)
-        next-sum f g = folded-words (ap number_token g ∙ folded-sum edition _ _ _ before _ (sym ex ∙ e) (sym after_is ∙ f))
+        next_sum f g = folded-words (ap number_token g ∙ folded-sum edition _ _ _ before _ (sym ex ∙ e) (sym after_is ∙ f))
+
+-- the cases of what a call answered
+pub ruleset what_next = (next_few, next_open, next_shut, next_sum)

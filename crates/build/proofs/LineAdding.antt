@@ -5,7 +5,6 @@ use native.Mathlib.Nat.{le_refl}
 use mathlib.Core.Path.{◌≡◌, ap, ◌∙◌}
 use mathlib.Core.List.{List, [], ◌∷◌, ◌++◌}
 use lib.ListN.{length, get_or, take, drop}
-use lib.Seq.{slice_empty}
 use Rattle.reference.specs.Text.{Text}
 use Rattle.reference.specs.Listing.{Token}
 use Rattle.reference.specs.Numbers.{merge, fold}
@@ -13,30 +12,15 @@ use Rattle.reference.specs.Claim.{sum, size, text_in}
 use Rattle.reference.proofs.Weights.{sum-append}
 use Rattle.joining.specs.Limits.{room, over}
 use Rattle.lines.specs.Words.{len_of, token_of, tokens_of, Points}
-use Rattle.lines.proofs.words.Tokens.{holds_none, text_length}
+use Rattle.lines.proofs.words.Tokens.{text_length}
 use Rattle.build.specs.declared.used.Size.{Size}
-use Rattle.build.specs.State.{used, line_now, Room, Appends, LineAdded}
+use Rattle.build.specs.State.{line_now, Room, Appends, LineAdded}
 use Rattle.build.specs.Folding.{signs_room, FoldedLast}
 use Rattle.build.proofs.Growing.{built_appended, line_appended, grows_appended}
-use Rattle.build.proofs.Pushes.{grows_none, grows_then, tokens_more, tokens-split}
+use Rattle.build.proofs.Pushes.{grows_then, tokens_more, tokens-split}
 use Rattle.build.proofs.Rooms.{room_covers}
 
 -- ---- kept, token by token
-
-module _ (tape : Text) {area : Text} {tokens : List ℕ} {at : Size} where
-  pub line_added_none : {n k : ℕ} → Room area tokens at n k → LineAdded tape area tokens at [] 0 0 area tokens at
-  line_added_none r = record {
-    built = record {
-      text_fits = omega (arith, r.text_fits);
-      words_fit = omega (arith, r.words_fit);
-      after = le_refl _;
-      holds = rw (slice_empty at.tokens tokens) (holds_none tape (used area at));
-    };
-    line_is = rw (slice_empty at.tokens tokens);
-    grows = grows_none;
-    text_most = omega arith;
-    words_most = omega arith;
-  }
 
 module _ {tape area : Text} {tokens : List ℕ} {at : Size} {out : List Token} {n k : ℕ} {area' : Text} {tokens' : List ℕ} {at' : Size}
     (l : LineAdded tape area tokens at out n k area' tokens' at') where

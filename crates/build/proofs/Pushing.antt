@@ -7,13 +7,13 @@ use mathlib.Core.Logic.{by_cases}
 use mathlib.Core.Path.{◌≡◌, refl, sym, ap, ◌∙◌}
 use mathlib.Core.Bool.{true, false}
 use mathlib.Core.List.{List, [], ◌∷◌, ◌++◌}
-use lib.Dec.{eqb, ltb}
+use lib.Dec.{eqb}
 use lib.ListN.{length, get_or}
 use lib.Seq.{slice, slice_empty}
-use borrow.Author.Tests.{eq-eqb, ne_eqb, ltb-true, eqb-true, lt-ltb, le-ltb}
+use borrow.Author.Tests.{eq-eqb, ltb-true, eqb-true, lt-ltb}
 use Rattle.reference.specs.Control.{◌and◌, ◌or◌}
 use Rattle.reference.specs.Text.{Text}
-use Rattle.reference.specs.Listing.{Token, token, Punct, Plain}
+use Rattle.reference.specs.Listing.{Token, token, Punct}
 use Rattle.reference.specs.Numbers.{joins}
 use Rattle.reference.specs.Claim.{size}
 use Rattle.reference.proofs.Cases.{both, true-false}
@@ -25,24 +25,12 @@ use Rattle.build.proofs.Merging.{push_joined, push_added, push_first, pushes_one
 
 -- ---- the tests
 
-pub joined_here : (k : ℕ) → k ≡ Punct → eqb k Punct ≡ joinable k
-unfolding joinable ◌or◌
-joined_here k e = rw (eq-eqb k Punct e)
-
-pub joined_else : (k : ℕ) → (k ≡ Punct → ⊥) → eqb k Plain ≡ joinable k
-unfolding joinable ◌or◌
-joined_else k n = rw (ne_eqb k Punct n)
-
 module _ (kind : ℕ) (tokens : List ℕ) (from : ℕ) (at : Size) where
-  pub extends-not : at.tokens ≤ from → ltb from at.tokens ≡ extends kind tokens from at
-  unfolding extends ◌and◌
-  extends-not h = rw (le-ltb from at.tokens h)
-
-  pub extends_is : {k : ℕ} → from < at.tokens → k ≡ kind_of (get_or tokens (at.tokens - 1) 0) → eqb k kind ≡ extends kind tokens from at
+  extends_is : {k : ℕ} → from < at.tokens → k ≡ kind_of (get_or tokens (at.tokens - 1) 0) → eqb k kind ≡ extends kind tokens from at
   unfolding extends ◌and◌
   extends_is h e = rw (lt-ltb from at.tokens h, e)
 
-  pub extends-true : extends kind tokens from at ≡ true → (from < at.tokens) × (kind_of (get_or tokens (at.tokens - 1) 0) ≡ kind)
+  extends-true : extends kind tokens from at ≡ true → (from < at.tokens) × (kind_of (get_or tokens (at.tokens - 1) 0) ≡ kind)
   unfolding extends
   extends-true e = (ltb-true _ _ (both e).0, eqb-true _ _ (both e).1)
 

@@ -4,10 +4,10 @@ use native.Mathlib.Omega.{arith}
 use native.Mathlib.Nat.{le_refl, add-zero}
 use native.Mathlib.Numerals.{add-one}
 use mathlib.Core.Path.{◌≡◌, refl, sym, ap, ◌∙◌}
-use mathlib.Core.List.{List, [], ◌∷◌, ◌++◌, map-append, append_assoc, append-nil}
+use mathlib.Core.List.{List, [], ◌∷◌, ◌++◌, map-append, append_assoc}
 use mathlib.Core.Option.{Option, none, some}
 use lib.IntN.{ℤ}
-use lib.ListN.{length, get_or, set, take, drop, length-set, length-map, length-drop, drop_of_length-le}
+use lib.ListN.{length, get_or, set, take, drop, length-set, length-map, length-drop}
 use lib.Seq.{take-take, take-suc-set, take-set-le, take_at, drop-set-lt, drop-cons, drop-drop, get_or-drop, get_or-set_same, length-take-le}
 use Rattle.reference.specs.Control.{let_some◌else◌then◌}
 use Rattle.reference.specs.Text.{Text}
@@ -17,10 +17,11 @@ use Rattle.joining.proofs.Room.{signs}
 use Rattle.lines.specs.Words.{buffer_of, start_of, word, token_of, tokens_of, Points, Holds}
 use Rattle.lines.proofs.words.Each.{each_one, each-drop, each_append, map-drop}
 use Rattle.lines.proofs.words.Tokens.{word_start, holds-drop, holds_append, holds_snoc, holds-prefix, holds-grows, tokens-prefix, tokens_grow}
-use Rattle.numbers.specs.Writing.{Written}
+use Rattle.text.specs.declared.cursor.Cursor.{Cursor}
+use Rattle.text.specs.Cursor.{Written, Puts}
 use Rattle.build.specs.declared.fold.Folding.{Folding}
 use Rattle.build.specs.State.{Fresh}
-use Rattle.build.specs.Folding.{number_token, last_of, fold_next, done_now, left_now, folds_to, signs_room, text_limit, Foldable, Stepped, Folded}
+use Rattle.build.specs.Folding.{number_token, last_of, fold_next, done_now, left_now, folds_to, signs_room, text_limit, Foldable, Stepped}
 use Rattle.build.proofs.Appending.{take_behind, behind-points, behind-means}
 use Rattle.build.proofs.Folding.{fold-kept, fold-made, fold-long, fold_begin, last_snoc, signs_drop}
 
@@ -219,8 +220,20 @@ module _ {tape area : Text} {line : List ℕ} {f : Folding} (s : Foldable tape a
               );
         }
 
-        pub stepped-made : Stepped edition tape area line f area' folded_line (record { kept = f.kept; next = f.next + 2; text = end })
+        stepped-made : Stepped edition tape area line f area' folded_line (record { kept = f.kept; next = f.next + 2; text = end })
         stepped-made = rw wr.end_is stepped
+
+    -- t was put by a cursor over the area, from the end of the text in use on
+    module _ {p p' : Cursor} (put : Puts p t p') (over : p.out.now ≡ area) (from : p.at ≡ f.text) where
+      made-written : Written area f.text t p'.out.now p'.at
+      made-written = rw (over, from) at put.written
+
+      pub made_short : p'.at - f.text < 65536
+      made_short = omega (arith, fold_text, fold-short, made-written.end_is)
+
+      pub stepped-put : {area' : Text} {v : ℕ} → v ≡ word Number 1 f.text (p'.at - f.text) → area' ≡ p'.out.now → length p'.out.now ≡ length p.out.now
+          → Stepped edition tape area line f area' (set line (f.next + 2) v) (record { kept = f.kept; next = f.next + 2; text = p'.at })
+      stepped-put ev there la = rw there (stepped-made made-written ev (la ∙ ap length over))
 
 -- ---- the loop
 
@@ -258,18 +271,3 @@ module _ (edition : ℕ) (tape : Text) (area₀ : Text) (line₀ : List ℕ) (n 
       limit = omega (arith, t.limit, s.limit);
       fresh = λ m h l. let q = t.fresh m h l in s.fresh m (omega (arith, t.text_grows)) q.0 q.1;
     }
-
-    pub turning_end : length line ≤ f.next → length line ≡ length line₀ → Folded edition tape area₀ line₀ n area line f
-    unfolding signs_room
-    turning_end over ll =
-        let none_left : drop f.next line ≡ [] = drop_of_length-le line over in
-        let e : folds_to edition tape area line f ≡ done_now tape area line f = rw none_left (append-nil _) in
-        record {
-          kept_inside = omega (arith, t.foldable.kept_first, t.foldable.inside);
-          holds = t.foldable.done;
-          line_is = sym e ∙ t.same;
-          text_grows = t.text_grows;
-          text_below = t.text_below;
-          text_most = omega (arith, t.limit);
-          fresh = λ m h l. (t.fresh m h l).0;
-        }

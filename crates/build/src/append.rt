@@ -1,4 +1,6 @@
 // Appending to a set: a word, a text, more text for the last token, a token of the old listing as it is.
+// Kept: the area and the tokens that are written are lent slices: with a struct of them each contract would have to say besides that the
+// same two are still lent, which is no plainer.
 ghost use Rattle.std.specs.Prelude.{◌≡◌, ◌++◌, ◌+◌, ◌-◌, ◌<◌, length, get_or};
 ghost use Rattle.reference.specs.Text.{Text};
 ghost use Rattle.reference.specs.Listing.{token};
@@ -6,6 +8,7 @@ ghost use Rattle.lines.specs.Words.{kind_of, buffer_of, start_of, len_of, text_o
 ghost use Rattle.build.specs.State.{used, last_word, Room, Appends};
 
 use crate::used::Size;
+use lines::texts::Texts;
 use lines::words;
 
 // Appends a token whose text is in the tape.
@@ -63,27 +66,14 @@ pub fn extend_last(s: &[u8], area: &mut [u8], tokens: &mut [u64], size: Size) ->
 }
 
 // Appends a token of the old listing as it is: a text in the tape stays there.
-pub fn keep<'a>(
-    tape: &'a [u8],
-    old: &'a [u8],
-    w: u64,
-    area: &mut [u8],
-    tokens: &mut [u64],
-    size: Size,
-) -> Size
-    requires { Points tape.now old.now w × Room area.old tokens.old size (len_of w) 1 }
-    ensures { Appends tape.now area.old tokens.old size size.tokens
-        (token_of tape.now old.now w) (len_of w) area.new tokens.new result }
+pub fn keep(texts: &Texts<'_>, w: u64, area: &mut [u8], tokens: &mut [u64], size: Size) -> Size
+    requires { Points texts.now.tape.now texts.now.area.now w × Room area.old tokens.old size (len_of w) 1 }
+    ensures { Appends texts.now.tape.now area.old tokens.old size size.tokens
+        (token_of texts.now.tape.now texts.now.area.now w) (len_of w) area.new tokens.new result }
 {
     if words::buffer(w) == words::IN_TAPE {
         add_word(w, tokens, size)
     } else {
-        add_text(
-            words::kind(w),
-            words::text(tape, old, w),
-            area,
-            tokens,
-            size,
-        )
+        add_text(words::kind(w), words::text(texts, w), area, tokens, size)
     }
 }

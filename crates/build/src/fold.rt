@@ -1,18 +1,22 @@
 // Numbers folded in place (`fold` of the Rust): `n + m` and `n - m` between plain delimiters, with a read and a write index. What a fold
 // makes is put at the end of the text in use, and looked at again.
+// Kept: the area and the line that are written are lent slices, and the tape stands beside them: with a struct of them each contract would
+// have to say besides that the same two are still lent, which is no plainer.
 ghost use Rattle.std.specs.Prelude.{◌≡◌, ◌+◌, ◌≤◌, ◌<◌, length, take, drop};
 ghost use Rattle.reference.specs.Options.{option_of};
 ghost use Rattle.reference.specs.Control.{◌or◌};
 ghost use Rattle.reference.specs.Text.{bytes, ◌≟◌};
 ghost use Rattle.reference.specs.Numbers.{delim_before, delim_after};
-ghost use Rattle.lines.specs.Words.{token_of, tokens_of, Points, Holds};
 ghost use Rattle.build.specs.Folding.{operated, sum_of, number_token, last_of, fold_next, Foldable, Stepped, Folded, signs_room};
 ghost use Rattle.build.specs.Folding.{FoldedLast};
 ghost use Rattle.build.specs.State.{line_now, Room, Built};
+ghost use Rattle.lines.specs.Texts.{Holds, Points, token_of, tokens_of};
 
 use crate::used::Size;
+use lines::texts::Texts;
 use lines::words;
 use numbers::{put_number, read_number, wrapping_add, wrapping_sub};
+use text::Cursor;
 
 // a + b or a - b, where both were read.
 fn operate(plus: bool, a: Option<i64>, b: Option<i64>) -> Option<i64>
@@ -28,6 +32,7 @@ fn operate(plus: bool, a: Option<i64>, b: Option<i64>) -> Option<i64>
 }
 
 // Whether a token between two numbers is an operator that folds.
+#[tactic(auto, using(laws::proofs::Std::tests_of_std))]
 fn is_sign(s: &[u8]) -> bool
     ensures { result ≡ ((s.now ≟ bytes " + ") or (s.now ≟ bytes " - ")) }
 {
@@ -35,73 +40,63 @@ fn is_sign(s: &[u8]) -> bool
 }
 
 // The sum or the difference of two Numbers around an operator token, read by an edition.
-fn sum_of<'a>(
-    tape: &'a [u8],
-    area: &'a [u8],
-    left: u64,
-    operator: u64,
-    right: u64,
-    edition: u8,
-) -> Option<i64>
-    requires { Points tape.now area.now left × Points tape.now area.now operator × Points tape.now area.now right }
-    ensures { option_of result ≡ sum_of edition (token_of tape.now area.now left)
-        (token_of tape.now area.now operator) (token_of tape.now area.now right) }
+fn sum_of(texts: &Texts<'_>, left: u64, operator: u64, right: u64, edition: u8) -> Option<i64>
+    requires { Points texts.now left × Points texts.now operator × Points texts.now right }
+    ensures { option_of result ≡ sum_of edition (token_of texts.now left)
+        (token_of texts.now operator) (token_of texts.now right) }
 {
     if words::kind(left) != words::NUMBER || words::kind(right) != words::NUMBER {
         return None;
     }
-    let sign = words::text(tape, area, operator);
+    let sign = words::text(texts, operator);
     if !is_sign(sign) {
         return None;
     }
     operate(
         text::is_plus(sign),
-        read_number(edition, words::text(tape, area, left)),
-        read_number(edition, words::text(tape, area, right)),
+        read_number(edition, words::text(texts, left)),
+        read_number(edition, words::text(texts, right)),
     )
 }
 
 // Whether the tokens before a fold end with a delimiter, or are none.
-fn delimited_before<'a>(tape: &'a [u8], area: &'a [u8], before: &'a [u64]) -> bool
-    requires { Holds tape.now area.now before.now }
-    ensures { result ≡ delim_before (last_of (tokens_of tape.now area.now before.now)) }
+#[tactic(auto, using(crate::proofs::Folding::before_none, crate::proofs::Folding::before_at))]
+fn delimited_before(texts: &Texts<'_>, before: &[u64]) -> bool
+    requires { Holds texts.now before.now }
+    ensures { result ≡ delim_before (last_of (tokens_of texts.now before.now)) }
 {
     match before.last() {
-        Some(w) => text::delimits_before(words::text(tape, area, *w)),
+        Some(w) => text::delimits_before(words::text(texts, *w)),
         None => true,
     }
 }
 
 // Whether the tokens after a fold begin with a delimiter, or are none.
-fn delimited_after<'a>(tape: &'a [u8], area: &'a [u8], after: &'a [u64]) -> bool
-    requires { Holds tape.now area.now after.now }
-    ensures { result ≡ delim_after (tokens_of tape.now area.now after.now) }
+#[tactic(auto, using(crate::proofs::Folding::after_none, crate::proofs::Folding::after_at))]
+fn delimited_after(texts: &Texts<'_>, after: &[u64]) -> bool
+    requires { Holds texts.now after.now }
+    ensures { result ≡ delim_after (tokens_of texts.now after.now) }
 {
     match after.first() {
-        Some(w) => text::delimits_after(words::text(tape, area, *w)),
+        Some(w) => text::delimits_after(words::text(texts, *w)),
         None => true,
     }
 }
 
 // What the first three tokens of the rest of a line fold to, between plain delimiters; `before` stands before them.
-fn fold_value<'a>(
-    tape: &'a [u8],
-    area: &'a [u8],
-    before: &'a [u64],
-    rest: &'a [u64],
-    edition: u8,
-) -> Option<i64>
-    requires { Holds tape.now area.now before.now × Holds tape.now area.now rest.now }
-    ensures { number_token (option_of result) ≡ fold_next edition (last_of (tokens_of tape.now area.now before.now))
-        (tokens_of tape.now area.now rest.now) }
+#[tactic(auto, using(crate::proofs::Folding::what_next))]
+fn fold_value(texts: &Texts<'_>, before: &[u64], rest: &[u64], edition: u8) -> Option<i64>
+    requires { Holds texts.now before.now × Holds texts.now rest.now }
+    ensures { number_token (option_of result) ≡ fold_next edition (last_of (tokens_of texts.now before.now))
+        (tokens_of texts.now rest.now) }
 {
     let [left, operator, right, after @ ..] = rest else {
         return None;
     };
-    if !delimited_before(tape, area, before) || !delimited_after(tape, area, after) {
+    if !delimited_before(texts, before) || !delimited_after(texts, after) {
         return None;
     }
-    sum_of(tape, area, *left, *operator, *right, edition)
+    sum_of(texts, *left, *operator, *right, edition)
 }
 
 // How far the folding of a line has come: its first `kept` words are done, those from `next` on are still to be seen; `text` is the text in
@@ -124,9 +119,11 @@ fn fold_step(tape: &[u8], area: &mut [u8], line: &mut [u64], f: Folding, edition
         text: at,
     } = f;
     let seen = &line[..];
-    match fold_value(tape, area, &seen[..kept], &seen[next..], edition) {
+    match fold_value(&Texts { tape, area }, &seen[..kept], &seen[next..], edition) {
         Some(v) => {
-            let end = put_number(v, area, at);
+            let mut out = Cursor::new(area, at);
+            put_number(v, &mut out);
+            let end = out.at;
             let to = next + 2;
             line[to] = words::token_word(words::NUMBER, words::IN_AREA, at, end - at);
             Folding {
@@ -147,6 +144,7 @@ fn fold_step(tape: &[u8], area: &mut [u8], line: &mut [u64], f: Folding, edition
 }
 
 // Folds a line's words, with `text` bytes in use.
+#[tactic(auto, using(crate::proofs::Stepping::turning_begin, crate::proofs::Stepping::turning_again))]
 fn fold(tape: &[u8], area: &mut [u8], line: &mut [u64], text: usize, edition: u8) -> Folding
     requires { Foldable tape.now area.old line.old (record { kept = 0; next = 0; text = text }) }
     ensures { Folded edition tape.now area.old line.old text area.new line.new result }
@@ -156,7 +154,8 @@ fn fold(tape: &[u8], area: &mut [u8], line: &mut [u64], text: usize, edition: u8
         next: 0,
         text,
     };
-    // Kept: a step goes one word or two on, and what it makes is read again.
+    // Kept: a step goes one word or two on, so no range yields the places; a `for` over as many turns as there are words would need this
+    // test besides, to stop early.
     while f.next < line.len() {
         f = fold_step(tape, area, line, f, edition);
     }

@@ -1,4 +1,3 @@
 -- Laws that the proofs of clean cite: what a loaded tape gives to a run and what the run leaves to write (Running), and replies (Replying).
 pub mod Running
-pub mod Profiling
 pub mod Replying

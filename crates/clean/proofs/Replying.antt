@@ -11,21 +11,19 @@ use Rattle.reference.specs.Listing.{Listing}
 use Rattle.reference.specs.Rules.{Rules}
 use Rattle.reference.specs.Questions.{is_convention, is_edition, has_room_by, has_room, Refused, Passed, let_passed◌then◌, read}
 use Rattle.reference.specs.Straight.{breaks}
-use Rattle.reference.specs.Reply.{Cleaned, Reply, Told, told, Report, ask_profile, reply_by, reply, output_after, work_after, report}
+use Rattle.reference.specs.Reply.{Cleaned, Reply, told, Report, ask_profile, reply_by, reply, output_after, work_after, report}
 use Rattle.reference.proofs.Cases.{both}
 use Rattle.reference.proofs.Reading.{Yes, passed_inj, ask-yes, let_refused, let_is}
 use Rattle.reference.proofs.Guarantee.{demand3-tape}
 use Rattle.straight.specs.Meaning.{Meaning}
 use Rattle.straight.proofs.Cleaning.{call-means}
-use Rattle.rounds.specs.Runs.{tally_of}
 use Rattle.tape.specs.Questions.{first_no, sizes_in, checked, AcceptedTape}
 use Rattle.tape.specs.declared.questions.Totals.{Totals}
 use Rattle.tape.proofs.questions.Reading.{accepted_by}
 use Rattle.tape.proofs.questions.Asking.{none_no, ask_number}
-use Rattle.clean.specs.Replies.{told_of, finished_report, report_of, Summary, summary_of, answer_of, summary, Leaves, Cleans, cleaned, outside}
+use Rattle.clean.specs.Replies.{finished_report, report_of, Summary, summary_of, answer_of, summary, Leaves, Cleans, cleaned, outside}
 use Rattle.clean.specs.Cleaning.{Cleanable, Finishes}
 use Rattle.clean.specs.declared.cleaning.Finished.{Finished}
-use Rattle.clean.specs.declared.told.Told as Code
 use Rattle.answers.specs.declared.Reason.{Reason}
 use Rattle.answers.specs.declared.Reason.TheVariants as reason
 use Rattle.answers.specs.declared.Refusal.{Refusal}
@@ -82,22 +80,6 @@ report_is rules tape input f e = ap report_with (passed_inj e)
 -- the questions 1, 9 and 2, of the settings and of the lengths of what is lent
 abbrev door : Rules → ℕ → ℕ → ℕ → List (ℕ × Bool)
 door rules work_a work_b output = (1, is_convention rules) ∷ (9, is_edition rules) ∷ (2, has_room work_a work_b output) ∷ []
-
--- what a call does is said of any reply that is the same
-pub same_reply : {rules : Rules} {tape work_a work_b out work-a' work-b' out' : List ℕ} {r s : Result Finished Refusal} → r ≡ s
-    → Cleans rules tape work_a work_b out work-a' work-b' out' (report_of r) → Cleans rules tape work_a work_b out work-a' work-b' out' (report_of s)
-same_reply e h = rw e at h
-
--- a finished call's report, in which x is told of the rounds
-abbrev telling : Finished → Told → Report
-telling f x = record { refusal = 0; place = 0; length = f.length; told = x; removed = f.removed; cut = f.cut }
-
--- the same in the struct that C gets
-pub same_told : {rules : Rules} {tape work_a work_b out work-a' work-b' out' : List ℕ} (f : Finished) (t : Code.Told) → told_of t ≡ told (tally_of f.tally)
-    → Cleans rules tape work_a work_b out work-a' work-b' out' (finished_report f)
-    → Cleans rules tape work_a work_b out work-a' work-b' out' (telling f (told_of t))
-same_told {rules} {tape} {work_a} {work_b} {out} {work-a'} {work-b'} {out'} f t e h =
-    subst (λ (x : Told). Cleans rules tape work_a work_b out work-a' work-b' out' (telling f x)) (sym e) h
 
 module _ (rules : Rules) (tape work_a work_b out : List ℕ) where
   abbrev answer : Reply

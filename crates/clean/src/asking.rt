@@ -8,6 +8,7 @@ ghost use Rattle.lines.specs.Rules.{rules_of};
 ghost use Rattle.tape.specs.Questions.{AcceptedTape};
 ghost use Rattle.clean.specs.Replies.{outside};
 
+use lines::marks::Marks;
 use lines::rules::Rules;
 
 // The first line that breaks the profile. The tables are this function's own, so a call without the profile has no part in them.
@@ -18,20 +19,13 @@ fn broken(tape: &[u8]) -> Option<usize>
     let mut tokens = [0u64; 1024];
     let mut lines = [0u64; 256];
     let mut addresses = [0u64; 256];
-    let mut lows = [0u64; 256];
-    let mut highs = [0u64; 256];
-    let loaded = tables::load(
-        tape,
-        &mut tokens,
-        &mut lines,
-        &mut addresses,
-        &mut lows,
-        &mut highs,
-    );
+    let mut marks = [Marks { low: 0, high: 0 }; 256];
+    let loaded = tables::load(tape, &mut tokens, &mut lines, &mut addresses, &mut marks);
     formula::breaks(tape, &tokens[..loaded.tokens], &lines[..loaded.lines])
 }
 
 // The first line that breaks the profile, where the profile is asked for.
+#[tactic(auto, using(laws::proofs::Std::tests_of_std))]
 pub fn outside_profile(rules: Rules, tape: &[u8]) -> Option<usize>
     requires { AcceptedTape tape.now }
     ensures { (input : Listing) → read tape.now ≡ Passed input → option_of result ≡ outside (rules_of rules) input }

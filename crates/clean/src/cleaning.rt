@@ -1,14 +1,19 @@
 // The cleaning of a tape that passed all questions.
+// Kept: the slices that are written to are parameters of their own. A struct of them is no plainer: each contract would have to say,
+// besides, that it still lends the same slices.
 ghost use Rattle.std.specs.Prelude.{◌≡◌};
-ghost use Rattle.reference.specs.Listing.{Listing};
+ghost use Rattle.reference.specs.Listing as reference;
 ghost use Rattle.reference.specs.Questions.{Passed, read};
 ghost use Rattle.lines.specs.Rules.{rules_of};
 ghost use Rattle.rounds.specs.Runs.{Ran};
 ghost use Rattle.clean.specs.Replies.{cleaned};
 ghost use Rattle.clean.specs.Cleaning.{Loadable, Writable, ReplyWritten, Cleanable, Finishes};
+ghost use Rattle.lines.specs.Marks.{highs_of, lows_of};
 
 use build::used::Size;
+use lines::marks::Marks;
 use lines::rules::Rules;
+use lines::texts::{Listing, Texts};
 use rounds::{Outcome, Tally, optimize};
 
 // What a cleaning did: the output's length, what is told of the rounds, the lines removed and the results cut.
@@ -20,21 +25,20 @@ pub struct Finished {
     pub cut: u64,
 }
 
-// Cleans a listing that was loaded into the tables, in which the texts are all in the tape; `lows` and `highs` have the marks of its lines.
+// Cleans a listing that was loaded into the tables, in which the texts are all in the tape; `marks` has the marks of its lines.
 fn optimized(
     tape: &[u8],
     area: &mut [u8],
     tokens: &mut [u64],
     lines: &mut [u64],
     area2: &mut [u8],
-    lows: &mut [u64],
-    highs: &mut [u64],
+    marks: &mut [Marks],
     size: Size,
     rules: Rules,
 ) -> Outcome
-    requires { Loadable tape.now area.old tokens.old lines.old area2.old lows.old highs.old size }
-    ensures { Ran (rules_of rules) tape.now area.old tokens.old lines.old lows.old highs.old size area.new
-        tokens.new lines.new lows.new highs.new result }
+    requires { Loadable tape.now area.old tokens.old lines.old area2.old (lows_of marks.old) (highs_of marks.old) size }
+    ensures { Ran (rules_of rules) tape.now area.old tokens.old lines.old (lows_of marks.old) (highs_of marks.old) size area.new
+        tokens.new lines.new (lows_of marks.new) (highs_of marks.new) result }
 {
     let mut tokens2 = [0u64; 2048];
     let mut labels = [0u64; 256];
@@ -47,8 +51,7 @@ fn optimized(
         lines,
         area2,
         &mut tokens2,
-        lows,
-        highs,
+        marks,
         &mut labels,
         &mut slots,
         &mut slot_words,
@@ -60,22 +63,14 @@ fn optimized(
 // Cleans a tape that passed all questions into the output. The areas are only worked in.
 fn written(rules: Rules, tape: &[u8], area: &mut [u8], area2: &mut [u8], out: &mut [u8]) -> Finished
     requires { Writable tape.now area.old area2.old out.old }
-    ensures { (input : Listing) → read tape.now ≡ Passed input
+    ensures { (input : reference.Listing) → read tape.now ≡ Passed input
         → ReplyWritten (cleaned (rules_of rules) tape.now input) out.old out.new result }
 {
     let mut tokens = [0u64; 2048];
     let mut lines = [0u64; 256];
     let mut addresses = [0u64; 256];
-    let mut lows = [0u64; 256];
-    let mut highs = [0u64; 256];
-    let loaded = tables::load(
-        tape,
-        &mut tokens,
-        &mut lines,
-        &mut addresses,
-        &mut lows,
-        &mut highs,
-    );
+    let mut marks = [Marks { low: 0, high: 0 }; 256];
+    let loaded = tables::load(tape, &mut tokens, &mut lines, &mut addresses, &mut marks);
     let size = Size {
         lines: loaded.lines,
         tokens: loaded.tokens,
@@ -87,8 +82,7 @@ fn written(rules: Rules, tape: &[u8], area: &mut [u8], area2: &mut [u8], out: &m
         &mut tokens,
         &mut lines,
         area2,
-        &mut lows,
-        &mut highs,
+        &mut marks,
         size,
         rules,
     );
@@ -97,16 +91,15 @@ fn written(rules: Rules, tape: &[u8], area: &mut [u8], area2: &mut [u8], out: &m
         tokens: used,
         text,
     } = r.size;
-    let length = tables::write(
-        tape,
-        &area[..text],
-        &tokens[..used],
-        &lines[..n],
-        &addresses,
-        &lows,
-        &highs,
-        out,
-    );
+    let listing = Listing {
+        texts: Texts {
+            tape,
+            area: &area[..text],
+        },
+        tokens: &tokens[..used],
+        lines: &lines[..n],
+    };
+    let length = tables::write(&listing, &addresses, &marks, out);
     Finished {
         length,
         tally: r.tally,
@@ -127,7 +120,7 @@ pub fn finish(
     out: &mut [u8],
 ) -> Finished
     requires { Cleanable tape.now work_a.old work_b.old out.old }
-    ensures { (input : Listing) → read tape.now ≡ Passed input → Finishes (cleaned (rules_of rules) tape.now input)
+    ensures { (input : reference.Listing) → read tape.now ≡ Passed input → Finishes (cleaned (rules_of rules) tape.now input)
         work_a.old work_b.old out.old work_a.new work_b.new out.new result }
 {
     let r = written(

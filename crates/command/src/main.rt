@@ -104,6 +104,7 @@ impl Call<'_> {
     // The result of a call beside the cleaning: the front of its output.
     fn deliver_front(&self, name: &[u8], out: &[u8], answer: Answer) -> Result<(), Refusal> {
         let n = answer?;
+        // Kept: an answer is a u64, as C has it; std has no `From` of it for usize, and the error of `try_from` cannot come: no plainer.
         self.deliver(name, front(out, n as usize));
         Ok(())
     }
@@ -113,7 +114,7 @@ impl Call<'_> {
 
 fn tell_refusal_line(refused: Refusal) {
     let mut line = [0u8; 256];
-    let n = reports::put_refusal(refused, &mut line);
+    let n = reports::put_refused(refused, &mut line);
     tell(front(&line, n));
 }
 
@@ -126,9 +127,15 @@ pub(crate) fn print_decimal(n: u64) {
     io::print_decimal(STDOUT, n);
 }
 
+// How many there are of something, as a number that is printed.
+// Kept: std has no `From` of usize for u64, and the error of `try_from`, which cannot come, would want an answer: no plainer.
+fn count_of(n: usize) -> u64 {
+    n as u64
+}
+
 fn print_counts(rt: &HostRuntime, length: usize, tally: Tally, removed: u64, cut: u64) {
     let mut line = [0u8; 256];
-    let n = reports::put_counts(length as u64, tally, removed, cut, &mut line);
+    let n = reports::put_counts(count_of(length), tally, removed, cut, &mut line);
     write_output(rt, front(&line, n));
 }
 
@@ -147,8 +154,8 @@ fn tell_no_memory() {
 
 // ---- a start value
 
-// By way of a buffer for the list of the words' entries.
-fn start_by<'a>(
+// Asks for the start value, by way of a buffer for the list of the words' entries, and prints its line.
+fn print_start_value<'a>(
     rt: &HostRuntime,
     words: &'a [u8],
     s: Request,
@@ -176,7 +183,7 @@ fn start_one<'a>(
     tape: &'a [u8],
 ) -> Result<(), Refusal> {
     match vec![in rt.alloc(); 0u8; 589833] {
-        Ok(mut list) => start_by(rt, words, s, tape, &mut list),
+        Ok(mut list) => print_start_value(rt, words, s, tape, &mut list),
         Err(_) => {
             tell_no_memory();
             Ok(())
@@ -218,11 +225,11 @@ impl Call<'_> {
         let totals = tape::check::<false>(tape)?;
         self.print_name(name);
         write_output(self.rt, b"accepted, lines ");
-        print_decimal(totals.lines as u64);
+        print_decimal(count_of(totals.lines));
         write_output(self.rt, b", tokens ");
-        print_decimal(totals.tokens as u64);
+        print_decimal(count_of(totals.tokens));
         write_output(self.rt, b", bytes of text ");
-        print_decimal(totals.text as u64);
+        print_decimal(count_of(totals.text));
         write_output(self.rt, b"\n");
         Ok(())
     }
@@ -307,7 +314,9 @@ impl Call<'_> {
 
     // The page of a cleaning, to what is open, and whether all of it was written.
     fn put_page(&self, fd: i32, name: &[u8], tape: &[u8], fin: &[u8], counts: Counts) -> bool {
-        put_page(Sink { fd }, self.request.rules, name, tape, fin, counts).is_ok()
+        let mut sink = Sink { fd, done: true };
+        put_page(&mut sink, self.request.rules, name, tape, fin, counts);
+        sink.done
     }
 
     // To standard output.

@@ -115,7 +115,8 @@ impl Call<'_> {
         }
     }
 
-    fn act_by(&self, action: Action, at: &[u8], store: &mut [u8]) {
+    // Reads a store and does what is asked with it.
+    fn act_on_file(&self, action: Action, at: &[u8], store: &mut [u8]) {
         match self.read_store(action, at, store) {
             Ok(STORE) => {
                 if let Some(whole) = store.get_mut(..STORE) {
@@ -138,7 +139,7 @@ impl Call<'_> {
             return;
         };
         match vec![in self.rt.alloc(); 0u8; 524289] {
-            Ok(mut store) => self.act_by(action, self.word(self.request.first), &mut store),
+            Ok(mut store) => self.act_on_file(action, self.word(self.request.first), &mut store),
             Err(_) => tell_no_memory(),
         }
     }

@@ -67,14 +67,14 @@ module _ (tape area : Text) (ws : List ℕ) where
       and (text_of tape area (get_or ws 1 0) ≟ bytes " = ")
 
   module _ (r : std.Option ℕ) (h : option_of r ≡ call_in (tokens_of tape area ws)) where
-    pub called-inside : r ≡ Some 2 → 2 < length ws
-    called-inside e = rw (length-map ws (token_of tape area)) at (called-long (tokens_of tape area ws) (found_is h e))
+    pub called_inside : r ≡ Some 2 → 2 < length ws
+    called_inside e = rw (length-map ws (token_of tape area)) at (called-long (tokens_of tape area ws) (found_is h e))
 
     keeps-at : r ≡ Some 2 → keeps_result (tokens_of tape area ws) ≡ to_rax
     unfolding keeps_result let_some◌else◌then◌ ◌and◌
     keeps-at e =
-        let first = get_at (token_of tape area) ws 0 (omega (arith, called-inside e)) in
-        let second = get_at (token_of tape area) ws 1 (omega (arith, called-inside e)) in
+        let first = get_at (token_of tape area) ws 0 (omega (arith, called_inside e)) in
+        let second = get_at (token_of tape area) ws 1 (omega (arith, called_inside e)) in
         rw (found_is h e, first, second)
 
     keeps_none : r ≡ None → keeps_result (tokens_of tape area ws) ≡ false
@@ -167,9 +167,6 @@ module _ (tape area : Text) (tokens : List ℕ) (l : ℕ) (h : Lined tape area t
 
 module _ {tape area : Text} {tokens lines labels : List ℕ} (c : Cuttable tape area tokens lines labels) (rules : Rules) (i : ℕ) (h : i < length lines)
     {x : Bool} (ex : x ≡ dead_at rules tape area tokens lines labels i) where
-  pub dropped-kept : x ≡ false → Dropped rules tape area tokens lines labels i lines x
-  dropped-kept f = record { told = ex; kept = λ e. refl; cut = λ e. absurd (true-false e (sym ex ∙ f)) }
-
   module _ (t : x ≡ true) where
     long : 2 < count_of (get_or lines i 0)
     long = dead-long rules tape area tokens lines labels i h (sym ex ∙ t)
@@ -262,9 +259,6 @@ module _ {rules : Rules} {tape area : Text} {tokens start labels : List ℕ} whe
   }
 
   module _ {lines : List ℕ} {n i : ℕ} (s : Cutting rules tape area tokens start labels lines n i) where
-    pub cutting_now : length tokens ≤ 65536 → Cuttable tape area tokens lines labels
-    cutting_now h = record { listed = s.listed; short = h; labelled = s.labelled }
-
     module _ (h : i < length lines) {lines' : List ℕ} {r : Bool} (d : Dropped rules tape area tokens lines labels i lines' r) where
       -- the same of the listing with its addresses
       dead_same : {b : Bool} (addresses : Reading) → dead_at rules tape area tokens lines labels i ≡ b
@@ -320,9 +314,6 @@ module _ (tape area : Text) (tokens lines : List ℕ) {before after : List ℕ} 
     (g : Gathered (label_places 0 (bare_listing tape area tokens lines)) before after n) where
   gathered_front : take n after ≡ label_places 0 (bare_listing tape area tokens lines)
   gathered_front = rw g.is (take_at _ _ n (sym g.size))
-
-  pub gathered_inside : n ≤ length after
-  gathered_inside = rw (g.is, length-append) (omega (arith, g.size))
 
   pub gathered_labelled : Labelled (bare_listing tape area tokens lines) (take n after)
   gathered_labelled = rw gathered_front (labelled_begin (bare_listing tape area tokens lines))

@@ -1,2 +1,3 @@
--- What the cuts find and what they leave.
+-- What the cuts find and what they leave; the same of the struct in which the texts are lent.
 pub mod Cuts
+pub mod Texts

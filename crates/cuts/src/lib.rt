@@ -5,64 +5,63 @@ ghost use Rattle.std.specs.Prelude.{◌≡◌, ◌<◌, ◌≤◌, length};
 ghost use Rattle.reference.specs.Run.{drop_dead_results};
 ghost use Rattle.joining.specs.Rounds.{cuts};
 ghost use Rattle.lines.specs.Rules.{rules_of};
-ghost use Rattle.lines.specs.Words.{tokens_of, Holds};
 ghost use Rattle.lines.specs.Lines.{Listed};
-ghost use Rattle.cuts.specs.Cuts.{keeps_result, Cuttable, labels_now, dead_at, Dropped, Cut};
+ghost use Rattle.lines.specs.Texts.{Holds, tokens_of};
+ghost use Rattle.cuts.specs.Cuts.{keeps_result};
+ghost use Rattle.cuts.specs.Texts.{Cuttable, labels_now, dead_at, Dropped, Cut};
 
 use life::{Followed, dead_after, gather_labels};
 use lines::rules::Rules;
+use lines::texts::{Listing, Texts};
 use lines::{shapes, words};
 use names::RAX;
 use text::{is_assign, is_result_name};
 
 // Whether a line assigns the result of a call to rax or eax.
-fn keeps_result<'a>(tape: &'a [u8], area: &'a [u8], line: &'a [u64]) -> bool
-    requires { Holds tape.now area.now line.now }
-    ensures { result ≡ keeps_result (tokens_of tape.now area.now line.now) }
+#[tactic(auto, using(crate::proofs::Cutting::called_inside))]
+fn keeps_result(texts: &Texts<'_>, line: &[u64]) -> bool
+    requires { Holds texts.now line.now }
+    ensures { result ≡ keeps_result (tokens_of texts.now line.now) }
 {
-    shapes::call_at(tape, area, line) == Some(2)
-        && is_result_name(words::text(tape, area, line[0]))
-        && is_assign(words::text(tape, area, line[1]))
+    shapes::call_at(texts, line) == Some(2)
+        && is_result_name(words::text(texts, line[0]))
+        && is_assign(words::text(texts, line[1]))
 }
 
 // Whether line i assigns a result that is never read.
-fn is_dead_result<'a>(
-    tape: &'a [u8],
-    area: &'a [u8],
-    tokens: &'a [u64],
-    lines: &'a [u64],
-    labels: &'a [u64],
-    i: usize,
-    rules: Rules,
-) -> bool
-    requires { Cuttable tape.now area.now tokens.now lines.now labels.now × (i < length lines.now) }
-    ensures { result ≡ dead_at (rules_of rules) tape.now area.now tokens.now lines.now labels.now i }
+fn is_dead_result(listing: &Listing<'_>, labels: &[u64], i: usize, rules: Rules) -> bool
+    requires { Cuttable listing.now.texts listing.now.tokens.now listing.now.lines.now labels.now × (i < length listing.now.lines.now) }
+    ensures { result ≡ dead_at (rules_of rules) listing.now.texts listing.now.tokens.now listing.now.lines.now labels.now i }
 {
-    let l = lines[i];
+    let l = listing.lines[i];
     let v = Followed {
         family: RAX,
         indent: words::indent(l),
         start: i,
         rules,
     };
-    keeps_result(tape, area, words::line_of(tokens, l))
-        && dead_after(tape, area, tokens, lines, labels, i, v)
+    keeps_result(&listing.texts, words::line_of(listing.tokens, l))
+        && dead_after(listing, labels, i, v)
 }
 
 // Cuts the result of line i off, if it is never read, and says whether it is.
-fn drop_at<'a>(
-    tape: &'a [u8],
-    area: &'a [u8],
-    tokens: &'a [u64],
+fn drop_at(
+    texts: &Texts<'_>,
+    tokens: &[u64],
     lines: &mut [u64],
-    labels: &'a [u64],
+    labels: &[u64],
     i: usize,
     rules: Rules,
 ) -> bool
-    requires { Cuttable tape.now area.now tokens.now lines.old labels.now × (i < length lines.old) }
-    ensures { Dropped (rules_of rules) tape.now area.now tokens.now lines.old labels.now i lines.new result }
+    requires { Cuttable texts.now tokens.now lines.old labels.now × (i < length lines.old) }
+    ensures { Dropped (rules_of rules) texts.now tokens.now lines.old labels.now i lines.new result }
 {
-    if !is_dead_result(tape, area, tokens, lines, labels, i, rules) {
+    let listing = Listing {
+        texts: *texts,
+        tokens,
+        lines,
+    };
+    if !is_dead_result(&listing, labels, i, rules) {
         return false;
     }
     let l = lines[i];
@@ -71,21 +70,20 @@ fn drop_at<'a>(
 }
 
 // Cuts the dead results of all lines, in turn, the labels standing at these places, and says how many results that is.
-fn drop_results<'a>(
-    tape: &'a [u8],
-    area: &'a [u8],
-    tokens: &'a [u64],
+fn drop_results(
+    texts: &Texts<'_>,
+    tokens: &[u64],
     lines: &mut [u64],
-    labels: &'a [u64],
+    labels: &[u64],
     rules: Rules,
 ) -> u64
-    requires { Cuttable tape.now area.now tokens.now lines.old labels.now }
-    ensures { Cut (cuts (rules_of rules) (labels_now tape.now area.now tokens.now lines.old labels.now) 0) tape.now
-        area.now tokens.now lines.old lines.new result }
+    requires { Cuttable texts.now tokens.now lines.old labels.now }
+    ensures { Cut (cuts (rules_of rules) (labels_now texts.now tokens.now lines.old labels.now) 0) texts.now tokens.now lines.old
+        lines.new result }
 {
     let mut cut = 0;
     for i in 0..lines.len() {
-        if drop_at(tape, area, tokens, lines, labels, i, rules) {
+        if drop_at(texts, tokens, lines, labels, i, rules) {
             cut += 1;
         }
     }
@@ -93,18 +91,22 @@ fn drop_results<'a>(
 }
 
 // `rax = f(..);` becomes `f(..);` where the result is never read; says how often.
-pub fn drop_dead_results<'a>(
-    tape: &'a [u8],
-    area: &'a [u8],
-    tokens: &'a [u64],
+pub fn drop_dead_results(
+    texts: &Texts<'_>,
+    tokens: &[u64],
     lines: &mut [u64],
     labels: &mut [u64],
     rules: Rules,
 ) -> u64
-    requires { Listed tape.now area.now tokens.now lines.old × (length tokens.now ≤ 65536)
+    requires { Listed texts.now.tape.now texts.now.area.now tokens.now lines.old × (length tokens.now ≤ 65536)
         × (length lines.old ≤ length labels.old) }
-    ensures { Cut (drop_dead_results (rules_of rules)) tape.now area.now tokens.now lines.old lines.new result }
+    ensures { Cut (drop_dead_results (rules_of rules)) texts.now tokens.now lines.old lines.new result }
 {
-    let known = gather_labels(tape, area, tokens, lines, labels);
-    drop_results(tape, area, tokens, lines, &labels[..known], rules)
+    let listing = Listing {
+        texts: *texts,
+        tokens,
+        lines,
+    };
+    let known = gather_labels(&listing, labels);
+    drop_results(texts, tokens, lines, &labels[..known], rules)
 }

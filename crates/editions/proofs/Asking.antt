@@ -25,13 +25,15 @@ use Rattle.reference.proofs.Shapes.{starts_with_length}
 use Rattle.laws.proofs.Scans.{any_append, if-true, if-false}
 use Rattle.laws.proofs.Parts.{to_end}
 use Rattle.books.proofs.Grammar2024.{begins}
-use Rattle.tape.specs.Commands.{command_in, size_of, ends, Stood}
+use Rattle.tape.specs.Commands.{command_in, size_of, ends}
 use Rattle.tape.specs.Questions.{AcceptedTape}
 use Rattle.tape.specs.declared.commands.Command.{Command}
 use Rattle.tape.specs.declared.commands.Command.TheVariants.{Addressed, Plain, Marked, Token as NewToken, End}
-use Rattle.tape.proofs.commands.Standing.{Stands, stands-inside, stood}
+use Rattle.tape.proofs.commands.Standing.{Stands, stands-inside}
 use Rattle.tape.proofs.questions.Asking.{ends_same}
 use Rattle.tape.proofs.questions.Reading.{Reads, reads_begin, reads_on, accepted-passes}
+use Rattle.walk.specs.Walk.{Follows}
+use Rattle.walk.proofs.Standing.{Goes, goes_stands, end_stands}
 use Rattle.editions.specs.Numbers.{begins_binary, is_newer, has_no_older, new_keywords}
 use Rattle.editions.specs.Conversion.{earns_12, earns_13, of_command, first_place}
 use Rattle.editions.proofs.Places.{if_none}
@@ -113,6 +115,9 @@ no_token p tape at (Marked low high) n = refl
 no_token p tape at (NewToken kind count) n = absurd (n kind count refl)
 no_token p tape at End n = refl
 
+pub end-earns : (p : Token → Bool) (tape : List ℕ) (at : ℕ) → false ≡ of_command p (command_in tape at End)
+end-earns p tape at = no_token p tape at End (λ kind count e. absurd cc)
+
 -- ---- a walk over an accepted tape
 
 -- the reading comes to this offset
@@ -127,8 +132,12 @@ module _ {tape : List ℕ} {at : ℕ} (w : Walk tape at) (k : AcceptedTape tape)
   pub walk-passes : Passes (drop at tape) w.totals
   walk-passes = accepted-passes w.reads k
 
-  pub walk-stood : Stood tape at
-  walk-stood = stood tape at walk-passes.known walk-passes.inside
+  -- what an answer of `next_at` says there
+  pub walk-goes : {c : Command} {next : ℕ} → Follows tape at (Some (c, next)) → Goes tape at c next
+  walk-goes f = goes_stands tape at walk-passes.known walk-passes.inside f
+
+  pub walk-ends : Follows tape at None → Stands tape at End
+  walk-ends f = end_stands tape at walk-passes.known walk-passes.inside f
 
   abbrev pub walk-on : {c : Command} → Stands tape at c → ends c ≡ false → Walk tape (at + size_of c)
   walk-on {c} s n =

@@ -1,13 +1,12 @@
--- What the functions that write a tape's commands leave. Assumes nothing.
-use Prim.Native.Nat.{ℕ, zero, suc, pred, ◌+◌, ◌-◌, ◌/◌, ◌%◌, ◌≤◌}
+-- What the functions that put a tape's commands leave. Assumes nothing.
+use Prim.Native.Nat.{ℕ, zero, suc, pred, ◌+◌, ◌≤◌}
 use native.Mathlib.Omega.{arith}
-use native.Mathlib.Numerals.{add-one}
 use mathlib.Core.Path.{◌≡◌, refl, sym, ap, ◌∙◌, subst⁻¹}
 use mathlib.Core.Bool.{true, false, true≢false, false≢true}
-use mathlib.Core.List.{List, [], ◌∷◌, ◌++◌, map, flat_map, map-append, append_assoc}
+use mathlib.Core.List.{List, [], ◌∷◌, ◌++◌, map, flat_map, map-append}
 use mathlib.Core.Option.{Option}
-use lib.ListN.{length, set, take, drop, length-append, length-drop}
-use lib.Seq.{length-take-le, take-append-le, take-take, drop_at, sets-eq, paste}
+use lib.ListN.{length, take, drop, length-append, length-drop}
+use lib.Seq.{length-take-le, take_at}
 use borrow.Author.Tests.{eq-eqb, ne_eqb, leb-true}
 use Rattle.reference.specs.Control.{when◌then◌else◌}
 use Rattle.reference.specs.Lists.{modify}
@@ -23,79 +22,53 @@ use Rattle.reference.proofs.LittleEndian.{Bytes, bytes_drop, to_length}
 use Rattle.reference.proofs.Reading.{Passes, passed_inj, pass_command, advance, State}
 use Rattle.reference.proofs.Tapes.{Kept, kept}
 use Rattle.reference.proofs.Writing.{with_token, Fresh, write-new_line, write-new_token, write_new-marks}
-use Rattle.tape.specs.Bytes.{put, Puts}
+use Rattle.text.specs.Cursor.{Fits, Puts}
+use Rattle.text.specs.declared.cursor.Cursor.{Cursor}
+use Rattle.text.proofs.Cursors.{puts_none, then_puts, puts_as, room_left, at_front, written-length}
 use Rattle.tape.specs.Commands.{command_in, size_of, ends}
 use Rattle.tape.specs.declared.commands.Command.{Command}
 use Rattle.tape.specs.declared.commands.Command.TheVariants.{Addressed, Plain, Marked, Token as NewToken, End}
 use Rattle.tape.proofs.commands.Standing.{Stands, stands-inside}
 use Rattle.tape.proofs.questions.Asking.{ends_same}
 use Rattle.tape.proofs.questions.Reading.{read_passed, marks_passed}
-use Rattle.tape.proofs.little_endian.Bytes.{put_none, put-length, put_pasted, puts_append, puts-length}
+use Rattle.tape.proofs.little_endian.Bytes.{put_front, puts_written}
 use Rattle.editions.specs.Numbers.{down_text, has_no_older}
 use Rattle.editions.specs.Conversion.{down_token, earns_13, change, of_command}
 use Rattle.editions.proofs.Listings.{change-length, down-short}
 use Rattle.editions.proofs.Asking.{walk-passes, Unearned, unearned_begin, unearned_more, not-earned}
 use Rattle.editions.specs.Lowering.{down_command, Short, Lowers, Lowerable}
 
--- ---- a part of the tape
-
-module _ (tape : List ℕ) (from size : ℕ) (h : from + size ≤ length tape) where
-  pub part_length : length (take size (drop from tape)) ≡ size
-  part_length = length-take-le size (drop from tape) (omega (arith, length-drop from tape))
-
-  pub part-puts : (out : List ℕ) (at : ℕ) {r out' : List ℕ} → r ≡ take size (drop from tape) → out' ≡ paste out at r (length r)
-      → Puts out at (take size (drop from tape)) out' (at + size)
-  part-puts out at {r} e p =
-      record { holds = p ∙ put_pasted out at r ∙ ap (put out at) e; ends = ap (λ (n : ℕ). at + n) (sym part_length) }
-
 -- ---- a Number
 
-module _ (out : List ℕ) (at n : ℕ) (t : Text) (h : at + 3 + length t ≤ length out) where
-  header : set (set (set (put out (at + 3) t) at 18) (at + 1) n) (at + 2) 0 ≡ put out at (18 ∷ n ∷ 0 ∷ t)
-  unfolding put
-  header =
-      let front : List ℕ = take (at + 3) out in
-      let back : List ℕ = drop (at + 3 + length t) out in
-      let mid : List ℕ = front ++ t ++ back in
-      let fl : length front ≡ at + 3 = length-take-le (at + 3) out (omega arith) in
-      let ml : length mid ≡ length out = put-length out (at + 3) t h in
-      let two : at + 2 ≡ suc (suc at) = omega arith in
-      let first : take at mid ≡ take at out =
-      take-append-le at (front ++ t) back (omega (arith, length-append front t))
-      ∙ take-append-le at front t (omega arith)
-      ∙ take-take at (at + 3) out (omega arith) in
-      let rest : drop (at + 3) mid ≡ t ++ back = ap (drop (at + 3)) (append_assoc front t back) ∙ drop_at front (t ++ back) (at + 3) fl in
-      let far : at + 3 + length t ≡ at + length (18 ∷ n ∷ 0 ∷ t) = omega arith in
-      let stored : set (set (set mid at 18) (at + 1) n) (at + 2) 0 ≡ take at mid ++ (18 ∷ n ∷ 0 ∷ []) ++ drop (at + 3) mid =
-      rw (add-one at, two) (sets-eq (18 ∷ n ∷ 0 ∷ []) mid at (omega arith)) in
-      stored
-      ∙ ap (λ (l : List ℕ). l ++ (18 ∷ n ∷ 0 ∷ []) ++ drop (at + 3) mid) first
-      ∙ ap (λ (l : List ℕ). take at out ++ (18 ∷ n ∷ 0 ∷ []) ++ l) rest
-      ∙ (sym (append_assoc (take at out ++ (18 ∷ n ∷ 0 ∷ [])) t back)
-      ∙ ap (◌++ back) (append_assoc (take at out) (18 ∷ n ∷ 0 ∷ []) t)
-      ∙ ap (λ (k : ℕ). take at out ++ (18 ∷ n ∷ 0 ∷ t) ++ drop k out) far)
+-- the text of a Number, put into a slice of its own from the front on, and then behind its kind and its length
+module _ {p₀ p₁ : Cursor} {t text : Text} (z : p₀.at ≡ 0) (w : Puts p₀ t p₁) (e : p₁.out.now ≡ text) where
+  number-text : take p₁.at text ≡ t
+  number-text =
+      let f = puts_written (at_front w refl z e) in
+      let n : p₁.at ≡ length t = omega (arith, f.ends) in
+      rw n (ap (take (length t)) (f.holds ∙ put_front p₀.out.now t) ∙ take_at t (drop (length t) p₀.out.now) (length t) refl)
 
-number_bytes : (t : Text) → length t ≤ 24 → write_command (new_token (token 2 t)) ≡ 18 ∷ length t ∷ 0 ∷ t
-unfolding write_command_by to_le_bytes
-number_bytes t h =
-    let low : length t % 256 ≡ length t = omega arith in
-    let high : length t / 256 % 256 ≡ 0 = omega arith in
-    rw (low, high) refl
+  module _ {p q₁ q₂ : Cursor} (room : Fits p (3 + length t)) (a : Puts p (18 ∷ []) q₁) (b : Puts q₁ (to_le_bytes 2 p₁.at) q₂) where
+    behind-length : Fits q₁ (length (to_le_bytes 2 p₁.at) + length t)
+    behind-length = room_left a (length (to_le_bytes 2 p₁.at) + length t) (omega (arith, to_length 2 p₁.at))
 
-pub number_puts : (out : List ℕ) (at : ℕ) (t : Text) {mid : List ℕ} {end : ℕ} → at + 3 + length t ≤ length out → length t ≤ 24
-    → Puts out (at + 3) t mid end
-    → Puts out at (write_command (new_token (token 2 t))) (set (set (set mid at 18) (at + 1) (end - at - 3)) (at + 2) 0) end
-number_puts out at t {mid} {end} h k p =
-    let n : end - at - 3 ≡ length t = omega (arith, p.ends) in
-    rw (number_bytes t k, n) (record { holds = rw p.holds (header out at (length t) t h); ends = omega (arith, p.ends) })
+    pub number-room : Fits q₂ (length (take p₁.at text))
+    number-room = rw number-text (room_left b (length t) behind-length)
+
+    pub number_puts : {q : Cursor} → Puts q₂ (take p₁.at text) q → Puts p (write_command (new_token (token 2 t))) q
+    unfolding write_command_by
+    number_puts {q} x =
+        let n : p₁.at ≡ length t = omega (arith, (at_front w refl z e).end_is) in
+        let y : Puts q₂ t q = rw number-text at x in
+        let all : Puts p ((18 ∷ []) ++ (to_le_bytes 2 p₁.at ++ t)) q = then_puts a (omega arith) (then_puts b (omega (arith, behind-length)) y) in
+        rw n at all
 
 -- ---- a command
 
-module _ {tape : List ℕ} {at : ℕ} {c : Command} {out : List ℕ} {to : ℕ} (l : Lowers tape at c out to) where
-  pub copy-puts : {out' : List ℕ} {n : ℕ} → down_command (command_in tape at c) ≡ command_in tape at c
-      → Puts out to (take (size_of c) (drop at tape)) out' n
-      → Puts out to (write_command (down_command (command_in tape at c))) out' n
-  copy-puts {out'} {n} e p = rw (e, l.copied) p
+module _ {tape : List ℕ} {at : ℕ} {c : Command} {p : Cursor} (l : Lowers tape at c p) where
+  pub copy-puts : {p' : Cursor} {t : Text} → down_command (command_in tape at c) ≡ command_in tape at c
+      → t ≡ take (size_of c) (drop at tape) → Puts p t p' → Puts p (write_command (down_command (command_in tape at c))) p'
+  copy-puts e u w = puts_as w (u ∙ sym (ap write_command e ∙ l.copied))
 
 other-token : (kind : ℕ) (s : Text) → (kind ≡ 2 → ⊥) → down_token (token kind s) ≡ token kind s
 unfolding down_token is when◌then◌else◌
@@ -125,7 +98,7 @@ down_number : (kind : ℕ) (s : Text) → kind ≡ 2 → new_token (down_token (
 unfolding down_token is when◌then◌else◌
 down_number kind s k = rw k refl
 
-module _ {tape : List ℕ} {at kind count : ℕ} {out : List ℕ} {to : ℕ} (l : Lowers tape at (NewToken kind count) out to) (k : kind ≡ 2) where
+module _ {tape : List ℕ} {at kind count : ℕ} {p : Cursor} (l : Lowers tape at (NewToken kind count) p) (k : kind ≡ 2) where
   pub number_older : has_no_older (take count (drop (at + 3) tape)) ≡ false
   number_older = fails (λ t. true-false (earns_number kind (take count (drop (at + 3) tape)) k t) l.older)
 
@@ -135,10 +108,9 @@ module _ {tape : List ℕ} {at kind count : ℕ} {out : List ℕ} {to : ℕ} (l 
   pub number_length : length (take count (drop (at + 3) tape)) ≡ count
   number_length = length-take-le count (drop (at + 3) tape) (omega (arith, length-drop (at + 3) tape, l.inside))
 
-  pub number_lowers : {out' : List ℕ} {n : ℕ}
-      → Puts out to (write_command (new_token (token 2 (down_text (take count (drop (at + 3) tape)))))) out' n
-      → Puts out to (write_command (down_command (command_in tape at (NewToken kind count)))) out' n
-  number_lowers p = rw (down_number kind (take count (drop (at + 3) tape)) k) p
+  pub number_lowers : {p' : Cursor} → Puts p (write_command (new_token (token 2 (down_text (take count (drop (at + 3) tape)))))) p'
+      → Puts p (write_command (down_command (command_in tape at (NewToken kind count)))) p'
+  number_lowers w = rw (down_number kind (take count (drop (at + 3) tape)) k) w
 
 -- ---- a listing with one command more
 
@@ -223,21 +195,15 @@ short_of Tape.end h = tt
 -- ---- the loop
 
 -- the lines so far stand in the output, gone down
-pub record Going (tape out₀ out : List ℕ) (at to : ℕ) : Type 0 where
+pub record Going (tape : List ℕ) (p₀ p : Cursor) (at : ℕ) : Type 0 where
   pub unearned : Unearned false tape at
-  pub puts : Puts out₀ 0 (write_lines (change down_token unearned.walk.reads.lines) unearned.walk.reads.marks) out to
-  pub before : to ≤ at
-  pub long : length out ≡ length out₀
+  pub puts : Puts p₀ (write_lines (change down_token unearned.walk.reads.lines) unearned.walk.reads.marks) p
+  pub before : p.at ≤ p₀.at + at
+  pub long : length p.out.now ≡ length p₀.out.now
 
-pub going_begin : (tape out : List ℕ) → Going tape out out 0 0
+pub going_begin : (tape : List ℕ) (p : Cursor) → Going tape p p 0
 unfolding write_lines_by change flat_map
-going_begin tape out =
-    record {
-      unearned = unearned_begin false tape;
-      puts = record { holds = sym (put_none out 0); ends = refl };
-      before = omega arith;
-      long = refl;
-    }
+going_begin tape p = record { unearned = unearned_begin false tape; puts = puts_none; before = omega arith; long = refl }
 
 ends_end : (tape : List ℕ) (at : ℕ) (c : Command) → ends c ≡ true → command_in tape at c ≡ Tape.end
 ends_end tape at (Addressed address indent) e = absurd (false≢true e)
@@ -246,15 +212,15 @@ ends_end tape at (Marked low high) e = absurd (false≢true e)
 ends_end tape at (NewToken kind count) e = absurd (false≢true e)
 ends_end tape at End e = refl
 
-module _ {tape out₀ out : List ℕ} {at to : ℕ} (g : Going tape out₀ out at to) (k : Lowerable tape) (b : Bytes tape)
-    (room : length tape ≤ length out₀) {c : Command} (s : Stands tape at c) where
+module _ {tape : List ℕ} {p₀ p : Cursor} {at : ℕ} (g : Going tape p₀ p at) (k : Lowerable tape) (b : Bytes tape)
+    (room : p₀.at + length tape ≤ length p₀.out.now) {c : Command} (s : Stands tape at c) where
   passes : Passes (drop at tape) g.unearned.walk.totals
   passes = walk-passes g.unearned.walk k.accepted
 
   older : of_command earns_13 (command_in tape at c) ≡ false
   older = not-earned g.unearned s k.nowhere
 
-  pub lowers : Lowers tape at c out to
+  pub lowers : Lowers tape at c p
   lowers =
       record {
         inside = (stands-inside s).1;
@@ -273,37 +239,33 @@ module _ {tape out₀ out : List ℕ} {at to : ℕ} (g : Going tape out₀ out a
       length-take-le (size_of c) (drop at tape) (omega (arith, length-drop at tape, stands-inside s)) in
       omega (arith, command-shorter (command_in tape at c), ap length lowers.copied)
 
-  module _ {out' : List ℕ} {to' : ℕ} (p : Puts out to (write_command (down_command (command_in tape at c))) out' to') where
-    pub still_long : length out' ≡ length out₀
-    still_long = puts-length out to _ (omega (arith, command-length, lowers.room)) p ∙ g.long
-
-    both_puts : Puts out₀ 0
+  module _ {p' : Cursor} (w : Puts p (write_command (down_command (command_in tape at c))) p') where
+    both_puts : Puts p₀
         (write_lines (change down_token g.unearned.walk.reads.lines) g.unearned.walk.reads.marks
         ++ write_command (down_command (command_in tape at c)))
-        out' to'
-    both_puts = puts_append out₀ 0 _ _ (omega arith) g.puts p
+        p'
+    both_puts = then_puts g.puts (omega (arith, room)) w
 
-    pub going_on : ends c ≡ false → Going tape out₀ out' (at + size_of c) to'
+    pub going_on : ends c ≡ false → Going tape p₀ p' (at + size_of c)
     going_on n =
-        let w = g.unearned.walk in
-        let state : State = record { at = at; totals = w.totals; lines = w.reads.lines; marks = w.reads.marks } in
-        let more = grown state (command_in tape at c) (kept tape w.reads.reached) (rw s.same passes.begun)
+        let u = g.unearned.walk in
+        let state : State = record { at = at; totals = u.totals; lines = u.reads.lines; marks = u.reads.marks } in
+        let more = grown state (command_in tape at c) (kept tape u.reads.reached) (rw s.same passes.begun)
         (ends_same Tape.old tape at c ∙ n) in
         record {
           unearned = unearned_more g.unearned s refl older k.accepted n;
-          puts = rw more both_puts;
-          before = omega (arith, g.before, p.ends, command-length);
-          long = still_long;
+          puts = puts_as both_puts (sym more);
+          before = omega (arith, g.before, w.written.end_is, command-length);
+          long = written-length w.written (omega (arith, command-length, lowers.room)) ∙ g.long;
         }
 
-    pub gone : ends c ≡ true → (lines : Listing) → read tape ≡ Passed lines
-        → Puts out₀ 0 (write (change down_token lines) (marks_in tape)) out' to'
+    pub gone : ends c ≡ true → (lines : Listing) → read tape ≡ Passed lines → Puts p₀ (write (change down_token lines) (marks_in tape)) p'
     unfolding write_by
     gone n lines e =
-        let w = g.unearned.walk in
-        let passed = sym (pass_command tape at w.totals passes) in
+        let u = g.unearned.walk in
+        let passed = sym (pass_command tape at u.totals passes) in
         let over : is_end (command_of (drop at tape)) ≡ true = ap is_end (sym s.same) ∙ ends_same Tape.old tape at c ∙ n in
-        let r : read tape ≡ Passed w.reads.lines = read_passed w.reads {a = advance tape at w.totals} passed over in
-        let m : marks_in tape ≡ w.reads.marks = marks_passed w.reads {a = advance tape at w.totals} passed over in
-        let l : lines ≡ w.reads.lines = passed_inj (sym e ∙ r) in
+        let r : read tape ≡ Passed u.reads.lines = read_passed u.reads {a = advance tape at u.totals} passed over in
+        let m : marks_in tape ≡ u.reads.marks = marks_passed u.reads {a = advance tape at u.totals} passed over in
+        let l : lines ≡ u.reads.lines = passed_inj (sym e ∙ r) in
         rw (l, m) (rw (ends_end tape at c n) at both_puts)

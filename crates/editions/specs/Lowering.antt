@@ -7,6 +7,8 @@ use Rattle.reference.specs.Text.{Text, bytes, starts_with, contains}
 use Rattle.reference.specs.Numbers.{read_constant}
 use Rattle.reference.specs.Listing.{is, Number}
 use Rattle.reference.specs.Tape as Tape
+use Rattle.text.specs.Cursor.{Fits}
+use Rattle.text.specs.declared.cursor.Cursor.{Cursor}
 use Rattle.tape.specs.Commands.{command_in, size_of}
 use Rattle.tape.specs.Questions.{AcceptedTape}
 use Rattle.tape.specs.declared.commands.Command.{Command}
@@ -31,12 +33,12 @@ Short (Tape.new_token t) = is Number t ≡ true → length t.text ≤ 24
 Short Tape.end = Unit {0}
 
 -- a command of an accepted tape that does not earn 13, and room for it
-pub record Lowers (tape : List ℕ) (at : ℕ) (c : Command) (out : List ℕ) (to : ℕ) : Type 0 where
+pub record Lowers (tape : List ℕ) (at : ℕ) (c : Command) (out : Cursor) : Type 0 where
   pub inside : at + size_of c ≤ length tape
   pub copied : Tape.write_command (command_in tape at c) ≡ take (size_of c) (drop at tape)
   pub older : of_command earns_13 (command_in tape at c) ≡ false
   pub short : Short (command_in tape at c)
-  pub room : to + size_of c ≤ length out
+  pub room : Fits out (size_of c)
 
 -- an accepted tape of which no command earns 13
 pub record Lowerable (tape : List ℕ) : Type 0 where

@@ -17,6 +17,7 @@ fn lowered(tape: &[u8], out: &mut [u8]) -> Answer
 {
     match first_place::<false>(tape) {
         Some(place) => Err(Reason::UnreadNumber.at(place)),
+        // Kept: there is no `From` from usize to u64, and `try_from` has a branch that no length takes.
         None => Ok(lower(tape, out) as u64),
     }
 }
@@ -29,6 +30,7 @@ fn raised(tape: &[u8], out: &mut [u8]) -> Answer
         Some(place) => Err(Reason::NewKeyword.at(place)),
         None => {
             copy_bytes(tape, out, 0);
+            // Kept: there is no `From` from usize to u64, and `try_from` has a branch that no length takes.
             Ok(tape.len() as u64)
         }
     }

@@ -13,8 +13,9 @@ ghost use Rattle.editions.specs.Asking.{keywords_1, keywords_2, keywords_3, earn
 use lines::words::{NUMBER, SYMBOL};
 use numbers::{begins_binary, read_number};
 use tape::commands::{Command, size_of};
-use tape::reader::{known_command, token_text};
+use tape::reader::token_text;
 use text::begins_minus;
+use walk::next_at;
 
 // ---- one text
 
@@ -99,15 +100,11 @@ pub fn first_place<const UP: bool>(tape: &[u8]) -> Option<usize>
     ensures { option_of result ≡ leftmost UP tape.now }
 {
     let mut at = 0;
-    // Kept: the steps are as long as the commands, and a `while` would read each command in two places.
-    loop {
-        let command = known_command(tape, at);
+    while let Some((command, next)) = next_at(tape, at) {
         if command_earns::<UP>(tape, at, command) {
             return Some(at);
         }
-        if command.is_end() {
-            return None;
-        }
-        at += size_of::<false>(command);
+        at = next;
     }
+    None
 }

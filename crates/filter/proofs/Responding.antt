@@ -1,9 +1,9 @@
 -- The line of a refusal from its parts, and what each reply of a call shows. Assumes nothing.
-use Prim.Native.Nat.{ℕ, ◌+◌, ◌≤◌}
+use Prim.Native.Nat.{ℕ, ◌≤◌}
 use native.Mathlib.Nat.{zero-add}
 use native.Mathlib.Omega.{arith}
 use mathlib.Core.Path.{◌≡◌, refl, sym, ap, ◌∙◌}
-use mathlib.Core.List.{List, [], ◌∷◌, ◌++◌, append_assoc}
+use mathlib.Core.List.{List, [], ◌∷◌, append_assoc}
 use lib.ListN.{length, take, drop, length-append}
 use lib.Seq.{take_all, take-length, length-take-le}
 use native.Mathlib.Decide.{dec_le}
@@ -14,8 +14,9 @@ use Rattle.reference.specs.Questions.{WORK, OUTPUT, Answer, Refused, Passed}
 use Rattle.reference.specs.Reply.{Reply, reply, output_after}
 use Rattle.reference.proofs.Reading.{refused_passed, passed_inj}
 use Rattle.io.specs.Counts.{IsPrefixLen}
-use Rattle.numbers.specs.Writing.{Written}
-use Rattle.numbers.proofs.Writing.{written_then}
+use Rattle.text.specs.declared.cursor.Cursor.{Cursor}
+use Rattle.text.specs.Cursor.{Fits, Puts}
+use Rattle.text.proofs.Cursors.{puts_as, then_puts, room_left}
 use Rattle.printing.specs.Decimals.{decimal}
 use Rattle.printing.proofs.Decimals.{decimal-length}
 use Rattle.clean.specs.Replies.{report_of, Summary, answer_of, summary, Cleans}
@@ -27,28 +28,39 @@ use Rattle.filter.specs.Response.{refusal, shown, settings, LONGEST, response, S
 
 -- ---- a refusal, put piece by piece
 
-at_front : (text out : Text) {after : Text} {r : ℕ} → Written out 0 text after r → Shows text out after r
-at_front text out w = record { holds = rw (take-length, zero-add) at w.bytes_are; ends = w.end_is ∙ zero-add _ }
+-- what is put at the front of a slice is shown there
+pub at_front : {p p₁ : Cursor} {text out after : Text} → p.out.now ≡ out → p.at ≡ 0 → Puts p text p₁ → after ≡ p₁.out.now → Shows text out after p₁.at
+at_front {p} {text = text} e z w f =
+    record {
+      holds = f ∙ w.written.bytes_are ∙ rw (e, z, take-length, zero-add) refl;
+      ends = w.written.end_is ∙ rw (z, zero-add) refl;
+    }
 
-pub refusal-put : (out : Text) (number place : ℕ) → 53 ≤ length out → {o₁ o₂ o₃ o₄ after : Text} {a b c d r : ℕ}
-    → Written out 0 (bytes "refused ") o₁ a → Written o₁ a (decimal number) o₂ b → Written o₂ b (bytes " at ") o₃ c
-    → Written o₃ c (decimal place) o₄ d → Written o₄ d (10 ∷ []) after r → Shows (refusal number place) out after r
-unfolding refusal
-refusal-put out number place h p n q m l =
-    let i : length (decimal number) ≤ 20 = decimal-length number in
-    let j : length (decimal place) ≤ 20 = decimal-length place in
-    let s₂ : Text = bytes "refused " ++ decimal number in
-    let s₃ : Text = s₂ ++ bytes " at " in
-    let s₄ : Text = s₃ ++ decimal place in
-    let e₂ : length s₂ ≡ 8 + length (decimal number) = length-append (bytes "refused ") (decimal number) in
-    let e₃ : length s₃ ≡ length s₂ + 4 = length-append s₂ (bytes " at ") in
-    let e₄ : length s₄ ≡ length s₃ + length (decimal place) = length-append s₃ (decimal place) in
-    let w₂ : Written out 0 s₂ _ _ = written_then out 0 (bytes "refused ") (decimal number) (omega arith) p n in
-    let w₃ : Written out 0 s₃ _ _ = written_then out 0 s₂ (bytes " at ") (omega arith) w₂ q in
-    let w₄ : Written out 0 s₄ _ _ = written_then out 0 s₃ (decimal place) (omega arith) w₃ m in
-    let w₅ : Written out 0 (s₄ ++ (10 ∷ [])) _ _ = written_then out 0 s₄ (10 ∷ []) (omega arith) w₄ l in
-    let e : s₄ ++ (10 ∷ []) ≡ refusal number place = simp append_assoc in
-    at_front _ out (rw e at w₅)
+pub front_room : (p : Cursor) {out : Text} → p.out.now ≡ out → p.at ≡ 0 → 53 ≤ length out → Fits p 53
+front_room p e z h = omega (arith, ap length e)
+
+module _ {p p₁ p₂ : Cursor} (number : ℕ) (w₁ : Puts p (bytes "refused ") p₁) (w₂ : Puts p₁ (decimal number) p₂) (h : Fits p 53) where
+  room₁ : Fits p₁ 45
+  room₁ = room_left w₁ 45 h
+
+  pub number_room : Fits p₂ 25
+  number_room = room_left w₂ 25 (omega (arith, room₁, decimal-length number))
+
+  module _ {p₃ : Cursor} (w₃ : Puts p₂ (bytes " at ") p₃) where
+    pub mark_room : Fits p₃ 21
+    mark_room = room_left w₃ 21 number_room
+
+    module _ {p₄ : Cursor} (place : ℕ) (w₄ : Puts p₃ (decimal place) p₄) where
+      pub place_room : Fits p₄ 1
+      place_room = room_left w₄ 1 (omega (arith, mark_room, decimal-length place))
+
+      pub refusal-put : {p₅ : Cursor} → Puts p₄ (10 ∷ []) p₅ → Puts p (refusal number place) p₅
+      unfolding refusal
+      refusal-put w₅ =
+          puts_as
+          (then_puts w₁ (omega (arith, h)) (then_puts w₂ (omega (arith, room₁))
+          (then_puts w₃ (omega (arith, number_room)) (then_puts w₄ (omega (arith, mark_room)) w₅))))
+          (simp append_assoc)
 
 -- ---- what a reply shows
 

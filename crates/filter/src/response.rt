@@ -8,19 +8,21 @@ ghost use Rattle.filter.specs.Response.{refusal, shown, settings, LONGEST, respo
 use answers::{Reason, Refusal};
 use clean::clean;
 use lines::rules::Rules;
-use printing::{put, put_decimal};
+use printing::put_decimal;
+use text::Cursor;
 
 // Puts the line of a refusal, and says how long it is.
 fn put_refusal(refused: Refusal, out: &mut [u8]) -> usize
     requires { 53 ≤ length out.old }
     ensures { Shows (refusal (number_of refused.reason) refused.place) out.old out.new result }
 {
-    let Refusal { reason, place } = refused;
-    let a = put(b"refused ", out, 0);
-    let b = put_decimal(reason.number(), out, a);
-    let c = put(b" at ", out, b);
-    let d = put_decimal(place as u64, out, c);
-    put(b"\n", out, d)
+    let mut out = Cursor::new(out, 0);
+    out.put(b"refused ");
+    put_decimal(refused.reason.number(), &mut out);
+    out.put(b" at ");
+    put_decimal(refused.place, &mut out);
+    out.put(b"\n");
+    out.at
 }
 
 // Cleans a tape, every setting off, and says how long the answer is.
@@ -44,12 +46,7 @@ fn answer(convention: u8, tape: &[u8], out: &mut [u8]) -> usize
 }
 
 // The longest tape that is taken.
-// Kept: a function and no constant: a proof then has the number as an equation, and no check counts up to it.
-fn longest() -> usize
-    ensures { result ≡ LONGEST }
-{
-    65536
-}
+const LONGEST_TAPE: usize = 65536;
 
 // Cleans a tape, or the front of a longer one.
 fn answer_front(convention: u8, tape: &[u8], out: &mut [u8]) -> usize
@@ -57,7 +54,7 @@ fn answer_front(convention: u8, tape: &[u8], out: &mut [u8]) -> usize
     ensures { Shows (shown (reply (settings convention) (take LONGEST tape.now) WORK WORK OUTPUT))
         out.old out.new result }
 {
-    let most = longest().min(tape.len());
+    let most = LONGEST_TAPE.min(tape.len());
     answer(convention, &tape[..most], out)
 }
 

@@ -4,6 +4,7 @@ ghost use Rattle.reference.specs.Evaluators.{behind, operator};
 ghost use Rattle.lines.specs.Words.{tokens_of};
 ghost use Rattle.formula.specs.Places.{left, Placed, Readable, Leads, Operates};
 
+use crate::terms::text_of;
 use lines::words;
 
 #[derive(Clone, Copy, Debug, PartialEq, Eq)]
@@ -37,7 +38,7 @@ fn behind_byte(tape: &[u8], line: &[u64], place: Place, c: u8) -> Option<Place>
     if words::kind(w) != words::PUNCT {
         return None;
     }
-    let s = words::text(tape, tape, w);
+    let s = text_of(tape, w);
     if s[place.byte] != c {
         return None;
     }

@@ -13,7 +13,7 @@ ghost use Rattle.formula.specs.Places.{Readable};
 ghost use Rattle.formula.specs.Profile.{Filled};
 
 use crate::evaluators::evaluate;
-use crate::terms::is_wide;
+use crate::terms::{is_wide, text_of};
 use lines::words;
 
 // Whether tokens are ` = `, an expression and `;`. An empty table of values serves.
@@ -52,11 +52,12 @@ fn is_return(tape: &[u8], w: u64) -> bool
     requires { Points tape.now tape.now w }
     ensures { result ≡ is_kw (bytes "return") (token_of tape.now tape.now w) }
 {
-    words::kind(w) == words::KEYWORD && text::same(words::text(tape, tape, w), b"return")
+    words::kind(w) == words::KEYWORD && text::same(text_of(tape, w), b"return")
 }
 
 // Whether a line assigns to a 64-bit register, as the profile wants it.
-// Kept: a function of its own beside `returns_value`, and so the two below: one for both would take its two tests as closures.
+// Kept: a function of its own beside `returns_value`, and so the two below: one for both would be no plainer, since it would take its two
+// tests as closures, in place of two lines.
 fn assigns_wide(tape: &[u8], line: &[u64]) -> bool
     requires { Readable tape.now line.now }
     ensures { result ≡ assigns_wide (tokens_of tape.now tape.now line.now) }

@@ -3,21 +3,30 @@ ghost use Rattle.std.specs.Prelude.{◌≡◌, nat_eq};
 ghost use Rattle.reference.specs.Control.{◌or◌};
 ghost use Rattle.reference.specs.Lists.{any, count, is_some};
 ghost use Rattle.reference.specs.Evaluators.{wide, is_tidy, number_of, lexemes_of};
-ghost use Rattle.lines.specs.Words.{token_of, Holds, Points};
+ghost use Rattle.lines.specs.Words.{text_of, token_of, Holds, Points};
 ghost use Rattle.formula.specs.Terms.{is_plain, is_junk, has_junk};
 
+use lines::texts::Texts;
 use lines::{fams, words};
 use numbers::parse_c_number;
+
+// The text of a token; all stand in the tape.
+pub(crate) fn text_of(tape: &[u8], w: u64) -> &[u8]
+    requires { Points tape.now tape.now w }
+    ensures { result.now ≡ text_of tape.now tape.now w }
+{
+    words::text(&Texts { tape, area: tape }, w)
+}
 
 // Whether a token is a 64-bit register and no stack slot.
 pub fn is_wide(tape: &[u8], w: u64) -> bool
     requires { Points tape.now tape.now w }
     ensures { result ≡ is_some (wide (token_of tape.now tape.now w)) }
 {
-    let Some(n) = fams::fam_of(tape, tape, w) else {
+    let Some(n) = fams::fam_of(&Texts { tape, area: tape }, w) else {
         return false;
     };
-    n.width == 64 && !text::begins_slot(words::text(tape, tape, w))
+    n.width == 64 && !text::begins_slot(text_of(tape, w))
 }
 
 // How often a byte stands in a text.
@@ -58,7 +67,7 @@ pub fn is_number(tape: &[u8], w: u64) -> bool
     if words::kind(w) != words::NUMBER {
         return false;
     }
-    let s = words::text(tape, tape, w);
+    let s = text_of(tape, w);
     is_tidy(s) && parse_c_number(s).is_some()
 }
 

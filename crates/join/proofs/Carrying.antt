@@ -5,7 +5,7 @@ use native.Mathlib.Numerals.{add-one}
 use mathlib.Core.Path.{◌≡◌, refl, sym, ap, ◌∙◌}
 use mathlib.Core.Bool.{Bool, true, false}
 use mathlib.Core.List.{List, [], ◌∷◌, ◌++◌, map-append, append-nil}
-use lib.ListN.{length, get_or, set, drop, length-map}
+use lib.ListN.{length, get_or, set, drop, length-map, get_or-map}
 use lib.Seq.{drop-cons, append_snoc}
 use Rattle.reference.specs.Text.{Text}
 use Rattle.reference.specs.Listing.{Line, Listing, blank}
@@ -14,6 +14,8 @@ use Rattle.joining.specs.Plan.{Plan, changes}
 use Rattle.joining.proofs.Uses.{uses_upto}
 use Rattle.joining.proofs.Acting.{changes-later}
 use Rattle.laws.proofs.Scans.{if-true, if-false}
+use Rattle.lines.specs.declared.marks.Marks.{Marks}
+use Rattle.lines.specs.Marks.{lows_of, highs_of}
 use Rattle.lines.specs.Lines.{origin_of, part_of, bare_in, bare_listing}
 use Rattle.lines.proofs.words.Lines.{origin_below, bare_at}
 use Rattle.plan.specs.declared.plans.Join.{Join}
@@ -44,6 +46,14 @@ pub picked_uses : (vol : List Text) (i : ℕ) (p : Plan) (k : ℕ) (ls : Listing
 unfolding picked uses_upto
 picked_uses vol i p k [] h = refl
 picked_uses vol i p k (l ∷ ls) h = rw (changes-later vol i p k l h, picked_uses vol i p (suc k) ls (omega arith))
+
+-- ---- a place in the table of marks
+
+pub low_at : (marks : List Marks) (k : ℕ) → (get_or marks k (record { low = 0; high = 0 })).low ≡ get_or (lows_of marks) k 0
+low_at marks k = sym (get_or-map (λ (m : Marks). m.low) marks k (record { low = 0; high = 0 }))
+
+pub high_at : (marks : List Marks) (k : ℕ) → (get_or marks k (record { low = 0; high = 0 })).high ≡ get_or (highs_of marks) k 0
+high_at marks k = sym (get_or-map (λ (m : Marks). m.high) marks k (record { low = 0; high = 0 }))
 
 -- ---- one line more
 

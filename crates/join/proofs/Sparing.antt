@@ -1,5 +1,5 @@
 -- The room that is free behind the used marks, and the need of lines, added up until it is too much. Assumes nothing.
-use Prim.Native.Nat.{ℕ, ◌+◌, ◌-◌, ◌*◌, ◌≤◌, ◌<◌, zero-le, max}
+use Prim.Native.Nat.{ℕ, ◌+◌, ◌-◌, ◌*◌, ◌≤◌, ◌<◌, zero-le}
 use native.Mathlib.Omega.{arith}
 use native.Mathlib.Decide.{dec_lt}
 use native.Mathlib.Numerals.{add-one}
@@ -8,13 +8,12 @@ use mathlib.Core.Path.{◌≡◌, refl, sym, ap, ◌∙◌}
 use mathlib.Core.Bool.{Bool, true, false}
 use mathlib.Core.List.{List, [], ◌∷◌}
 use lib.Dec.{ltb}
-use lib.ListN.{length, get_or, take, drop, length-take, drop_of_length-le}
-use lib.Seq.{slice, drop-cons}
+use lib.ListN.{length, get_or, drop, length-take, drop_of_length-le}
+use lib.Seq.{drop-cons}
 use borrow.Author.Tests.{lt-ltb, le-ltb, ltb-true}
 use Rattle.std.specs.Prelude.{sum_by}
 use Rattle.std.proofs.lemmas.List.Sums.{sum_by-cons}
 use Rattle.reference.specs.Text.{Text}
-use Rattle.laws.proofs.Parts.{drop-take}
 use Rattle.lines.specs.Words.{len_of}
 use Rattle.lines.specs.Lines.{first_of, count_of, part_of}
 use Rattle.lines.proofs.words.Tokens.{len_below}
@@ -65,11 +64,6 @@ module _ (words : List ℕ) (source : ℕ) (ls : List ℕ) (k left n : ℕ) (inv
 
   pub need_all : length ls ≤ k → ltb 0 left ≡ ltb (needs words source ls) n
   need_all h = ap (λ (m : ℕ). ltb m left) (sym (need_end words source ls k h)) ∙ inv
-
-pub part_need : (words : List ℕ) (source from end : ℕ) (ls : List ℕ) → needs words source (take (max from end - from) (drop from ls)) ≡ needs words source (slice from end ls)
-part_need words source from end ls =
-    let e : max from end - from ≡ end - from = omega arith in
-    rw e (ap (needs words source) (sym (drop-take from end ls)))
 
 -- ---- enough
 

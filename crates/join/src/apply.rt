@@ -1,4 +1,6 @@
 // A plan carried out: in place where there is room behind the used marks, else by writing the whole listing anew.
+// Kept: the two sets are written, and are lent slices: with a struct of them each contract would have to say besides that the same ones
+// are still lent, which is no plainer.
 ghost use Rattle.lines.specs.Rules.{rules_of};
 ghost use Rattle.build.specs.State.{used};
 ghost use Rattle.build.specs.Added.{used_words};

@@ -4,46 +4,42 @@ ghost use Rattle.std.specs.Prelude.{◌≡◌, ◌≤◌, ◌<◌, min, max, len
 ghost use Rattle.lines.specs.Rules.{rules_of};
 ghost use Rattle.join.specs.Building.{Plannable};
 ghost use Rattle.join.specs.Carrying.{Carried};
+ghost use Rattle.lines.specs.Marks.{highs_of, lows_of};
 
 use crate::changing::is_changed;
+use lines::marks::Marks;
 use lines::rules::Rules;
+use lines::texts::Listing;
 use lines::words;
 use plan::plans::Join;
 
-// Line `at` of the input takes in the addresses from `low` to `high`.
-fn take_in(at: usize, low: u64, high: u64, lows: &mut [u64], highs: &mut [u64])
-    requires { (at < length lows.old) × (at < length highs.old) }
-    ensures lows_after { lows.new ≡ set lows.old at (min (get_or lows.old at 0) low) }
-    ensures highs_after { highs.new ≡ set highs.old at (max (get_or highs.old at 0) high) }
+// Line `at` of the input takes in other marks.
+fn take_in(at: usize, other: Marks, marks: &mut [Marks])
+    requires { at < length marks.old }
+    ensures lows_after { lows_of marks.new ≡ set (lows_of marks.old) at (min (get_or (lows_of marks.old) at 0) other.low) }
+    ensures highs_after { highs_of marks.new ≡ set (highs_of marks.old) at (max (get_or (highs_of marks.old) at 0) other.high) }
 {
-    lows[at] = lows[at].min(low);
-    highs[at] = highs[at].max(high);
+    let own = marks[at];
+    marks[at] = Marks {
+        low: own.low.min(other.low),
+        high: own.high.max(other.high),
+    };
 }
 
 // Each line that the plan j changes takes in the marks of the line that is joined.
 #[tactic(auto, using(crate::proofs::Carrying::origin_small))]
-pub fn carry_marks<'a>(
-    tape: &'a [u8],
-    area: &'a [u8],
-    tokens: &'a [u64],
-    lines: &'a [u64],
-    lows: &mut [u64],
-    highs: &mut [u64],
-    j: Join,
-    rules: Rules,
-)
-    requires { Plannable (rules_of rules) tape.now area.now tokens.now lines.now j
-        × (256 ≤ length lows.old) × (256 ≤ length highs.old) }
-    ensures { Carried (rules_of rules) tape.now area.now tokens.now lines.now j
-        lows.old highs.old lows.new highs.new }
+pub fn carry_marks(listing: &Listing<'_>, marks: &mut [Marks], j: Join, rules: Rules)
+    requires { Plannable (rules_of rules) listing.now.texts.tape.now listing.now.texts.area.now listing.now.tokens.now
+        listing.now.lines.now j
+        × (256 ≤ length marks.old) }
+    ensures { Carried (rules_of rules) listing.now.texts.tape.now listing.now.texts.area.now listing.now.tokens.now listing.now.lines.now j
+        (lows_of marks.old) (highs_of marks.old) (lows_of marks.new) (highs_of marks.new) }
 {
-    let source = words::origin(lines[j.line]);
-    let low = lows[source];
-    let high = highs[source];
+    let given = marks[words::origin(listing.lines[j.line])];
     for k in j.line + 1..j.last + 1 {
-        let l = lines[k];
-        if is_changed(tape, area, tokens, l, k, j, rules) {
-            take_in(words::origin(l), low, high, lows, highs);
+        let l = listing.lines[k];
+        if is_changed(&listing.texts, listing.tokens, l, k, j, rules) {
+            take_in(words::origin(l), given, marks);
         }
     }
 }

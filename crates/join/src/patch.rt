@@ -1,4 +1,6 @@
 // A plan carried out in place: the lines that change are written behind the used marks, and everything else stays where it is.
+// Kept: the two sets are written, and are lent slices: with a struct of them each contract would have to say besides that the same ones
+// are still lent, which is no plainer.
 ghost use Rattle.std.specs.Prelude.{◌≡◌, ◌+◌, length};
 ghost use Rattle.lines.specs.Rules.{rules_of};
 ghost use Rattle.build.specs.State.{used};
@@ -10,14 +12,14 @@ ghost use Rattle.join.specs.Patching.{need_from, Spare, Patched};
 use crate::changing::{is_changed, rewrite};
 use build::used::Size;
 use lines::rules::Rules;
+use lines::texts::Texts;
 use plan::plans::Join;
 
 // Writes the lines that change behind the used marks, but in the second set; their words take the places of the old ones, and the word of
 // the line that is joined goes.
-fn patch_lines<'a>(
-    tape: &'a [u8],
-    area: &'a [u8],
-    tokens: &'a [u64],
+fn patch_lines(
+    texts: &Texts<'_>,
+    tokens: &[u64],
     lines: &mut [u64],
     j: Join,
     rules: Rules,
@@ -25,20 +27,20 @@ fn patch_lines<'a>(
     tokens2: &mut [u64],
     size: Size,
 ) -> Size
-    requires { Plannable (rules_of rules) tape.now area.now tokens.now lines.old j × (length area.now ≡ size.text)
+    requires { Plannable (rules_of rules) texts.now.tape.now texts.now.area.now tokens.now lines.old j
+        × (length texts.now.area.now ≡ size.text)
         × (length tokens.now ≡ size.tokens)
         × Spare area2.old tokens2.old size (need_from tokens.now lines.old j (j.line + 1)) }
-    ensures { Patched (rules_of rules) tape.now area.now tokens.now lines.old j size
+    ensures { Patched (rules_of rules) texts.now.tape.now texts.now.area.now tokens.now lines.old j size
         area2.new tokens2.new lines.new result }
 {
     let source = lines[j.line];
     let mut s = size;
     for k in j.line + 1..j.last + 1 {
         let l = lines[k];
-        if is_changed(tape, area, tokens, l, k, j, rules) {
+        if is_changed(texts, tokens, l, k, j, rules) {
             let a = rewrite(
-                tape,
-                area,
+                texts,
                 tokens,
                 source,
                 l,
@@ -79,8 +81,10 @@ pub fn patch(
         (used_lines lines.old size) j area.new tokens.new lines.new result }
 {
     let after = patch_lines(
-        tape,
-        &area[..size.text],
+        &Texts {
+            tape,
+            area: &area[..size.text],
+        },
         &tokens[..size.tokens],
         &mut lines[..size.lines],
         j,

@@ -1,4 +1,6 @@
 // A plan carried out by writing the whole listing anew: it is built in the second set, line after line, and brought back to the first.
+// Kept: the two sets are written, and are lent slices: with a struct of them each contract would have to say besides that the same ones
+// are still lent, which is no plainer.
 ghost use Rattle.std.specs.Prelude.{◌≤◌, ◌<◌, length};
 ghost use Rattle.lines.specs.Rules.{rules_of};
 ghost use Rattle.build.specs.State.{used};
@@ -10,13 +12,13 @@ use crate::changing::{is_changed, rewrite};
 use build::line::{Appended, keep_line};
 use build::used::Size;
 use lines::rules::Rules;
+use lines::texts::Texts;
 use plan::plans::Join;
 
 // Appends line k, whose word is l, to the second set: with the right side of the line `source` for each token of the family, or as it is.
-fn build_line<'a>(
-    tape: &'a [u8],
-    area: &'a [u8],
-    tokens: &'a [u64],
+fn build_line(
+    texts: &Texts<'_>,
+    tokens: &[u64],
     source: u64,
     l: u64,
     k: usize,
@@ -26,14 +28,13 @@ fn build_line<'a>(
     tokens2: &mut [u64],
     size: Size,
 ) -> Appended
-    requires { Placeable (rules_of rules) tape.now area.now tokens.now source j k l area2.old tokens2.old size }
-    ensures { Placed (rules_of rules) tape.now area.now tokens.now source j k l area2.old
+    requires { Placeable (rules_of rules) texts.now.tape.now texts.now.area.now tokens.now source j k l area2.old tokens2.old size }
+    ensures { Placed (rules_of rules) texts.now.tape.now texts.now.area.now tokens.now source j k l area2.old
         tokens2.old size area2.new tokens2.new result }
 {
-    if is_changed(tape, area, tokens, l, k, j, rules) {
+    if is_changed(texts, tokens, l, k, j, rules) {
         rewrite(
-            tape,
-            area,
+            texts,
             tokens,
             source,
             l,
@@ -44,7 +45,7 @@ fn build_line<'a>(
             rules.edition,
         )
     } else {
-        keep_line(tape, area, tokens, l, area2, tokens2, size)
+        keep_line(texts, tokens, l, area2, tokens2, size)
     }
 }
 
@@ -60,19 +61,18 @@ fn put_line(a: Appended, lines: &mut [u64]) -> Size
 }
 
 // Builds the new listing in the second set; its line words take the place of the old ones.
-fn build<'a>(
-    tape: &'a [u8],
-    area: &'a [u8],
-    tokens: &'a [u64],
+fn build(
+    texts: &Texts<'_>,
+    tokens: &[u64],
     lines: &mut [u64],
     j: Join,
     rules: Rules,
     area2: &mut [u8],
     tokens2: &mut [u64],
 ) -> Size
-    requires { Plannable (rules_of rules) tape.now area.now tokens.now lines.old j × (49152 ≤ length area2.old)
+    requires { Plannable (rules_of rules) texts.now.tape.now texts.now.area.now tokens.now lines.old j × (49152 ≤ length area2.old)
         × (1024 ≤ length tokens2.old) }
-    ensures { Rebuilt (rules_of rules) tape.now area.now tokens.now lines.old j
+    ensures { Rebuilt (rules_of rules) texts.now.tape.now texts.now.area.now tokens.now lines.old j
         area2.new tokens2.new lines.new result }
 {
     let gone = j.line;
@@ -85,9 +85,7 @@ fn build<'a>(
     for k in 0..lines.len() {
         if k != gone {
             let l = lines[k];
-            let a = build_line(
-                tape, area, tokens, source, l, k, j, rules, area2, tokens2, size,
-            );
+            let a = build_line(texts, tokens, source, l, k, j, rules, area2, tokens2, size);
             size = put_line(a, lines);
         }
     }
@@ -112,8 +110,10 @@ pub fn rebuild(
         (used_lines lines.old size) j area.new tokens.new lines.new result }
 {
     let after = build(
-        tape,
-        &area[..size.text],
+        &Texts {
+            tape,
+            area: &area[..size.text],
+        },
         &tokens[..size.tokens],
         &mut lines[..size.lines],
         j,

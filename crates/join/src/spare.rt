@@ -18,7 +18,7 @@ fn behind(length: usize, used: usize) -> usize
 
 // What is free in a set.
 #[tactic(auto, unfolding(crate::specs::Patching::behind, crate::specs::Patching::free))]
-pub fn free<'a>(area: &'a [u8], tokens: &'a [u64], size: Size) -> usize
+pub fn free(area: &[u8], tokens: &[u64], size: Size) -> usize
     ensures { result ≡ free (length area.now) (length tokens.now) size }
 {
     behind(area.len(), size.text).min(24 * behind(tokens.len(), size.tokens))
@@ -42,9 +42,10 @@ fn line_room(tokens: &[u64], l: u64) -> usize
 }
 
 // Whether the need of the lines, with the right side of the line `source` in each, is below n.
-pub fn is_enough<'a>(tokens: &'a [u64], lines: &'a [u64], source: u64, n: usize) -> bool
+pub fn is_enough(tokens: &[u64], lines: &[u64], source: u64, n: usize) -> bool
     requires { (first_of source + count_of source ≤ length tokens.now)
-        × ((k : ℕ) → k < length lines.now → first_of (get_or lines.now k 0) + count_of (get_or lines.now k 0) ≤ length tokens.now) }
+        × ((k : ℕ) → k < length lines.now
+        → first_of (get_or lines.now k 0) + count_of (get_or lines.now k 0) ≤ length tokens.now) }
     ensures { result ≡ ltb (needs tokens.now source lines.now) n }
 {
     let base = line_room(tokens, source);
@@ -60,9 +61,10 @@ pub fn is_enough<'a>(tokens: &'a [u64], lines: &'a [u64], source: u64, n: usize)
 }
 
 // Whether the need of the lines after line `gone` up to line `last`, with the right side of line `gone` in each, is below n.
-pub fn is_short<'a>(tokens: &'a [u64], lines: &'a [u64], gone: usize, last: usize, n: usize) -> bool
+pub fn is_short(tokens: &[u64], lines: &[u64], gone: usize, last: usize, n: usize) -> bool
     requires { (gone < length lines.now) × (last < length lines.now)
-        × ((k : ℕ) → k < length lines.now → first_of (get_or lines.now k 0) + count_of (get_or lines.now k 0) ≤ length tokens.now) }
+        × ((k : ℕ) → k < length lines.now
+        → first_of (get_or lines.now k 0) + count_of (get_or lines.now k 0) ≤ length tokens.now) }
     ensures { result ≡ ltb (needs tokens.now (get_or lines.now gone 0) (slice (gone + 1) (last + 1) lines.now)) n }
 {
     let from = gone + 1;

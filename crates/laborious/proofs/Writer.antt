@@ -3,15 +3,13 @@ use Prim.Native.Nat.{ℕ, zero, suc, ◌+◌, ◌*◌, ◌%◌, ◌≤◌, ◌<�
 use Prim.Native.String.{String}
 use native.Mathlib.Omega.{arith}
 use native.Mathlib.Numerals.{add-one}
-use native.Mathlib.Nat.{add-zero}
 use native.Mathlib.Decide.{dec_lt}
 use mathlib.Core.Path.{◌≡◌, refl, sym, ap, ◌∙◌}
 use mathlib.Core.Logic.{by_cases}
 use mathlib.Core.List.{List, [], ◌∷◌, ◌++◌, append_assoc, append-nil}
 use mathlib.Core.Option.{none}
 use lib.Dec.{eqb}
-use lib.ListN.{length, take, drop, set, length-append, length-drop}
-use lib.Seq.{paste, paste-zero, paste-suc, take_at, take-length, drop-append-add, drop-drop}
+use lib.ListN.{length, length-append}
 use borrow.Author.Tests.{eq-eqb, ne_eqb}
 use Rattle.reference.specs.Control.{when◌then◌else◌}
 use Rattle.reference.specs.Listing.{Line, Listing}
@@ -19,8 +17,10 @@ use Rattle.reference.specs.Tape.{write_line, write_lines, write, write_by, write
 use Rattle.reference.proofs.Cases.{by-if}
 use Rattle.reference.proofs.Opened.{opened}
 use Rattle.laws.proofs.Scans.{if-true, if-false}
+use Rattle.text.specs.Cursor.{Fits, Puts}
+use Rattle.text.specs.declared.cursor.Cursor.{Cursor}
+use Rattle.text.proofs.Cursors.{puts_none, then_puts, puts_as, room_left}
 use Rattle.laborious.specs.Listing.{label, move, to_and_fro, laborious, line_of}
-use Rattle.laborious.specs.Written.{Put, Front}
 
 -- ---- which line it is
 
@@ -89,73 +89,37 @@ pub line_short : (i : ℕ) → Short (line_of i)
 unfolding line_of
 line_short i = by-if Short (λ e. lengths.0) (λ e. by-if Short (λ e. lengths.1) (λ e. by-if Short (λ e. lengths.2) (λ e. lengths.3)))
 
--- ---- what stands in the slice
-
-pub line_put : {out out' : List ℕ} {at : ℕ} {s t : List ℕ} → s ≡ t → out' ≡ paste out at s (length s) → Put out at t out' (at + length s)
-line_put e p = rw (← e) (record { bytes_are = p; end_is = refl })
-
-front-put : {out s out₁ t out₂ : List ℕ} {at end : ℕ} → Front out s out₁ at → Put out₁ at t out₂ end → Front out (s ++ t) out₂ end
-front-put {out} {s} {out₁} {t} {out₂} {at} f p =
-    let here : at ≡ length s = f.end_is in
-    let before : take at out₁ ≡ s = ap (take at) f.bytes_are ∙ take_at s (drop (length s) out) at (sym here) in
-    let after : drop (at + length t) out₁ ≡ drop (length (s ++ t)) out =
-    ap (λ (k : ℕ). drop (k + length t) out₁) here
-    ∙ ap (drop (length s + length t)) f.bytes_are
-    ∙ drop-append-add s (drop (length s) out) (length t)
-    ∙ drop-drop (length t) (length s) out
-    ∙ ap (λ (k : ℕ). drop k out) (sym (length-append s t)) in
-    record {
-      bytes_are = p.bytes_are ∙ rw (before, take-length t, after);
-      end_is = p.end_is ∙ ap (λ (k : ℕ). k + length t) here ∙ sym (length-append s t);
-    }
-
-put_byte : (out : List ℕ) (at b : ℕ) → at < length out → Put out at (b ∷ []) (set out at b) (at + 1)
-put_byte out at b lt =
-    record {
-      bytes_are =
-          ap (λ (k : ℕ). set out k b) (sym (add-zero at))
-          ∙ ap (λ (o : List ℕ). set o (at + 0) b) (paste-zero out at (b ∷ []))
-          ∙ paste-suc out at (b ∷ []) 0 0 (rw add-zero lt) (omega arith);
-      end_is = refl;
-    }
-
 -- ---- the loop
 
--- before each turn i lines stand at the front
-pub record Turn (n : ℕ) (out out' : List ℕ) (at i : ℕ) : Type 0 where
+-- before each turn i lines are put
+pub record Turn (n : ℕ) (p₀ p : Cursor) (i : ℕ) : Type 0 where
   pub inside : i ≤ n
-  pub short : at ≤ 24 * i
-  pub front : Front out (write_lines (laborious i) []) out' at
+  pub short : length (write_lines (laborious i) []) ≤ 24 * i
+  pub puts : Puts p₀ (write_lines (laborious i) []) p
 
-pub first_turn : (n : ℕ) (out : List ℕ) → Turn n out out 0 0
+pub first_turn : (n : ℕ) (p : Cursor) → Turn n p p 0
 unfolding opened laborious
-first_turn n out = record { inside = omega arith; short = omega arith; front = record { bytes_are = refl; end_is = refl } }
+first_turn n p = record { inside = omega arith; short = omega arith; puts = puts_none }
 
-pub turn_length : (n : ℕ) (out out' : List ℕ) (at i : ℕ) → n ≤ 256 → 6145 ≤ length out → Turn n out out' at i → (length out' ≡ length out)
-    × (at + 1 ≤ 6145)
-turn_length n out out' at i le room t =
-    let s = write_lines (laborious i) [] in
-    let few : at + 1 ≤ 6145 = omega (arith, t.short, t.inside) in (
-      ap length t.front.bytes_are ∙ length-append s (drop (length s) out)
-          ∙ omega (arith, length-drop (length s) out, t.front.end_is),
-      few,
-    )
+module _ {n : ℕ} {p₀ p : Cursor} {i : ℕ} (few : n ≤ 256) (room : Fits p₀ 6145) (t : Turn n p₀ p i) where
+  pub turn-room : {s : List ℕ} → s ≡ write_line (line_of i) none → i < n → Fits p (length s)
+  turn-room {s} e lt = room_left t.puts (length s) (omega (arith, t.short, ap length e, line_short i))
 
-pub next_turn : (n : ℕ) (out out₁ out₂ : List ℕ) (at i end : ℕ) → i < n → Turn n out out₁ at i
-    → Put out₁ at (write_line (line_of i) none) out₂ end → Turn n out out₂ end (i + 1)
-next_turn n out out₁ out₂ at i end lt t p =
-    let same : write_lines (laborious i) [] ++ write_line (line_of i) none ≡ write_lines (laborious (suc i)) [] =
-    sym (ap (λ (ls : Listing). write_lines ls []) (laborious_snoc i) ∙ lines_snoc (laborious i) (line_of i)) in
-    rw add-one
-    (record {
-      inside = lt;
-      short = omega (arith, p.end_is, line_short i, t.short);
-      front = rw same at (front-put t.front p);
-    })
+  pub next_turn : {s : List ℕ} {p' : Cursor} → s ≡ write_line (line_of i) none → i < n → Puts p s p' → Turn n p₀ p' (i + 1)
+  next_turn {s} e lt w =
+      let same : write_lines (laborious i) [] ++ write_line (line_of i) none ≡ write_lines (laborious (suc i)) [] =
+      sym (ap (λ (ls : Listing). write_lines ls []) (laborious_snoc i) ∙ lines_snoc (laborious i) (line_of i)) in
+      let long : length (write_lines (laborious i) []) + length (write_line (line_of i) none) ≡ length (write_lines (laborious (suc i)) []) =
+      sym (length-append (write_lines (laborious i) []) (write_line (line_of i) none)) ∙ ap length same in
+      rw add-one
+      (record {
+        inside = lt;
+        short = omega (arith, long, line_short i, t.short);
+        puts = puts_as (then_puts t.puts (omega (arith, room)) (puts_as w e)) same;
+      })
 
-pub last_turn : (n : ℕ) (out out' : List ℕ) (at i : ℕ) → n ≤ i → at < length out' → Turn n out out' at i
-    → Front out (write (laborious n) []) (set out' at 255) (at + 1)
-unfolding write_by write_command_by
-last_turn n out out' at i ge lt t =
-    let last : i ≡ n = omega (arith, t.inside) in
-    rw last at (front-put t.front (put_byte out' at 255 lt))
+  pub last_turn : {p' : Cursor} → n ≤ i → Puts p (255 ∷ []) p' → Puts p₀ (write (laborious n) []) p'
+  unfolding write_by write_command_by
+  last_turn ge w =
+      let last : i ≡ n = omega (arith, t.inside) in
+      rw last at (then_puts t.puts (omega (arith, room)) w)

@@ -1,18 +1,18 @@
 // Request M-108: the tape of the most laborious listing of n lines.
 #![tactic(auto)]
 
-ghost use Rattle.std.specs.Prelude.{◌≡◌, ◌+◌, ◌≤◌, length};
+ghost use Rattle.std.specs.Prelude.{◌≡◌, ◌≤◌, length};
 ghost use Rattle.std.proofs.Math.Option.{none};
 ghost use Rattle.reference.specs.Tape.{write_line};
+ghost use Rattle.text.specs.Cursor.{Written};
 ghost use Rattle.answers.specs.Answers.{answer_of, Writes};
 ghost use Rattle.laborious.specs.Listing.{line_of, laborious_tape, laborious_reply};
-ghost use Rattle.laborious.specs.Written.{Put, Front};
 
 use answers::{Answer, Reason};
-use text::copy_bytes;
+use text::Cursor;
 
 // The bytes of line i in a tape.
-fn line_bytes(i: usize) -> &'static [u8]
+fn line_bytes(i: u64) -> &'static [u8]
     ensures { result.now ≡ write_line (line_of i) none }
 {
     match i {
@@ -23,27 +23,17 @@ fn line_bytes(i: usize) -> &'static [u8]
     }
 }
 
-// Puts line i at `at`, and says where it ends.
-fn put_line(i: usize, out: &mut [u8], at: usize) -> usize
-    requires { at + 24 ≤ length out.old }
-    ensures { Put out.old at (write_line (line_of i) none) out.new result }
-{
-    let line = line_bytes(i);
-    copy_bytes(line, out, at);
-    at + line.len()
-}
-
 // Writes the tape of the listing of n lines, and says how long it is.
-fn write_laborious(n: usize, out: &mut [u8]) -> usize
+fn write_laborious(n: u64, out: &mut [u8]) -> usize
     requires { (n ≤ 256) × (6145 ≤ length out.old) }
-    ensures { Front out.old (laborious_tape n) out.new result }
+    ensures { Written out.old 0 (laborious_tape n) out.new result }
 {
-    let mut at = 0;
+    let mut out = Cursor::new(out, 0);
     for i in 0..n {
-        at = put_line(i, out, at);
+        out.put(line_bytes(i));
     }
-    out[at] = 255;
-    at + 1
+    out.put_byte(255);
+    out.at
 }
 
 // Answers the most laborious listing of n lines: its tape at the front of the output, and its length. A refusal changes nothing.
@@ -56,5 +46,6 @@ pub fn laborious(n: u64, out: &mut [u8]) -> Answer
     if out.len() < 59137 {
         return Err(Reason::TooLittleRoom.at(0));
     }
-    Ok(write_laborious(n as usize, out) as u64)
+    // Kept: there is no `From` from usize to u64, and `try_from` has a branch that no length takes.
+    Ok(write_laborious(n, out) as u64)
 }

@@ -8,7 +8,7 @@ use mathlib.Core.List.{List, [], ◌∷◌, ◌++◌, map, map-append}
 use mathlib.Core.Option.{Option, none, some}
 use lib.Dec.{leb, ltb}
 use lib.ListN.{length, get_or, take, drop, length-map}
-use lib.Seq.{take-suc, take-length, length-take-le}
+use lib.Seq.{take-suc, length-take-le}
 use borrow.Author.Tests.{le-leb, lt-leb, lt-ltb, le-ltb, eq-eqb, ne_eqb}
 use Rattle.reference.specs.Control.{not, ◌and◌, when◌then◌else◌, let_some◌else◌then◌}
 use Rattle.reference.specs.Lists.{position, last_position, find, get}
@@ -20,8 +20,8 @@ use Rattle.reference.specs.Life.{Labels, lookup, touch_of, is_use, is_do, goto_t
 use Rattle.laws.proofs.Scans.{if-true, if-false}
 use Rattle.joining.specs.Places.{label_at, labels_at, Labelled}
 use Rattle.joining.proofs.Labels.{label_inside, lookup_hit, lookup_miss, lookup_end}
-use Rattle.lines.specs.Words.{text_of, token_of, tokens_of}
-use Rattle.lines.specs.Lines.{indent_of, part_of, bare_in, bare_listing}
+use Rattle.lines.specs.Words.{text_of, token_of, tokens_of, Holds}
+use Rattle.lines.specs.Lines.{indent_of, part_of, bare_in, bare_listing, Lined}
 use Rattle.lines.specs.Shapes.{symbol_from}
 use Rattle.lines.proofs.words.Each.{map-take}
 use Rattle.lines.proofs.words.Lines.{bare_at}
@@ -47,31 +47,24 @@ module _ {ℓ} {A : Type ℓ} (p : A → Bool) where
       go true = refl
       go false = refl
 
-module _ {A : Type 0} (p : A → Bool) (f : ℕ → A) (ws : List ℕ) where
-  pub last_begin : last_position p (map f ws) ≡ last_position p (map f (take (length ws) ws))
-  last_begin = rw (take-length ws)
+module _ {A : Type 0} (p : A → Bool) (f : ℕ → A) (ws : List ℕ) (n : ℕ) {o : Option ℕ} (inv : o ≡ last_position p (map f (take n ws)))
+    (h : 0 < n) (b : n ≤ length ws) {x : Bool} (ex : x ≡ p (f (get_or ws (n - 1) 0))) where
+  last_turn : o ≡ (when x then some (n - 1) else last_position p (map f (take (n - 1) ws)))
+  last_turn =
+      let e : n ≡ suc (n - 1) = omega arith in
+      let size : length (map f (take (n - 1) ws)) ≡ n - 1 = length-map (take (n - 1) ws) f ∙ length-take-le (n - 1) ws (omega arith) in
+      inv
+      ∙ ap (λ (m : ℕ). last_position p (map f (take m ws))) e
+      ∙ ap (λ (l : List ℕ). last_position p (map f l)) (take-suc ws (n - 1) 0 (omega arith))
+      ∙ ap (last_position p) (map-append f (take (n - 1) ws) (get_or ws (n - 1) 0 ∷ []))
+      ∙ last_snoc p (map f (take (n - 1) ws)) (f (get_or ws (n - 1) 0))
+      ∙ rw (size, ← ex)
 
-  module _ (n : ℕ) {o : Option ℕ} (inv : o ≡ last_position p (map f (take n ws))) where
-    module _ (h : 0 < n) (b : n ≤ length ws) {x : Bool} (ex : x ≡ p (f (get_or ws (n - 1) 0))) where
-      last_turn : o ≡ (when x then some (n - 1) else last_position p (map f (take (n - 1) ws)))
-      last_turn =
-          let e : n ≡ suc (n - 1) = omega arith in
-          let size : length (map f (take (n - 1) ws)) ≡ n - 1 = length-map (take (n - 1) ws) f ∙ length-take-le (n - 1) ws (omega arith) in
-          inv
-          ∙ ap (λ (m : ℕ). last_position p (map f (take m ws))) e
-          ∙ ap (λ (l : List ℕ). last_position p (map f l)) (take-suc ws (n - 1) 0 (omega arith))
-          ∙ ap (last_position p) (map-append f (take (n - 1) ws) (get_or ws (n - 1) 0 ∷ []))
-          ∙ last_snoc p (map f (take (n - 1) ws)) (f (get_or ws (n - 1) 0))
-          ∙ rw (size, ← ex)
+  pub last_hit : x ≡ true → some (n - 1) ≡ o
+  last_hit t = sym (last_turn ∙ if-true _ _ t)
 
-      pub last_hit : x ≡ true → some (n - 1) ≡ o
-      last_hit t = sym (last_turn ∙ if-true _ _ t)
-
-      pub last_miss : x ≡ false → o ≡ last_position p (map f (take (n - 1) ws))
-      last_miss t = last_turn ∙ if-false _ _ t
-
-    pub last_end : n ≤ 0 → none ≡ o
-    last_end h = let e : n ≡ 0 = omega arith in sym (inv ∙ rw e)
+  pub last_miss : x ≡ false → o ≡ last_position p (map f (take (n - 1) ws))
+  last_miss t = last_turn ∙ if-false _ _ t
 
 -- ---- `do`
 
@@ -138,6 +131,10 @@ module _ (tape area : Text) (tokens lines places : List ℕ) (ok : Labelled (bar
         ∙ lookup_end (bare_listing tape area tokens lines) places name)
 
 -- ---- where a `goto` jumps to
+
+-- ws are the words of a line as it is read
+pub lined-holds : {tape area : Text} {tokens : List ℕ} {l : ℕ} → Lined tape area tokens l → {ws : List ℕ} → ws ≡ part_of tokens l → Holds tape area ws
+lined-holds h e = rw e h.holds
 
 pub goto_inside : (tape area : Text) (ws : List ℕ) {r : std.Option ℕ} {g : ℕ} → option_of r ≡ position (is_kw (bytes "goto")) (tokens_of tape area ws) → r ≡ Some g → g < length ws
 goto_inside tape area ws {g = g} er e =

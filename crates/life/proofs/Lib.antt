@@ -1,5 +1,4 @@
 -- Laws on the definitions, for the loops and the tests of the code.
-pub mod Reading
 pub mod Touching
 pub mod Scanning
 pub mod Jumping

@@ -5,8 +5,8 @@ use native.Mathlib.Omega.{arith}
 use mathlib.Core.Path.{◌≡◌, refl, sym, ap, ◌∙◌}
 use mathlib.Core.Bool.{Bool, true, false}
 use mathlib.Core.List.{List, [], ◌∷◌, ◌++◌, map, map-append, append-nil}
-use lib.ListN.{length, get_or, set, take, drop, length-map, length-append, length-drop}
-use lib.Seq.{take-suc, take_all, drop-cons, length-take-le, set_at, get_or_at, append_snoc}
+use lib.ListN.{length, get_or, set, take, drop, length-map, length-append}
+use lib.Seq.{take-suc, drop-cons, length-take-le, set_at, get_or_at, append_snoc}
 use borrow.Author.Tests.{lt-ltb, le-ltb}
 use Rattle.reference.specs.Control.{when◌then◌else◌}
 use Rattle.reference.specs.Text.{Text}
@@ -38,32 +38,25 @@ module _ (tape area : Text) (tokens lines : List ℕ) where
   unfolding label_places
   gathered_begin before = record { size = refl; is = refl }
 
-  module _ {before after : List ℕ} where
-    module _ (n k : ℕ) (g : Gathered (found_in k) before after n) where
-      pub gathered_length : n ≤ length before → length after ≡ length before
-      gathered_length h = rw (g.is, length-append) (omega (arith, g.size, length-drop n before))
+  module _ {before after : List ℕ} (n k : ℕ) (g : Gathered (found_in k) before after n) (h : k < length lines) {x : Bool} {ws : List ℕ}
+      (ew : ws ≡ part_of tokens (get_or lines k 0)) (ex : x ≡ label_tokens (tokens_of tape area ws)) where
+    next : found_in (k + 1) ≡ found_in k ++ (when x then k ∷ [] else [])
+    next = found-next k h (rw ew at ex)
 
-      module _ (h : k < length lines) {x : Bool} {ws : List ℕ} (ew : ws ≡ part_of tokens (get_or lines k 0)) (ex : x ≡ label_tokens (tokens_of tape area ws)) where
-        next : found_in (k + 1) ≡ found_in k ++ (when x then k ∷ [] else [])
-        next = found-next k h (rw ew at ex)
+    pub gathered_hit : x ≡ true → n < length before → Gathered (found_in (k + 1)) before (set after n k) (n + 1)
+    gathered_hit t b =
+        let e : found_in (k + 1) ≡ found_in k ++ (k ∷ []) = next ∙ ap (λ (r : List ℕ). found_in k ++ r) (if-true _ _ t) in
+        record {
+          size = rw (e, length-append) (omega (arith, g.size));
+          is =
+              rw (e, g.is, drop-cons before n 0 b, add-one n)
+              (set_at (found_in k) _ _ k n (sym g.size) ∙ sym (append_snoc (found_in k) k (drop (suc n) before)));
+        }
 
-        pub gathered_hit : x ≡ true → n < length before → Gathered (found_in (k + 1)) before (set after n k) (n + 1)
-        gathered_hit t b =
-            let e : found_in (k + 1) ≡ found_in k ++ (k ∷ []) = next ∙ ap (λ (r : List ℕ). found_in k ++ r) (if-true _ _ t) in
-            record {
-              size = rw (e, length-append) (omega (arith, g.size));
-              is =
-                  rw (e, g.is, drop-cons before n 0 b, add-one n)
-                  (set_at (found_in k) _ _ k n (sym g.size) ∙ sym (append_snoc (found_in k) k (drop (suc n) before)));
-            }
-
-        pub gathered_miss : x ≡ false → Gathered (found_in (k + 1)) before after n
-        gathered_miss t =
-            let e : found_in (k + 1) ≡ found_in k = next ∙ ap (λ (r : List ℕ). found_in k ++ r) (if-false _ _ t) ∙ append-nil (found_in k) in
-            rw e g
-
-      pub gathered_end : length lines ≤ k → Gathered (label_places 0 (bare_listing tape area tokens lines)) before after n
-      gathered_end h = rw (take_all k lines h) at g
+    pub gathered_miss : x ≡ false → Gathered (found_in (k + 1)) before after n
+    gathered_miss t =
+        let e : found_in (k + 1) ≡ found_in k = next ∙ ap (λ (r : List ℕ). found_in k ++ r) (if-false _ _ t) ∙ append-nil (found_in k) in
+        rw e g
 
 -- ---- changed in place, one after the other
 

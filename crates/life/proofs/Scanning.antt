@@ -93,7 +93,7 @@ pub rerun_part : (tape area : Text) (tokens lines : List ℕ) (fam : Text) (star
     → x ≡ rerun_kills (bare_listing tape area tokens lines) fam start vs to indent
 unfolding rerun_kills
 rerun_part tape area tokens lines fam start vs to indent e =
-    e ∙ rw (← drop-take, map-drop, map-take, add-one, add-one)
+    e ∙ rw (← drop-take, map-drop, map-take, add-one to, add-one start)
 
 -- ---- `dead_from`
 

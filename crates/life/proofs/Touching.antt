@@ -40,24 +40,15 @@ module _ (tape area : Text) (ws : List ℕ) (fam : Text) {r : std.Option Expr} (
   unfolding kills kills_by let_some◌else◌then◌
   kills_to e eb = eb ∙ rw (assigned_to h e)
 
--- b is what the code asks of the right side, if there is one
-pub kills_asked : (tape area : Text) (ws : List ℕ) (fam : Text) {r : std.Option Expr} → Assigns tape area ws r → (b : Bool) {P : Expr → Type 0} → MatchOption r (b ≡ false) P
-    → ((x : Expr) → P x → b ≡ kills_by tape area ws x fam) → b ≡ kills (tokens_of tape area ws) fam
-kills_asked tape area ws fam {r} h b {P} m asks = step r refl
-  where
-    step : (v : std.Option Expr) → r ≡ v → b ≡ kills (tokens_of tape area ws) fam
-    step std.None e = (rw e at m) ∙ kills_none tape area ws fam h e
-    step (Some x) e = kills_to tape area ws fam h e (asks x (rw e at m))
-
 -- by the first token, where there is one: x is whether it is of the family
-pub kills-no_token : (tape area : Text) (ws : List ℕ) (fam : Text) → length ws ≡ 0 → false ≡ kills (tokens_of tape area ws) fam
-kills-no_token tape area [] fam e = sym (kills-empty fam)
-kills-no_token tape area (w ∷ ws) fam e = absurd (omega arith)
+pub kills-no_token : (tape area : Text) (ws : List ℕ) (fam : Text) → length ws < 1 → false ≡ kills (tokens_of tape area ws) fam
+kills-no_token tape area [] fam h = sym (kills-empty fam)
+kills-no_token tape area (w ∷ ws) fam h = absurd (omega arith)
 
-pub kills-first : (tape area : Text) (ws : List ℕ) (fam : Text) {x : Bool} → (length ws ≡ 0 → ⊥) → x ≡ of_family fam (token_of tape area (get_or ws 0 0)) → x ≡ false
+pub kills-first : (tape area : Text) (ws : List ℕ) (fam : Text) {x : Bool} → 1 ≤ length ws → x ≡ of_family fam (token_of tape area (get_or ws 0 0)) → x ≡ false
     → false ≡ kills (tokens_of tape area ws) fam
-kills-first tape area [] fam n ex f = absurd (n refl)
-kills-first tape area (w ∷ ws) fam n ex f = sym (kills-other (token_of tape area w) (tokens_of tape area ws) fam (sym ex ∙ f))
+kills-first tape area [] fam h ex f = absurd (omega arith)
+kills-first tape area (w ∷ ws) fam h ex f = sym (kills-other (token_of tape area w) (tokens_of tape area ws) fam (sym ex ∙ f))
 
 module _ (tape area : Text) (ws : List ℕ) (x : Expr) (fam : Text) {r : std.Option Named} (h : Names tape area (family (text_of tape area (get_or ws 0 0))) r) where
   pub by_none : r ≡ std.None → false ≡ kills_by tape area ws x fam

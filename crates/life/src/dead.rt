@@ -6,70 +6,57 @@ ghost use Rattle.reference.specs.Life.{dead_after};
 ghost use Rattle.joining.specs.Places.{labels_at, Labelled};
 ghost use Rattle.lines.specs.Rules.{rules_of};
 ghost use Rattle.lines.specs.Codes.{family_number};
-ghost use Rattle.lines.specs.Lines.{bare_in, bare_listing, Lined, Listed};
-ghost use Rattle.lines.specs.Fams.{fam_text, Known};
 ghost use Rattle.life.specs.Liveness.{returns_at, scan_liveness, liveness_after};
+ghost use Rattle.lines.specs.Texts.{Known, Lined, Listed, bare_in, bare_listing, fam_text};
 
 use crate::jumps::{goto_passes, while_passes};
 use crate::liveness::{Followed, Liveness, liveness_at};
 use linefacts::{is_calling, is_transparent, number_of};
+use lines::texts::Listing;
 use lines::{fams, shapes, words};
 
 // Whether a line, at most `base_indent` deep, has the Keyword `return`.
-fn returns_at<'a>(
-    tape: &'a [u8],
-    area: &'a [u8],
-    tokens: &'a [u64],
-    l: u64,
-    base_indent: u64,
-) -> bool
-    requires { Lined tape.now area.now tokens.now l }
-    ensures { result ≡ returns_at base_indent (bare_in tape.now area.now tokens.now l) }
+fn returns_at(listing: &Listing<'_>, l: u64, base_indent: u64) -> bool
+    requires { Lined listing.now.texts listing.now.tokens.now l }
+    ensures { result ≡ returns_at base_indent (bare_in listing.now.texts listing.now.tokens.now l) }
 {
-    words::indent(l) <= base_indent && shapes::has_return(tape, area, words::line_of(tokens, l))
+    words::indent(l) <= base_indent
+        && shapes::has_return(&listing.texts, words::line_of(listing.tokens, l))
 }
 
 // A line that no jump decides.
-fn scan<'a>(tape: &'a [u8], area: &'a [u8], tokens: &'a [u64], l: u64, v: Followed) -> Liveness
-    requires { Lined tape.now area.now tokens.now l × Known tape.now area.now v.family }
-    ensures { result ≡ scan_liveness (fam_text tape.now area.now v.family) v.indent (volatile (rules_of v.rules))
-        (bare_in tape.now area.now tokens.now l) }
+fn scan(listing: &Listing<'_>, l: u64, v: Followed) -> Liveness
+    requires { Lined listing.now.texts listing.now.tokens.now l × Known listing.now.texts v.family }
+    ensures { result ≡ scan_liveness (fam_text listing.now.texts v.family) v.indent (volatile (rules_of v.rules))
+        (bare_in listing.now.texts listing.now.tokens.now l) }
 {
-    match liveness_at(tape, area, tokens, l, v) {
+    match liveness_at(listing, l, v) {
         Liveness::Dead => Liveness::Dead,
         Liveness::Live => Liveness::Live,
-        Liveness::Open if returns_at(tape, area, tokens, l, v.indent) => Liveness::Dead,
+        Liveness::Open if returns_at(listing, l, v.indent) => Liveness::Dead,
         Liveness::Open => Liveness::Open,
     }
 }
 
 // What line w, after the definition, does to the value.
-fn liveness_after<'a>(
-    tape: &'a [u8],
-    area: &'a [u8],
-    tokens: &'a [u64],
-    lines: &'a [u64],
-    labels: &'a [u64],
-    w: usize,
-    v: Followed,
-) -> Liveness
-    requires { Listed tape.now area.now tokens.now lines.now
-        × Labelled (bare_listing tape.now area.now tokens.now lines.now) labels.now × Known tape.now area.now v.family
-        × (w < length lines.now) × (v.start < length lines.now) }
-    ensures { result ≡ liveness_after (bare_listing tape.now area.now tokens.now lines.now)
-        (fam_text tape.now area.now v.family) v.indent
-        (labels_at (bare_listing tape.now area.now tokens.now lines.now) labels.now) v.start
-        (volatile (rules_of v.rules)) w (bare_in tape.now area.now tokens.now (get_or lines.now w 0)) }
+fn liveness_after(listing: &Listing<'_>, labels: &[u64], w: usize, v: Followed) -> Liveness
+    requires { Listed listing.now
+        × Labelled (bare_listing listing.now) labels.now × Known listing.now.texts v.family
+        × (w < length listing.now.lines.now) × (v.start < length listing.now.lines.now) }
+    ensures { result ≡ liveness_after (bare_listing listing.now)
+        (fam_text listing.now.texts v.family) v.indent
+        (labels_at (bare_listing listing.now) labels.now) v.start
+        (volatile (rules_of v.rules)) w (bare_in listing.now.texts listing.now.tokens.now (get_or listing.now.lines.now w 0)) }
 {
-    let l = lines[w];
-    if shapes::has_while(tape, area, words::line_of(tokens, l)) {
-        if while_passes(tape, area, tokens, lines, w, v) {
+    let l = listing.lines[w];
+    if shapes::has_while(&listing.texts, words::line_of(listing.tokens, l)) {
+        if while_passes(listing, w, v) {
             Liveness::Open
         } else {
             Liveness::Live
         }
-    } else if goto_passes(tape, area, tokens, lines, labels, l, v) {
-        scan(tape, area, tokens, l, v)
+    } else if goto_passes(listing, labels, l, v) {
+        scan(listing, l, v)
     } else {
         Liveness::Live
     }
@@ -77,27 +64,25 @@ fn liveness_after<'a>(
 
 // What line w does to the value, by its facts where they tell it: a transparent line does nothing, and a calling one what calls do to the
 // family. n is the family's number, and `overwritten` says whether calls overwrite it.
-fn liveness_by_facts<'a>(
-    tape: &'a [u8],
-    area: &'a [u8],
-    tokens: &'a [u64],
-    lines: &'a [u64],
-    labels: &'a [u64],
+fn liveness_by_facts(
+    listing: &Listing<'_>,
+    labels: &[u64],
     w: usize,
     v: Followed,
     n: u64,
     overwritten: bool,
 ) -> Liveness
-    requires { Listed tape.now area.now tokens.now lines.now
-        × Labelled (bare_listing tape.now area.now tokens.now lines.now) labels.now × Known tape.now area.now v.family
-        × (w < length lines.now) × (v.start < length lines.now) × (n ≡ family_number (fam_text tape.now area.now v.family))
-        × (overwritten ≡ has (volatile (rules_of v.rules)) (fam_text tape.now area.now v.family)) }
-    ensures { result ≡ liveness_after (bare_listing tape.now area.now tokens.now lines.now)
-        (fam_text tape.now area.now v.family) v.indent
-        (labels_at (bare_listing tape.now area.now tokens.now lines.now) labels.now) v.start
-        (volatile (rules_of v.rules)) w (bare_in tape.now area.now tokens.now (get_or lines.now w 0)) }
+    requires { Listed listing.now
+        × Labelled (bare_listing listing.now) labels.now × Known listing.now.texts v.family
+        × (w < length listing.now.lines.now) × (v.start < length listing.now.lines.now)
+        × (n ≡ family_number (fam_text listing.now.texts v.family))
+        × (overwritten ≡ has (volatile (rules_of v.rules)) (fam_text listing.now.texts v.family)) }
+    ensures { result ≡ liveness_after (bare_listing listing.now)
+        (fam_text listing.now.texts v.family) v.indent
+        (labels_at (bare_listing listing.now) labels.now) v.start
+        (volatile (rules_of v.rules)) w (bare_in listing.now.texts listing.now.tokens.now (get_or listing.now.lines.now w 0)) }
 {
-    let l = lines[w];
+    let l = listing.lines[w];
     if is_transparent(l, n) {
         return Liveness::Open;
     }
@@ -107,31 +92,23 @@ fn liveness_by_facts<'a>(
         }
         return Liveness::Open;
     }
-    liveness_after(tape, area, tokens, lines, labels, w, v)
+    liveness_after(listing, labels, w, v)
 }
 
 // Whether the family's value at the end of line `from` is never read again.
-pub fn dead_after<'a>(
-    tape: &'a [u8],
-    area: &'a [u8],
-    tokens: &'a [u64],
-    lines: &'a [u64],
-    labels: &'a [u64],
-    from: usize,
-    v: Followed,
-) -> bool
-    requires { Listed tape.now area.now tokens.now lines.now
-        × Labelled (bare_listing tape.now area.now tokens.now lines.now) labels.now × Known tape.now area.now v.family
-        × (from < length lines.now) × (v.start < length lines.now) }
-    ensures { result ≡ dead_after (bare_listing tape.now area.now tokens.now lines.now) from
-        (fam_text tape.now area.now v.family) v.indent
-        (labels_at (bare_listing tape.now area.now tokens.now lines.now) labels.now) v.start
+pub fn dead_after(listing: &Listing<'_>, labels: &[u64], from: usize, v: Followed) -> bool
+    requires { Listed listing.now
+        × Labelled (bare_listing listing.now) labels.now × Known listing.now.texts v.family
+        × (from < length listing.now.lines.now) × (v.start < length listing.now.lines.now) }
+    ensures { result ≡ dead_after (bare_listing listing.now) from
+        (fam_text listing.now.texts v.family) v.indent
+        (labels_at (bare_listing listing.now) labels.now) v.start
         (volatile (rules_of v.rules)) }
 {
-    let n = number_of(tape, area, v.family);
-    let overwritten = fams::is_volatile(tape, area, v.family, v.rules);
-    for w in from + 1..lines.len() {
-        match liveness_by_facts(tape, area, tokens, lines, labels, w, v, n, overwritten) {
+    let n = number_of(&listing.texts, v.family);
+    let overwritten = fams::is_volatile(&listing.texts, v.family, v.rules);
+    for w in from + 1..listing.lines.len() {
+        match liveness_by_facts(listing, labels, w, v, n, overwritten) {
             Liveness::Dead => return true,
             Liveness::Live => return false,
             Liveness::Open => {}

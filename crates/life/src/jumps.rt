@@ -8,38 +8,32 @@ ghost use Rattle.reference.specs.Rules.{volatile};
 ghost use Rattle.reference.specs.Life.{lookup, is_do, goto_target, while_passes, goto_passes};
 ghost use Rattle.joining.specs.Places.{labels_at, Labelled};
 ghost use Rattle.lines.specs.Rules.{rules_of};
-ghost use Rattle.lines.specs.Words.{text_of, tokens_of, Points};
-ghost use Rattle.lines.specs.Lines.{part_of, bare_in, bare_listing, Lined, Listed};
-ghost use Rattle.lines.specs.Fams.{fam_text, Known};
+ghost use Rattle.lines.specs.Lines.{part_of};
 ghost use Rattle.life.specs.Jumps.{jump};
+ghost use Rattle.lines.specs.Texts.{Known, Lined, Listed, Points, bare_in, bare_listing, fam_text, text_of, tokens_of};
 
 use crate::liveness::{Followed, rerun_kills};
 use crate::touches;
+use lines::texts::Listing;
 use lines::{shapes, words};
 
 // ---- `while`
 
 // Whether a line has this indent and the Keyword `do`.
-fn is_do<'a>(tape: &'a [u8], area: &'a [u8], tokens: &'a [u64], l: u64, indent: u64) -> bool
-    requires { Lined tape.now area.now tokens.now l }
-    ensures { result ≡ is_do indent (bare_in tape.now area.now tokens.now l) }
+fn is_do(listing: &Listing<'_>, l: u64, indent: u64) -> bool
+    requires { Lined listing.now.texts listing.now.tokens.now l }
+    ensures { result ≡ is_do indent (bare_in listing.now.texts listing.now.tokens.now l) }
 {
-    words::indent(l) == indent && shapes::has_do(tape, area, words::line_of(tokens, l))
+    words::indent(l) == indent && shapes::has_do(&listing.texts, words::line_of(listing.tokens, l))
 }
 
 // The last of the lines with this indent and the Keyword `do`.
-fn do_before<'a>(
-    tape: &'a [u8],
-    area: &'a [u8],
-    tokens: &'a [u64],
-    lines: &'a [u64],
-    indent: u64,
-) -> Option<usize>
-    requires { Listed tape.now area.now tokens.now lines.now }
-    ensures { option_of result ≡ last_position (is_do indent) (bare_listing tape.now area.now tokens.now lines.now) }
+fn do_before(listing: &Listing<'_>, indent: u64) -> Option<usize>
+    requires { Listed listing.now }
+    ensures { option_of result ≡ last_position (is_do indent) (bare_listing listing.now) }
 {
-    for n in (0..lines.len()).rev() {
-        if is_do(tape, area, tokens, lines[n], indent) {
+    for n in (0..listing.lines.len()).rev() {
+        if is_do(listing, listing.lines[n], indent) {
             return Some(n);
         }
     }
@@ -47,59 +41,63 @@ fn do_before<'a>(
 }
 
 // At line w, which has a `while`: the back edge enters the loop's head again.
-pub fn while_passes<'a>(
-    tape: &'a [u8],
-    area: &'a [u8],
-    tokens: &'a [u64],
-    lines: &'a [u64],
-    w: usize,
-    v: Followed,
-) -> bool
-    requires { Listed tape.now area.now tokens.now lines.now × Known tape.now area.now v.family
-        × (w < length lines.now) × (v.start < length lines.now) }
-    ensures { result ≡ while_passes (bare_listing tape.now area.now tokens.now lines.now)
-        (fam_text tape.now area.now v.family) v.start (volatile (rules_of v.rules)) w
-        (bare_in tape.now area.now tokens.now (get_or lines.now w 0)) }
+pub fn while_passes(listing: &Listing<'_>, w: usize, v: Followed) -> bool
+    requires { Listed listing.now × Known listing.now.texts v.family
+        × (w < length listing.now.lines.now) × (v.start < length listing.now.lines.now) }
+    ensures { result ≡ while_passes (bare_listing listing.now)
+        (fam_text listing.now.texts v.family) v.start (volatile (rules_of v.rules)) w
+        (bare_in listing.now.texts listing.now.tokens.now (get_or listing.now.lines.now w 0)) }
 {
-    let l = lines[w];
-    if touches::uses(tape, area, words::line_of(tokens, l), v.family, v.rules) {
+    let l = listing.lines[w];
+    if touches::uses(
+        &listing.texts,
+        words::line_of(listing.tokens, l),
+        v.family,
+        v.rules,
+    ) {
         return false;
     }
     let indent = words::indent(l);
-    let Some(d) = do_before(tape, area, tokens, &lines[..w], indent) else {
+    let Some(d) = do_before(
+        &Listing {
+            lines: &listing.lines[..w],
+            ..*listing
+        },
+        indent,
+    ) else {
         return false; // a loop whose head is not known
     };
-    v.start <= d || rerun_kills(tape, area, tokens, lines, d, indent, v)
+    v.start <= d || rerun_kills(listing, d, indent, v)
 }
 
 // ---- `goto`
 
 // Whether the label line l has the name that the token word w has for its text.
-fn is_named<'a>(tape: &'a [u8], area: &'a [u8], tokens: &'a [u64], l: u64, w: u64) -> bool
-    requires { Lined tape.now area.now tokens.now l × Points tape.now area.now w × (0 < length (part_of tokens.now l)) }
-    ensures { result ≡ (text_of tape.now area.now (get_or (part_of tokens.now l) 0 0) ≟ text_of tape.now area.now w) }
+fn is_named(listing: &Listing<'_>, l: u64, w: u64) -> bool
+    requires { Lined listing.now.texts listing.now.tokens.now l × Points listing.now.texts w
+        × (0 < length (part_of listing.now.tokens.now l)) }
+    ensures { result ≡ (text_of listing.now.texts (get_or (part_of listing.now.tokens.now l) 0 0)
+        ≟ text_of listing.now.texts w) }
 {
-    let line = words::line_of(tokens, l);
-    text::same(words::text(tape, area, line[0]), words::text(tape, area, w))
+    let line = words::line_of(listing.tokens, l);
+    text::same(
+        words::text(&listing.texts, line[0]),
+        words::text(&listing.texts, w),
+    )
 }
 
 // The line of the label with the name that the token word w has for its text; of equal names the last.
-fn label_named<'a>(
-    tape: &'a [u8],
-    area: &'a [u8],
-    tokens: &'a [u64],
-    lines: &'a [u64],
-    labels: &'a [u64],
-    w: u64,
-) -> Option<usize>
-    requires { Listed tape.now area.now tokens.now lines.now
-        × Labelled (bare_listing tape.now area.now tokens.now lines.now) labels.now × Points tape.now area.now w }
-    ensures { option_of result ≡ lookup (labels_at (bare_listing tape.now area.now tokens.now lines.now) labels.now)
-        (text_of tape.now area.now w) }
+fn label_named(listing: &Listing<'_>, labels: &[u64], w: u64) -> Option<usize>
+    requires { Listed listing.now
+        × Labelled (bare_listing listing.now) labels.now × Points listing.now.texts w }
+    ensures { option_of result ≡ lookup (labels_at (bare_listing listing.now) labels.now)
+        (text_of listing.now.texts w) }
 {
     for n in (0..labels.len()).rev() {
+        // Kept: `as`, since callers lend the places as `u64`s, and std has no `From` from `u64` to `usize`: `try_from` would have an error
+        // that cannot come.
         let at = labels[n] as usize;
-        if is_named(tape, area, tokens, lines[at], w) {
+        if is_named(listing, listing.lines[at], w) {
             return Some(at);
         }
     }
@@ -107,51 +105,36 @@ fn label_named<'a>(
 }
 
 // Where the `goto` of a line jumps to, if it has one: the line of its label, if that is known.
-fn goto_target<'a>(
-    tape: &'a [u8],
-    area: &'a [u8],
-    tokens: &'a [u64],
-    lines: &'a [u64],
-    labels: &'a [u64],
-    l: u64,
-) -> Option<Option<usize>>
-    requires { Listed tape.now area.now tokens.now lines.now
-        × Labelled (bare_listing tape.now area.now tokens.now lines.now) labels.now
-        × Lined tape.now area.now tokens.now l }
-    ensures { jump result ≡ goto_target (tokens_of tape.now area.now (part_of tokens.now l))
-        (labels_at (bare_listing tape.now area.now tokens.now lines.now) labels.now) }
+fn goto_target(listing: &Listing<'_>, labels: &[u64], l: u64) -> Option<Option<usize>>
+    requires { Listed listing.now
+        × Labelled (bare_listing listing.now) labels.now
+        × Lined listing.now.texts listing.now.tokens.now l }
+    ensures { jump result ≡ goto_target (tokens_of listing.now.texts (part_of listing.now.tokens.now l))
+        (labels_at (bare_listing listing.now) labels.now) }
 {
-    let line = words::line_of(tokens, l);
-    let g = shapes::goto_at(tape, area, line)?;
+    let line = words::line_of(listing.tokens, l);
+    let g = shapes::goto_at(&listing.texts, line)?;
     let Some(s) = shapes::symbol_from(line, g + 1) else {
         return Some(None);
     };
-    Some(label_named(tape, area, tokens, lines, labels, line[s]))
+    Some(label_named(listing, labels, line[s]))
 }
 
 // At a line with a `goto` or none: a jump back above the definition runs it again.
-pub fn goto_passes<'a>(
-    tape: &'a [u8],
-    area: &'a [u8],
-    tokens: &'a [u64],
-    lines: &'a [u64],
-    labels: &'a [u64],
-    l: u64,
-    v: Followed,
-) -> bool
-    requires { Listed tape.now area.now tokens.now lines.now
-        × Labelled (bare_listing tape.now area.now tokens.now lines.now) labels.now × Lined tape.now area.now tokens.now l
-        × Known tape.now area.now v.family × (v.start < length lines.now) }
-    ensures { result ≡ goto_passes (bare_listing tape.now area.now tokens.now lines.now)
-        (fam_text tape.now area.now v.family) v.start (volatile (rules_of v.rules))
-        (labels_at (bare_listing tape.now area.now tokens.now lines.now) labels.now)
-        (bare_in tape.now area.now tokens.now l) }
+pub fn goto_passes(listing: &Listing<'_>, labels: &[u64], l: u64, v: Followed) -> bool
+    requires { Listed listing.now
+        × Labelled (bare_listing listing.now) labels.now × Lined listing.now.texts listing.now.tokens.now l
+        × Known listing.now.texts v.family × (v.start < length listing.now.lines.now) }
+    ensures { result ≡ goto_passes (bare_listing listing.now)
+        (fam_text listing.now.texts v.family) v.start (volatile (rules_of v.rules))
+        (labels_at (bare_listing listing.now) labels.now)
+        (bare_in listing.now.texts listing.now.tokens.now l) }
 {
-    match goto_target(tape, area, tokens, lines, labels, l) {
+    match goto_target(listing, labels, l) {
         None => true,
         Some(None) => false,
         Some(Some(at)) => {
-            v.start < at || rerun_kills(tape, area, tokens, lines, at, words::indent(lines[at]), v)
+            v.start < at || rerun_kills(listing, at, words::indent(listing.lines[at]), v)
         }
     }
 }

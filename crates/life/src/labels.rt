@@ -1,28 +1,32 @@
 // The labels of a round: the places of the label lines, in their order. The names are read off the lines, which never change in a round.
 ghost use Rattle.std.specs.Prelude.{◌≡◌, ◌≤◌, length};
 ghost use Rattle.joining.specs.Places.{label_places, shift_place, shift_places};
-ghost use Rattle.lines.specs.Lines.{bare_listing, Listed};
 ghost use Rattle.life.specs.Labels.{Gathered};
+ghost use Rattle.lines.specs.Texts.{Listed, bare_listing};
 
+use lines::texts::Listing;
 use lines::{shapes, words};
 
+// The place of line k.
+// Kept: `as`, since callers lend the places as `u64`s, and std has no `From` between `usize` and `u64`: `try_from` would have an error that
+// cannot come.
+fn place_of(k: usize) -> u64
+    ensures { result ≡ k }
+{
+    k as u64
+}
+
 // Puts the places of the label lines into the front of `labels`, and says how many there are.
-// Kept: a count beside a lent table, since memory is fixed and there is no heap.
-pub fn gather_labels<'a>(
-    tape: &'a [u8],
-    area: &'a [u8],
-    tokens: &'a [u64],
-    lines: &'a [u64],
-    labels: &mut [u64],
-) -> usize
-    requires { Listed tape.now area.now tokens.now lines.now × (length lines.now ≤ length labels.old) }
-    ensures { Gathered (label_places 0 (bare_listing tape.now area.now tokens.now lines.now)) labels.old
+// Kept: a table that the caller lends, and a count beside it: by a rule of the project memory is fixed and there is no heap.
+pub fn gather_labels(listing: &Listing<'_>, labels: &mut [u64]) -> usize
+    requires { Listed listing.now × (length listing.now.lines.now ≤ length labels.old) }
+    ensures { Gathered (label_places 0 (bare_listing listing.now)) labels.old
         labels.new result }
 {
     let mut n = 0;
-    for (k, l) in lines.iter().enumerate() {
-        if shapes::is_label(tape, area, words::line_of(tokens, *l)) {
-            labels[n] = k as u64;
+    for (k, l) in listing.lines.iter().enumerate() {
+        if shapes::is_label(&listing.texts, words::line_of(listing.tokens, *l)) {
+            labels[n] = place_of(k);
             n += 1;
         }
     }
@@ -33,7 +37,11 @@ pub fn gather_labels<'a>(
 fn shifted(place: u64, i: usize) -> u64
     ensures { result ≡ shift_place i place }
 {
-    if (i as u64) < place { place - 1 } else { place }
+    if place_of(i) < place {
+        place - 1
+    } else {
+        place
+    }
 }
 
 // The places when line i is gone.

@@ -3,14 +3,14 @@ ghost use Rattle.std.specs.Prelude.{◌≡◌, ◌≤◌, ◌<◌, length};
 ghost use Rattle.reference.specs.Rules.{volatile};
 ghost use Rattle.reference.specs.Life.{killed_first, rerun_kills};
 ghost use Rattle.lines.specs.Rules.{rules_of};
-ghost use Rattle.lines.specs.Lines.{bare_in, bare_listing, Lined, Listed};
-ghost use Rattle.lines.specs.Fams.{fam_text, Known};
 ghost use Rattle.life.specs.Liveness.{line_liveness};
+ghost use Rattle.lines.specs.Texts.{Known, Lined, Listed, bare_in, bare_listing, fam_text};
 
 use crate::touches;
 use crate::touches::Touched;
 use lines::fams::Fam;
 use lines::rules::Rules;
+use lines::texts::Listing;
 use lines::words;
 
 // What is known of the value at a line: overwritten or never read again, read, or neither yet.
@@ -21,7 +21,8 @@ pub enum Liveness {
     Open,
 }
 
-// A value that is followed through the lines: the family that holds it, the line that defines it and that line's indent; the settings.
+// A value that is followed through the lines: the family that holds it, how deep at most a line stands that ends it, the line that defines
+// it, and the settings.
 #[derive(Clone, Copy)]
 pub struct Followed {
     pub family: Fam,
@@ -31,18 +32,17 @@ pub struct Followed {
 }
 
 // A line that reads the value makes it Live, one that overwrites it, at most `v.indent` deep, Dead.
-pub fn liveness_at<'a>(
-    tape: &'a [u8],
-    area: &'a [u8],
-    tokens: &'a [u64],
-    l: u64,
-    v: Followed,
-) -> Liveness
-    requires { Lined tape.now area.now tokens.now l × Known tape.now area.now v.family }
-    ensures { result ≡ line_liveness (fam_text tape.now area.now v.family) v.indent (volatile (rules_of v.rules))
-        (bare_in tape.now area.now tokens.now l) }
+pub fn liveness_at(listing: &Listing<'_>, l: u64, v: Followed) -> Liveness
+    requires { Lined listing.now.texts listing.now.tokens.now l × Known listing.now.texts v.family }
+    ensures { result ≡ line_liveness (fam_text listing.now.texts v.family) v.indent (volatile (rules_of v.rules))
+        (bare_in listing.now.texts listing.now.tokens.now l) }
 {
-    match touches::touch(tape, area, words::line_of(tokens, l), v.family, v.rules) {
+    match touches::touch(
+        &listing.texts,
+        words::line_of(listing.tokens, l),
+        v.family,
+        v.rules,
+    ) {
         Touched::Use(_) => Liveness::Live,
         Touched::Kill if words::indent(l) <= v.indent => Liveness::Dead,
         Touched::Kill | Touched::Nothing => Liveness::Open,
@@ -50,19 +50,13 @@ pub fn liveness_at<'a>(
 }
 
 // Whether the value is overwritten, at most `v.indent` deep, before any read in the lines.
-pub fn killed_first<'a>(
-    tape: &'a [u8],
-    area: &'a [u8],
-    tokens: &'a [u64],
-    lines: &'a [u64],
-    v: Followed,
-) -> bool
-    requires { Listed tape.now area.now tokens.now lines.now × Known tape.now area.now v.family }
-    ensures { result ≡ killed_first (bare_listing tape.now area.now tokens.now lines.now)
-        (fam_text tape.now area.now v.family) v.indent (volatile (rules_of v.rules)) }
+pub fn killed_first(listing: &Listing<'_>, v: Followed) -> bool
+    requires { Listed listing.now × Known listing.now.texts v.family }
+    ensures { result ≡ killed_first (bare_listing listing.now)
+        (fam_text listing.now.texts v.family) v.indent (volatile (rules_of v.rules)) }
 {
-    for l in lines {
-        match liveness_at(tape, area, tokens, *l, v) {
+    for l in listing.lines {
+        match liveness_at(listing, *l, v) {
             Liveness::Dead => return true,
             Liveness::Live => return false,
             Liveness::Open => {}
@@ -73,19 +67,11 @@ pub fn killed_first<'a>(
 
 // A jump back to behind line `to`, at this indent, runs the lines up to the definition again: whether the value is
 // overwritten there before any read.
-pub fn rerun_kills<'a>(
-    tape: &'a [u8],
-    area: &'a [u8],
-    tokens: &'a [u64],
-    lines: &'a [u64],
-    to: usize,
-    indent: u64,
-    v: Followed,
-) -> bool
-    requires { Listed tape.now area.now tokens.now lines.now × Known tape.now area.now v.family × (to ≤ v.start)
-        × (v.start < length lines.now) × (indent < 64) }
-    ensures { result ≡ rerun_kills (bare_listing tape.now area.now tokens.now lines.now)
-        (fam_text tape.now area.now v.family) v.start (volatile (rules_of v.rules)) to indent }
+pub fn rerun_kills(listing: &Listing<'_>, to: usize, indent: u64, v: Followed) -> bool
+    requires { Listed listing.now × Known listing.now.texts v.family × (to ≤ v.start)
+        × (v.start < length listing.now.lines.now) × (indent < 64) }
+    ensures { result ≡ rerun_kills (bare_listing listing.now)
+        (fam_text listing.now.texts v.family) v.start (volatile (rules_of v.rules)) to indent }
 {
     let from = to + 1;
     let end = v.start + 1;
@@ -93,5 +79,11 @@ pub fn rerun_kills<'a>(
         indent: indent + 1,
         ..v
     };
-    killed_first(tape, area, tokens, &lines[from..end], again)
+    killed_first(
+        &Listing {
+            lines: &listing.lines[from..end],
+            ..*listing
+        },
+        again,
+    )
 }

@@ -1,12 +1,17 @@
 // The facts of lines, made from their tokens once, before the rounds.
+//
+// Kept: a function takes the texts and the tokens beside each other where it writes the lines, which a `Listing` lends to be read. A struct
+// with the lines to be written would need in its contract that it still lends the same slices, which is no plainer.
 ghost use Rattle.std.specs.Prelude.{◌≡◌, ℕ, ◌<◌};
 ghost use Rattle.reference.specs.Lists.{any, is_some};
 ghost use Rattle.reference.specs.Shapes.{call_in};
-ghost use Rattle.lines.specs.Words.{kind_of, token_of, tokens_of, Points, Holds};
-ghost use Rattle.lines.specs.Lines.{Lined, Listed};
+ghost use Rattle.lines.specs.Words.{kind_of};
+ghost use Rattle.lines.specs.Lines.{Listed};
 ghost use Rattle.lines.specs.Facts.{is_control, Tells};
 ghost use Rattle.linefacts.specs.Gathering.{seen_by, Bits, CallBits, Noted, AllNoted};
+ghost use Rattle.lines.specs.Texts.{Holds, Lined, Points, token_of, tokens_of};
 
+use lines::texts::Texts;
 use lines::{shapes, words};
 
 // Bits of what a line may have: a token of control flow, a Symbol; all families and control flow.
@@ -22,19 +27,20 @@ const CALLS: u64 = 65536;
 const NO_CALL: u64 = 131072;
 
 // Whether a token may make its line a jump, a label, the edge of a block or a call of an address.
-fn is_control<'a>(tape: &'a [u8], area: &'a [u8], w: u64) -> bool
-    requires { Points tape.now area.now w }
-    ensures { result ≡ is_control (token_of tape.now area.now w) }
+#[tactic(auto, using(crate::proofs::Tokens::control_keyword, crate::proofs::Tokens::control_brace, crate::proofs::Tokens::control_colon))]
+fn is_control(texts: &Texts<'_>, w: u64) -> bool
+    requires { Points texts.now w }
+    ensures { result ≡ is_control (token_of texts.now w) }
 {
     words::kind(w) == words::KEYWORD
-        || shapes::has_brace(tape, area, w)
-        || text::is_colon(words::text(tape, area, w))
+        || shapes::has_brace(texts, w)
+        || text::is_colon(words::text(texts, w))
 }
 
 // The bit of a Register's family, as its code says; one without a code may be anything.
-fn family_bits<'a>(tape: &'a [u8], area: &'a [u8], w: u64) -> u64
-    requires { Points tape.now area.now w × (kind_of w ≡ 1) }
-    ensures { Bits result (λ (i : ℕ). seen_by i (token_of tape.now area.now w)) }
+fn family_bits(texts: &Texts<'_>, w: u64) -> u64
+    requires { Points texts.now w × (kind_of w ≡ 1) }
+    ensures { Bits result (λ (i : ℕ). seen_by i (token_of texts.now w)) }
 {
     match words::code(w) {
         Some(c) => 1u64 << (c / 4 - 1),
@@ -43,15 +49,16 @@ fn family_bits<'a>(tape: &'a [u8], area: &'a [u8], w: u64) -> u64
 }
 
 // The bits of what a token is.
-fn token_bits<'a>(tape: &'a [u8], area: &'a [u8], w: u64) -> u64
-    requires { Points tape.now area.now w }
-    ensures { Bits result (λ (i : ℕ). seen_by i (token_of tape.now area.now w)) }
+#[tactic(auto, using(crate::proofs::Tokens::control_bits, crate::proofs::Tokens::symbol_bits, crate::proofs::Tokens::no_bits))]
+fn token_bits(texts: &Texts<'_>, w: u64) -> u64
+    requires { Points texts.now w }
+    ensures { Bits result (λ (i : ℕ). seen_by i (token_of texts.now w)) }
 {
     let kind = words::kind(w);
     if kind == words::REGISTER {
-        return family_bits(tape, area, w);
+        return family_bits(texts, w);
     }
-    if is_control(tape, area, w) {
+    if is_control(texts, w) {
         return CONTROL + SYMBOLS; // it may be a Symbol too
     }
     if kind == words::SYMBOL {
@@ -61,22 +68,22 @@ fn token_bits<'a>(tape: &'a [u8], area: &'a [u8], w: u64) -> u64
 }
 
 // The bits of what a line has.
-fn bits_of<'a>(tape: &'a [u8], area: &'a [u8], line: &'a [u64]) -> u64
-    requires { Holds tape.now area.now line.now }
-    ensures { Bits result (λ (i : ℕ). any (seen_by i) (tokens_of tape.now area.now line.now)) }
+fn bits_of(texts: &Texts<'_>, line: &[u64]) -> u64
+    requires { Holds texts.now line.now }
+    ensures { Bits result (λ (i : ℕ). any (seen_by i) (tokens_of texts.now line.now)) }
 {
     let mut has = 0;
     for w in line {
-        has |= token_bits(tape, area, *w);
+        has |= token_bits(texts, *w);
     }
     has
 }
 
 // The bits of whether a line calls, from the bits of what it has. Where there is control flow, no scan asks.
-fn call_bits<'a>(tape: &'a [u8], area: &'a [u8], line: &'a [u64], has: u64) -> u64
-    requires { Holds tape.now area.now line.now
-        × Bits has (λ (i : ℕ). any (seen_by i) (tokens_of tape.now area.now line.now)) }
-    ensures { CallBits result (is_some (call_in (tokens_of tape.now area.now line.now))) }
+fn call_bits(texts: &Texts<'_>, line: &[u64], has: u64) -> u64
+    requires { Holds texts.now line.now
+        × Bits has (λ (i : ℕ). any (seen_by i) (tokens_of texts.now line.now)) }
+    ensures { CallBits result (is_some (call_in (tokens_of texts.now line.now))) }
 {
     if CONTROL <= has % 65536 {
         return CALLS + NO_CALL;
@@ -84,35 +91,36 @@ fn call_bits<'a>(tape: &'a [u8], area: &'a [u8], line: &'a [u64], has: u64) -> u
     if has < SYMBOLS {
         return NO_CALL;
     }
-    if shapes::has_call(tape, area, line) {
+    if shapes::has_call(texts, line) {
         return CALLS;
     }
     NO_CALL
 }
 
 // The facts of a line: the bits of what it has and of whether it calls, turned over, so that a bit that is set says what is not.
-fn facts_of<'a>(tape: &'a [u8], area: &'a [u8], line: &'a [u64]) -> u64
-    requires { Holds tape.now area.now line.now }
-    ensures { (result < 4194304) × Tells 1 result (tokens_of tape.now area.now line.now) }
+#[tactic(auto, using(crate::proofs::Making::turned_small, crate::proofs::Making::turned_tells))]
+fn facts_of(texts: &Texts<'_>, line: &[u64]) -> u64
+    requires { Holds texts.now line.now }
+    ensures { (result < 4194304) × Tells 1 result (tokens_of texts.now line.now) }
 {
-    let has = bits_of(tape, area, line);
-    (has % 65536 | call_bits(tape, area, line, has)) ^ 262143
+    let has = bits_of(texts, line);
+    (has % 65536 | call_bits(texts, line, has)) ^ 262143
 }
 
 // The line with its facts.
-fn with_its_facts<'a>(tape: &'a [u8], area: &'a [u8], tokens: &'a [u64], l: u64) -> u64
-    requires { Lined tape.now area.now tokens.now l }
-    ensures { Noted tape.now area.now tokens.now l result }
+fn with_its_facts(texts: &Texts<'_>, tokens: &[u64], l: u64) -> u64
+    requires { Lined texts.now tokens.now l }
+    ensures { Noted texts.now.tape.now texts.now.area.now tokens.now l result }
 {
-    words::with_facts(l, facts_of(tape, area, words::line_of(tokens, l)))
+    words::with_facts(l, facts_of(texts, words::line_of(tokens, l)))
 }
 
 // Notes the facts of each line in its word.
-pub fn gather_facts<'a>(tape: &'a [u8], area: &'a [u8], tokens: &'a [u64], lines: &mut [u64])
-    requires { Listed tape.now area.now tokens.now lines.old }
-    ensures { AllNoted tape.now area.now tokens.now lines.old lines.new }
+pub fn gather_facts(texts: &Texts<'_>, tokens: &[u64], lines: &mut [u64])
+    requires { Listed texts.now.tape.now texts.now.area.now tokens.now lines.old }
+    ensures { AllNoted texts.now.tape.now texts.now.area.now tokens.now lines.old lines.new }
 {
     for l in lines.iter_mut() {
-        *l = with_its_facts(tape, area, tokens, *l);
+        *l = with_its_facts(texts, tokens, *l);
     }
 }

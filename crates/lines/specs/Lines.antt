@@ -1,6 +1,6 @@
 -- What a line word means, and the listing of line words. A line's tokens are any part of the token words: what stands between the parts is
 -- never looked at. Assumes nothing.
-use Rattle.std.specs.Prelude.{ℕ, ◌+◌, ◌*◌, ◌/◌, ◌%◌, ◌≤◌, ◌<◌, List, map, eqb, length, take, drop, get_or}
+use Rattle.std.specs.Prelude.{ℕ, ◌+◌, ◌*◌, ◌/◌, ◌%◌, ◌≤◌, ◌<◌, Bool, true, false, List, map, eqb, length, take, drop, get_or}
 use Rattle.std.proofs.Math.Option.{Option, none, some}
 use Rattle.reference.specs.Control.{when◌then◌else◌}
 use Rattle.reference.specs.Text.{Text}
@@ -32,6 +32,11 @@ facts_of l = l / 4398046511104
 -- the same line with the facts m
 unfoldable pub with_facts : ℕ → ℕ → ℕ
 with_facts l m = l % 4398046511104 + m * 4398046511104
+
+-- 1 for a line with an address, else 0
+abbrev pub flag : Bool → ℕ
+flag true = 1
+flag false = 0
 
 -- the word of these parts, with no facts
 unfoldable pub line_word : ℕ → ℕ → ℕ → ℕ → ℕ → ℕ

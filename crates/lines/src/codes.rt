@@ -6,15 +6,15 @@ ghost use Rattle.reference.specs.Names.{family};
 ghost use Rattle.names.specs.Families.{Spells};
 ghost use Rattle.names.specs.declared.families.Spelled.TheVariants.{Row, Front};
 ghost use Rattle.lines.specs.Codes.{bucket, coded_width, Codes, Placed};
-ghost use Rattle.lines.specs.Words.{text_of, Points, Recoded};
+ghost use Rattle.lines.specs.Words.{Recoded};
+ghost use Rattle.lines.specs.Texts.{Points, text_of};
 
+use crate::texts::Texts;
 use crate::words;
 use names::Spelled;
 
-// The widths, by their places in a code.
-const WIDTHS: [u64; 4] = [64, 32, 16, 8];
-
 // A number below 7 of a name.
+#[tactic(auto, using(crate::proofs::codes::Coding::coding))]
 pub fn bucket(s: &[u8]) -> u64
     ensures { result ≡ bucket s.now }
 {
@@ -26,33 +26,39 @@ pub fn bucket(s: &[u8]) -> u64
 
 // ---- from the code
 
-// The width that a code says.
+// The width that a code says: 64, 32, 16 or 8.
 pub fn width_of(c: u64) -> u64
     ensures { result ≡ coded_width c }
 {
-    WIDTHS[(c % 4) as usize]
+    64 >> (c % 4)
 }
 
 // Whether two tokens have one text: codes that differ tell at once.
-pub fn same_text<'a>(tape: &'a [u8], area: &'a [u8], v: u64, w: u64) -> bool
-    requires { Points tape.now area.now v × Points tape.now area.now w }
-    ensures { result ≡ (text_of tape.now area.now v ≟ text_of tape.now area.now w) }
+pub fn same_text(texts: &Texts<'_>, v: u64, w: u64) -> bool
+    requires { Points texts.now v × Points texts.now w }
+    ensures { result ≡ (text_of texts.now v ≟ text_of texts.now w) }
 {
     if let (Some(a), Some(b)) = (words::code(v), words::code(w)) {
         if a != b {
             return false;
         }
     }
-    text::same(words::text(tape, area, v), words::text(tape, area, w))
+    text::same(words::text(texts, v), words::text(texts, w))
 }
 
 // ---- to the code
 
-// The place of a width among those of codes.
-fn place_of(width: u64) -> Option<usize>
+// The place of a width among those of codes, back from `width_of`.
+fn place_of(width: u64) -> Option<u64>
     ensures { Placed width result }
 {
-    WIDTHS.iter().position(|w| *w == width)
+    match width {
+        64 => Some(0),
+        32 => Some(1),
+        16 => Some(2),
+        8 => Some(3),
+        _ => None,
+    }
 }
 
 // The code of a row and a width from bit 0.
@@ -63,10 +69,11 @@ fn row_code(s: &[u8], row: u64, width: u64) -> Option<u64>
     if s.is_empty() {
         return None;
     }
-    Some(4 + 4 * row + place_of(width)? as u64)
+    Some(4 + 4 * row + place_of(width)?)
 }
 
 // The code of a text that is its family's name.
+#[tactic(auto, using(crate::proofs::codes::Coding::coding))]
 fn whole_code(s: &[u8], n: usize) -> Option<u64>
     requires { Spells s.now (family s.now) (Front n 64) }
     ensures { Codes s.now result }
@@ -85,7 +92,7 @@ fn front_code(s: &[u8], n: usize, width: u64) -> Option<u64>
     if width == 64 || n + 1 != s.len() {
         return None;
     }
-    Some(36 + 4 * bucket(&s[..n]) + place_of(width)? as u64)
+    Some(36 + 4 * bucket(&s[..n]) + place_of(width)?)
 }
 
 // The code of a name; none where it has no family, and for a high byte.
@@ -101,6 +108,7 @@ fn code_of(s: &[u8]) -> Option<u64>
 }
 
 // The word with the code of its text, where it is a Register in the tape.
+#[tactic(auto, using(crate::proofs::codes::Recoding::recoded_with, crate::proofs::words::Tokens::bounds))]
 pub fn coded(tape: &[u8], w: u64) -> u64
     ensures { Recoded tape.now w result }
 {

@@ -8,139 +8,146 @@ ghost use Rattle.reference.specs.Text.{Text, bytes};
 ghost use Rattle.reference.specs.Shapes.{label_tokens, is_kw, kw_in, has_brace, braces_in, calls_here, call_in, begins_assignment};
 ghost use Rattle.reference.specs.Shapes.{is_written, is_operator, is_operator_expr};
 ghost use Rattle.reference.specs.Join.{lone_number};
-ghost use Rattle.lines.specs.Words.{start_of, len_of, token_of, tokens_of, Points, Holds};
+ghost use Rattle.lines.specs.Words as Words;
+ghost use Rattle.lines.specs.Words.{start_of, len_of};
 ghost use Rattle.lines.specs.Shapes.{symbol_from, is_called, opened, expr_words, Opens, Expression, Sides, Assigns};
+ghost use Rattle.lines.specs.Texts.{Holds, Points, token_of, tokens_of};
 
+use crate::texts::Texts;
 use crate::words;
 
 // Two tokens, a Symbol and `:`.
-pub fn is_label<'a>(tape: &'a [u8], area: &'a [u8], line: &'a [u64]) -> bool
-    requires { Holds tape.now area.now line.now }
-    ensures { result ≡ label_tokens (tokens_of tape.now area.now line.now) }
+pub fn is_label(texts: &Texts<'_>, line: &[u64]) -> bool
+    requires { Holds texts.now line.now }
+    ensures { result ≡ label_tokens (tokens_of texts.now line.now) }
 {
     let [name, colon] = line else {
         return false;
     };
-    text::is_colon(words::text(tape, area, *colon)) && words::kind(*name) == words::SYMBOL
+    text::is_colon(words::text(texts, *colon)) && words::kind(*name) == words::SYMBOL
 }
 
 // ---- keywords
 
-fn is_kw<'a>(tape: &'a [u8], area: &'a [u8], w: u64, kw: &'a [u8]) -> bool
-    requires { Points tape.now area.now w }
-    ensures { result ≡ is_kw kw.now (token_of tape.now area.now w) }
+#[tactic(auto, using(crate::proofs::shapes::Tests::token_tests), unfolding(reference::specs::Shapes::is_kw))]
+fn is_kw(texts: &Texts<'_>, w: u64, kw: &[u8]) -> bool
+    requires { Points texts.now w }
+    ensures { result ≡ is_kw kw.now (token_of texts.now w) }
 {
-    words::kind(w) == words::KEYWORD && text::same(words::text(tape, area, w), kw)
+    words::kind(w) == words::KEYWORD && text::same(words::text(texts, w), kw)
 }
 
 // The place of the first Keyword with that text.
-fn kw_at<'a>(tape: &'a [u8], area: &'a [u8], line: &'a [u64], kw: &'a [u8]) -> Option<usize>
-    requires { Holds tape.now area.now line.now }
-    ensures { option_of result ≡ position (is_kw kw.now) (tokens_of tape.now area.now line.now) }
+fn kw_at(texts: &Texts<'_>, line: &[u64], kw: &[u8]) -> Option<usize>
+    requires { Holds texts.now line.now }
+    ensures { option_of result ≡ position (is_kw kw.now) (tokens_of texts.now line.now) }
 {
-    line.iter().position(|w| is_kw(tape, area, *w, kw))
+    line.iter().position(|w| is_kw(texts, *w, kw))
 }
 
-fn has_kw<'a>(tape: &'a [u8], area: &'a [u8], line: &'a [u64], kw: &'a [u8]) -> bool
-    requires { Holds tape.now area.now line.now }
-    ensures { result ≡ kw_in (tokens_of tape.now area.now line.now) kw.now }
+fn has_kw(texts: &Texts<'_>, line: &[u64], kw: &[u8]) -> bool
+    requires { Holds texts.now line.now }
+    ensures { result ≡ kw_in (tokens_of texts.now line.now) kw.now }
 {
-    line.iter().any(|w| is_kw(tape, area, *w, kw))
+    line.iter().any(|w| is_kw(texts, *w, kw))
 }
 
-// Kept: a name for each keyword that callers ask for; one function would have them spell the keyword's bytes at each call.
+// Kept: a function for each keyword that callers ask about. With `has_kw` in place of the four, each caller would spell the keyword's
+// bytes, which is no plainer.
 
-pub fn has_do<'a>(tape: &'a [u8], area: &'a [u8], line: &'a [u64]) -> bool
-    requires { Holds tape.now area.now line.now }
-    ensures { result ≡ kw_in (tokens_of tape.now area.now line.now) (bytes "do") }
+pub fn has_do(texts: &Texts<'_>, line: &[u64]) -> bool
+    requires { Holds texts.now line.now }
+    ensures { result ≡ kw_in (tokens_of texts.now line.now) (bytes "do") }
 {
-    has_kw(tape, area, line, b"do")
+    has_kw(texts, line, b"do")
 }
 
-pub fn has_while<'a>(tape: &'a [u8], area: &'a [u8], line: &'a [u64]) -> bool
-    requires { Holds tape.now area.now line.now }
-    ensures { result ≡ kw_in (tokens_of tape.now area.now line.now) (bytes "while") }
+pub fn has_while(texts: &Texts<'_>, line: &[u64]) -> bool
+    requires { Holds texts.now line.now }
+    ensures { result ≡ kw_in (tokens_of texts.now line.now) (bytes "while") }
 {
-    has_kw(tape, area, line, b"while")
+    has_kw(texts, line, b"while")
 }
 
-pub fn has_goto<'a>(tape: &'a [u8], area: &'a [u8], line: &'a [u64]) -> bool
-    requires { Holds tape.now area.now line.now }
-    ensures { result ≡ kw_in (tokens_of tape.now area.now line.now) (bytes "goto") }
+pub fn has_goto(texts: &Texts<'_>, line: &[u64]) -> bool
+    requires { Holds texts.now line.now }
+    ensures { result ≡ kw_in (tokens_of texts.now line.now) (bytes "goto") }
 {
-    has_kw(tape, area, line, b"goto")
+    has_kw(texts, line, b"goto")
 }
 
-pub fn has_return<'a>(tape: &'a [u8], area: &'a [u8], line: &'a [u64]) -> bool
-    requires { Holds tape.now area.now line.now }
-    ensures { result ≡ kw_in (tokens_of tape.now area.now line.now) (bytes "return") }
+pub fn has_return(texts: &Texts<'_>, line: &[u64]) -> bool
+    requires { Holds texts.now line.now }
+    ensures { result ≡ kw_in (tokens_of texts.now line.now) (bytes "return") }
 {
-    has_kw(tape, area, line, b"return")
+    has_kw(texts, line, b"return")
 }
 
-pub fn goto_at<'a>(tape: &'a [u8], area: &'a [u8], line: &'a [u64]) -> Option<usize>
-    requires { Holds tape.now area.now line.now }
-    ensures { option_of result ≡ position (is_kw (bytes "goto")) (tokens_of tape.now area.now line.now) }
+pub fn goto_at(texts: &Texts<'_>, line: &[u64]) -> Option<usize>
+    requires { Holds texts.now line.now }
+    ensures { option_of result ≡ position (is_kw (bytes "goto")) (tokens_of texts.now line.now) }
 {
-    kw_at(tape, area, line, b"goto")
+    kw_at(texts, line, b"goto")
 }
 
 // The place of the first Symbol from `from` on, whatever the texts are.
 pub fn symbol_from(line: &[u64], from: usize) -> Option<usize>
-    ensures { (tape area : Text) → option_of result ≡ symbol_from (tokens_of tape area line.now) from }
+    ensures { (tape area : Text) → option_of result ≡ symbol_from (Words.tokens_of tape area line.now) from }
 {
     (from..line.len()).find(|k| words::kind(line[*k]) == words::SYMBOL)
 }
 
 // ---- braces and calls
 
-pub fn has_brace<'a>(tape: &'a [u8], area: &'a [u8], w: u64) -> bool
-    requires { Points tape.now area.now w }
-    ensures { result ≡ has_brace (token_of tape.now area.now w) }
+#[tactic(auto, using(crate::proofs::shapes::Tests::token_tests), unfolding(reference::specs::Shapes::has_brace))]
+pub fn has_brace(texts: &Texts<'_>, w: u64) -> bool
+    requires { Points texts.now w }
+    ensures { result ≡ has_brace (token_of texts.now w) }
 {
-    words::kind(w) == words::PUNCT && text::has_brace(words::text(tape, area, w))
+    words::kind(w) == words::PUNCT && text::has_brace(words::text(texts, w))
 }
 
-pub fn opens_or_closes<'a>(tape: &'a [u8], area: &'a [u8], line: &'a [u64]) -> bool
-    requires { Holds tape.now area.now line.now }
-    ensures { result ≡ braces_in (tokens_of tape.now area.now line.now) }
+pub fn opens_or_closes(texts: &Texts<'_>, line: &[u64]) -> bool
+    requires { Holds texts.now line.now }
+    ensures { result ≡ braces_in (tokens_of texts.now line.now) }
 {
-    line.iter().any(|w| has_brace(tape, area, *w))
+    line.iter().any(|w| has_brace(texts, *w))
 }
 
 // Whether a token is a Symbol with a bracket after it.
-fn is_called<'a>(tape: &'a [u8], area: &'a [u8], w: u64, next: u64) -> bool
-    requires { Points tape.now area.now next }
-    ensures { result ≡ is_called (token_of tape.now area.now w) (token_of tape.now area.now next) }
+#[tactic(auto, using(crate::proofs::shapes::Tests::token_tests), unfolding(crate::specs::Shapes::is_called))]
+fn is_called(texts: &Texts<'_>, w: u64, next: u64) -> bool
+    requires { Points texts.now next }
+    ensures { result ≡ is_called (token_of texts.now w) (token_of texts.now next) }
 {
     words::kind(w) == words::SYMBOL
         && words::kind(next) == words::PUNCT
-        && text::begins_bracket(words::text(tape, area, next))
+        && text::begins_bracket(words::text(texts, next))
 }
 
 // Whether a token, with the one after it, is a call mark.
-fn is_call_mark<'a>(tape: &'a [u8], area: &'a [u8], w: u64, next: u64) -> bool
-    requires { Points tape.now area.now w × Points tape.now area.now next }
-    ensures { result ≡ calls_here (token_of tape.now area.now w, token_of tape.now area.now next) }
+fn is_call_mark(texts: &Texts<'_>, w: u64, next: u64) -> bool
+    requires { Points texts.now w × Points texts.now next }
+    ensures { result ≡ calls_here (token_of texts.now w, token_of texts.now next) }
 {
-    is_called(tape, area, w, next)
-        || words::kind(w) == words::KEYWORD && text::begins_void(words::text(tape, area, w))
+    is_called(texts, w, next)
+        || words::kind(w) == words::KEYWORD && text::begins_void(words::text(texts, w))
 }
 
 // The place of the first call mark.
-pub fn call_at<'a>(tape: &'a [u8], area: &'a [u8], line: &'a [u64]) -> Option<usize>
-    requires { Holds tape.now area.now line.now }
-    ensures { option_of result ≡ call_in (tokens_of tape.now area.now line.now) }
+pub fn call_at(texts: &Texts<'_>, line: &[u64]) -> Option<usize>
+    requires { Holds texts.now line.now }
+    ensures { option_of result ≡ call_in (tokens_of texts.now line.now) }
 {
     line.windows(2)
-        .position(|pair| is_call_mark(tape, area, pair[0], pair[1]))
+        .position(|pair| is_call_mark(texts, pair[0], pair[1]))
 }
 
-pub fn has_call<'a>(tape: &'a [u8], area: &'a [u8], line: &'a [u64]) -> bool
-    requires { Holds tape.now area.now line.now }
-    ensures { result ≡ is_some (call_in (tokens_of tape.now area.now line.now)) }
+pub fn has_call(texts: &Texts<'_>, line: &[u64]) -> bool
+    requires { Holds texts.now line.now }
+    ensures { result ≡ is_some (call_in (tokens_of texts.now line.now)) }
 {
-    call_at(tape, area, line).is_some()
+    call_at(texts, line).is_some()
 }
 
 // ---- assignments
@@ -156,6 +163,7 @@ pub struct Expr {
 }
 
 // The token at `at` of a line, without the ` = ` of token 1.
+#[tactic(auto, using(crate::proofs::shapes::Right::opening))]
 fn right_word(line: &[u64], at: usize) -> u64
     requires { (at < length line.now) × (3 ≤ len_of (get_or line.now 1 0))
         × (start_of (get_or line.now 1 0) + len_of (get_or line.now 1 0) < 65536) }
@@ -183,26 +191,27 @@ pub fn expr_word(line: &[u64], x: Expr, k: usize) -> u64
 }
 
 // Whether two tokens are a Register and a Punct that begins with ` = `.
-fn begins_assignment<'a>(tape: &'a [u8], area: &'a [u8], lhs: u64, eq: u64) -> bool
-    requires { Points tape.now area.now eq }
-    ensures { result ≡ begins_assignment (token_of tape.now area.now lhs) (token_of tape.now area.now eq) }
+#[tactic(auto, using(crate::proofs::shapes::Tests::token_tests), unfolding(reference::specs::Shapes::begins_assignment))]
+fn begins_assignment(texts: &Texts<'_>, lhs: u64, eq: u64) -> bool
+    requires { Points texts.now eq }
+    ensures { result ≡ begins_assignment (token_of texts.now lhs) (token_of texts.now eq) }
 {
     words::kind(lhs) == words::REGISTER
         && words::kind(eq) == words::PUNCT
-        && text::begins_assign(words::text(tape, area, eq))
+        && text::begins_assign(words::text(texts, eq))
 }
 
 // The right side of a line whose second token begins with ` = `, from the token at `first` on.
-fn right_side<'a>(tape: &'a [u8], area: &'a [u8], line: &'a [u64], first: usize) -> Option<Expr>
-    requires { Opens tape.now area.now line.now × (1 ≤ first) × (first ≤ 2) }
-    ensures { Sides tape.now area.now line.now first result }
+fn right_side(texts: &Texts<'_>, line: &[u64], first: usize) -> Option<Expr>
+    requires { Opens texts.now.tape.now texts.now.area.now line.now × (1 ≤ first) × (first ≤ 2) }
+    ensures { Sides texts.now.tape.now texts.now.area.now line.now first result }
 {
     let n = line.len();
     if n <= first {
         return None;
     }
     let last = right_word(line, n - 1);
-    if !text::ends_semicolon(words::text(tape, area, last)) {
+    if !text::ends_semicolon(words::text(texts, last)) {
         return None;
     }
     if words::len(last) != 1 {
@@ -223,23 +232,23 @@ fn right_side<'a>(tape: &'a [u8], area: &'a [u8], line: &'a [u64], first: usize)
 }
 
 // `reg = expr;`: its right side; token 0 is the register. Another assignment is none.
-pub fn assignment<'a>(tape: &'a [u8], area: &'a [u8], line: &'a [u64]) -> Option<Expr>
-    requires { Holds tape.now area.now line.now }
-    ensures { Assigns tape.now area.now line.now result }
+pub fn assignment(texts: &Texts<'_>, line: &[u64]) -> Option<Expr>
+    requires { Holds texts.now line.now }
+    ensures { Assigns texts.now.tape.now texts.now.area.now line.now result }
 {
     let [lhs, eq, ..] = line else {
         return None;
     };
-    if !begins_assignment(tape, area, *lhs, *eq) {
+    if !begins_assignment(texts, *lhs, *eq) {
         return None;
     }
-    right_side(tape, area, line, if words::len(*eq) == 3 { 2 } else { 1 })
+    right_side(texts, line, if words::len(*eq) == 3 { 2 } else { 1 })
 }
 
 // Whether the right side x of a line is a Number alone, whatever the texts are.
 pub fn is_lone_number(line: &[u64], x: Expr) -> bool
     requires { Expression line.now x }
-    ensures { (tape area : Text) → result ≡ lone_number (tokens_of tape area (expr_words line.now x)) }
+    ensures { (tape area : Text) → result ≡ lone_number (Words.tokens_of tape area (expr_words line.now x)) }
 {
     x.count == 1 && words::kind(expr_word(line, x, 0)) == words::NUMBER
 }
@@ -247,9 +256,9 @@ pub fn is_lone_number(line: &[u64], x: Expr) -> bool
 // ---- in a line
 
 // Whether the token at `pos` is the target of an assignment (`x = ..`, `x += ..`, `x++`).
-pub fn is_written<'a>(tape: &'a [u8], area: &'a [u8], line: &'a [u64], pos: usize) -> bool
-    requires { Holds tape.now area.now line.now × (pos < length line.now) }
-    ensures { result ≡ is_written (tokens_of tape.now area.now line.now) pos }
+pub fn is_written(texts: &Texts<'_>, line: &[u64], pos: usize) -> bool
+    requires { Holds texts.now line.now × (pos < length line.now) }
+    ensures { result ≡ is_written (tokens_of texts.now line.now) pos }
 {
     let Some(next) = line.get(pos + 1) else {
         return false;
@@ -257,27 +266,28 @@ pub fn is_written<'a>(tape: &'a [u8], area: &'a [u8], line: &'a [u64], pos: usiz
     if words::kind(*next) != words::PUNCT {
         return false;
     }
-    let s = words::text(tape, area, *next);
+    let s = words::text(texts, *next);
     text::begins_assign(s) || text::begins_update(s)
 }
 
 // Whether a token is a Punct with a space at an edge, and no comma between its edge spaces.
-fn is_operator<'a>(tape: &'a [u8], area: &'a [u8], w: u64) -> bool
-    requires { Points tape.now area.now w }
-    ensures { result ≡ is_operator (token_of tape.now area.now w) }
+#[tactic(auto, using(crate::proofs::shapes::Tests::operators), unfolding(reference::specs::Shapes::is_operator))]
+fn is_operator(texts: &Texts<'_>, w: u64) -> bool
+    requires { Points texts.now w }
+    ensures { result ≡ is_operator (token_of texts.now w) }
 {
     if words::kind(w) != words::PUNCT {
         return false;
     }
-    let s = words::text(tape, area, w);
+    let s = words::text(texts, w);
     let t = text::trim(s);
     t.len() < s.len() && !text::is_comma(t)
 }
 
 // Whether the right side x of a line has an operator among its tokens, of which there are several.
-pub fn is_operator_expr<'a>(tape: &'a [u8], area: &'a [u8], line: &'a [u64], x: Expr) -> bool
-    requires { Holds tape.now area.now line.now × Expression line.now x }
-    ensures { result ≡ is_operator_expr (tokens_of tape.now area.now (expr_words line.now x)) }
+pub fn is_operator_expr(texts: &Texts<'_>, line: &[u64], x: Expr) -> bool
+    requires { Holds texts.now line.now × Expression line.now x }
+    ensures { result ≡ is_operator_expr (tokens_of texts.now (expr_words line.now x)) }
 {
-    1 < x.count && (0..x.count).any(|k| is_operator(tape, area, expr_word(line, x, k)))
+    1 < x.count && (0..x.count).any(|k| is_operator(texts, expr_word(line, x, k)))
 }

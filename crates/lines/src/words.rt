@@ -6,15 +6,18 @@
 // A line word: first token in 16 bits, count in 11 bits, indent in 6 bits, whether it has an
 // address in 1 bit, and its origin, the number of the input line that it was, in 8 bits; above them
 // its facts (crate linefacts).
-ghost use Rattle.std.specs.Prelude.{◌≡◌, ◌+◌, ◌≤◌, ◌<◌, length};
+ghost use Rattle.std.specs.Prelude.{◌≡◌, ◌+◌, ◌/◌, ◌%◌, ◌≤◌, ◌<◌, eqb, length};
 ghost use Rattle.lines.specs.Words.{kind_of, buffer_of, start_of, len_of, word, with_code, without_first, first_bytes};
-ghost use Rattle.lines.specs.Words.{without_last, text_of, CodeIs, Points};
-ghost use Rattle.lines.specs.Lines.{first_of, count_of, indent_of, addressed_of, origin_of, facts_of, with_facts, line_word};
+ghost use Rattle.lines.specs.Words.{without_last, CodeIs};
+ghost use Rattle.lines.specs.Lines.{first_of, count_of, indent_of, addressed_of, origin_of, facts_of, with_facts, flag, line_word};
 ghost use Rattle.lines.specs.Lines.{with_part, part_of};
+ghost use Rattle.lines.specs.Texts.{Points, text_of};
+
+use crate::texts::Texts;
 
 // The kinds that the cleaner asks about. (Address is 5 and Prefix is 7.)
-// Kept: numbers, as the bytes of the C interface's tapes say them: a kind is read from three bits of a word to be compared with one of
-// these, and an enum would be made only for that.
+// Kept: numbers, as the C interface's tapes and the definitions have them. A kind that is read from a word is compared with one of these,
+// put into another word or written to a tape; an enum would be made of the number only to be turned back, which is no plainer.
 pub const PLAIN: u64 = 0;
 
 pub const REGISTER: u64 = 1;
@@ -28,17 +31,34 @@ pub const SYMBOL: u64 = 4;
 pub const PUNCT: u64 = 6;
 
 // The buffers that hold a text.
-// Kept: a number of one bit of a word, which goes from word to word as it stands.
+// Kept: the two values of one bit of a word. An enum would say no more than these names, and need a function to the bit and one from it.
 pub const IN_TAPE: u64 = 0;
 
 pub const IN_AREA: u64 = 1;
+
+// A place, a length or a number of an input line, to be put into a word.
+// Kept: `u64` has no `From<usize>`; `try_from` would answer an error that there never is.
+fn wide(n: usize) -> u64
+    ensures { result ≡ n }
+{
+    n as u64
+}
+
+// A place, a length or a number of an input line, read from a word: the part of `size` values whose lowest bit counts `unit`.
+// Kept: `usize` has no `From<u64>`; `try_from` would answer an error that there never is.
+fn part(w: u64, unit: u64, size: u64) -> usize
+    requires { (0 < unit) × (0 < size) }
+    ensures { result ≡ w / unit % size }
+{
+    (w / unit % size) as usize
+}
 
 #[tactic(auto, unfolding(crate::specs::Words::word))]
 pub fn token_word(kind: u64, buffer: u64, start: usize, len: usize) -> u64
     requires { (kind < 8) × (buffer < 2) × (start < 65536) × (len < 65536) }
     ensures { result ≡ word kind buffer start len }
 {
-    kind + buffer * 8 + (start as u64) * 16 + (len as u64) * 1048576
+    kind + buffer * 8 + wide(start) * 16 + wide(len) * 1048576
 }
 
 #[tactic(auto, unfolding(crate::specs::Words::kind_of))]
@@ -59,17 +79,18 @@ pub fn buffer(w: u64) -> u64
 pub fn start(w: u64) -> usize
     ensures { result ≡ start_of w }
 {
-    (w / 16 % 65536) as usize
+    part(w, 16, 65536)
 }
 
 #[tactic(auto, unfolding(crate::specs::Words::len_of))]
 pub fn len(w: u64) -> usize
     ensures { result ≡ len_of w }
 {
-    (w / 1048576 % 65536) as usize
+    part(w, 1048576, 65536)
 }
 
 // The code of the token's text.
+#[tactic(auto, unfolding(crate::specs::Words::code_of))]
 pub fn code(w: u64) -> Option<u64>
     ensures { CodeIs w result }
 {
@@ -89,7 +110,7 @@ pub fn with_code(w: u64, c: u64) -> u64
 }
 
 // The token without the first n bytes of its text.
-#[tactic(auto, unfolding(crate::specs::Words::without_first))]
+#[tactic(auto, using(crate::proofs::words::Tokens::bounds), unfolding(crate::specs::Words::without_first))]
 pub fn without_first(w: u64, n: usize) -> u64
     requires { (n ≤ len_of w) × (start_of w + len_of w < 65536) }
     ensures { result ≡ without_first w n }
@@ -98,7 +119,7 @@ pub fn without_first(w: u64, n: usize) -> u64
 }
 
 // The token of the first n bytes of its text.
-#[tactic(auto, unfolding(crate::specs::Words::first_bytes))]
+#[tactic(auto, using(crate::proofs::words::Tokens::bounds), unfolding(crate::specs::Words::first_bytes))]
 pub fn first_bytes(w: u64, n: usize) -> u64
     requires { n ≤ len_of w }
     ensures { result ≡ first_bytes w n }
@@ -115,42 +136,43 @@ pub fn without_last(w: u64) -> u64
 }
 
 // The text of a token: a part of the tape, or of the area once it was rewritten.
-pub fn text<'a>(tape: &'a [u8], area: &'a [u8], w: u64) -> &'a [u8]
-    requires { Points tape.now area.now w }
-    ensures { result.now ≡ text_of tape.now area.now w }
+#[tactic(auto, using(crate::proofs::words::Tokens::text_parts))]
+pub fn text<'a>(texts: &Texts<'a>, w: u64) -> &'a [u8]
+    requires { Points texts.now w }
+    ensures { result.now ≡ text_of texts.now w }
 {
     let from = start(w);
     let to = from + len(w);
     if buffer(w) == IN_TAPE {
-        return &tape[from..to];
+        return &texts.tape[from..to];
     }
-    &area[from..to]
+    &texts.area[from..to]
 }
 
 #[tactic(auto, unfolding(crate::specs::Lines::line_word))]
-pub fn line_word(first: usize, count: usize, indent: u64, addressed: u64, origin: usize) -> u64
-    requires { (first < 65536) × (count < 2048) × (indent < 64) × (addressed < 2) × (origin < 256) }
-    ensures { result ≡ line_word first count indent addressed origin }
+pub fn line_word(first: usize, count: usize, indent: u64, addressed: bool, origin: usize) -> u64
+    requires { (first < 65536) × (count < 2048) × (indent < 64) × (origin < 256) }
+    ensures { result ≡ line_word first count indent (flag addressed) origin }
 {
-    (first as u64)
-        + (count as u64) * 65536
+    wide(first)
+        + wide(count) * 65536
         + indent * 134217728
-        + addressed * 8589934592
-        + (origin as u64) * 17179869184
+        + u64::from(addressed) * 8589934592
+        + wide(origin) * 17179869184
 }
 
 #[tactic(auto, unfolding(crate::specs::Lines::first_of))]
 pub fn first(l: u64) -> usize
     ensures { result ≡ first_of l }
 {
-    (l % 65536) as usize
+    part(l, 1, 65536)
 }
 
 #[tactic(auto, unfolding(crate::specs::Lines::count_of))]
 pub fn count(l: u64) -> usize
     ensures { result ≡ count_of l }
 {
-    (l / 65536 % 2048) as usize
+    part(l, 65536, 2048)
 }
 
 #[tactic(auto, unfolding(crate::specs::Lines::indent_of))]
@@ -160,20 +182,19 @@ pub fn indent(l: u64) -> u64
     l / 134217728 % 64
 }
 
-// 1 if the line has an address, else 0.
-// Kept: a number of one bit of a word, which goes from word to word as it stands.
+// Whether the line has an address.
 #[tactic(auto, unfolding(crate::specs::Lines::addressed_of))]
-pub fn addressed(l: u64) -> u64
-    ensures { result ≡ addressed_of l }
+pub fn addressed(l: u64) -> bool
+    ensures { result ≡ eqb (addressed_of l) 1 }
 {
-    l / 8589934592 % 2
+    l / 8589934592 % 2 == 1
 }
 
 #[tactic(auto, unfolding(crate::specs::Lines::origin_of))]
 pub fn origin(l: u64) -> usize
     ensures { result ≡ origin_of l }
 {
-    (l / 17179869184 % 256) as usize
+    part(l, 17179869184, 256)
 }
 
 #[tactic(auto, unfolding(crate::specs::Lines::facts_of))]

@@ -25,7 +25,7 @@ use Rattle.listing_text.specs.Exact.{Read, nothing, then_read, fields_read, line
 use Rattle.listing_text.specs.Parsed.{read_of, Lies, lies, onto_page, Lays}
 use Rattle.std.specs.Prelude.{Result, Ok, Err}
 use Rattle.std.specs.Result.{OkIff, IsErr, is_err, result_ok}
-use Rattle.listing_text.specs.declared.room.Cursor.{Cursor}
+use Rattle.listing_text.specs.declared.room.Clipped.{Clipped}
 use Rattle.listing_text.specs.declared.fields.Malformed.{Malformed}
 use Rattle.reference.specs.Options.{option_of}
 use Rattle.listing_text.specs.declared.reading.Unmade.{Unmade}
@@ -168,11 +168,11 @@ pub lays_nothing : {g : Page} {x : Bool} → Lays g (nothing x) (record { where_
 unfolding onto_page puts
 lays_nothing = record { same = refl }
 
-pub lies_wrong : (p : Cursor) (r : Result (Unit {0}) Malformed) → IsErr r → lies p r ≡ record { where_to = page p; right = false }
+pub lies_wrong : (p : Clipped) (r : Result (Unit {0}) Malformed) → IsErr r → lies p r ≡ record { where_to = page p; right = false }
 lies_wrong p (Ok u) h = absurd (false≢true h)
 lies_wrong p (Err e) h = refl
 
-pub lies_by : (p : Cursor) (r : Result (Unit {0}) Malformed) {b : Bool} → is_err r ≡ b → lies p r ≡ record { where_to = page p; right = not b }
+pub lies_by : (p : Clipped) (r : Result (Unit {0}) Malformed) {b : Bool} → is_err r ≡ b → lies p r ≡ record { where_to = page p; right = not b }
 lies_by p (Ok u) h = ap (λ (b : Bool). record { where_to = page p; right = not b }) h
 lies_by p (Err e) h = ap (λ (b : Bool). record { where_to = page p; right = not b }) h
 

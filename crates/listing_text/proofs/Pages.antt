@@ -1,5 +1,5 @@
 -- Bytes put as far as they fit: one after the other, and all of them together. Assumes nothing.
-use Prim.Native.Nat.{ℕ, zero, suc, ◌+◌, ◌/◌, ◌%◌, ◌^◌, ◌≤◌, ◌<◌}
+use Prim.Native.Nat.{ℕ, suc, ◌+◌, ◌≤◌, ◌<◌}
 use native.Mathlib.Omega.{arith}
 use native.Mathlib.Nat.{add-zero, zero-add}
 use native.Mathlib.Decide.{dec_lt}
@@ -12,13 +12,10 @@ use lib.Dec.{ltb}
 use lib.ListN.{length, take, drop, set, get_or, length-append, drop_of_length-le}
 use lib.Seq.{drop-cons, drop-nil, append_snoc}
 use borrow.Author.Tests.{lt-ltb, le-ltb}
-use Rattle.std.proofs.Math.Nat.{div-div-eq-div-mul, pow-suc, div-one}
-use Rattle.std.specs.Int.{bytes_low_first, byte_at}
 use Rattle.reference.specs.Text.{Text}
-use Rattle.reference.specs.Tape.{to_le_bytes}
 use Rattle.laws.proofs.Scans.{if-true, if-false}
 use Rattle.listing_text.specs.Room.{laid, Page, put_one, puts, Adds, Puts, empty}
-use Rattle.listing_text.specs.declared.room.Cursor.{Cursor}
+use Rattle.listing_text.specs.declared.room.Clipped.{Clipped}
 
 -- ---- one byte
 
@@ -57,14 +54,14 @@ then_adds {g} {s = s} {t} e f = record { same = f.same ∙ ap (λ (h : Page). pu
 pub adds_as : {g g₁ : Page} {s t : Text} → s ≡ t → Adds g s g₁ → Adds g t g₁
 adds_as e a = rw e at a
 
--- the same into the slice that a cursor holds
-pub puts_none : {p : Cursor} → Puts p [] p
+-- the same into a clipped slice
+pub puts_none : {p : Clipped} → Puts p [] p
 puts_none = record { adds = adds_none; lent = refl }
 
-pub then_puts : {p p₁ p₂ : Cursor} {s t : Text} → Puts p s p₁ → Puts p₁ t p₂ → Puts p (s ++ t) p₂
+pub then_puts : {p p₁ p₂ : Clipped} {s t : Text} → Puts p s p₁ → Puts p₁ t p₂ → Puts p (s ++ t) p₂
 then_puts a b = record { adds = then_adds a.adds b.adds; lent = b.lent ∙ a.lent }
 
-pub puts_as : {p p₁ : Cursor} {s t : Text} → s ≡ t → Puts p s p₁ → Puts p t p₁
+pub puts_as : {p p₁ : Clipped} {s t : Text} → s ≡ t → Puts p s p₁ → Puts p t p₁
 puts_as e a = rw e at a
 
 -- ---- loops: what is left is still to be put
@@ -83,31 +80,6 @@ put_next g s i h e = rw (add-one, drop-cons s i 0 h) (one_more g (drop (suc i) s
 pub put_last : (g : Page) (s : Text) (i : ℕ) → length s ≤ i → puts g (drop i s) ≡ g
 unfolding puts
 put_last g s i h = rw (drop_of_length-le s h)
-
--- ---- numbers
-
-from-byte : (i k n : ℕ) → bytes_low_first i k n ≡ to_le_bytes k (n / 256 ^ i)
-unfolding to_le_bytes
-from-byte i zero n = refl
-from-byte i (suc k) n =
-    let next : n / 256 ^ suc i ≡ n / 256 ^ i / 256 = ap (λ (m : ℕ). n / m) (pow-suc 256 i) ∙ sym (div-div-eq-div-mul n (256 ^ i) 256) in
-    let low : byte_at i n ≡ n / 256 ^ i % 256 = first i in
-    λ j. low j ∷ (from-byte (suc i) k n ∙ ap (to_le_bytes k) next) j
-  where
-    first : (i : ℕ) → byte_at i n ≡ n / 256 ^ i % 256
-    first zero = let one : n / 256 ^ 0 ≡ n = div-one n in rw one
-    first (suc i) = refl
-
-take-low : (n i k v : ℕ) → n ≤ k → take n (bytes_low_first i k v) ≡ bytes_low_first i n v
-take-low zero i k v h = refl
-take-low (suc n) i zero v h = absurd (omega arith)
-take-low (suc n) i (suc k) v h = ap (λ (r : List ℕ). byte_at i v ∷ r) (take-low n (suc i) k v (omega arith))
-
--- the lowest n bytes of eight
-pub le_front : (n v : ℕ) → n ≤ 8 → take n (bytes_low_first 0 8 v) ≡ to_le_bytes n v
-le_front n v h =
-    let one : v / 256 ^ 0 ≡ v = div-one v in
-    take-low n 0 8 v h ∙ from-byte 0 n v ∙ ap (to_le_bytes n) one
 
 -- ---- all of them
 

@@ -1,16 +1,25 @@
 -- The first part of a text, and what is left: each turn of a loop over lines or fields. Assumes nothing.
 use Prim.Native.Nat.{ℕ, suc, ◌+◌, ◌≤◌, ◌<◌}
 use native.Mathlib.Omega.{arith}
-use mathlib.Core.Path.{◌≡◌, refl, ap, ◌∙◌}
+use native.Mathlib.Numerals.{add-one}
+use mathlib.Core.Path.{◌≡◌, refl, sym, ap, ◌∙◌}
 use mathlib.Core.Bool.{true}
 use mathlib.Core.List.{List, [], ◌∷◌, ◌++◌}
 use lib.Dec.{eqb}
-use lib.ListN.{length, get_or}
+use lib.ListN.{length, get_or, length-take}
+use lib.Seq.{drop-cons}
 use borrow.Author.Tests.{eq-eqb, ne_eqb}
 use Rattle.reference.specs.Control.{when◌then◌else◌}
 use Rattle.reference.specs.Text.{Text}
 use Rattle.words.specs.Splitting.{onto}
-use Rattle.std.proofs.Common.{Option, Some, None, MatchOption, Bor, length-append}
+use Rattle.std.proofs.Common.{◌-◌, Option, Some, None, MatchOption, Bor, take, drop, length-append}
+use Rattle.std.specs.List.{position, position_or_len}
+use Rattle.std.proofs.lemmas.Grind.{common_steps}
+use Rattle.std.proofs.lemmas.List.Quantifiers.{position-Some}
+use Rattle.std.proofs.lemmas.Bool.{eqb-true}
+use Rattle.std.proofs.lemmas.List.{get_or-take, take-append-drop}
+use Rattle.laws.proofs.Parts.{to_end}
+use Rattle.std.proofs.lemmas.List.Sums.{fails_before_first}
 use Rattle.std.specs.Option.{unwrap_or}
 use Rattle.listing_text.specs.Exact.{ended, apart}
 
@@ -18,6 +27,28 @@ use Rattle.listing_text.specs.Exact.{ended, apart}
 
 abbrev pub Without : ℕ → Text → Type 0
 Without b t = (i : ℕ) → i < length t → get_or t i 0 ≡ b → ⊥
+
+-- where the first b stands, if there is one
+module _ (b : ℕ) (t : Text) where
+  pub no_place : position (λ x. eqb x b) t ≡ None → Without b t
+  no_place e i h is =
+      let past : length t ≤ position_or_len (λ x. eqb x b) t = grind (arith, common_steps) in
+      let here : eqb (get_or t i 0) b ≡ true = eq-eqb (get_or t i 0) b is in
+      cc (fails_before_first (λ x. eqb x b) t i 0 (omega arith))
+
+  module _ {i : ℕ} (e : position (λ x. eqb x b) t ≡ Some i) where
+    pub front_without : Without b (take i t)
+    front_without k h is =
+        let below : k < i = omega (arith, length-take i t) in
+        let here : eqb (get_or t k 0) b ≡ true = eq-eqb (get_or t k 0) b (sym (get_or-take i t k 0 below) ∙ is) in
+        cc ((position-Some (λ x. eqb x b) t i 0 e).2 k below)
+
+    pub apart_at : t ≡ take i t ++ (b ∷ take (length t - (i + 1)) (drop (i + 1) t))
+    apart_at =
+        let f = position-Some (λ x. eqb x b) t i 0 e in
+        let here : get_or t i 0 ≡ b = eqb-true (get_or t i 0) b f.1 in
+        let behind : drop (suc i) t ≡ take (length t - (i + 1)) (drop (i + 1) t) = rw (to_end (i + 1) t, add-one) refl in
+        sym (take-append-drop i t) ∙ ap (λ (s : Text). take i t ++ s) (drop-cons t i 0 f.0 ∙ λ j. here j ∷ behind j)
 
 tail_of : (b x : ℕ) (t : Text) → Without b (x ∷ t) → Without b t
 tail_of b x t n i h = n (suc i) (omega arith)

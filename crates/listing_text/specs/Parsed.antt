@@ -6,7 +6,7 @@ use Rattle.reference.specs.Options.{option_of}
 use Rattle.reference.specs.Tape.{Command, new_line, marked, write_command, to_le_bytes}
 use Rattle.listing_text.specs.Room.{Page, page, puts}
 use Rattle.listing_text.specs.Exact.{Read, nothing}
-use Rattle.listing_text.specs.declared.room.Cursor.{Cursor}
+use Rattle.listing_text.specs.declared.room.Clipped.{Clipped}
 use Rattle.listing_text.specs.declared.fields.Field.{Field}
 use Rattle.listing_text.specs.declared.fields.Field.TheVariants as F
 use Rattle.listing_text.specs.declared.fields.Malformed.{Malformed}
@@ -39,7 +39,7 @@ pub record Lies : Type 0 where
   pub where_to : Page
   pub right : Bool
 
-abbrev pub lies : Cursor → Result (Unit {0}) Malformed → Lies
+abbrev pub lies : Clipped → Result (Unit {0}) Malformed → Lies
 lies p (Ok u) = record { where_to = page p; right = true }
 lies p (Err e) = record { where_to = page p; right = false }
 
@@ -50,6 +50,6 @@ onto_page g r = record { where_to = puts g r.bytes; right = r.right }
 pub record Lays (g : Page) (r : Read) (l : Lies) : Type 0 where
   pub same : l ≡ onto_page g r
 
-pub record PutsRead (p : Cursor) (r : Read) (p' : Cursor) (q : Result (Unit {0}) Malformed) : Type 0 where
+pub record PutsRead (p : Clipped) (r : Read) (p' : Clipped) (q : Result (Unit {0}) Malformed) : Type 0 where
   pub lays : Lays (page p) r (lies p' q)
   pub lent : p'.out.ghost_name ≡ p.out.ghost_name

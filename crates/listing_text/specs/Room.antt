@@ -2,7 +2,7 @@
 use Rattle.std.specs.Prelude.{ℕ, ◌+◌, ◌≡◌, Bool, true, false, List, [], ◌∷◌, ◌++◌, ltb, length, take, drop, set}
 use Rattle.reference.specs.Control.{when◌then◌else◌}
 use Rattle.reference.specs.Text.{Text}
-use Rattle.listing_text.specs.declared.room.Cursor.{Cursor}
+use Rattle.listing_text.specs.declared.room.Clipped.{Clipped}
 
 -- a slice whose front holds as much of a text as it has room for; what lies behind the text is as it was
 unfoldable pub laid : List ℕ → Text → List ℕ
@@ -16,7 +16,7 @@ pub record Page : Type 0 where
   pub at : ℕ
   pub cut : Bool
 
-abbrev pub page : Cursor → Page
+abbrev pub page : Clipped → Page
 page p = record { bytes = p.out.now; at = p.at; cut = p.cut }
 
 unfoldable pub put_one : Page → ℕ → Page
@@ -33,7 +33,7 @@ pub record Adds (g : Page) (t : Text) (g' : Page) : Type 0 where
   pub same : g' ≡ puts g t
 
 -- a text is put, into the same slice
-pub record Puts (p : Cursor) (t : Text) (p' : Cursor) : Type 0 where
+pub record Puts (p : Clipped) (t : Text) (p' : Clipped) : Type 0 where
   pub adds : Adds (page p) t (page p')
   pub lent : p'.out.ghost_name ≡ p.out.ghost_name
 

@@ -9,7 +9,7 @@ ghost use Rattle.listing_text.specs.Forms.{letters};
 ghost use Rattle.listing_text.specs.Exact.{address_in, indent_in, line_command, span_command, token_command, field_command};
 ghost use Rattle.listing_text.specs.Parsed.{addressed, bytes_in, read_in, read_of, PutsRead};
 
-use crate::room::Cursor;
+use crate::room::Clipped;
 use text::same;
 use words::number_in;
 
@@ -109,7 +109,7 @@ fn field_of(field: &[u8]) -> Option<Field>
 
 impl<'a> Field<'a> {
     // Puts its bytes.
-    fn put(self, out: &mut Cursor)
+    fn put(self, out: &mut Clipped)
         ensures { Puts out.old (bytes_in self.entry) out.new }
     {
         match self {
@@ -130,7 +130,7 @@ impl<'a> Field<'a> {
             }
             Field::Token { tag, text } => {
                 out.put_byte(tag);
-                out.put_le(text.len() as u64, 2);
+                out.put(&text.len().to_le_bytes()[..2]);
                 out.put(text);
             }
         }
@@ -138,7 +138,7 @@ impl<'a> Field<'a> {
 }
 
 // Puts what was read, if it is right.
-fn put_read(read: Option<Field>, out: &mut Cursor) -> Result<(), Malformed>
+fn put_read(read: Option<Field>, out: &mut Clipped) -> Result<(), Malformed>
     ensures { PutsRead out.old (read_in read.entry) out.new result }
 {
     match read {
@@ -151,14 +151,14 @@ fn put_read(read: Option<Field>, out: &mut Cursor) -> Result<(), Malformed>
 }
 
 // Puts the command of a line's first two fields.
-pub fn put_head(address: &[u8], indent: &[u8], out: &mut Cursor) -> Result<(), Malformed>
+pub fn put_head(address: &[u8], indent: &[u8], out: &mut Clipped) -> Result<(), Malformed>
     ensures { PutsRead out.old (read_of (line_command address.now indent.now)) out.new result }
 {
     put_read(line_of(address, indent), out)
 }
 
 // Puts the command of a further field.
-pub fn put_field(field: &[u8], out: &mut Cursor) -> Result<(), Malformed>
+pub fn put_field(field: &[u8], out: &mut Clipped) -> Result<(), Malformed>
     ensures { PutsRead out.old (read_of (field_command field.now)) out.new result }
 {
     put_read(field_of(field), out)

@@ -7,14 +7,14 @@ ghost use Rattle.listing_text.specs.Room.{Puts};
 ghost use Rattle.listing_text.specs.Forms.{line_end, hexadecimal, enough, blanks, letters, exact_command, exact_address, read_address};
 ghost use Rattle.listing_text.specs.Forms.{own_span, span_text, span_of, marks_of, marks_at, read_command_text, command_text, TokenEnds};
 
-use crate::room::Cursor;
+use crate::room::Clipped;
 use tape::commands::Command;
 use tape::reader::command_at;
 
 // ---- pieces
 
 // Puts so many hexadecimal digits, or as many more as it takes.
-fn put_hex(n: u64, least: usize, out: &mut Cursor)
+fn put_hex(n: u64, least: usize, out: &mut Clipped)
     requires { (1 ≤ least) × (least ≤ 16) }
     ensures { Puts out.old (hexadecimal (enough (16 - least) least n) n) out.new }
 {
@@ -23,7 +23,7 @@ fn put_hex(n: u64, least: usize, out: &mut Cursor)
     out.put(&digits[..k]);
 }
 
-fn put_decimal(n: u64, out: &mut Cursor)
+fn put_decimal(n: u64, out: &mut Clipped)
     ensures { Puts out.old (decimal n) out.new }
 {
     let mut digits = [0u8; 20];
@@ -32,7 +32,7 @@ fn put_decimal(n: u64, out: &mut Cursor)
 }
 
 // Ends the line before, if there is one.
-pub fn put_line_end(at: usize, out: &mut Cursor)
+pub fn put_line_end(at: usize, out: &mut Clipped)
     ensures { Puts out.old (line_end at) out.new }
 {
     if at != 0 {
@@ -41,7 +41,7 @@ pub fn put_line_end(at: usize, out: &mut Cursor)
 }
 
 // Puts two blanks for each indent.
-fn put_blanks(indent: u64, out: &mut Cursor)
+fn put_blanks(indent: u64, out: &mut Clipped)
     ensures { Puts out.old (blanks indent) out.new }
 {
     for _ in 0..indent {
@@ -69,7 +69,7 @@ fn letter_of(kind: u64) -> u8
 }
 
 // Puts a tab, the letter of a kind, a colon and a text.
-fn put_token(kind: u64, text: &[u8], out: &mut Cursor)
+fn put_token(kind: u64, text: &[u8], out: &mut Clipped)
     ensures { Puts out.old ((9 ∷ get_or letters kind 0 ∷ 58 ∷ []) ++ text.now) out.new }
 {
     out.put(&[b'\t', letter_of(kind), b':']);
@@ -77,7 +77,7 @@ fn put_token(kind: u64, text: &[u8], out: &mut Cursor)
 }
 
 // Puts a tab, and marks.
-fn put_marks(low: u64, high: u64, out: &mut Cursor)
+fn put_marks(low: u64, high: u64, out: &mut Clipped)
     ensures { Puts out.old
         ((9 ∷ 109 ∷ 58 ∷ []) ++ hexadecimal 16 low ++ (46 ∷ 46 ∷ []) ++ hexadecimal 16 high) out.new }
 {
@@ -88,7 +88,7 @@ fn put_marks(low: u64, high: u64, out: &mut Cursor)
 }
 
 // Puts a line's command.
-fn put_exact_line(at: usize, address: Option<u64>, indent: u64, out: &mut Cursor)
+fn put_exact_line(at: usize, address: Option<u64>, indent: u64, out: &mut Clipped)
     ensures { Puts out.old (line_end at ++ exact_address (option_of address) ++ (9 ∷ decimal indent)) out.new }
 {
     put_line_end(at, out);
@@ -101,7 +101,7 @@ fn put_exact_line(at: usize, address: Option<u64>, indent: u64, out: &mut Cursor
 }
 
 // Puts the command that stands at an offset and ends at `next`.
-fn put_exact(tape: &[u8], at: usize, next: usize, command: Command, out: &mut Cursor)
+fn put_exact(tape: &[u8], at: usize, next: usize, command: Command, out: &mut Clipped)
     requires { TokenEnds tape.now at next command }
     ensures { Puts out.old (exact_command at (command_in tape.now at command)) out.new }
 {
@@ -153,7 +153,7 @@ fn marks_at(tape: &[u8], at: usize) -> Option<Span>
 }
 
 // Puts marks, unless they say just what the line's address does.
-fn put_span(own: Span, marks: Option<Span>, out: &mut Cursor)
+fn put_span(own: Span, marks: Option<Span>, out: &mut Clipped)
     ensures { Puts out.old (span_text (span_of own) (marks_of marks)) out.new }
 {
     if let Some(span) = marks {
@@ -174,7 +174,7 @@ fn put_line(
     next: usize,
     address: Option<u64>,
     indent: u64,
-    out: &mut Cursor,
+    out: &mut Clipped,
 )
     ensures { Puts out.old
         (line_end at ++ span_text (own_span (option_of address)) (marks_at tape.now next)
@@ -193,7 +193,7 @@ fn put_line(
 }
 
 // Puts the command that stands at an offset and ends at `next`.
-fn put_readable(tape: &[u8], at: usize, next: usize, command: Command, out: &mut Cursor)
+fn put_readable(tape: &[u8], at: usize, next: usize, command: Command, out: &mut Clipped)
     requires { TokenEnds tape.now at next command }
     ensures { Puts out.old (read_command_text at (marks_at tape.now next) (command_in tape.now at command)) out.new }
 {
@@ -222,7 +222,7 @@ pub fn put_command(
     next: usize,
     command: Command,
     exact: bool,
-    out: &mut Cursor,
+    out: &mut Clipped,
 )
     requires { TokenEnds tape.now at next command }
     ensures { Puts out.old (command_text exact tape.now at next (command_in tape.now at command)) out.new }

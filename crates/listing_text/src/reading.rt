@@ -1,27 +1,32 @@
 // The exact form read, line by line and field by field.
-ghost use Rattle.std.specs.Prelude.{◌≡◌, ℕ, ◌<◌, ◌∷◌, ◌++◌, length, get_or, MatchOption};
-ghost use Rattle.listing_text.specs.Exact.{apart, line_read, tape_of, Makes};
+ghost use Rattle.std.specs.Prelude.{◌≡◌, ℕ, ◌<◌, [], ◌∷◌, ◌++◌, ◌==◌, length, get_or, position, MatchOption};
+ghost use Rattle.listing_text.specs.Exact.{apart, FirstLine, line_read, tape_of, Makes};
 ghost use Rattle.listing_text.specs.Parsed.{PutsRead};
 
 use crate::fields::{Malformed, put_field, put_head};
-use crate::room::Cursor;
+use crate::room::Clipped;
 
-// A text up to the first byte b, and what stands behind that; nothing where it has none.
-// Kept: std's `split` takes a closure, whose steps a proof that takes two parts before a loop could not follow.
+// Where the first byte b stands.
+#[tactic(auto, using(laws::proofs::Std::words_of_std))]
+fn place_of(text: &[u8], b: u8) -> Option<usize>
+    ensures { result ≡ position (λ x. x == b) text.now }
+{
+    text.iter().position(|x| *x == b)
+}
+
+// A text up to the first byte b, and what stands behind that; nothing where it has none. (Of std's texts only `str` has this.)
 fn split_once(text: &[u8], b: u8) -> (&[u8], Option<&[u8]>)
     ensures without { (i : ℕ) → i < length result.0.now → get_or result.0.now i 0 ≡ b → ⊥ }
     ensures whole { MatchOption result.1 (text.now ≡ result.0.now) (λ behind. text.now ≡ result.0.now ++ (b ∷ behind.now)) }
 {
-    for (i, x) in text.iter().enumerate() {
-        if *x == b {
-            return (&text[..i], Some(&text[i + 1..]));
-        }
+    match place_of(text, b) {
+        Some(i) => (&text[..i], Some(&text[i + 1..])),
+        None => (text, None),
     }
-    (text, None)
 }
 
 // Puts a line, up to the first field that is wrong.
-fn put_line(line: &[u8], out: &mut Cursor) -> Result<(), Malformed>
+fn put_line(line: &[u8], out: &mut Clipped) -> Result<(), Malformed>
     ensures { PutsRead out.old (line_read (apart 9 line.now)) out.new result }
 {
     let (address, behind) = split_once(line, b'\t');
@@ -45,20 +50,30 @@ pub enum Unmade {
     Wrong(u64),
 }
 
+// The first line of a text, and what stands behind its end; none, if there is no byte.
+fn next_line(text: &[u8]) -> Option<(&[u8], &[u8])>
+    ensures { MatchOption result (text.now ≡ []) (λ p. FirstLine text.now p.0.now p.1.now) }
+{
+    if text.is_empty() {
+        return None;
+    }
+    let (line, behind) = split_once(text, b'\n');
+    Some((line, behind.unwrap_or(&[])))
+}
+
 // Reads the exact form: puts the tape of a text, and answers its length.
 pub fn put_tape(text: &[u8], out: &mut [u8]) -> Result<usize, Unmade>
     ensures { Makes (tape_of text.now) out.old out.new result }
 {
-    let mut page = Cursor::new(out);
+    let mut page = Clipped::new(out);
     let mut n = 0;
-    let mut rest = text;
-    while !rest.is_empty() {
-        let (line, behind) = split_once(rest, b'\n');
+    let mut left = text;
+    while let Some((line, rest)) = next_line(left) {
         if put_line(line, &mut page).is_err() {
             return Err(Unmade::Wrong(n));
         }
-        rest = behind.unwrap_or(&[]);
         n += 1;
+        left = rest;
     }
     page.put_byte(255);
     if page.cut {

@@ -1,22 +1,23 @@
-// Bytes put into a lent slice one after the other, as far as they fit: no function needs to know how long what it puts may be.
+// Bytes put into a lent slice one after the other, as far as they fit: no function needs to know how long what it puts may be. (Crate
+// text's `Cursor` has room for what is put, by its clauses.)
 ghost use Rattle.std.specs.Prelude.{◌≡◌, [], ◌∷◌, ◌≤◌};
 ghost use Rattle.reference.specs.Tape.{to_le_bytes};
 ghost use Rattle.listing_text.specs.Room.{Puts, page, empty};
 
 // A lent slice, how far it is filled, and whether a byte did not fit.
 #[derive(Drop)]
-pub struct Cursor<'a> {
+pub struct Clipped<'a> {
     pub out: &'a mut [u8],
     pub at: usize,
     pub cut: bool,
 }
 
-impl<'a> Cursor<'a> {
-    pub fn new(out: &'a mut [u8]) -> Cursor<'a>
+impl<'a> Clipped<'a> {
+    pub fn new(out: &'a mut [u8]) -> Clipped<'a>
         ensures same_reference { result.out.ghost_name ≡ out.entry.ghost_name }
         ensures empty { page result ≡ empty out.old }
     {
-        Cursor {
+        Clipped {
             out,
             at: 0,
             cut: false,

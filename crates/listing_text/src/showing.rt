@@ -4,7 +4,7 @@ ghost use Rattle.tape.specs.Questions.{totals_of};
 ghost use Rattle.listing_text.specs.Showing.{begun, shown, Shows};
 
 use crate::forms::{put_command, put_line_end};
-use crate::room::Cursor;
+use crate::room::Clipped;
 use answers::{Reason, Refusal};
 use tape::questions::{NONE, Totals, step};
 
@@ -16,7 +16,7 @@ pub struct Shown {
     pub refusal: Option<Refusal>,
 }
 
-fn told(page: &Cursor, refusal: Option<Refusal>) -> Shown
+fn told(page: &Clipped, refusal: Option<Refusal>) -> Shown
     ensures { result ≡ record { length = page.now.at; whole = not page.now.cut; refusal = refusal } }
 {
     Shown {
@@ -44,7 +44,7 @@ fn begun(at: usize, fresh: bool) -> Totals
 pub fn put_listing(tape: &[u8], exact: bool, out: &mut [u8]) -> Shown
     ensures { Shows (shown exact tape.now) out.old out.new result }
 {
-    let mut page = Cursor::new(out);
+    let mut page = Clipped::new(out);
     let mut at = 0;
     let mut fresh = false;
     for _ in 0..tape.len() {

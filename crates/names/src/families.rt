@@ -31,7 +31,8 @@ const HIGH: [[u8; 3]; 4] = [*b"ah\0", *b"bh\0", *b"ch\0", *b"dh\0"];
 
 // What the bytes of a name say: a row of the table, its width and its lowest bit; or how many of its bytes name its family, and its
 // width, from bit 0.
-// Kept: three cases of one answer, since `Option` around two of them takes two matches in place of one (d).
+// Kept: a case for a name of no family: an `Option` around the other two is no plainer, since each answer below and each caller's match
+// then has a `Some` around its case.
 #[derive(Clone, Copy)]
 pub enum Spelled {
     Row(u64, u64, u64),
@@ -52,6 +53,8 @@ fn legacy_in(s: &[u8], table: &[[[u8; 3]; 4]]) -> Option<Listed>
 {
     for (row, names) in table.iter().enumerate() {
         if let Some(column) = column_in(s, names) {
+            // Kept: a cast: `enumerate` counts in `usize`, a family's number has 64 bits, which hold it; `u64::try_from` is no plainer,
+            // since it asks what to do where they do not.
             return Some(Listed {
                 row: row as u64,
                 width: WIDTHS[column],
@@ -130,6 +133,7 @@ fn high_byte(s: &[u8]) -> Spelled
     ensures { Spells s.now (high_byte s.now) result }
 {
     match column_in(s, &HIGH) {
+        // Kept: a cast, as in `legacy_in`: `position` counts in `usize`.
         Some(row) => Spelled::Row(row as u64, 8, 8),
         None => numbered(s),
     }

@@ -17,10 +17,13 @@ const VOLATILE_1: [u64; 9] = [0, 2, 3, 4, 5, 8, 9, 10, 11];
 const VOLATILE_2: [u64; 7] = [0, 2, 3, 8, 9, 10, 11];
 
 // The number of a family that has no row; 12 for one with no number.
-// Kept: a number for none, which is on no list, so that what is kept of a line in a word holds one number a family (a).
+// Kept: 12 for none: it is on no list, so that `overwritten` says no of it by itself; an `Option` is no plainer, since each caller then
+// asks `is_some_and` around that call.
 pub fn number_of(s: &[u8]) -> u64
     ensures { result ≡ number_of s.now }
 {
+    // Kept: a cast: `position` counts in `usize`, and 64 bits hold it; `u64::try_from` is no plainer, since it asks what to do where they
+    // do not.
     8 + column_in(s, &NEW).unwrap_or(4) as u64
 }
 

@@ -1,4 +1,4 @@
--- Laws: two's complement over any width (Bits) and at 64 bits (Signed), digits (Digits), text put into a slice (Writing),
+-- Laws: two's complement over any width (Bits) and at 64 bits (Signed), digits (Digits), a number's text put piece by piece (Writing),
 -- rows of digits (Reading), signs and prefixes (Parsing), constants of the 2024 edition (Constants).
 pub mod Bits
 pub mod Signed

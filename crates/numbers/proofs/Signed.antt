@@ -1,12 +1,11 @@
 -- Signed numbers of 64 bits: what the code computes is what the definitions `as_i64` and `wrap` say. Assumes nothing.
-use Rattle.std.proofs.Common.{◌≡◌, ℕ, zero, suc, ◌-◌, ◌%◌, ◌^◌, ◌<◌, ◌≤◌, true, false, ℤ, pos, negsuc, ◌+ℤ◌, ◌-ℤ◌, neg_ℤ, sym, refl, ap}
+use Rattle.std.proofs.Common.{◌≡◌, ℕ, zero, suc, ◌-◌, ◌%◌, ◌^◌, ◌<◌, ◌≤◌, ℤ, pos, negsuc, ◌+ℤ◌, ◌-ℤ◌, neg_ℤ, sym, refl, ap}
 use Rattle.std.proofs.Common.{◌∙◌, mod-lt, mod-eq_of_lt, arith, w64, SFits, to_z, of_z, le-ltb}
 use Rattle.std.proofs.Common.{lt-ltb}
 use native.Mathlib.Nat.{mod-mod}
 use native.Mathlib.Decide.{dec_lt}
 use mathlib.Core.Logic.{by_cases}
-use lib.Dec.{leb-zero}
-use lib.Signed.{mag, le_z}
+use lib.Signed.{mag}
 use mir.ValLaws.{to_z-of_z, to_z_pos}
 use Rattle.reference.specs.Control.{when◌then◌else◌}
 use Rattle.reference.specs.Numbers.{as_i64, wrap}
@@ -55,53 +54,14 @@ negated (suc n) h =
 
 -- ---- what the code computes with
 
--- -1 - z, for z below 0
-pub minus_one_neg : (n : ℕ) → negsuc 0 -ℤ negsuc n ≡ pos n
-minus_one_neg n = rw (le-ltb (suc n) 1 (omega arith)) (ap pos (omega arith))
-
 -- what a call answered, as the machine reads it back from its bits
 pub read_back : (z : ℤ) → mag z < 2 ^ 63 → to_z w64 (of_z w64 z) ≡ z
 read_back z h = to_z-of_z w64 z (record { sfits = h })
 
--- a parameter, as the machine reads it back from its bits, by its sign
+-- a parameter, as the machine reads it back from its bits
 module _ (v : ℤ) (f : SFits w64 v) where
   kept : to_z w64 (of_z w64 v) ≡ v
   kept = to_z-of_z w64 v f
-
-  pub from_zero : le_z (pos 0) (to_z w64 (of_z w64 v)) ≡ true → v ≡ pos (mag v)
-  from_zero e = by v (rw kept at e)
-    where
-      by : (z : ℤ) → le_z (pos 0) z ≡ true → z ≡ pos (mag z)
-      by (pos n) e = refl
-      by (negsuc n) e = cc
-
-  pub below-zero : le_z (pos 0) (to_z w64 (of_z w64 v)) ≡ false → v ≡ negsuc (mag v)
-  below-zero e = by v (rw kept at e)
-    where
-      by : (z : ℤ) → le_z (pos 0) z ≡ false → z ≡ negsuc (mag z)
-      by (pos n) e = cc (leb-zero n)
-      by (negsuc n) e = refl
-
-  module _ (e : le_z (pos 0) (to_z w64 (of_z w64 v)) ≡ true) where
-    pub read_low : to_z w64 (of_z w64 v) ≡ pos (mag v)
-    read_low = kept ∙ from_zero e
-
-    pub low_bits : mag v ≡ bits_of 64 v
-    unfolding bits_of
-    low_bits = sym (mod-eq_of_lt (omega arith)) ∙ ap (bits_of 64) (sym (from_zero e))
-
-  module _ (e : le_z (pos 0) (to_z w64 (of_z w64 v)) ≡ false) where
-    pub complement : negsuc 0 -ℤ to_z w64 (of_z w64 v) ≡ pos (mag v)
-    complement = ap (λ (z : ℤ). negsuc 0 -ℤ z) (kept ∙ below-zero e) ∙ minus_one_neg (mag v)
-
-    pub read_complement : to_z w64 (of_z w64 (negsuc 0 -ℤ to_z w64 (of_z w64 v))) ≡ pos (mag v)
-    read_complement = rw complement (to_z_pos w64 (mag v) f.sfits)
-
-    pub high_bits : 2 ^ 64 - 1 - mag v ≡ bits_of 64 v
-    unfolding bits_of
-    high_bits =
-        let m : mag v % 2 ^ 64 ≡ mag v = mod-eq_of_lt (omega arith) in
-        omega arith ∙ ap (bits_of 64) (sym (below-zero e))
 
 -- ---- std's words
 

@@ -1,11 +1,9 @@
--- What the answers of the reading functions mean, and the parts of `parse_c_number` that they compute. Assumes nothing.
+-- The parts of `parse_c_number` that the reading functions compute, under a name each. Assumes nothing.
 use Rattle.std.specs.Prelude.{ℕ, ◌+◌, ◌*◌, ◌^◌, ℤ, pos, neg_ℤ, nat_le, nat_lt}
 use Rattle.std.proofs.Math.Option.{Option, none, some}
 use Rattle.reference.specs.Control.{when◌then◌else◌, let_some◌else◌then◌}
 use Rattle.reference.specs.Text.{Text, bytes, strip_prefix}
 use Rattle.reference.specs.Numbers.{to_digit, unsigned, read_u64, read_i64, as_i64}
-
--- ---- parts of the definitions, under a name each
 
 -- the number with one digit more
 unfoldable pub with_digit : ℕ → ℕ → ℕ → Option ℕ

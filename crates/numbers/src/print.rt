@@ -1,52 +1,49 @@
 // Numbers as text: -9 to 9 in decimal, the others in lower-case hexadecimal after `0x`.
-ghost use Rattle.std.specs.Prelude.{◌≡◌, ◌+◌, ◌%◌, ◌≤◌, length};
+ghost use Rattle.std.specs.Prelude.{◌≡◌, ◌%◌, ◌≤◌, length};
 ghost use Rattle.reference.specs.Numbers.{digit_byte, show_natural, show};
-ghost use Rattle.numbers.specs.Writing.{hexadecimal, Written};
+ghost use Rattle.text.specs.Cursor.{Fits, Puts};
+ghost use Rattle.numbers.specs.Writing.{hexadecimal};
+
+use text::Cursor;
 
 // The last hexadecimal digit.
 #[tactic(auto, using(laws::proofs::Std::tests_of_std))]
 fn last_digit(v: u64) -> u8
     ensures { result ≡ digit_byte (v % 16) }
 {
+    // Kept: a cast: a remainder of 16 fits in a byte, and `u8::try_from` is no plainer, since it asks what to do where it does not.
     let d = (v % 16) as u8;
     if d < 10 { b'0' + d } else { b'a' + (d - 10) }
 }
 
-// Writes the hexadecimal digits at `at`, and says where they end.
-pub fn put_digits(v: u64, out: &mut [u8], at: usize) -> usize
-    requires { at + length (hexadecimal v) ≤ length out.old }
-    ensures { Written out.old at (hexadecimal v) out.new result }
+// Puts the hexadecimal digits.
+pub fn put_digits(v: u64, out: &mut Cursor)
+    requires { Fits out.old (length (hexadecimal v)) }
+    ensures { Puts out.old (hexadecimal v) out.new }
 {
-    let d = last_digit(v);
-    if v < 16 {
-        out[at] = d;
-        return at + 1;
+    if 16 <= v {
+        put_digits(v / 16, out);
     }
-    let end = put_digits(v / 16, out, at);
-    out[end] = d;
-    end + 1
+    out.put_byte(last_digit(v));
 }
 
-fn put_natural(v: u64, out: &mut [u8], at: usize) -> usize
-    requires { at + length (show_natural v) ≤ length out.old }
-    ensures { Written out.old at (show_natural v) out.new result }
+fn put_natural(v: u64, out: &mut Cursor)
+    requires { Fits out.old (length (show_natural v)) }
+    ensures { Puts out.old (show_natural v) out.new }
 {
-    if v < 10 {
-        return put_digits(v, out, at);
+    if 10 <= v {
+        out.put(b"0x");
     }
-    out[at] = b'0';
-    out[at + 1] = b'x';
-    put_digits(v, out, at + 2)
+    put_digits(v, out);
 }
 
-// Writes the number at `at`, and says where it ends. No number takes more than 19 bytes.
-pub fn put_number(v: i64, out: &mut [u8], at: usize) -> usize
-    requires { at + 19 ≤ length out.old }
-    ensures { Written out.old at (show v) out.new result }
+// Puts the number. No number takes more than 19 bytes.
+pub fn put_number(v: i64, out: &mut Cursor)
+    requires { Fits out.old 19 }
+    ensures { Puts out.old (show v) out.new }
 {
-    if 0 <= v {
-        return put_natural(v.unsigned_abs(), out, at);
+    if v < 0 {
+        out.put_byte(b'-');
     }
-    out[at] = b'-';
-    put_natural(v.unsigned_abs(), out, at + 1)
+    put_natural(v.unsigned_abs(), out);
 }

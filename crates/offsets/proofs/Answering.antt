@@ -17,10 +17,13 @@ use Rattle.answers.specs.Answers.{Writes}
 use Rattle.answers.specs.declared.Reason.{Reason}
 use Rattle.answers.specs.declared.Reason.TheVariants as reason
 use Rattle.answers.specs.Refusals.{number_of}
-use Rattle.tape.specs.Bytes.{Puts}
+use Rattle.text.specs.Cursor.{Puts}
+use Rattle.text.specs.declared.cursor.Cursor.{Cursor}
+use Rattle.text.proofs.Cursors.{then_puts, at_front}
+use Rattle.tape.specs.Bytes as Lists
 use Rattle.tape.specs.Commands.{form_of}
 use Rattle.tape.specs.Questions.{first_no}
-use Rattle.tape.proofs.little_endian.Bytes.{put_front, puts_append}
+use Rattle.tape.proofs.little_endian.Bytes.{put_front, puts_written}
 use Rattle.tape.proofs.questions.Asking.{none_no, ask_number}
 use Rattle.offsets.specs.Offsets.{OUTPUT, has_output, front, base_of, begins_with_06, has_base, read_offsets, move_lines, move_all_marks, first_with, convert, to_offsets, from_offsets}
 use Rattle.offsets.specs.Calls.{other_form, bad_for, moved_by, Ready, reach_answer, ready_answer, Fronted, Converts}
@@ -36,7 +39,7 @@ module _ {answer : Answer (List ℕ)} where
   pub refused_call : (out : List ℕ) {n p : ℕ} → answer ≡ Refused n p → Writes answer out out (Refused n p)
   refused_call out e = rw e (record { reply_is = refl; output_is = refl })
 
-  pub written-call : {bytes out out' : List ℕ} {end : ℕ} → answer ≡ Passed bytes → Puts out 0 bytes out' end → Writes answer out out' (Passed end)
+  pub written-call : {bytes out out' : List ℕ} {end : ℕ} → answer ≡ Passed bytes → Lists.Puts out 0 bytes out' end → Writes answer out out' (Passed end)
   written-call {bytes} {out} e p =
       rw e (record { reply_is = ap Passed (omega (arith, p.ends)); output_is = p.holds ∙ put_front out bytes })
 
@@ -141,11 +144,6 @@ module _ (base : ℕ) (tape : List ℕ) (output : ℕ) where
     unfolding to_offsets has_output
     to_ready k = ask-yes _ _ _ (le-leb OUTPUT output room, tt) ∙ convert_ready false base tape (front base) k
 
-pub lowered : (base : ℕ) (tape out : List ℕ) {mid out' : List ℕ} {from end : ℕ} → Ready false base tape → 59146 ≤ length out → Puts out 0 (front base) mid from
-    → Converts false base tape mid from out' end → Writes (to_offsets base tape (length out)) out out' (Passed end)
-lowered base tape out k room p q =
-    written-call (to_ready base tape (length out) room k) (puts_append out 0 (front base) _ (omega arith) p (q k.read.lines k.read.reads))
-
 -- ---- and back
 
 module _ (tape : List ℕ) (output : ℕ) where
@@ -182,6 +180,18 @@ fronted tape e z =
     let yes = none_no _ (omega arith, (omega arith, tt)) (sym e ∙ z) in
     record { begins = yes.0; long = leb-true _ _ yes.1.0 }
 
-pub raised : (tape out : List ℕ) {out' : List ℕ} {end : ℕ} → Fronted tape → 59146 ≤ length out → Ready true (base_of tape) tape
-    → Converts true (base_of tape) tape out 0 out' end → Writes (from_offsets tape (length out)) out out' (Passed end)
-raised tape out f room k q = written-call (from_ready tape (length out) room f k) (q k.read.lines k.read.reads)
+-- ---- what both write
+
+module _ {p₀ p : Cursor} {out out' : List ℕ} (same : p₀.out.now ≡ out) (from : p₀.at ≡ 0) (last : p.out.now ≡ out') where
+  -- what is put from the front on is the output
+  written-front : {answer : Answer (List ℕ)} {bytes : List ℕ} → answer ≡ Passed bytes → Puts p₀ bytes p → Writes answer out out' (Passed p.at)
+  written-front e w = written-call e (puts_written (at_front w same from last))
+
+  pub lowered : (base : ℕ) (tape : List ℕ) {p₁ : Cursor} → Ready false base tape → 59146 ≤ length out → Puts p₀ (front base) p₁
+      → Converts false base tape p₁ p → Writes (to_offsets base tape (length out)) out out' (Passed p.at)
+  lowered base tape k room w c =
+      written-front (to_ready base tape (length out) room k) (then_puts w (omega (arith, from)) (c k.read.lines k.read.reads))
+
+  pub raised : (tape : List ℕ) → Fronted tape → 59146 ≤ length out → Ready true (base_of tape) tape → Converts true (base_of tape) tape p₀ p
+      → Writes (from_offsets tape (length out)) out out' (Passed p.at)
+  raised tape f room k c = written-front (from_ready tape (length out) room f k) (c k.read.lines k.read.reads)

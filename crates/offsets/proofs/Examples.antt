@@ -1,6 +1,7 @@
 -- Examples of M-110 by computation, one or more of each number. Assumes nothing.
 use mathlib.Core.Path.{◌≡◌, refl}
-use mathlib.Core.List.{[], ◌∷◌}
+use Prim.Native.Nat.{ℕ}
+use mathlib.Core.List.{List, [], ◌∷◌}
 use Rattle.reference.specs.Questions.{Refused, Passed}
 use Rattle.reference.proofs.Opened.{opened}
 use Rattle.reference.proofs.TapeExamples.{tape}
@@ -8,9 +9,17 @@ use Rattle.offsets.specs.Offsets.{OUTPUT, has_output, front, base_of, begins_wit
 use Rattle.offsets.specs.Offsets.{out_of_reach, wraps, convert, to_offsets, from_offsets}
 use Rattle.answers.specs.Answers.{measured, output_after}
 
+-- the commands that have an address, and a token; and the same by offset from 4096
+abbrev pub addressed : List ℕ
+addressed =
+    tape "01 10 10 00 00 00 00 00 00 02 03 00 10 00 00 00 00 00 00 FF 0F 00 00 01 00 00 00 10 01 00 66 02 3F 03 01 10 00 00 00 00 00 00 01 10 00 00 00 00 00 00 01 FF 0F 00 00 01 00 00 00 00 FF"
+
+abbrev pub by_offset : List ℕ
+by_offset = tape "06 00 10 00 00 00 00 00 00 04 10 00 00 00 02 05 00 00 00 00 FF FF FF FF 10 01 00 66 02 3F 05 01 00 00 00 01 00 00 00 04 FF FF FF FF 00 FF"
+
 pub record Examples : Type 0 where
-  pub there : to_offsets 4096 (tape "01 10 10 00 00 00 00 00 00 02 03 00 10 00 00 00 00 00 00 FF 0F 00 00 01 00 00 00 10 01 00 66 02 3F 03 01 10 00 00 00 00 00 00 01 10 00 00 00 00 00 00 01 FF 0F 00 00 01 00 00 00 00 FF") OUTPUT ≡ Passed (tape "06 00 10 00 00 00 00 00 00 04 10 00 00 00 02 05 00 00 00 00 FF FF FF FF 10 01 00 66 02 3F 05 01 00 00 00 01 00 00 00 04 FF FF FF FF 00 FF")
-  pub back : from_offsets (tape "06 00 10 00 00 00 00 00 00 04 10 00 00 00 02 05 00 00 00 00 FF FF FF FF 10 01 00 66 02 3F 05 01 00 00 00 01 00 00 00 04 FF FF FF FF 00 FF") OUTPUT ≡ Passed (tape "01 10 10 00 00 00 00 00 00 02 03 00 10 00 00 00 00 00 00 FF 0F 00 00 01 00 00 00 10 01 00 66 02 3F 03 01 10 00 00 00 00 00 00 01 10 00 00 00 00 00 00 01 FF 0F 00 00 01 00 00 00 00 FF")
+  pub there : to_offsets 4096 addressed OUTPUT ≡ Passed by_offset
+  pub back : from_offsets by_offset OUTPUT ≡ Passed addressed
   pub empty_listing : to_offsets 18446744073709551615 (tape "FF") OUTPUT ≡ Passed (tape "06 FF FF FF FF FF FF FF FF FF")
   pub highest_offset : to_offsets 4096 (tape "01 FF 0F 00 00 01 00 00 00 00 FF") OUTPUT ≡ Passed (tape "06 00 10 00 00 00 00 00 00 04 FF FF FF FF 00 FF")
   pub too_high : to_offsets 4096 (tape "01 00 10 00 00 00 00 00 00 00 01 00 10 00 00 01 00 00 00 00 FF") OUTPUT ≡ Refused 18 10
@@ -22,13 +31,13 @@ pub record Examples : Type 0 where
   -- in the old form 04, 05 and 06 stay 3
   pub new_line_byte : to_offsets 4096 (tape "04 00 00 00 00 00 FF") OUTPUT ≡ Refused 3 0
   pub new_marks_byte : to_offsets 4096 (tape "02 00 05 00 00 00 00 00 00 00 00 FF") OUTPUT ≡ Refused 3 2
-  pub new_front : to_offsets 4096 (tape "06 00 10 00 00 00 00 00 00 04 10 00 00 00 02 05 00 00 00 00 FF FF FF FF 10 01 00 66 02 3F 05 01 00 00 00 01 00 00 00 04 FF FF FF FF 00 FF") OUTPUT ≡ Refused 3 0
+  pub new_front : to_offsets 4096 by_offset OUTPUT ≡ Refused 3 0
   pub top : from_offsets (tape "06 FF FF FF FF FF FF FF FF 04 00 00 00 00 00 FF") OUTPUT ≡ Passed (tape "01 FF FF FF FF FF FF FF FF 00 FF")
   pub over_the_top : from_offsets (tape "06 FF FF FF FF FF FF FF FF 02 00 04 01 00 00 00 00 FF") OUTPUT ≡ Refused 18 11
   pub marks_over_the_top : from_offsets (tape "06 FE FF FF FF FF FF FF FF 04 01 00 00 00 00 05 01 00 00 00 02 00 00 00 FF") OUTPUT ≡ Refused 18 15
   pub sum_read_first : from_offsets (tape "06 FF FF FF FF FF FF FF FF 04 01 00 00 00 00") OUTPUT ≡ Refused 3 15
   pub no_tape : from_offsets [] OUTPUT ≡ Refused 19 0
-  pub old_tape : from_offsets (tape "01 10 10 00 00 00 00 00 00 02 03 00 10 00 00 00 00 00 00 FF 0F 00 00 01 00 00 00 10 01 00 66 02 3F 03 01 10 00 00 00 00 00 00 01 10 00 00 00 00 00 00 01 FF 0F 00 00 01 00 00 00 00 FF") OUTPUT ≡ Refused 19 0
+  pub old_tape : from_offsets addressed OUTPUT ≡ Refused 19 0
   pub front_cut : from_offsets (tape "06 00 00 00 00 00 00 00") OUTPUT ≡ Refused 4 0
   pub front_alone : from_offsets (tape "06 00 00 00 00 00 00 00 00") OUTPUT ≡ Refused 3 9
   -- "01, 03 and a later 06 earn 3"

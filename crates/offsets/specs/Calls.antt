@@ -10,7 +10,8 @@ use Rattle.reference.specs.Questions as Q
 use Rattle.reference.specs.Questions.{let_passed◌then◌, read_command_by, read_by, marks_in_by}
 use Rattle.answers.specs.declared.Refusal.{Refusal}
 use Rattle.answers.specs.Refusals.{answered}
-use Rattle.tape.specs.Bytes.{Puts}
+use Rattle.text.specs.Cursor.{Fits, Puts}
+use Rattle.text.specs.declared.cursor.Cursor.{Cursor}
 use Rattle.tape.specs.Commands.{form_of, command_in}
 use Rattle.tape.specs.declared.commands.Command.{Command}
 use Rattle.tape.specs.declared.commands.Command.TheVariants.{Addressed, Plain, Marked, Token, End}
@@ -60,13 +61,13 @@ abbrev pub moved_bytes : Bool → ℕ → List ℕ → ℕ → Command → List 
 moved_bytes based base tape at c = write_command_by (other_form based) (move_command (moved_by based base) (command_in tape at c))
 
 -- the command stands there and ends at `next`, the questions passed it, 18 too, and there is room for its bytes
-pub record Moves (based : Bool) (base : ℕ) (tape : List ℕ) (at next : ℕ) (c : Command) (out : List ℕ) (to : ℕ) : Type 0 where
+pub record Moves (based : Bool) (base : ℕ) (tape : List ℕ) (at next : ℕ) (c : Command) (out : Cursor) : Type 0 where
   pub before : Q.Totals
   pub after : Q.Totals
   pub passes : Q.Passed (record { command = command_in tape at c; next = next; totals = after })
       ≡ read_command_by (form_of based) tape at before
   pub reaches : any (bad_for based base) (held c) ≡ false
-  pub room : to + length (moved_bytes based base tape at c) ≤ length out
+  pub room : Fits out (length (moved_bytes based base tape at c))
 
 -- ---- the whole tape
 
@@ -94,11 +95,10 @@ pub record Fronted (tape : List ℕ) : Type 0 where
   pub long : header offsets ≤ length tape
 
 -- what is written of an accepted tape: the commands of its listing and its marks in the other form, each address moved
-abbrev pub Converts : Bool → ℕ → List ℕ → List ℕ → ℕ → List ℕ → ℕ → Type 0
-Converts based base tape out to after end =
+abbrev pub Converts : Bool → ℕ → List ℕ → Cursor → Cursor → Type 0
+Converts based base tape out after =
     (lines : Listing) → read_by (form_of based) tape ≡ Q.Passed lines
-    → Puts out to
+    → Puts out
     (write_by (other_form based) (move_lines (moved_by based base) lines)
     (move_all_marks (moved_by based base) (marks_in_by (form_of based) tape)))
     after
-    end

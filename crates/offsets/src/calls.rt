@@ -9,6 +9,7 @@ use crate::reach::first_refused;
 use crate::writing::put_commands;
 use answers::{Answer, Reason, Refusal};
 use tape::questions::check;
+use text::Cursor;
 
 // What the output has at least.
 const OUTPUT_BYTES: usize = 59146;
@@ -41,8 +42,11 @@ pub fn to_offsets(base: u64, tape: &[u8], out: &mut [u8]) -> Answer
         return Err(Reason::TooLittleRoom.at(0));
     }
     ready::<false>(tape, base)?;
-    let from = put_front(base, out);
-    Ok(put_commands::<false>(tape, base, out, from) as u64)
+    let mut out = Cursor::new(out, 0);
+    put_front(base, &mut out);
+    put_commands::<false>(tape, base, &mut out);
+    // Kept: there is no `From` from usize to u64, and `try_from` has a branch that no length takes.
+    Ok(out.at as u64)
 }
 
 // The way back of a tape whose front passed.
@@ -52,7 +56,10 @@ fn raise(tape: &[u8], out: &mut [u8]) -> Answer
 {
     let base = base_of(tape);
     ready::<true>(tape, base)?;
-    Ok(put_commands::<true>(tape, base, out, 0) as u64)
+    let mut out = Cursor::new(out, 0);
+    put_commands::<true>(tape, base, &mut out);
+    // Kept: there is no `From` from usize to u64, and `try_from` has a branch that no length takes.
+    Ok(out.at as u64)
 }
 
 // A tape by offset brought back to document 01's form: the new tape stands at the front of `out`, and its length is answered.

@@ -1,12 +1,13 @@
 // What a tape by offset begins with: 06 and the base.
 ghost use Rattle.std.specs.Prelude.{◌≡◌, [], ◌∷◌, ◌≤◌, length};
-ghost use Rattle.tape.specs.Bytes.{Puts};
+ghost use Rattle.text.specs.Cursor.{Fits, Puts};
 ghost use Rattle.answers.specs.Refusals.{refusing};
 ghost use Rattle.tape.specs.Questions.{first_no};
 ghost use Rattle.offsets.specs.Offsets.{front, base_of, begins_with_06, has_base};
 
 use answers::Reason;
-use tape::little_endian::{number_at, put_number};
+use tape::little_endian::number_at;
+use text::Cursor;
 
 // The question that refuses a tape's front: 19, and then 4 of 06.
 pub fn asked(tape: &[u8]) -> Result<(), Reason>
@@ -29,12 +30,11 @@ pub fn base_of(tape: &[u8]) -> u64
     number_at(tape, 1, 8)
 }
 
-// Writes 06 and the base, and says where they end.
-pub fn put_front(base: u64, out: &mut [u8]) -> usize
-    requires { 9 ≤ length out.old }
-    ensures { Puts out.old 0 (front base) out.new result }
+// Puts 06 and the base.
+pub fn put_front(base: u64, out: &mut Cursor)
+    requires { Fits out.old 9 }
+    ensures { Puts out.old (front base) out.new }
 {
-    out[0] = 6;
-    put_number(base, 8, out, 1);
-    9
+    out.put_byte(6);
+    out.put_le(base, 8);
 }

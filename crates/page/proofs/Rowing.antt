@@ -7,14 +7,15 @@ use mathlib.Core.Bool.{Bool, true, false}
 use mathlib.Core.List.{List, [], ◌∷◌, ◌++◌, append_assoc, append-nil, flat_map}
 use lib.Dec.{leb}
 use lib.ListN.{length, take, drop, length-append, length-take, length-drop, drop_of_length-le}
-use lib.Seq.{paste-zero, take_all, take-append_seam, drop-append_seam}
+use lib.Seq.{take_all, take-append_seam, drop-append_seam}
 use borrow.Author.Tests.{leb-true, leb-false}
 use Rattle.reference.specs.Text.{Text}
 use Rattle.reference.specs.Listing.{Token}
 use Rattle.reference.specs.Tape as Tape
 use Rattle.laws.proofs.Scans.{if-true, if-false}
-use Rattle.numbers.specs.Writing.{Written}
-use Rattle.numbers.proofs.Writing.{written_then}
+use Rattle.text.specs.Cursor.{Puts}
+use Rattle.text.specs.declared.cursor.Cursor.{Cursor}
+use Rattle.text.proofs.Cursors.{puts_none, then_puts, puts_as}
 use Rattle.printing.proofs.Decimals.{decimal-length}
 use Rattle.walk.specs.Held.{tokens_of}
 use Rattle.walk.proofs.Spending.{bytes_of}
@@ -87,33 +88,27 @@ first_cell kind (x ∷ t) h = (unfold cells in
 
 -- ---- texts put one behind the other
 
--- so far these bytes are put, and the rest is to come
-pub record Coming (out₀ : Text) (at : ℕ) (all out : Text) (end : ℕ) (rest : Text) : Type 0 where
+-- so far a part of a text is put, and the rest is to come
+pub record Coming (p₀ : Cursor) (all : Text) (p : Cursor) (rest : Text) : Type 0 where
   pub done : Text
-  pub put : Written out₀ at done out end
+  pub put : Puts p₀ done p
   pub whole : done ++ rest ≡ all
-  pub same : length out ≡ length out₀
-  pub room : at + length all ≤ length out₀
+  pub begins : p₀.at ≤ length p₀.out.now
 
-pub coming_begins : (out : Text) (at : ℕ) (all : Text) → at + length all ≤ length out → Coming out at all out at all
-coming_begins out at all h =
-    record { done = []; put = record { bytes_are = paste-zero out at []; end_is = omega arith }; whole = refl; same = refl; room = h }
+pub coming_begins : {p : Cursor} (all : Text) → p.at ≤ length p.out.now → Coming p all p all
+coming_begins all h = record { done = []; put = puts_none; whole = refl; begins = h }
 
-module _ {out₀ all out rest : Text} {at end : ℕ} (p : Coming out₀ at all out end rest) where
-  pub coming_ends : rest ≡ [] → Written out₀ at all out end
-  coming_ends e = let same : p.done ≡ all = sym (append-nil p.done) ∙ ap (λ (r : Text). p.done ++ r) (sym e) ∙ p.whole in rw same at p.put
+module _ {p₀ p : Cursor} {all rest : Text} (w : Coming p₀ all p rest) where
+  pub coming_ends : rest ≡ [] → Puts p₀ all p
+  coming_ends e = puts_as w.put (sym (append-nil w.done) ∙ ap (λ (r : Text). w.done ++ r) (sym e) ∙ w.whole)
 
-  pub coming_on : (one : Text) {rest₁ out₁ : Text} {end₁ : ℕ} → rest ≡ one ++ rest₁ → Written out end one out₁ end₁ → length out₁ ≡ length out
-      → Coming out₀ at all out₁ end₁ rest₁
-  coming_on one {rest₁} e w l =
-      let whole : (p.done ++ one) ++ rest₁ ≡ all = append_assoc p.done one rest₁ ∙ ap (λ (r : Text). p.done ++ r) (sym e) ∙ p.whole in
-      let long : length (p.done ++ one) + length rest₁ ≡ length all = sym (length-append (p.done ++ one) rest₁) ∙ ap (λ (r : Text). length r) whole in
+  pub coming_on : (one : Text) {rest₁ : Text} {p₁ : Cursor} → rest ≡ one ++ rest₁ → Puts p one p₁ → Coming p₀ all p₁ rest₁
+  coming_on one {rest₁} e x =
       record {
-        done = p.done ++ one;
-        put = written_then out₀ at p.done one (omega (arith, p.room, length-append p.done one)) p.put w;
-        whole = whole;
-        same = l ∙ p.same;
-        room = p.room;
+        done = w.done ++ one;
+        put = then_puts w.put w.begins x;
+        whole = append_assoc w.done one rest₁ ∙ ap (λ (r : Text). w.done ++ r) (sym e) ∙ w.whole;
+        begins = w.begins;
       }
 
 -- ---- a text, piece by piece

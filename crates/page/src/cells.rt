@@ -1,36 +1,35 @@
 // The cells of a line, side by side: what is put for its tokens is theirs, and nothing else.
 ghost use Rattle.std.specs.Prelude.{◌+◌, ◌*◌, ◌≤◌, length};
-ghost use Rattle.numbers.specs.Writing.{Written};
+ghost use Rattle.text.specs.Cursor.{Fits, Puts, Written};
 ghost use Rattle.walk.specs.Held.{commands, tokens_of};
 ghost use Rattle.page.specs.Cells.{cells, line_cells};
 
 use crate::put_cell;
+use text::Cursor;
 use walk::{Commands, Event};
 
 // Puts a text in its cell; a longer one than 512 bytes in several.
-pub fn put_cells(kind: u64, text: &[u8], out: &mut [u8], at: usize) -> usize
-    requires { at + 7 * length text.now + 35 ≤ length out.old }
-    ensures { Written out.old at (cells kind text.now) out.new result }
+pub fn put_cells(kind: u64, text: &[u8], out: &mut Cursor)
+    requires { Fits out.old (7 * length text.now + 35) }
+    ensures { Puts out.old (cells kind text.now) out.new }
 {
-    let mut end = at;
     for piece in text.chunks(512) {
-        end = put_cell(kind, piece, out, end);
+        put_cell(kind, piece, out);
     }
-    end
 }
 
-// Puts the cells of the tokens that a tape begins with, up to the next line.
+// Puts the cells of the tokens that a tape begins with, up to the next line, at the front, and says where they end.
 pub fn put_line(tape: &[u8], out: &mut [u8]) -> usize
     requires { 12 * length tape.now ≤ length out.old }
     ensures { Written out.old 0 (line_cells (tokens_of (commands tape.now))) out.new result }
 {
-    let mut end = 0;
+    let mut line = Cursor::new(out, 0);
     for event in Commands::new(tape) {
         match event {
-            Event::Line { .. } => return end,
+            Event::Line { .. } => break,
             Event::Marks { .. } => {}
-            Event::Token { kind, text } => end = put_cells(kind, text, out, end),
+            Event::Token { kind, text } => put_cells(kind, text, &mut line),
         }
     }
-    end
+    line.at
 }

@@ -14,7 +14,7 @@ use Rattle.names.specs.Families.{row_name}
 use Rattle.names.proofs.Searches.{all-below, below_at}
 use Rattle.lines.specs.Words.{text_of, Holds}
 use Rattle.lines.specs.Fams.{Fam, fam_text}
-use Rattle.laws.proofs.Scans.{any-map, any_hit, any_miss, any_end}
+use Rattle.laws.proofs.Scans.{any-map, any_hit, any_miss}
 use Rattle.laws.proofs.Std.{same-std}
 use Rattle.reference.specs.Lists.{any}
 use lib.Pointwise.{pointwise}
@@ -43,22 +43,16 @@ module _ (tape area slots : Text) (words : List ℕ) {f : Fam} where
   slot-addressed i es ex = rw (fam-name tape area {f = f} i, ← es) ex
 
 -- one name after the other: s is the text of the word w, x whether it is the name t
-module _ (slots : Text) (words : List ℕ) (t : Text) (k : ℕ)
-    (inv : has (slot_names slots words) t ≡ has (slot_names slots (drop k words)) t) where
+module _ (slots : Text) (words : List ℕ) (t : Text) (k : ℕ) (inv : has (slot_names slots words) t ≡ has (slot_names slots (drop k words)) t)
+    (h : k < length words) {s : Text} (es : s ≡ text_of slots slots (get_or words k 0)) {x : Bool} (ex : x ≡ pointwise eqb s t) where
   here : has (slot_names slots words) t ≡ any (λ w. text_of slots slots w ≟ t) (drop k words)
   here = inv ∙ any-map (◌≟ t) (text_of slots slots) (drop k words)
 
-  module _ (h : k < length words) {s : Text} (es : s ≡ text_of slots slots (get_or words k 0)) {x : Bool} (ex : x ≡ pointwise eqb s t) where
-    told : {y : Bool} → x ≡ y → (text_of slots slots (get_or words k 0) ≟ t) ≡ y
-    told e = rw (← es) (sym (same-std s t) ∙ sym ex ∙ e)
+  told : {y : Bool} → x ≡ y → (text_of slots slots (get_or words k 0) ≟ t) ≡ y
+  told e = rw (← es) (sym (same-std s t) ∙ sym ex ∙ e)
 
-    pub among_here : x ≡ true → true ≡ has (slot_names slots words) t
-    among_here e = sym (here ∙ any_hit (λ w. text_of slots slots w ≟ t) words k 0 h (told e))
+  pub among_here : x ≡ true → true ≡ has (slot_names slots words) t
+  among_here e = sym (here ∙ any_hit (λ w. text_of slots slots w ≟ t) words k 0 h (told e))
 
-    pub among_next : x ≡ false → has (slot_names slots words) t ≡ has (slot_names slots (drop (k + 1) words)) t
-    among_next e = here ∙ any_miss (λ w. text_of slots slots w ≟ t) words k 0 h (told e) ∙ sym (any-map (◌≟ t) (text_of slots slots) (drop (k + 1) words))
-
-  pub among_none : length words ≤ k → false ≡ has (slot_names slots words) t
-  among_none h = sym (here ∙ any_end (λ w. text_of slots slots w ≟ t) words k h)
-
-pub ruleset addressing = (refl, row_unaddressed, slot-addressed, among_here, among_next, among_none)
+  pub among_next : x ≡ false → has (slot_names slots words) t ≡ has (slot_names slots (drop (k + 1) words)) t
+  among_next e = here ∙ any_miss (λ w. text_of slots slots w ≟ t) words k 0 h (told e) ∙ sym (any-map (◌≟ t) (text_of slots slots) (drop (k + 1) words))

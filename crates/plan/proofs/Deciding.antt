@@ -77,11 +77,6 @@ module _ {tape area : Text} {ws : List ℕ} {d : Definition} (h : Sound tape are
   pub sound-side : {us : List ℕ} → us ≡ ws → Expression us d.expr
   sound-side e = rw e h.side
 
-  pub sound_at : {us : List ℕ} → us ≡ ws → Sound tape area us d
-  sound_at e = rw e h
-
-pub ruleset sounding = (sound-known, sound-side, sound_at)
-
 -- ---- a constant
 
 -- q is the last line that a constant reaches, if a line uses it
@@ -197,30 +192,28 @@ pub found_inside : (p : Token → Bool) (tape area : Text) (ws : List ℕ) {q : 
 found_inside p tape area ws {pos = pos} h e =
     rw length-map at (found_at p (tokens_of tape area ws) pos (token_of tape area 0) (found_is h e)).0
 
--- the definition d of the line us, among the words ws
-module _ (rules : Rules) (tape area : Text) (us ws : List ℕ) (i j : ℕ) (d : Definition) where
+-- the definition d of a line whose words are us, among the words vs of line j, read as ws
+module _ (rules : Rules) (tape area : Text) (us vs : List ℕ) (i j : ℕ) (d : Definition) {ws : List ℕ} (ew : ws ≡ vs) where
   abbrev among : Option J.Plan
-  among = plan_among rules (definition_in tape area us d) (tokens_of tape area ws) j
+  among = plan_among rules (definition_in tape area us d) (tokens_of tape area vs) j
 
   module _ (q : std.Option ℕ) (eq : option_of q ≡ position (of_family (fam_text tape area d.name.family)) (tokens_of tape area ws)) where
     pub among_none : q ≡ None → {p : std.Option Join} → p ≡ None → Plans tape area us i among p
     unfolding plan_among let_some◌else◌then◌
-    among_none e = no_plan (rw (found-not eq e))
+    among_none e = no_plan (rw (← ew, found-not eq e))
 
     module _ {pos : ℕ} (e : q ≡ Some pos) {b : Bool}
         (eb : b ≡ replaceable rules.parts (record { name = fam_text tape area d.name.family; width = d.name.width; lowest = d.name.lowest }) (tokens_of tape area ws) pos) where
       pub among_unfit : flip b ≡ true → {p : std.Option Join} → p ≡ None → Plans tape area us i among p
       unfolding plan_among when◌then◌else◌ let_some◌else◌then◌
-      among_unfit t = no_plan (rw (found_is eq e, ← eb, not-true b t))
+      among_unfit t = no_plan (rw (← ew, found_is eq e, ← eb, not-true b t))
 
       pub among_joins : flip b ≡ false → Sound tape area us d
-          → {y : Bool} → y ≡ wants_brackets rules (tokens_of tape area (expr_words us d.expr)) (tokens_of tape area ws) pos
+          → {xs : List ℕ} → xs ≡ us → {y : Bool} → y ≡ wants_brackets rules (tokens_of tape area (expr_words xs d.expr)) (tokens_of tape area ws) pos
           → {p : Join} → p ≡ record { line = i; last = j; brackets = y; family = d.name.family; expr = d.expr }
           → Plans tape area us i among (Some p)
       unfolding plan_among when◌then◌else◌ let_some◌else◌then◌
-      among_joins t h {y} ey ep = join_plan d h j y (rw (found_is eq e, ← eb, not-false b t, ← ey)) ep
-
-pub ruleset placing = (among_none, among_unfit, among_joins)
+      among_joins t h eu {y} ey ep = join_plan d h j y (rw (← ew, found_is eq e, ← eb, not-false b t, ← eu, ← ey)) ep
 
 -- the line j, whose words are ws
 module _ (rules : Rules) (tape area : Text) (tokens lines : List ℕ) (i j : ℕ) (d : Definition) (labels : Labels) (vs : List Text)
@@ -245,11 +238,12 @@ module _ (rules : Rules) (tape area : Text) (tokens lines : List ℕ) (i j : ℕ
     unfolding when◌then◌else◌ ◌or◌ not
     used-live t = no_plan (used_is ∙ rw (ta, ← ek, ← ex, not-true x t))
 
-    pub used_among : flip x ≡ false → {us : List ℕ} → us ≡ part_of tokens (get_or lines i 0) → {p : std.Option Join}
-        → Plans tape area us i (plan_among rules (definition_in tape area us d) (tokens_of tape area ws) j) p
+    pub used_among : flip x ≡ false → {p : std.Option Join}
+        → Plans tape area (part_of tokens (get_or lines i 0)) i
+        (plan_among rules (definition_in tape area (part_of tokens (get_or lines i 0)) d) (tokens_of tape area (part_of tokens (get_or lines j 0))) j) p
         → Plans tape area (part_of tokens (get_or lines i 0)) i used p
     unfolding when◌then◌else◌ ◌or◌ not
-    used_among t eu h = plan_of (used_is ∙ rw (ta, ← ek, ← ex, not-false x t)) (rw eu at h)
+    used_among t h = plan_of (used_is ∙ rw (ta, ← ek, ← ex, not-false x t, ew)) h
 
 pub ruleset finding = (used_while, used-live, used_among)
 
@@ -298,14 +292,6 @@ module _ (rules : Rules) (tape area : Text) (ws : List ℕ) (lines : Listing) (i
 pub ruleset choosing = (for_other, for_constant, for_single)
 
 -- ---- the decision
-
--- what is known of a definition that was found
-module _ {tape area : Text} {ws : List ℕ} {r : std.Option Definition} {d : Definition} (h : Defines tape area ws r) (e : r ≡ Some d) where
-  pub defines_sound : {us : List ℕ} → ws ≡ us → Sound tape area us d
-  defines_sound f = rw (← f) (h.sound d e)
-
-  pub defines_known : Known tape area d.name.family
-  defines_known = (h.sound d e).known
 
 module _ (tape area : Text) (tokens lines : List ℕ) (i : ℕ) (rules : Rules) (labels : Labels) (addressed : List Text)
     (hi : i < length lines) {ws : List ℕ} (ew : ws ≡ part_of tokens (get_or lines i 0)) {r : std.Option Definition} (h : Defines tape area ws r) where

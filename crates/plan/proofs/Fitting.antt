@@ -1,5 +1,5 @@
 -- The token that uses a definition: its width, whether it is written, the texts beside it. Assumes nothing.
-use Rattle.std.proofs.Common.{◌≡◌, ℕ, suc, ◌+◌, ◌-◌, ◌≤◌, ◌<◌, Bool, true, false, ◌&&◌, List, length, get_or, eqb, ltb, leb, refl, sym, ap, ◌∙◌, arith, add-one, eq-eqb, ne_eqb, lt-ltb, le-ltb, le-leb}
+use Rattle.std.proofs.Common.{◌≡◌, ℕ, suc, ◌+◌, ◌-◌, ◌<◌, Bool, true, false, ◌&&◌, List, length, get_or, eqb, ltb, leb, refl, sym, ap, ◌∙◌, arith, add-one, eq-eqb, ne_eqb, lt-ltb, le-ltb, le-leb}
 use borrow.Author.Tests.{lt-leb}
 use lib.ListN.{length-map, get_or-map}
 use Rattle.std.proofs.Common.{not as flip, Some, None}
@@ -97,12 +97,6 @@ module _ (fam : Text) (width : ℕ) (toks : List Token) (pos : ℕ) where
 -- ---- the texts beside it
 
 module _ (tape area : Text) (ws : List ℕ) (pos : ℕ) where
-  pub alone_first : pos ≡ 0 → false ≡ standalone (text_before (tokens_of tape area ws) pos) (text_after (tokens_of tape area ws) pos)
-  alone_first e = sym (first-not-standalone (tokens_of tape area ws) pos e)
-
-  pub alone_last : length ws ≤ pos + 1 → false ≡ standalone (text_before (tokens_of tape area ws) pos) (text_after (tokens_of tape area ws) pos)
-  alone_last h = sym (last-not-standalone (tokens_of tape area ws) pos (rw length-map (omega arith)))
-
   module _ (n : pos ≡ 0 → ⊥) (h : pos + 1 < length ws) where
     before_is : text_before (tokens_of tape area ws) pos ≡ text_of tape area (get_or ws (pos - 1) 0)
     before_is =

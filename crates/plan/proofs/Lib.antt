@@ -1,5 +1,4 @@
 -- Laws of each file of the source: the cases in which its functions return, and the turns of their loops.
-pub mod Reading
 pub mod Defining
 pub mod Addressing
 pub mod Reaching

@@ -123,5 +123,3 @@ module _ {tape area : Text} {tokens : List ℕ} {l n : ℕ} (s : ℕ) (d : Defin
         transparent_stops f =
             look-other tape area tokens s d vs l refl (sym (save-calls-label fam h en q_save_calls)) refl {q = Nothing} (sym (transparent_touch fam h en ex t vs)) refl refl on refl eu
             (rw ew at ey) f
-
-pub ruleset passing = (calling-stops, transparent_calls, transparent_apart, transparent_passes, transparent_stops)

@@ -1,12 +1,13 @@
 // What an attempt starts from: a line that assigns to a family what does not mention it (the first tests of `try_at` of the Rust).
 ghost use Rattle.std.specs.Prelude.{◌≡◌, ◌<◌, get_or};
 ghost use Rattle.reference.specs.Join.{reads_here, reads_memory};
-ghost use Rattle.lines.specs.Words.{token_of, tokens_of, Holds};
 ghost use Rattle.lines.specs.Shapes.{expr_words, Expression};
 ghost use Rattle.plan.specs.Definitions.{before_at, Defines};
+ghost use Rattle.lines.specs.Texts.{Holds, token_of, tokens_of};
 
 use lines::fams::Named;
 use lines::shapes::Expr;
+use lines::texts::Texts;
 use lines::{fams, shapes, words};
 
 // The register or slot with its width and its lowest bit, the right side, whether the line has a call mark, and whether the right side
@@ -20,20 +21,20 @@ pub struct Definition {
 }
 
 // Whether token k of the right side x of a line reads memory: `*(`, a stack slot, or a Symbol that is not behind `&`.
-fn reads_at<'a>(tape: &'a [u8], area: &'a [u8], line: &'a [u64], x: Expr, k: usize) -> bool
-    requires { Holds tape.now area.now line.now × Expression line.now x × (k < x.count) }
-    ensures { result ≡ reads_here (before_at (tokens_of tape.now area.now (expr_words line.now x)) k)
-        (token_of tape.now area.now (get_or (expr_words line.now x) k 0)) }
+fn reads_at(texts: &Texts<'_>, line: &[u64], x: Expr, k: usize) -> bool
+    requires { Holds texts.now line.now × Expression line.now x × (k < x.count) }
+    ensures { result ≡ reads_here (before_at (tokens_of texts.now (expr_words line.now x)) k)
+        (token_of texts.now (get_or (expr_words line.now x) k 0)) }
 {
     let w = shapes::expr_word(line, x, k);
     match words::kind(w) {
-        words::KEYWORD => text::begins_read(words::text(tape, area, w)),
-        words::REGISTER => text::begins_slot(words::text(tape, area, w)),
+        words::KEYWORD => text::begins_read(words::text(texts, w)),
+        words::REGISTER => text::begins_slot(words::text(texts, w)),
         words::SYMBOL => {
             k == 0
                 || {
                     let before = shapes::expr_word(line, x, k - 1);
-                    !text::ends_ampersand(words::text(tape, area, before))
+                    !text::ends_ampersand(words::text(texts, before))
                 }
         }
         _ => false,
@@ -41,12 +42,12 @@ fn reads_at<'a>(tape: &'a [u8], area: &'a [u8], line: &'a [u64], x: Expr, k: usi
 }
 
 // Whether the right side x of a line reads memory.
-pub fn reads_memory<'a>(tape: &'a [u8], area: &'a [u8], line: &'a [u64], x: Expr) -> bool
-    requires { Holds tape.now area.now line.now × Expression line.now x }
-    ensures { result ≡ reads_memory (tokens_of tape.now area.now (expr_words line.now x)) }
+pub fn reads_memory(texts: &Texts<'_>, line: &[u64], x: Expr) -> bool
+    requires { Holds texts.now line.now × Expression line.now x }
+    ensures { result ≡ reads_memory (tokens_of texts.now (expr_words line.now x)) }
 {
     for k in 0..x.count {
-        if reads_at(tape, area, line, x, k) {
+        if reads_at(texts, line, x, k) {
             return true;
         }
     }
@@ -54,19 +55,19 @@ pub fn reads_memory<'a>(tape: &'a [u8], area: &'a [u8], line: &'a [u64], x: Expr
 }
 
 // The line as a definition.
-pub fn definition_of<'a>(tape: &'a [u8], area: &'a [u8], line: &'a [u64]) -> Option<Definition>
-    requires { Holds tape.now area.now line.now }
-    ensures { Defines tape.now area.now line.now result }
+pub fn definition_of(texts: &Texts<'_>, line: &[u64]) -> Option<Definition>
+    requires { Holds texts.now line.now }
+    ensures { Defines texts.now.tape.now texts.now.area.now line.now result }
 {
-    let x = shapes::assignment(tape, area, line)?;
-    let name = fams::name_of(tape, area, line[0])?;
-    if fams::mentions(tape, area, line, x, name.family) {
+    let x = shapes::assignment(texts, line)?;
+    let name = fams::name_of(texts, line[0])?;
+    if fams::mentions(texts, line, x, name.family) {
         return None;
     }
     Some(Definition {
         name,
         expr: x,
-        calls: shapes::has_call(tape, area, line),
-        reads: reads_memory(tape, area, line, x),
+        calls: shapes::has_call(texts, line),
+        reads: reads_memory(texts, line, x),
     })
 }

@@ -2,19 +2,32 @@
 ghost use Rattle.std.specs.Prelude.{◌≡◌};
 ghost use Rattle.reference.specs.Text.{has};
 ghost use Rattle.lines.specs.Words.{Holds};
-ghost use Rattle.lines.specs.Fams.{fam_text, Known};
 ghost use Rattle.plan.specs.Slots.{slot_names, Slotted};
+ghost use Rattle.lines.specs.Texts.{Known, fam_text};
 
 use lines::fams::Fam;
+use lines::texts::Texts;
 use lines::words;
 
+// The names, and a word for each.
+#[derive(Clone, Copy)]
+pub struct SlotNames<'a> {
+    pub text: &'a [u8],
+    pub words: &'a [u64],
+}
+
 // Whether s is one of the names.
-fn slot_among<'a>(slots: &'a [u8], slot_words: &'a [u64], s: &'a [u8]) -> bool
-    requires { Holds slots.now slots.now slot_words.now }
-    ensures { result ≡ has (slot_names slots.now slot_words.now) s.now }
+fn slot_among(slots: &SlotNames<'_>, s: &[u8]) -> bool
+    requires { Holds slots.now.text.now slots.now.text.now slots.now.words.now }
+    ensures { result ≡ has (slot_names slots.now.text.now slots.now.words.now) s.now }
 {
-    for w in slot_words {
-        if words::text(slots, slots, *w) == s {
+    // A name's word points into the one buffer, as the tape or as the area.
+    let texts = Texts {
+        tape: slots.text,
+        area: slots.text,
+    };
+    for w in slots.words {
+        if words::text(&texts, *w) == s {
             return true;
         }
     }
@@ -22,15 +35,9 @@ fn slot_among<'a>(slots: &'a [u8], slot_words: &'a [u64], s: &'a [u8]) -> bool
 }
 
 // Whether the family is a stack slot whose address was taken when the round began.
-pub fn is_addressed<'a>(
-    tape: &'a [u8],
-    area: &'a [u8],
-    slots: &'a [u8],
-    slot_words: &'a [u64],
-    f: Fam,
-) -> bool
-    requires { Slotted slots.now slot_words.now × Known tape.now area.now f }
-    ensures { result ≡ has (slot_names slots.now slot_words.now) (fam_text tape.now area.now f) }
+pub fn is_addressed(texts: &Texts<'_>, slots: &SlotNames<'_>, f: Fam) -> bool
+    requires { Slotted slots.now.text.now slots.now.words.now × Known texts.now f }
+    ensures { result ≡ has (slot_names slots.now.text.now slots.now.words.now) (fam_text texts.now f) }
 {
-    8 <= f && slot_among(slots, slot_words, words::text(tape, area, f))
+    8 <= f && slot_among(slots, words::text(texts, f))
 }

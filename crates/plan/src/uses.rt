@@ -6,18 +6,18 @@ ghost use Rattle.reference.specs.Rules.{volatile};
 ghost use Rattle.reference.specs.Join.{text_before, text_after, standalone, use_width, use_lowest, is_compound, replaceable};
 ghost use Rattle.joining.specs.Plan.{look, use_of};
 ghost use Rattle.lines.specs.Codes.{family_number};
-ghost use Rattle.lines.specs.Words.{tokens_of, Holds};
-ghost use Rattle.lines.specs.Lines.{indent_of, part_of, bare_in, bare_listing, Lined, Listed};
+ghost use Rattle.lines.specs.Lines.{indent_of, part_of};
 ghost use Rattle.lines.specs.Rules.{rules_of};
-ghost use Rattle.lines.specs.Fams.{fam_text, Known};
-ghost use Rattle.plan.specs.Definitions.{definition_in, Sound};
 ghost use Rattle.plan.specs.Uses.{looked, same_run, leaves_inputs};
+ghost use Rattle.plan.specs.Texts.{Sound, definition_in};
+ghost use Rattle.lines.specs.Texts.{Holds, Known, Lined, Listed, bare_in, bare_listing, fam_text, tokens_of, words_at};
 
 use crate::definitions::Definition;
 use life::Touched;
 use linefacts::{is_calling, is_transparent, number_of};
 use lines::fams::{Fam, Named};
 use lines::rules::Rules;
+use lines::texts::{Listing, Texts};
 use lines::{fams, shapes, words};
 
 // What a line after a definition is to it: its single use, a line that it may pass, or the end of the search.
@@ -30,103 +30,75 @@ pub enum Look {
 
 // Whether a line is in one run with a definition at this indent: no call, no brace, the same indent. `calls` says that the definition
 // calls.
-fn same_run<'a>(
-    tape: &'a [u8],
-    area: &'a [u8],
-    tokens: &'a [u64],
-    base_indent: u64,
-    calls: bool,
-    l: u64,
-) -> bool
-    requires { Lined tape.now area.now tokens.now l }
-    ensures { result ≡ same_run base_indent calls (bare_in tape.now area.now tokens.now l) }
+fn same_run(listing: &Listing<'_>, base_indent: u64, calls: bool, l: u64) -> bool
+    requires { Lined listing.now.texts listing.now.tokens.now l }
+    ensures { result ≡ same_run base_indent calls (bare_in listing.now.texts listing.now.tokens.now l) }
 {
-    let line = words::line_of(tokens, l);
+    let line = words::line_of(listing.tokens, l);
     !calls
-        && !shapes::opens_or_closes(tape, area, line)
-        && !shapes::has_call(tape, area, line)
+        && !shapes::opens_or_closes(&listing.texts, line)
+        && !shapes::has_call(&listing.texts, line)
         && words::indent(l) == base_indent
 }
 
 // Whether a line assigns to a register what the definition d, of the line `source`, does not read.
-fn leaves_inputs<'a>(
-    tape: &'a [u8],
-    area: &'a [u8],
-    source: &'a [u64],
-    line: &'a [u64],
-    d: Definition,
-) -> bool
-    requires { Holds tape.now area.now source.now × Holds tape.now area.now line.now
-        × Sound tape.now area.now source.now d }
-    ensures { result ≡ leaves_inputs (definition_in tape.now area.now source.now d).expr
-        (tokens_of tape.now area.now line.now) }
+fn leaves_inputs(texts: &Texts<'_>, source: &[u64], line: &[u64], d: Definition) -> bool
+    requires { Holds texts.now source.now × Holds texts.now line.now
+        × Sound texts.now source.now d }
+    ensures { result ≡ leaves_inputs (definition_in texts.now source.now d).expr
+        (tokens_of texts.now line.now) }
 {
-    let Some(_) = shapes::assignment(tape, area, line) else {
+    let Some(_) = shapes::assignment(texts, line) else {
         return false;
     };
-    let Some(n) = fams::name_of(tape, area, line[0]) else {
+    let Some(n) = fams::name_of(texts, line[0]) else {
         return false;
     };
-    !fams::mentions(tape, area, source, d.expr, n.family)
-        && !(d.reads && text::begins_slot(words::text(tape, area, line[0])))
+    !fams::mentions(texts, source, d.expr, n.family)
+        && !(d.reads && text::begins_slot(words::text(texts, line[0])))
 }
 
 // What the line l is to the definition d of the line s.
-fn look_at<'a>(
-    tape: &'a [u8],
-    area: &'a [u8],
-    tokens: &'a [u64],
-    s: u64,
-    l: u64,
-    d: Definition,
-    rules: Rules,
-) -> Look
-    requires { Lined tape.now area.now tokens.now s × Lined tape.now area.now tokens.now l
-        × Sound tape.now area.now (part_of tokens.now s) d }
-    ensures { looked result ≡ look (indent_of s) (definition_in tape.now area.now (part_of tokens.now s) d)
-        (volatile (rules_of rules)) (bare_in tape.now area.now tokens.now l) }
+fn look_at(listing: &Listing<'_>, s: u64, l: u64, d: Definition, rules: Rules) -> Look
+    requires { Lined listing.now.texts listing.now.tokens.now s × Lined listing.now.texts listing.now.tokens.now l
+        × Sound listing.now.texts (part_of listing.now.tokens.now s) d }
+    ensures { looked result ≡ look (indent_of s) (definition_in listing.now.texts (part_of listing.now.tokens.now s) d)
+        (volatile (rules_of rules)) (bare_in listing.now.texts listing.now.tokens.now l) }
 {
-    let line = words::line_of(tokens, l);
-    if shapes::is_label(tape, area, line) {
+    let source = words::line_of(listing.tokens, s);
+    let line = words::line_of(listing.tokens, l);
+    if shapes::is_label(&listing.texts, line) {
         return Look::Stops;
     }
-    match life::touch(tape, area, line, d.name.family, rules) {
+    match life::touch(&listing.texts, line, d.name.family, rules) {
         Touched::Use(1) => Look::Use,
         Touched::Nothing
-            if same_run(tape, area, tokens, words::indent(s), d.calls, l)
-                && leaves_inputs(tape, area, words::line_of(tokens, s), line, d) => { Look::Passes }
+            if same_run(listing, words::indent(s), d.calls, l)
+                && leaves_inputs(&listing.texts, source, line, d) => { Look::Passes }
         _ => Look::Stops,
     }
 }
 
 // What the search for the single use makes of a line, by its facts where they tell it: a calling line ends the run, and a transparent line
 // of the same run is only asked what it leaves alone. n is the number of the family.
-fn look_by_facts<'a>(
-    tape: &'a [u8],
-    area: &'a [u8],
-    tokens: &'a [u64],
-    s: u64,
-    l: u64,
-    d: Definition,
-    n: u64,
-    rules: Rules,
-) -> Look
-    requires { Lined tape.now area.now tokens.now s × Lined tape.now area.now tokens.now l
-        × Sound tape.now area.now (part_of tokens.now s) d × (n ≡ family_number (fam_text tape.now area.now d.name.family)) }
-    ensures { looked result ≡ look (indent_of s) (definition_in tape.now area.now (part_of tokens.now s) d)
-        (volatile (rules_of rules)) (bare_in tape.now area.now tokens.now l) }
+fn look_by_facts(listing: &Listing<'_>, s: u64, l: u64, d: Definition, n: u64, rules: Rules) -> Look
+    requires { Lined listing.now.texts listing.now.tokens.now s × Lined listing.now.texts listing.now.tokens.now l
+        × Sound listing.now.texts (part_of listing.now.tokens.now s) d
+        × (n ≡ family_number (fam_text listing.now.texts d.name.family)) }
+    ensures { looked result ≡ look (indent_of s) (definition_in listing.now.texts (part_of listing.now.tokens.now s) d)
+        (volatile (rules_of rules)) (bare_in listing.now.texts listing.now.tokens.now l) }
 {
     if is_calling(l, n) {
         return Look::Stops;
     }
     if !is_transparent(l, n) {
-        return look_at(tape, area, tokens, s, l, d, rules);
+        return look_at(listing, s, l, d, rules);
     }
-    let source = words::line_of(tokens, s);
-    let line = words::line_of(tokens, l);
+    let source = words::line_of(listing.tokens, s);
+    let line = words::line_of(listing.tokens, l);
     if !d.calls
         && words::indent(l) == words::indent(s)
-        && leaves_inputs(tape, area, source, line, d)
+        && leaves_inputs(&listing.texts, source, line, d)
     {
         Look::Passes
     } else {
@@ -135,24 +107,16 @@ fn look_by_facts<'a>(
 }
 
 // The line with the single use of the definition d of line i: the next line that touches it, through lines that it may pass.
-pub fn use_of<'a>(
-    tape: &'a [u8],
-    area: &'a [u8],
-    tokens: &'a [u64],
-    lines: &'a [u64],
-    i: usize,
-    d: Definition,
-    rules: Rules,
-) -> Option<usize>
-    requires { Listed tape.now area.now tokens.now lines.now
-        × Sound tape.now area.now (part_of tokens.now (get_or lines.now i 0)) d × (i < length lines.now) }
-    ensures { option_of result ≡ use_of (bare_listing tape.now area.now tokens.now lines.now) i
-        (definition_in tape.now area.now (part_of tokens.now (get_or lines.now i 0)) d) (volatile (rules_of rules)) }
+pub fn use_of(listing: &Listing<'_>, i: usize, d: Definition, rules: Rules) -> Option<usize>
+    requires { Listed listing.now
+        × Sound listing.now.texts (words_at listing.now i) d × (i < length listing.now.lines.now) }
+    ensures { option_of result ≡ use_of (bare_listing listing.now) i
+        (definition_in listing.now.texts (words_at listing.now i) d) (volatile (rules_of rules)) }
 {
-    let s = lines[i];
-    let n = number_of(tape, area, d.name.family);
-    for j in i + 1..lines.len() {
-        match look_by_facts(tape, area, tokens, s, lines[j], d, n, rules) {
+    let s = listing.lines[i];
+    let n = number_of(&listing.texts, d.name.family);
+    for j in i + 1..listing.lines.len() {
+        match look_by_facts(listing, s, listing.lines[j], d, n, rules) {
             Look::Use => return Some(j),
             Look::Passes => {}
             Look::Stops => return None,
@@ -171,81 +135,68 @@ fn widths_fit(width: u64, used: u64) -> bool
 }
 
 // The width of the token at `pos`.
-fn use_width<'a>(tape: &'a [u8], area: &'a [u8], line: &'a [u64], pos: usize) -> u64
-    requires { Holds tape.now area.now line.now × (pos < length line.now) }
-    ensures { result ≡ use_width (tokens_of tape.now area.now line.now) pos }
+fn use_width(texts: &Texts<'_>, line: &[u64], pos: usize) -> u64
+    requires { Holds texts.now line.now × (pos < length line.now) }
+    ensures { result ≡ use_width (tokens_of texts.now line.now) pos }
 {
-    fams::name_of(tape, area, line[pos]).map_or(64, |n| n.width)
+    fams::name_of(texts, line[pos]).map_or(64, |n| n.width)
 }
 
 // Whether the token at `pos` is written through a compound operator: it stands first, and an operator follows that is not ` = `.
-fn is_compound<'a>(tape: &'a [u8], area: &'a [u8], line: &'a [u64], pos: usize) -> bool
-    requires { Holds tape.now area.now line.now }
-    ensures { result ≡ is_compound (tokens_of tape.now area.now line.now) pos }
+fn is_compound(texts: &Texts<'_>, line: &[u64], pos: usize) -> bool
+    requires { Holds texts.now line.now }
+    ensures { result ≡ is_compound (tokens_of texts.now line.now) pos }
 {
     pos == 0
         && 2 <= line.len()
         && words::kind(line[1]) == words::PUNCT
         && {
-            let s = words::text(tape, area, line[1]);
+            let s = words::text(texts, line[1]);
             text::begins_operator(s) && !text::begins_assign(s)
         }
 }
 
 // Whether the use at `pos` may be replaced by an expression of this width, whatever its part.
-fn fits<'a>(tape: &'a [u8], area: &'a [u8], line: &'a [u64], pos: usize, f: Fam, width: u64) -> bool
-    requires { Holds tape.now area.now line.now × (pos < length line.now) × Known tape.now area.now f }
-    ensures { result ≡ replaceable false (record { name = fam_text tape.now area.now f; width = width; lowest = 0 })
-        (tokens_of tape.now area.now line.now) pos }
+fn fits(texts: &Texts<'_>, line: &[u64], pos: usize, f: Fam, width: u64) -> bool
+    requires { Holds texts.now line.now × (pos < length line.now) × Known texts.now f }
+    ensures { result ≡ replaceable false (record { name = fam_text texts.now f; width = width; lowest = 0 })
+        (tokens_of texts.now line.now) pos }
 {
-    widths_fit(width, use_width(tape, area, line, pos))
-        && !is_compound(tape, area, line, pos)
-        && !fams::writes(tape, area, line, f)
+    widths_fit(width, use_width(texts, line, pos))
+        && !is_compound(texts, line, pos)
+        && !fams::writes(texts, line, f)
 }
 
 // Whether the token at `pos` has less than 32 bits, and another lowest bit.
-fn begins_elsewhere<'a>(
-    tape: &'a [u8],
-    area: &'a [u8],
-    line: &'a [u64],
-    pos: usize,
-    lowest: u64,
-) -> bool
-    requires { Holds tape.now area.now line.now × (pos < length line.now) }
-    ensures { result ≡ (ltb (use_width (tokens_of tape.now area.now line.now) pos) 32
-        and not (eqb (use_lowest (tokens_of tape.now area.now line.now) pos) lowest)) }
+fn begins_elsewhere(texts: &Texts<'_>, line: &[u64], pos: usize, lowest: u64) -> bool
+    requires { Holds texts.now line.now × (pos < length line.now) }
+    ensures { result ≡ (ltb (use_width (tokens_of texts.now line.now) pos) 32
+        and not (eqb (use_lowest (tokens_of texts.now line.now) pos) lowest)) }
 {
-    fams::name_of(tape, area, line[pos]).is_some_and(|n| n.width < 32 && n.lowest != lowest)
+    fams::name_of(texts, line[pos]).is_some_and(|n| n.width < 32 && n.lowest != lowest)
 }
 
 // Whether the use at `pos` may be replaced by an expression that was assigned to `name`: its width of its family, from its lowest bit on.
 // Under `parts` a use below 32 bits must be the same part (M-104); its width is asked in any case.
-pub fn use_fits<'a>(
-    tape: &'a [u8],
-    area: &'a [u8],
-    line: &'a [u64],
-    pos: usize,
-    name: Named,
-    parts: bool,
-) -> bool
-    requires { Holds tape.now area.now line.now × (pos < length line.now) × Known tape.now area.now name.family }
+pub fn use_fits(texts: &Texts<'_>, line: &[u64], pos: usize, name: Named, parts: bool) -> bool
+    requires { Holds texts.now line.now × (pos < length line.now) × Known texts.now name.family }
     ensures { result
         ≡ replaceable parts
-        (record { name = fam_text tape.now area.now name.family; width = name.width; lowest = name.lowest })
-        (tokens_of tape.now area.now line.now) pos }
+        (record { name = fam_text texts.now name.family; width = name.width; lowest = name.lowest })
+        (tokens_of texts.now line.now) pos }
 {
-    fits(tape, area, line, pos, name.family, name.width)
-        && !(parts && begins_elsewhere(tape, area, line, pos, name.lowest))
+    fits(texts, line, pos, name.family, name.width)
+        && !(parts && begins_elsewhere(texts, line, pos, name.lowest))
 }
 
 // Whether the token at `pos` stands between delimiters.
-pub fn is_standalone<'a>(tape: &'a [u8], area: &'a [u8], line: &'a [u64], pos: usize) -> bool
-    requires { Holds tape.now area.now line.now × (pos < length line.now) }
-    ensures { result ≡ standalone (text_before (tokens_of tape.now area.now line.now) pos)
-        (text_after (tokens_of tape.now area.now line.now) pos) }
+pub fn is_standalone(texts: &Texts<'_>, line: &[u64], pos: usize) -> bool
+    requires { Holds texts.now line.now × (pos < length line.now) }
+    ensures { result ≡ standalone (text_before (tokens_of texts.now line.now) pos)
+        (text_after (tokens_of texts.now line.now) pos) }
 {
     pos != 0
         && pos + 1 < line.len()
-        && text::delimits_before(words::text(tape, area, line[pos - 1]))
-        && text::delimits_after(words::text(tape, area, line[pos + 1]))
+        && text::delimits_before(words::text(texts, line[pos - 1]))
+        && text::delimits_after(words::text(texts, line[pos + 1]))
 }

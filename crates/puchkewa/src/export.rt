@@ -33,6 +33,7 @@ pub struct Report {
 }
 
 // Cleans the listing of a tape, as `clean` does.
+#[tactic(auto, unfolding(reference::specs::Reply::told))]
 pub fn puchkewa_clean(
     settings: Settings,
     tape: &[u8],
@@ -53,12 +54,13 @@ pub fn puchkewa_clean(
     match clean(rules, tape, work_a, work_b, out) {
         Err(refusal) => Report {
             refusal: refusal.reason.number(),
-            place: refusal.place as u64,
+            place: refusal.place,
             ..Report::default()
         },
         Ok(f) => {
             let t = Told::from(f.tally);
             Report {
+                // Kept: the C interface tells every number as a `u64`, and the length of a slice is a `usize`.
                 length: f.length as u64,
                 attempts_1: t.first,
                 attempts_2: t.second,

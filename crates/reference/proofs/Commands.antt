@@ -136,7 +136,14 @@ module _ {form : TapeForm} where
   is_form (b ∷ rest) (is_marks e) = let a = apart form in rw (e, a.marks_line, a.marks_plain, a.same_marks)
   is_form (b ∷ rest) (is_token low high) =
       let a = apart form in
-      rw (ne_eqb b (line_byte form) (λ e. omega (arith, a.line_low)), ne_eqb b 0x02 (λ e. omega arith), ne_eqb b (marks_byte form) (λ e. omega (arith, a.marks_low)), le-leb 0x10 b low, le-leb b 0x17 high)
+      rw (
+        ne_eqb b (line_byte form) (λ e. omega (arith, a.line_low)),
+        ne_eqb b 0x02 (λ e. omega arith),
+        ne_eqb b (marks_byte form) (λ e. omega (arith, a.marks_low)),
+        le-leb 0x10 b low,
+        le-leb b
+            0x17 high,
+      )
   is_form (b ∷ rest) (is_ending e) = let a = apart form in rw (e, a.line_end, a.marks_end)
 
 -- the name of `form_of` for the old form

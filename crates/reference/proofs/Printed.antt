@@ -27,7 +27,8 @@ unfolding to_digit when◌then◌else◌ ◌and◌
 digit-back base d h k =
     by_cases (dec_lt d 10)
     (λ l. rw (lt-ltb d 10 l, le-leb 48 (48 + d) (omega arith), le-leb (48 + d) 57 (omega arith)) (let e : 48 + d - 48 ≡ d = omega arith in rw (e, lt-ltb d base h) refl))
-    (λ l. rw (le-ltb d 10 (omega arith), le-leb 48 (87 + d) (omega arith), lt-leb (87 + d) 57 (omega arith), le-leb 97 (87 + d) (omega arith), le-leb (87 + d) 122 (omega arith)) (let e : 87 + d - 87 ≡ d = omega arith in rw (e, lt-ltb d base h) refl))
+    (λ l. rw (le-ltb d 10 (omega arith), le-leb 48 (87 + d) (omega arith), lt-leb (87 + d) 57 (omega arith), le-leb 97 (87 + d) (omega arith), le-leb (87 + d) 122 (omega arith))
+    (let e : 87 + d - 87 ≡ d = omega arith in rw (e, lt-ltb d base h) refl))
 
 module _ (base : ℕ) (two : 2 ≤ base) (small : base ≤ 16) where
   -- one printed digit, read after the number `a`

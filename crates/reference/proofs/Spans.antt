@@ -230,6 +230,8 @@ hull_of-split zero P (m ∷ ms) h =
     ∙ sym (ap (λ (k : Marks). hull k (when P 0 then m else none))
     (rw (but_there 0 P 0 refl, hull_of_ext (λ p. but 0 P (suc p)) (λ p. P (suc p)) (λ p. but_elsewhere 0 P (suc p) (λ e. omega arith)) ms) (unfold when◌then◌else◌ hull in refl)))
 hull_of-split (suc i) P (m ∷ ms) h =
-    ap (hull (when P 0 then m else none)) (hull_of-split i (λ p. P (suc p)) ms (omega arith) ∙ ap (λ (k : Marks). hull k (when P (suc i) then get_or ms i none else none)) (hull_of_ext _ _ (λ p. sym (but_suc i P p)) ms))
+    ap (hull (when P 0 then m else none)) (hull_of-split i (λ p. P (suc p)) ms (omega arith)
+    ∙ ap (λ (k : Marks). hull k (when P (suc i) then get_or ms i none else none)) (hull_of_ext _ _ (λ p. sym (but_suc i P p)) ms))
     ∙ sym (hull_assoc (when P 0 then m else none) (hull_of (λ p. but (suc i) P (suc p)) ms) (when P (suc i) then get_or ms i none else none))
-    ∙ ap (λ (b : Bool). hull (hull (when b then m else none) (hull_of (λ p. but (suc i) P (suc p)) ms)) (when P (suc i) then get_or ms i none else none)) (sym (but_elsewhere (suc i) P 0 (λ e. omega arith)))
+    ∙ ap (λ (b : Bool). hull (hull (when b then m else none) (hull_of (λ p. but (suc i) P (suc p)) ms)) (when P (suc i) then get_or ms i none else none))
+    (sym (but_elsewhere (suc i) P 0 (λ e. omega arith)))

@@ -133,7 +133,8 @@ pub record Straight : Type 0 where
   pub several_again : breaks (finished profiled several) ≡ none
 
 pub straight : Straight
-unfolding opened breaks returned plus minus of_integer wide is_tidy number_of lexemes_of lexemes behind operator combine expression evaluate assigned_value returned_value line_step execute puncts_apart assigns_wide returns_value breaks_from
+unfolding opened breaks returned plus minus of_integer wide is_tidy number_of lexemes_of lexemes behind operator combine expression evaluate assigned_value returned_value line_step execute
+    puncts_apart assigns_wide returns_value breaks_from
 straight =
     record {
       only_return = refl;

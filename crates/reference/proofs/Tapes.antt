@@ -183,7 +183,13 @@ module _ (form : TapeForm) (tape : List ℕ) where
   written h here = refl
   written h (on {s = s} r p n) =
       let rest : List ℕ = left tape s in
-      rw (write_more s (command_by form rest) (kept tape r) p.begun n, write_of-read rest (bytes_drop s.at tape h) p.known p.inside, ← drop-drop (command_size_by form rest) s.at tape, append_assoc (write_lines_by form s.lines s.marks) (take (command_size_by form rest) rest) (drop (command_size_by form rest) rest), take-append-drop (command_size_by form rest) rest)
+      rw (
+        write_more s (command_by form rest) (kept tape r) p.begun n,
+        write_of-read rest (bytes_drop s.at tape h) p.known p.inside,
+        ← drop-drop (command_size_by form rest) s.at tape,
+        append_assoc (write_lines_by form s.lines s.marks) (take (command_size_by form rest) rest) (drop (command_size_by form rest) rest),
+        take-append-drop (command_size_by form rest) rest,
+      )
       (written h r)
 
   -- what is left at the end

@@ -65,7 +65,8 @@ module _ (form : TapeForm) where
   write-lines_snoc [] [] l m e = append-nil (write_line_by form l m)
   write-lines_snoc [] (n ∷ marks) l m e = absurd (omega arith)
   write-lines_snoc (x ∷ lines) [] l m e = absurd (omega arith)
-  write-lines_snoc (x ∷ lines) (n ∷ marks) l m e = rw (write-lines_snoc lines marks l m (omega arith)) (sym (append_assoc (write_line_by form x n) (write_lines_by form lines marks) (write_line_by form l m)))
+  write-lines_snoc (x ∷ lines) (n ∷ marks) l m e = rw (write-lines_snoc lines marks l m (omega arith))
+      (sym (append_assoc (write_line_by form x n) (write_lines_by form lines marks) (write_line_by form l m)))
 
   pub write_line_snoc : (t : Token) (l : Line) (m : Marks) → write_line_by form (with_token t l) m ≡ write_line_by form l m ++ write_command_by form (new_token t)
   unfolding write_line_by flat_map
@@ -98,7 +99,14 @@ module _ (form : TapeForm) where
       → write_lines_by form (add (marked s) lines) (add_marks (marked s) marks) ≡ write_lines_by form lines marks ++ write_command_by form (marked s)
   unfolding add
   write_new-marks s lines marks f =
-      rw (f.lines_are, f.marks_are, mark-last s f.marks_above none, write-lines_snoc f.above f.marks_above f.last (some s) f.same, write-lines_snoc f.above f.marks_above f.last none f.same, write_line-marked s f.last f.no_tokens)
+      rw (
+        f.lines_are,
+        f.marks_are,
+        mark-last s f.marks_above none,
+        write-lines_snoc f.above f.marks_above f.last (some s) f.same,
+        write-lines_snoc f.above f.marks_above f.last none f.same,
+        write_line-marked s f.last f.no_tokens,
+      )
       (simp append_assoc)
 
   -- ---- how long a tape is
@@ -116,7 +124,8 @@ module _ (form : TapeForm) where
   marks-length : (m : Marks) → length (write_marks_by form m) ≤ 17
   unfolding write_marks_by write_command_by
   marks-length none = omega arith
-  marks-length (some s) = rw (length-append (to_le_bytes (width form) s.lowest) (to_le_bytes (width form) s.highest), to_length (width form) s.lowest, to_length (width form) s.highest) (omega (arith, widths form))
+  marks-length (some s) = rw (length-append (to_le_bytes (width form) s.lowest) (to_le_bytes (width form) s.highest), to_length (width form) s.lowest, to_length (width form) s.highest)
+      (omega (arith, widths form))
 
   line_length : (l : Line) (m : Marks) → length (write_line_by form l m) ≤ text_in l.tokens + 3 * length l.tokens + 27
   unfolding write_line_by

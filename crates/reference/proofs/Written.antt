@@ -76,8 +76,15 @@ module _ (form : TapeForm) (tape : List ℕ) where
       × (s'.marks ≡ add_marks c s.marks)
   over-command c post s r e w begun within few short printable n =
       let b = read_of-write {form = form} c post w in
-      let p = passes form c post s.totals w begun within few short printable (no_end-over _ c n) in
-      (after_by form tape s, on r (rw e p) (rw (e, b.same) n), sym (drop-drop (command_size_by form (left tape s)) s.at tape) ∙ rw (e, b.size, drop-append_seam (write_command_by form c) post), rw (e, b.same), rw (e, b.same), rw (e, b.same))
+      let p = passes form c post s.totals w begun within few short printable (no_end-over _ c n) in (
+        after_by form tape s,
+        on r (rw e p) (rw (e, b.same) n),
+        sym (drop-drop (command_size_by form (left tape s)) s.at tape)
+            ∙ rw (e, b.size, drop-append_seam (write_command_by form c) post),
+        rw (e, b.same),
+        rw (e, b.same),
+        rw (e, b.same),
+      )
 
   over_line : (address : Option ℕ) (indent : ℕ) (post : List ℕ) (read : Listing) (marks : List Marks) (m n k : ℕ) → AddressFitsBy form address → indent ≤ 63
       → To (write_command_by form (new_line address indent) ++ post) read marks (suc m) n k

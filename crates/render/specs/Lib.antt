@@ -1,1 +1,2 @@
--- The crate has no definitions of its own.
+-- What is known of a sink after something was put into it.
+pub mod Sinks

@@ -1,9 +1,9 @@
 // The constant parts of the page: head, style, legend, script. Nothing is loaded from anywhere; the page's own policy lets only this script
 // run, by its hash (tests/page compares it).
-use crate::sink::{Sink, Unwritten, put, put_text};
+use crate::sink::{Output, Unwritten, put, put_text};
 use text::same;
 
-fn put_style(out: Sink) -> Result<(), Unwritten> {
+fn put_style(out: Output) -> Result<(), Unwritten> {
     put(
         out,
         b"<style>\n\
@@ -61,14 +61,14 @@ fn put_style(out: Sink) -> Result<(), Unwritten> {
     )
 }
 
-fn put_name(out: Sink, name: &[u8]) -> Result<(), Unwritten> {
+fn put_name(out: Output, name: &[u8]) -> Result<(), Unwritten> {
     if same(name, b"-") {
         return put(out, b"standard input");
     }
     put_text(out, 8, name)
 }
 
-pub(crate) fn put_head(out: Sink, name: &[u8]) -> Result<(), Unwritten> {
+pub(crate) fn put_head(out: Output, name: &[u8]) -> Result<(), Unwritten> {
     put(
         out,
         b"<!DOCTYPE html>\n<html lang=en>\n<head>\n<meta charset=utf-8>\n\
@@ -93,11 +93,11 @@ pub(crate) fn put_head(out: Sink, name: &[u8]) -> Result<(), Unwritten> {
     )
 }
 
-pub(crate) fn put_middle(out: Sink) -> Result<(), Unwritten> {
+pub(crate) fn put_middle(out: Output) -> Result<(), Unwritten> {
     put(out, b"</tbody></table>\n")
 }
 
-pub(crate) fn put_foot(out: Sink) -> Result<(), Unwritten> {
+pub(crate) fn put_foot(out: Output) -> Result<(), Unwritten> {
     put(
         out,
         b"<script>\n\

@@ -1,5 +1,5 @@
 // The rows of the page: each raw line, and beside it what became of it. What a raw line came into is asked of crate sources, line by line.
-use crate::sink::{Sink, Unwritten, put, put_hex, put_number};
+use crate::sink::{Output, Unwritten, number, put, put_hex, put_number};
 use crate::walking::{Line, Lines, Span, front};
 use lines::rules::Rules;
 use sources::came_into;
@@ -9,7 +9,7 @@ use sources::came_into;
 // How many lines are finished, and which of them the raw line itself became, if it is not gone.
 #[derive(Clone, Copy)]
 struct Told {
-    finished: usize,
+    finished: u64,
     became: Option<usize>,
 }
 
@@ -31,7 +31,7 @@ fn ask(rules: Rules, tape: &[u8], k: usize, flags: &mut [u8]) -> Told {
         flags,
     ) {
         Ok(n) => Told {
-            finished: n as usize,
+            finished: n,
             became: Lines::new(&out).position(|line| line.address.is_some()),
         },
         Err(_) => Told {
@@ -42,11 +42,11 @@ fn ask(rules: Rules, tape: &[u8], k: usize, flags: &mut [u8]) -> Told {
 }
 
 // The first n finished lines that are flagged, from 1, each behind a blank.
-fn put_flagged(out: Sink, flags: &[u8], n: usize) -> Result<(), Unwritten> {
-    for (i, flag) in flags.iter().take(n).enumerate() {
+fn put_flagged(out: Output, flags: &[u8], n: u64) -> Result<(), Unwritten> {
+    for (flag, q) in flags.iter().zip(1..=n) {
         if *flag == 1 {
             put(out, b" ")?;
-            put_number(out, i as u64 + 1)?;
+            put_number(out, q)?;
         }
     }
     Ok(())
@@ -55,7 +55,7 @@ fn put_flagged(out: Sink, flags: &[u8], n: usize) -> Result<(), Unwritten> {
 // ---- cells
 
 // An address, if the line has one.
-fn put_address(out: Sink, address: Option<u64>) -> Result<(), Unwritten> {
+fn put_address(out: Output, address: Option<u64>) -> Result<(), Unwritten> {
     match address {
         Some(address) => put_hex(out, address),
         None => Ok(()),
@@ -63,7 +63,7 @@ fn put_address(out: Sink, address: Option<u64>) -> Result<(), Unwritten> {
 }
 
 // The lowest and the highest address of marks, if the line has any.
-fn put_marks(out: Sink, marks: Option<Span>) -> Result<(), Unwritten> {
+fn put_marks(out: Output, marks: Option<Span>) -> Result<(), Unwritten> {
     let Some(span) = marks else {
         return Ok(());
     };
@@ -73,8 +73,9 @@ fn put_marks(out: Sink, marks: Option<Span>) -> Result<(), Unwritten> {
 }
 
 // The tokens of a line in their cells, by way of a buffer that has room for them.
-// Kept: a function apart from the buffer's, since a proof in reach of an array of that size did not close.
-fn put_tokens_by(out: Sink, tokens: &[u8], cells: &mut [u8]) -> Result<(), Unwritten> {
+// Kept: a function apart from the buffer's: tried as one, and the proof did not close, since the checker ran out of stack at the array of
+// that size.
+fn put_tokens_by(out: Output, tokens: &[u8], cells: &mut [u8]) -> Result<(), Unwritten> {
     if cells.len() / 12 < tokens.len() {
         return Ok(());
     }
@@ -84,7 +85,7 @@ fn put_tokens_by(out: Sink, tokens: &[u8], cells: &mut [u8]) -> Result<(), Unwri
 
 // The tokens of a line in their cells. A line of an accepted or a cleaned tape has at most 59,137 bytes, and its cells at most twelve
 // times so many.
-fn put_tokens(out: Sink, tokens: &[u8]) -> Result<(), Unwritten> {
+fn put_tokens(out: Output, tokens: &[u8]) -> Result<(), Unwritten> {
     let mut cells = [0u8; 709644];
     put_tokens_by(out, tokens, &mut cells)
 }
@@ -101,14 +102,14 @@ enum Fate {
 
 // A raw line, number k from 0; of the finished lines, n of them, those are flagged that it came into.
 fn put_raw(
-    out: Sink,
+    out: Output,
     fate: Fate,
     line: Line,
     k: usize,
     flags: &[u8],
-    n: usize,
+    n: u64,
 ) -> Result<(), Unwritten> {
-    let number = k.saturating_add(1) as u64;
+    let number = number(k.saturating_add(1));
     match fate {
         Fate::Gone => put(out, b"<tr class=gone data-k="),
         Fate::Rewritten => put(out, b"<tr class=changed data-k="),
@@ -135,7 +136,7 @@ fn put_raw(
 }
 
 // Behind a raw line that is gone: which cleaned lines it came into.
-fn put_arrow(out: Sink, flags: &[u8], n: usize) -> Result<(), Unwritten> {
+fn put_arrow(out: Output, flags: &[u8], n: u64) -> Result<(), Unwritten> {
     put(out, b"&rarr;")?;
     put_flagged(out, flags, n)?;
     put(
@@ -145,8 +146,8 @@ fn put_arrow(out: Sink, flags: &[u8], n: usize) -> Result<(), Unwritten> {
 }
 
 // A cleaned line, number q from 0, with its marks.
-fn put_cleaned(out: Sink, line: Line, q: usize) -> Result<(), Unwritten> {
-    let number = q.saturating_add(1) as u64;
+fn put_cleaned(out: Output, line: Line, q: usize) -> Result<(), Unwritten> {
+    let number = number(q.saturating_add(1));
     put(out, b"</td><td class=m>")?;
     put_number(out, number)?;
     put(out, b"</td><td class=o data-q=")?;
@@ -171,7 +172,7 @@ fn note(places: &mut [Option<usize>], k: usize, q: usize) {
 
 // All rows. Lines that stay keep their order, so the finished line beside a raw one that stays is the next.
 pub(crate) fn put_rows(
-    out: Sink,
+    out: Output,
     rules: Rules,
     tape: &[u8],
     fin: &[u8],

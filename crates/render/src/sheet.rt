@@ -2,7 +2,7 @@
 // The numbers are the reply's, and those that crate tallies counts from the two tapes: of the listings that they hold, as the reference
 // counts (its theorem `ticks` says how they must come out). Which labels stand, and which addresses are held, is counted here without a
 // promise.
-use crate::sink::{Sink, Unwritten, put, put_number, put_text};
+use crate::sink::{Output, Unwritten, number, put, put_number, put_text};
 use crate::walking::{Line, Lines, SYMBOL, Span, before, label_of, opens, symbol_of};
 use lines::rules::Rules;
 use rounds::Tally;
@@ -18,22 +18,22 @@ pub struct Counts {
 }
 
 // A tick, or a cross: the latter is never seen unless the counting or the theorem is wrong.
-fn put_tick(out: Sink, holds: bool) -> Result<(), Unwritten> {
+fn put_tick(out: Output, holds: bool) -> Result<(), Unwritten> {
     if holds {
         return put(out, b"<td class=y>&#10003;</td>");
     }
     put(out, b"<td class=x>&#10007;</td>")
 }
 
-fn put_count(out: Sink, n: usize) -> Result<(), Unwritten> {
+fn put_count(out: Output, n: usize) -> Result<(), Unwritten> {
     put(out, b"<td class=d>")?;
-    put_number(out, n as u64)?;
+    put_number(out, number(n))?;
     put(out, b"</td>")
 }
 
 // ---- calls
 
-fn put_calls_of(out: Sink, tape: &[u8], fin: &[u8], name: &[u8]) -> Result<(), Unwritten> {
+fn put_calls_of(out: Output, tape: &[u8], fin: &[u8], name: &[u8]) -> Result<(), Unwritten> {
     let before = count_calls(tape, name);
     let now = count_calls(fin, name);
     put(out, b"<tr>")?;
@@ -47,7 +47,7 @@ fn put_calls_of(out: Sink, tape: &[u8], fin: &[u8], name: &[u8]) -> Result<(), U
 }
 
 // A row for each name that is called, in the order of the first calls: no bracket opened behind the name in what stands before it.
-fn put_names(out: Sink, tape: &[u8], fin: &[u8]) -> Result<(), Unwritten> {
+fn put_names(out: Output, tape: &[u8], fin: &[u8]) -> Result<(), Unwritten> {
     let mut commands = Commands::new(tape);
     let mut symbol = None;
     let mut from = tape;
@@ -64,7 +64,7 @@ fn put_names(out: Sink, tape: &[u8], fin: &[u8]) -> Result<(), Unwritten> {
     Ok(())
 }
 
-fn put_casts(out: Sink, tape: &[u8], fin: &[u8]) -> Result<(), Unwritten> {
+fn put_casts(out: Output, tape: &[u8], fin: &[u8]) -> Result<(), Unwritten> {
     let before = count_casts(tape);
     let now = count_casts(fin);
     put(out, b"<tr>")?;
@@ -75,7 +75,7 @@ fn put_casts(out: Sink, tape: &[u8], fin: &[u8]) -> Result<(), Unwritten> {
     put(out, b"</tr>\n")
 }
 
-fn put_calls(out: Sink, tape: &[u8], fin: &[u8]) -> Result<(), Unwritten> {
+fn put_calls(out: Output, tape: &[u8], fin: &[u8]) -> Result<(), Unwritten> {
     put(
         out,
         b"<div><h3>Calls <code>calls-stay</code></h3><table class=q><thead><tr><th></th><th>callee</th><th>before</th><th>after</th></tr><\
@@ -113,7 +113,7 @@ fn stands(line: Line, fin: &[u8], place: Option<usize>) -> bool {
 }
 
 fn put_label_rows(
-    out: Sink,
+    out: Output,
     tape: &[u8],
     fin: &[u8],
     places: &[Option<usize>],
@@ -135,7 +135,7 @@ fn put_label_rows(
 }
 
 fn put_labels(
-    out: Sink,
+    out: Output,
     tape: &[u8],
     fin: &[u8],
     places: &[Option<usize>],
@@ -192,7 +192,7 @@ fn count_spans(tape: &[u8], fin: &[u8]) -> (usize, usize) {
 
 // ---- counts and settings
 
-fn put_entry(out: Sink, name: &[u8], n: u64) -> Result<(), Unwritten> {
+fn put_entry(out: Output, name: &[u8], n: u64) -> Result<(), Unwritten> {
     put(out, b"<tr><th>")?;
     put(out, name)?;
     put(out, b"</th><td class=d>")?;
@@ -200,7 +200,7 @@ fn put_entry(out: Sink, name: &[u8], n: u64) -> Result<(), Unwritten> {
     put(out, b"</td></tr>\n")
 }
 
-fn put_said(out: Sink, name: &[u8], words: &[u8]) -> Result<(), Unwritten> {
+fn put_said(out: Output, name: &[u8], words: &[u8]) -> Result<(), Unwritten> {
     put(out, b"<tr><th>")?;
     put(out, name)?;
     put(out, b"</th><td>")?;
@@ -208,18 +208,18 @@ fn put_said(out: Sink, name: &[u8], words: &[u8]) -> Result<(), Unwritten> {
     put(out, b"</td></tr>\n")
 }
 
-fn put_three(out: Sink, first: u64, second: u64, third: u64) -> Result<(), Unwritten> {
+fn put_three(out: Output, first: u64, second: u64, third: u64) -> Result<(), Unwritten> {
     put_entry(out, b"attempts, first round", first)?;
     put_entry(out, b"attempts, second round", second)?;
     put_entry(out, b"attempts, third round", third)
 }
 
-fn put_settled(out: Sink, rounds: u64, attempts: u64) -> Result<(), Unwritten> {
+fn put_settled(out: Output, rounds: u64, attempts: u64) -> Result<(), Unwritten> {
     put_entry(out, b"rounds until nothing changed", rounds)?;
     put_entry(out, b"attempts", attempts)
 }
 
-fn put_tally(out: Sink, tally: Tally) -> Result<(), Unwritten> {
+fn put_tally(out: Output, tally: Tally) -> Result<(), Unwritten> {
     match tally {
         Tally::Three {
             first,
@@ -230,21 +230,21 @@ fn put_tally(out: Sink, tally: Tally) -> Result<(), Unwritten> {
     }
 }
 
-fn put_counts(out: Sink, lines: usize, left: usize, counts: Counts) -> Result<(), Unwritten> {
+fn put_counts(out: Output, lines: usize, left: usize, counts: Counts) -> Result<(), Unwritten> {
     let tally = counts.tally;
     put(
         out,
         b"<div><h3>Counts</h3><table class=q><tbody id=counts>\n",
     )?;
-    put_entry(out, b"raw lines", lines as u64)?;
-    put_entry(out, b"cleaned lines", left as u64)?;
+    put_entry(out, b"raw lines", number(lines))?;
+    put_entry(out, b"cleaned lines", number(left))?;
     put_entry(out, b"lines removed", counts.removed)?;
     put_entry(out, b"results cut", counts.cut)?;
     put_tally(out, tally)?;
     put(out, b"</tbody></table></div>\n")
 }
 
-fn put_yes(out: Sink, name: &[u8], holds: bool) -> Result<(), Unwritten> {
+fn put_yes(out: Output, name: &[u8], holds: bool) -> Result<(), Unwritten> {
     if holds {
         put_said(out, name, b"yes")
     } else {
@@ -252,7 +252,7 @@ fn put_yes(out: Sink, name: &[u8], holds: bool) -> Result<(), Unwritten> {
     }
 }
 
-fn put_convention(out: Sink, convention: u8) -> Result<(), Unwritten> {
+fn put_convention(out: Output, convention: u8) -> Result<(), Unwritten> {
     let name = b"calling convention";
     match convention {
         0 => put_said(out, name, b"32: 32 bits"),
@@ -261,7 +261,7 @@ fn put_convention(out: Sink, convention: u8) -> Result<(), Unwritten> {
     }
 }
 
-fn put_edition(out: Sink, edition: u8) -> Result<(), Unwritten> {
+fn put_edition(out: Output, edition: u8) -> Result<(), Unwritten> {
     let name = b"numbers are read by C of";
     match edition {
         0 => put_said(out, name, b"2018"),
@@ -269,7 +269,7 @@ fn put_edition(out: Sink, edition: u8) -> Result<(), Unwritten> {
     }
 }
 
-fn put_settings(out: Sink, rules: Rules) -> Result<(), Unwritten> {
+fn put_settings(out: Output, rules: Rules) -> Result<(), Unwritten> {
     put(
         out,
         b"<div><h3>Settings</h3><table class=q><tbody id=settings>\n",
@@ -285,7 +285,7 @@ fn put_settings(out: Sink, rules: Rules) -> Result<(), Unwritten> {
 
 // ---- the guarantee: the sentences of docs/GUARANTEE.md
 
-fn put_sentence(out: Sink, holds: bool, sentence: &[u8]) -> Result<(), Unwritten> {
+fn put_sentence(out: Output, holds: bool, sentence: &[u8]) -> Result<(), Unwritten> {
     put(out, b"<tr>")?;
     put_tick(out, holds)?;
     put(out, b"<td>")?;
@@ -294,14 +294,20 @@ fn put_sentence(out: Sink, holds: bool, sentence: &[u8]) -> Result<(), Unwritten
 }
 
 // So many, then as many.
-fn put_two(out: Sink, n: usize, between: &[u8], m: usize, behind: &[u8]) -> Result<(), Unwritten> {
-    put_number(out, n as u64)?;
+fn put_two(
+    out: Output,
+    n: usize,
+    between: &[u8],
+    m: usize,
+    behind: &[u8],
+) -> Result<(), Unwritten> {
+    put_number(out, number(n))?;
     put(out, between)?;
-    put_number(out, m as u64)?;
+    put_number(out, number(m))?;
     put(out, behind)
 }
 
-fn put_calls_row(out: Sink, tape: &[u8], fin: &[u8]) -> Result<(), Unwritten> {
+fn put_calls_row(out: Output, tape: &[u8], fin: &[u8]) -> Result<(), Unwritten> {
     put_sentence(
         out,
         calls_stay(tape, fin),
@@ -312,7 +318,7 @@ fn put_calls_row(out: Sink, tape: &[u8], fin: &[u8]) -> Result<(), Unwritten> {
     put(out, b"counted: each callee above</td></tr>\n")
 }
 
-fn put_labels_row(out: Sink, all: usize, stand: usize) -> Result<(), Unwritten> {
+fn put_labels_row(out: Output, all: usize, stand: usize) -> Result<(), Unwritten> {
     put_sentence(
         out,
         all == stand,
@@ -323,7 +329,7 @@ fn put_labels_row(out: Sink, all: usize, stand: usize) -> Result<(), Unwritten> 
     put_two(out, stand, b" of ", all, b" stand unchanged</td></tr>\n")
 }
 
-fn put_places_row(out: Sink) -> Result<(), Unwritten> {
+fn put_places_row(out: Output) -> Result<(), Unwritten> {
     put_sentence(
         out,
         true,
@@ -333,8 +339,8 @@ fn put_places_row(out: Sink) -> Result<(), Unwritten> {
     put(out, b"by the theorem: line beside line above</td></tr>\n")
 }
 
-fn put_gone_row(out: Sink, lines: usize, left: usize, removed: u64) -> Result<(), Unwritten> {
-    let whole = (lines as u64).checked_sub(left as u64) == Some(removed);
+fn put_gone_row(out: Output, lines: usize, left: usize, removed: u64) -> Result<(), Unwritten> {
+    let whole = number(lines).checked_sub(number(left)) == Some(removed);
     put_sentence(
         out,
         whole,
@@ -346,7 +352,7 @@ fn put_gone_row(out: Sink, lines: usize, left: usize, removed: u64) -> Result<()
     put(out, b" went</td></tr>\n")
 }
 
-fn put_size_row(out: Sink, before: Sizes, after: Sizes) -> Result<(), Unwritten> {
+fn put_size_row(out: Output, before: Sizes, after: Sizes) -> Result<(), Unwritten> {
     put_sentence(
         out,
         after.tokens <= before.tokens && after.text <= 49152,
@@ -363,7 +369,7 @@ fn put_size_row(out: Sink, before: Sizes, after: Sizes) -> Result<(), Unwritten>
     put_two(out, before.text, b", then ", after.text, b"</td></tr>\n")
 }
 
-fn put_rounds_row(out: Sink) -> Result<(), Unwritten> {
+fn put_rounds_row(out: Output) -> Result<(), Unwritten> {
     put_sentence(
         out,
         true,
@@ -373,7 +379,7 @@ fn put_rounds_row(out: Sink) -> Result<(), Unwritten> {
     put(out, b"by the theorem: attempts above</td></tr>\n")
 }
 
-fn put_addresses_row(out: Sink, tape: &[u8], fin: &[u8]) -> Result<(), Unwritten> {
+fn put_addresses_row(out: Output, tape: &[u8], fin: &[u8]) -> Result<(), Unwritten> {
     let (all, held) = count_spans(tape, fin);
     put_sentence(
         out,
@@ -391,7 +397,7 @@ fn put_addresses_row(out: Sink, tape: &[u8], fin: &[u8]) -> Result<(), Unwritten
     )
 }
 
-fn put_run_row(out: Sink) -> Result<(), Unwritten> {
+fn put_run_row(out: Output) -> Result<(), Unwritten> {
     put_sentence(
         out,
         true,
@@ -403,7 +409,7 @@ fn put_run_row(out: Sink) -> Result<(), Unwritten> {
 }
 
 // Only with the profile.
-fn put_value_row(out: Sink, profile: bool) -> Result<(), Unwritten> {
+fn put_value_row(out: Output, profile: bool) -> Result<(), Unwritten> {
     if !profile {
         return Ok(());
     }
@@ -418,7 +424,7 @@ fn put_value_row(out: Sink, profile: bool) -> Result<(), Unwritten> {
 }
 
 fn put_guarantee(
-    out: Sink,
+    out: Output,
     rules: Rules,
     tape: &[u8],
     fin: &[u8],
@@ -446,7 +452,7 @@ fn put_guarantee(
 }
 
 pub(crate) fn put_sheet(
-    out: Sink,
+    out: Output,
     rules: Rules,
     tape: &[u8],
     fin: &[u8],

@@ -1,17 +1,25 @@
 // Where a page goes while it is written piece by piece. Texts reach it in cells, escaped.
 use crate::walking::front;
+use text::Cursor;
 
-// What is written to.
+// What is written to, and whether all pieces so far were written.
 #[derive(Clone, Copy, Debug)]
 pub struct Sink {
+    pub fd: i32,
+    pub done: bool,
+}
+
+// The number of an open file.
+#[derive(Clone, Copy, Debug)]
+pub(crate) struct Output {
     pub fd: i32,
 }
 
 // A piece was not written. Nothing more is after it, so that the system's reason stays.
 #[derive(Clone, Copy, Debug, PartialEq, Eq)]
-pub struct Unwritten;
+pub(crate) struct Unwritten;
 
-pub(crate) fn put(out: Sink, bytes: &[u8]) -> Result<(), Unwritten> {
+pub(crate) fn put(out: Output, bytes: &[u8]) -> Result<(), Unwritten> {
     if io::write_all(out.fd, bytes) {
         Ok(())
     } else {
@@ -19,14 +27,20 @@ pub(crate) fn put(out: Sink, bytes: &[u8]) -> Result<(), Unwritten> {
     }
 }
 
-pub(crate) fn put_number(out: Sink, n: u64) -> Result<(), Unwritten> {
+pub(crate) fn put_number(out: Output, n: u64) -> Result<(), Unwritten> {
     let mut digits = [0u8; 20];
     let k = io::decimal(n, &mut digits);
     put(out, &digits[..k])
 }
 
+// How many there are of something, as a number that is put.
+// Kept: std has no `From` of usize for u64, and the error of `try_from`, which cannot come, would want an answer: no plainer.
+pub(crate) fn number(n: usize) -> u64 {
+    n as u64
+}
+
 // In hexadecimal, eight digits at least.
-pub(crate) fn put_hex(out: Sink, n: u64) -> Result<(), Unwritten> {
+pub(crate) fn put_hex(out: Output, n: u64) -> Result<(), Unwritten> {
     let mut digits = [0u8; 16];
     let k = io::hex(n, 8, &mut digits);
     put(out, &digits[..k])
@@ -34,18 +48,14 @@ pub(crate) fn put_hex(out: Sink, n: u64) -> Result<(), Unwritten> {
 
 // ---- texts: they reach the page only here and as the tokens of a line (rows.rt), escaped
 
-// A text in its cell, by way of a buffer that has room for it.
-// Kept: apart from the buffer's function, as in rows.rt.
-fn put_text_by(out: Sink, kind: u64, text: &[u8], cells: &mut [u8]) -> Result<(), Unwritten> {
-    if cells.len() < 35 || (cells.len() - 35) / 7 < text.len() {
+// A text in its cell. A text of a tape has at most 65,535 bytes, and so has a file's name.
+pub(crate) fn put_text(out: Output, kind: u64, text: &[u8]) -> Result<(), Unwritten> {
+    let mut cells = [0u8; 458780];
+    if 65535 < text.len() {
         return Ok(());
     }
-    let n = page::put_cells(kind, text, cells, 0);
-    put(out, front(cells, n))
-}
-
-// A text in its cell. A text of a tape has at most 65,535 bytes, and so has a file's name.
-pub(crate) fn put_text(out: Sink, kind: u64, text: &[u8]) -> Result<(), Unwritten> {
-    let mut cells = [0u8; 458780];
-    put_text_by(out, kind, text, &mut cells)
+    let mut cell = Cursor::new(&mut cells, 0);
+    page::put_cells(kind, text, &mut cell);
+    let n = cell.at;
+    put(out, front(&cells, n))
 }

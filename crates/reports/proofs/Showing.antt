@@ -6,11 +6,9 @@ use Rattle.std.proofs.Common.{Bool, true, false, ◌||◌, ltb, eqb, if◌then�
 use mathlib.Core.Path.{◌≡◌, refl, sym, ap, ◌∙◌}
 use mathlib.Core.List.{[], ◌∷◌, ◌++◌, append_assoc, append-nil, flat_map}
 use lib.ListN.{length, take, get_or, length-append, length-take}
-use lib.Seq.{paste-zero, take-suc, take-length}
+use lib.Seq.{take-suc, take-length}
 use Rattle.reference.specs.Control.{when◌then◌else◌}
 use Rattle.reference.specs.Text.{Text}
-use Rattle.numbers.specs.Writing.{Written}
-use Rattle.numbers.proofs.Writing.{written_then}
 use Rattle.reports.specs.Reports.{escape, visible_byte, visible}
 
 -- ---- a name, byte by byte
@@ -36,23 +34,15 @@ visible_one : (b : ℕ) → visible (b ∷ []) ≡ visible_byte b
 unfolding visible flat_map
 visible_one b = append-nil (visible_byte b)
 
-pub none_put : (out t : Text) → Written out 0 (visible (take 0 t)) out 0
-unfolding visible flat_map
-none_put out t = record { bytes_are = paste-zero out 0 []; end_is = omega arith }
+-- what the bytes before i leave of the room for a name has room for one more
+pub room_shown : (t : Text) (i : ℕ) → i < length t → length (visible (take i t)) + 4 ≤ 4 * length t
+room_shown t i h = omega (arith, visible-length (take i t), length-take i t)
 
--- of the room for a name, what the bytes before i leave has room for one more
-pub room_left : (t : Text) (i : ℕ) {end n : ℕ} → i < length t → 4 * length t ≤ n → end ≡ 0 + length (visible (take i t)) → end + 4 ≤ n
-room_left t i h room e = omega (arith, visible-length (take i t), length-take i t)
-
-pub one_more : (out t : Text) (i : ℕ) {out₁ out₂ : Text} {e₁ e₂ : ℕ} → i < length t → 4 * length t ≤ length out
-    → Written out 0 (visible (take i t)) out₁ e₁ → Written out₁ e₁ (visible_byte (get_or t i 0)) out₂ e₂ → Written out 0 (visible (take (i + 1) t)) out₂ e₂
-one_more out t i h room w x =
+pub shown_next : (t : Text) (i : ℕ) → i < length t → visible (take i t) ++ visible_byte (get_or t i 0) ≡ visible (take (i + 1) t)
+shown_next t i h =
     let b : ℕ = get_or t i 0 in
-    let e : visible (take (i + 1) t) ≡ visible (take i t) ++ visible_byte b =
-    rw (add-one, take-suc t i 0 h) (visible_append (take i t) (b ∷ []) ∙ ap (λ (r : Text). visible (take i t) ++ r) (visible_one b)) in
-    rw e
-    (written_then out 0 (visible (take i t)) (visible_byte b)
-    (omega (arith, visible-length (take i t), length-take i t, visible_byte-length b)) w x)
+    rw (add-one, take-suc t i 0 h)
+    (sym (visible_append (take i t) (b ∷ []) ∙ ap (λ (r : Text). visible (take i t) ++ r) (visible_one b)))
 
-pub all-put : (out t : Text) (i : ℕ) {out₁ : Text} {e₁ : ℕ} → i ≡ length t → Written out 0 (visible (take i t)) out₁ e₁ → Written out 0 (visible t) out₁ e₁
-all-put out t i e w = rw (e, take-length) at w
+pub all_shown : (t : Text) (i : ℕ) → i ≡ length t → visible (take i t) ≡ visible t
+all_shown t i e = rw (e, take-length) refl

@@ -1,9 +1,9 @@
 -- A round's beginning: the labels and the addressed names of the listing, gathered, are what its attempts are made with. Assumes nothing.
-use Prim.Native.Nat.{ℕ, ◌≤◌}
+use Prim.Native.Nat.{ℕ}
 use native.Mathlib.Omega.{arith}
 use mathlib.Core.Path.{◌≡◌, sym, ap, ◌∙◌}
 use mathlib.Core.List.{List}
-use lib.ListN.{length, take}
+use lib.ListN.{take}
 use Rattle.reference.specs.Text.{Text}
 use Rattle.reference.specs.Rules.{Rules}
 use Rattle.reference.specs.Claim.{text, token_count}
@@ -20,12 +20,11 @@ use Rattle.plan.specs.Slots.{slot_names}
 use Rattle.plan.proofs.Addressing.{slotted_of}
 use Rattle.join.specs.Current.{used_lines, listing_now, bare_now}
 use Rattle.life.specs.Labels.{Gathered}
-use Rattle.rounds.specs.declared.slots.Slots.{Slots}
 use Rattle.rounds.specs.declared.rounds.Round.{Round}
 use Rattle.rounds.specs.Slots.{Roomy, Gathers}
 use Rattle.rounds.specs.Rounds.{Roundable, Made, attempts_with}
 use Rattle.rounds.specs.Runs.{Runnable}
-use Rattle.cuts.proofs.Cutting.{gathered_inside, gathered_labelled, gathered_labels}
+use Rattle.cuts.proofs.Cutting.{gathered_labelled, gathered_labels}
 use Rattle.rounds.proofs.Turning.{bare_is}
 
 module _ {tape area : Text} {tokens lines : List ℕ} {area2 : Text} {tokens2 lows highs labels : List ℕ} {slots : Text} {slot-words : List ℕ} {at : Size}
@@ -40,33 +39,30 @@ module _ {tape area : Text} {tokens lines : List ℕ} {area2 : Text} {tokens2 lo
       }
 
   module _ {after : List ℕ} {n : ℕ} (l : Gathered (label_places 0 (bare_now tape area tokens lines at)) labels after n) where
-    pub begin_inside : n ≤ length after
-    begin_inside = gathered_inside tape (used area at) (used_words tokens at) (used_lines lines at) l
-
-    module _ {slots' : Text} {words' : List ℕ} {g : Slots} (s : Gathers (addressed_in (bare_now tape area tokens lines at)) slots' words' g) where
-      pub begin_roundable : Roundable tape area tokens lines area2 tokens2 lows highs (take n after) (take g.text slots') (take g.count words') at
+    module _ {slots' : Text} {words' : List ℕ} (s : Gathers (addressed_in (bare_now tape area tokens lines at)) slots' words') where
+      pub begin_roundable : Roundable tape area tokens lines area2 tokens2 lows highs (take n after) slots' words' at
       begin_roundable = record {
         current = b.current;
         limits = b.limits;
         lent = b.lent;
         labelled = gathered_labelled tape (used area at) (used_words tokens at) (used_lines lines at) l;
-        slotted = slotted_of _ _ (bare_now tape area tokens lines at) s.slotting.holds s.names_are;
+        slotted = slotted_of _ _ (bare_now tape area tokens lines at) s.holds s.names_are;
         for_lows = b.for_lows;
         for_highs = b.for_highs;
       }
 
       -- the attempts with what was gathered are the round's, whatever the addresses are
       round_is : (rules : Rules) (addresses : Reading) → propagate_once rules (listing_now tape area tokens lines at addresses)
-          ≡ attempts_with rules tape area tokens lines at (take n after) (take g.text slots') (take g.count words') (listing_now tape area tokens lines at addresses)
+          ≡ attempts_with rules tape area tokens lines at (take n after) slots' words' (listing_now tape area tokens lines at addresses)
       round_is rules addresses =
-          let names : addressed_in (listing_now tape area tokens lines at addresses) ≡ slot_names (take g.text slots') (take g.count words') =
+          let names : addressed_in (listing_now tape area tokens lines at addresses) ≡ slot_names slots' words' =
           sym (addressed-bare (listing_now tape area tokens lines at addresses)) ∙ ap addressed_in (sym (bare_is tape area tokens lines at addresses)) ∙ sym s.names_are in
           let first : labels_from 0 (listing_now tape area tokens lines at addresses) ≡ labels_at (bare_now tape area tokens lines at) (take n after) =
           gathered_labels tape (used area at) (used_words tokens at) (used_lines lines at) l addresses in
           round_begins rules _ ∙ rw (names, first)
 
       pub begin_made : (rules : Rules) {area' : Text} {tokens' lines' lows' highs' : List ℕ} {r : Round}
-          → Made (attempts_with rules tape area tokens lines at (take n after) (take g.text slots') (take g.count words'))
+          → Made (attempts_with rules tape area tokens lines at (take n after) slots' words')
           tape area tokens lines lows highs at area' tokens' lines' lows' highs' r
           → Made (propagate_once rules) tape area tokens lines lows highs at area' tokens' lines' lows' highs' r
       begin_made rules m = record {

@@ -30,7 +30,7 @@ use Rattle.std.proofs.Common.{Option, Some, None, Bor, add-zero}
 use Rattle.std.specs.declared.slice.Windows.{Windows}
 use Rattle.std.specs.Slice.Iter.{windows_rest, windows_size, windows_steps}
 use Rattle.std.proofs.lemmas.Iterator.{window_more}
-use Rattle.rounds.specs.declared.slots.Slots.{Slots}
+use Rattle.rounds.specs.declared.slots.SlotSize.{SlotSize}
 use Rattle.rounds.specs.Slots.{names_now, Slotting, Roomy, Noted, Gathers}
 
 -- ---- words of a buffer that grows
@@ -94,7 +94,7 @@ module _ (a b : Token) where
       go true = refl
       go false = refl
 
-module _ {slots : Text} {words : List ℕ} {g : Slots} (s : Slotting slots words g) where
+module _ {slots : Text} {words : List ℕ} {g : SlotSize} (s : Slotting slots words g) where
   noted_none : {names : List Text} (n k : ℕ) → names ≡ [] → Noted names n k slots words g slots words g
   noted_none n k e = record {
     slotting = s;
@@ -129,7 +129,7 @@ module _ {slots : Text} {words : List ℕ} {g : Slots} (s : Slotting slots words
       }
 
 -- the text of the token `before` ends in `&` or not, that of the token w begins `var_` or not
-module _ (tape area : Text) (before w : ℕ) {slots : Text} {words : List ℕ} {g : Slots} (s : Slotting slots words g)
+module _ (tape area : Text) (before w : ℕ) {slots : Text} {words : List ℕ} {g : SlotSize} (s : Slotting slots words g)
     {a : Text} (ea : a ≡ text_of tape area before) {x : Bool} (ex : x ≡ ends_with a (bytes "&")) where
   pub noted-plain : x ≡ false → Noted (addressed_here ((token_of tape area before, token_of tape area w) ∷ [])) (len_of w) 1 slots words g slots words g
   noted-plain f = noted_none s (len_of w) 1 (here_plain _ _ (rw ea at (sym ex ∙ f)))
@@ -150,15 +150,15 @@ module _ (tape area : Text) (before w : ℕ) {slots : Text} {words : List ℕ} {
 -- ---- one after the other
 
 -- the names so far, with `rest`, are all, and so many bytes and words are left for them
-pub record Noting (all : List Text) (bytes_most words_most : ℕ) (slots : Text) (words : List ℕ) (g : Slots) (rest : List Text) (n k : ℕ) : Type 0 where
+pub record Noting (all : List Text) (bytes_most words_most : ℕ) (slots : Text) (words : List ℕ) (g : SlotSize) (rest : List Text) (n k : ℕ) : Type 0 where
   pub slotting : Slotting slots words g
   pub names_are : names_now slots words g ++ rest ≡ all
   pub bytes_left : g.text + n ≤ bytes_most
   pub words_left : g.count + k ≤ words_most
 
-module _ {all : List Text} {bytes_most words_most : ℕ} {slots : Text} {words : List ℕ} {g : Slots} (names rest : List Text) (n₁ n k₁ k : ℕ)
+module _ {all : List Text} {bytes_most words_most : ℕ} {slots : Text} {words : List ℕ} {g : SlotSize} (names rest : List Text) (n₁ n k₁ k : ℕ)
     (s : Noting all bytes_most words_most slots words g (names ++ rest) (n₁ + n) (k₁ + k)) where
-  noting_next : {slots' : Text} {words' : List ℕ} {g' : Slots} → Noted names n₁ k₁ slots words g slots' words' g'
+  noting_next : {slots' : Text} {words' : List ℕ} {g' : SlotSize} → Noted names n₁ k₁ slots words g slots' words' g'
       → Noting all bytes_most words_most slots' words' g' rest n k
   noting_next o = record {
     slotting = o.slotting;
@@ -167,7 +167,7 @@ module _ {all : List Text} {bytes_most words_most : ℕ} {slots : Text} {words :
     words_left = omega (arith, o.words_most, s.words_left);
   }
 
-noting_room : {all : List Text} {bytes_most words_most : ℕ} {slots : Text} {words : List ℕ} {g : Slots} {rest : List Text} (n₁ n k₁ k : ℕ)
+noting_room : {all : List Text} {bytes_most words_most : ℕ} {slots : Text} {words : List ℕ} {g : SlotSize} {rest : List Text} (n₁ n k₁ k : ℕ)
     → Noting all bytes_most words_most slots words g rest (n₁ + n) (k₁ + k) → bytes_most ≤ length slots → bytes_most < 65536 → words_most ≤ length words
     → Roomy slots words g n₁ k₁
 noting_room n₁ n k₁ k s a b c = record {
@@ -191,7 +191,7 @@ windows-over (a ∷ []) h = refl
 windows-over (a ∷ b ∷ rest) h = absurd (omega arith)
 
 -- before the pair of the tokens k and k + 1
-abbrev pub LineNoting : Text → Text → List ℕ → Text → List ℕ → Slots → Text → List ℕ → Slots → ℕ → Type 0
+abbrev pub LineNoting : Text → Text → List ℕ → Text → List ℕ → SlotSize → Text → List ℕ → SlotSize → ℕ → Type 0
 LineNoting tape area line slots₀ words₀ g₀ slots words g k =
     Noting (names_now slots₀ words₀ g₀ ++ addressed_here (windows (tokens_of tape area line))) (g₀.text + text_in (tokens_of tape area line)) (g₀.count + length line)
     slots words g (addressed_here (windows (drop k (tokens_of tape area line)))) (text_in (drop (k + 1) (tokens_of tape area line))) (length (drop (k + 1) line))
@@ -200,153 +200,122 @@ LineNoting tape area line slots₀ words₀ g₀ slots words g k =
 abbrev here : Text → Text → List ℕ → ℕ → List Text
 here tape area line k = addressed_here ((token_of tape area (get_or line k 0), token_of tape area (get_or line (k + 1) 0)) ∷ [])
 
-module _ (tape area : Text) (line : List ℕ) (slots₀ : Text) (words₀ : List ℕ) (g₀ : Slots) where
-  pub line_begins : Slotting slots₀ words₀ g₀ → LineNoting tape area line slots₀ words₀ g₀ slots₀ words₀ g₀ 0
-  line_begins s = record {
-    slotting = s;
-    names_are = refl;
-    bytes_left = omega (arith, less (tokens_of tape area line));
-    words_left = omega (arith, length-drop 1 line);
-  }
-    where
-      less : (ts : List Token) → text_in (drop 1 ts) ≤ text_in ts
-      less [] = omega arith
-      less (t ∷ ts) = omega arith
-
-  module _ (k : ℕ) {slots : Text} {words : List ℕ} {g : Slots} (s : LineNoting tape area line slots₀ words₀ g₀ slots words g k) where
-    module _ (h : k + 1 < length line) (p : Points tape area (get_or line (k + 1) 0)) where
-      turn : Noting (names_now slots₀ words₀ g₀ ++ addressed_here (windows (tokens_of tape area line))) (g₀.text + text_in (tokens_of tape area line)) (g₀.count + length line)
-          slots words g (here tape area line k ++ addressed_here (windows (drop (k + 1) (tokens_of tape area line))))
-          (len_of (get_or line (k + 1) 0) + text_in (drop (k + 1 + 1) (tokens_of tape area line))) (1 + length (drop (k + 1 + 1) line))
-      turn =
-          let many : length (tokens_of tape area line) ≡ length line = length-map line (token_of tape area) in
-          let names : addressed_here (windows (drop k (tokens_of tape area line))) ≡ here tape area line k ++ addressed_here (windows (drop (k + 1) (tokens_of tape area line))) =
-          ap addressed_here
-          (windows-next (tokens_of tape area line) k (token_of tape area 0) (omega arith)
-          ∙ rw (get_or-map (token_of tape area) line k 0, get_or-map (token_of tape area) line (k + 1) 0))
-          ∙ here_first _ _ _ in
-          let text : text_in (drop (k + 1) (tokens_of tape area line)) ≡ len_of (get_or line (k + 1) 0) + text_in (drop (k + 1 + 1) (tokens_of tape area line)) =
-          rw (drop-cons (tokens_of tape area line) (k + 1) (token_of tape area 0) (omega arith), get_or-map (token_of tape area) line (k + 1) 0, add-one (k + 1))
-          (omega (arith, text_length p)) in
-          let count : length (drop (k + 1) line) ≡ 1 + length (drop (k + 1 + 1) line) = omega (arith, length-drop (k + 1) line, length-drop (k + 1 + 1) line) in
-          record {
-            slotting = s.slotting;
-            names_are = ap (λ (r : List Text). names_now slots words g ++ r) (sym names) ∙ s.names_are;
-            bytes_left = omega (arith, s.bytes_left);
-            words_left = omega (arith, s.words_left);
-          }
-
-      pub line_room : Roomy slots₀ words₀ g₀ (text_in (tokens_of tape area line)) (length line) → length slots ≡ length slots₀ → length words ≡ length words₀
-          → Roomy slots words g (len_of (get_or line (k + 1) 0)) 1
-      line_room r es ew = noting_room (len_of (get_or line (k + 1) 0)) _ 1 _ turn (omega (arith, r.text_fits)) r.short (omega (arith, r.words_fit))
-
-      pub line_next : {slots' : Text} {words' : List ℕ} {g' : Slots} → Noted (here tape area line k) (len_of (get_or line (k + 1) 0)) 1 slots words g slots' words' g'
-          → LineNoting tape area line slots₀ words₀ g₀ slots' words' g' (k + 1)
-      line_next o = noting_next (here tape area line k) _ _ _ _ _ turn o
-
-    pub line_ends : length line ≤ k + 1
-        → Noted (addressed_here (windows (tokens_of tape area line))) (text_in (tokens_of tape area line)) (length line) slots₀ words₀ g₀ slots words g
-    unfolding addressed_here
-    line_ends h =
-        let none : windows (drop k (tokens_of tape area line)) ≡ [] =
-        windows-over (drop k (tokens_of tape area line)) (rw (length-drop, length-map) (omega arith)) in
+module _ (tape area : Text) (line : List ℕ) (slots₀ : Text) (words₀ : List ℕ) (g₀ : SlotSize) (k : ℕ) {slots : Text} {words : List ℕ} {g : SlotSize}
+    (s : LineNoting tape area line slots₀ words₀ g₀ slots words g k) where
+  module _ (h : k + 1 < length line) (p : Points tape area (get_or line (k + 1) 0)) where
+    turn : Noting (names_now slots₀ words₀ g₀ ++ addressed_here (windows (tokens_of tape area line))) (g₀.text + text_in (tokens_of tape area line)) (g₀.count + length line)
+        slots words g (here tape area line k ++ addressed_here (windows (drop (k + 1) (tokens_of tape area line))))
+        (len_of (get_or line (k + 1) 0) + text_in (drop (k + 1 + 1) (tokens_of tape area line))) (1 + length (drop (k + 1 + 1) line))
+    turn =
+        let many : length (tokens_of tape area line) ≡ length line = length-map line (token_of tape area) in
+        let names : addressed_here (windows (drop k (tokens_of tape area line))) ≡ here tape area line k ++ addressed_here (windows (drop (k + 1) (tokens_of tape area line))) =
+        ap addressed_here
+        (windows-next (tokens_of tape area line) k (token_of tape area 0) (omega arith)
+        ∙ rw (get_or-map (token_of tape area) line k 0, get_or-map (token_of tape area) line (k + 1) 0))
+        ∙ here_first _ _ _ in
+        let text : text_in (drop (k + 1) (tokens_of tape area line)) ≡ len_of (get_or line (k + 1) 0) + text_in (drop (k + 1 + 1) (tokens_of tape area line)) =
+        rw (drop-cons (tokens_of tape area line) (k + 1) (token_of tape area 0) (omega arith), get_or-map (token_of tape area) line (k + 1) 0, add-one (k + 1))
+        (omega (arith, text_length p)) in
+        let count : length (drop (k + 1) line) ≡ 1 + length (drop (k + 1 + 1) line) = omega (arith, length-drop (k + 1) line, length-drop (k + 1 + 1) line) in
         record {
           slotting = s.slotting;
-          names_are = sym (append-nil (names_now slots words g)) ∙ rw none at s.names_are;
-          text_most = omega (arith, s.bytes_left);
-          words_most = omega (arith, s.words_left);
+          names_are = ap (λ (r : List Text). names_now slots words g ++ r) (sym names) ∙ s.names_are;
+          bytes_left = omega (arith, s.bytes_left);
+          words_left = omega (arith, s.words_left);
         }
 
+    pub line_room : Roomy slots₀ words₀ g₀ (text_in (tokens_of tape area line)) (length line) → length slots ≡ length slots₀ → length words ≡ length words₀
+        → Roomy slots words g (len_of (get_or line (k + 1) 0)) 1
+    line_room r es ew = noting_room (len_of (get_or line (k + 1) 0)) _ 1 _ turn (omega (arith, r.text_fits)) r.short (omega (arith, r.words_fit))
+
+    pub line_next : {slots' : Text} {words' : List ℕ} {g' : SlotSize} → Noted (here tape area line k) (len_of (get_or line (k + 1) 0)) 1 slots words g slots' words' g'
+        → LineNoting tape area line slots₀ words₀ g₀ slots' words' g' (k + 1)
+    line_next o = noting_next (here tape area line k) _ _ _ _ _ turn o
+
+  pub line_ends : length line ≤ k + 1
+      → Noted (addressed_here (windows (tokens_of tape area line))) (text_in (tokens_of tape area line)) (length line) slots₀ words₀ g₀ slots words g
+  unfolding addressed_here
+  line_ends h =
+      let none : windows (drop k (tokens_of tape area line)) ≡ [] =
+      windows-over (drop k (tokens_of tape area line)) (rw (length-drop, length-map) (omega arith)) in
+      record {
+        slotting = s.slotting;
+        names_are = sym (append-nil (names_now slots words g)) ∙ rw none at s.names_are;
+        text_most = omega (arith, s.bytes_left);
+        words_most = omega (arith, s.words_left);
+      }
+
 -- the pairs that are left, `rest` being what they are taken from
-pub record Pairs (tape area : Text) (line : List ℕ) (slots₀ : Text) (words₀ : List ℕ) (g₀ : Slots) (slots : Text) (words : List ℕ) (g : Slots)
+pub record Pairs (tape area : Text) (line : List ℕ) (slots₀ : Text) (words₀ : List ℕ) (g₀ : SlotSize) (slots : Text) (words : List ℕ) (g : SlotSize)
     (pairs : Windows ℕ) : Type 0 where
   pub twos : windows_size pairs ≡ 2
   pub inside : length (windows_rest pairs) ≤ length line
   pub rest_is : windows_rest pairs ≡ drop (length line - length (windows_rest pairs)) line
   pub noting : LineNoting tape area line slots₀ words₀ g₀ slots words g (length line - length (windows_rest pairs))
 
-module _ (tape area : Text) (line : List ℕ) (slots₀ : Text) (words₀ : List ℕ) (g₀ : Slots) where
-  pub pairs_begin : {pairs : Windows ℕ} → windows_rest pairs ≡ line → windows_size pairs ≡ 2 → Slotting slots₀ words₀ g₀
-      → Pairs tape area line slots₀ words₀ g₀ slots₀ words₀ g₀ pairs
-  pairs_begin {pairs} e t s =
-      let zero : length line - length (windows_rest pairs) ≡ 0 = rw e (omega arith) in
-      record {
-        twos = t;
-        inside = rw e (omega arith);
-        rest_is = rw zero e;
-        noting = rw zero (line_begins tape area line slots₀ words₀ g₀ s);
-      }
+module _ {tape area : Text} {line : List ℕ} {slots₀ : Text} {words₀ : List ℕ} {g₀ : SlotSize} {slots : Text} {words : List ℕ} {g : SlotSize} {pairs : Windows ℕ}
+    (s : Pairs tape area line slots₀ words₀ g₀ slots words g pairs) where
+  abbrev place : ℕ
+  place = length line - length (windows_rest pairs)
 
-  module _ {slots : Text} {words : List ℕ} {g : Slots} {pairs : Windows ℕ} (s : Pairs tape area line slots₀ words₀ g₀ slots words g pairs) where
-    abbrev place : ℕ
-    place = length line - length (windows_rest pairs)
+  module _ (next : Windows ℕ) (r : Option (Bor (List ℕ))) (pair : Bor (List ℕ)) (e : r ≡ Some pair) (steps : windows_steps pairs r next) where
+    turn-of : (length (windows_rest next) + 1 ≡ length (windows_rest pairs))
+        × (windows_rest next ≡ drop (length line - length (windows_rest next)) line)
+        × (windows_size pairs ≤ length (windows_rest pairs))
+        × ((k : ℕ) (d : ℕ) → k < windows_size pairs → get_or pair.now k d ≡ get_or line (place + k) d)
+    turn-of = window_more line pairs next r pair e steps (omega (arith, s.twos)) s.inside s.rest_is
 
-    module _ (next : Windows ℕ) (r : Option (Bor (List ℕ))) (pair : Bor (List ℕ)) (e : r ≡ Some pair) (steps : windows_steps pairs r next) where
-      turn-of : (length (windows_rest next) + 1 ≡ length (windows_rest pairs))
-          × (windows_rest next ≡ drop (length line - length (windows_rest next)) line)
-          × (windows_size pairs ≤ length (windows_rest pairs))
-          × ((k : ℕ) (d : ℕ) → k < windows_size pairs → get_or pair.now k d ≡ get_or line (place + k) d)
-      turn-of = window_more line pairs next r pair e steps (omega (arith, s.twos)) s.inside s.rest_is
+    pair_inside : place + 1 < length line
+    pair_inside = let t = turn-of in omega (arith, t.2, s.twos, s.inside)
 
-      pair_inside : place + 1 < length line
-      pair_inside = let t = turn-of in omega (arith, t.2, s.twos, s.inside)
+    first_is : get_or pair.now 0 0 ≡ get_or line place 0
+    first_is = rw add-zero at (turn-of.3 0 0 (omega (arith, s.twos)))
 
-      first_is : get_or pair.now 0 0 ≡ get_or line place 0
-      first_is = rw add-zero at (turn-of.3 0 0 (omega (arith, s.twos)))
+    second_is : get_or pair.now 1 0 ≡ get_or line (place + 1) 0
+    second_is = turn-of.3 1 0 (omega (arith, s.twos))
 
-      second_is : get_or pair.now 1 0 ≡ get_or line (place + 1) 0
-      second_is = turn-of.3 1 0 (omega (arith, s.twos))
+    -- what the call on the pair asks
+    pub pair_first : Holds tape area line → Points tape area (get_or pair.now 0 0)
+    pair_first h = rw first_is (h.at place (omega (arith, pair_inside)))
 
-      -- what the call on the pair asks
-      pub pair_first : Holds tape area line → Points tape area (get_or pair.now 0 0)
-      pair_first h = rw first_is (h.at place (omega (arith, pair_inside)))
+    pub pair_second : Holds tape area line → Points tape area (get_or pair.now 1 0)
+    pair_second h = rw second_is (h.at (place + 1) pair_inside)
 
-      pub pair_second : Holds tape area line → Points tape area (get_or pair.now 1 0)
-      pair_second h = rw second_is (h.at (place + 1) pair_inside)
+    pub pair_room : Holds tape area line → Roomy slots₀ words₀ g₀ (text_in (tokens_of tape area line)) (length line)
+        → length slots ≡ length slots₀ → length words ≡ length words₀ → Roomy slots words g (len_of (get_or pair.now 1 0)) 1
+    pair_room h p es ew = rw second_is (line_room tape area line slots₀ words₀ g₀ place s.noting pair_inside (h.at (place + 1) pair_inside) p es ew)
 
-      pub pair_room : Holds tape area line → Roomy slots₀ words₀ g₀ (text_in (tokens_of tape area line)) (length line)
-          → length slots ≡ length slots₀ → length words ≡ length words₀ → Roomy slots words g (len_of (get_or pair.now 1 0)) 1
-      pair_room h p es ew = rw second_is (line_room tape area line slots₀ words₀ g₀ place s.noting pair_inside (h.at (place + 1) pair_inside) p es ew)
+    -- and what it leaves
+    pub pairs_next : Holds tape area line → {slots' : Text} {words' : List ℕ} {g' : SlotSize}
+        → Noted (addressed_here ((token_of tape area (get_or pair.now 0 0), token_of tape area (get_or pair.now 1 0)) ∷ [])) (len_of (get_or pair.now 1 0)) 1
+        slots words g slots' words' g'
+        → Pairs tape area line slots₀ words₀ g₀ slots' words' g' next
+    pairs_next h o =
+        let t = turn-of in
+        let further : length line - length (windows_rest next) ≡ place + 1 = omega (arith, t.0, s.inside) in
+        record {
+          twos = steps.0 ∙ s.twos;
+          inside = omega (arith, t.0, s.inside);
+          rest_is = t.1;
+          noting =
+              rw further
+              (line_next tape area line slots₀ words₀ g₀ place s.noting pair_inside (h.at (place + 1) pair_inside) (rw (first_is, second_is) at o));
+        }
 
-      -- and what it leaves
-      pub pairs_next : Holds tape area line → {slots' : Text} {words' : List ℕ} {g' : Slots}
-          → Noted (addressed_here ((token_of tape area (get_or pair.now 0 0), token_of tape area (get_or pair.now 1 0)) ∷ [])) (len_of (get_or pair.now 1 0)) 1
-          slots words g slots' words' g'
-          → Pairs tape area line slots₀ words₀ g₀ slots' words' g' next
-      pairs_next h o =
-          let t = turn-of in
-          let further : length line - length (windows_rest next) ≡ place + 1 = omega (arith, t.0, s.inside) in
-          record {
-            twos = steps.0 ∙ s.twos;
-            inside = omega (arith, t.0, s.inside);
-            rest_is = t.1;
-            noting =
-                rw further
-                (line_next tape area line slots₀ words₀ g₀ place s.noting pair_inside (h.at (place + 1) pair_inside) (rw (first_is, second_is) at o));
-          }
-
-    pub pairs_end : (next : Windows ℕ) (r : Option (Bor (List ℕ))) → r ≡ None → windows_steps pairs r next
-        → Noted (addressed_here (windows (tokens_of tape area line))) (text_in (tokens_of tape area line)) (length line) slots₀ words₀ g₀ slots words g
-    pairs_end next r e steps =
-        let last = (rw e at steps).1.0 in
-        line_ends tape area line slots₀ words₀ g₀ place s.noting (omega (arith, last, s.twos, s.inside))
+  pub pairs_end : (next : Windows ℕ) (r : Option (Bor (List ℕ))) → r ≡ None → windows_steps pairs r next
+      → Noted (addressed_here (windows (tokens_of tape area line))) (text_in (tokens_of tape area line)) (length line) slots₀ words₀ g₀ slots words g
+  pairs_end next r e steps =
+      let last = (rw e at steps).1.0 in
+      line_ends tape area line slots₀ words₀ g₀ place s.noting (omega (arith, last, s.twos, s.inside))
 
 -- ---- the lines of a listing
 
 -- before the line k
-abbrev pub LinesNoting : Listing → Text → List ℕ → Slots → ℕ → Type 0
+abbrev pub LinesNoting : Listing → Text → List ℕ → SlotSize → ℕ → Type 0
 LinesNoting lines slots words g k =
     Noting (addressed_in lines) (text lines) (token_count lines) slots words g (addressed_in (drop k lines)) (text (drop k lines)) (token_count (drop k lines))
 
-pub lines_begin : (lines : Listing) (slots : Text) (words : List ℕ) → LinesNoting lines slots words (record { count = 0; text = 0 }) 0
-lines_begin lines slots words = record {
-  slotting = record { text_fits = omega arith; words_fit = omega arith; holds = record { at = λ k h. absurd (omega arith) } };
-  names_are = refl;
-  bytes_left = omega arith;
-  words_left = omega arith;
-}
-
-module _ (tape area : Text) (tokens lines : List ℕ) (k : ℕ) {slots : Text} {words : List ℕ} {g : Slots}
+module _ (tape area : Text) (tokens lines : List ℕ) (k : ℕ) {slots : Text} {words : List ℕ} {g : SlotSize}
     (s : LinesNoting (bare_listing tape area tokens lines) slots words g k) where
   module _ (h : k < length lines) {ws : List ℕ} (ew : ws ≡ part_of tokens (get_or lines k 0)) where
     abbrev rest : Listing
@@ -366,13 +335,13 @@ module _ (tape area : Text) (tokens lines : List ℕ) (k : ℕ) {slots : Text} {
         → length slots ≡ length slots₀ → length words ≡ length words₀ → Roomy slots words g (text_in (tokens_of tape area ws)) (length ws)
     lines-room r es em = noting_room (text_in (tokens_of tape area ws)) _ (length ws) _ turned (omega (arith, r.text_fits)) (omega (arith, r.short)) (omega (arith, r.words_fit))
 
-    pub lines_next : {slots' : Text} {words' : List ℕ} {g' : Slots}
+    pub lines_next : {slots' : Text} {words' : List ℕ} {g' : SlotSize}
         → Noted (addressed_here (windows (tokens_of tape area ws))) (text_in (tokens_of tape area ws)) (length ws) slots words g slots' words' g'
         → LinesNoting (bare_listing tape area tokens lines) slots' words' g' (k + 1)
     lines_next o = noting_next (addressed_here (windows (tokens_of tape area ws))) _ _ _ _ _ turned o
 
-  pub lines_end : length lines ≤ k → Gathers (addressed_in (bare_listing tape area tokens lines)) slots words g
+  pub lines_end : length lines ≤ k → Gathers (addressed_in (bare_listing tape area tokens lines)) (take g.text slots) (take g.count words)
   unfolding addressed_in
   lines_end h =
       let none : drop k (bare_listing tape area tokens lines) ≡ [] = drop_of_length-le (bare_listing tape area tokens lines) {i = k} (rw length-map h) in
-      record { slotting = s.slotting; names_are = sym (append-nil (names_now slots words g)) ∙ rw none at s.names_are }
+      record { holds = s.slotting.holds; names_are = sym (append-nil (names_now slots words g)) ∙ rw none at s.names_are }

@@ -32,7 +32,7 @@ use Rattle.rounds.specs.Rounds.{Made}
 use Rattle.rounds.specs.Runs.{Runnable, most_rounds, after_round, Few, Counted, Rounded, tally_of, told_of, counts_of, Ran}
 use Rattle.rounds.proofs.Carrying.{carries_none, carries_then, carries_same, numbers_same, cuts-addresses}
 use Rattle.cuts.proofs.Cutting.{last_append}
-use Rattle.rounds.proofs.Turning.{removals_append, now-length, now-few, lent_same}
+use Rattle.rounds.proofs.Turning.{removals_append, now-length, now-few}
 
 -- ---- the rounds from a listing on: one, and those after it
 
@@ -241,29 +241,6 @@ module _ {rules : Rules} {tape area₀ : Text} {tokens₀ lines₀ lows₀ highs
           counted = λ addresses. rw (most_is addresses) (sofar_end rules most _ (g.sofar addresses) h).1;
           marks = λ addresses. rw (most_is addresses) (sofar_end rules most _ (g.sofar addresses) h).2;
         }
-
--- the tables are large enough for the next round
-pub runnable_again : {rules : Rules} {tape area : Text} {tokens lines : List ℕ} {area2 : Text} {tokens2 lows highs labels : List ℕ} {slots : Text}
-    {slot-words : List ℕ} {at : Size} {most more : ℕ}
-    (area2' : Text) (tokens2' labels' : List ℕ) (slots' : Text) (slot-words' : List ℕ) {area' : Text} {tokens' lines' : List ℕ}
-    (lows' highs' : List ℕ) {s : Progress}
-    → Runnable tape area tokens lines area2 tokens2 lows highs labels slots slot-words at
-    → Going rules tape area tokens lines lows highs at most more area' tokens' lines' lows' highs' s
-    → length area' ≡ length area → length tokens' ≡ length tokens → length area2' ≡ length area2 → length tokens2' ≡ length tokens2
-    → length lows' ≡ length lows → length highs' ≡ length highs
-    → length labels' ≡ length labels → length slots' ≡ length slots → length slot-words' ≡ length slot-words
-    → Runnable tape area' tokens' lines' area2' tokens2' lows' highs' labels' slots' slot-words' s.size
-runnable_again area2' tokens2' labels' slots' slot-words' {area'} {tokens'} lows' highs' b m ea et ea2 et2 eo eh el es ew = record {
-  current = m.current;
-  limits = m.limits;
-  lent = lent_same area' tokens' area2' tokens2' b.lent ea et ea2 et2;
-  for_labels = omega (arith, b.for_labels);
-  for_slots = omega (arith, b.for_slots);
-  for_slot_words = omega (arith, b.for_slot_words);
-  words_short = omega (arith, b.words_short);
-  for_lows = omega (arith, b.for_lows);
-  for_highs = omega (arith, b.for_highs);
-}
 
 -- ---- the cuts
 

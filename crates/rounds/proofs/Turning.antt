@@ -3,7 +3,7 @@ use Prim.Native.Nat.{ℕ, zero, suc, pred, ◌+◌, ◌-◌, ◌≤◌, ◌<◌}
 use native.Mathlib.Omega.{arith}
 use native.Mathlib.Numerals.{add-one}
 use mathlib.Core.Path.{◌≡◌, refl, sym, ap, ◌∙◌}
-use mathlib.Core.Logic.{⊎_elim, inl, inr}
+use mathlib.Core.Logic.{⊎_elim}
 use mathlib.Core.Bool.{Bool, true, false}
 use mathlib.Core.List.{List, [], ◌∷◌, ◌++◌, map, append-nil}
 use mathlib.Core.Option.{none, some}
@@ -18,7 +18,7 @@ use Rattle.reference.specs.Life.{Labels}
 use Rattle.reference.specs.Join.{try_at, targets}
 use Rattle.reference.specs.Run.{shift, Attempt, failure, success, after_attempts, removals}
 use Rattle.joining.specs.Bare.{bare_lines}
-use Rattle.joining.specs.Places.{labels_at, Labelled, shift_places}
+use Rattle.joining.specs.Places.{labels_at, Labelled}
 use Rattle.joining.specs.Limits.{RunLimits}
 use Rattle.joining.specs.Rounds.{attempts}
 use Rattle.reference.proofs.Attempts.{attempt_joined}
@@ -31,10 +31,9 @@ use Rattle.lines.proofs.words.Lines.{bare-means}
 use Rattle.build.specs.declared.used.Size.{Size}
 use Rattle.build.specs.State.{used}
 use Rattle.build.specs.Added.{used_words}
-use Rattle.plan.specs.Slots.{slot_names, Slotted}
-use Rattle.join.specs.Current.{used_lines, listing_now, bare_now, Current, Lent}
-use Rattle.join.specs.Attempts.{Attemptable, targets_now, Attempted}
-use Rattle.std.specs.Prelude as std
+use Rattle.plan.specs.Slots.{slot_names}
+use Rattle.join.specs.Current.{used_lines, listing_now, bare_now, Current}
+use Rattle.join.specs.Attempts.{targets_now}
 use Rattle.rounds.specs.declared.rounds.Round.{Round}
 use Rattle.rounds.specs.Carries.{Carries}
 use Rattle.rounds.specs.Rounds.{Failed, Succeeded, Turned, Countable, Roundable, Made, attempts_with}
@@ -135,46 +134,7 @@ module _ (tape area : Text) (tokens lines : List ℕ) (at : Size) where
   labels_are addresses places =
       sym (labels_at-bare (listing_now tape area tokens lines at addresses) places) ∙ ap (λ (ls : Listing). labels_at ls places) (sym (bare_is addresses))
 
--- ---- one attempt
-
-module _ (rules : Rules) {tape area : Text} {tokens lines lows highs labels : List ℕ} {slots : Text} {words : List ℕ} {r : Round}
-    {area' : Text} {tokens' lines' lows' highs' : List ℕ} {t : std.Option Size}
-    (a : Attempted rules tape area tokens lines lows highs labels slots words r.next r.size area' tokens' lines' lows' highs' t) where
-  pub turn_failed : t ≡ std.None
-      → Turned rules tape area tokens lines lows highs labels slots words r area' tokens' lines' lows' highs' labels
-      (record { next = r.next + 1; attempts = r.attempts + 1; removed = r.removed; size = r.size })
-  turn_failed e =
-      let f = a.failed e in
-      inl (record {
-        round_is = refl;
-        area_is = f.0;
-        tokens_are = f.1;
-        lines_are = f.2;
-        lows_are = f.4;
-        highs_are = f.5;
-        labels_are = refl;
-        tried = f.3;
-      })
-
-  pub turn_succeeded : {after : Size} → t ≡ std.Some after → {labels' : List ℕ} → labels' ≡ shift_places r.next labels → {next : ℕ} → next ≡ pred r.next
-      → Turned rules tape area tokens lines lows highs labels slots words r area' tokens' lines' lows' highs' labels'
-      (record { next = next; attempts = r.attempts + 1; removed = r.removed + 1; size = after })
-  turn_succeeded {after} e el en =
-      let s = a.succeeded after e in
-      inr (record { next_is = en; attempts_are = refl; removed_is = refl; labels_are = el; current = s.0; tried = s.1; handed = s.2 })
-
 -- ---- in the tables
-
--- tables keep their lengths
-pub lent_same : {area : Text} {tokens : List ℕ} {area2 : Text} {tokens2 : List ℕ} (area' : Text) (tokens' : List ℕ) (area2' : Text) (tokens2' : List ℕ)
-    → Lent area tokens area2 tokens2 → length area' ≡ length area → length tokens' ≡ length tokens → length area2' ≡ length area2 → length tokens2' ≡ length tokens2
-    → Lent area' tokens' area2' tokens2'
-lent_same area' tokens' area2' tokens2' l a b c d = record {
-  first_text = omega (arith, l.first_text);
-  first_words = omega (arith, l.first_words);
-  second_text = omega (arith, l.second_text);
-  second_words = omega (arith, l.second_words);
-}
 
 -- stepping back, one line at most
 back : (i : ℕ) → i ≤ pred i + 1
@@ -215,20 +175,6 @@ module _ {rules : Rules} {tape area₀ : Text} {tokens₀ lines₀ lows₀ highs
       (s : Rounding rules tape area₀ tokens₀ lines₀ lows₀ highs₀ at₀ labels₀ slots words area tokens lines lows highs labels r) where
     pub rounding_counts : Countable r
     rounding_counts = (omega (arith, s.few), omega (arith, s.few, s.fewer))
-
-    pub rounding_attempt : {area2 : Text} {tokens2 : List ℕ} → Lent area tokens area2 tokens2 → Slotted slots words → 256 ≤ length lows → 256 ≤ length highs
-        → r.next < r.size.lines → Attemptable tape area tokens lines area2 tokens2 lows highs labels slots words r.next r.size
-    rounding_attempt l w fl fh h =
-        record {
-          current = s.current;
-          limits = s.limits;
-          lent = l;
-          labelled = s.labelled;
-          slotted = w;
-          inside = h;
-          for_lows = fl;
-          for_highs = fh;
-        }
 
     pub rounding_end : r.size.lines ≤ r.next
         → Made (attempts_with rules tape area₀ tokens₀ lines₀ at₀ labels₀ slots words) tape area₀ tokens₀ lines₀ lows₀ highs₀ at₀

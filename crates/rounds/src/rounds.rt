@@ -1,15 +1,21 @@
 // One round: `propagate_once` of the Rust.
+// Kept: the slices that are written to are parameters of their own. A struct of them is no plainer: each contract would have to say,
+// besides, that it still lends the same slices.
 ghost use Rattle.reference.specs.Run.{propagate_once};
 ghost use Rattle.lines.specs.Rules.{rules_of};
 ghost use Rattle.join.specs.Attempts.{Attemptable};
 ghost use Rattle.rounds.specs.Rounds.{Turned, Countable, Roundable, Made, attempts_with};
 ghost use Rattle.rounds.specs.Runs.{Runnable};
+ghost use Rattle.lines.specs.Marks.{highs_of, lows_of};
 
 use crate::slots::gather_slots;
 use build::used::Size;
 use join::try_at;
 use life::{gather_labels, shift_labels};
+use lines::marks::Marks;
 use lines::rules::Rules;
+use lines::texts::{Listing, Texts};
+use plan::slots::SlotNames;
 
 // How far a round has come: the next line to try, the attempts and the removals so far, and the listing's size.
 #[derive(Clone, Copy)]
@@ -21,32 +27,29 @@ pub struct Round {
 }
 
 // One attempt of a round.
-fn turn<'a>(
-    tape: &'a [u8],
+fn turn(
+    tape: &[u8],
     area: &mut [u8],
     tokens: &mut [u64],
     lines: &mut [u64],
     area2: &mut [u8],
     tokens2: &mut [u64],
-    lows: &mut [u64],
-    highs: &mut [u64],
+    marks: &mut [Marks],
     labels: &mut [u64],
-    slots: &'a [u8],
-    slot_words: &'a [u64],
+    slots: &SlotNames<'_>,
     r: Round,
     rules: Rules,
 ) -> Round
-    requires { Attemptable tape.now area.old tokens.old lines.old area2.old tokens2.old lows.old highs.old
-        labels.old slots.now slot_words.now r.next r.size × Countable r }
+    requires { Attemptable tape.now area.old tokens.old lines.old area2.old tokens2.old (lows_of marks.old) (highs_of marks.old)
+        labels.old slots.now.text.now slots.now.words.now r.next r.size × Countable r }
     ensures { Turned (rules_of rules) tape.now area.old tokens.old lines.old
-        lows.old highs.old labels.old slots.now slot_words.now r
-        area.new tokens.new lines.new lows.new highs.new labels.new result }
+        (lows_of marks.old) (highs_of marks.old) labels.old slots.now.text.now slots.now.words.now r
+        area.new tokens.new lines.new (lows_of marks.new) (highs_of marks.new) labels.new result }
 {
     let i = r.next;
     let attempts = r.attempts + 1;
     let Some(size) = try_at(
-        tape, area, tokens, lines, area2, tokens2, lows, highs, labels, slots, slot_words, i,
-        r.size, rules,
+        tape, area, tokens, lines, area2, tokens2, marks, labels, slots, i, r.size, rules,
     ) else {
         return Round {
             next: i + 1,
@@ -64,26 +67,24 @@ fn turn<'a>(
 }
 
 // The attempts of a round, from line 0 on.
-fn turns<'a>(
-    tape: &'a [u8],
+fn turns(
+    tape: &[u8],
     area: &mut [u8],
     tokens: &mut [u64],
     lines: &mut [u64],
     area2: &mut [u8],
     tokens2: &mut [u64],
-    lows: &mut [u64],
-    highs: &mut [u64],
+    marks: &mut [Marks],
     labels: &mut [u64],
-    slots: &'a [u8],
-    slot_words: &'a [u64],
+    slots: &SlotNames<'_>,
     size: Size,
     rules: Rules,
 ) -> Round
-    requires { Roundable tape.now area.old tokens.old lines.old area2.old tokens2.old lows.old highs.old
-        labels.old slots.now slot_words.now size }
-    ensures { Made (attempts_with (rules_of rules) tape.now area.old tokens.old lines.old size labels.old slots.now
-        slot_words.now) tape.now area.old tokens.old lines.old lows.old highs.old size area.new
-        tokens.new lines.new lows.new highs.new result }
+    requires { Roundable tape.now area.old tokens.old lines.old area2.old tokens2.old (lows_of marks.old) (highs_of marks.old)
+        labels.old slots.now.text.now slots.now.words.now size }
+    ensures { Made (attempts_with (rules_of rules) tape.now area.old tokens.old lines.old size labels.old slots.now.text.now
+        slots.now.words.now) tape.now area.old tokens.old lines.old (lows_of marks.old) (highs_of marks.old) size area.new
+        tokens.new lines.new (lows_of marks.new) (highs_of marks.new) result }
 {
     let mut r = Round {
         next: 0,
@@ -91,11 +92,10 @@ fn turns<'a>(
         removed: 0,
         size,
     };
-    // Kept: an attempt sets the next line one on or one back, so no range or iterator yields the lines.
+    // Kept: a `for` is no plainer: an attempt sets the next line one on or one back, which no range and no iterator yields.
     while r.next < r.size.lines {
         r = turn(
-            tape, area, tokens, lines, area2, tokens2, lows, highs, labels, slots, slot_words, r,
-            rules,
+            tape, area, tokens, lines, area2, tokens2, marks, labels, slots, r, rules,
         );
     }
     r
@@ -109,24 +109,28 @@ pub fn propagate_once(
     lines: &mut [u64],
     area2: &mut [u8],
     tokens2: &mut [u64],
-    lows: &mut [u64],
-    highs: &mut [u64],
+    marks: &mut [Marks],
     labels: &mut [u64],
     slots: &mut [u8],
     slot_words: &mut [u64],
     size: Size,
     rules: Rules,
 ) -> Round
-    requires { Runnable tape.now area.old tokens.old lines.old area2.old tokens2.old lows.old highs.old
+    requires { Runnable tape.now area.old tokens.old lines.old area2.old tokens2.old (lows_of marks.old) (highs_of marks.old)
         labels.old slots.old slot_words.old size }
-    ensures { Made (propagate_once (rules_of rules)) tape.now area.old tokens.old lines.old lows.old highs.old size
-        area.new tokens.new lines.new lows.new highs.new result }
+    ensures { Made (propagate_once (rules_of rules)) tape.now area.old tokens.old lines.old (lows_of marks.old) (highs_of marks.old) size
+        area.new tokens.new lines.new (lows_of marks.new) (highs_of marks.new) result }
 {
-    let text = &area[..size.text];
-    let words = &tokens[..size.tokens];
-    let listing = &lines[..size.lines];
-    let known = gather_labels(tape, text, words, listing, labels);
-    let g = gather_slots(tape, text, words, listing, slots, slot_words);
+    let listing = Listing {
+        texts: Texts {
+            tape,
+            area: &area[..size.text],
+        },
+        tokens: &tokens[..size.tokens],
+        lines: &lines[..size.lines],
+    };
+    let known = gather_labels(&listing, labels);
+    let names = gather_slots(&listing, slots, slot_words);
     turns(
         tape,
         area,
@@ -134,11 +138,9 @@ pub fn propagate_once(
         lines,
         area2,
         tokens2,
-        lows,
-        highs,
+        marks,
         &mut labels[..known],
-        &slots[..g.text],
-        &slot_words[..g.count],
+        &names,
         size,
         rules,
     )

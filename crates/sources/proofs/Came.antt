@@ -2,14 +2,14 @@
 use Rattle.std.specs.Prelude.{Result, Ok, Err}
 use Rattle.answers.specs.declared.Reason.{Reason}
 use Rattle.answers.specs.Refusals.{refusing}
-use Prim.Native.Nat.{ℕ, zero, suc, ◌+◌, ◌≤◌, ◌<◌}
+use Prim.Native.Nat.{ℕ, zero, suc, ◌≤◌, ◌<◌}
 use native.Mathlib.Omega.{arith}
 use mathlib.Core.Path.{◌≡◌, refl, sym, ap, ◌∙◌}
 use mathlib.Core.Bool.{Bool, true, false}
 use mathlib.Core.List.{List, [], ◌∷◌, ◌++◌, map}
 use mathlib.Core.Option.{Option, none, some}
 use lib.Dec.{leb}
-use lib.ListN.{length, get_or, take, drop, length-append, get_or-append}
+use lib.ListN.{length, get_or, take, drop, get_or-append}
 use lib.Seq.{take-append_seam}
 use borrow.Author.Tests.{le-leb, lt-leb, lt-ltb}
 use Rattle.reference.specs.Control.{when◌then◌else◌, let_some◌else◌then◌}
@@ -232,9 +232,6 @@ module _ (rules : Rules) (k : ℕ) (tape : List ℕ) (lent : Lent) where
 
         copy_is : copy' ≡ bytes ++ drop (length bytes) lent.copy
         copy_is = w.output_is ∙ ap (λ (a : Answer (List ℕ)). output_after a lent.copy) known.1
-
-        pub copy-inside : 0 + size ≤ length copy'
-        copy-inside = omega (arith, known.2, ap length copy_is, length-append bytes (drop (length bytes) lent.copy))
 
         -- the part of the buffer that is cleaned
         part_is : {part : List ℕ} → part ≡ take size (drop 0 copy') → part ≡ bytes

@@ -7,26 +7,29 @@ use mathlib.Core.Bool.{Bool, true, false, true≢false}
 use mathlib.Core.List.{List, [], ◌∷◌, ◌++◌, map, map-append, flat_map, append_assoc}
 use mathlib.Core.Option.{none, some}
 use lib.Dec.{eqb}
-use lib.ListN.{length, drop, set, length-append, length-drop, length-map, length-set}
+use lib.ListN.{length, drop, set, length-append, length-map, length-set}
 use lib.Seq.{drop-drop, drop-append_seam, set-append_left}
-use borrow.Author.Tests.{eq-eqb, ne_eqb, le-leb}
+use borrow.Author.Tests.{eq-eqb, ne_eqb}
 use Rattle.reference.specs.Control.{when◌then◌else◌}
 use Rattle.reference.specs.Lists.{count, modify}
 use Rattle.reference.specs.Spans.{Span, Marks}
 use Rattle.reference.specs.Tape as Tape
-use Rattle.reference.specs.Tape.{old, write_command, write_command_by}
-use Rattle.reference.specs.Questions.{is_end, Passed, add_marks, marks_from, marks_from_by, marks_in, marks_in_by, ends_inside_by}
+use Rattle.reference.specs.Tape.{old, write_command, write_command_by, command_size}
+use Rattle.reference.specs.Questions.{is_end, add_marks, marks_from, marks_from_by, marks_in, marks_in_by}
 use Rattle.reference.proofs.Cases.{true-false}
 use Rattle.reference.proofs.Lines.{length-modify}
-use Rattle.reference.proofs.Commands.{Writable, read_of-write}
-use Rattle.reference.proofs.Reading.{ask-yes, passed_inj}
+use Rattle.reference.proofs.Commands.{Form, Writable, ReadBackBy, form_of, read_of-write}
 use Rattle.reference.proofs.Limits.{All}
 use Rattle.laws.proofs.Scans.{if-true, if-false}
 use Rattle.tape.specs.Bytes.{Puts}
-use Rattle.tape.specs.Commands.{command_in, size_of, Sized, standing, standing_by, Stood}
+use Rattle.tape.specs.Commands.{command_in, size_of}
 use Rattle.tape.specs.declared.commands.Command.{Command}
 use Rattle.tape.specs.declared.commands.Command.TheVariants.{Addressed, Plain, Marked, Token, End}
 use Rattle.tape.proofs.little_endian.Bytes.{put_front, put_none, put_one, puts_append}
+use Rattle.tape.proofs.commands.Standing.{Stands}
+use Rattle.std.specs.Prelude.{Some, None}
+use Rattle.walk.specs.Walk.{Follows}
+use Rattle.walk.proofs.Standing.{Goes, goes_stands, end_stands}
 use Rattle.sources.specs.Calls.{flag_of, begins, Inner, Walkable, marked_last, flags_after, lines_after, FlagFits, Flags}
 
 -- ---- the commands that are left
@@ -207,35 +210,28 @@ module _ {tape flags₀ : List ℕ} {at n : ℕ} {flags : List ℕ} (w : Walking
   here : drop at tape ≡ write_command now ++ post
   here = w.left ∙ rest-first w.commands w.behind
 
-  inside : at + length (write_command now) ≤ length tape
-  inside = omega (arith, ap length here, length-append (write_command now) post, length-drop at tape, some_bytes now)
+  written : ReadBackBy old (write_command now ++ post) now
+  written = read_of-write now post (first_writable w.commands w.inner)
 
-  stands : standing tape at ≡ Passed (now, length (write_command now))
-  unfolding standing_by ends_inside_by
-  stands =
-      let b = read_of-write {form = old} now post (first_writable w.commands w.inner) in
-      rw (here)
-      (ask-yes _ _ _ (
-        b.known,
-        (rw (b.size, length-append (write_command now) post) (le-leb (length (write_command now)) (length (write_command now) + length post) (omega arith)), tt),
-      )
-      ∙ λ i. Passed (b.same i, b.size i))
+  known : Form (drop at tape)
+  known = rw here (form_of (write_command now ++ post) written.known)
 
-  pub walk-stands : Stood tape at
-  walk-stands = record { what = (now, length (write_command now)); stands = stands }
+  whole : command_size (drop at tape) ≤ length (drop at tape)
+  whole = rw here (omega (arith, written.size, length-append (write_command now) post))
 
-  module _ (c : Command) (e : Passed (command_in tape at c, size_of c) ≡ standing tape at) where
-    found : ◌≡◌ {A = Sized} (command_in tape at c, size_of c) (now, length (write_command now))
-    found = passed_inj (e ∙ stands)
+  -- what an answer of `next_at` says there
+  pub walk-goes : {c : Command} {next : ℕ} → Follows tape at (Some (c, next)) → Goes tape at c next
+  walk-goes f = goes_stands tape at known whole f
 
+  pub walk-over : Follows tape at None → Stands tape at End
+  walk-over f = end_stands tape at known whole f
+
+  module _ (c : Command) (e : Stands tape at c) where
     command_is : command_in tape at c ≡ now
-    command_is = ap (λ (x : Sized). x.0) found
+    command_is = e.same ∙ rw here written.same
 
     size_is : size_of c ≡ length (write_command now)
-    size_is = ap (λ (x : Sized). x.1) found
-
-    pub walk_inside : (at < at + size_of c) × (at + size_of c ≤ length tape)
-    walk_inside = omega (arith, inside, size_is, some_bytes now)
+    size_is = e.size ∙ rw here written.size
 
     -- the end: no command is left
     pub walk_ends : is_end (command_in tape at c) ≡ true → Puts flags₀ 0 (map flag_of (marks_in tape)) flags n

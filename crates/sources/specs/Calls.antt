@@ -19,6 +19,8 @@ use Rattle.reference.specs.Reply.{reply}
 use Rattle.reference.proofs.Commands.{Writable}
 use Rattle.reference.proofs.Limits.{All}
 use Rattle.answers.specs.Answers.{measured, output_after, Writes}
+use Rattle.text.specs.Cursor.{Fits}
+use Rattle.text.specs.declared.cursor.Cursor.{Cursor}
 use Rattle.tape.specs.Bytes.{Puts}
 use Rattle.tape.specs.Commands.{command_in}
 use Rattle.tape.specs.declared.commands.Command.{Command}
@@ -39,11 +41,11 @@ copied picked (Tape.new_token t) = write_command (Tape.new_token t)
 copied picked Tape.end = write_command Tape.end
 
 -- the command stands there and ends at `next`, the questions passed it, and there is room for its bytes in the copy
-pub record Copies (picked : Bool) (tape : List ℕ) (at next : ℕ) (c : Command) (out : List ℕ) (to : ℕ) : Type 0 where
+pub record Copies (picked : Bool) (tape : List ℕ) (at next : ℕ) (c : Command) (out : Cursor) : Type 0 where
   pub before : Q.Totals
   pub after : Q.Totals
   pub passes : Q.Passed (record { command = command_in tape at c; next = next; totals = after }) ≡ read_command tape at before
-  pub room : to + length (copied picked (command_in tape at c)) ≤ length out
+  pub room : Fits out (length (copied picked (command_in tape at c)))
 
 -- what is written of an accepted tape
 abbrev pub CopyOf : ℕ → List ℕ → List ℕ → List ℕ → ℕ → Type 0

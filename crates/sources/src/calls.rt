@@ -1,4 +1,5 @@
-// The copy, and the call that cleans it and tells what its one line came into.
+// The copy, and the call that cleans it and tells what its one line came into. The lent slices stay parameters: a struct of them would need
+// in each contract, besides, that it still lends the same slices.
 ghost use Rattle.std.specs.Prelude.{◌≤◌, length};
 ghost use Rattle.answers.specs.Answers.{answer_of, Writes};
 ghost use Rattle.lines.specs.Rules.{rules_of};
@@ -25,6 +26,7 @@ pub fn only(k: usize, tape: &[u8], out: &mut [u8]) -> Answer
         return Err(Reason::TooLittleRoom.at(0));
     }
     check::<false>(tape)?;
+    // Kept: there is no `From` from usize to u64, and `try_from` has a branch that no length takes.
     Ok(put_commands(tape, k, out) as u64)
 }
 
@@ -42,6 +44,7 @@ fn flags_of(
         work_b.new out.new flags.new (answer_of result) }
 {
     clean(rules, tape, work_a, work_b, out)?;
+    // Kept: there is no `From` from usize to u64, and `try_from` has a branch that no length takes.
     Ok(walk(out, flags) as u64)
 }
 
@@ -69,5 +72,6 @@ pub fn came_into(
         return Err(Reason::TooLittleRoom.at(0));
     }
     let n = only(k, tape, copy)?;
+    // Kept: there is no `From` from u64 to usize, and `try_from` has a branch that no length of a tape takes.
     flags_of(rules, &copy[..n as usize], work_a, work_b, out, flags)
 }

@@ -1,78 +1,47 @@
 // The commands of the copy: a line without its address, or line k with the address 0; no marks; every other command as it stands.
-ghost use Rattle.std.proofs.Math.Option.{none, some};
-ghost use Rattle.std.specs.Prelude.{◌+◌, ◌-◌, ◌≤◌, ◌<◌, length, take, drop};
+ghost use Rattle.std.specs.Prelude.{◌≤◌, ◌<◌, length};
 ghost use Rattle.reference.specs.Tape.{new_line, write_command};
-ghost use Rattle.tape.specs.Bytes.{Puts};
+ghost use Rattle.text.specs.Cursor.{Fits, Puts};
 ghost use Rattle.tape.specs.Commands.{command_in};
 ghost use Rattle.tape.specs.Questions.{AcceptedTape};
 ghost use Rattle.sources.specs.Calls.{address_for, copied, Copies, CopyOf};
 
 use tape::commands::Command;
-use tape::little_endian::put_number;
 use tape::questions::{Advance, NONE, step};
-use text::copy_bytes;
+use text::Cursor;
 
-// Writes the command of a line whose address is 0.
-fn put_picked(indent: u64, out: &mut [u8], at: usize) -> usize
-    requires { (indent < 256) × (at + 10 ≤ length out.old) }
-    ensures { Puts out.old at (write_command (new_line (some 0) indent)) out.new result }
-{
-    out[at] = 1;
-    put_number(0, 8, out, at + 1);
-    out[at + 9] = indent as u8;
-    at + 10
-}
-
-// Writes the command of a line without an address.
-fn put_plain(indent: u64, out: &mut [u8], at: usize) -> usize
-    requires { (indent < 256) × (at + 2 ≤ length out.old) }
-    ensures { Puts out.old at (write_command (new_line none indent)) out.new result }
-{
-    out[at] = 2;
-    out[at + 1] = indent as u8;
-    at + 2
-}
-
-// Writes the command of a line: line k is the picked one.
-fn put_line(picked: bool, indent: u64, out: &mut [u8], at: usize) -> usize
-    requires { (indent < 256) × (at + length (write_command (new_line (address_for picked) indent)) ≤ length out.old) }
-    ensures { Puts out.old at (write_command (new_line (address_for picked) indent)) out.new result }
+// Puts the command of a line: line k, the picked one, has the address 0, every other line has none.
+fn put_line(picked: bool, indent: u64, out: &mut Cursor)
+    requires { (indent < 256) × Fits out.old (length (write_command (new_line (address_for picked) indent))) }
+    ensures { Puts out.old (write_command (new_line (address_for picked) indent)) out.new }
 {
     if picked {
-        put_picked(indent, out, at)
+        out.put_byte(1);
+        out.put_le(0, 8);
     } else {
-        put_plain(indent, out, at)
+        out.put_byte(2);
     }
+    out.put_le(indent, 1);
 }
 
-// Copies the bytes of the tape from `from` to `end`.
-fn put_part(tape: &[u8], from: usize, end: usize, out: &mut [u8], at: usize) -> usize
-    requires { (from ≤ end) × (end ≤ length tape.now) × (at + (end - from) ≤ length out.old) }
-    ensures { Puts out.old at (take (end - from) (drop from tape.now)) out.new result }
-{
-    copy_bytes(&tape[from..end], out, at);
-    at + (end - from)
-}
-
-// Writes the command at an offset of the tape, which ends at `next`.
+// Puts the command at an offset of the tape, which ends at `next`.
 fn put_command(
     tape: &[u8],
     at: usize,
     next: usize,
     command: Command,
     picked: bool,
-    out: &mut [u8],
-    to: usize,
-) -> usize
-    requires { Copies picked tape.now at next command out.old to }
-    ensures { Puts out.old to (copied picked (command_in tape.now at command)) out.new result }
+    out: &mut Cursor,
+)
+    requires { Copies picked tape.now at next command out.old }
+    ensures { Puts out.old (copied picked (command_in tape.now at command)) out.new }
 {
     match command {
-        Command::Addressed { indent, .. } | Command::Plain { indent } => {
-            put_line(picked, indent, out, to)
-        }
-        Command::Marked { .. } => to,
-        Command::Token { .. } | Command::End => put_part(tape, at, next, out, to),
+        Command::Addressed { indent, .. } | Command::Plain { indent } => put_line(
+            picked, indent, out,
+        ),
+        Command::Marked { .. } => {}
+        Command::Token { .. } | Command::End => out.put(&tape[at..next]),
     }
 }
 
@@ -83,7 +52,7 @@ pub fn put_commands(tape: &[u8], k: usize, out: &mut [u8]) -> usize
 {
     let mut at = 0;
     let mut totals = NONE;
-    let mut end = 0;
+    let mut out = Cursor::new(out, 0);
     while let Ok(
         Advance {
             command,
@@ -93,12 +62,12 @@ pub fn put_commands(tape: &[u8], k: usize, out: &mut [u8]) -> usize
     ) = step::<false>(tape, at, totals)
     {
         let picked = totals.lines == k;
-        end = put_command(tape, at, next, command, picked, out, end);
+        put_command(tape, at, next, command, picked, &mut out);
         if command.is_end() {
-            return end;
+            break;
         }
         at = next;
         totals = more;
     }
-    end // no accepted tape comes here
+    out.at
 }

@@ -5,8 +5,8 @@ ghost use Rattle.reference.specs.Questions.{marks_in};
 ghost use Rattle.tape.specs.Bytes.{Puts};
 ghost use Rattle.sources.specs.Calls.{flag_of, Walkable, marked_last, FlagFits, Flags};
 
-use tape::commands::{Command, size_of};
-use tape::reader::known_command;
+use tape::commands::Command;
+use walk::next_at;
 
 // Sets the flag of the last of n lines.
 fn mark_last(flags: &mut [u8], n: usize)
@@ -43,13 +43,9 @@ pub fn walk(tape: &[u8], flags: &mut [u8]) -> usize
 {
     let mut at = 0;
     let mut n = 0;
-    // Kept: the steps are as long as the commands, and a `while` would read each command in two places.
-    loop {
-        let command = known_command(tape, at);
-        if command.is_end() {
-            return n;
-        }
+    while let Some((command, next)) = next_at(tape, at) {
         n = flag(command, flags, n);
-        at += size_of::<false>(command);
+        at = next;
     }
+    n
 }

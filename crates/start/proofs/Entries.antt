@@ -4,9 +4,11 @@ use native.Mathlib.Omega.{arith}
 use mathlib.Core.Path.{◌≡◌, refl, sym, ap, ◌∙◌}
 use mathlib.Core.Bool.{Bool, true, false, not as flip}
 use mathlib.Core.List.{List, [], ◌∷◌}
+use mathlib.Core.Logic.{by_cases}
+use native.Mathlib.Decide.{dec_lt}
 use mathlib.Core.Option.{Option, none, some}
 use lib.Dec.{leb}
-use lib.ListN.{length, take, drop, get_or, length-drop}
+use lib.ListN.{length, take, drop, get_or, length-drop, drop_of_length-le}
 use lib.Seq.{drop-drop, drop-cons}
 use borrow.Author.Tests.{le-leb, lt-leb, leb-true, not-true, not-false}
 use Rattle.reference.specs.Control.{not, ◌or◌, when◌then◌else◌, let_some◌else◌then◌}
@@ -16,9 +18,7 @@ use Rattle.reference.specs.Tape.{from_le_bytes}
 use Rattle.reference.proofs.Cases.{some_inj, none-some, bind-some}
 use Rattle.laws.proofs.Scans.{if-true, if-false, or_true, or_false}
 use Rattle.start.specs.Start.{Entry, entry_of, entries_from, entries, is_register, known_entries, listed}
-use Rattle.start.specs.Items.{item_of}
-use Rattle.start.specs.declared.listed.Item.{Item}
-use Rattle.start.specs.declared.listed.Item.TheVariants.{Named, Over, Cut}
+use Rattle.start.specs.Items.{entry_in}
 
 -- ---- further fuel changes nothing
 
@@ -49,68 +49,54 @@ entries-cons n rest =
 
 -- what the code finds at an offset
 module _ (list : List ℕ) (at : ℕ) where
-  pub over_at : length list ≤ at → Over ≡ item_of (drop at list)
-  unfolding item_of
-  over_at h = rw (drop_past list at h) refl
-    where
-      drop_past : (l : List ℕ) (i : ℕ) → length l ≤ i → drop i l ≡ []
-      drop_past [] zero h = refl
-      drop_past [] (suc i) h = refl
-      drop_past (x ∷ l) zero h = absurd (omega arith)
-      drop_past (x ∷ l) (suc i) h = drop_past l i (omega arith)
+  pub over_at : length list ≤ at → none ≡ entry_in (drop at list)
+  unfolding entry_in
+  over_at h = rw (drop_of_length-le list h) refl
 
   module _ (l : at < length list) (n : ℕ) (e : n ≡ get_or list at 0) where
     head : drop at list ≡ n ∷ drop (suc at) list
     head = drop-cons list at 0 l ∙ ap (λ (b : ℕ). b ∷ drop (suc at) list) (sym e)
 
-    pub cut_at : length list < at + (n + 9) → Cut ≡ item_of (drop at list)
-    cut_at h = sym (ap item_of head ∙ cut (lt-leb (n + 8) (length (drop (suc at) list)) (omega (arith, length-drop (suc at) list))))
+    pub cut_at : length list < at + (n + 9) → none ≡ entry_in (drop at list)
+    cut_at h = sym (ap entry_in head ∙ cut (lt-leb (n + 8) (length (drop (suc at) list)) (omega (arith, length-drop (suc at) list))))
       where
-        cut : leb (n + 8) (length (drop (suc at) list)) ≡ false → item_of (n ∷ drop (suc at) list) ≡ Cut
-        cut q = unfold item_of in if-false _ _ q
+        cut : leb (n + 8) (length (drop (suc at) list)) ≡ false → entry_in (n ∷ drop (suc at) list) ≡ none
+        cut q = unfold entry_in in if-false _ _ q
 
-    pub named_at : at + (n + 9) ≤ length list → Named n ≡ item_of (drop at list)
-    named_at h = sym (ap item_of head ∙ named (le-leb (n + 8) (length (drop (suc at) list)) (omega (arith, length-drop (suc at) list))))
+    pub entry_here : at + (n + 9) ≤ length list → some n ≡ entry_in (drop at list)
+    entry_here h = sym (ap entry_in head ∙ whole (le-leb (n + 8) (length (drop (suc at) list)) (omega (arith, length-drop (suc at) list))))
       where
-        named : leb (n + 8) (length (drop (suc at) list)) ≡ true → item_of (n ∷ drop (suc at) list) ≡ Named n
-        named q = unfold item_of in if-true _ _ q
+        whole : leb (n + 8) (length (drop (suc at) list)) ≡ true → entry_in (n ∷ drop (suc at) list) ≡ some n
+        whole q = unfold entry_in in if-true _ _ q
 
--- ---- what an item says of the entries
+-- ---- what it says of the entries
 
 record Here (rest : List ℕ) (n : ℕ) : Type 0 where
   room : n + 9 ≤ length rest
   are : entries rest ≡ (let_some (entries (drop (n + 9) rest)) else none then λ es. some (entry_of n (drop 1 rest) ∷ es))
 
-over-means : (rest : List ℕ) → item_of rest ≡ Over → rest ≡ []
-unfolding item_of when◌then◌else◌
-over-means [] e = refl
-over-means (n ∷ rest) e = absurd (go (leb (n + 8) (length rest)) e)
+-- bytes that are no whole entry
+cut-means : (rest : List ℕ) → entry_in rest ≡ none → 0 < length rest → entries rest ≡ none
+unfolding entry_in when◌then◌else◌
+cut-means [] e h = absurd (omega arith)
+cut-means (n ∷ rest) e h = entries-cons n rest ∙ go (leb (n + 8) (length rest)) e
   where
-    go : (b : Bool) → (when b then Named n else Cut) ≡ Over → ⊥
-    go true q = let z : ◌≡◌ {A = ℕ} 0 1 = cc in omega arith
-    go false q = let z : ◌≡◌ {A = ℕ} 0 1 = cc in omega arith
-
-cut-means : (rest : List ℕ) → item_of rest ≡ Cut → entries rest ≡ none
-unfolding item_of when◌then◌else◌
-cut-means [] e = absurd (let z : ◌≡◌ {A = ℕ} 0 1 = cc in omega arith)
-cut-means (n ∷ rest) e = entries-cons n rest ∙ go (leb (n + 8) (length rest)) e
-  where
-    go : (b : Bool) → (when b then Named n else Cut) ≡ Cut
+    go : (b : Bool) → (when b then some n else none) ≡ none
         → (when b then (let_some (entries (drop (n + 8) rest)) else none then λ es. some (entry_of n rest ∷ es)) else none) ≡ none
-    go true q = absurd (let z : ◌≡◌ {A = ℕ} 0 1 = cc in omega arith)
+    go true q = absurd (none-some (sym q))
     go false q = refl
 
-named-means : (rest : List ℕ) (n : ℕ) → item_of rest ≡ Named n → Here rest n
-unfolding item_of when◌then◌else◌
-named-means [] n e = absurd (let z : ◌≡◌ {A = ℕ} 0 1 = cc in omega arith)
-named-means (m ∷ rest) n e = go (leb (m + 8) (length rest)) refl e
+entry-means : (rest : List ℕ) (n : ℕ) → entry_in rest ≡ some n → Here rest n
+unfolding entry_in when◌then◌else◌
+entry-means [] n e = absurd (none-some e)
+entry-means (m ∷ rest) n e = go (leb (m + 8) (length rest)) refl e
   where
     next : (k : ℕ) → suc (k + 8) ≡ k + 9
     next k = omega arith
 
-    go : (b : Bool) → leb (m + 8) (length rest) ≡ b → (when b then Named m else Cut) ≡ Named n → Here (m ∷ rest) n
+    go : (b : Bool) → leb (m + 8) (length rest) ≡ b → (when b then some m else none) ≡ some n → Here (m ∷ rest) n
     go true p q =
-        let same : m ≡ n = cc in
+        let same : m ≡ n = some_inj q in
         rw (sym same)
         (record {
           room = omega (arith, leb-true (m + 8) (length rest) p);
@@ -118,7 +104,7 @@ named-means (m ∷ rest) n e = go (leb (m + 8) (length rest)) refl e
               entries-cons m rest ∙ if-true _ _ p
               ∙ ap (λ (i : ℕ). let_some (entries (drop i (m ∷ rest))) else none then λ es. some (entry_of m rest ∷ es)) (next m);
         })
-    go false p q = absurd (let z : ◌≡◌ {A = ℕ} 0 1 = cc in omega arith)
+    go false p q = absurd (none-some q)
 
 -- the name, as the code takes it out
 name_of : (list : List ℕ) (at n : ℕ) → take (at + 1 + n - (at + 1)) (drop (at + 1) list) ≡ take n (drop 1 (drop at list))
@@ -169,20 +155,30 @@ pub record Knows (list : List ℕ) (at : ℕ) : Type 0 where
 pub knows_first : (list : List ℕ) → Knows list 0
 knows_first list = record { inside = omega arith; same = refl }
 
-module _ (list : List ℕ) (at : ℕ) (k : Knows list at) (r : Item) (er : r ≡ item_of (drop at list)) where
-  pub knows_over : r ≡ Over → true ≡ is_some (known_entries list)
-  knows_over e = sym (k.same ∙ ap (λ (l : List ℕ). is_some (known_entries l)) (over-means _ (sym er ∙ e)) ∙ nil)
+module _ (list : List ℕ) (at : ℕ) (k : Knows list at) {o : Option ℕ} (eo : o ≡ entry_in (drop at list)) where
+  -- no whole entry: the end, or one that is cut
+  pub knows_end : o ≡ none → leb (length list) at ≡ is_some (known_entries list)
+  knows_end e = by_cases (dec_lt at (length list)) cut over
     where
       nil : is_some (known_entries []) ≡ true
       nil = ap is_some (known_is []) ∙ ap (λ (o : Option (List Entry)). is_some (known o)) entries-nil ∙ unfold let_some◌else◌then◌ when◌then◌else◌ in refl
 
-  pub knows_cut : r ≡ Cut → false ≡ is_some (known_entries list)
-  knows_cut e =
-      sym (k.same ∙ ap is_some (known_is _) ∙ ap (λ (o : Option (List Entry)). is_some (known o)) (cut-means _ (sym er ∙ e)) ∙ unfold let_some◌else◌then◌ in refl)
+      over : (at < length list → ⊥) → leb (length list) at ≡ is_some (known_entries list)
+      over h =
+          let long : length list ≤ at = omega arith in
+          le-leb _ _ long ∙ sym (k.same ∙ ap (λ (l : List ℕ). is_some (known_entries l)) (drop_of_length-le list long) ∙ nil)
 
-  module _ (n : ℕ) (e : r ≡ Named n) where
+      cut : at < length list → leb (length list) at ≡ is_some (known_entries list)
+      cut h =
+          let some_left : 0 < length (drop at list) = omega (arith, length-drop at list) in
+          lt-leb _ _ h
+          ∙ sym
+          (k.same ∙ ap is_some (known_is _) ∙ ap (λ (o : Option (List Entry)). is_some (known o)) (cut-means _ (sym eo ∙ e) some_left)
+          ∙ unfold let_some◌else◌then◌ in refl)
+
+  module _ (n : ℕ) (e : o ≡ some n) where
     here : Here (drop at list) n
-    here = named-means _ n (sym er ∙ e)
+    here = entry-means _ n (sym eo ∙ e)
 
     told : is_some (known_entries (drop at list))
         ≡ is_some (known (let_some (entries (drop (n + 9) (drop at list))) else none then λ es. some (entry_of n (drop 1 (drop at list)) ∷ es)))
@@ -219,39 +215,33 @@ pub record Seeks (list name : List ℕ) (at : ℕ) : Type 0 where
 pub seeks_first : (list name : List ℕ) → Seeks list name 0
 seeks_first list name = record { inside = omega arith; same = λ es e. (es, e, refl) }
 
-module _ (list name : List ℕ) (at : ℕ) (k : Seeks list name at) (r : Item) (er : r ≡ item_of (drop at list)) (es : List Entry) (q : entries list ≡ some es) where
-  abbrev rest : List Entry
-  rest = (k.same es q).0
-
-  are : entries (drop at list) ≡ some rest
-  are = (k.same es q).1
-
-  seeks_over : r ≡ Over → 0 ≡ listed es name
+module _ (list name : List ℕ) (at : ℕ) (k : Seeks list name at) {o : Option ℕ} (eo : o ≡ entry_in (drop at list)) where
+  pub seeks_end : o ≡ none → (es : List Entry) → entries list ≡ some es → 0 ≡ listed es name
   unfolding listed
-  seeks_over e =
-      let none_left : rest ≡ [] = some_inj (sym are ∙ ap entries (over-means _ (sym er ∙ e)) ∙ entries-nil) in
-      sym ((k.same es q).2 ∙ ap (λ (r : List Entry). listed r name) none_left)
-
-  seeks_cut : r ≡ Cut → 0 ≡ listed es name
-  seeks_cut e = absurd (none-some (sym (cut-means _ (sym er ∙ e)) ∙ are))
-
-  pub seeks_end : ((n : ℕ) → r ≡ Named n → ⊥) → 0 ≡ listed es name
-  seeks_end = ends r refl
+  seeks_end e es q = by_cases (dec_lt at (length list)) cut over
     where
-      ends : (i : Item) → r ≡ i → ((n : ℕ) → r ≡ Named n → ⊥) → 0 ≡ listed es name
-      ends (Named n) e h = absurd (h n e)
-      ends Over e h = seeks_over e
-      ends Cut e h = seeks_cut e
+      are : entries (drop at list) ≡ some (k.same es q).0
+      are = (k.same es q).1
 
-pub item_room : (list : List ℕ) (at : ℕ) (r : Item) → r ≡ item_of (drop at list) → (n : ℕ) → r ≡ Named n → at + (n + 9) ≤ length list
-item_room list at r er n e = let h = named-means _ n (sym er ∙ e) in omega (arith, h.room, length-drop at list)
+      over : (at < length list → ⊥) → 0 ≡ listed es name
+      over h =
+          let long : length list ≤ at = omega arith in
+          let none_left : (k.same es q).0 ≡ [] = some_inj (sym are ∙ ap entries (drop_of_length-le list long) ∙ entries-nil) in
+          sym ((k.same es q).2 ∙ ap (λ (r : List Entry). listed r name) none_left)
 
-module _ (list name : List ℕ) (at : ℕ) (k : Seeks list name at) (r : Item) (er : r ≡ item_of (drop at list)) (n : ℕ) (e : r ≡ Named n) {x : Bool}
+      cut : at < length list → 0 ≡ listed es name
+      cut h = let some_left : 0 < length (drop at list) = omega (arith, length-drop at list) in
+          absurd (none-some (sym (cut-means _ (sym eo ∙ e) some_left) ∙ are))
+
+pub entry_room : (list : List ℕ) (at : ℕ) {o : Option ℕ} → o ≡ entry_in (drop at list) → (n : ℕ) → o ≡ some n → at + (n + 9) ≤ length list
+entry_room list at eo n e = let h = entry-means _ n (sym eo ∙ e) in omega (arith, h.room, length-drop at list)
+
+module _ (list name : List ℕ) (at : ℕ) (k : Seeks list name at) {o : Option ℕ} (eo : o ≡ entry_in (drop at list)) (n : ℕ) (e : o ≡ some n) {x : Bool}
     (ex : x ≡ (name ≟ take (at + 1 + n - (at + 1)) (drop (at + 1) list))) where
   split : (es : List Entry) (q : entries list ≡ some es)
       → (more : List Entry) × (entries (drop (n + 9) (drop at list)) ≡ some more) × ((k.same es q).0 ≡ entry_of n (drop 1 (drop at list)) ∷ more)
   split es q =
-      let b = bind-some (sym (named-means _ n (sym er ∙ e)).are ∙ (k.same es q).1) in
+      let b = bind-some (sym (entry-means _ n (sym eo ∙ e)).are ∙ (k.same es q).1) in
       (b.0, b.1, sym (some_inj b.2))
 
   same_name : (name ≟ take n (drop 1 (drop at list))) ≡ x
@@ -269,7 +259,7 @@ module _ (list name : List ℕ) (at : ℕ) (k : Seeks list name at) (r : Item) (
   unfolding listed
   seeks_next h =
       record {
-        inside = omega (arith, item_room list at r er n e);
+        inside = omega (arith, entry_room list at eo n e);
         same = λ es q.
             (let s = split es q in (
               s.0,

@@ -25,6 +25,7 @@ use Rattle.reference.proofs.Cases.{some_inj, none-some, if_some, bind-some, both
 use Rattle.laws.proofs.Scans.{if-true, if-false, and_true, and_false}
 use Rattle.laws.proofs.Parts.{to_end, drop-take}
 use Rattle.std.specs.Prelude as std
+use Rattle.std.specs.Option.{unwrap_or}
 use Rattle.lines.specs.Words.{kind_of, text_of, token_of, tokens_of, Points, Holds}
 use Rattle.lines.specs.Lines.{first_of, count_of, part_of}
 use Rattle.formula.specs.Places.{Readable}
@@ -61,12 +62,9 @@ unfolding of_integer
 bits_are (pos n) h = omega arith
 bits_are (negsuc n) h = let e : n % 2 ^ 64 ≡ n = omega arith in rw e
 
-module _ {n : std.Option ℤ} {o : Option ℤ} (m : option_of n ≡ o) (z : ℤ) (e : o ≡ some z) where
-  pub number_read : {v : ℤ} → n ≡ Some v → v ≡ z
-  number_read q = some_inj (sym (ap option_of q) ∙ m ∙ e)
-
-  pub number_unread : n ≡ None → ⊥
-  number_unread q = none-some (sym (ap option_of q) ∙ m ∙ e)
+pub number_read : (n : std.Option ℤ) {o : Option ℤ} → option_of n ≡ o → (z : ℤ) → o ≡ some z → unwrap_or n (pos 0) ≡ z
+number_read (Some v) m z e = some_inj (m ∙ e)
+number_read None m z e = absurd (none-some (m ∙ e))
 
 -- ---- pairs of the table
 

@@ -11,15 +11,16 @@ ghost use Rattle.start.specs.Reckoning.{Profiled};
 use crate::listed::{are_known, is_register};
 use crate::reckoning::reckon;
 use answers::{Answer, Reason};
+use lines::marks::Marks;
 use solving::solve_sum;
 
 // 16 and 15, and the start value, of a listing in the profile.
-fn solved<'a>(
-    tape: &'a [u8],
-    tokens: &'a [u64],
-    lines: &'a [u64],
-    chosen: &'a [u8],
-    list: &'a [u8],
+fn solved(
+    tape: &[u8],
+    tokens: &[u64],
+    lines: &[u64],
+    chosen: &[u8],
+    list: &[u8],
     wanted: u64,
 ) -> Answer
     requires { Profiled tape.now tokens.now lines.now × (length tokens.now ≤ 1024) }
@@ -34,7 +35,7 @@ fn solved<'a>(
 }
 
 // 14 and what follows, of a tape that passed its questions.
-fn asked<'a>(tape: &'a [u8], chosen: &'a [u8], list: &'a [u8], wanted: u64) -> Answer
+fn asked(tape: &[u8], chosen: &[u8], list: &[u8], wanted: u64) -> Answer
     requires { AcceptedTape tape.now }
     ensures { (input : Listing) → read tape.now ≡ Passed input
         → answer_of result ≡ ask_formula input chosen.now list.now wanted }
@@ -42,16 +43,8 @@ fn asked<'a>(tape: &'a [u8], chosen: &'a [u8], list: &'a [u8], wanted: u64) -> A
     let mut tokens = [0u64; 1024];
     let mut lines = [0u64; 256];
     let mut addresses = [0u64; 256];
-    let mut lows = [0u64; 256];
-    let mut highs = [0u64; 256];
-    let loaded = tables::load(
-        tape,
-        &mut tokens,
-        &mut lines,
-        &mut addresses,
-        &mut lows,
-        &mut highs,
-    );
+    let mut marks = [Marks { low: 0, high: 0 }; 256];
+    let loaded = tables::load(tape, &mut tokens, &mut lines, &mut addresses, &mut marks);
     let tokens = &tokens[..loaded.tokens];
     let lines = &lines[..loaded.lines];
     match formula::breaks(tape, tokens, lines) {
@@ -62,7 +55,7 @@ fn asked<'a>(tape: &'a [u8], chosen: &'a [u8], list: &'a [u8], wanted: u64) -> A
 
 // The smallest start value of the chosen register for which the formula of a tape returns the wanted value, the other registers starting
 // with the values that the list has for their names, or 0.
-pub fn start_value<'a>(tape: &'a [u8], chosen: &'a [u8], list: &'a [u8], wanted: u64) -> Answer
+pub fn start_value(tape: &[u8], chosen: &[u8], list: &[u8], wanted: u64) -> Answer
     ensures { answer_of result ≡ start_reply tape.now chosen.now list.now wanted }
 {
     tape::check::<false>(tape)?;

@@ -1,33 +1,27 @@
 // The list of names with their start values. An entry is a length byte, the name, then the value in 8 bytes.
 ghost use Rattle.std.specs.Prelude.{◌≡◌, List, ◌≤◌, ◌<◌, length, drop};
 ghost use Rattle.std.proofs.Math.Option.{some};
+ghost use Rattle.reference.specs.Options.{option_of};
 ghost use Rattle.reference.specs.Lists.{is_some};
 ghost use Rattle.start.specs.Start.{Entry, entries, is_register, known_entries, listed};
-ghost use Rattle.start.specs.Items.{item_of};
+ghost use Rattle.start.specs.Items.{entry_in};
 
 use names::Spelled;
 use tape::little_endian::number_at;
 
-// What stands at an offset of a list: an entry whose name has so many bytes, nothing more, or an entry that is cut.
-#[derive(Clone, Copy, Debug, PartialEq, Eq)]
-pub enum Item {
-    Named(usize),
-    Over,
-    Cut,
-}
-
-fn item_at(list: &[u8], at: usize) -> Item
+// How many bytes the name has of the entry at an offset of a list; none at the list's end, and where the entry is cut.
+fn entry_at(list: &[u8], at: usize) -> Option<usize>
     requires { at ≤ length list.now }
-    ensures { result ≡ item_of (drop at list.now) }
+    ensures { option_of result ≡ entry_in (drop at list.now) }
 {
     if list.len() <= at {
-        return Item::Over;
+        return None;
     }
     let n = usize::from(list[at]);
     if list.len() - at < n + 9 {
-        return Item::Cut;
+        return None;
     }
-    Item::Named(n)
+    Some(n)
 }
 
 // Whether a name is a 64-bit register's and no stack slot's.
@@ -48,29 +42,23 @@ pub fn are_known(list: &[u8]) -> bool
     ensures { result ≡ is_some (known_entries list.now) }
 {
     let mut at = 0;
-    // Kept: the steps are as long as the entries, and the two ways to end answer differently.
-    loop {
-        match item_at(list, at) {
-            Item::Over => return true,
-            Item::Cut => return false,
-            Item::Named(n) => {
-                let from = at + 1;
-                let to = from + n;
-                if !is_register(&list[from..to]) {
-                    return false;
-                }
-                at = to + 8;
-            }
+    while let Some(n) = entry_at(list, at) {
+        let from = at + 1;
+        let to = from + n;
+        if !is_register(&list[from..to]) {
+            return false;
         }
+        at = to + 8;
     }
+    list.len() <= at
 }
 
-// The value of the first entry for a name; 0 where there is none.
+// The value that a list gives a name: that of its first entry; a name that is not listed has the value 0.
 pub fn value_of(list: &[u8], name: &[u8]) -> u64
     ensures { (es : List Entry) → entries list.now ≡ some es → result ≡ listed es name.now }
 {
     let mut at = 0;
-    while let Item::Named(n) = item_at(list, at) {
+    while let Some(n) = entry_at(list, at) {
         let from = at + 1;
         let to = from + n;
         if text::same(name, &list[from..to]) {

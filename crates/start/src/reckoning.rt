@@ -7,7 +7,7 @@ ghost use Rattle.reference.specs.Text.{Text};
 ghost use Rattle.reference.specs.Numbers.{parse_c_number};
 ghost use Rattle.reference.specs.Evaluators.{of_integer, lexemes, evaluate};
 ghost use Rattle.reference.specs.Straight.{execute};
-ghost use Rattle.lines.specs.Words.{token_of, tokens_of, Points, Holds};
+ghost use Rattle.lines.specs.Words.{text_of, token_of, tokens_of, Points, Holds};
 ghost use Rattle.lines.specs.Lines.{part_of, Reading, listing_read};
 ghost use Rattle.formula.specs.Values as Values;
 ghost use Rattle.formula.specs.Values.{value_of};
@@ -18,6 +18,7 @@ ghost use Rattle.start.specs.Reckoning.{Begun, Assigned, Returned, Profiled};
 
 use crate::listed::value_of;
 use formula::evaluators::{Value, evaluate};
+use lines::texts::Texts;
 use lines::words;
 use numbers::parse_c_number;
 
@@ -40,7 +41,7 @@ fn store_pair(values: &mut [u64], k: usize, p: Pair)
 // ---- at the start
 
 // What a register starts with: the chosen one with 1 · v + 0, any other with its listed value.
-fn start_pair<'a>(chosen: &'a [u8], list: &'a [u8], name: &'a [u8]) -> Pair
+fn start_pair(chosen: &[u8], list: &[u8], name: &[u8]) -> Pair
     ensures { (es : List Entry) → entries list.now ≡ some es → pair_of result ≡ start_pairs chosen.now es name.now }
 {
     if text::same(name, chosen) {
@@ -55,23 +56,28 @@ fn start_pair<'a>(chosen: &'a [u8], list: &'a [u8], name: &'a [u8]) -> Pair
     }
 }
 
-// The value of a number modulo 2^64; 0 where it is not read.
+// The value of a number modulo 2^64; any of one that is not read.
 fn number_value(s: &[u8]) -> u64
     ensures { (z : ℤ) → parse_c_number s.now ≡ some z → result ≡ of_integer z }
 {
-    match parse_c_number(s) {
-        Some(v) => v.cast_unsigned(),
-        None => 0,
-    }
+    parse_c_number(s).unwrap_or(0).cast_unsigned()
+}
+
+// The text of a token; all stand in the tape.
+fn text_of(tape: &[u8], w: u64) -> &[u8]
+    requires { Points tape.now tape.now w }
+    ensures { result.now ≡ text_of tape.now tape.now w }
+{
+    words::text(&Texts { tape, area: tape }, w)
 }
 
 // What a token is worth at the start.
-fn token_pair<'a>(tape: &'a [u8], w: u64, chosen: &'a [u8], list: &'a [u8]) -> Pair
+fn token_pair(tape: &[u8], w: u64, chosen: &[u8], list: &[u8]) -> Pair
     requires { Points tape.now tape.now w }
     ensures { (es : List Entry) → entries list.now ≡ some es
         → Prices (start_pairs chosen.now es) (token_of tape.now tape.now w) (pair_of result) }
 {
-    let s = words::text(tape, tape, w);
+    let s = text_of(tape, w);
     if words::kind(w) == words::NUMBER {
         return Pair {
             multiplier: 0,
@@ -82,13 +88,7 @@ fn token_pair<'a>(tape: &'a [u8], w: u64, chosen: &'a [u8], list: &'a [u8]) -> P
 }
 
 // Fills the table with what each token is worth at the start.
-pub fn fill<'a>(
-    tape: &'a [u8],
-    tokens: &'a [u64],
-    chosen: &'a [u8],
-    list: &'a [u8],
-    values: &mut [u64],
-)
+pub fn fill(tape: &[u8], tokens: &[u64], chosen: &[u8], list: &[u8], values: &mut [u64])
     requires { Holds tape.now tape.now tokens.now × (2 * length tokens.now ≤ length values.old) }
     ensures { (es : List Entry) → entries list.now ≡ some es → Priced (start_pairs chosen.now es)
         (tokens_of tape.now tape.now tokens.now) values.new }
@@ -101,16 +101,15 @@ pub fn fill<'a>(
 // ---- an assignment
 
 // Whether a token is the register that another one is.
-fn is_same<'a>(tape: &'a [u8], w: u64, target: u64) -> bool
+fn is_same(tape: &[u8], w: u64, target: u64) -> bool
     requires { Points tape.now tape.now w × Points tape.now tape.now target }
     ensures { result ≡ same_register (token_of tape.now tape.now target) (token_of tape.now tape.now w) }
 {
-    words::kind(w) == words::REGISTER
-        && text::same(words::text(tape, tape, w), words::text(tape, tape, target))
+    words::kind(w) == words::REGISTER && text::same(text_of(tape, w), text_of(tape, target))
 }
 
 // Gives every token of a register the pair p.
-fn overwrite<'a>(tape: &'a [u8], tokens: &'a [u64], target: u64, p: Pair, values: &mut [u64])
+fn overwrite(tape: &[u8], tokens: &[u64], target: u64, p: Pair, values: &mut [u64])
     requires { Holds tape.now tape.now tokens.now × Points tape.now tape.now target
         × (2 * length tokens.now ≤ length values.old) }
     ensures { Overwritten (token_of tape.now tape.now target) (pair_of p)
@@ -126,13 +125,7 @@ fn overwrite<'a>(tape: &'a [u8], tokens: &'a [u64], target: u64, p: Pair, values
 // ---- a line
 
 // What the tokens behind the first one of a line are worth.
-fn behind_first<'a>(
-    tape: &'a [u8],
-    tokens: &'a [u64],
-    values: &'a [u64],
-    l: u64,
-    before: &'a [u8],
-) -> Option<Value>
+fn behind_first(tape: &[u8], tokens: &[u64], values: &[u64], l: u64, before: &[u8]) -> Option<Value>
     requires { Begun tape.now tokens.now l × (2 * length tokens.now ≤ length values.now) }
     ensures { (σ : Text → Values.Pair) → Priced σ (tokens_of tape.now tape.now tokens.now) values.now → value_of result
         ≡ evaluate affine σ before.now (lexemes (drop 1 (tokens_of tape.now tape.now (part_of tokens.now l)))) }
@@ -146,7 +139,7 @@ fn behind_first<'a>(
 }
 
 // Reads a line that assigns, and changes the pairs of its register.
-fn assign_line<'a>(tape: &'a [u8], tokens: &'a [u64], l: u64, values: &mut [u64])
+fn assign_line(tape: &[u8], tokens: &[u64], l: u64, values: &mut [u64])
     requires { Holds tape.now tape.now tokens.now × Begun tape.now tokens.now l
         × (2 * length tokens.now ≤ length values.old) }
     ensures { Assigned (tokens_of tape.now tape.now (part_of tokens.now l))
@@ -162,7 +155,7 @@ fn assign_line<'a>(tape: &'a [u8], tokens: &'a [u64], l: u64, values: &mut [u64]
 }
 
 // What a line that returns is worth.
-fn returned<'a>(tape: &'a [u8], tokens: &'a [u64], values: &'a [u64], l: u64) -> Pair
+fn returned(tape: &[u8], tokens: &[u64], values: &[u64], l: u64) -> Pair
     requires { Begun tape.now tokens.now l × (2 * length tokens.now ≤ length values.now) }
     ensures { Returned (tokens_of tape.now tape.now (part_of tokens.now l))
         (tokens_of tape.now tape.now tokens.now) values.now (pair_of result) }
@@ -182,7 +175,7 @@ fn returned<'a>(tape: &'a [u8], tokens: &'a [u64], values: &'a [u64], l: u64) ->
 // ---- the whole formula
 
 // What a listing in the profile returns, the table having what each token is worth at the start.
-fn run<'a>(tape: &'a [u8], tokens: &'a [u64], lines: &'a [u64], values: &mut [u64]) -> Pair
+fn run(tape: &[u8], tokens: &[u64], lines: &[u64], values: &mut [u64]) -> Pair
     requires { Profiled tape.now tokens.now lines.now × (2 * length tokens.now ≤ length values.old) }
     ensures { (reading : Reading) (σ : Text → Values.Pair) → Priced σ (tokens_of tape.now tape.now tokens.now) values.old
         → execute affine σ (listing_read tape.now tape.now tokens.now reading lines.now) ≡ some (pair_of result) }
@@ -195,13 +188,7 @@ fn run<'a>(tape: &'a [u8], tokens: &'a [u64], lines: &'a [u64], values: &mut [u6
 }
 
 // The pair of a formula: what it returns where the chosen register starts with v, for every v.
-pub fn reckon<'a>(
-    tape: &'a [u8],
-    tokens: &'a [u64],
-    lines: &'a [u64],
-    chosen: &'a [u8],
-    list: &'a [u8],
-) -> Pair
+pub fn reckon(tape: &[u8], tokens: &[u64], lines: &[u64], chosen: &[u8], list: &[u8]) -> Pair
     requires { Profiled tape.now tokens.now lines.now × (length tokens.now ≤ 1024) }
     ensures { (reading : Reading) (es : List Entry) → entries list.now ≡ some es
         → returned_pair chosen.now es (listing_read tape.now tape.now tokens.now reading lines.now) ≡ some (pair_of result) }

@@ -17,6 +17,19 @@ use Rattle.states.proofs.Puts.{part-before, part-behind, part-from, front_of}
 
 -- ---- the numbers
 
+-- as the code has them
+pub cell_is : 65536 ≡ CELL
+unfolding CELL
+cell_is = refl
+
+pub store_is : 524288 ≡ STORE
+unfolding STORE
+store_is = refl
+
+pub most_is : 65523 ≡ ROOM
+unfolding ROOM
+most_is = refl
+
 pub cell-ends : (i : ℕ) → i < 8 → i * CELL + CELL ≤ STORE
 unfolding CELL STORE
 cell-ends i h = omega arith

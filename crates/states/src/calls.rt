@@ -1,6 +1,7 @@
 // The three calls.
 ghost use Rattle.std.specs.Prelude.{◌≡◌, true, ◌∷◌, ◌++◌, ◌+◌, ◌*◌, ◌≤◌, leb, length, drop, set};
 ghost use Rattle.reference.specs.Control.{◌and◌};
+ghost use Rattle.text.specs.Cursor.{Fits, Puts};
 ghost use Rattle.tape.specs.Bytes.{put};
 ghost use Rattle.states.specs.Store.{CELL, STORE, ROOM, cell, length_of, tape_of};
 ghost use Rattle.states.specs.Calls.{opened, held_cell, spot_for, save_reply, restore_reply, body};
@@ -8,10 +9,9 @@ ghost use Rattle.answers.specs.Answers.{answer_of, Writes};
 ghost use Rattle.states.specs.Answers.{cell_of, spot_of, opened_of, Saves, Deletes, InStore};
 
 use crate::cells::{cell_start, free_cell, held_tape, named, wrong_cell};
-use crate::sizes::{room_bytes, store_bytes};
+use crate::sizes::{ROOM_BYTES, STORE_BYTES};
 use answers::{Answer, Reason, Refusal};
-use tape::little_endian::put_number;
-use text::copy_bytes;
+use text::{Cursor, copy_bytes};
 
 // The cell that a tape is saved in: the one that is held under the name, or the first free one.
 #[derive(Clone, Copy, Debug, PartialEq, Eq)]
@@ -51,18 +51,19 @@ fn place_for(store: &[u8], name: &[u8]) -> Result<Placed, Refusal>
 fn save_place(store: &[u8], name: &[u8], tape: &[u8]) -> Result<Placed, Refusal>
     ensures { spot_of result ≡ save_reply store.now name.now tape.now }
 {
-    opened(store, store_bytes() <= store.len())?;
+    opened(store, STORE_BYTES <= store.len())?;
     tape::check::<false>(tape)?;
     place_for(store, name)
 }
 
-// Writes the length and the bytes of a tape from `at` on.
-fn write_body(store: &mut [u8], at: usize, tape: &[u8])
-    requires { (at + 4 + length tape.now ≤ length store.old) × (length tape.now ≤ ROOM) }
-    ensures { store.new ≡ put store.old at (body tape.now) }
+// Puts the length and the bytes of a tape.
+fn put_body(tape: &[u8], out: &mut Cursor)
+    requires { Fits out.old (4 + length tape.now) }
+    ensures { Puts out.old (body tape.now) out.new }
 {
-    put_number(tape.len() as u64, 4, store, at);
-    copy_bytes(tape, store, at + 4);
+    // Kept: there is no `From` from usize to u64, and `try_from` has a branch that no length takes.
+    out.put_le(tape.len() as u64, 4);
+    out.put(tape);
 }
 
 // Replaces the tape of the cell i.
@@ -70,7 +71,8 @@ fn replace(store: &mut [u8], i: usize, tape: &[u8])
     requires { InStore store.old i × (length tape.now ≤ ROOM) }
     ensures { store.new ≡ put store.old (i * CELL + 9) (body tape.now) }
 {
-    write_body(store, cell_start(i) + 9, tape);
+    let mut out = Cursor::new(store, cell_start(i) + 9);
+    put_body(tape, &mut out);
 }
 
 // Takes the cell i for a name and its tape.
@@ -78,10 +80,10 @@ fn take(store: &mut [u8], i: usize, name: &[u8], tape: &[u8])
     requires { InStore store.old i × (length name.now ≡ 8) × (length tape.now ≤ ROOM) }
     ensures { store.new ≡ put store.old (i * CELL) (1 ∷ name.now ++ body tape.now) }
 {
-    let at = cell_start(i);
-    store[at] = 1;
-    copy_bytes(name, store, at + 1);
-    write_body(store, at + 9, tape);
+    let mut out = Cursor::new(store, cell_start(i));
+    out.put_byte(1);
+    out.put(name);
+    put_body(tape, &mut out);
 }
 
 fn save_named(store: &mut [u8], name: &[u8], tape: &[u8]) -> Answer
@@ -108,7 +110,7 @@ pub fn save(store: &mut [u8], name: &[u8; 8], tape: &[u8]) -> Answer
 fn has_room(store: usize, out: usize) -> bool
     ensures { result ≡ (leb STORE store and leb ROOM out) }
 {
-    store_bytes() <= store && room_bytes() <= out
+    STORE_BYTES <= store && ROOM_BYTES <= out
 }
 
 // The cell that is held under a name, as an answer: its number, or 20.
@@ -132,7 +134,7 @@ fn release(store: &mut [u8], at: usize)
 pub fn delete(store: &mut [u8], name: &[u8; 8]) -> Answer
     ensures { Deletes store.old name.now store.new (answer_of result) }
 {
-    let i = held(store, store_bytes() <= store.len(), name)?;
+    let i = held(store, STORE_BYTES <= store.len(), name)?;
     release(store, cell_start(i));
     Ok(0)
 }
@@ -155,5 +157,6 @@ pub fn restore(store: &[u8], name: &[u8; 8], out: &mut [u8]) -> Answer
     ensures { Writes (restore_reply store.now name.now (length out.old)) out.old out.new (answer_of result) }
 {
     let i = held(store, has_room(store.len(), out.len()), name)?;
+    // Kept: there is no `From` from usize to u64, and `try_from` has a branch that no length takes.
     Ok(copy_out(store, i, out) as u64)
 }

@@ -6,7 +6,7 @@ ghost use Rattle.states.specs.Store.{CELL, STORE, ROOM, cell, name_of, length_of
 ghost use Rattle.states.specs.Store.{is_free, holds, named, free_cell, is_wrong, wrong_cell};
 ghost use Rattle.states.specs.Answers.{InStore};
 
-use crate::sizes::{cell_bytes, room_bytes};
+use crate::sizes::{CELL_BYTES, ROOM_BYTES};
 use tape::little_endian::number_at;
 use text::same;
 
@@ -15,7 +15,7 @@ pub fn cell_start(i: usize) -> usize
     requires { i < 8 }
     ensures { result ≡ i * CELL }
 {
-    i * cell_bytes()
+    i * CELL_BYTES
 }
 
 pub fn cell_at(store: &[u8], i: usize) -> &[u8]
@@ -23,7 +23,7 @@ pub fn cell_at(store: &[u8], i: usize) -> &[u8]
     ensures { result.now ≡ cell store.now i }
 {
     let at = cell_start(i);
-    &store[at..at + cell_bytes()]
+    &store[at..at + CELL_BYTES]
 }
 
 // ---- one cell
@@ -35,11 +35,12 @@ fn cell_name(cell: &[u8]) -> &[u8]
     &cell[1..9]
 }
 
-fn cell_length(cell: &[u8]) -> u64
+fn cell_length(cell: &[u8]) -> usize
     requires { 13 ≤ length cell.now }
     ensures { result ≡ length_of cell.now }
 {
-    number_at(cell, 9, 4)
+    // Kept: there is no `From` from u64 to usize, and `try_from` has a branch that no number of four bytes takes.
+    number_at(cell, 9, 4) as usize
 }
 
 fn holds(cell: &[u8], name: &[u8]) -> bool
@@ -94,10 +95,10 @@ fn is_taken(store: &[u8], i: usize, name: &[u8]) -> bool
 }
 
 // Whether a length is more than a cell has room for.
-fn is_long(n: u64) -> bool
+fn is_long(n: usize) -> bool
     ensures { result ≡ ltb ROOM n }
 {
-    (room_bytes() as u64) < n
+    ROOM_BYTES < n
 }
 
 fn is_wrong(store: &[u8], i: usize) -> bool
@@ -131,5 +132,5 @@ pub fn held_tape(store: &[u8], i: usize) -> &[u8]
     ensures { result.now ≡ tape_of (cell store.now i) }
 {
     let cell = cell_at(store, i);
-    &cell[13..13 + cell_length(cell) as usize]
+    &cell[13..13 + cell_length(cell)]
 }

@@ -64,7 +64,8 @@ hex_same r plain e =
     sym (behind_0x_alike r plus (no_quote 16 no_quote_16 r (row 16 r plus digits.1))) ∙ e
 
 decimal_is : (s : Text) → starts_with s (bytes "-") ≡ false → starts_with s (bytes "0x") ≡ false
-    → parse_c_number s ≡ (let_some (let_some (unsigned 10 (let_some (strip_prefix (bytes "+") s) else s then λ r. r)) else none then λ n. when ltb n (2 ^ 63) then some (pos n) else none) else none then λ n. some n)
+    → parse_c_number s ≡ (let_some (let_some (unsigned 10 (let_some (strip_prefix (bytes "+") s) else s then λ r. r)) else none then λ n. when ltb n (2 ^ 63) then some (pos n) else none) else
+    none then λ n. some n)
 unfolding parse_c_number read_i64 when◌then◌else◌ let_some◌else◌then◌
 decimal_is s m x = rw (no_prefix (bytes "-") s m, m, no_prefix (bytes "0x") s x) (rw (no_prefix (bytes "-") s m))
 

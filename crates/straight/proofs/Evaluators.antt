@@ -272,7 +272,8 @@ module _ (σ : Store) where
   unfolding let_some◌else◌then◌
   further_ok xs v f ys k fuel none g h more = λ u e. h u (sym (g.same v k) ∙ e)
   further_ok xs v f ys k fuel (some r) g h more =
-      sums-from xs v r.1 (combine modulo f v r.0) k (further modulo σ fuel (combine modulo f v r.0) r.1) (g.same v k ∙ h.0 ∙ ap (λ (n : ℕ). run-lexemes r.1 (holds n k)) (waited f v r.0)) (omega (arith, g.less, h.1)) (more r h.1)
+      sums-from xs v r.1 (combine modulo f v r.0) k (further modulo σ fuel (combine modulo f v r.0) r.1) (g.same v k ∙ h.0 ∙ ap (λ (n : ℕ). run-lexemes r.1 (holds n k)) (waited f v r.0))
+      (omega (arith, g.less, h.1)) (more r h.1)
 
   expression-from : (xs : List Lexeme) (k : List Pending) (fuel : ℕ) (o : Option Read) → TermOk xs first k o
       → ((r : Read) → length r.1 < length xs → SumsOk r.0 r.1 k (further modulo σ fuel r.0 r.1))

@@ -25,7 +25,7 @@ use Rattle.tables.specs.declared.loading.LoadState.{LoadState}
 use Rattle.tables.specs.declared.loading.LoadStep.{LoadStep}
 
 abbrev pub blank : LineRecord
-blank = record { address = std.None; indent = 0; first = 0; count = 0; low = 0; high = 0 }
+blank = record { address = std.None; indent = 0; first = 0; count = 0; marks = record { low = 0; high = 0 } }
 
 -- ---- a record and the line that it means
 
@@ -34,7 +34,7 @@ address_of r = option_of r.address
 
 -- the two numbers that its marks are
 abbrev pub pair_of : LineRecord → Pair
-pair_of r = (r.low, r.high)
+pair_of r = (r.marks.low, r.marks.high)
 
 -- the token words of its line
 abbrev pub part_at : List ℕ → LineRecord → List ℕ
@@ -57,8 +57,7 @@ record_of addresses lows highs l =
       indent = indent_of l;
       first = first_of l;
       count = count_of l;
-      low = get_or lows (origin_of l) 0;
-      high = get_or highs (origin_of l) 0;
+      marks = record { low = get_or lows (origin_of l) 0; high = get_or highs (origin_of l) 0 };
     }
 
 abbrev pub records_of : List ℕ → List ℕ → List ℕ → List ℕ → List LineRecord
@@ -119,9 +118,10 @@ pub record Recorded (tape tokens : List ℕ) (records : List LineRecord) (r : To
 -- the record that the command at hand is about, `line` being the record of the last line
 abbrev pub line_after : Command → Totals → LineRecord → LineRecord
 line_after (Addressed address indent) t line =
-    record { address = std.Some address; indent = indent; first = t.tokens; count = 0; low = address; high = address }
-line_after (Plain indent) t line = record { address = std.None; indent = indent; first = t.tokens; count = 0; low = TOP; high = 0 }
-line_after (Marked low high) t line = record line { low = min line.low low; high = max line.high high }
+    record { address = std.Some address; indent = indent; first = t.tokens; count = 0; marks = record { low = address; high = address } }
+line_after (Plain indent) t line =
+    record { address = std.None; indent = indent; first = t.tokens; count = 0; marks = record { low = TOP; high = 0 } }
+line_after (Marked low high) t line = record line { marks = record { low = min line.marks.low low; high = max line.marks.high high } }
 line_after (Token kind count) t line = record line { count = line.count + 1 }
 line_after End t line = line
 

@@ -1,14 +1,18 @@
 // The listing of an accepted tape, in tables: a word for each token and each line, and by the number of the line its address and its marks.
 // All texts are parts of the tape. The lines are laid as records first; the line words are made of them.
+// Kept: the tables that are filled stay parameters of their own. A struct of lent slices would be no plainer: each contract would have to
+// say, besides, that it still lends the same slices.
 ghost use Rattle.std.specs.Prelude.{◌≡◌, ◌≤◌, length};
 ghost use Rattle.lines.specs.Words.{Recodes};
 ghost use Rattle.tape.specs.Questions.{AcceptedTape};
 ghost use Rattle.tables.specs.Records.{Fitting, Holding, Marking, Recorded, line_after, place_after, start_of, TakesToken, Grows};
 ghost use Rattle.tables.specs.Records.{Ready, Loads};
 ghost use Rattle.tables.specs.Tables.{tokens_after, Loaded, LoadedMarks};
+ghost use Rattle.lines.specs.Marks.{highs_of, lows_of};
 
-use crate::records::{BLANK, LineRecord, TOP, line_at, store_line};
+use crate::records::{BLANK, LineRecord, NO_MARKS, line_at, store_line};
 use lines::codes::coded;
+use lines::marks::Marks;
 use lines::words::{IN_TAPE, line_word, token_word};
 use tape::commands::{Command, size_of};
 use tape::questions::{NONE, Totals, count_in};
@@ -52,20 +56,23 @@ fn record_after(command: Command, totals: Totals, line: LineRecord) -> LineRecor
             indent,
             first: totals.tokens,
             count: 0,
-            low: address,
-            high: address,
+            marks: Marks {
+                low: address,
+                high: address,
+            },
         },
         Command::Plain { indent } => LineRecord {
             address: None,
             indent,
             first: totals.tokens,
             count: 0,
-            low: TOP,
-            high: 0,
+            marks: NO_MARKS,
         },
         Command::Marked { low, high } => LineRecord {
-            low: line.low.min(low),
-            high: line.high.max(high),
+            marks: Marks {
+                low: line.marks.low.min(low),
+                high: line.marks.high.max(high),
+            },
             ..line
         },
         Command::Token { .. } => LineRecord {
@@ -139,29 +146,16 @@ pub fn fill(tape: &[u8], tokens: &mut [u64], lines: &mut [LineRecord]) -> Totals
 }
 
 // Writes the words, the addresses and the marks of the records into the tables.
-fn spread(
-    records: &[LineRecord],
-    lines: &mut [u64],
-    addresses: &mut [u64],
-    lows: &mut [u64],
-    highs: &mut [u64],
-)
+fn spread(records: &[LineRecord], lines: &mut [u64], addresses: &mut [u64], marks: &mut [Marks])
     requires { (length records.now ≤ 256) × Fitting records.now (length records.now) × (256 ≤ length lines.old)
-        × (256 ≤ length addresses.old) × (256 ≤ length lows.old) × (256 ≤ length highs.old) }
+        × (256 ≤ length addresses.old) × (256 ≤ length marks.old) }
     ensures { Holding records.now (length records.now) lines.new addresses.new
-        × Marking records.now (length records.now) lows.new highs.new }
+        × Marking records.now (length records.now) (lows_of marks.new) (highs_of marks.new) }
 {
     for (k, r) in records.iter().enumerate() {
-        lines[k] = line_word(
-            r.first,
-            r.count,
-            r.indent,
-            u64::from(r.address.is_some()),
-            k,
-        );
+        lines[k] = line_word(r.first, r.count, r.indent, r.address.is_some(), k);
         addresses[k] = r.address.unwrap_or(0);
-        lows[k] = r.low;
-        highs[k] = r.high;
+        marks[k] = r.marks;
     }
 }
 
@@ -172,18 +166,17 @@ fn tabled(
     tokens: &mut [u64],
     lines: &mut [u64],
     addresses: &mut [u64],
-    lows: &mut [u64],
-    highs: &mut [u64],
+    marks: &mut [Marks],
 ) -> Totals
     requires accepted_tape { AcceptedTape tape.now }
     requires in_bounds { (1024 ≤ length tokens.old) × (256 ≤ length lines.old) × (256 ≤ length addresses.old)
-        × (256 ≤ length lows.old) × (256 ≤ length highs.old) }
+        × (256 ≤ length marks.old) }
     ensures { Loaded tape.now tokens.new lines.new addresses.new result
-        × LoadedMarks tape.now lines.new lows.new highs.new result }
+        × LoadedMarks tape.now lines.new (lows_of marks.new) (highs_of marks.new) result }
 {
     let mut records = [BLANK; 256];
     let totals = fill(tape, tokens, &mut records);
-    spread(&records[..totals.lines], lines, addresses, lows, highs);
+    spread(&records[..totals.lines], lines, addresses, marks);
     totals
 }
 
@@ -203,16 +196,15 @@ pub fn load(
     tokens: &mut [u64],
     lines: &mut [u64],
     addresses: &mut [u64],
-    lows: &mut [u64],
-    highs: &mut [u64],
+    marks: &mut [Marks],
 ) -> Totals
     requires accepted_tape { AcceptedTape tape.now }
     requires in_bounds { (1024 ≤ length tokens.old) × (256 ≤ length lines.old) × (256 ≤ length addresses.old)
-        × (256 ≤ length lows.old) × (256 ≤ length highs.old) }
+        × (256 ≤ length marks.old) }
     ensures { Loaded tape.now tokens.new lines.new addresses.new result
-        × LoadedMarks tape.now lines.new lows.new highs.new result }
+        × LoadedMarks tape.now lines.new (lows_of marks.new) (highs_of marks.new) result }
 {
-    let totals = tabled(tape, tokens, lines, addresses, lows, highs);
+    let totals = tabled(tape, tokens, lines, addresses, marks);
     code_first(tape, tokens, totals.tokens);
     totals
 }

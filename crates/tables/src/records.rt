@@ -2,22 +2,24 @@
 ghost use Rattle.std.specs.Prelude.{◌≡◌, ◌<◌, length, get_or, set};
 ghost use Rattle.tables.specs.Records.{blank};
 
-// Where there are no marks, the highest number there is stands as the lowest address, and 0 as the highest: so marks join by minimum and
-// maximum.
-// Kept: in a record too the marks are such a pair, as in the tables that it is spread to, where an `Option` would be taken apart and put
-// together again at each read.
-pub const TOP: u64 = u64::MAX;
+use lines::marks::Marks;
 
-// A line: its address if it has one, its indent, its tokens, `count` of them from `first` on, and its marks, the lowest and the highest
-// address.
+// The marks of a line that has none: a lowest above the highest.
+// Kept: an `Option` would be no plainer: marks join by minimum and maximum, here and in crate join, where it would take a match of the
+// cases.
+pub const NO_MARKS: Marks = Marks {
+    low: u64::MAX,
+    high: 0,
+};
+
+// A line: its address if it has one, its indent, its tokens, `count` of them from `first` on, and its marks.
 #[derive(Clone, Copy, Debug, PartialEq, Eq)]
 pub struct LineRecord {
     pub address: Option<u64>,
     pub indent: u64,
     pub first: usize,
     pub count: usize,
-    pub low: u64,
-    pub high: u64,
+    pub marks: Marks,
 }
 
 // What stands in an array of records before they are laid.
@@ -26,8 +28,7 @@ pub const BLANK: LineRecord = LineRecord {
     indent: 0,
     first: 0,
     count: 0,
-    low: 0,
-    high: 0,
+    marks: Marks { low: 0, high: 0 },
 };
 
 // The record at an index.

@@ -1,228 +1,158 @@
-// The tape of a listing and of its lines' marks. Each function writes its bytes into `out` from `at` on and says where they end; what is
-// before and behind them stays. The lines go through records, a page of at most 256 at a time.
+// The tape of a listing and of its lines' marks, put into a lent slice. The lines go through records, a page of at most 256 at a time.
 ghost use Rattle.std.specs.Prelude.{◌≡◌, ◌+◌, ◌≤◌, ◌<◌, length, get_or};
 ghost use Rattle.std.proofs.Math.Option.{none, some};
 ghost use Rattle.std.proofs.Math.Seq.{paste};
 ghost use Rattle.reference.specs.Listing.{token};
 ghost use Rattle.reference.specs.Tape as Tape;
-ghost use Rattle.lines.specs.Words.{tokens_of, Holds};
 ghost use Rattle.joining.specs.Carried.{marks_of};
-ghost use Rattle.lines.specs.Lines.{listing_of, Listed};
-ghost use Rattle.tape.specs.Bytes.{Puts};
+ghost use Rattle.lines.specs.Lines.{listing_of};
+ghost use Rattle.text.specs.Cursor.{Fits, Puts};
 ghost use Rattle.tables.specs.Tables.{marks_for};
-ghost use Rattle.tables.specs.Records.{line_of, pair_of, record_of, records_of, Sound};
-ghost use Rattle.tables.specs.Writing.{token_bytes, line_bytes, tokens_bytes, lines_bytes, recorded, paged, Writes, Wrote};
+ghost use Rattle.tables.specs.Records.{record_of, records_of, Sound};
+ghost use Rattle.tables.specs.Writing.{token_bytes, line_bytes, tokens_bytes, lines_bytes, whole_line, marked_of};
+ghost use Rattle.tables.specs.Writing.{recorded, paged_in, Writes, Wrote};
+ghost use Rattle.lines.specs.Texts.{Holds, Listed, tokens_of};
+ghost use Rattle.lines.specs.Marks.{highs_of, lows_of};
 
 use crate::records::{BLANK, LineRecord, store_line};
+use lines::marks::Marks;
+use lines::texts::{Listing, Texts};
 use lines::words::{addressed, count, first, indent, kind, origin, text};
-use tape::little_endian::put_number;
-use text::copy_bytes;
+use text::Cursor;
 
 // ---- one line
 
-// Writes the command of a line with an address.
-fn put_addressed(address: u64, indent: u64, out: &mut [u8], at: usize) -> usize
-    requires { (indent < 256) × (at + 10 ≤ length out.old) }
-    ensures { Puts out.old at (Tape.write_command (Tape.new_line (some address) indent)) out.new result }
-{
-    out[at] = 1;
-    put_number(address, 8, out, at + 1);
-    out[at + 9] = indent as u8;
-    at + 10
-}
-
-// Writes the command of a line without an address.
-fn put_plain(indent: u64, out: &mut [u8], at: usize) -> usize
-    requires { (indent < 256) × (at + 2 ≤ length out.old) }
-    ensures { Puts out.old at (Tape.write_command (Tape.new_line none indent)) out.new result }
-{
-    out[at] = 2;
-    out[at + 1] = indent as u8;
-    at + 2
-}
-
-// Writes a line's command.
-fn put_line(line: LineRecord, out: &mut [u8], at: usize) -> usize
-    requires { (line.indent < 256) × (at + length (line_bytes line) ≤ length out.old) }
-    ensures { Puts out.old at (line_bytes line) out.new result }
+// Puts a line's command.
+fn put_line(line: LineRecord, out: &mut Cursor<'_>)
+    requires { (line.indent < 256) × Fits out.old (length (line_bytes line)) }
+    ensures { Puts out.old (line_bytes line) out.new }
 {
     match line.address {
-        Some(address) => put_addressed(address, line.indent, out, at),
-        None => put_plain(line.indent, out, at),
+        Some(address) => {
+            out.put_byte(1);
+            out.put_le(address, 8);
+        }
+        None => out.put_byte(2),
+    }
+    out.put_le(line.indent, 1);
+}
+
+// Puts the command of marks, if there are any.
+fn put_marks(marks: Marks, out: &mut Cursor<'_>)
+    requires { Fits out.old (length (Tape.write_marks (marks_of (marks.low, marks.high)))) }
+    ensures { Puts out.old (Tape.write_marks (marks_of (marks.low, marks.high))) out.new }
+{
+    if marks.low <= marks.high {
+        out.put_byte(3);
+        out.put_le(marks.low, 8);
+        out.put_le(marks.high, 8);
     }
 }
 
-// Writes the command of marks.
-fn put_marked(low: u64, high: u64, out: &mut [u8], at: usize) -> usize
-    requires { at + 17 ≤ length out.old }
-    ensures { Puts out.old at (Tape.write_command (Tape.marked (record { lowest = low; highest = high })))
-        out.new result }
+// Puts a token's command.
+fn put_token(kind: u64, s: &[u8], out: &mut Cursor<'_>)
+    requires { (kind < 8) × Fits out.old (3 + length s.now) }
+    ensures { Puts out.old (token_bytes (token kind s.now)) out.new }
 {
-    out[at] = 3;
-    put_number(low, 8, out, at + 1);
-    put_number(high, 8, out, at + 9);
-    at + 17
+    out.put_le(16 + kind, 1);
+    out.put(&s.len().to_le_bytes()[..2]);
+    out.put(s);
 }
 
-// Writes a line's marks, if there are any.
-fn put_marks(low: u64, high: u64, out: &mut [u8], at: usize) -> usize
-    requires { at + length (Tape.write_marks (marks_of (low, high))) ≤ length out.old }
-    ensures { Puts out.old at (Tape.write_marks (marks_of (low, high))) out.new result }
+// Puts the commands of a line's tokens.
+fn put_tokens(texts: &Texts<'_>, ws: &[u64], out: &mut Cursor<'_>)
+    requires holds { Holds texts.now ws.now }
+    requires ws_in_bounds { Fits out.old (length (tokens_bytes (tokens_of texts.now ws.now))) }
+    ensures { Puts out.old (tokens_bytes (tokens_of texts.now ws.now)) out.new }
 {
-    if high < low {
-        return at;
-    }
-    put_marked(low, high, out, at)
-}
-
-// Writes a token's command.
-fn put_token(kind: u64, s: &[u8], out: &mut [u8], at: usize) -> usize
-    requires { (kind < 8) × (at + 3 + length s.now ≤ length out.old) }
-    ensures { Puts out.old at (token_bytes (token kind s.now)) out.new result }
-{
-    out[at] = (16 + kind) as u8;
-    put_number(s.len() as u64, 2, out, at + 1);
-    copy_bytes(s, out, at + 3);
-    at + 3 + s.len()
-}
-
-// Writes the commands of a line's tokens.
-fn put_tokens(tape: &[u8], area: &[u8], ws: &[u64], out: &mut [u8], at: usize) -> usize
-    requires holds { Holds tape.now area.now ws.now }
-    requires ws_in_bounds { at + length (tokens_bytes (tokens_of tape.now area.now ws.now)) ≤ length out.old }
-    ensures { Puts out.old at (tokens_bytes (tokens_of tape.now area.now ws.now)) out.new result }
-{
-    let mut to = at;
     for w in ws {
-        to = put_token(kind(*w), text(tape, area, *w), out, to);
+        put_token(kind(*w), text(texts, *w), out);
     }
-    to
 }
 
-// Writes a line.
-fn put_whole_line(
-    tape: &[u8],
-    area: &[u8],
-    tokens: &[u64],
-    line: LineRecord,
-    out: &mut [u8],
-    at: usize,
-) -> usize
-    requires { Sound tape.now area.now tokens.now line
-        × (at + length (Tape.write_line (line_of tape.now area.now tokens.now line) (marks_of (pair_of line))) ≤ length out.old) }
-    ensures { Puts out.old at (Tape.write_line (line_of tape.now area.now tokens.now line) (marks_of (pair_of line)))
-        out.new result }
+// Puts a line.
+fn put_whole_line(texts: &Texts<'_>, tokens: &[u64], line: LineRecord, out: &mut Cursor<'_>)
+    requires { Sound texts.now.tape.now texts.now.area.now tokens.now line
+        × Fits out.old (length (whole_line (marked_of texts.now.tape.now texts.now.area.now tokens.now line))) }
+    ensures { Puts out.old (whole_line (marked_of texts.now.tape.now texts.now.area.now tokens.now line)) out.new }
 {
-    let marks = put_line(line, out, at);
-    let to = put_marks(line.low, line.high, out, marks);
-    put_tokens(
-        tape,
-        area,
-        &tokens[line.first..line.first + line.count],
-        out,
-        to,
-    )
+    put_line(line, out);
+    put_marks(line.marks, out);
+    put_tokens(texts, &tokens[line.first..line.first + line.count], out);
 }
 
 // ---- a page: the records of its lines, and their bytes
 
 // The record of the line word at an index.
 #[tactic(auto, using(lines::proofs::words::Lines::origin_below))]
-fn record_of(lines: &[u64], addresses: &[u64], lows: &[u64], highs: &[u64], at: usize) -> LineRecord
-    requires { (at < length lines.now) × (256 ≤ length addresses.now) × (256 ≤ length lows.now) × (256 ≤ length highs.now) }
-    ensures { result ≡ record_of addresses.now lows.now highs.now (get_or lines.now at 0) }
+fn record_of(lines: &[u64], addresses: &[u64], marks: &[Marks], at: usize) -> LineRecord
+    requires { (at < length lines.now) × (256 ≤ length addresses.now) × (256 ≤ length marks.now) }
+    ensures { result ≡ record_of addresses.now (lows_of marks.now) (highs_of marks.now) (get_or lines.now at 0) }
 {
     let l = lines[at];
     let k = origin(l);
     let address = addresses[k];
-    let low = lows[k];
-    let high = highs[k];
     LineRecord {
-        address: (addressed(l) == 1).then_some(address),
+        address: addressed(l).then_some(address),
         indent: indent(l),
         first: first(l),
         count: count(l),
-        low,
-        high,
+        marks: marks[k],
     }
 }
 
 // Stores the records of the line words, from the first place on.
-fn gather(lines: &[u64], addresses: &[u64], lows: &[u64], highs: &[u64], records: &mut [LineRecord])
-    requires { (length lines.now ≤ length records.old) × (256 ≤ length addresses.now) × (256 ≤ length lows.now)
-        × (256 ≤ length highs.now) }
-    ensures { records.new ≡ paste records.old 0 (records_of addresses.now lows.now highs.now lines.now)
+fn gather(lines: &[u64], addresses: &[u64], marks: &[Marks], records: &mut [LineRecord])
+    requires { (length lines.now ≤ length records.old) × (256 ≤ length addresses.now) × (256 ≤ length marks.now) }
+    ensures { records.new ≡ paste records.old 0 (records_of addresses.now (lows_of marks.now) (highs_of marks.now) lines.now)
         (length lines.now) }
 {
     for k in 0..lines.len() {
-        store_line(records, k, record_of(lines, addresses, lows, highs, k));
+        store_line(records, k, record_of(lines, addresses, marks, k));
     }
 }
 
-// Writes the lines of the records.
-fn put_records(
-    tape: &[u8],
-    area: &[u8],
-    tokens: &[u64],
-    records: &[LineRecord],
-    out: &mut [u8],
-    at: usize,
-) -> usize
-    requires { Writes tape.now area.now tokens.now records.now out.old at }
-    ensures { Puts out.old at (lines_bytes (recorded tape.now area.now tokens.now records.now)) out.new result }
+// Puts the lines of the records.
+fn put_records(texts: &Texts<'_>, tokens: &[u64], records: &[LineRecord], out: &mut Cursor<'_>)
+    requires { Writes texts.now.tape.now texts.now.area.now tokens.now records.now out.old }
+    ensures { Puts out.old (lines_bytes (recorded texts.now.tape.now texts.now.area.now tokens.now records.now)) out.new }
 {
-    let mut to = at;
     for line in records {
-        to = put_whole_line(tape, area, tokens, *line, out, to);
+        put_whole_line(texts, tokens, *line, out);
     }
-    to
 }
 
-// Writes the lines. Their records are an array of the call's own, lent to `gather` and then to `put_records`.
-fn put_lines(
-    tape: &[u8],
-    area: &[u8],
-    tokens: &[u64],
-    lines: &[u64],
-    addresses: &[u64],
-    lows: &[u64],
-    highs: &[u64],
-    out: &mut [u8],
-    at: usize,
-) -> usize
-    requires { Listed tape.now area.now tokens.now lines.now × (length lines.now ≤ 256)
-        × (256 ≤ length addresses.now) × (256 ≤ length lows.now) × (256 ≤ length highs.now)
-        × (at + length (lines_bytes (paged tape.now area.now tokens.now addresses.now lows.now highs.now lines.now))
-        ≤ length out.old) }
-    ensures { Puts out.old at (lines_bytes (paged tape.now area.now tokens.now addresses.now lows.now highs.now
-        lines.now)) out.new result }
+// Puts the lines. Their records are an array of the call's own, lent to `gather` and then to `put_records`.
+fn put_lines(listing: &Listing<'_>, addresses: &[u64], marks: &[Marks], out: &mut Cursor<'_>)
+    requires { Listed listing.now × (length listing.now.lines.now ≤ 256) × (256 ≤ length addresses.now) × (256 ≤ length marks.now)
+        × Fits out.old (length (lines_bytes (paged_in listing.now addresses.now marks.now))) }
+    ensures { Puts out.old (lines_bytes (paged_in listing.now addresses.now marks.now)) out.new }
 {
     let mut records = [BLANK; 256];
-    gather(lines, addresses, lows, highs, &mut records);
-    put_records(tape, area, tokens, &records[..lines.len()], out, at)
+    gather(listing.lines, addresses, marks, &mut records);
+    put_records(
+        &listing.texts,
+        listing.tokens,
+        &records[..listing.lines.len()],
+        out,
+    );
 }
 
 // ---- the whole tape
 
 // Writes the listing's tape to the front of `out`, and says how long it is.
-pub fn write(
-    tape: &[u8],
-    area: &[u8],
-    tokens: &[u64],
-    lines: &[u64],
-    addresses: &[u64],
-    lows: &[u64],
-    highs: &[u64],
-    out: &mut [u8],
-) -> usize
-    requires listed { Listed tape.now area.now tokens.now lines.now × (length lines.now ≤ 256) }
-    requires in_bounds { (256 ≤ length addresses.now) × (256 ≤ length lows.now) × (256 ≤ length highs.now) }
-    requires lines_in_bounds { length (Tape.write (listing_of tape.now area.now tokens.now addresses.now lines.now)
-        (marks_for lows.now highs.now lines.now)) ≤ length out.old }
-    ensures { Wrote (Tape.write (listing_of tape.now area.now tokens.now addresses.now lines.now)
-        (marks_for lows.now highs.now lines.now)) out.old out.new result }
+pub fn write(listing: &Listing<'_>, addresses: &[u64], marks: &[Marks], out: &mut [u8]) -> usize
+    requires listed { Listed listing.now × (length listing.now.lines.now ≤ 256) }
+    requires in_bounds { (256 ≤ length addresses.now) × (256 ≤ length marks.now) }
+    requires lines_in_bounds { length (Tape.write (listing_of listing.now.texts.tape.now listing.now.texts.area.now listing.now.tokens.now
+        addresses.now listing.now.lines.now)
+        (marks_for (lows_of marks.now) (highs_of marks.now) listing.now.lines.now)) ≤ length out.old }
+    ensures { Wrote (Tape.write (listing_of listing.now.texts.tape.now listing.now.texts.area.now listing.now.tokens.now addresses.now
+        listing.now.lines.now)
+        (marks_for (lows_of marks.now) (highs_of marks.now) listing.now.lines.now)) out.old out.new result }
 {
-    let at = put_lines(tape, area, tokens, lines, addresses, lows, highs, out, 0);
-    out[at] = 255;
-    at + 1
+    let mut out = Cursor::new(out, 0);
+    put_lines(listing, addresses, marks, &mut out);
+    out.put_byte(255);
+    out.at
 }

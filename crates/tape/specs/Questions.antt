@@ -1,12 +1,13 @@
 -- What the code's answers to the questions mean, and what an accepted tape is. Assumes nothing.
-use Rattle.std.specs.Prelude.{ℕ, ◌+◌, ◌≤◌, ◌<◌, ◌≡◌, Bool, true, false, List, [], ◌∷◌, length, Result}
+use Rattle.std.specs.Prelude.{ℕ, ◌+◌, ◌≤◌, ◌<◌, ◌≡◌, Bool, true, false, List, [], ◌∷◌, length, Result, Ok, Err, Option, Some, None}
 use Rattle.reference.specs.Control.{when◌then◌else◌}
 use Rattle.reference.specs.Listing.{Listing}
 use Rattle.reference.specs.Tape as Tape
+use Rattle.reference.specs.Tape.{TapeForm}
 use Rattle.reference.specs.Claim.{token_count, text}
 use Rattle.reference.specs.Questions as Q
 use Rattle.reference.specs.Questions.{has_line, is_within, is_few, is_short, is_printable, is_over}
-use Rattle.reference.specs.Questions.{place_at, Answer, Passed, ask, Advance, read}
+use Rattle.reference.specs.Questions.{place_at, Answer, Passed, ask, Advance, is_end, read_command_by, read}
 use Rattle.tape.specs.Commands.{command_in}
 use Rattle.tape.specs.declared.commands.Command.{Command}
 use Rattle.tape.specs.declared.commands.Command.TheVariants.{Addressed, Plain, Marked, Token, End}
@@ -77,6 +78,17 @@ advance_of tape at a = record { command = command_in tape at a.command; next = a
 
 abbrev pub stepped : List ℕ → ℕ → Result Code.Advance Refusal → Answer Advance
 stepped tape at = answered (advance_of tape at)
+
+-- a command passed the questions, and whether it is the end
+pub record ReadOne (form : TapeForm) (tape : List ℕ) (at : ℕ) (t : Q.Totals) (ended : Bool) (a : Advance) : Type 0 where
+  pub passes : Passed a ≡ read_command_by form tape at t
+  pub ends : is_end a.command ≡ ended
+
+-- the answer at an offset of a tape, none at the end
+abbrev pub SteppedOn : TapeForm → List ℕ → ℕ → Q.Totals → Result (Option Code.Advance) Refusal → Type 0
+SteppedOn form tape at t (Ok (Some a)) = ReadOne form tape at t false (advance_of tape at a)
+SteppedOn form tape at t (Ok None) = (a : Advance) × ReadOne form tape at t true a
+SteppedOn form tape at t (Err r) = stepped tape at (Err r) ≡ read_command_by form tape at t
 
 abbrev pub checked : Result Totals Refusal → Answer Sizes
 checked = answered sizes_of

@@ -9,7 +9,8 @@ use answers::{Reason, Refusal};
 
 // A command: a line, with an address or without; the marks of the line begun just before; a token of a kind, whose text has `count` bytes
 // and stands three bytes after the offset; the end.
-// Kept: a kind is the number 0 to 7 that it is in a token's word too (crate lines), where an enum would be turned back into it at each use.
+// Kept: a kind is the number 0 to 7, as in a tape's byte and in a token's word (crate lines). An enum would be no plainer: the loading and
+// the writing would turn it into that number, and `kind` of a word the number into it.
 #[derive(Clone, Copy, Debug, PartialEq, Eq)]
 pub enum Command {
     Addressed { address: u64, indent: u64 },
@@ -140,7 +141,7 @@ fn token_at<const BASED: bool>(tape: &[u8], at: usize) -> Result<Command, Refusa
     if left < 3 {
         return Err(Reason::CutOff.at(at));
     }
-    let count = number_at(tape, at + 1, 2) as usize;
+    let count = usize::from(u16::from_le_bytes([tape[at + 1], tape[at + 2]]));
     if left - 3 < count {
         return Err(Reason::CutOff.at(at)); // 4 also before any line
     }

@@ -11,7 +11,7 @@ ghost use Rattle.reference.specs.Steps.{FromHereBy};
 ghost use Rattle.answers.specs.Refusals.{refusing};
 ghost use Rattle.lines.specs.Rules.{rules_of};
 ghost use Rattle.tape.specs.Commands.{form_of, looked_at, command_in};
-ghost use Rattle.tape.specs.Questions.{first_no, said, asking, totals_of, sizes_in, Counts, counted, stepped, checked};
+ghost use Rattle.tape.specs.Questions.{first_no, said, asking, totals_of, sizes_in, Counts, counted, stepped, SteppedOn, checked};
 
 use crate::commands::{Command, header_of, size_of};
 use crate::reader::{command_at, token_text};
@@ -187,20 +187,33 @@ pub const NONE: Totals = Totals {
     fresh: false,
 };
 
+// Reads the command at an offset so; at FF there is none more.
+fn step_on<const BASED: bool>(
+    tape: &[u8],
+    at: usize,
+    totals: Totals,
+) -> Result<Option<Advance>, Refusal>
+    ensures { SteppedOn (form_of BASED) tape.now at (totals_of totals) result }
+{
+    let step = step::<BASED>(tape, at, totals)?;
+    Ok(if step.command.is_end() {
+        None
+    } else {
+        Some(step)
+    })
+}
+
 // Asks the questions of every command of a tape of either form.
 pub fn check<const BASED: bool>(tape: &[u8]) -> Result<Totals, Refusal>
     ensures { checked result ≡ (let_passed (read_by (form_of BASED) tape.now) then λ lines. Passed (sizes_in lines)) }
 {
     let mut at = header_of::<BASED>();
     let mut totals = NONE;
-    loop {
-        let step = step::<BASED>(tape, at, totals)?;
-        if step.command.is_end() {
-            return Ok(totals);
-        }
+    while let Some(step) = step_on::<BASED>(tape, at, totals)? {
         at = step.next;
         totals = step.totals;
     }
+    Ok(totals)
 }
 
 // ---- before the tape

@@ -49,6 +49,15 @@ struct Counts {
 
 // ---- the list
 
+// A number that is a length.
+fn size_at(list: &[u8], at: usize) -> usize
+    requires { at + 4 ≤ length list.now }
+{
+    // Kept: a cast: a `usize` holds four bytes wherever this is built, and `usize::try_from` is no plainer, since it asks what to do where
+    // it does not.
+    number_at(list, at, 4) as usize
+}
+
 // How many bytes the frame at the list's front has, where there is a whole one.
 fn size(list: &[u8]) -> Option<usize>
     ensures { IfSome result (λ n. (28 ≤ n) × (n ≤ length list.now)) }
@@ -56,7 +65,7 @@ fn size(list: &[u8]) -> Option<usize>
     if list.len() < HEADER {
         return None;
     }
-    let n = number_at(list, 0, 4) as usize;
+    let n = size_at(list, 0);
     if n < HEADER || list.len() < n {
         return None;
     }
@@ -68,8 +77,8 @@ fn numbers_of(list: &[u8]) -> Frame
 {
     Frame {
         up: number_at(list, 4, 4) == 1,
-        output: number_at(list, 8, 4) as usize,
-        tape: number_at(list, 12, 4) as usize,
+        output: size_at(list, 8),
+        tape: size_at(list, 12),
         refusal: number_at(list, 16, 4),
         place: number_at(list, 20, 4),
         value: number_at(list, 24, 4),
@@ -115,7 +124,7 @@ fn agrees(frame: &[u8], f: Frame) -> bool
     let Some((tape, rest)) = frame[HEADER..].split_at_checked(f.tape) else {
         return false;
     };
-    let Some((new, _)) = rest.split_at_checked(f.value as usize) else {
+    let Some((new, _)) = rest.split_at_checked(size_at(frame, 24)) else {
         return false;
     };
     does(f, tape, new, &mut [BEFORE; ROOM])

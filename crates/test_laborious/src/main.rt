@@ -45,7 +45,7 @@ fn sum(bytes: &[u8]) -> u64 {
 fn print_refusal(refusal: Refusal) {
     print(b"refused");
     print_number(refusal.reason.number());
-    print_number(refusal.place as u64);
+    print_number(refusal.place);
 }
 
 fn attempts(convention: u8, tape: &[u8]) {
@@ -88,8 +88,10 @@ fn print_answer(answer: Answer, out: &[u8]) {
     print(b", bytes");
     print_number(sum(out));
     if let Ok(n) = answer {
-        if n <= out.len() as u64 {
-            rounds(&out[..n as usize]);
+        // Kept: a cast: a `usize` holds 64 bits wherever this is built, and `usize::try_from` is no plainer, since it asks what to
+        // do where it does not.
+        if let Some(tape) = out.get(..n as usize) {
+            rounds(tape);
         }
     }
 }

@@ -3,7 +3,7 @@ use Prim.Native.Nat.{ℕ, ◌+◌, ◌≤◌, ◌<◌}
 use native.Mathlib.Omega.{arith}
 use mathlib.Core.Path.{◌≡◌, refl, sym, ap, ◌∙◌}
 use mathlib.Core.Bool.{Bool, true, false}
-use mathlib.Core.List.{[], ◌∷◌, ◌++◌}
+use mathlib.Core.List.{[], ◌∷◌, ◌++◌, append_assoc}
 use mathlib.Core.Option.{Option, none, some}
 use lib.Dec.{eqb}
 use lib.IntN.{ℤ, ◌+ℤ◌, ◌-ℤ◌}
@@ -23,8 +23,9 @@ use Rattle.names.specs.declared.families.Spelled.TheVariants.{Row, Front, Nothin
 use Rattle.names.proofs.Searches.{all-below, below_at}
 use Rattle.names.proofs.Volatiles.{row_overwritten, text_overwritten}
 use Rattle.std.specs.Prelude as std
-use Rattle.numbers.specs.Writing.{Written}
-use Rattle.numbers.proofs.Writing.{written_then}
+use Rattle.text.specs.declared.cursor.Cursor.{Cursor}
+use Rattle.text.specs.Cursor.{Written, Fits, Puts}
+use Rattle.text.proofs.Cursors.{puts_as, then_puts, room_left}
 use Rattle.printing.specs.Decimals.{decimal}
 use Rattle.test_leaves.specs.Fields.{before, behind, behind_words, lines}
 use Rattle.test_leaves.specs.Answers.{register, family_answer, value, combined, fold_answer, convention, overwrites, yes_no, answer_to, answer, expected, differing}
@@ -36,14 +37,18 @@ use Rattle.reference.specs.Options.{option_of}
 -- ---- names
 
 -- a register, put piece by piece
-pub register-put : (name : Text) (width : ℕ) {out o₁ o₂ o₃ : Text} {e₁ e₂ e₃ : ℕ} → length name + 21 ≤ length out
-    → Written out 0 name o₁ e₁ → Written o₁ e₁ (bytes " ") o₂ e₂ → Written o₂ e₂ (decimal width) o₃ e₃ → Written out 0 (register name width) o₃ e₃
-unfolding register
-register-put name width {out} h p q r =
-    let s : Text = name ++ bytes " " in
-    let n : length s ≡ length name + 1 = length-append name (bytes " ") in
-    let front : Written out 0 s _ _ = written_then out 0 name (bytes " ") (omega arith) p q in
-    written_then out 0 s (decimal width) (omega (arith, decimal-length width)) front r
+module _ (name : Text) {p p₁ : Cursor} (h : Fits p (length name + 21)) (w : Puts p name p₁) where
+  pub mark_room : Fits p₁ 21
+  mark_room = room_left w 21 h
+
+  module _ {p₂ : Cursor} (x : Puts p₁ (bytes " ") p₂) where
+    pub width_room : Fits p₂ 20
+    width_room = room_left x 20 mark_room
+
+    pub register-put : {p₃ : Cursor} (width : ℕ) → Puts p₂ (decimal width) p₃ → Puts p (register name width) p₃
+    unfolding register
+    register-put width y =
+        puts_as (then_puts w (omega (arith, h)) (then_puts x (omega (arith, mark_room)) y)) (simp append_assoc)
 
 three-bytes : ℕ → Bool
 three-bytes row = eqb (length (row_name row)) 3

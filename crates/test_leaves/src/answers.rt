@@ -7,61 +7,62 @@
 //     volatile CONVENTION NAME    whether a call overwrites the register: `yes` or `no`
 //     constant TEXT               its value in edition 1, or `unread`
 //
-// An answer is written into a slice of the caller's, and its length returned.
+// An answer is written at the front of a slice of the caller's, and its length returned.
 ghost use Rattle.std.specs.Prelude.{◌≡◌, ◌+◌, ◌≤◌, ◌<◌, length};
 ghost use Rattle.reference.specs.Options.{option_of};
 ghost use Rattle.reference.specs.Control.{◌or◌};
 ghost use Rattle.reference.specs.Text.{bytes, ◌≟◌};
 ghost use Rattle.names.specs.Families.{row_name};
-ghost use Rattle.numbers.specs.Writing.{Written};
+ghost use Rattle.text.specs.Cursor.{Written, Fits, Puts};
 ghost use Rattle.test_leaves.specs.Answers.{register, family_answer, value, combined, convention, overwrites, yes_no};
 ghost use Rattle.test_leaves.specs.Answers.{answer_to, answer};
 ghost use Rattle.test_leaves.specs.Answers.{expected};
 
 use crate::fields::{before, behind};
 use names::Spelled;
-use printing::{put, put_decimal};
-use text::same;
+use printing::put_decimal;
+use text::{Cursor, same};
 
 // The families of the table of `names`, by row.
 const ROWS: [[u8; 3]; 8] = [
     *b"rax", *b"rbx", *b"rcx", *b"rdx", *b"rsi", *b"rdi", *b"rbp", *b"rsp",
 ];
 
-fn put_register(family: &[u8], width: u64, out: &mut [u8]) -> usize
-    requires { length family.now + 21 ≤ length out.old }
-    ensures { Written out.old 0 (register family.now width) out.new result }
+fn put_register(family: &[u8], width: u64, out: &mut Cursor)
+    requires { Fits out.old (length family.now + 21) }
+    ensures { Puts out.old (register family.now width) out.new }
 {
-    let family_end = put(family, out, 0);
-    let space_end = put(b" ", out, family_end);
-    put_decimal(width, out, space_end)
+    out.put(family);
+    out.put(b" ");
+    put_decimal(width, out);
 }
 
-fn put_row(row: u64, width: u64, out: &mut [u8]) -> usize
-    requires { (row < 8) × (24 ≤ length out.old) }
-    ensures { Written out.old 0 (register (row_name row) width) out.new result }
+fn put_row(row: u64, width: u64, out: &mut Cursor)
+    requires { (row < 8) × Fits out.old 24 }
+    ensures { Puts out.old (register (row_name row) width) out.new }
 {
-    put_register(&ROWS[row as usize], width, out)
+    // Kept: a cast: a row is below 8, and `usize::try_from` is no plainer, since it asks what to do where it is not.
+    put_register(&ROWS[row as usize], width, out);
 }
 
-fn put_family(name: &[u8], out: &mut [u8]) -> usize
-    requires { length name.now + 24 ≤ length out.old }
-    ensures { Written out.old 0 (family_answer name.now) out.new result }
+fn put_family(name: &[u8], out: &mut Cursor)
+    requires { Fits out.old (length name.now + 24) }
+    ensures { Puts out.old (family_answer name.now) out.new }
 {
     match names::family(name) {
         Spelled::Row(row, width, _) => put_row(row, width, out),
         Spelled::Front(n, width) => put_register(&name[..n], width, out),
-        Spelled::Nothing => put(b"none", out, 0),
+        Spelled::Nothing => out.put(b"none"),
     }
 }
 
-fn put_value(n: Option<i64>, out: &mut [u8]) -> usize
-    requires { 19 ≤ length out.old }
-    ensures { Written out.old 0 (value (option_of n)) out.new result }
+fn put_value(n: Option<i64>, out: &mut Cursor)
+    requires { Fits out.old 19 }
+    ensures { Puts out.old (value (option_of n)) out.new }
 {
     match n {
-        Some(v) => numbers::put_number(v, out, 0),
-        None => put(b"unread", out, 0),
+        Some(v) => numbers::put_number(v, out),
+        None => out.put(b"unread"),
     }
 }
 
@@ -100,36 +101,36 @@ fn overwrites(convention: u8, name: &[u8]) -> bool
     }
 }
 
-fn put_yes_no(b: bool, out: &mut [u8]) -> usize
-    requires { 3 ≤ length out.old }
-    ensures { Written out.old 0 (yes_no b) out.new result }
+fn put_yes_no(b: bool, out: &mut Cursor)
+    requires { Fits out.old 3 }
+    ensures { Puts out.old (yes_no b) out.new }
 {
     if b {
-        put(b"yes", out, 0)
+        out.put(b"yes");
     } else {
-        put(b"no", out, 0)
+        out.put(b"no");
     }
 }
 
-// The answer to a question with the operands a and b.
-fn put_answer_to(question: &[u8], a: &[u8], b: &[u8], out: &mut [u8]) -> usize
-    requires { length a.now + 24 ≤ length out.old }
-    ensures { Written out.old 0 (answer_to question.now a.now b.now) out.new result }
+// Puts the answer to a question with the operands a and b.
+fn put_answer_to(question: &[u8], a: &[u8], b: &[u8], out: &mut Cursor)
+    requires { Fits out.old (length a.now + 24) }
+    ensures { Puts out.old (answer_to question.now a.now b.now) out.new }
 {
     if same(question, b"family") {
-        put_family(a, out)
+        put_family(a, out);
     } else if same(question, b"number") {
-        put_value(numbers::parse_c_number(a), out)
+        put_value(numbers::parse_c_number(a), out);
     } else if same(question, b"sum") {
-        put_value(folded(a, b, false), out)
+        put_value(folded(a, b, false), out);
     } else if same(question, b"difference") {
-        put_value(folded(a, b, true), out)
+        put_value(folded(a, b, true), out);
     } else if same(question, b"volatile") {
-        put_yes_no(overwrites(convention(a), b), out)
+        put_yes_no(overwrites(convention(a), b), out);
     } else if same(question, b"constant") {
-        put_value(numbers::read_number(1, a), out)
+        put_value(numbers::read_number(1, a), out);
     } else {
-        put(b"no such question", out, 0)
+        out.put(b"no such question");
     }
 }
 
@@ -138,13 +139,15 @@ pub fn put_answer(line: &[u8], out: &mut [u8]) -> usize
     requires { length line.now + 24 ≤ length out.old }
     ensures { Written out.old 0 (answer line.now) out.new result }
 {
+    let mut out = Cursor::new(out, 0);
     let words = behind(line, b' ');
     put_answer_to(
         before(line, b' '),
         before(words, b' '),
         before(behind(words, b' '), b' '),
-        out,
-    )
+        &mut out,
+    );
+    out.at
 }
 
 // Whether a question has one operand, and not two.

@@ -53,6 +53,8 @@ fn compared(input: &[u8], out: &mut [u8]) -> Tally
     let mut left = input;
     let mut lines = 0;
     let mut differing = 0;
+    // Kept: a loop while something is left: `split` gives an empty line more behind a last line feed, and a `while let` is no plainer,
+    // since it takes a function more, which answers the first line and the rest as a pair.
     while !left.is_empty() {
         if !agrees(before(left, b'\n'), out) {
             differing += 1;

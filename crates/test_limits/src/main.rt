@@ -38,6 +38,7 @@ fn write(s: &[u8]) {
 }
 
 fn write_number(n: usize) {
+    // Kept: a cast: 64 bits hold every `usize`, and `u64::try_from` is no plainer, since it asks what to do where they do not.
     io::print_decimal(STDOUT, n as u64);
 }
 
@@ -49,7 +50,7 @@ fn answer(tape: &[u8]) {
             write(b": refused ");
             io::print_decimal(STDOUT, refusal.reason.number());
             write(b" at ");
-            write_number(refusal.place);
+            io::print_decimal(STDOUT, refusal.place);
             write(b"\n");
         }
     }

@@ -58,18 +58,27 @@ struct Frame {
     wanted: usize,
 }
 
+// A number that is a length.
+fn size_at(list: &[u8], at: usize) -> usize
+    requires { at + 8 ≤ length list.now }
+{
+    // Kept: a cast: a `usize` holds 64 bits wherever this is built, and `usize::try_from` is no plainer, since it asks what to do where it
+    // does not.
+    number_at(list, at, 8) as usize
+}
+
 fn numbers_of(list: &[u8]) -> Frame
     requires { 64 ≤ length list.now }
 {
     Frame {
         there: number_at(list, 0, 8) == 0,
         base: number_at(list, 8, 8),
-        output: number_at(list, 16, 8) as usize,
+        output: size_at(list, 16),
         refusal: number_at(list, 24, 8),
         place: number_at(list, 32, 8),
         value: number_at(list, 40, 8),
-        tape: number_at(list, 48, 8) as usize,
-        wanted: number_at(list, 56, 8) as usize,
+        tape: size_at(list, 48),
+        wanted: size_at(list, 56),
     }
 }
 

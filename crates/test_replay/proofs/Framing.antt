@@ -1,10 +1,9 @@
 -- When the list has the frame at its front whole. Assumes nothing.
 use Prim.Native.Nat.{ℕ, ◌-◌, ◌≤◌, ◌<◌}
-use mathlib.Core.Path.{◌≡◌, refl, sym}
+use mathlib.Core.Path.{◌≡◌, sym}
 use mathlib.Core.List.{List}
 use lib.ListN.{length, take, drop, length-drop}
-use borrow.Author.Tests.{le-leb, lt-leb, leb-true}
-use Rattle.reference.proofs.Cases.{by-if}
+use borrow.Author.Tests.{le-leb, lt-leb}
 use Rattle.laws.proofs.Parts.{to_end}
 use Rattle.laws.proofs.Scans.{if-true, if-false}
 use Rattle.test_replay.specs.Frames.{said_size, frame_size}
@@ -17,13 +16,6 @@ module _ (list : List ℕ) where
   pub whole : said_size list ≤ length list → said_size list ≡ frame_size list
   unfolding frame_size
   whole h = sym (if-true _ _ (le-leb _ _ h))
-
-  pub found : (frame_size list ≡ 0 → ⊥) → (frame_size list ≡ said_size list) × (said_size list ≤ length list)
-  unfolding frame_size
-  found =
-      by-if (λ (r : ℕ). (r ≡ 0 → ⊥) → (r ≡ said_size list) × (said_size list ≤ length list))
-      (λ yes n. (refl, leb-true _ _ yes))
-      (λ no n. absurd (n refl))
 
   -- how much is left behind n bytes
   pub left_behind : (n : ℕ) → length (take (length list - n) (drop n list)) ≡ length list - n

@@ -1,5 +1,5 @@
 -- The frames of a list of calls: src/frames.rt says what they hold. Assumes nothing.
-use Rattle.std.specs.Prelude.{ℕ, ◌+◌, ◌*◌, ◌≤◌, List, leb, length, take, drop}
+use Rattle.std.specs.Prelude.{ℕ, ◌+◌, ◌*◌, ◌≤◌, ◌≡◌, List, Option, MatchOption, leb, length, take, drop}
 use Rattle.reference.specs.Control.{when◌then◌else◌}
 use Rattle.reference.specs.Tape.{from_le_bytes}
 
@@ -17,6 +17,10 @@ Whole list = said_size list ≤ length list
 
 unfoldable pub frame_size : List ℕ → ℕ
 frame_size list = when leb (said_size list) (length list) then said_size list else 0
+
+-- the size of the frame at the list's front, where the list has all of it
+abbrev pub Sized : List ℕ → Option ℕ → Type 0
+Sized list r = MatchOption r (frame_size list ≡ 0) (λ n. (n ≡ said_size list) × Whole list)
 
 abbrev pub tape_in : List ℕ → List ℕ
 tape_in list = take (number_in list 5) (drop 64 list)

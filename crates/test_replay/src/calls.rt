@@ -10,7 +10,7 @@ ghost use Rattle.test_replay.specs.Answers.{all_right, is_right, rules_in, agree
 
 use crate::frames::{
     ATTEMPTS, CUT, FIRST, LENGTH, OUT, PLACE, REFUSAL, REMOVED, ROUNDS, SECOND, SETTINGS, THIRD,
-    WORK_A, WORK_B, number, output_of, tape_of,
+    WORK_A, WORK_B, number, output_of, size_at, tape_of,
 };
 use answers::Refusal;
 use clean::{Finished, Tally, Told};
@@ -89,10 +89,11 @@ fn is_wanted(list: &[u8], r: Result<Finished, Refusal>) -> bool
                 second: 0,
                 third: 0,
             };
-            is_report(list, refusal.reason.number(), refusal.place as u64, 0, 0)
+            is_report(list, refusal.reason.number(), refusal.place, 0, 0)
                 && are_told(list, Told::from(none), 0)
         }
         Ok(f) => {
+            // Kept: a cast: 64 bits hold every `usize`, and `u64::try_from` is no plainer, since it asks what to do where they do not.
             is_report(list, 0, 0, f.length as u64, f.cut)
                 && are_told(list, Told::from(f.tally), f.removed)
         }
@@ -191,6 +192,7 @@ fn settings(list: &[u8]) -> Rules
     ensures { rules_of result ≡ rules_in list.now }
 {
     let n = number(list, SETTINGS);
+    // Kept: casts: a remainder of 256 fits in a byte, and `u8::try_from` is no plainer, since it asks what to do where it does not.
     Rules {
         convention: (n % 256) as u8,
         settle: n / 256 % 2 == 1,
@@ -205,9 +207,9 @@ fn agrees_in(list: &[u8], work_a: &mut [u8], work_b: &mut [u8], out: &mut [u8]) 
     requires { Whole list.now }
     ensures { result ≡ agrees list.now work_a.old work_b.old out.old }
 {
-    let a = number(list, WORK_A) as usize;
-    let b = number(list, WORK_B) as usize;
-    let o = number(list, OUT) as usize;
+    let a = size_at(list, WORK_A);
+    let b = size_at(list, WORK_B);
+    let o = size_at(list, OUT);
     if work_a.len() < a {
         return false;
     }

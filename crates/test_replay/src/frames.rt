@@ -4,7 +4,7 @@
 // is the convention, the three lowest bits of the next say whether to settle, whether parts are told apart and whether the profile is asked
 // for, and the third byte is the number edition.
 ghost use Rattle.std.specs.Prelude.{◌≡◌, ◌+◌, ◌*◌, ◌≤◌, length};
-ghost use Rattle.test_replay.specs.Frames.{number_in, Whole, tape_in, output_in, frame_size};
+ghost use Rattle.test_replay.specs.Frames.{number_in, Whole, Sized, tape_in, output_in};
 
 use tape::commands::text_of;
 use tape::little_endian::number_at;
@@ -51,23 +51,33 @@ pub fn number(list: &[u8], k: usize) -> u64
     number_at(list, 4 * k, 4)
 }
 
-// How many bytes the frame at the list's front has; 0 where the list has no whole frame.
-pub fn size(list: &[u8]) -> usize
-    ensures { result ≡ frame_size list.now }
+// A number of the frame that is a length.
+pub fn size_at(list: &[u8], k: usize) -> usize
+    requires { 4 * k + 4 ≤ length list.now }
+    ensures { result ≡ number_in list.now k }
+{
+    // Kept: a cast: a `usize` holds four bytes wherever this is built, and `usize::try_from` is no plainer, since it asks what to do where
+    // it does not.
+    number(list, k) as usize
+}
+
+// How many bytes the frame at the list's front has, where there is a whole one.
+pub fn size(list: &[u8]) -> Option<usize>
+    ensures { Sized list.now result }
 {
     if list.len() < HEADER {
-        return 0;
+        return None;
     }
     let left = list.len() - HEADER;
-    let tape = number(list, TAPE) as usize;
+    let tape = size_at(list, TAPE);
     if left < tape {
-        return 0;
+        return None;
     }
-    let out = number(list, LENGTH) as usize;
+    let out = size_at(list, LENGTH);
     if left - tape < out {
-        return 0;
+        return None;
     }
-    HEADER + tape + out
+    Some(HEADER + tape + out)
 }
 
 // The tape of the frame at the list's front.
@@ -75,7 +85,7 @@ pub fn tape_of(list: &[u8]) -> &[u8]
     requires { Whole list.now }
     ensures { result.now ≡ tape_in list.now }
 {
-    text_of(list, HEADER, number(list, TAPE) as usize)
+    text_of(list, HEADER, size_at(list, TAPE))
 }
 
 // The output that it wants.
@@ -83,6 +93,6 @@ pub fn output_of(list: &[u8]) -> &[u8]
     requires { Whole list.now }
     ensures { result.now ≡ output_in list.now }
 {
-    let tape = number(list, TAPE) as usize;
-    text_of(list, HEADER + tape, number(list, LENGTH) as usize)
+    let tape = size_at(list, TAPE);
+    text_of(list, HEADER + tape, size_at(list, LENGTH))
 }

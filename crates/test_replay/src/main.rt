@@ -21,6 +21,22 @@ const STDOUT: i32 = 1;
 // The longest list that is read.
 const LONGEST: usize = 650000;
 
+// The classes of calls, by number.
+const CLASSES: [&[u8]; 12] = [
+    b"realistic: ",
+    b"one detail of the Rust: ",
+    b"unusual tokens: ",
+    b"much text in the areas: ",
+    b"at the limits: ",
+    b"damaged: ",
+    b"refused before the tape: ",
+    b"settling: ",
+    b"marks: ",
+    b"editions: ",
+    b"parts: ",
+    b"straight pieces: ",
+];
+
 #[derive(Clone, Copy, Debug, PartialEq, Eq)]
 struct Counts {
     tapes: u64,
@@ -40,23 +56,6 @@ fn print_counts(counts: Counts) {
     print(b" tapes, ");
     print_number(counts.differ);
     print(b" differ\n");
-}
-
-fn print_class(class: u64) {
-    match class {
-        0 => print(b"realistic: "),
-        1 => print(b"one detail of the Rust: "),
-        2 => print(b"unusual tokens: "),
-        3 => print(b"much text in the areas: "),
-        4 => print(b"at the limits: "),
-        5 => print(b"damaged: "),
-        6 => print(b"refused before the tape: "),
-        7 => print(b"settling: "),
-        8 => print(b"marks: "),
-        9 => print(b"editions: "),
-        10 => print(b"parts: "),
-        _ => print(b"straight pieces: "),
-    }
 }
 
 // The counts with the frame at the list's front, if it is of the class.
@@ -92,15 +91,11 @@ fn replayed(list: &[u8], class: u64) -> Counts
         tapes: 0,
         differ: 0,
     };
-    loop {
-        let n = size(left);
-        if n == 0 {
-            return counts;
-        }
+    while let Some(n) = size(left) {
         counts = counted(left, class, counts);
-        let next = &left[n..];
-        left = next;
+        left = &left[n..];
     }
+    counts
 }
 
 // Replays the frames of every class, a line each, and prints the sum.
@@ -112,9 +107,11 @@ fn run(list: &[u8]) {
         tapes: 0,
         differ: 0,
     };
-    for class in 0..12 {
-        let counts = replayed(list, class);
-        print_class(class);
+    for (class, name) in CLASSES.iter().enumerate() {
+        // Kept: a cast: `enumerate` counts in `usize`, and 64 bits hold it; `u64::try_from` is no plainer, since it asks what to do where
+        // they do not.
+        let counts = replayed(list, class as u64);
+        print(name);
         print_counts(counts);
         sum = Counts {
             tapes: sum.tapes + counts.tapes,

@@ -47,6 +47,15 @@ struct Counts {
 
 // ---- the list
 
+// A number that is a length.
+fn size_at(list: &[u8], at: usize) -> usize
+    requires { at + 8 ≤ length list.now }
+{
+    // Kept: a cast: a `usize` holds 64 bits wherever this is built, and `usize::try_from` is no plainer, since it asks what to do where it
+    // does not.
+    number_at(list, at, 8) as usize
+}
+
 // How many bytes the frame at the list's front has, where there is a whole one.
 fn size(list: &[u8]) -> Option<usize>
     ensures { IfSome result (λ n. (64 ≤ n) × (n ≤ length list.now)) }
@@ -54,7 +63,7 @@ fn size(list: &[u8]) -> Option<usize>
     if list.len() < HEADER {
         return None;
     }
-    let n = number_at(list, 0, 8) as usize;
+    let n = size_at(list, 0);
     if n < HEADER || list.len() < n {
         return None;
     }
@@ -69,9 +78,9 @@ fn numbers_of(list: &[u8]) -> Frame
         refusal: number_at(list, 16, 8),
         place: number_at(list, 24, 8),
         value: number_at(list, 32, 8),
-        tape: number_at(list, 40, 8) as usize,
-        chosen: number_at(list, 48, 8) as usize,
-        values: number_at(list, 56, 8) as usize,
+        tape: size_at(list, 40),
+        chosen: size_at(list, 48),
+        values: size_at(list, 56),
     }
 }
 

@@ -61,6 +61,11 @@ fn sum(bytes: &[u8]) -> u64 {
     h
 }
 
+fn print_size(n: usize) {
+    // Kept: a cast: 64 bits hold every `usize`, and `u64::try_from` is no plainer, since it asks what to do where they do not.
+    print_number(n as u64);
+}
+
 fn print_answer(what: &[u8], answer: Answer, bytes: &[u8]) {
     let t = tell(answer);
     print(what);
@@ -73,9 +78,42 @@ fn print_answer(what: &[u8], answer: Answer, bytes: &[u8]) {
 
 // ---- a frame
 
-fn number(frame: &[u8], at: usize) -> usize
+// What it asks for.
+#[derive(Clone, Copy, Debug, PartialEq, Eq)]
+enum Kind {
+    Begin,
+    Damage,
+    Save,
+    Restore,
+    Delete,
+    Nothing,
+}
+
+impl From<u64> for Kind {
+    fn from(number: u64) -> Kind {
+        match number {
+            0 => Kind::Begin,
+            1 => Kind::Damage,
+            2 => Kind::Save,
+            3 => Kind::Restore,
+            4 => Kind::Delete,
+            _ => Kind::Nothing,
+        }
+    }
+}
+
+fn kind_of(frame: &[u8]) -> Kind
+    requires { 20 ≤ length frame.now }
+{
+    Kind::from(number_at(frame, 0, 4))
+}
+
+// A number that is a length or a place.
+fn size_at(frame: &[u8], at: usize) -> usize
     requires { at + 4 ≤ length frame.now }
 {
+    // Kept: a cast: a `usize` holds four bytes wherever this is built, and `usize::try_from` is no plainer, since it asks what to do where
+    // it does not.
     number_at(frame, at, 4) as usize
 }
 
@@ -86,7 +124,7 @@ fn size(list: &[u8]) -> Option<usize>
     if list.len() < HEADER {
         return None;
     }
-    let n = number(list, 8);
+    let n = size_at(list, 8);
     if list.len() - HEADER < n {
         return None;
     }
@@ -114,7 +152,7 @@ fn begin(frame: &[u8], store: &mut [u8], lent: usize)
 {
     store.fill(frame[12]);
     print(b"begin");
-    print_number(lent as u64);
+    print_size(lent);
     print(b"\n");
 }
 
@@ -127,7 +165,7 @@ fn damage(frame: &[u8], store: &mut [u8], at: usize)
     }
     store[at..at + bytes.len()].copy_from_slice(bytes);
     print(b"damage");
-    print_number(at as u64);
+    print_size(at);
     print(b"\n");
 }
 
@@ -165,14 +203,15 @@ fn delete(frame: &[u8], store: &mut [u8], lent: usize)
     print_answer(b"delete", answer, store);
 }
 
-fn call(kind: usize, frame: &[u8], store: &mut [u8], lent: usize)
+// Makes the call of a frame that asks for one.
+fn call(kind: Kind, frame: &[u8], store: &mut [u8], lent: usize)
     requires { (20 ≤ length frame.now) × (lent ≤ length store.old) }
 {
     match kind {
-        2 => save(frame, store, lent),
-        3 => restore_marked(frame, store, lent, number(frame, 4)),
-        4 => delete(frame, store, lent),
-        _ => {}
+        Kind::Save => save(frame, store, lent),
+        Kind::Restore => restore_marked(frame, store, lent, size_at(frame, 4)),
+        Kind::Delete => delete(frame, store, lent),
+        Kind::Begin | Kind::Damage | Kind::Nothing => {}
     }
 }
 
@@ -180,13 +219,13 @@ fn call(kind: usize, frame: &[u8], store: &mut [u8], lent: usize)
 fn step(frame: &[u8], store: &mut [u8], lent: usize) -> usize
     requires { 20 ≤ length frame.now }
 {
-    let n = number(frame, 4);
-    match number(frame, 0) {
-        0 => {
+    let n = size_at(frame, 4);
+    match kind_of(frame) {
+        Kind::Begin => {
             begin(frame, store, n);
             return n;
         }
-        1 => damage(frame, store, n),
+        Kind::Damage => damage(frame, store, n),
         kind => {
             if lent <= store.len() {
                 call(kind, frame, store, lent);

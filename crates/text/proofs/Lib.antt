@@ -1,3 +1,4 @@
--- Laws of the rows of operators (Operators) and of trimming by index (Trims).
+-- Laws of the bytes that operators begin with (Operators), of trimming by index (Trims) and of texts put one after the other (Cursors).
 pub mod Operators
 pub mod Trims
+pub mod Cursors

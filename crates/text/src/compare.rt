@@ -1,6 +1,6 @@
 // Two texts compared, and a byte looked for: `==`, `starts_with`, `ends_with` and `contains` of Rust's `str`.
-// Kept: a function for each, whose contract says it in the definitions' words: `==` takes no literal beside a slice, and a caller
-// that calls std's proves the same bridge anew (d).
+// Kept: a function for each of std's: calls of std's at each place are no plainer, since `==` takes no byte string beside a slice, and each
+// caller proves anew that std's answer is the definitions'.
 #![tactic(auto, using(laws::proofs::Std::words_of_std))]
 
 ghost use Rattle.std.specs.Prelude.{◌≡◌};

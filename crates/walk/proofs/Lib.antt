@@ -1,4 +1,6 @@
--- The commands of some bytes, by what stands at their head (Following), and how many bytes they take (Spending).
+-- The commands of some bytes, by what stands at their head (Following), and how many bytes they take (Spending); what an answer of `next_at` says
+-- (Offsets), and where a command is known to stand (Standing).
 pub mod Following
 pub mod Spending
 pub mod Offsets
+pub mod Standing

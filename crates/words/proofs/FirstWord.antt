@@ -1,5 +1,5 @@
--- The first word of a slice, and what is left: each turn of a loop over words. Assumes nothing.
-use Prim.Native.Nat.{ℕ, zero, suc, ◌+◌, ◌-◌, ◌≤◌, ◌<◌}
+-- The first word of a slice, and what is left behind it. Assumes nothing.
+use Prim.Native.Nat.{ℕ, suc, ◌+◌, ◌-◌, ◌≤◌, ◌<◌}
 use native.Mathlib.Omega.{arith}
 use native.Mathlib.Decide.{dec_lt, ℕ_discrete}
 use native.Mathlib.Numerals.{add-one}
@@ -14,9 +14,7 @@ use borrow.Author.Tests.{eq-eqb, ne_eqb}
 use Rattle.std.specs.List.{prefix_len}
 use Rattle.std.proofs.lemmas.List.Sums.{prefix_len-le-length, prefix_len_passes, prefix_len_stops}
 use Rattle.reference.specs.Control.{when◌then◌else◌}
-use Rattle.reference.specs.Text.{Text, ◌≟◌}
-use Rattle.laws.proofs.Scans.{if-true, if-false}
-use Rattle.words.specs.Splitting.{onto, split, number_of, EndsAt}
+use Rattle.words.specs.Splitting.{onto, split, EndsAt}
 
 abbrev NoZero : List ℕ → Type 0
 NoZero w = (i : ℕ) → i < length w → get_or w i 0 ≡ 0 → ⊥
@@ -37,12 +35,6 @@ word-last b (x ∷ w) n = rw (ne_eqb b 0 (n 0 (omega arith)), word-last x w (tai
 word-only : (w : List ℕ) → 0 < length w → NoZero w → split w ≡ w ∷ []
 word-only [] h n = absurd (omega arith)
 word-only (b ∷ w) h n = word-last b w n
-
-past_first : (w : Text) (ws : List Text) (n : ℕ) → (n ≡ 0 → ⊥) → get_or (w ∷ ws) n [] ≡ get_or ws (n - 1) []
-past_first w ws zero z = absurd (z refl)
-past_first w ws (suc n) z =
-    let e : suc n - 1 ≡ n = omega arith in
-    rw e refl
 
 module _ (words : List ℕ) {at e : ℕ} (h : at < length words) (ends : EndsAt words at e) where
   word : List ℕ
@@ -76,23 +68,6 @@ module _ (words : List ℕ) {at e : ℕ} (h : at < length words) (ends : EndsAt 
       let some_byte : 0 < length (drop at words) = omega (arith, length-drop at words) in
       let n : NoZero (drop at words) = rw whole at no_zero in
       word-only (drop at words) some_byte n ∙ rw (whole, none) refl)
-
-  -- a turn of the search
-  pub found_word : (w : Text) → (take (e - at) (drop at words) ≟ w) ≡ true → number_of (split (drop at words)) w ≡ 0
-  unfolding number_of
-  found_word w f = ap (λ (ws : List Text). number_of ws w) first_word ∙ if-true _ _ f
-
-  pub next_word : (w : Text) → (take (e - at) (drop at words) ≟ w) ≡ false
-      → number_of (split (drop at words)) w ≡ suc (number_of (split (drop (e + 1) words)) w)
-  unfolding number_of
-  next_word w f = ap (λ (ws : List Text). number_of ws w) first_word ∙ if-false _ _ f
-
-  -- a turn of the way to a word by its number
-  pub here_word : (n : ℕ) → n ≡ 0 → take (e - at) (drop at words) ≡ get_or (split (drop at words)) n []
-  here_word n z = rw (z, first_word)
-
-  pub later-word : (n : ℕ) → (n ≡ 0 → ⊥) → get_or (split (drop at words)) n [] ≡ get_or (split (drop (e + 1) words)) (n - 1) []
-  later-word n z = rw first_word (past_first (take (e - at) (drop at words)) (split (drop (e + 1) words)) n z)
 
 pub no_word : (words : List ℕ) (at : ℕ) → length words ≤ at → split (drop at words) ≡ []
 unfolding split

@@ -1,4 +1,6 @@
--- Laws that the functions' proofs cite: branches (Branches), the first word (FirstWord), numbers read digit by digit (Digits).
+-- Laws that the functions' proofs cite: branches (Branches), the first word (FirstWord), the pieces of a row (Pieces), numbers read digit
+-- by digit (Digits).
 pub mod Branches
 pub mod FirstWord
+pub mod Pieces
 pub mod Digits

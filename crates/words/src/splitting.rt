@@ -1,9 +1,7 @@
 // The words of a slice: each ends with a byte 0, the last one there or with the slice.
 ghost use Rattle.std.specs.Prelude.{◌≡◌, ◌≤◌, [], not, eqb, length, get_or};
 ghost use Rattle.std.specs.List.{prefix_len};
-ghost use Rattle.words.specs.Splitting.{split, number_of, EndsAt};
-
-use text::same;
+ghost use Rattle.words.specs.Splitting.{split, EndsAt};
 
 // How many bytes stand before the first 0.
 fn before_zero(s: &[u8]) -> usize
@@ -20,39 +18,12 @@ pub fn word_end(words: &[u8], at: usize) -> usize
     at + before_zero(&words[at..])
 }
 
-// The number of a word in a row of words, from 0; how many there are, if it is none of them.
-// Kept: a jump from word to word, since `split` of a row that ends with a 0 has an empty piece more; and a number for none, which falls
-// into the `_` of a caller's `match` as a number of no meaning does (d).
-pub fn number_of(row: &[u8], word: &[u8]) -> u64
-    ensures { result ≡ number_of (split row.now) word.now }
-{
-    let mut n: u64 = 0;
-    let mut at = 0;
-    while at < row.len() {
-        let e = word_end(row, at);
-        if same(&row[at..e], word) {
-            return n;
-        }
-        n += 1;
-        at = e + 1;
-    }
-    n
-}
-
-// The word of a row that has a number, from 0; nothing past the last one.
-// Kept: a jump from word to word, as in `number_of` (d).
+// The word of a row that has a number, from 0; nothing past the last one. Behind a last 0 `split` gives one empty piece more, which is
+// nothing too.
 pub fn nth_word(row: &[u8], n: u64) -> &[u8]
     ensures { result.now ≡ get_or (split row.now) n [] }
 {
-    let mut left = n;
-    let mut at = 0;
-    while at < row.len() {
-        let e = word_end(row, at);
-        if left == 0 {
-            return &row[at..e];
-        }
-        left -= 1;
-        at = e + 1;
-    }
-    &row[..0]
+    // Kept: a cast: `nth` takes a `usize`, which holds 64 bits wherever this is built, and `usize::try_from` is no plainer, since it asks
+    // what to do where it does not.
+    row.split(|b| *b == 0).nth(n as usize).unwrap_or(&[])
 }

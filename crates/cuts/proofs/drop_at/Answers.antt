@@ -1,10 +1,6 @@
 -- `cuts::drop_at` meets its contract. Assumes nothing.
-use Rattle.std.proofs.Common.{rules}
-use Rattle.cuts.proofs.Cutting.{dropped-kept, cut-first, cut-count, cut-fewer, dropped-cut}
+use Rattle.cuts.proofs.Cutting.{cut-first, cut-count, cut-fewer, dropped-cut}
 use Rattle.cuts.proofs.drop_at.Goals as goal
-
-pub returns-then-not-is_dead_result : goal.returns-then-not-is_dead_result
-returns-then-not-is_dead_result c = search (rules, dropped-kept)
 
 pub overflow_sub-count : goal.overflow_sub-count
 overflow_sub-count c =

@@ -4,4 +4,4 @@ use Rattle.cuts.proofs.Cutting.{Cutting}
 use Rattle.cuts.proofs.drop_results.Given as goal
 
 abbrev pub invariant-loop-i : goal.invariant-loop-i
-invariant-loop-i l = Cutting (rules_of l.rules) l.tape l.area l.tokens l.initial.lines l.labels l.lines l.cut l.i
+invariant-loop-i l = Cutting (rules_of l.rules) l.texts.tape.now l.texts.area.now l.tokens l.initial.lines l.labels l.lines l.cut l.i

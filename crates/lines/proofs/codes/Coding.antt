@@ -1,6 +1,6 @@
 -- What a code says: families' numbers, the family of a word that has a code, texts whose codes differ, and the codes that are made.
 -- Assumes nothing.
-use Prim.Native.Nat.{ℕ, zero, suc, ◌+◌, ◌-◌, ◌*◌, ◌/◌, ◌%◌, ◌≤◌, ◌<◌}
+use Prim.Native.Nat.{ℕ, zero, suc, ◌+◌, ◌-◌, ◌*◌, ◌/◌, ◌%◌, ◌^◌, ◌≤◌, ◌<◌}
 use native.Mathlib.Omega.{arith}
 use native.Mathlib.Decide.{ℕ_discrete}
 use mathlib.Core.Logic.{◌⊎◌, inl, inr, by_cases}
@@ -162,6 +162,15 @@ of_coded tape area w f ek {c} q e h =
     rw (eq-eqb (kind_of w) Register (sym ek ∙ e), fam-row tape area {f = f} h)
     (rw (if-true {A = Option NFam} (family (text_of tape area w)) none refl, q.family_is) (row-coded c (text_of tape area w) f q h))
 
+-- ---- the widths
+
+pub width_shifted : (k : ℕ) → k < 4 → 64 / 2 ^ k ≡ get_or WIDTHS k 0
+width_shifted zero h = refl
+width_shifted (suc zero) h = refl
+width_shifted (suc (suc zero)) h = refl
+width_shifted (suc (suc (suc zero))) h = refl
+width_shifted (suc (suc (suc (suc k)))) h = absurd (omega arith)
+
 -- ---- codes that differ
 
 -- the place of a width, back from the width
@@ -198,17 +207,11 @@ same_by tape area v w es et e = rw (← es, ← et) e
 
 -- ---- the codes that are made
 
-pub spelled_as : {s : Text} {q r : Spelled} → Spells s (family s) q → q ≡ r → Spells s (family s) r
-spelled_as h e = rw e at h
-
 pub spelled-wide : {s : Text} {q : Spelled} {n w : ℕ} → Spells s (family s) q → q ≡ Front n w → w ≡ 64 → Spells s (family s) (Front n 64)
 spelled-wide h e f = rw (e, f) at h
 
 pub spelled-low : {s : Text} {q : Spelled} {r w l : ℕ} → Spells s (family s) q → q ≡ InRow r w l → l ≡ 0 → Spells s (family s) (InRow r w 0)
 spelled-low h e f = rw (e, f) at h
-
-pub no_code : (s : Text) → Codes s None
-no_code s = record { small = λ c e. cc; true = λ c e. absurd (let f : ⊥ = cc in f) }
 
 -- what `place_of` tells of a place
 pub placed : {w : ℕ} {o : std.Option ℕ} → Placed w o → {k : ℕ} → o ≡ Some k → (k < 4) × (w ≡ get_or WIDTHS k 0)
@@ -262,5 +265,5 @@ module _ {s : Text} where
         number_is = let q : (36 + 4 * x + k) / 4 - 1 ≡ 8 + x = omega arith in q ∙ ap (λ (i : ℕ). 8 + i) ex ∙ sym (ap family_number t ∙ text_numbered (take n s) h.sound.1);
       }))
 
--- `search (needs, coding)` proves what the functions on codes leave
-pub ruleset coding = (refl, bucket-short, bucket-long, same_by, no_code, code-whole, spelled_as, spelled-wide, spelled-low)
+-- what the functions on codes leave
+pub ruleset coding = (bucket-short, bucket-long, same_by, code-whole, spelled-wide, spelled-low)

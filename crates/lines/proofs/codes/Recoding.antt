@@ -2,12 +2,11 @@
 use Prim.Native.Nat.{ℕ, suc, ◌+◌, ◌-◌, ◌<◌, min}
 use native.Mathlib.Nat.{lt_of_lt_of_le, min-le_left, min-le_right}
 use native.Mathlib.Omega.{arith}
-use native.Mathlib.Decide.{ℕ_discrete}
-use mathlib.Core.Logic.{◌⊎◌, inr, by_cases}
+use mathlib.Core.Logic.{◌⊎◌, inr}
 use mathlib.Core.Path.{◌≡◌, refl, sym, ◌∙◌}
 use mathlib.Core.List.{List, [], ◌∷◌, map}
-use lib.ListN.{length, take, drop, get_or, set, length-take, length-drop, length-set}
-use lib.Seq.{get_or-take, get_or-drop, get_or-set_same, get_or-set_other}
+use lib.ListN.{length, take, drop, get_or, length-take, length-drop}
+use lib.Seq.{get_or-take, get_or-drop}
 use Rattle.reference.specs.Text.{Text}
 use Rattle.std.specs.Prelude as std
 use Rattle.lines.specs.Codes.{Says, Codes}
@@ -17,9 +16,6 @@ use Rattle.lines.proofs.words.Each.{map_same}
 use Rattle.lines.proofs.words.Tokens.{coded_kind, coded_place, coded_start, coded-len, coded-code}
 
 -- ---- one word
-
-pub recoded_same : (tape : Text) (w : ℕ) → Recoded tape w w
-recoded_same tape w = record { means = λ area. refl; points = λ area p. p }
 
 module _ (tape : Text) (w : ℕ) {p s l c r : ℕ} (ep : p ≡ buffer_of w) (z : p ≡ 0) (es : s ≡ start_of w) (el : l ≡ len_of w) {o : std.Option ℕ}
     (h : Codes (take (s + l - s) (drop s tape)) o) (ec : o ≡ std.Some c) (er : r ≡ with_code w c) where
@@ -40,13 +36,7 @@ module _ (tape : Text) (w : ℕ) {p s l c r : ℕ} (ep : p ≡ buffer_of w) (z :
     };
   })
 
-pub recoded_then : {tape : Text} {u v w : ℕ} → Recoded tape u v → Recoded tape v w → Recoded tape u w
-recoded_then f g = record { means = λ area. g.means area ∙ f.means area; points = λ area p. g.points area (f.points area p) }
-
 -- ---- lists of words
-
-pub recodes_same : (tape : Text) (ws : List ℕ) → Recodes tape ws ws
-recodes_same tape ws = record { long = refl; at = λ k h. recoded_same tape (get_or ws k 0) }
 
 map-pair : {A : Type 0} (f : ℕ → A) (ws us : List ℕ) → length us ≡ length ws → ((k : ℕ) → k < length ws → f (get_or us k 0) ≡ f (get_or ws k 0)) → map f us ≡ map f ws
 map-pair f [] [] l e = refl
@@ -55,15 +45,6 @@ map-pair f (w ∷ ws) [] l e = absurd (omega arith)
 map-pair f (w ∷ ws) (u ∷ us) l e = cc (e 0 (omega arith), map-pair f ws us (omega arith) (λ k h. e (suc k) (omega arith)))
 
 module _ {tape : Text} {ws us : List ℕ} (r : Recodes tape ws us) where
-  -- one more word coded
-  pub recodes_set : (k : ℕ) {v : ℕ} → k < length us → Recoded tape (get_or us k 0) v → Recodes tape ws (set us k v)
-  recodes_set k {v} b c = record {
-    long = length-set us k v ∙ r.long;
-    at = λ j h. by_cases (ℕ_discrete j k)
-        (λ e. rw (e, get_or-set_same us k v 0 b) (recoded_then (r.at k (omega (arith, r.long))) c))
-        (λ n. rw (get_or-set_other us k j v 0 n) (r.at j h));
-  }
-
   pub recodes_take : (n : ℕ) → Recodes tape (take n ws) (take n us)
   recodes_take n = record {
     long = rw (length-take, length-take, r.long);

@@ -19,7 +19,7 @@ use Rattle.laws.proofs.Scans.{if-true, if-false}
 use Rattle.names.specs.Families.{row_name, is_row, Spells}
 use Rattle.names.specs.Volatile.{name_numbered, number_of}
 use Rattle.names.specs.declared.families.Spelled.{Spelled}
-use Rattle.names.specs.declared.families.Spelled.TheVariants.{Row as InRow, Front, Nothing as Unspelled}
+use Rattle.names.specs.declared.families.Spelled.TheVariants.{Row as InRow, Front}
 use Rattle.names.proofs.Same.{same_row, row-not_text, text_not_row}
 use Rattle.names.proofs.Bytes.{some_byte}
 use Rattle.names.proofs.Volatiles.{row_overwritten, text_overwritten}
@@ -57,9 +57,6 @@ module _ (tape area : Text) {f : Fam} where
 
   pub name-points : Known tape area f → 8 ≤ f → Points tape area f
   name-points k h = k.points h
-
-  pub name-no_row : Known tape area f → 8 ≤ f → is_row (text_of tape area f) ≡ false
-  name-no_row k h = k.no_row h
 
 -- a word of a text that is not empty is no row
 pub name-least : (w : ℕ) → 1 ≤ len_of w → 8 ≤ w
@@ -127,9 +124,6 @@ module _ (tape area : Text) (w : ℕ) {s : Text} (es : s ≡ text_of tape area w
   pub named-row : {r k l : ℕ} → q ≡ InRow r k l → Names tape area (family (text_of tape area w)) (Some (record { family = r; width = k; lowest = l }))
   named-row e = let g = rw e at h in row-names tape area g.sound (g.is ∙ ap family es)
 
-  pub named_none : q ≡ Unspelled → Names tape area (family (text_of tape area w)) None
-  named_none e = let g = rw e at h in record { is = g.is ∙ ap family es; known = λ m i. never_as i }
-
   module _ (p : Points tape area w) {n k : ℕ} (e : q ≡ Front n k) where
     front : Spells s (family s) (Front n k)
     front = rw e at h
@@ -188,26 +182,8 @@ module _ (tape area : Text) (w : ℕ) {r : std.Option Named} (h : Names tape are
       unfolding is_narrow let_some◌else◌then◌
       narrow_as l = rw (← h.is, e, lt-ltb n.width 32 l) (ex ∙ sym (and_true (fam_text tape area n.family ≟ fam)))
 
--- b is what the code asks of the family, if there is one
-module _ (tape area : Text) (w : ℕ) {r : std.Option Named} (h : Names tape area (fam_of (token_of tape area w)) r) (fam : Text) (b : Bool) {P : Named → Type 0} (m : MatchOption r (b ≡ false) P) where
-  pub of_asked : ((n : Named) → P n → b ≡ (fam_text tape area n.family ≟ fam)) → b ≡ of_family fam (token_of tape area w)
-  of_asked asks = step r refl
-    where
-      step : (v : std.Option Named) → r ≡ v → b ≡ of_family fam (token_of tape area w)
-      step None e = (rw e at m) ∙ of_none tape area w h fam e
-      step (Some n) e = of_as tape area w h fam e (asks n (rw e at m))
-
-  pub narrow_asked : ((n : Named) → P n → n.width < 32 → b ≡ (fam_text tape area n.family ≟ fam)) → ((n : Named) → P n → 32 ≤ n.width → b ≡ false) → b ≡ is_narrow fam (token_of tape area w)
-  narrow_asked asks wide = step r refl
-    where
-      step : (v : std.Option Named) → r ≡ v → b ≡ is_narrow fam (token_of tape area w)
-      step None e = (rw e at m) ∙ narrow_none tape area w h fam e
-      step (Some n) e = by_cases (dec_lt n.width 32)
-          (λ l. narrow_as tape area w h fam e (asks n (rw e at m) l) l)
-          (λ l. let k : 32 ≤ n.width = omega (arith, l) in wide n (rw e at m) k ∙ narrow_wide tape area w h fam e k)
-
 pub of_other : (tape area : Text) (w : ℕ) (fam : Text) {k : ℕ} → k ≡ kind_of w → (k ≡ Register → ⊥) → false ≡ of_family fam (token_of tape area w)
 of_other tape area w fam ek n = of_none tape area w (fam-other tape area w ek n) fam refl
 
--- `search (needs, families)` proves what the functions on one token leave
-pub ruleset families = (same_as_name, name-points, number_row, number_name, named-row, named_none, front-inside, named-front, fam-other, fam-register, as_known, of_none, of_other, of_as, narrow_none, narrow_wide, narrow_as)
+-- what the functions on one token leave
+pub ruleset families = (same_as_name, number_row, number_name, named-row, front-inside, named-front, fam-other, fam-register, of_none, of_other, of_as, narrow_none, narrow_wide, narrow_as)

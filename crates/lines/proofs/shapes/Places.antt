@@ -8,7 +8,7 @@ use mathlib.Core.Option.{Option, none, some}
 use lib.ListN.{length, get_or, drop, length-map, length-drop, get_or-map}
 use lib.Seq.{get_or-drop}
 use Rattle.reference.specs.Control.{when◌then◌else◌, let_some◌else◌then◌}
-use Rattle.reference.specs.Lists.{find, position, get, is_some}
+use Rattle.reference.specs.Lists.{find, position, get}
 use Rattle.reference.specs.Text.{Text}
 use Rattle.reference.specs.Listing.{is, Symbol}
 use Rattle.reference.proofs.Cases.{some_inj, none-some}

@@ -28,6 +28,9 @@ pub opened-other : (ws : List ℕ) (k : ℕ) → (k ≡ 1 → ⊥) → get_or (o
 unfolding opened
 opened-other ws k n = get_or-set_other ws 1 k (without_first (get_or ws 1 0) 3) 0 n
 
+-- what `right_word` leaves
+pub ruleset opening = (opened_one, opened-other)
+
 pub opened-holds : {tape area : Text} {ws : List ℕ} → Holds tape area ws → 1 < length ws → 3 ≤ len_of (get_or ws 1 0) → Holds tape area (opened ws)
 unfolding opened
 opened-holds {tape} {area} {ws} h l m = holds-set h 1 (without_first-points tape area (get_or ws 1 0) 3 (h.at 1 l) m)
@@ -96,10 +99,6 @@ module _ {ws : List ℕ} {x : Expr} (h : Expression ws x) where
 
     pub at_whole : x.cut ≡ false → k < x.count → get_or (opened ws) (x.first + k) 0 ≡ get_or (expr_words ws x) k 0
     at_whole c b = rw (whole_words c) (sym (part_at k b))
-
-    -- the word that is cut has a byte to cut
-    pub last-long : x.cut ≡ true → k + 1 ≡ x.count → 1 ≤ len_of (get_or (opened ws) (x.first + k) 0)
-    last-long c e = let q : x.first + x.count - 1 ≡ x.first + k = omega arith in rw q at (h.cut_is c)
 
   -- the line has a token to assign to, and another
   pub expr-long : 1 < length ws

@@ -10,7 +10,7 @@ use mathlib.Core.Option.{none, some}
 use lib.Dec.{eqb}
 use lib.ListN.{length, get_or, take, drop, length-drop, length-map, drop_of_length-le}
 use lib.Seq.{get_or-drop, take_all}
-use borrow.Author.Tests.{not-true, not-false, eq-eqb, ne_eqb, eqb-true}
+use borrow.Author.Tests.{eq-eqb, ne_eqb, eqb-true}
 use Rattle.reference.specs.Control.{when◌then◌else◌, let_some◌else◌then◌}
 use Rattle.reference.specs.Lists.{is_empty}
 use Rattle.reference.specs.Text.{Text, bytes, starts_with, ends_with}
@@ -219,5 +219,5 @@ assigned-not h e = rw (← h.is, e)
 pub assigned-side : {tape area : Text} {ws : List ℕ} {r : std.Option Expr} {x : Expr} → Assigns tape area ws r → r ≡ Some x → Expression ws x
 assigned-side {x = x} h e = h.side x e
 
--- `search (needs, sides)` proves what `right_side` and `assignment` leave
-pub ruleset sides = (not-true, not-false, side-empty, last-points, side_open, side-kept, side-only, side-gone, opens, assigned-short, assigned-other, assigned-next, assigned-rest)
+-- what `right_side` and `assignment` leave
+pub ruleset sides = (side-empty, last-points, side_open, side-kept, side-only, side-gone, assigned-other)

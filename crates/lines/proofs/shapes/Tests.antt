@@ -11,7 +11,7 @@ use Rattle.reference.specs.Lists.{any}
 use Rattle.reference.specs.Text.{Text, bytes, ◌≟◌, trim}
 use Rattle.reference.specs.Listing.{Token, is, Punct}
 use Rattle.reference.specs.Shapes.{is_operator, is_operator_expr}
-use Rattle.laws.proofs.Scans.{and_here, and_second, and_true, and_false, not_same}
+use Rattle.laws.proofs.Scans.{and_here, and_second, and_true, and_false, not_same, tests}
 use Rattle.lines.specs.Words.{kind_of, text_of, token_of}
 
 -- x is the kind that was read
@@ -37,7 +37,10 @@ kind_holds t k e h f = and_second (is_it t k e h) refl f
 pub kind_stops : (t : Token) (k : ℕ) (b : Bool) {x : ℕ} → x ≡ t.kind → (x ≡ k → ⊥) → eqb x k ≡ (is k t and b)
 kind_stops t k b e h = ne_eqb _ _ h ∙ kind_fails t k b e h
 
-pub ruleset kinds = (is_it, is_not, is_test, kind_fails, kind_holds, kind_stops)
+pub ruleset kinds = (is_it, kind_fails, kind_holds, kind_stops)
+
+-- what the tests of one or two tokens leave
+pub ruleset token_tests = (tests, kinds)
 
 -- ---- operators
 
@@ -50,6 +53,9 @@ module _ (tape area : Text) (w : ℕ) {k : ℕ} (ek : k ≡ kind_of w) (hk : k �
   pub operator_loose : length t < length s → {b : Bool} → b ≡ (t ≟ bytes ",") → not b ≡ is_operator (token_of tape area w)
   unfolding is_operator
   operator_loose h e = rw (← es, ← et) (kind_holds _ _ ek hk (and_second (sym (lt-ltb _ _ h)) refl (not_same e)))
+
+-- what `is_operator` leaves
+pub ruleset operators = (kinds, operator_tight, operator_loose)
 
 -- an expression of several tokens, and one of fewer
 pub operator_many : (ts : List Token) {b : Bool} → 1 < length ts → b ≡ any is_operator ts → b ≡ is_operator_expr ts

@@ -7,8 +7,7 @@ use Rattle.std.proofs.iter.Yields.{fronts, nat_range_steps}
 use Rattle.std.specs.Fn.{Called, CalledAt}
 use Rattle.std.specs.Iterator.{CallableAtEachTurn, ChecksAny, FindsPosition, Drains}
 use Rattle.std.specs.Iterator.Adapters.{filter_source, filter_callee, filter_steps}
-use Rattle.std.specs.List.{FoldsTo, list_any, range_with_len}
-use Rattle.std.specs.Option.{MatchOption}
+use Rattle.std.specs.List.{list_any, range_with_len}
 use Rattle.std.specs.Slice.Iter.{iter_rest, windows_rest, windows_size, windows_steps}
 use Rattle.std.specs.declared.ops.Range.{Range}
 use Rattle.std.specs.declared.iter.Filter.{Filter}

@@ -1,9 +1,9 @@
 -- Laws of line words: bounds, what a word that was made means, lists of lines, and that nothing matters but the used parts of the area and
 -- of the token words. Assumes nothing.
-use Prim.Native.Nat.{ℕ, ◌+◌, ◌%◌, ◌^◌, ◌≤◌, ◌<◌}
+use Prim.Native.Nat.{ℕ, zero, suc, ◌+◌, ◌%◌, ◌^◌, ◌≤◌, ◌<◌}
 use native.Mathlib.Omega.{arith}
 use native.Mathlib.Nat.{zero-div}
-use mathlib.Core.Path.{◌≡◌, sym, ap, ◌∙◌}
+use mathlib.Core.Path.{◌≡◌, refl, sym, ap, ◌∙◌}
 use mathlib.Core.List.{List, [], ◌∷◌, ◌++◌, map, map-map}
 use mathlib.Core.Option.{none, some}
 use lib.Dec.{eqb}
@@ -16,8 +16,8 @@ use Rattle.reference.specs.Listing.{Token, ◌at◌, with_tokens}
 use Rattle.laws.proofs.Parts.{part-below}
 use Rattle.lines.specs.Words.{tokens_of, Holds}
 use Rattle.lines.specs.Facts.{bit, Tells}
-use Rattle.lines.specs.Lines.{first_of, count_of, indent_of, addressed_of, origin_of, facts_of, with_facts, line_word, with_part, part_of, address_in, Reading, own, numbered, read_as, line_read}
-use Rattle.lines.specs.Lines.{listing_read, line_in, bare, bare_in, bare_listing, Lined, Listed}
+use Rattle.lines.specs.Lines.{first_of, count_of, indent_of, addressed_of, origin_of, facts_of, with_facts, flag, line_word, with_part, part_of}
+use Rattle.lines.specs.Lines.{address_in, Reading, own, numbered, read_as, line_read, listing_read, line_in, bare, bare_in, bare_listing, Lined, Listed}
 use Rattle.lines.proofs.words.Each.{each_none, each_one, each_take, each-drop, each_append, each_set, each-remove, map_at, map_same}
 use Rattle.lines.proofs.words.Tokens.{holds-take, holds-drop, holds-prefix, tokens-prefix}
 
@@ -36,6 +36,15 @@ indent-below l = omega arith
 pub addressed-below : (l : ℕ) → addressed_of l < 2
 unfolding addressed_of
 addressed-below l = omega arith
+
+-- the flag that `addressed` reads is the one that the word has
+pub flag_addressed : (l : ℕ) → flag (eqb (addressed_of l) 1) ≡ addressed_of l
+flag_addressed l = flag_of (addressed_of l) (addressed-below l)
+  where
+    flag_of : (a : ℕ) → a < 2 → flag (eqb a 1) ≡ a
+    flag_of zero h = refl
+    flag_of (suc zero) h = refl
+    flag_of (suc (suc a)) h = absurd (omega arith)
 
 pub origin_below : (l : ℕ) → origin_of l < 256
 unfolding origin_of
@@ -104,10 +113,18 @@ module _ (l f c : ℕ) (hf : f < 65536) (hc : c < 2048) where
   unfolding with_part
   with_indent = word-indent f c (indent_of l) (addressed_of l) (origin_of l) hf hc (indent-below l)
 
+  with_addressed : addressed_of (with_part l f c) ≡ addressed_of l
+  unfolding with_part
+  with_addressed = word-addressed f c (indent_of l) (addressed_of l) (origin_of l) hf hc (indent-below l) (addressed-below l)
+
+  with_origin : origin_of (with_part l f c) ≡ origin_of l
+  unfolding with_part
+  with_origin = word_origin f c (indent_of l) (addressed_of l) (origin_of l) hf hc (indent-below l) (addressed-below l) (origin_below l)
+
   with_address : (addresses : Reading) → read_as addresses (with_part l f c) ≡ read_as addresses l
-  unfolding with_part address_in
-  with_address (own addresses) = rw (word-addressed f c (indent_of l) (addressed_of l) (origin_of l) hf hc (indent-below l) (addressed-below l), word_origin f c (indent_of l) (addressed_of l) (origin_of l) hf hc (indent-below l) (addressed-below l) (origin_below l))
-  with_address numbered = rw (word_origin f c (indent_of l) (addressed_of l) (origin_of l) hf hc (indent-below l) (addressed-below l) (origin_below l))
+  unfolding address_in
+  with_address (own addresses) = rw (with_addressed, with_origin)
+  with_address numbered = rw with_origin
 
   pub with_read : (tape area : Text) (tokens : List ℕ) (addresses : Reading)
       → line_read tape area tokens addresses (with_part l f c)

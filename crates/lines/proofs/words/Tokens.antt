@@ -32,6 +32,9 @@ pub len_below : (w : ℕ) → len_of w < 65536
 unfolding len_of
 len_below w = omega arith
 
+-- what the functions that make a token of a part of another's text leave
+pub ruleset bounds = (kind_below, place_below, start_below, len_below)
+
 -- ---- reading back what was made
 
 module _ (k p s l : ℕ) (hk : k < 8) (hp : p < 2) (hs : s < 65536) where
@@ -101,6 +104,9 @@ pub part_is : (tape area : Text) (w : ℕ) {s l : ℕ} (src : Text) → s ≡ st
 unfolding text_of
 part_is tape area w {s} {l} src es el e = let k : s + l - s ≡ len_of w = omega arith in rw (k, es, e)
 
+-- what `text` leaves
+pub ruleset text_parts = (in_tape, in_area, part_is)
+
 -- ---- a text's length, and shorter parts of it
 
 pub text_length : {tape area : Text} {w : ℕ} → Points tape area w → length (text_of tape area w) ≡ len_of w
@@ -133,9 +139,6 @@ module _ (tape area : Text) (w n : ℕ) (h : Points tape area w) (hn : n ≤ len
       (omega (arith, h.inside)) (omega (arith, h.short))
 
 -- ---- lists of words
-
-pub holds_at : {tape area : Text} {ws : List ℕ} (k : ℕ) → Holds tape area ws → k < length ws → Points tape area (get_or ws k 0)
-holds_at k h = h.at k
 
 pub holds_none : (tape area : Text) → Holds tape area []
 holds_none tape area = record { at = each_none (Points tape area) }

@@ -1,8 +1,8 @@
 -- What the loop of `reports::put_visible` keeps true.
 use Rattle.std.proofs.Common.{take}
-use Rattle.numbers.specs.Writing.{Written}
+use Rattle.text.specs.Cursor.{Puts}
 use Rattle.reports.specs.Reports.{visible}
 use Rattle.reports.proofs.put_visible.Given as goal
 
 abbrev pub invariant-loop-b : goal.invariant-loop-b
-invariant-loop-b l = Written l.initial.out 0 (visible (take l.b-index l.name)) l.out l.end
+invariant-loop-b l = Puts l.initial.shown (visible (take l.b-index l.name)) l.shown

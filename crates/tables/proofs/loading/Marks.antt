@@ -31,6 +31,9 @@ use Rattle.reference.proofs.Tapes as Tapes
 use Rattle.reference.proofs.Writing.{with_token, Fresh, mark-last}
 use Rattle.joining.specs.Carried.{TOP, Pair, marks_of, Kept, joined, pair_at}
 use Rattle.joining.proofs.Carried.{some_marks, no_marks, joined-marks, kept-joined}
+use Rattle.std.proofs.lemmas.List.{map-set}
+use Rattle.lines.specs.declared.marks.Marks as Held
+use Rattle.lines.specs.Marks.{highs_of, lows_of}
 use Rattle.lines.specs.Lines.{origin_of}
 use Rattle.lines.proofs.words.Each.{map_at}
 use Rattle.lines.proofs.words.Lines.{word_origin}
@@ -239,11 +242,14 @@ module _ {tape : List ℕ} {records : List LineRecord} {at : ℕ} {t : Totals} (
 -- ---- two tables that have them
 
 -- one record more
-pub marking_more : {records : List LineRecord} {k : ℕ} {lows highs : List ℕ} → k < 256 → Marking records k lows highs
-    → let r = get_or records k blank in Marking records (k + 1) (set lows k r.low) (set highs k r.high)
-marking_more {records} {k} {lows} {highs} b m =
-    let r : LineRecord = get_or records k blank in
-    record {
+pub marking_more : {records : List LineRecord} {k : ℕ} (marks : List Held.Marks) → k < 256 → Marking records k (lows_of marks) (highs_of marks)
+    → let m = (get_or records k blank).marks in Marking records (k + 1) (lows_of (set marks k m)) (highs_of (set marks k m))
+marking_more {records} {k} marks b m =
+    let r = (get_or records k blank).marks in
+    let lows = lows_of marks in
+    let highs = highs_of marks in
+    rw (map-set (λ (m : Held.Marks). m.low) marks k r, map-set (λ (m : Held.Marks). m.high) marks k r)
+    (record {
       long_lows = rw length-set m.long_lows;
       long_highs = rw length-set m.long_highs;
       at = λ j h.
@@ -253,10 +259,7 @@ marking_more {records} {k} {lows} {highs} b m =
           let high : get_or (set highs k r.high) k 0 ≡ r.high = get_or-set_same highs k r.high 0 (omega (arith, m.long_highs)) in
           rw (e, low, high)))
           (λ e. rw (get_or-set_other lows k j r.low 0 e, get_or-set_other highs k j r.high 0 e) (m.at j (omega (arith, e))));
-    }
-
-pub marking_none : (records : List LineRecord) {lows highs : List ℕ} → 256 ≤ length lows → 256 ≤ length highs → Marking records 0 lows highs
-marking_none records a b = record { long_lows = a; long_highs = b; at = λ k h. absurd (omega arith) }
+    })
 
 pub marking-front : (records : List LineRecord) (n : ℕ) {lows highs : List ℕ} → n ≤ length records → Marking (take n records) (length (take n records)) lows highs
     → Marking records n lows highs

@@ -1,5 +1,5 @@
 -- Tables that hold records: one record more, and that what is loaded is in all tables that hold the same records. Assumes nothing.
-use Prim.Native.Nat.{ℕ, zero, suc, ◌+◌, ◌≤◌, ◌<◌}
+use Prim.Native.Nat.{ℕ, zero, suc, ◌≤◌, ◌<◌}
 use native.Mathlib.Omega.{arith}
 use native.Mathlib.Decide.{ℕ_discrete}
 use mathlib.Core.Logic.{by_cases}
@@ -8,9 +8,8 @@ use mathlib.Core.List.{List, [], ◌∷◌, ◌++◌, map}
 use mathlib.Core.Option.{Option, none, some}
 use lib.Dec.{eqb}
 use Rattle.std.specs.Prelude as std
-use Rattle.std.specs.Option.{unwrap_or}
 use lib.ListN.{length, take, drop, get_or, set, length-set}
-use lib.Seq.{take-suc, get_or-take, get_or-set_same, get_or-set_other, set-get_or, length-take-le}
+use lib.Seq.{take-suc, get_or-take, get_or-set_same, get_or-set_other, length-take-le}
 use Rattle.reference.specs.Control.{when◌then◌else◌}
 use Rattle.reference.specs.Text.{Text}
 use Rattle.reference.specs.Listing.{Line}
@@ -62,25 +61,8 @@ module _ (records : List LineRecord) {n : ℕ} (k n' : ℕ) (r : LineRecord) (he
           at = λ j b. by_cases (ℕ_discrete j k) (λ e. rw e held_here) (held-there j b);
         }
 
--- the tables take the next record
-pub holding_more : {records : List LineRecord} {k : ℕ} {lines addresses : List ℕ} {w a : ℕ} → k < 256 → w ≡ word_of k (get_or records k blank)
-    → a ≡ unwrap_or (get_or records k blank).address 0 → Holding records k lines addresses → Holding records (k + 1) (set lines k w) (set addresses k a)
-holding_more {records} {k} {lines} {addresses} {a = a} low e f h =
-    let r : LineRecord = get_or records k blank in
-    let more = holding-set records k (k + 1) r (ap (λ (l : List LineRecord). get_or l k blank) (set-get_or records k blank)) (λ j b d. omega arith)
-    (set addresses k a) low (length-set addresses k a)
-    (λ j d. get_or-set_other addresses k j a 0 d)
-    (λ x d. get_or-set_same addresses k a 0 (omega (arith, h.long_addresses)) ∙ f ∙ ap (λ (o : std.Option ℕ). unwrap_or o 0) d)
-    h in
-    rw e (rw (set-get_or records k blank) at more)
-
--- and the first of them
+-- the first records of them
 module _ (records : List LineRecord) (n : ℕ) where
-  pub fitting-front : n ≤ length records → Fitting records n → Fitting (take n records) (length (take n records))
-  fitting-front few f k b =
-      let low : k < n = omega (arith, length-take-le n records few) in
-      rw (get_or-take n records k blank low) (f k low)
-
   pub holding-front : {lines addresses : List ℕ} → n ≤ length records → Holding (take n records) (length (take n records)) lines addresses → Holding records n lines addresses
   holding-front {lines} {addresses} few h =
       record {

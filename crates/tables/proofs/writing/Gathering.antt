@@ -13,6 +13,8 @@ use lib.Seq.{length-take-le, take_all, take_at, paste, paste-suc, length-paste}
 use Rattle.std.specs.Bool.{then_some}
 use Rattle.reference.specs.Control.{when◌then◌else◌}
 use Rattle.reference.specs.Options.{option_of}
+use Rattle.text.specs.Cursor.{Fits}
+use Rattle.text.specs.declared.cursor.Cursor.{Cursor}
 use Rattle.lines.specs.Lines.{addressed_of, origin_of, address_in, Listed}
 use Rattle.lines.proofs.words.Each.{map_at}
 use Rattle.lines.proofs.words.Lines.{indent-below}
@@ -66,9 +68,9 @@ module _ (tape area tokens addresses lows highs : List ℕ) where
     pub gathered_lines : recorded tape area tokens (take (length lines) records) ≡ paged tape area tokens addresses lows highs lines
     gathered_lines = ap (map (marked_of tape area tokens)) taken ∙ meant lines
 
-    pub gathered_writes : (out : List ℕ) (at : ℕ) → Listed tape area tokens lines
-        → at + length (lines_bytes (paged tape area tokens addresses lows highs lines)) ≤ length out → Writes tape area tokens (take (length lines) records) out at
-    gathered_writes out at listed room =
+    pub gathered_writes : (p : Cursor) → Listed tape area tokens lines
+        → Fits p (length (lines_bytes (paged tape area tokens addresses lows highs lines))) → Writes tape area tokens (take (length lines) records) p
+    gathered_writes p listed room =
         record {
           sound = λ k h.
               let inside : k < length lines = omega (arith, ap length taken, length-map lines (record_of addresses lows highs)) in

@@ -91,7 +91,8 @@ module _ (form : TapeForm) (tape : List ℕ) (at : ℕ) where
     marked-cut h = cut_off (is_marks (head ∙ e)) (omega (arith, (marks_form_by form here (head ∙ e)).0))
 
     pub marked-whole : {low high : ℕ} → 1 + width form + width form ≤ length tape - at → low ≡ from_le_bytes (take (width form) (drop (at + 1) tape))
-        → high ≡ from_le_bytes (take (width form) (drop (at + (1 + width form)) tape)) → Passed (marked (record { lowest = low; highest = high }), 1 + width form + width form) ≡ standing_by form tape at
+        → high ≡ from_le_bytes (take (width form) (drop (at + (1 + width form)) tape))
+        → Passed (marked (record { lowest = low; highest = high }), 1 + width form + width form) ≡ standing_by form tape at
     marked-whole h el eh =
         let f = marks_form_by form here (head ∙ e) in
         let w = whole (is_marks (head ∙ e)) (omega (arith, f.0)) in

@@ -1,14 +1,17 @@
 -- Bytes put into a list one after the other. Assumes nothing.
-use Prim.Native.Nat.{ℕ, ◌+◌, ◌≤◌, ◌<◌}
+use Prim.Native.Nat.{ℕ, zero, suc, ◌+◌, ◌≤◌, ◌<◌}
 use native.Mathlib.Nat.{add-zero, zero-add}
 use native.Mathlib.Omega.{arith}
 use native.Mathlib.Numerals.{add-one}
 use mathlib.Core.Path.{◌≡◌, refl, sym, ap, ◌∙◌}
 use mathlib.Core.List.{List, [], ◌∷◌, ◌++◌, append_assoc, append-nil}
-use lib.ListN.{length, take, drop, set, length-append, length-drop, take-append-drop}
+use lib.ListN.{length, get_or, take, drop, set, length-append, length-drop, take-append-drop}
 use lib.Seq.{length-take-le, take-length, take_at, drop_at, drop-drop, set_split, append_snoc, paste}
-use borrow.Rule.Slice.PartMut.{put_mid}
-use Rattle.std.proofs.lemmas.Slice.{put_mid-paste}
+use Rattle.std.specs.Int as Int
+use Rattle.std.proofs.Common.{w16, w64, take_all}
+use Rattle.reference.specs.Tape.{from_le_bytes}
+use Rattle.reference.proofs.LittleEndian.{from_at}
+use Rattle.text.specs.Cursor.{Written}
 use Rattle.tape.specs.Bytes.{put, Puts}
 
 module _ (out : List ℕ) where
@@ -24,10 +27,6 @@ module _ (out : List ℕ) where
     pub put_pasted : (bytes : List ℕ) → paste out at bytes (length bytes) ≡ put out at bytes
     unfolding put
     put_pasted bytes = rw take-length
-
-    -- what a part of a slice holds, written through the part
-    pub put_part : {ys : List ℕ} (bytes : List ℕ) {k : ℕ} → ys ≡ bytes → k ≡ length bytes → put_mid at k out ys ≡ put out at bytes
-    put_part {ys} bytes {k} e n = put_mid-paste at k out ys bytes (length bytes) e (sym n) refl ∙ put_pasted bytes
 
     pub put_one : (b : ℕ) → at < length out → set out at b ≡ put out at (b ∷ [])
     unfolding put
@@ -53,9 +52,6 @@ module _ (out : List ℕ) where
         ∙ ap (λ (k : ℕ). drop k out) s in
         rw (take_at head tail (at + length a) n, back, append_assoc (take at out) a b)
 
-    pub put-cons : (b : ℕ) (bytes : List ℕ) → at < length out → put out at (b ∷ bytes) ≡ put (set out at b) (at + 1) bytes
-    put-cons b bytes h = sym (put_append (b ∷ []) bytes (omega arith)) ∙ ap (λ (o : List ℕ). put o (at + 1) bytes) (sym (put_one b h))
-
 -- ---- functions that write
 
 module _ (out : List ℕ) (at : ℕ) where
@@ -67,5 +63,43 @@ module _ (out : List ℕ) (at : ℕ) where
         ends = omega (arith, p.ends, q.ends, length-append a b);
       }
 
-  pub puts-length : (bytes : List ℕ) {after : List ℕ} {n : ℕ} → at + length bytes ≤ length out → Puts out at bytes after n → length after ≡ length out
-  puts-length bytes h p = ap length p.holds ∙ put-length out at bytes h
+-- ---- the same as what crate text says of a cursor
+
+module _ {out : List ℕ} {at : ℕ} {bytes after : List ℕ} {next : ℕ} where
+  pub puts_written : Written out at bytes after next → Puts out at bytes after next
+  puts_written w = record { holds = w.bytes_are ∙ put_pasted out at bytes; ends = w.end_is }
+
+-- ---- what std reads
+
+pub two_bytes : (tape : List ℕ) (at : ℕ) → Int.from_le_bytes w16 (get_or tape (at + 1) 0 ∷ get_or tape (at + 2) 0 ∷ []) ≡ from_le_bytes (take 2 (drop (at + 1) tape))
+unfolding from_le_bytes
+two_bytes tape at =
+    let two : at + 2 ≡ suc (suc at) = omega arith in
+    sym (rw (two, add-one, from_at 1 (suc at) tape, from_at 0 (suc (suc at)) tape) (omega arith))
+
+eight_bytes : (s : List ℕ) → Int.from_le_bytes w64 s ≡ from_le_bytes (take 8 (drop 0 s))
+unfolding from_le_bytes
+eight_bytes s =
+    sym (rw (from_at 7 0 s, from_at 6 1 s, from_at 5 2 s, from_at 4 3 s, from_at 3 4 s, from_at 2 5 s, from_at 1 6 s, from_at 0 7 s) (omega arith))
+
+none_left : (n : ℕ) (s : List ℕ) → from_le_bytes s ≡ 0 → from_le_bytes (drop n s) ≡ 0
+unfolding from_le_bytes
+none_left zero s e = e
+none_left (suc n) [] e = refl
+none_left (suc n) (b ∷ s) e = none_left n s (omega arith)
+
+then_none : (s t : List ℕ) → from_le_bytes t ≡ 0 → from_le_bytes (s ++ t) ≡ from_le_bytes s
+unfolding from_le_bytes
+then_none [] t e = e
+then_none (b ∷ s) t e = rw (then_none s t e)
+
+abbrev zeros : List ℕ
+zeros = 0 ∷ 0 ∷ 0 ∷ 0 ∷ 0 ∷ 0 ∷ 0 ∷ 0 ∷ []
+
+-- the front of eight bytes, the others being 0
+pub front_read : (n : ℕ) (s : List ℕ) → length s ≡ n → n ≤ 8 → Int.from_le_bytes w64 (s ++ drop n zeros) ≡ from_le_bytes s
+unfolding from_le_bytes
+front_read n s e h =
+    let t : List ℕ = drop n zeros in
+    let all : take 8 (s ++ t) ≡ s ++ t = take_all 8 (s ++ t) (omega (arith, length-append s t, length-drop n zeros)) in
+    eight_bytes (s ++ t) ∙ ap from_le_bytes all ∙ then_none s t (none_left n zeros (omega arith))

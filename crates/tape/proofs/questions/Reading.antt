@@ -13,7 +13,7 @@ use Rattle.reference.specs.Questions.{Totals, Answer, Refused, Passed, let_passe
 use Rattle.reference.proofs.Reading.{refused_passed, by_passed, let_refused, let_is, PassesBy, command_passed_by, advances, reading_by, reading_step_by, ReachedBy, here, on, reading_of, AcceptsBy}
 use Rattle.reference.proofs.Reading.{accepted, marks-read}
 use Rattle.reference.proofs.Tapes.{kept}
-use Rattle.tape.specs.Questions.{Sizes, sizes_in, AcceptedTape}
+use Rattle.tape.specs.Questions.{Sizes, sizes_in, AcceptedTape, ReadOne}
 
 -- the reading comes to this offset with these totals
 pub record ReadsBy (form : TapeForm) (tape : List ℕ) (at : ℕ) (t : Totals) : Type 0 where
@@ -65,6 +65,9 @@ module _ {form : TapeForm} {tape : List ℕ} {at : ℕ} {t : Totals} (r : ReadsB
     -- and the 03s are those that it came to
     pub marks_passed : is_end a.command ≡ true → marks_in_by form tape ≡ r.marks
     marks_passed n = marks-read tape r.lines (ends_here n)
+
+  pub read_ended : (a : Advance) × ReadOne form tape at t true a → read_by form tape ≡ Passed r.lines
+  read_ended e = read_passed e.1.passes e.1.ends
 
   pub sizes_are : record { lines = t.lines; tokens = t.tokens; text = t.text } ≡ sizes_in r.lines
   sizes_are = let k = kept tape r.reached in λ i. record { lines = k.lines i; tokens = k.tokens i; text = k.text i }

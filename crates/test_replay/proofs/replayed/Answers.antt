@@ -5,46 +5,32 @@ use mathlib.Core.Path.{◌≡◌, refl, sym, ◌∙◌}
 use mathlib.Core.List.{List}
 use lib.ListN.{length}
 use Rattle.test_replay.specs.Frames.{said_size, frame_size}
-use Rattle.test_replay.proofs.Framing.{found, left_behind}
+use Rattle.test_replay.proofs.Framing.{whole, left_behind}
 use Rattle.test_replay.proofs.Tallying.{ended, turned}
 use borrow.Author.Rules.{rules}
 use Rattle.test_replay.proofs.replayed.Goals as goal
 
--- the frame is whole, and the size is its own
-frame : (left : List ℕ) {n : ℕ} → n ≡ frame_size left → (n ≡ 0 → ⊥) → (n ≡ said_size left) × (said_size left ≤ length left)
-frame left e some = let f = found left (λ z. some (e ∙ z)) in (e ∙ f.0, f.1)
+-- the size of a whole frame is its own, and is not 0
+is_own : (left : List ℕ) {n : ℕ} → (n ≡ said_size left) × (said_size left ≤ length left) → n ≡ frame_size left
+is_own left e = e.0 ∙ whole left e.1
 
-pub loop-left-init : goal.loop-left-init
-loop-left-init c = (refl, search rules, search rules)
+some : (left : List ℕ) {n : ℕ} → (n ≡ said_size left) × (said_size left ≤ length left) → frame_size left ≡ 0 → ⊥
+some left e z = omega (arith, e.1, whole left e.1)
 
-pub returns-then-n-eq0-clause-value : goal.returns-then-n-eq0-clause-value
-returns-then-n-eq0-clause-value c =
-    let l = c.loop-left in
-    sym (l.invariant.0 ∙ ended _ _ _ (sym c.size-n.ensures ∙ c.if-n-eq0.true))
+pub loop-n-init : goal.loop-n-init
+loop-n-init c = (refl, search rules, search rules)
 
-pub counted-counts-requires : goal.counted-counts-requires
-counted-counts-requires c = record {
-  whole = (frame c.loop-left.left.now c.size-n.ensures c.if-n-eq0.false).1;
-  tapes_bound = (omega (arith, c.requires), c.loop-left.invariant.2);
-}
+pub loop-n-smaller : goal.loop-n-smaller
+loop-n-smaller c = omega (arith, c.in-Some.ensures.0, c.in-Some.ensures.1, left_behind c.loop-n.left.now c.in-Some.n)
 
-pub slice_bounds-next-count : goal.slice_bounds-next-count
-slice_bounds-next-count c = let f = frame c.loop-left.left.now c.size-n.ensures c.if-n-eq0.false in omega arith
-
-pub slice_bounds-next-start : goal.slice_bounds-next-start
-slice_bounds-next-start c = let f = frame c.loop-left.left.now c.size-n.ensures c.if-n-eq0.false in omega arith
-
-pub loop-left-smaller : goal.loop-left-smaller
-loop-left-smaller c =
-    let f = frame c.loop-left.left.now c.size-n.ensures c.if-n-eq0.false in
-    omega (arith, left_behind c.loop-left.left.now c.size-n.result)
-
-pub loop-left-preserved : goal.loop-left-preserved
-loop-left-preserved c =
-    let l = c.loop-left in
-    let f = frame l.left.now c.size-n.ensures c.if-n-eq0.false in (
-      l.invariant.0
-          ∙ turned _ l.left.now _ c.size-n.ensures (λ e. c.if-n-eq0.false (c.size-n.ensures ∙ e)) c.counted-counts.ensures.value,
-      omega (arith, c.counted-counts.ensures.differ_le_tapes, left_behind l.left.now c.size-n.result),
+pub loop-n-preserved : goal.loop-n-preserved
+loop-n-preserved c =
+    let l = c.loop-n in
+    let e = c.in-Some.ensures in (
+      l.invariant.0 ∙ turned _ l.left.now _ (is_own l.left.now e) (some l.left.now e) c.counted-counts.ensures.value,
+      omega (arith, c.counted-counts.ensures.differ_le_tapes, e.0, e.1, left_behind l.left.now c.in-Some.n),
       c.counted-counts.ensures.differ_le_tapes.0,
     )
+
+pub returns-clause-value : goal.returns-clause-value
+returns-clause-value c = sym (c.loop-n.invariant.0 ∙ ended _ _ _ c.in_default.ensures)

@@ -9,13 +9,13 @@ use Rattle.arguments.proofs.entries.entry_in.Goals as goal
 pub returns-in_err-n : goal.returns-in_err-n
 returns-in_err-n c = let e : entry_value c.args.word.now ≡ none = entry_missing _ (sym c.equals_in.ensures ∙ c.in_err-n.was) in search rules
 
-pub returns-then-n-gt255 : goal.returns-then-n-gt255
-returns-then-n-gt255 c = entry_long _ (sym c.equals_in.ensures ∙ c.in_ok-n.was) c.if-n-gt255.true
+pub returns-then-n-gt-LONGEST : goal.returns-then-n-gt-LONGEST
+returns-then-n-gt-LONGEST c = entry_long _ (sym c.equals_in.ensures ∙ c.in_ok-n.was) c.if-n-gt-LONGEST.true
 
 pub returns-in_err-value : goal.returns-in_err-value
 returns-in_err-value c =
-    let e : entry_value c.args.word.now ≡ none = entry_read _ (sym c.equals_in.ensures ∙ c.in_ok-n.was) c.if-n-gt255.false _ c.integer_in.ensures ∙ ap option_of c.in_err-value.was in
+    let e : entry_value c.args.word.now ≡ none = entry_read _ (sym c.equals_in.ensures ∙ c.in_ok-n.was) c.if-n-gt-LONGEST.false _ c.integer_in.ensures ∙ ap option_of c.in_err-value.was in
     search rules
 
 pub returns : goal.returns
-returns c = entry_is _ (sym c.equals_in.ensures ∙ c.in_ok-n.was) c.if-n-gt255.false _ _ c.integer_in.ensures c.in_ok-value.was
+returns c = entry_is _ (sym c.equals_in.ensures ∙ c.in_ok-n.was) c.if-n-gt-LONGEST.false _ _ c.integer_in.ensures c.in_ok-value.was

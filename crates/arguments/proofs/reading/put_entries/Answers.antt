@@ -1,25 +1,30 @@
 -- `arguments::reading::put_entries` meets its contract. Assumes nothing.
-use Rattle.std.proofs.Common.{arith}
+use Rattle.std.proofs.Common.{arith, length, ap}
+use borrow.Author.Rules.{rules}
+use Rattle.text.proofs.Cursors.{room_left, at_front}
 use Rattle.arguments.specs.Words.{is_at}
 use Rattle.arguments.proofs.Naming.{taken-length}
 use Rattle.arguments.proofs.Gathering.{begun_first, begun-next, begun_all}
 use Rattle.arguments.proofs.reading.put_entries.Goals as goal
 
 pub loop-word-init : goal.loop-word-init
-loop-word-init c = record { counted = omega arith; room = omega arith; before = λ h. omega arith; begun = begun_first _ _ c.begin-s.ensures }
+loop-word-init c =
+    let n = ap length c.new-list.ensures.same_bytes in
+    record { counted = omega arith; room = omega (arith, n); before = λ h. omega (arith, n); begun = begun_first _ c.begin-s.ensures (omega arith) }
 
 pub loop-word-preserved : goal.loop-word-preserved
 loop-word-preserved c =
     let w = c.in-Some.word.now in
     let f = c.in-Some.ensures in
-    let p = rw c.is_at.ensures at c.put_taken-end.ensures in
+    let p = rw c.is_at.ensures at c.put_taken.ensures in
+    let before = c.loop-word.invariant.before (omega (arith, f.falls)) in
     let n = taken-length (is_at c.step-s.result.entry c.loop-word.k) w in
     record {
       counted = omega (arith, f.falls);
-      room = omega (arith, p.end_is, n, f.within, f.falls);
-      before = λ h. omega (arith, p.end_is, n, f.falls, f.ended h);
-      begun = begun-next _ _ _ f.splits _ _ c.step-s.ensures c.loop-word.invariant.begun p (omega (arith, p.end_is, n, f.within, f.falls));
+      room = room_left p _ (omega (arith, n, f.within, before));
+      before = λ h. room_left p _ (omega (arith, n, f.ended h, before));
+      begun = begun-next _ _ f.splits _ _ c.step-s.ensures c.loop-word.invariant.begun p;
     }
 
 pub returns : goal.returns
-returns c = begun_all _ _ c.in_default.ensures c.loop-word.invariant.begun
+returns c = at_front (begun_all _ c.in_default.ensures c.loop-word.invariant.begun) (search rules) (search rules) (search rules)

@@ -11,9 +11,7 @@ use Rattle.build.proofs.append.extend_last.Goals as goal
 
 pub token_word-requires : goal.token_word-requires
 token_word-requires c =
-    let a = c.args in
-    let p = c.requires in
-    let w = get_or a.tokens.now (a.size.tokens - 1) 0 in omega (arith, kind_below w, start_below w, c.kind.ensures, c.start.ensures, c.len.ensures, p.1.short, p.3)
+    let w = get_or c.args.tokens.now (c.args.size.tokens - 1) 0 in omega (arith, kind_below w, start_below w, c.kind.ensures, c.start.ensures, c.len.ensures, c.requires.1.short, c.requires.3)
 
 pub returns : goal.returns
 returns c =

@@ -11,25 +11,15 @@ use Rattle.build.proofs.append.keep.Goals as goal
 
 pub returns-then-buffer-eq-IN_TAPE : goal.returns-then-buffer-eq-IN_TAPE
 returns-then-buffer-eq-IN_TAPE c =
-    let a = c.args in
-    let p = c.requires in
-    appends_within refl zero-le (c.add_word.ensures a.tape.now a.old.now a.area.now p.0)
+    appends_within refl zero-le (c.add_word.ensures _ _ c.args.area.now c.requires.0)
 
 pub add_text-requires : goal.add_text-requires
 add_text-requires c =
-    let text = c.text in
-    let a = c.args in
-    let p = c.requires in
-    let kind = c.kind in
-    let l : length text.result.now ≤ len_of a.w = omega (arith, ap length text.ensures, text_length p.0) in
-    (omega (arith, kind.ensures, kind_below a.w), room_within l (le_refl _) p.1)
+    let l : length c.text.result.now ≤ len_of c.args.w = omega (arith, ap length c.text.ensures, text_length c.requires.0) in
+    (omega (arith, c.kind.ensures, kind_below c.args.w), room_within l (le_refl _) c.requires.1)
 
 pub returns-else-buffer-eq-IN_TAPE : goal.returns-else-buffer-eq-IN_TAPE
 returns-else-buffer-eq-IN_TAPE c =
     let text = c.text in
-    let a = c.args in
-    let p = c.requires in
-    let kind = c.kind in
-    let add-text = c.add_text in
-    let l : length text.result.now ≤ len_of a.w = omega (arith, ap length text.ensures, text_length p.0) in
-    appends_within (rw (kind.ensures, text.ensures)) l (add-text.ensures.0 a.tape.now)
+    let l : length text.result.now ≤ len_of c.args.w = omega (arith, ap length text.ensures, text_length c.requires.0) in
+    appends_within (rw (c.kind.ensures, text.ensures)) l (c.add_text.ensures.0 _)

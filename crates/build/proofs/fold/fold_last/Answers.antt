@@ -4,11 +4,9 @@ use Rattle.build.proofs.fold.fold_last.Goals as goal
 
 pub fold-f-requires : goal.fold-f-requires
 fold-f-requires c =
-    let p = c.requires in
-    foldable-last p.0 p.1
+    foldable-last c.requires.0 c.requires.1
 
 pub returns : goal.returns
 returns c =
-    let p = c.requires in
     let fold = c.fold-f in
-    folded-last p.0 _ fold.ensures fold.auto.area fold.auto.line p.1
+    folded-last c.requires.0 _ fold.ensures fold.auto.area fold.auto.line c.requires.1

@@ -6,15 +6,8 @@ use Rattle.build.proofs.line.keep_line.Goals as goal
 
 pub with_tokens-requires : goal.with_tokens-requires
 with_tokens-requires c =
-    let p = c.requires in
-    let a = c.args in
-    let line_of = c.line_of in
-    let keep-tokens = c.keep_tokens-s in
-    (p.first_fits, omega (arith, count-below a.l, part_length p.lined, (rw line_of.ensures at keep-tokens.ensures).words_most))
+    (c.requires.first_fits, omega (arith, count-below c.args.l, part_length c.requires.lined, (rw c.line_of.ensures at c.keep_tokens-s.ensures).words_most))
 
 pub returns : goal.returns
 returns c =
-    let p = c.requires in
-    let line_of = c.line_of in
-    let keep-tokens = c.keep_tokens-s in
-    added-kept p.lined p.first_fits c.with_tokens.ensures (rw line_of.ensures at keep-tokens.ensures)
+    added-kept c.requires.lined c.requires.first_fits c.with_tokens.ensures (rw c.line_of.ensures at c.keep_tokens-s.ensures)

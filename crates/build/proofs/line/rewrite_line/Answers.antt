@@ -10,30 +10,22 @@ use Rattle.build.proofs.line.rewrite_line.Goals as goal
 pub merge-merged-requires : goal.merge-merged-requires
 merge-merged-requires c =
     let a = c.args in
-    let line_of = c.line_of in
     let p = c.requires in
-    rw (line_of.ensures, c.line_of-2.ensures)
-    (p.substitutes, p.lined.holds, room-merge (unmerged a.tape.now a.old.now a.old_tokens.now a.source a.j a.l) p.numbers_short p.has_room)
+    rw (c.line_of.ensures, c.line_of-2.ensures)
+    (p.substitutes, p.lined.holds, room-merge (unmerged _ _ a.old_tokens.now a.source a.j a.l) p.numbers_short p.has_room)
 
 pub fold_last-s-requires : goal.fold_last-s-requires
 fold_last-s-requires c =
     let a = c.args in
-    let line_of = c.line_of in
-    let line-of2 = c.line_of-2 in
     let merge = c.merge-merged in
-    let p = c.requires in
-    let l = rw (line_of.ensures, line-of2.ensures) at merge.ensures in
-    (l.built, room-fold (unmerged a.tape.now a.old.now a.old_tokens.now a.source a.j a.l) p.numbers_short p.has_room l merge.auto.area merge.auto.tokens)
+    let l = rw (c.line_of.ensures, c.line_of-2.ensures) at merge.ensures in
+    (l.built, room-fold (unmerged _ _ a.old_tokens.now a.source a.j a.l) c.requires.numbers_short c.requires.has_room l merge.auto.area merge.auto.tokens)
 
 pub returns : goal.returns
 returns c =
     let a = c.args in
-    let line_of = c.line_of in
-    let line-of2 = c.line_of-2 in
-    let merge = c.merge-merged in
     let p = c.requires in
-    let fold-last = c.fold_last-s in
-    let l = rw (line_of.ensures, line-of2.ensures) at merge.ensures in
-    let ts = unmerged a.tape.now a.old.now a.old_tokens.now a.source a.j a.l in
-    added_rewritten p.lined p.first_fits c.with_tokens.ensures a.edition (fam_text a.tape.now a.old.now a.j.family) (right_of a.tape.now a.old.now (part_of a.old_tokens.now a.source) a.j) p.few
-    (line_added_folded ts p.numbers_short p.has_room l fold-last.ensures)
+    let l = rw (c.line_of.ensures, c.line_of-2.ensures) at c.merge-merged.ensures in
+    let ts = unmerged _ _ a.old_tokens.now a.source a.j a.l in
+    added_rewritten p.lined p.first_fits c.with_tokens.ensures a.edition (fam_text _ _ a.j.family) (right_of _ _ (part_of a.old_tokens.now a.source) a.j) p.few
+    (line_added_folded ts p.numbers_short p.has_room l c.fold_last-s.ensures)

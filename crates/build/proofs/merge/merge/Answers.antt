@@ -10,7 +10,7 @@ use Rattle.build.proofs.merge.merge.Goals as goal
 pub loop-w-init : goal.loop-w-init
 loop-w-init c =
     let a = c.args in
-    merge_begin a.tape.now a.old.now a.source.now a.j a.line.now c.requires.2
+    merge_begin _ _ a.source.now a.j a.line.now c.requires.2
 
 pub push_used-s-requires : goal.push_used-s-requires
 push_used-s-requires c =
@@ -19,15 +19,14 @@ push_used-s-requires c =
     let p = c.requires in (
       p.0,
       p.1.at l.w-index c.loop-w-test.true,
-      ready_then l.invariant _ (substituted a.tape.now a.old.now a.source.now a.j (drop (l.w-index + 1) a.line.now)) p.2
-          (substituted-split a.tape.now a.old.now a.source.now a.j a.line.now l.w-index c.loop-w-test.true) l.auto.area l.auto.tokens,
+      ready_then l.invariant _ (substituted _ _ a.source.now a.j (drop (l.w-index + 1) a.line.now)) p.2
+          (substituted-split _ _ a.source.now a.j a.line.now l.w-index c.loop-w-test.true) l.auto.area l.auto.tokens,
     )
 
 pub loop-w-preserved : goal.loop-w-preserved
 loop-w-preserved c =
     let a = c.args in
-    let l = c.loop-w in
-    rw (substituted_more a.tape.now a.old.now a.source.now a.j a.line.now l.w-index c.loop-w-test.true) (pushed_then l.invariant c.push_used-s.ensures)
+    rw (substituted_more _ _ a.source.now a.j a.line.now c.loop-w.w-index c.loop-w-test.true) (pushed_then c.loop-w.invariant c.push_used-s.ensures)
 
 pub returns : goal.returns
 returns c = line_added_merged (rw (take_all c.loop-w.w-index c.args.line.now c.loop-w-test.false) at c.loop-w.invariant)

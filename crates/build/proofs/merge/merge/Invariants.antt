@@ -5,4 +5,4 @@ use Rattle.build.specs.Substitution.{substituted}
 use Rattle.build.proofs.merge.merge.Given as goal
 
 abbrev pub invariant-loop-w : goal.invariant-loop-w
-invariant-loop-w l = Pushed l.tape l.initial.area l.initial.tokens l.from l.initial.s (substituted l.tape l.old l.source l.j (take l.w-index l.line)) l.area l.tokens l.s
+invariant-loop-w l = Pushed l.texts.tape.now l.initial.area l.initial.tokens l.from l.initial.s (substituted l.texts.tape.now l.texts.area.now l.source l.j (take l.w-index l.line)) l.area l.tokens l.s

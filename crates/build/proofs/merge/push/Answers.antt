@@ -15,13 +15,9 @@ use Rattle.build.proofs.merge.push.Goals as goal
 
 pub push_text-requires : goal.push_text-requires
 push_text-requires c =
-    let is-joined = c.is_joined in
-    let if1 = c.if-is_joined in
-    let kind = c.kind-kind in
-    let a = c.args in
     let p = c.requires in (
-      sym is-joined.ensures ∙ if1.true,
-      omega (arith, kind.ensures, kind_below a.w),
+      sym c.is_joined.ensures ∙ c.if-is_joined.true,
+      omega (arith, c.kind-kind.ensures, kind_below c.args.w),
       p.1.extendable,
       room_within (omega (arith, ap length c.text.ensures)) (le_refl _) p.1.room,
     )
@@ -34,12 +30,8 @@ keep-requires c =
 pub returns-else-is_joined : goal.returns-else-is_joined
 returns-else-is_joined c =
     let p = c.requires in
-    let a = c.args in
-    let is-joined = c.is_joined in
-    let kind = c.kind-kind in
-    let if1 = c.if-is_joined in
     let keep = c.keep in
     let r = p.1 in
-    let n : joinable (kind_of a.w) ≡ false = sym (is-joined.ensures ∙ ap joinable kind.ensures) ∙ if1.false in
+    let n : joinable (kind_of c.args.w) ≡ false = sym (c.is_joined.ensures ∙ ap joinable c.kind-kind.ensures) ∙ c.if-is_joined.false in
     pushed_added r.built keep.auto.area keep.auto.tokens (omega (arith, r.room.text_fits, text_length p.0)) (omega (arith, text_length p.0))
-    keep.ensures (omega (arith, r.room.words_fit)) (λ y. absurd (true-false y n)) (λ h. no_join_ever _ (token_of a.tape.now a.old.now a.w) n)
+    keep.ensures (omega (arith, r.room.words_fit)) (λ y. absurd (true-false y n)) (λ h. no_join_ever _ (token_of _ _ c.args.w) n)

@@ -14,22 +14,20 @@ loop-k-init c = pushed_none c.requires.2
 
 pub push-s-requires : goal.push-s-requires
 push-s-requires c =
-    let a = c.args in
     let l = c.loop-k in
     let p = c.requires in
-    let ws = expr_words a.source.now a.x in
+    let ws = expr_words c.args.source.now c.args.x in
     let h : l.k < length ws = omega (arith, expr-length p.1) in (
       expr-points p.0 p.1 (omega arith) c.expr_word.ensures,
-      rw c.expr_word.ensures (ready_then l.invariant _ (tokens_of a.tape.now a.old.now (drop (l.k + 1) ws)) p.2.room (tokens-split a.tape.now a.old.now ws l.k h) l.auto.area l.auto.tokens),
+      rw c.expr_word.ensures (ready_then l.invariant _ (tokens_of _ _ (drop (l.k + 1) ws)) p.2.room (tokens-split _ _ ws l.k h) l.auto.area l.auto.tokens),
     )
 
 pub loop-k-preserved : goal.loop-k-preserved
 loop-k-preserved c =
-    let a = c.args in
     let l = c.loop-k in
-    let ws = expr_words a.source.now a.x in
+    let ws = expr_words c.args.source.now c.args.x in
     let h : l.k < length ws = omega (arith, expr-length c.requires.1) in
-    rw (tokens_more a.tape.now a.old.now ws l.k h) (pushed_then l.invariant (rw c.expr_word.ensures at c.push-s.ensures))
+    rw (tokens_more _ _ ws l.k h) (pushed_then l.invariant (rw c.expr_word.ensures at c.push-s.ensures))
 
 pub returns : goal.returns
 returns c =

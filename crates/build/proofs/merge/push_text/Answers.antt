@@ -11,30 +11,23 @@ use Rattle.build.proofs.merge.push_text.Goals as goal
 pub extend_last-requires : goal.extend_last-requires
 extend_last-requires c =
     let p = c.requires in
-    let extends = c.extends in
-    let l = extendable-last p.0 p.2 (sym extends.ensures ∙ c.if-extends.true) in
+    let l = extendable-last p.0 p.2 (sym c.extends.ensures ∙ c.if-extends.true) in
     (omega (arith, l.0), room_within (le_refl _) (omega arith) p.3, l.2, l.3)
 
 pub returns-then-extends : goal.returns-then-extends
 returns-then-extends c =
     let p = c.requires in
-    let extends = c.extends in
-    let if1 = c.if-extends in
     let extend-last = c.extend_last in
-    let a = c.args in
-    let l = extendable-last p.0 p.2 (sym extends.ensures ∙ if1.true) in
+    let l = extendable-last p.0 p.2 (sym c.extends.ensures ∙ c.if-extends.true) in
     λ tape b.
     pushed_joined b extend-last.auto.area extend-last.auto.tokens p.3.text_fits (le_refl _) (extend-last.ensures.0 tape) l.0 extend-last.ensures.1
-    (join-now _ (token a.kind a.s.now) l.1 p.0)
+    (join-now _ (token c.args.kind c.args.s.now) l.1 p.0)
 
 pub returns-else-extends : goal.returns-else-extends
 returns-else-extends c =
     let add-text = c.add_text in
-    let p = c.requires in
     let a = c.args in
-    let extends = c.extends in
-    let if1 = c.if-extends in
     λ tape b.
-    pushed_added b add-text.auto.area add-text.auto.tokens p.3.text_fits (le_refl _) (add-text.ensures.0 tape) (omega (arith, p.3.words_fit))
+    pushed_added b add-text.auto.area add-text.auto.tokens c.requires.3.text_fits (le_refl _) (add-text.ensures.0 tape) (omega (arith, c.requires.3.words_fit))
     (λ _. add-text.ensures.1)
-    (λ h. no_join_kind _ (token a.kind a.s.now) (extends-false a.kind a.tokens.now a.from a.size (sym extends.ensures ∙ if1.false) h))
+    (λ h. no_join_kind _ (token a.kind a.s.now) (extends-false a.kind a.tokens.now a.from a.size (sym c.extends.ensures ∙ c.if-extends.false) h))

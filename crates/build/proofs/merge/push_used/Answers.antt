@@ -4,33 +4,32 @@ use Rattle.build.proofs.merge.push_used.Goals as goal
 
 pub push-requires : goal.push-requires
 push-requires c =
-    let p = c.requires in
     let a = c.args in
-    (p.1, rw (used-kept a.tape.now a.old.now a.source.now a.j a.w c.is_of.ensures c.if-not-is_of.true) at p.2)
+    (c.requires.1, rw (used-kept _ _ a.source.now a.j a.w c.is_of.ensures c.if-not-is_of.true) at c.requires.2)
 
 pub returns-then-not-is_of : goal.returns-then-not-is_of
 returns-then-not-is_of c =
     let a = c.args in
-    rw (used-kept a.tape.now a.old.now a.source.now a.j a.w c.is_of.ensures c.if-not-is_of.true) c.push.ensures
+    rw (used-kept _ _ a.source.now a.j a.w c.is_of.ensures c.if-not-is_of.true) c.push.ensures
 
 pub push_bracketed-requires : goal.push_bracketed-requires
 push_bracketed-requires c =
     let p = c.requires in
     let a = c.args in
-    (p.0.holds, p.0.expression, rw (used-bracketed a.tape.now a.old.now a.source.now a.j a.w c.is_of.ensures c.if-not-is_of.false c.if-brackets.true) at p.2)
+    (p.0.holds, p.0.expression, rw (used-bracketed _ _ a.source.now a.j a.w c.is_of.ensures c.if-not-is_of.false c.if-brackets.true) at p.2)
 
 pub returns-then-brackets : goal.returns-then-brackets
 returns-then-brackets c =
     let a = c.args in
-    rw (used-bracketed a.tape.now a.old.now a.source.now a.j a.w c.is_of.ensures c.if-not-is_of.false c.if-brackets.true) c.push_bracketed.ensures
+    rw (used-bracketed _ _ a.source.now a.j a.w c.is_of.ensures c.if-not-is_of.false c.if-brackets.true) c.push_bracketed.ensures
 
 pub push_expr-requires : goal.push_expr-requires
 push_expr-requires c =
     let p = c.requires in
     let a = c.args in
-    (p.0.holds, p.0.expression, rw (used-plain a.tape.now a.old.now a.source.now a.j a.w c.is_of.ensures c.if-not-is_of.false c.if-brackets.false) at p.2)
+    (p.0.holds, p.0.expression, rw (used-plain _ _ a.source.now a.j a.w c.is_of.ensures c.if-not-is_of.false c.if-brackets.false) at p.2)
 
 pub returns-else-brackets : goal.returns-else-brackets
 returns-else-brackets c =
     let a = c.args in
-    rw (used-plain a.tape.now a.old.now a.source.now a.j a.w c.is_of.ensures c.if-not-is_of.false c.if-brackets.false) c.push_expr.ensures
+    rw (used-plain _ _ a.source.now a.j a.w c.is_of.ensures c.if-not-is_of.false c.if-brackets.false) c.push_expr.ensures

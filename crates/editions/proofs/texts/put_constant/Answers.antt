@@ -15,18 +15,12 @@ slice_bounds-row-start c = slice_bounds-row-count c
 
 pub put_hexadecimal-requires : goal.put_hexadecimal-requires
 put_hexadecimal-requires c =
-    row_room c.args.s.now c.begins_binary.ensures c.requires.0 c.if-not-begins_binary.false c.args.at
-    (c.in-Some.ensures) c.requires.1
+    row_room c.args.s.now c.begins_binary.ensures c.requires.0 c.if-not-begins_binary.false c.args.out.now c.in-Some.ensures c.requires.1
 
 pub returns-in-Some : goal.returns-in-Some
 returns-in-Some c =
-    rw
-    (row_read c.args.s.now c.begins_binary.ensures c.requires.0 c.if-not-begins_binary.false
-    (c.in-Some.ensures))
-    c.put_hexadecimal.ensures
+    rw (row_read c.args.s.now c.begins_binary.ensures c.requires.0 c.if-not-begins_binary.false c.in-Some.ensures) c.put_hexadecimal.ensures
 
-pub returns-in-None : goal.returns-in-None
-returns-in-None c =
-    absurd
-    (row-unread c.args.s.now c.begins_binary.ensures c.requires.0 c.if-not-begins_binary.false
-    (c.in-None.ensures))
+pub returns-in_default : goal.returns-in_default
+returns-in_default c =
+    absurd (row-unread c.args.s.now c.begins_binary.ensures c.requires.0 c.if-not-begins_binary.false c.in_default.ensures)

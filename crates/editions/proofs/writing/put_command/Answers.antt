@@ -27,8 +27,8 @@ returns-in_default c = let a = c.args in
           let l = rw w.in-Token.is at c.requires in
           rw w.in-Token.is
           (copy-puts l (other-command a.tape.now a.at w.in-Token.kind w.in-Token.count w.if-kind-eq-NUMBER.false)
-          (rw (c.size_of.ensures ∙ ap size_of w.command-is) at c.put_part.ensures)))
+          (rw (c.size_of.ensures ∙ ap size_of w.command-is) at c.text_of.ensures) c.put.ensures))
       | in_default-via-in_default w ↦
           copy-puts c.requires (same_command a.tape.now a.at a.command w.in_default.not-Token)
-          (rw (c.size_of.ensures ∙ ap size_of w.command-is) at c.put_part.ensures)
+          (rw (c.size_of.ensures ∙ ap size_of w.command-is) at c.text_of.ensures) c.put.ensures
     ]

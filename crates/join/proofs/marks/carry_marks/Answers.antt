@@ -1,10 +1,9 @@
 -- `join::marks::carry_marks` meets its contract. Assumes nothing.
-use Prim.Native.Nat.{ℕ, ◌<◌}
+use Prim.Native.Nat.{◌<◌}
 use native.Mathlib.Omega.{arith}
-use mathlib.Core.Path.{ap}
-use lib.ListN.{length, get_or}
+use lib.ListN.{length}
 use Rattle.join.proofs.Rows.{last-inside}
-use Rattle.join.proofs.Carrying.{carry-begun, carry-kept, carry-taken, carried}
+use Rattle.join.proofs.Carrying.{carry-begun, carry-kept, carry-taken, carried, low_at, high_at}
 use Rattle.join.proofs.marks.carry_marks.Goals as goal
 use Rattle.join.proofs.marks.carry_marks.Goals.{then-is_changed, else-is_changed}
 
@@ -19,19 +18,18 @@ is_changed-requires c =
 pub loop-k-preserved : goal.loop-k-preserved
 loop-k-preserved c =
     let l = c.loop-k in
-    let inside : l.k < length c.args.lines.now = omega (arith, last-inside c.requires.0) in
+    let inside : l.k < length c.args.listing.now.lines.now = omega (arith, last-inside c.requires.0) in
     record {
       inside = omega arith;
       carrying = elim c.if-is_changed.branch [
         | then-is_changed w ↦
-            rw (w.lows-is, w.highs-is)
-            (carry-taken _ _ _ _ _ _ _ _ _ _ l.invariant.carrying inside c.is_changed.ensures w.if-is_changed.true w.origin.ensures w.take_in.ensures.lows_after w.take_in.ensures.highs_after)
-        | else-is_changed w ↦ rw (w.lows-is, w.highs-is) (carry-kept _ _ _ _ _ _ _ _ _ _ l.invariant.carrying inside c.is_changed.ensures w.if-is_changed.false)
+            let taken = w.take_in.ensures in
+            rw w.marks-is
+            (carry-taken _ _ _ _ _ _ _ _ _ _ l.invariant.carrying inside c.is_changed.ensures w.if-is_changed.true w.origin-then-is_changed.ensures taken.lows_after taken.highs_after)
+        | else-is_changed w ↦ rw w.marks-is (carry-kept _ _ _ _ _ _ _ _ _ _ l.invariant.carrying inside c.is_changed.ensures w.if-is_changed.false)
       ];
     }
 
 pub returns : goal.returns
 returns c =
-    let o = c.origin-source.ensures in
-    let i = c.loop-k.invariant in
-    carried _ _ _ _ _ _ _ _ _ _ i.carrying (ap (λ (k : ℕ). get_or c.args.lows.now k 0) o) (ap (λ (k : ℕ). get_or c.args.highs.now k 0) o) (omega arith) (omega arith)
+    carried _ _ _ _ _ _ _ _ _ _ c.loop-k.invariant.carrying (rw (low_at, c.origin.ensures)) (rw (high_at, c.origin.ensures)) (omega arith) (omega arith)

@@ -7,7 +7,6 @@ use Rattle.join.proofs.patch.patch.Goals as goal
 pub returns : goal.returns
 returns c =
     let a = c.args in
-    let p = c.requires in
     let lines = c.patch_lines-after in
-    settled a.area.now a.tokens.now lines.ensures p.2 (spare_as p.3 lines.auto.area2 lines.auto.tokens2) (drop a.size.lines a.lines.now)
+    settled a.area.now a.tokens.now lines.ensures c.requires.2 (spare_as c.requires.3 lines.auto.area2 lines.auto.tokens2) (drop a.size.lines a.lines.now)
     c.copy_from_slice.ensures.after c.copy_from_slice-2.ensures.after

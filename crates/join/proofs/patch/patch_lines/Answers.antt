@@ -28,10 +28,9 @@ is_changed-requires c =
 
 pub rewrite-a-requires : goal.rewrite-a-requires
 rewrite-a-requires c =
-    let a = c.args in
     let p = c.requires in
     let l = c.loop-k in
-    rewritable (placeable_now p.0 a.size p.1 p.2 l.invariant.patching (omega arith) (λ e. omega arith) refl (spare_as p.3 l.auto.area2 l.auto.tokens2))
+    rewritable (placeable_now p.0 c.args.size p.1 p.2 l.invariant.patching (omega arith) (λ e. omega arith) refl (spare_as p.3 l.auto.area2 l.auto.tokens2))
     (c.is_changed.ensures _) c.if-is_changed.true
 
 pub loop-k-preserved : goal.loop-k-preserved
@@ -58,7 +57,6 @@ loop-k-preserved c =
 pub returns : goal.returns
 returns c =
     let p = c.requires in
-    let l = c.loop-k in
-    let i = l.invariant in
+    let i = c.loop-k.invariant in
     patched p.0 c.args.size p.1 p.2 i.patching (omega arith) (omega arith) i.inside c.copy_within.ensures.len
-    (removed l.lines c.args.j.line (omega (arith, p.0.inside, i.patching.as_many)) c.copy_within.ensures.after)
+    (removed c.loop-k.lines c.args.j.line (omega (arith, p.0.inside, i.patching.as_many)) c.copy_within.ensures.after)

@@ -9,5 +9,5 @@ abbrev pub invariant-loop-k : goal.invariant-loop-k
 invariant-loop-k l =
     record {
       inside : l.k ≤ length l.initial.lines;
-      patching : Patching (rules_of l.rules) l.tape l.area l.tokens l.initial.lines l.j l.initial.s l.k l.area2 l.tokens2 l.lines l.s;
+      patching : Patching (rules_of l.rules) l.texts.tape.now l.texts.area.now l.tokens l.initial.lines l.j l.initial.s l.k l.area2 l.tokens2 l.lines l.s;
     }

@@ -18,11 +18,10 @@ build_line-a-requires c =
 
 pub loop-k-preserved : goal.loop-k-preserved
 loop-k-preserved c =
-    let i = c.loop-k.invariant in
     elim c.if-k-gone.branch [
       | then-k-gone w ↦
-          rw (w.lines-is, w.area2-is, w.tokens2-is, w.size-is) (placed c.requires.0 i c.loop-k-test.true w.if-k-gone.true refl w.build_line-a.ensures w.put_line-size.ensures)
-      | else-k-gone w ↦ rw (w.lines-is, w.area2-is, w.tokens2-is, w.size-is) (passed c.requires.0 i w.if-k-gone.false)
+          rw (w.lines-is, w.area2-is, w.tokens2-is, w.size-is) (placed c.requires.0 c.loop-k.invariant c.loop-k-test.true w.if-k-gone.true refl w.build_line-a.ensures w.put_line-size.ensures)
+      | else-k-gone w ↦ rw (w.lines-is, w.area2-is, w.tokens2-is, w.size-is) (passed c.requires.0 c.loop-k.invariant w.if-k-gone.false)
     ]
 
 pub returns : goal.returns

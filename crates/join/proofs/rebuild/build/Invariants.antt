@@ -4,4 +4,4 @@ use Rattle.join.specs.Building.{Upto}
 use Rattle.join.proofs.rebuild.build.Given as goal
 
 abbrev pub invariant-loop-k : goal.invariant-loop-k
-invariant-loop-k l = Upto (rules_of l.rules) l.tape l.area l.tokens l.initial.lines l.j l.k l.area2 l.tokens2 l.lines l.size
+invariant-loop-k l = Upto (rules_of l.rules) l.texts.tape.now l.texts.area.now l.tokens l.initial.lines l.j l.k l.area2 l.tokens2 l.lines l.size

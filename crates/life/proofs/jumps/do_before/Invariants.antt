@@ -2,8 +2,12 @@
 use Rattle.std.proofs.Common.{◌≡◌, take}
 use Rattle.reference.specs.Life.{is_do}
 use Rattle.reference.specs.Lists.{last_position}
-use Rattle.lines.specs.Lines.{bare_listing}
+use Rattle.lines.specs.Lines as Lines
+use Rattle.lines.specs.Texts.{bare_listing}
 use Rattle.life.proofs.jumps.do_before.Given as goal
 
 abbrev pub invariant-loop-n : goal.invariant-loop-n
-invariant-loop-n l = last_position (is_do l.indent) (bare_listing l.tape l.area l.tokens l.lines) ≡ last_position (is_do l.indent) (bare_listing l.tape l.area l.tokens (take l.n l.lines))
+invariant-loop-n l =
+    let g = l.listing in
+    last_position (is_do l.indent) (bare_listing g)
+    ≡ last_position (is_do l.indent) (Lines.bare_listing g.texts.tape.now g.texts.area.now g.tokens.now (take l.n g.lines.now))

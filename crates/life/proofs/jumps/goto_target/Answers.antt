@@ -1,51 +1,43 @@
 -- `life::jumps::goto_target` meets its contract. Assumes nothing.
 use borrow.Author.Rules.{rules}
-use Rattle.life.proofs.Jumping.{target-stays, goto_inside, target_none, symbol-inside, target_label}
-use Rattle.life.proofs.Reading.{reading, lined-holds}
+use Rattle.life.proofs.Jumping.{lined-holds, target-stays, goto_inside, target_none, symbol-inside, target_label}
 use mathlib.Core.Path.{◌≡◌}
 use Rattle.std.specs.Prelude.{Some, None}
 use Rattle.life.proofs.jumps.goto_target.Goals as goal
 
-pub line_of-line-requires : goal.line_of-line-requires
-line_of-line-requires c = search (rules, reading)
-
-pub goto_at-requires : goal.goto_at-requires
-goto_at-requires c = search (rules, reading)
-
 pub returns-in_default : goal.returns-in_default
 returns-in_default c =
-    let a = c.args in
-    let e = c.symbol_from.ensures a.tape.now a.area.now in
+    let t = c.args.listing.now.texts in
+    let e = c.symbol_from.ensures t.tape.now t.area.now in
     let w : c.goto_at.result ≡ Some c.in_ok-g.g = c.in_ok-g.was in
     search (rules, target_none)
 
 pub overflow_add-g : goal.overflow_add-g
 overflow_add-g c =
-    let a = c.args in
-    let h = goto_inside a.tape.now a.area.now c.line_of-line.result.now c.goto_at.ensures c.in_ok-g.was in
+    let h = goto_inside _ _ _ c.goto_at.ensures c.in_ok-g.was in
     search rules
 
 pub offset_bounds-line-s : goal.offset_bounds-line-s
 offset_bounds-line-s c =
-    let a = c.args in
-    let h = symbol-inside a.tape.now a.area.now c.line_of-line.result.now _ (c.symbol_from.ensures a.tape.now a.area.now) c.in-Some.is in
+    let t = c.args.listing.now.texts in
+    let h = symbol-inside _ _ _ _ (c.symbol_from.ensures t.tape.now t.area.now) c.in-Some.is in
     search rules
 
 pub bounds-line-s : goal.bounds-line-s
 bounds-line-s c =
-    let a = c.args in
-    symbol-inside a.tape.now a.area.now c.line_of-line.result.now _ (c.symbol_from.ensures a.tape.now a.area.now) c.in-Some.is
+    let t = c.args.listing.now.texts in
+    symbol-inside _ _ _ _ (c.symbol_from.ensures t.tape.now t.area.now) c.in-Some.is
 
 pub label_named-requires : goal.label_named-requires
 label_named-requires c =
-    let a = c.args in
+    let t = c.args.listing.now.texts in
     let p = c.requires in
-    (p.0, p.1, (lined-holds p.2 c.line_of-line.ensures).at _ (symbol-inside a.tape.now a.area.now c.line_of-line.result.now _ (c.symbol_from.ensures a.tape.now a.area.now) c.in-Some.is))
+    (p.0, p.1, (lined-holds p.2 c.line_of-line.ensures).at _ (symbol-inside _ _ _ _ (c.symbol_from.ensures t.tape.now t.area.now) c.in-Some.is))
 
 pub returns : goal.returns
 returns c =
-    let a = c.args in
-    let e = c.symbol_from.ensures a.tape.now a.area.now in
+    let t = c.args.listing.now.texts in
+    let e = c.symbol_from.ensures t.tape.now t.area.now in
     let w : c.goto_at.result ≡ Some c.in_ok-g.g = c.in_ok-g.was in
     search (rules, target_label)
 

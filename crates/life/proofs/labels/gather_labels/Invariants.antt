@@ -5,4 +5,4 @@ use Rattle.life.proofs.Places.{found_in}
 use Rattle.life.proofs.labels.gather_labels.Given as goal
 
 abbrev pub invariant-loop-k : goal.invariant-loop-k
-invariant-loop-k l = (l.n ≤ l.k) × Gathered (found_in l.tape l.area l.tokens l.lines l.k) l.initial.labels l.labels l.n
+invariant-loop-k l = (l.n ≤ l.k) × Gathered (found_in l.listing.texts.tape.now l.listing.texts.area.now l.listing.tokens.now l.listing.lines.now l.k) l.initial.labels l.labels l.n

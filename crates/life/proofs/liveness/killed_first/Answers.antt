@@ -1,15 +1,7 @@
 -- `life::liveness::killed_first` meets its contract. Assumes nothing.
-use mathlib.Core.Path.{refl}
 use borrow.Author.Rules.{rules}
-use Rattle.lines.proofs.words.Lines.{listed_at}
 use Rattle.life.proofs.Scanning.{killed_dead, killed_live, killed_open, killed_end}
 use Rattle.life.proofs.liveness.killed_first.Goals as goal
-
-pub loop-l-init : goal.loop-l-init
-loop-l-init c = refl
-
-pub liveness_at-requires : goal.liveness_at-requires
-liveness_at-requires c = search (rules, listed_at)
 
 pub returns-in-Dead : goal.returns-in-Dead
 returns-in-Dead c = search (rules, killed_dead)

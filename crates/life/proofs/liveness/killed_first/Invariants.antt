@@ -2,11 +2,14 @@
 use Rattle.std.proofs.Common.{◌≡◌, drop}
 use Rattle.reference.specs.Life.{killed_first}
 use Rattle.reference.specs.Rules.{volatile}
-use Rattle.lines.specs.Fams.{fam_text}
-use Rattle.lines.specs.Lines.{bare_listing}
+use Rattle.lines.specs.Lines as Lines
 use Rattle.lines.specs.Rules.{rules_of}
+use Rattle.lines.specs.Texts.{bare_listing, fam_text}
 use Rattle.life.proofs.liveness.killed_first.Given as goal
 
 abbrev pub invariant-loop-l : goal.invariant-loop-l
-invariant-loop-l l = killed_first (bare_listing l.tape l.area l.tokens l.lines) (fam_text l.tape l.area l.v.family) l.v.indent (volatile (rules_of l.v.rules))
-    ≡ killed_first (bare_listing l.tape l.area l.tokens (drop l.l-index l.lines)) (fam_text l.tape l.area l.v.family) l.v.indent (volatile (rules_of l.v.rules))
+invariant-loop-l l =
+    let g = l.listing in
+    let fam = fam_text g.texts l.v.family in
+    let rest = Lines.bare_listing g.texts.tape.now g.texts.area.now g.tokens.now (drop l.l-index g.lines.now) in
+    killed_first (bare_listing g) fam l.v.indent (volatile (rules_of l.v.rules)) ≡ killed_first rest fam l.v.indent (volatile (rules_of l.v.rules))

@@ -1,16 +1,9 @@
 -- `life::liveness::liveness_at` meets its contract. Assumes nothing.
 use borrow.Author.Rules.{rules}
-use Rattle.life.proofs.Reading.{reading}
 use Rattle.life.proofs.Scanning.{liveness_use, liveness_none, liveness_kill, liveness_deep}
 use mathlib.Core.Path.{refl}
 use Rattle.life.specs.declared.touches.Touched.TheVariants.{Nothing}
 use Rattle.life.proofs.liveness.liveness_at.Goals as goal
-
-pub line_of-requires : goal.line_of-requires
-line_of-requires c = search (rules, reading)
-
-pub touch-requires : goal.touch-requires
-touch-requires c = search (rules, reading)
 
 pub returns-in-Use : goal.returns-in-Use
 returns-in-Use c = search (rules, liveness_use)
@@ -22,4 +15,4 @@ pub returns-in-Kill-2 : goal.returns-in-Kill-2
 returns-in-Kill-2 c = search (rules, liveness_deep)
 
 pub returns-in-Kill-2-2 : goal.returns-in-Kill-2-2
-returns-in-Kill-2-2 c = let a = c.args in liveness_none a.tape.now a.area.now a.tokens.now a.l _ _ _ c.line_of.ensures Nothing c.in-Kill-2.ensures refl
+returns-in-Kill-2-2 c = let g = c.args.listing.now in liveness_none g.texts.tape.now g.texts.area.now g.tokens.now c.args.l _ _ _ c.line_of.ensures Nothing c.in-Kill-2.ensures refl

@@ -1,11 +1,21 @@
 -- `life::touches::overwrites` meets its contract. Assumes nothing.
-use Rattle.life.proofs.Touching.{kills-no_token, kills-first}
-use native.Mathlib.Omega.{arith}
-use mathlib.Core.Path.{◌∙◌}
+use borrow.Author.Rules.{rules}
+use borrow.Author.Tests.{not-true}
+use Rattle.lines.proofs.shapes.Sides.{assigned-side}
+use Rattle.life.proofs.Touching.{kills_none, kills_to, kills-no_token, kills-first}
 use Rattle.life.proofs.touches.overwrites.Goals as goal
 
-pub returns-in-empty : goal.returns-in-empty
-returns-in-empty c = let a = c.args in kills-no_token a.tape.now a.area.now a.line.now _ (omega (arith, c.in-empty.len_below))
+pub returns-in_default : goal.returns-in_default
+returns-in_default c = search (rules, kills-no_token)
 
-pub returns-else-is_of : goal.returns-else-is_of
-returns-else-is_of c = let a = c.args in c.if-is_of.false ∙ kills-first a.tape.now a.area.now a.line.now _ (λ z. omega (arith, c.in-len1-up.len_at_least)) c.is_of.ensures c.if-is_of.false
+pub returns-then-not-is_of : goal.returns-then-not-is_of
+returns-then-not-is_of c = search (rules, not-true, kills-first)
+
+pub returns-in_default-assignment : goal.returns-in_default-assignment
+returns-in_default-assignment c = search (rules, kills_none)
+
+pub assigns_anew-requires : goal.assigns_anew-requires
+assigns_anew-requires c = search (rules, assigned-side)
+
+pub returns : goal.returns
+returns c = search (rules, kills_to)

@@ -4,4 +4,4 @@ use Rattle.linefacts.proofs.Making.{more_bits}
 use Rattle.linefacts.proofs.gathering.bits_of.Goals as goal
 
 pub loop-w-preserved : goal.loop-w-preserved
-loop-w-preserved c = let a = c.args in more_bits a.tape.now a.area.now a.line.now c.loop-w.invariant (omega arith) c.token_bits-has.ensures
+loop-w-preserved c = let a = c.args in more_bits _ _ a.line.now c.loop-w.invariant (omega arith) c.token_bits-has.ensures

@@ -3,4 +3,4 @@ use Rattle.linefacts.specs.Gathering.{AllNoted}
 use Rattle.linefacts.proofs.gathering.gather_facts.Given as goal
 
 abbrev pub invariant-loop-l : goal.invariant-loop-l
-invariant-loop-l l = AllNoted l.tape l.area l.tokens l.initial.lines l.lines
+invariant-loop-l l = AllNoted l.texts.tape.now l.texts.area.now l.tokens l.initial.lines l.lines

@@ -9,7 +9,7 @@ pub overflow_add-result : goal.overflow_add-result
 overflow_add-result c = omega (arith, bucket-small _ c.bucket.ensures)
 
 pub returns-in-Some : goal.returns-in-Some
-returns-in-Some c = let a = c.args in code_number (says a.tape.now a.area.now a.w c.requires.0 c.code.ensures c.in-Some.is) (omega arith) (omega arith)
+returns-in-Some c = let a = c.args in code_number (says _ _ a.w c.requires.0 c.code.ensures c.in-Some.is) (omega arith) (omega arith)
 
 pub returns-in_default : goal.returns-in_default
 returns-in_default c = search (rules, name_number)

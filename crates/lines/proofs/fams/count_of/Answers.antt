@@ -2,8 +2,7 @@
 use borrow.Author.Rules.{rules}
 use Rattle.lines.proofs.words.Chains.{serves_words, count_words}
 use Rattle.reference.specs.Names.{of_family}
-use Rattle.lines.specs.Words.{token_of}
-use Rattle.lines.specs.Fams.{fam_text}
+use Rattle.lines.specs.Texts.{token_of, fam_text}
 use Rattle.lines.proofs.fams.count_of.Goals as goal
 
 pub count-requires-clause-can : goal.count-requires-clause-can
@@ -12,5 +11,5 @@ count-requires-clause-can c = (tt, tt, serves_words c.requires.0 (cc) (λ x q k.
 pub returns : goal.returns
 returns c =
     let a = c.args in
-    count_words (of_family (fam_text a.tape.now a.area.now a.f)) (token_of a.tape.now a.area.now) a.line.now
+    count_words (of_family (fam_text a.texts.now a.f)) (token_of a.texts.now) a.line.now
     _ c.filter.result _ c.count.ensures.ran (cc) c.filter.ensures.closure (λ x b q k. search rules)

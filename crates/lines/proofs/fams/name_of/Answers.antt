@@ -6,15 +6,15 @@ use mathlib.Core.Path.{◌∙◌}
 use Rattle.lines.proofs.fams.name_of.Goals as goal
 
 pub overflow_sub-family : goal.overflow_sub-family
-overflow_sub-family c = let a = c.args in let q = says a.tape.now a.area.now a.w c.requires c.code.ensures c.in-Some.is in omega (arith, q.least)
+overflow_sub-family c = let a = c.args in let q = says _ _ a.w c.requires c.code.ensures c.in-Some.is in omega (arith, q.least)
 
 pub without_last-requires : goal.without_last-requires
-without_last-requires c = let a = c.args in let q = says a.tape.now a.area.now a.w c.requires c.code.ensures c.in-Some.is in has_byte _ _ _ c.requires q
+without_last-requires c = let a = c.args in let q = says _ _ a.w c.requires c.code.ensures c.in-Some.is in has_byte _ _ _ c.requires q
 
 pub returns : goal.returns
 returns c =
     let a = c.args in
-    let q = says a.tape.now a.area.now a.w c.requires c.code.ensures c.in-Some.is in
+    let q = says _ _ a.w c.requires c.code.ensures c.in-Some.is in
     let k = c.width_of.ensures in
     elim c.if-c-lt36.branch [
       | then-c-lt36 w ↦ rw w.family-is (decoded_row _ _ _ c.requires q k w.if-c-lt36.true)

@@ -11,6 +11,3 @@ returns-in-Row c = search (rules, families)
 
 pub returns-in-Front : goal.returns-in-Front
 returns-in-Front c = search (rules, families)
-
-pub returns-in-Nothing : goal.returns-in-Nothing
-returns-in-Nothing c = search (rules, families)

@@ -7,13 +7,13 @@ use Rattle.lines.proofs.shapes.Counted.{label-not, label_two}
 use Rattle.lines.proofs.shapes.is_label.Goals as goal
 
 pub returns-in_default : goal.returns-in_default
-returns-in_default c = let a = c.args in label-not a.tape.now a.area.now a.line.now (λ e. let h = c.in_default.len_below in omega arith)
+returns-in_default c = let a = c.args in label-not _ _ a.line.now (λ e. let h = c.in_default.len_below in omega arith)
 
 pub returns-in_default-2 : goal.returns-in_default-2
-returns-in_default-2 c = let a = c.args in label-not a.tape.now a.area.now a.line.now (λ e. let h = c.in_default.len_at_least in omega arith)
+returns-in_default-2 c = let a = c.args in label-not _ _ a.line.now (λ e. let h = c.in_default.len_at_least in omega arith)
 
 pub returns-then-is_colon : goal.returns-then-is_colon
-returns-then-is_colon c = let a = c.args in rw (label_two a.tape.now a.area.now a.line.now (search rules)) (search (rules, tests, kinds, ← c.text.ensures))
+returns-then-is_colon c = let a = c.args in rw (label_two _ _ a.line.now (search rules)) (search (rules, tests, kinds, ← c.text.ensures))
 
 pub returns-else-is_colon : goal.returns-else-is_colon
-returns-else-is_colon c = let a = c.args in rw (label_two a.tape.now a.area.now a.line.now (search rules)) (search (rules, tests, ← c.text.ensures))
+returns-else-is_colon c = let a = c.args in rw (label_two _ _ a.line.now (search rules)) (search (rules, tests, ← c.text.ensures))

@@ -6,19 +6,19 @@ use Rattle.lines.proofs.shapes.Writes.{written_is, written_past}
 use Rattle.lines.proofs.shapes.is_written.Goals as goal
 
 pub returns-in_default : goal.returns-in_default
-returns-in_default c = let a = c.args in written_past a.tape.now a.area.now a.line.now a.pos (c.in_default.ensures.lookup.3)
+returns-in_default c = let a = c.args in written_past _ _ a.line.now a.pos (c.in_default.ensures.lookup.3)
 
 pub returns-then-kind-ne-PUNCT : goal.returns-then-kind-ne-PUNCT
-returns-then-kind-ne-PUNCT c = let a = c.args in rw (written_is a.tape.now a.area.now a.line.now a.pos c.in-Some.ensures.lookup.3.0, ← c.in-Some.ensures.lookup.3.1 0) (search (rules, kinds))
+returns-then-kind-ne-PUNCT c = let a = c.args in rw (written_is _ _ a.line.now a.pos c.in-Some.ensures.lookup.3.0, ← c.in-Some.ensures.lookup.3.1 0) (search (rules, kinds))
 
 pub returns-then-begins_assign : goal.returns-then-begins_assign
 returns-then-begins_assign c =
     let a = c.args in
-    rw (written_is a.tape.now a.area.now a.line.now a.pos c.in-Some.ensures.lookup.3.0, ← c.in-Some.ensures.lookup.3.1 0)
+    rw (written_is _ _ a.line.now a.pos c.in-Some.ensures.lookup.3.0, ← c.in-Some.ensures.lookup.3.1 0)
     (search (rules, tests, kinds, ← c.text-s.ensures))
 
 pub returns-else-begins_assign : goal.returns-else-begins_assign
 returns-else-begins_assign c =
     let a = c.args in
-    rw (written_is a.tape.now a.area.now a.line.now a.pos c.in-Some.ensures.lookup.3.0, ← c.in-Some.ensures.lookup.3.1 0, ← c.text-s.ensures)
+    rw (written_is _ _ a.line.now a.pos c.in-Some.ensures.lookup.3.0, ← c.in-Some.ensures.lookup.3.1 0, ← c.text-s.ensures)
     (kind_holds _ _ c.kind.ensures c.if-kind-ne-PUNCT.false (or_second c.begins_assign.ensures c.if-begins_assign.false c.begins_update.ensures))

@@ -1,8 +1,8 @@
 -- `lines::shapes::opens_or_closes` meets its contract. Assumes nothing.
 use borrow.Author.Rules.{rules}
 use Rattle.reference.specs.Shapes.{has_brace, braces_in}
-use Rattle.lines.specs.Words.{token_of}
 use Rattle.lines.proofs.words.Chains.{serves_words, any_words}
+use Rattle.lines.specs.Texts.{token_of}
 use Rattle.lines.proofs.shapes.opens_or_closes.Goals as goal
 
 pub any-requires-clause-callable : goal.any-requires-clause-callable
@@ -10,4 +10,4 @@ any-requires-clause-callable c = serves_words c.requires (cc) (λ x q k. search 
 
 pub returns : goal.returns
 unfolding braces_in
-returns c = let a = c.args in any_words has_brace (token_of a.tape.now a.area.now) a.line.now _ _ _ c.any.ensures.ran (cc) (λ x b q k. search rules)
+returns c = let a = c.args in any_words has_brace (token_of a.texts.now) a.line.now _ _ _ c.any.ensures.ran (cc) (λ x b q k. search rules)

@@ -1,14 +1,10 @@
 -- `lines::shapes::right_side` meets its contract. Assumes nothing.
-use native.Mathlib.Omega.{arith}
 use borrow.Author.Rules.{rules}
 use Rattle.lines.proofs.shapes.Sides.{sides}
 use Rattle.lines.proofs.shapes.right_side.Goals as goal
 
 pub returns-then-n-first : goal.returns-then-n-first
 returns-then-n-first c = search (rules, sides)
-
-pub right_word-last-requires : goal.right_word-last-requires
-right_word-last-requires c = let o = c.requires.0 in (omega (arith, o.long), o.mark, (o.holds.at 1 o.long).short)
 
 pub text-requires : goal.text-requires
 text-requires c = search (rules, sides)

@@ -7,13 +7,13 @@ use Rattle.listing_text.specs.Exact.{ended, lines_read, tape_of}
 use Rattle.listing_text.proofs.Fielding.{ending}
 use Rattle.listing_text.proofs.reading.put_tape.Given as goal
 
-abbrev pub invariant-loop-rest : goal.invariant-loop-rest
-invariant-loop-rest l =
+abbrev pub invariant-loop-line : goal.invariant-loop-line
+invariant-loop-line l =
     record {
-      told : ending (page l.page) (lines_read l.n (ended 10 l.rest)) ≡ ending (empty l.fn.out) (tape_of l.fn.text);
-      few : l.n + length l.rest ≤ length l.fn.text;
+      told : ending (page l.page) (lines_read l.n (ended 10 l.left)) ≡ ending (empty l.fn.out) (tape_of l.fn.text);
+      few : l.n + length l.left ≤ length l.fn.text;
       lent : l.page.out.ghost_name ≡ l.initial.page.out.ghost_name;
     }
 
-abbrev pub decreases-loop-rest : goal.decreases-loop-rest
-decreases-loop-rest l = length l.rest
+abbrev pub decreases-loop-line : goal.decreases-loop-line
+decreases-loop-line l = length l.left

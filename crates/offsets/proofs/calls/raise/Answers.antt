@@ -6,6 +6,7 @@ use Rattle.offsets.proofs.Answering.{refused_call, from_refused, ready_is, raise
 use Rattle.std.proofs.lemmas.Result.{err_from_is_err_and}
 use mathlib.Core.Path.{sym, ap, ◌∙◌}
 use native.Mathlib.Omega.{arith}
+use borrow.Author.Rules.{rules}
 use Rattle.offsets.proofs.calls.raise.Goals as goal
 
 pub base_of-base-requires : goal.base_of-base-requires
@@ -18,13 +19,12 @@ returns-in_err-ready c = let a = c.args in
     rw (p.1, p.2) (refused_call a.out.now (from_refused a.tape.now (length a.out.now) c.requires.1 c.requires.0 e))
 
 pub put_commands-requires : goal.put_commands-requires
-put_commands-requires c = (
-  ready_is _ c.base_of-base.result c.args.tape.now (sym (ap passing c.in_ok-ready.was) ∙ c.ready.ensures),
-  omega (arith, c.requires),
-)
+put_commands-requires c = let e = c.new-out.ensures in
+    (ready_is _ c.base_of-base.result c.args.tape.now (sym (ap passing c.in_ok-ready.was) ∙ c.ready.ensures), rw (e.from, e.same_bytes) (omega (arith, c.requires)))
 
 pub returns : goal.returns
 returns c = let a = c.args in
-    let e = rw c.base_of-base.ensures at (sym (ap passing c.in_ok-ready.was) ∙ c.ready.ensures) in
-    raised a.tape.now a.out.now c.requires.0 c.requires.1 (ready_is _ (base_of a.tape.now) a.tape.now e)
-    (rw c.base_of-base.ensures at c.put_commands.ensures)
+    let k = ready_is _ (base_of a.tape.now) a.tape.now (rw c.base_of-base.ensures at (sym (ap passing c.in_ok-ready.was) ∙ c.ready.ensures)) in
+    let written = rw c.base_of-base.ensures at c.put_commands.ensures in
+    let lent = (written k.read.lines k.read.reads).lent in
+    raised c.new-out.ensures.same_bytes c.new-out.ensures.from (search (rules, lent)) a.tape.now c.requires.0 c.requires.1 k written

@@ -6,6 +6,8 @@ use Rattle.offsets.proofs.Putting.{front_size}
 use Rattle.std.proofs.lemmas.Result.{err_from_is_err_and}
 use mathlib.Core.Path.{sym, ap, ◌∙◌}
 use native.Mathlib.Omega.{arith}
+use borrow.Author.Rules.{rules}
+use Rattle.text.proofs.Cursors.{room_left}
 use Rattle.offsets.proofs.calls.to_offsets.Goals as goal
 
 pub returns-then-out-lt-OUTPUT_BYTES : goal.returns-then-out-lt-OUTPUT_BYTES
@@ -20,12 +22,15 @@ returns-in_err-ready c = let a = c.args in
     (to_refused a.base a.tape.now (length a.out.now) c.if-out-lt-OUTPUT_BYTES.false (sym (ap passing c.in_err-ready.was) ∙ c.ready.ensures)))
 
 pub put_commands-requires : goal.put_commands-requires
-put_commands-requires c = let a = c.args in (
-  ready_is _ a.base a.tape.now (sym (ap passing c.in_ok-ready.was) ∙ c.ready.ensures),
-  omega (arith, c.put_front-from.ensures.ends, front_size a.base, c.put_front-from.auto, c.if-out-lt-OUTPUT_BYTES.false),
-)
+put_commands-requires c = let a = c.args in
+    let e = c.new-out.ensures in (
+      ready_is _ a.base a.tape.now (sym (ap passing c.in_ok-ready.was) ∙ c.ready.ensures),
+      room_left c.put_front.ensures 34561 (rw (e.from, e.same_bytes, front_size a.base) (omega (arith, c.if-out-lt-OUTPUT_BYTES.false))),
+    )
 
 pub returns : goal.returns
 returns c = let a = c.args in
-    lowered a.base a.tape.now a.out.now (ready_is _ a.base a.tape.now (sym (ap passing c.in_ok-ready.was) ∙ c.ready.ensures))
-    c.if-out-lt-OUTPUT_BYTES.false c.put_front-from.ensures c.put_commands.ensures
+    let k = ready_is _ a.base a.tape.now (sym (ap passing c.in_ok-ready.was) ∙ c.ready.ensures) in
+    let lent = (c.put_commands.ensures k.read.lines k.read.reads).lent in
+    lowered c.new-out.ensures.same_bytes c.new-out.ensures.from (search (rules, lent)) a.base a.tape.now k c.if-out-lt-OUTPUT_BYTES.false c.put_front.ensures
+    c.put_commands.ensures

@@ -4,6 +4,7 @@ use denote.Param.{number}
 use mathlib.Core.Path.{◌≡◌}
 use mathlib.Core.Bool.{true, false}
 use native.Mathlib.Omega.{arith}
+use Rattle.text.proofs.Cursors.{puts_as}
 use Rattle.offsets.proofs.Putting.{line_reaches, marks-reach, line_room, marks_room, same_bytes, moves-inside, copied, copied-room, line_done, marks-done, to_old, to_based}
 use Rattle.offsets.proofs.writing.put_command.Goals as goal
 
@@ -32,10 +33,18 @@ pub put_marks-requires-else-this-ne0-2 : goal.put_marks-requires-else-this-ne0-2
 put_marks-requires-else-this-ne0-2 g c = let t : code.BASED-type (number g.row.BASED) ≡ false = grind arith in
     marks_room (to_based (code.BASED-type (number g.row.BASED)) t) (rw c.in-Marked.is at c.requires)
 
-pub put_copy-requires : goal.put_copy-requires
-put_copy-requires g c = let a = c.args in
-    let m = c.requires in
-    ((moves-inside m).0, (moves-inside m).1, copied-room m (λ i. omega (arith, c.type_inv.tape i)) (same_bytes (code.BASED-type (number g.row.BASED)) a.base a.tape.now a.at c.in-Plain.is))
+pub slice_bounds-put-count : goal.slice_bounds-put-count
+slice_bounds-put-count g c = (moves-inside c.requires).0
+
+pub slice_bounds-put-start : goal.slice_bounds-put-start
+slice_bounds-put-start g c = omega (arith, moves-inside c.requires)
+
+pub slice_bounds-put-end : goal.slice_bounds-put-end
+slice_bounds-put-end g c = (moves-inside c.requires).1
+
+pub put-requires : goal.put-requires
+put-requires g c = let a = c.args in
+    copied-room c.requires (λ i. omega (arith, c.type_inv.tape i)) (same_bytes (code.BASED-type (number g.row.BASED)) a.base a.tape.now a.at c.in-Plain.is)
 
 pub returns-then-this-ne0 : goal.returns-then-this-ne0
 returns-then-this-ne0 g c = let a = c.args in
@@ -67,5 +76,5 @@ returns-else-this-ne0-2 g c = let a = c.args in
 
 pub returns-in-Plain : goal.returns-in-Plain
 returns-in-Plain g c = let a = c.args in
-    let m = c.requires in
-    rw (copied m (λ i. omega (arith, c.type_inv.tape i)) (same_bytes (code.BASED-type (number g.row.BASED)) a.base a.tape.now a.at c.in-Plain.is)) at c.put_copy.ensures
+    puts_as c.put.ensures
+    (copied c.requires (λ i. omega (arith, c.type_inv.tape i)) (same_bytes (code.BASED-type (number g.row.BASED)) a.base a.tape.now a.at c.in-Plain.is))

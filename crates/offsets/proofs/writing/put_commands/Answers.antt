@@ -12,13 +12,13 @@ use Rattle.offsets.proofs.writing.put_commands.Goals as goal
 
 pub loop-command-init : goal.loop-command-init
 loop-command-init g c = let a = c.args in
-    rw c.header_of-at.ensures (writing_begins (code.BASED-type (number g.row.BASED)) a.base a.tape.now a.out.now a.to)
+    rw c.header_of-at.ensures (writing_begins (code.BASED-type (number g.row.BASED)) a.base a.tape.now a.out.now)
 
 pub returns : goal.returns
 returns g c = absurd (search_stops c.loop-command.invariant.searching c.requires.0.read.reads c.step.result c.in_default.not-Ok c.step.ensures.result_value)
 
-pub put_command-end-requires : goal.put_command-end-requires
-put_command-end-requires g c = let l = c.loop-command in
+pub put_command-requires : goal.put_command-requires
+put_command-requires g c = let l = c.loop-command in
     let a = c.args in
     let p = c.in-Ok in
     let e = p.ensures.result_value in
@@ -29,7 +29,7 @@ returns-then-is_end g c = let l = c.loop-command in
     let a = c.args in
     let p = c.in-Ok in
     let e = p.ensures.result_value in
-    writing_ends (code.BASED-type (number g.row.BASED)) a.base a.tape.now l.invariant p.field-0.command e c.requires.0 c.requires.1 c.put_command-end.ensures
+    writing_ends (code.BASED-type (number g.row.BASED)) a.base a.tape.now l.invariant p.field-0.command e c.requires.0 c.requires.1 c.put_command.ensures
     (ends_same (form_of (code.BASED-type (number g.row.BASED))) a.tape.now l.at p.field-0.command ∙ sym c.is_end.ensures ∙ c.if-is_end.true)
 
 pub loop-command-smaller : goal.loop-command-smaller
@@ -41,5 +41,5 @@ loop-command-preserved g c = let l = c.loop-command in
     let a = c.args in
     let p = c.in-Ok in
     let e = p.ensures.result_value in
-    writing_on (code.BASED-type (number g.row.BASED)) a.base a.tape.now l.invariant p.field-0.command e c.requires.0 c.requires.1 c.put_command-end.ensures
+    writing_on (code.BASED-type (number g.row.BASED)) a.base a.tape.now l.invariant p.field-0.command e c.requires.0 c.requires.1 c.put_command.ensures
     (ends_same (form_of (code.BASED-type (number g.row.BASED))) a.tape.now l.at p.field-0.command ∙ sym c.is_end.ensures ∙ c.if-is_end.false)

@@ -1,5 +1,6 @@
 -- What the loop of `page::cells::put_cells` keeps true.
-use Rattle.std.proofs.Common.{◌+◌, ◌*◌, ◌≤◌, ◌<◌, ◌≡◌, length}
+use Rattle.std.proofs.Common.{◌+◌, ◌*◌, ◌<◌, ◌≡◌, length}
+use Rattle.text.specs.Cursor.{Fits}
 use Rattle.page.specs.Cells.{cells}
 use Rattle.page.proofs.Rowing.{Coming}
 use Rattle.page.proofs.cells.put_cells.Given as goal
@@ -8,6 +9,6 @@ abbrev pub invariant-loop-piece : goal.invariant-loop-piece
 invariant-loop-piece l =
     record {
       size : l.piece-iterator.size ≡ 512;
-      put : Coming l.initial.out l.at (cells l.kind l.text) l.out l.end (cells l.kind l.piece-iterator.rest.now);
-      room : 0 < length l.piece-iterator.rest.now → l.end + 7 * length l.piece-iterator.rest.now + 35 ≤ length l.out;
+      put : Coming l.initial.out (cells l.kind l.text) l.out (cells l.kind l.piece-iterator.rest.now);
+      room : 0 < length l.piece-iterator.rest.now → Fits l.out (7 * length l.piece-iterator.rest.now + 35);
     }

@@ -28,5 +28,5 @@ reads_memory-requires c = (c.requires, assigned-side c.assignment.ensures c.in_o
 
 pub returns : goal.returns
 returns c =
-    defined_as c.args.tape.now c.args.area.now c.args.line.now c.assignment.ensures c.in_ok-x.was c.name_of.ensures c.in_ok-name.was
+    defined_as c.args.texts.now.tape.now c.args.texts.now.area.now c.args.line.now c.assignment.ensures c.in_ok-x.was c.name_of.ensures c.in_ok-name.was
     c.mentions.ensures (search rules) c.has_call.ensures c.reads_memory.ensures

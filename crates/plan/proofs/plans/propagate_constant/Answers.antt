@@ -9,7 +9,7 @@ returns-in_err-last c = search (rules, refl, propagating)
 
 pub ends_at-requires : goal.ends_at-requires
 ends_at-requires c =
-    (c.requires.0, c.requires.1, sound-known c.requires.2, c.requires.3, reach-inside _ _ _ _ _ _ _ c.requires.3 c.reach_of.ensures c.in_ok-last.was)
+    (c.requires.0, c.requires.1, sound-known c.requires.2, c.requires.3, reach-inside _ _ _ _ _ _ _ c.requires.3 c.reach_of.ensures c.in_ok-last.was, c.indent.ensures)
 
 pub all_take-requires : goal.all_take-requires
 all_take-requires c = (

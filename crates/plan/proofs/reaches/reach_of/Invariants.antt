@@ -1,9 +1,11 @@
--- What the loops of `plan::reaches::reach_of` keep true, and what falls at each turn.
+-- What the loop of `plan::reaches::reach_of` keeps true: the answer is what is reached from line j on. Assumes nothing.
 use Rattle.reference.specs.Rules.{volatile}
 use Rattle.lines.specs.Rules.{rules_of}
-use Rattle.lines.specs.Fams.{fam_text}
+use Rattle.lines.specs.Texts.{fam_text}
 use Rattle.plan.proofs.Reaching.{Reached}
 use Rattle.plan.proofs.reaches.reach_of.Given as goal
 
 abbrev pub invariant-loop-j : goal.invariant-loop-j
-invariant-loop-j l = Reached l.tape l.area l.tokens l.lines l.i (fam_text l.tape l.area l.f) (volatile (rules_of l.rules)) l.j l.last
+invariant-loop-j l =
+    let g = l.listing in
+    Reached g.texts.tape.now g.texts.area.now g.tokens.now g.lines.now l.v.start (fam_text g.texts l.v.family) (volatile (rules_of l.v.rules)) l.j l.last

@@ -17,4 +17,4 @@ returns-else-not-begins_assign c = grind (arith, nat_tests, updates_is)
 pub returns-else-kind-eq-PUNCT : goal.returns-else-kind-eq-PUNCT
 unfolding not ◌and◌
 returns-else-kind-eq-PUNCT c =
-    let e = updates_is c.args.tape.now c.args.area.now (fam_text c.args.tape.now c.args.area.now c.args.f) c.args.line.now in grind (arith, nat_tests)
+    let e = updates_is c.args.texts.now.tape.now c.args.texts.now.area.now (fam_text c.args.texts.now.tape.now c.args.texts.now.area.now c.args.f) c.args.line.now in grind (arith, nat_tests)

@@ -15,4 +15,4 @@ returns-else-begins_operator c = grind (arith, nat_tests, compound_is)
 
 pub returns-else-kind-eq-PUNCT : goal.returns-else-kind-eq-PUNCT
 unfolding not ◌and◌
-returns-else-kind-eq-PUNCT c = let e = compound_is c.args.tape.now c.args.area.now c.args.line.now c.args.pos in grind (arith, nat_tests)
+returns-else-kind-eq-PUNCT c = let e = compound_is c.args.texts.now.tape.now c.args.texts.now.area.now c.args.line.now c.args.pos in grind (arith, nat_tests)

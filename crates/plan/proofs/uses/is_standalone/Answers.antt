@@ -7,8 +7,8 @@ use Rattle.plan.proofs.uses.is_standalone.Goals as goal
 
 pub returns-then-delimits_before : goal.returns-then-delimits_before
 unfolding ◌and◌
-returns-then-delimits_before c = let e = alone_is c.args.tape.now c.args.area.now c.args.line.now c.args.pos in grind (arith, nat_tests)
+returns-then-delimits_before c = let e = alone_is c.args.texts.now.tape.now c.args.texts.now.area.now c.args.line.now c.args.pos in grind (arith, nat_tests)
 
 pub returns-else-delimits_before : goal.returns-else-delimits_before
 unfolding ◌and◌
-returns-else-delimits_before c = let e = alone_is c.args.tape.now c.args.area.now c.args.line.now c.args.pos in grind (arith, nat_tests)
+returns-else-delimits_before c = let e = alone_is c.args.texts.now.tape.now c.args.texts.now.area.now c.args.line.now c.args.pos in grind (arith, nat_tests)

@@ -28,13 +28,13 @@ text-requires c = search (rules, assigning)
 pub returns-after-d : goal.returns-after-d
 unfolding not ◌and◌
 returns-after-d c =
-    let e = leaves_is c.args.tape.now c.args.area.now (tokens_of c.args.tape.now c.args.area.now (expr_words c.args.source.now c.args.d.expr)) c.args.line.now
+    let e = leaves_is c.args.texts.now.tape.now c.args.texts.now.area.now (tokens_of c.args.texts.now.tape.now c.args.texts.now.area.now (expr_words c.args.source.now c.args.d.expr)) c.args.line.now
     c.assignment.ensures c.in-Some.is c.name_of.ensures c.in-Some-name_of.is in
     let b = c.requires.2.reads_is in grind arith
 
 pub returns-else-not-mentions : goal.returns-else-not-mentions
 unfolding not ◌and◌
 returns-else-not-mentions c =
-    let e = leaves_is c.args.tape.now c.args.area.now (tokens_of c.args.tape.now c.args.area.now (expr_words c.args.source.now c.args.d.expr)) c.args.line.now
+    let e = leaves_is c.args.texts.now.tape.now c.args.texts.now.area.now (tokens_of c.args.texts.now.tape.now c.args.texts.now.area.now (expr_words c.args.source.now c.args.d.expr)) c.args.line.now
     c.assignment.ensures c.in-Some.is c.name_of.ensures c.in-Some-name_of.is in
     let b = c.requires.2.reads_is in grind arith

@@ -1,14 +1,10 @@
 -- `plan::uses::use_of` meets its contract. Assumes nothing.
 use borrow.Author.Rules.{rules}
-use Rattle.plan.proofs.Reading.{reading}
 use Rattle.plan.proofs.Looking.{seeking}
 use Rattle.plan.proofs.uses.use_of.Goals as goal
 
 pub loop-j-init : goal.loop-j-init
 loop-j-init c = search (rules, seeking)
-
-pub look_by_facts-requires : goal.look_by_facts-requires
-look_by_facts-requires c = search (rules, reading)
 
 pub returns-in-Use : goal.returns-in-Use
 returns-in-Use c = search (rules, seeking)

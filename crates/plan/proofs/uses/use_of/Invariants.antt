@@ -1,15 +1,16 @@
--- What the loops of `plan::uses::use_of` keep true, and what falls at each turn.
+-- What the loop of `plan::uses::use_of` keeps true: the answer is that of the search from line j on. Assumes nothing.
 use mathlib.Core.Path.{◌≡◌}
-use lib.ListN.{get_or}
 use Rattle.reference.specs.Rules.{volatile}
 use Rattle.joining.specs.Plan.{use_of}
 use Rattle.lines.specs.Rules.{rules_of}
-use Rattle.lines.specs.Lines.{part_of, bare_listing}
-use Rattle.plan.specs.Definitions.{definition_in}
+use Rattle.lines.specs.Texts.{bare_listing, words_at}
+use Rattle.plan.specs.Texts.{definition_in}
 use Rattle.plan.proofs.Looking.{used-from}
 use Rattle.plan.proofs.uses.use_of.Given as goal
 
 abbrev pub invariant-loop-j : goal.invariant-loop-j
 invariant-loop-j l =
-    use_of (bare_listing l.tape l.area l.tokens l.lines) l.i (definition_in l.tape l.area (part_of l.tokens (get_or l.lines l.i 0)) l.d) (volatile (rules_of l.rules)) ≡ used-from l.tape
-    l.area l.tokens l.lines l.i (definition_in l.tape l.area (part_of l.tokens (get_or l.lines l.i 0)) l.d) (volatile (rules_of l.rules)) l.j
+    let g = l.listing in
+    let d = definition_in g.texts (words_at g l.i) l.d in
+    use_of (bare_listing g) l.i d (volatile (rules_of l.rules))
+    ≡ used-from g.texts.tape.now g.texts.area.now g.tokens.now g.lines.now l.i d (volatile (rules_of l.rules)) l.j

@@ -1,17 +1,7 @@
 -- `rounds::run::make_rounds` meets its contract. Assumes nothing.
 use Rattle.std.proofs.Common.{◌≡◌, ◌+◌, ◌-◌, arith, refl}
-use Rattle.rounds.proofs.Running.{going_begin, going_next, going_last, going_end, runnable_again}
+use Rattle.rounds.proofs.Running.{going_begin, going_next, going_last, going_end}
 use Rattle.rounds.proofs.run.make_rounds.Goals as goal
-
-pub propagate_once-r-requires : goal.propagate_once-r-requires
-propagate_once-r-requires c =
-    let l = c.loop-k in
-    let a = l.auto in
-    runnable_again l.area2 l.tokens2 l.labels l.slots l.slot_words l.lows l.highs c.requires l.invariant
-    a.area a.tokens a.area2 a.tokens2 a.lows a.highs a.labels a.slots a.slot_words
-
-pub after_round-s-requires : goal.after_round-s-requires
-after_round-s-requires c = (c.loop-k.invariant.few, c.propagate_once-r.ensures.few)
 
 pub loop-k-init : goal.loop-k-init
 loop-k-init c =

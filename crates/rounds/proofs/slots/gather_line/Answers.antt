@@ -4,23 +4,18 @@ use Rattle.rounds.proofs.slots.gather_line.Goals as goal
 
 pub gather_slot-all-requires : goal.gather_slot-all-requires
 gather_slot-all-requires c =
-    let a = c.args in
     let l = c.loop-pair in
     let s = l.invariant in
     let p = c.requires in (
-      pair_first a.tape.now a.area.now a.line.now a.slots.now a.slot_words.now a.g s _ _ c.in-Some.pair c.in-Some.is c.next.ensures.steps p.0,
-      pair_second a.tape.now a.area.now a.line.now a.slots.now a.slot_words.now a.g s _ _ c.in-Some.pair c.in-Some.is c.next.ensures.steps p.0,
+      pair_first s _ _ c.in-Some.pair c.in-Some.is c.next.ensures.steps p.0,
+      pair_second s _ _ c.in-Some.pair c.in-Some.is c.next.ensures.steps p.0,
       s.noting.slotting,
-      pair_room a.tape.now a.area.now a.line.now a.slots.now a.slot_words.now a.g s _ _ c.in-Some.pair c.in-Some.is c.next.ensures.steps p.0 p.2 l.auto.slots l.auto.slot_words,
+      pair_room s _ _ c.in-Some.pair c.in-Some.is c.next.ensures.steps p.0 p.2 l.auto.slots l.auto.slot_words,
     )
 
 pub loop-pair-preserved : goal.loop-pair-preserved
 loop-pair-preserved c =
-    let a = c.args in
-    pairs_next a.tape.now a.area.now a.line.now a.slots.now a.slot_words.now a.g c.loop-pair.invariant _ _ c.in-Some.pair c.in-Some.is c.next.ensures.steps
-    c.requires.0 c.gather_slot-all.ensures
+    pairs_next c.loop-pair.invariant _ _ c.in-Some.pair c.in-Some.is c.next.ensures.steps c.requires.0 c.gather_slot-all.ensures
 
 pub returns : goal.returns
-returns c =
-    let a = c.args in
-    pairs_end a.tape.now a.area.now a.line.now a.slots.now a.slot_words.now a.g c.loop-pair.invariant _ _ c.in-None.is c.next.ensures.steps
+returns c = pairs_end c.loop-pair.invariant _ _ c.in-None.is c.next.ensures.steps

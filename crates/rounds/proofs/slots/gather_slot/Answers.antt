@@ -11,9 +11,9 @@ returns-then-not-ends_ampersand c =
     let a = c.args in
     elim c.then-not-ends_ampersand.branch [
       | then-not-ends_ampersand-via-then-not-ends_ampersand w ↦
-          noted-plain a.tape.now a.area.now a.before a.w c.requires.2 c.text.ensures c.ends_ampersand.ensures w.if-not-ends_ampersand.true
+          noted-plain a.texts.now.tape.now a.texts.now.area.now a.before a.w c.requires.2 c.text.ensures c.ends_ampersand.ensures w.if-not-ends_ampersand.true
       | then-not-ends_ampersand-via-else-not-ends_ampersand+then-not-begins_slot w ↦
-          noted_other a.tape.now a.area.now a.before a.w c.requires.2 c.text.ensures c.ends_ampersand.ensures w.if-not-ends_ampersand.false
+          noted_other a.texts.now.tape.now a.texts.now.area.now a.before a.w c.requires.2 c.text.ensures c.ends_ampersand.ensures w.if-not-ends_ampersand.false
           c.text-s.ensures w.begins_slot.ensures w.if-not-begins_slot.true
     ]
 
@@ -33,6 +33,6 @@ pub returns : goal.returns
 returns c =
     let a = c.args in
     let s = c.text-s.result.now in
-    noted-slot a.tape.now a.area.now a.before a.w c.requires.2 c.text.ensures c.ends_ampersand.ensures
+    noted-slot a.texts.now.tape.now a.texts.now.area.now a.before a.w c.requires.2 c.text.ensures c.ends_ampersand.ensures
     c.if-not-ends_ampersand.false c.text-s.ensures c.begins_slot.ensures c.if-not-begins_slot.false
     c.requires.1 c.requires.3 (put_mid-paste a.g.text _ a.slots.now _ s (length s) (search rules) (omega arith) refl) c.token_word.ensures

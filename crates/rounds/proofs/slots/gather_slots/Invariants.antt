@@ -1,7 +1,7 @@
 -- What the loop of `rounds::slots::gather_slots` keeps true.
-use Rattle.lines.specs.Lines.{bare_listing}
+use Rattle.lines.specs.Texts.{bare_listing}
 use Rattle.rounds.proofs.Noting.{LinesNoting}
 use Rattle.rounds.proofs.slots.gather_slots.Given as goal
 
 abbrev pub invariant-loop-l : goal.invariant-loop-l
-invariant-loop-l l = LinesNoting (bare_listing l.tape l.area l.tokens l.lines) l.slots l.slot_words l.all l.l-index
+invariant-loop-l l = LinesNoting (bare_listing l.listing) l.slots l.slot_words l.all l.l-index

@@ -8,9 +8,9 @@ use Rattle.reference.specs.Evaluators.{of_integer}
 use Rattle.start.proofs.Pricing.{bits_are, number_read}
 use Rattle.start.proofs.reckoning.number_value.Goals as goal
 
-pub returns-in-Some : goal.returns-in-Some
-returns-in-Some c = λ z e.
+pub returns : goal.returns
+returns c = λ z e.
     c.cast_unsigned.ensures
-    ∙ ap (of_z w64) (read_back c.in-Some.v (search rules))
-    ∙ bits_are c.in-Some.v (search rules)
-    ∙ ap of_integer (number_read c.parse_c_number.ensures z e c.in-Some.is)
+    ∙ ap (of_z w64) (read_back c.unwrap_or.result (search rules))
+    ∙ bits_are c.unwrap_or.result (search rules)
+    ∙ ap of_integer (c.unwrap_or.ensures ∙ number_read c.parse_c_number.result c.parse_c_number.ensures z e)

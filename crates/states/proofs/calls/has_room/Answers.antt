@@ -2,14 +2,15 @@
 use Rattle.laws.proofs.Scans.{and_true}
 use borrow.Author.Tests.{lt-leb, le-leb}
 use Rattle.reference.specs.Control.{◌and◌}
-use mathlib.Core.Path.{sym}
+use mathlib.Core.Path.{refl, sym}
+use Rattle.states.proofs.Contents.{store_is, most_is}
 use Rattle.states.proofs.calls.has_room.Goals as goal
 
-pub returns-then-store_bytes-store : goal.returns-then-store_bytes-store
-returns-then-store_bytes-store c =
-    rw c.room_bytes.ensures (sym (and_true _ (le-leb _ _ (rw c.store_bytes.ensures at c.if-store_bytes-store.true))))
+pub returns-then-store-ge-STORE_BYTES : goal.returns-then-store-ge-STORE_BYTES
+returns-then-store-ge-STORE_BYTES c =
+    rw most_is (sym (and_true _ (le-leb _ _ (rw store_is at c.if-store-ge-STORE_BYTES.true))))
 
-pub returns-else-store_bytes-store : goal.returns-else-store_bytes-store
+pub returns-else-store-ge-STORE_BYTES : goal.returns-else-store-ge-STORE_BYTES
 unfolding ◌and◌
-returns-else-store_bytes-store c = let e = c.store_bytes.ensures in
-    rw (e, lt-leb _ _ (rw e at c.if-store_bytes-store.false))
+returns-else-store-ge-STORE_BYTES c =
+    rw (lt-leb _ _ c.if-store-ge-STORE_BYTES.false, lt-leb _ _ (rw store_is at c.if-store-ge-STORE_BYTES.false)) refl

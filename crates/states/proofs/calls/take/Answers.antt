@@ -1,53 +1,37 @@
 -- `states::calls::take` meets its contract. Assumes nothing.
-use lib.ListN.{length}
-use lib.ListN.{length-set}
-use Rattle.states.proofs.Writing.{cell-written}
-use Rattle.states.proofs.Contents.{cell-ends, store-fits, room_is}
+use Prim.Native.Nat.{◌+◌}
 use native.Mathlib.Omega.{arith}
-use mathlib.Core.Path.{◌≡◌, ◌∙◌}
+use borrow.Author.Rules.{rules}
+use mathlib.Core.Path.{◌∙◌}
+use lib.ListN.{length}
+use Rattle.text.specs.Cursor.{Fits}
+use Rattle.states.proofs.Contents.{cell-ends, room_is}
+use Rattle.states.proofs.Writing.{stored, name-room, body-room, cell_puts}
 use Rattle.states.proofs.calls.take.Goals as goal
 
-pub bounds-store-at : goal.bounds-store-at
-bounds-store-at c =
-    omega (arith, c.cell_start-at.ensures, cell-ends c.args.i c.requires.0.below, c.requires.0.whole, room_is)
+pub put_byte-requires : goal.put_byte-requires
+put_byte-requires c =
+    let e = c.new-out.ensures in
+    rw (e.from, e.same_bytes) (omega (arith, c.cell_start.ensures, cell-ends c.args.i c.requires.0.below, c.requires.0.whole, room_is))
 
-pub overflow_add-at : goal.overflow_add-at
-overflow_add-at c =
-    omega (arith, c.cell_start-at.ensures, cell-ends c.args.i c.requires.0.below, store-fits)
+pub put-requires : goal.put-requires
+put-requires c =
+    let e = c.new-out.ensures in
+    let room : Fits c.new-out.result (13 + length c.args.tape.now) =
+    rw (e.from, e.same_bytes) (omega (arith, c.cell_start.ensures, cell-ends c.args.i c.requires.0.below, c.requires.0.whole, c.requires.2, room_is)) in
+    name-room c.args.name.now c.args.tape.now c.requires.1 room c.put_byte.ensures
 
-pub copy_bytes-requires : goal.copy_bytes-requires
-copy_bytes-requires c =
-    simp length-set (omega (
-      arith,
-      c.cell_start-at.ensures,
-      cell-ends c.args.i c.requires.0.below,
-      c.requires.0.whole,
-      c.requires.1,
-      room_is,
-    ))
-
-pub overflow_add-at-2 : goal.overflow_add-at-2
-overflow_add-at-2 c =
-    omega (arith, c.cell_start-at.ensures, cell-ends c.args.i c.requires.0.below, store-fits)
-
-pub write_body-requires : goal.write_body-requires
-write_body-requires c = let k : length c.copy_bytes.new.to ≡ length c.args.store.now = c.copy_bytes.auto.to ∙ simp length-set in (
-  omega (
-    arith,
-    k,
-    c.cell_start-at.ensures,
-    cell-ends c.args.i c.requires.0.below,
-    c.requires.0.whole,
-    c.requires.2,
-    room_is,
-  ),
-  c.requires.2,
-)
+pub put_body-requires : goal.put_body-requires
+put_body-requires c =
+    let e = c.new-out.ensures in
+    let room : Fits c.new-out.result (13 + length c.args.tape.now) =
+    rw (e.from, e.same_bytes) (omega (arith, c.cell_start.ensures, cell-ends c.args.i c.requires.0.below, c.requires.0.whole, c.requires.2, room_is)) in
+    body-room c.args.name.now c.args.tape.now c.requires.1 room c.put_byte.ensures c.put.ensures
 
 pub returns : goal.returns
 returns c =
-    let e = c.cell_start-at.ensures in
-    cell-written c.args.store.now c.cell_start-at.result
-    c.args.name.now c.args.tape.now (omega (arith, e, cell-ends c.args.i c.requires.0.below, c.requires.0.whole, room_is))
-    c.requires.1 c.copy_bytes.ensures c.write_body.ensures
-    ∙ rw e
+    let e = c.new-out.ensures in
+    let room : Fits c.new-out.result (13 + length c.args.tape.now) =
+    rw (e.from, e.same_bytes) (omega (arith, c.cell_start.ensures, cell-ends c.args.i c.requires.0.below, c.requires.0.whole, c.requires.2, room_is)) in
+    let puts = cell_puts c.args.name.now c.args.tape.now c.requires.1 room c.put_byte.ensures c.put.ensures c.put_body.ensures in
+    stored puts e.same_bytes (e.from ∙ c.cell_start.ensures) (search rules)

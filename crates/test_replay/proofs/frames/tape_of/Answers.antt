@@ -2,4 +2,4 @@
 use Rattle.test_replay.proofs.frames.tape_of.Goals as goal
 
 pub returns : goal.returns
-returns c = rw c.number.ensures at c.text_of.ensures
+returns c = rw c.size_at.ensures at c.text_of.ensures

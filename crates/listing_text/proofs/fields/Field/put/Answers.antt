@@ -1,7 +1,9 @@
 -- `listing_text::fields::Field::put` meets its contract. Assumes nothing.
+use Rattle.std.proofs.Common.{ap, ◌∙◌, arith, take}
+use Rattle.text.proofs.Cursors.{le_front}
 use Rattle.reference.specs.Tape.{write_command_by}
 use Rattle.listing_text.proofs.fields.Field.put.Goals.{in-Some, in-None}
-use Rattle.listing_text.proofs.Pages.{then_puts}
+use Rattle.listing_text.proofs.Pages.{then_puts, puts_as}
 use Rattle.listing_text.proofs.fields.Field.put.Goals as goal
 
 pub returns-after-address : goal.returns-after-address
@@ -17,4 +19,6 @@ unfolding write_command_by
 returns-in-Marks c = rw c.in-Marks.is (then_puts (then_puts c.put_byte-in-Marks.ensures c.put_le-in-Marks.ensures) c.put_le-in-Marks-2.ensures)
 
 pub returns-in-Token : goal.returns-in-Token
-returns-in-Token c = rw c.in-Token.is (then_puts (then_puts c.put_byte-in-Token.ensures c.put_le-in-Token.ensures) c.put.ensures)
+returns-in-Token c =
+    let size = puts_as (ap (take 2) c.to_le_bytes.ensures ∙ le_front 2 _ (omega arith)) c.put.ensures in
+    rw c.in-Token.is (then_puts (then_puts c.put_byte-in-Token.ensures size) c.put-in-Token.ensures)

@@ -1,0 +1,22 @@
+-- What is said of the cuts, of the struct in which the texts are lent: the same words, the same meaning. Assumes nothing.
+use Rattle.std.specs.Prelude.{ℕ, Bool, List}
+use Rattle.reference.specs.Listing.{Listing}
+use Rattle.reference.specs.Rules.{Rules}
+use Rattle.reference.specs.Life.{Labels}
+use Rattle.lines.specs.declared.texts.Texts.{Texts}
+use Rattle.cuts.specs.Cuts as Cuts
+
+abbrev pub Cuttable : Texts → List ℕ → List ℕ → List ℕ → Type 0
+Cuttable t tokens lines labels = Cuts.Cuttable t.tape.now t.area.now tokens lines labels
+
+abbrev pub labels_now : Texts → List ℕ → List ℕ → List ℕ → Labels
+labels_now t tokens lines labels = Cuts.labels_now t.tape.now t.area.now tokens lines labels
+
+abbrev pub dead_at : Rules → Texts → List ℕ → List ℕ → List ℕ → ℕ → Bool
+dead_at rules t tokens lines labels i = Cuts.dead_at rules t.tape.now t.area.now tokens lines labels i
+
+abbrev pub Dropped : Rules → Texts → List ℕ → List ℕ → List ℕ → ℕ → List ℕ → Bool → Type 0
+Dropped rules t tokens lines labels i lines' r = Cuts.Dropped rules t.tape.now t.area.now tokens lines labels i lines' r
+
+abbrev pub Cut : (Listing → List Listing) → Texts → List ℕ → List ℕ → List ℕ → ℕ → Type 0
+Cut cuts t tokens lines lines' r = Cuts.Cut cuts t.tape.now t.area.now tokens lines lines' r
