@@ -24,6 +24,7 @@ use Rattle.arguments.specs.declared.request.Problem.TheVariants as problem
 use Rattle.arguments.specs.declared.request.Destination.{Destination}
 use Rattle.arguments.specs.declared.request.Destination.TheVariants as destination
 use Rattle.arguments.specs.declared.request.Request.{Request}
+use Rattle.lines.specs.declared.rules.Rules.{Rules}
 use Rattle.arguments.specs.Request.{with_help, with_fault, with_verb, with_pending, with_convention, with_edition}
 use Rattle.arguments.specs.Request.{with_parts, with_profile, with_settle, with_exact, with_destination, with_operand, with_value}
 use Rattle.arguments.specs.Request.{with_wanted, with_chosen, with_entry}
@@ -62,6 +63,10 @@ take_destination s to k =
       | destination.StandardOutput ↦ with_destination to s
       | _ ↦ with_fault problem.SecondDestination (Some k) s
     ]
+
+-- the settings with the value in them
+abbrev pub take_rules : Request → Option Rules → ℕ → Request
+take_rules s rules k = elim rules [ Some r ↦ record s { pending = None; rules = r } | None ↦ with_fault problem.BadValue (Some k) s ]
 
 abbrev pub take_convention : Request → ℕ → Text → Request
 take_convention s k w = elim (meaning_in conventions w) [ Some n ↦ with_convention n s | None ↦ with_fault problem.BadValue (Some k) s ]

@@ -15,6 +15,8 @@ const SLASH: u8 = b'/';
 pub fn base_name(path: &[u8]) -> &[u8]
     ensures { result.now ≡ base_name path.now }
 {
+    // Kept: std's `rposition` was tried: the search left both ends open (`returns-in-Some`, `returns-in-None`), since no law in laws::Std
+    // turns what it promises into the definition's recursion.
     let mut base = path;
     for (i, b) in path.iter().enumerate() {
         if *b == SLASH {
@@ -25,7 +27,7 @@ pub fn base_name(path: &[u8]) -> &[u8]
 }
 
 // Whether the word that was taken last is word k, and two paths have one base name.
-fn is_same(taken: Option<u64>, k: u64, a: &[u8], b: &[u8]) -> bool
+fn is_taken_same(taken: Option<u64>, k: u64, a: &[u8], b: &[u8]) -> bool
     ensures { result ≡ (is_at taken k && (base_name a.now ≟ base_name b.now)) }
 {
     is_at(taken, k) && base_name(a) == base_name(b)
@@ -37,11 +39,12 @@ fn same_later(path: &[u8], s: Request, k: u64, words: &[u8]) -> Option<u64>
     ensures { result ≡ same_later path.now s k (split words.now) }
 {
     let mut t = s;
+    // Kept: counted by hand: the numbers go on from k, and `enumerate` counts from 0 and in `usize`.
     let mut n = k;
     let mut left = words;
     while let Some((word, rest)) = next_word(left) {
         t = t.step(n, word);
-        if is_same(t.last, n, path, word) {
+        if is_taken_same(t.last, n, path, word) {
             return Some(n);
         }
         n += 1;
@@ -67,6 +70,7 @@ pub fn clash(words: &[u8]) -> Option<u64>
     ensures { result ≡ clash_of (split words.now) }
 {
     let mut s = Request::begin();
+    // Kept: counted by hand: what stands behind each word is looked through, and `enumerate` does not hand that out.
     let mut k: u64 = 0;
     let mut left = words;
     while let Some((word, rest)) = next_word(left) {

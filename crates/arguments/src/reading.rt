@@ -1,7 +1,7 @@
 // The words of a request, one after the other.
 ghost use Rattle.std.specs.Prelude.{◌≡◌, ◌+◌, ◌*◌, ◌≤◌, length};
 ghost use Rattle.words.specs.Splitting.{split};
-ghost use Rattle.arguments.specs.Requests.{take_verb, take_destination, take_convention, take_edition};
+ghost use Rattle.arguments.specs.Requests.{take_verb, take_destination, take_rules, take_convention, take_edition};
 ghost use Rattle.arguments.specs.Requests.{put_wanted, take_wanted, take_chosen, take_value, set_option, take_option};
 ghost use Rattle.arguments.specs.Requests.{put_value, take_name, put_operand, take_entry, take_operand, is_option, is_help};
 ghost use Rattle.arguments.specs.Requests.{take_word, step_of, judge_output, judge_start, judge_options, judge_operands, judged};
@@ -59,36 +59,38 @@ impl Request {
         }
     }
 
-    fn take_convention(self, k: u64, word: &[u8]) -> Self
-        ensures { result ≡ take_convention self k word.now }
+    // The settings with the value of an option in them; none, if the word is no value of it.
+    fn take_rules(self, rules: Option<Rules>, k: u64) -> Self
+        ensures { result ≡ take_rules self rules k }
     {
-        match convention_in(word) {
-            Some(convention) => Request {
+        match rules {
+            Some(rules) => Request {
                 pending: None,
-                rules: Rules {
-                    convention,
-                    ..self.rules
-                },
+                rules,
                 ..self
             },
             None => self.with_fault(Problem::BadValue, Some(k)),
         }
     }
 
+    fn take_convention(self, k: u64, word: &[u8]) -> Self
+        ensures { result ≡ take_convention self k word.now }
+    {
+        let rules = convention_in(word).map(|convention| Rules {
+            convention,
+            ..self.rules
+        });
+        self.take_rules(rules, k)
+    }
+
     fn take_edition(self, k: u64, word: &[u8]) -> Self
         ensures { result ≡ take_edition self k word.now }
     {
-        match edition_in(word) {
-            Some(edition) => Request {
-                pending: None,
-                rules: Rules {
-                    edition,
-                    ..self.rules
-                },
-                ..self
-            },
-            None => self.with_fault(Problem::BadValue, Some(k)),
-        }
+        let rules = edition_in(word).map(|edition| Rules {
+            edition,
+            ..self.rules
+        });
+        self.take_rules(rules, k)
     }
 
     // The value that is to be returned.
@@ -320,6 +322,8 @@ pub fn parse(words: &[u8]) -> Request
     ensures { result ≡ request_of (split words.now) }
 {
     let mut s = Request::begin();
+    // Kept: counted by hand: an iterator over the words with `enumerate`, which was tried here, counts in `usize`, where a word's number in
+    // `Request` is a `u64`; and it would stand for this one loop alone.
     let mut k: u64 = 0;
     let mut left = words;
     while let Some((word, rest)) = next_word(left) {
@@ -336,9 +340,10 @@ pub fn put_entries(words: &[u8], out: &mut [u8]) -> usize
     ensures { Written out.old 0 (entries_of (split words.now)) out.new result }
 {
     let mut s = Request::begin();
+    let mut list = Cursor::new(out, 0);
+    // Kept: counted by hand: the room for entries is known by the bytes that are left, and an iterator hands out words.
     let mut k: u64 = 0;
     let mut left = words;
-    let mut list = Cursor::new(out, 0);
     while let Some((word, rest)) = next_word(left) {
         s = s.step(k, word);
         put_taken(is_at(s.entry, k), word, &mut list);

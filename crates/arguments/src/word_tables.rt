@@ -36,7 +36,8 @@ const OPTIONS: [(&[u8], Flag); 10] = [
     (b"--choose", Flag::Choose),
 ];
 
-// Kept: conventions and editions are numbers, as the C interface hands them over and `Rules` of crate lines holds them.
+// Kept: conventions and editions are numbers, as the C interface hands them over and `Rules` of crate lines holds them. The operand of
+// `edition` is read by the same row as the value of -e: a second row of the same two words is no plainer.
 const CONVENTIONS: [(&[u8], u8); 3] = [(b"32", 0), (b"sysv", 1), (b"windows", 2)];
 
 const EDITIONS: [(&[u8], u8); 2] = [(b"2018", 0), (b"2024", 1)];
@@ -136,7 +137,7 @@ impl Verb {
         }
     }
 
-    // How many operands a request has at least; one for `state`, whose action is not known, has two.
+    // How many operands a request has at least: one for `state` has three, but two where it lists or its action is not known.
     pub(crate) fn fewest(self, value: Option<Value>) -> u64
         ensures { result ≡ fewest self value }
     {

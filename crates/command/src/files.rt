@@ -65,10 +65,7 @@ pub(crate) fn tell_write_error(rt: &HostRuntime, path: &[u8], error: &Error) {
 
 // A path as text; what is not UTF-8 names no file that std can open.
 pub(crate) fn path_of(name: &[u8]) -> Result<&str, Error> {
-    match std::str::from_utf8(name) {
-        Ok(path) => Ok(path),
-        Err(_) => Err(Error::from(ErrorKind::InvalidInput)),
-    }
+    std::str::from_utf8(name).map_err(|_| Error::from(ErrorKind::InvalidInput))
 }
 
 // ---- reading

@@ -12,13 +12,13 @@ mod stores; // named states, in a file
 
 use answers::{Answer, Refusal};
 use arguments::{Destination, Request, Value, Verb, base_name, next_word};
+use clean::Finished;
 use files::{
     STDERR, STDOUT, front, is_dash, path_of, read_file, tell, tell_name, tell_read_error,
     tell_write_error, write_output,
 };
 use listing_text::{Unmade, put_listing, put_tape};
-use render::{Counts, Sink, put_page};
-use rounds::Tally;
+use render::{Cleaning, Sink, count_of, put_page};
 use sink::{Goal, tell_unwritten, write_file};
 use std::env::FillError;
 use std::rt::Env;
@@ -35,6 +35,7 @@ pub(crate) struct Call<'a> {
 // ---- words
 
 // Puts all arguments but the program's name, each ended by a 0, and answers where they end; none where they do not fit.
+// Kept: a buffer, and where it ends: `arg` copies an argument into a slice that is there, so a Vec would first grow by as much for each.
 fn gather(rt: &HostRuntime, words: &mut [u8]) -> Option<usize> {
     let mut at = 0;
     for i in 1..usize::MAX {
@@ -54,6 +55,8 @@ fn gather(rt: &HostRuntime, words: &mut [u8]) -> Option<usize> {
 // ---- where a result goes
 
 // Puts a text at `at` of a buffer, if it fits, and answers where it ends.
+// Kept: a buffer, and where it ends: its size is what makes a path too long. A Vec would want that test beside it, and an answer where no
+// memory is left: no plainer.
 fn append(s: &[u8], buffer: &mut [u8], at: usize) -> Option<usize> {
     let room = buffer.get_mut(at..)?.get_mut(..s.len())?;
     room.copy_from_slice(s);
@@ -127,15 +130,9 @@ pub(crate) fn print_decimal(n: u64) {
     io::print_decimal(STDOUT, n);
 }
 
-// How many there are of something, as a number that is printed.
-// Kept: std has no `From` of usize for u64, and the error of `try_from`, which cannot come, would want an answer: no plainer.
-fn count_of(n: usize) -> u64 {
-    n as u64
-}
-
-fn print_counts(rt: &HostRuntime, length: usize, tally: Tally, removed: u64, cut: u64) {
+fn print_counts(rt: &HostRuntime, f: Finished) {
     let mut line = [0u8; 256];
-    let n = reports::put_counts(count_of(length), tally, removed, cut, &mut line);
+    let n = reports::put_counts(count_of(f.length), f.tally, f.removed, f.cut, &mut line);
     write_output(rt, front(&line, n));
 }
 
@@ -154,40 +151,65 @@ fn tell_no_memory() {
 
 // ---- a start value
 
-// Asks for the start value, by way of a buffer for the list of the words' entries, and prints its line.
-fn print_start_value<'a>(
-    rt: &HostRuntime,
-    words: &'a [u8],
-    s: Request,
-    tape: &'a [u8],
-    list: &mut [u8],
-) -> Result<(), Refusal> {
-    if list.len() / 9 <= words.len() {
-        tell(b"puchkewa: the words of start have more than 65,536 bytes\n");
-        return Ok(());
+impl Call<'_> {
+    // Asks for the start value, by way of a buffer for the list of the words' entries, and prints its line.
+    fn print_start_value(&self, tape: &[u8], list: &mut [u8]) -> Result<(), Refusal> {
+        if list.len() / 9 <= self.words.len() {
+            tell(b"puchkewa: the words of start have more than 65,536 bytes\n");
+            return Ok(());
+        }
+        let n = arguments::put_entries(self.words, list);
+        if let (Some(k), Some(wanted)) = (self.request.chosen, self.request.wanted) {
+            let chosen = nth_word(self.words, k);
+            let v = start::start_value(tape, chosen, front(list, n), wanted)?;
+            print_start(self.rt, chosen, v);
+        }
+        Ok(())
     }
-    let n = arguments::put_entries(words, list);
-    if let (Some(k), Some(wanted)) = (s.chosen, s.wanted) {
-        let chosen = nth_word(words, k);
-        let v = start::start_value(tape, chosen, front(list, n), wanted)?;
-        print_start(rt, chosen, v);
+
+    // The smallest start value of the chosen register.
+    fn start_one(&self, tape: &[u8]) -> Result<(), Refusal> {
+        match vec![in self.rt.alloc(); 0u8; 589833] {
+            Ok(mut list) => self.print_start_value(tape, &mut list),
+            Err(_) => {
+                tell_no_memory();
+                Ok(())
+            }
+        }
     }
+}
+
+// ---- a page
+
+// The page of a cleaning, to what is open, and whether all of it was written.
+fn put_whole(fd: i32, cleaning: &Cleaning) -> bool {
+    let mut sink = Sink { fd, done: true };
+    put_page(&mut sink, cleaning);
+    sink.done
+}
+
+// To standard output.
+fn print_page(rt: &HostRuntime, cleaning: &Cleaning) {
+    if !put_whole(STDOUT, cleaning) {
+        tell_unwritten(rt, &mut rt.stdout(), b"standard output");
+    }
+}
+
+fn try_page(rt: &HostRuntime, path: &[u8], cleaning: &Cleaning) -> Result<(), std::io::Error> {
+    let text = path_of(path)?;
+    let mut goal = Goal::open(rt, text)?;
+    if put_whole(goal.number(), cleaning) {
+        return goal.keep(rt, text);
+    }
+    goal.tell_unwritten(rt, path);
+    goal.give_up(rt);
     Ok(())
 }
 
-// The smallest start value of the chosen register.
-fn start_one<'a>(
-    rt: &HostRuntime,
-    words: &'a [u8],
-    s: Request,
-    tape: &'a [u8],
-) -> Result<(), Refusal> {
-    match vec![in rt.alloc(); 0u8; 589833] {
-        Ok(mut list) => print_start_value(rt, words, s, tape, &mut list),
-        Err(_) => {
-            tell_no_memory();
-            Ok(())
-        }
+// To a file.
+fn write_page(rt: &HostRuntime, path: &[u8], cleaning: &Cleaning) {
+    if let Err(error) = try_page(rt, path, cleaning) {
+        tell_write_error(rt, path, &error);
     }
 }
 
@@ -202,22 +224,25 @@ impl Call<'_> {
         }
     }
 
-    fn clean_one(&self, name: &[u8], tape: &[u8]) -> Result<(), Refusal> {
+    // Cleans a tape into a buffer.
+    fn clean(&self, tape: &[u8], out: &mut [u8]) -> Result<Finished, Refusal> {
         let mut work_a = [0u8; 49152];
         let mut work_b = [0u8; 49152];
+        clean::clean(self.request.rules, tape, &mut work_a, &mut work_b, out)
+    }
+
+    fn clean_one(&self, name: &[u8], tape: &[u8]) -> Result<(), Refusal> {
         let mut out = [0u8; 59137];
-        let f = clean::clean(self.request.rules, tape, &mut work_a, &mut work_b, &mut out)?;
+        let f = self.clean(tape, &mut out)?;
         self.deliver(name, front(&out, f.length));
         Ok(())
     }
 
     fn count_one(&self, name: &[u8], tape: &[u8]) -> Result<(), Refusal> {
-        let mut work_a = [0u8; 49152];
-        let mut work_b = [0u8; 49152];
         let mut out = [0u8; 59137];
-        let f = clean::clean(self.request.rules, tape, &mut work_a, &mut work_b, &mut out)?;
+        let f = self.clean(tape, &mut out)?;
         self.print_name(name);
-        print_counts(self.rt, f.length, f.tally, f.removed, f.cut);
+        print_counts(self.rt, f);
         Ok(())
     }
 
@@ -244,8 +269,11 @@ impl Call<'_> {
     }
 
     fn offsets_one(&self, name: &[u8], tape: &[u8]) -> Result<(), Refusal> {
+        let Some(Value::Number(base)) = self.request.value else {
+            return Ok(());
+        };
         let mut out = [0u8; 59146];
-        let answer = offsets::to_offsets(self.number(), tape, &mut out);
+        let answer = offsets::to_offsets(base, tape, &mut out);
         self.deliver_front(name, &out, answer)
     }
 
@@ -255,15 +283,7 @@ impl Call<'_> {
         self.deliver_front(name, &out, answer)
     }
 
-    // The number among the operands.
-    fn number(&self) -> u64 {
-        match self.request.value {
-            Some(Value::Number(n)) => n,
-            _ => 0,
-        }
-    }
-
-    // A bare tape is shown up to the command that is wrong.
+    // A bare tape is shown up to the command that is wrong; nothing of it where its text has more than 262,144 bytes.
     fn show_one(&self, tape: &[u8]) -> Result<(), Refusal> {
         let mut out = [0u8; 262144];
         let shown = put_listing(tape, self.request.exact, &mut out);
@@ -312,60 +332,20 @@ impl Call<'_> {
         }
     }
 
-    // The page of a cleaning, to what is open, and whether all of it was written.
-    fn put_page(&self, fd: i32, name: &[u8], tape: &[u8], fin: &[u8], counts: Counts) -> bool {
-        let mut sink = Sink { fd, done: true };
-        put_page(&mut sink, self.request.rules, name, tape, fin, counts);
-        sink.done
-    }
-
-    // To standard output.
-    fn print_page(&self, name: &[u8], tape: &[u8], fin: &[u8], counts: Counts) {
-        if !self.put_page(STDOUT, name, tape, fin, counts) {
-            tell_unwritten(self.rt, &mut self.rt.stdout(), b"standard output");
-        }
-    }
-
-    // To a file.
-    fn write_page(&self, path: &[u8], name: &[u8], tape: &[u8], fin: &[u8], counts: Counts) {
-        if let Err(error) = self.try_page(path, name, tape, fin, counts) {
-            tell_write_error(self.rt, path, &error);
-        }
-    }
-
-    fn try_page(
-        &self,
-        path: &[u8],
-        name: &[u8],
-        tape: &[u8],
-        fin: &[u8],
-        counts: Counts,
-    ) -> Result<(), std::io::Error> {
-        let text = path_of(path)?;
-        let mut goal = Goal::open(self.rt, text)?;
-        if self.put_page(goal.number(), name, tape, fin, counts) {
-            return goal.keep(self.rt, text);
-        }
-        goal.tell_unwritten(self.rt, path);
-        goal.give_up(self.rt);
-        Ok(())
-    }
-
     fn page_one(&self, name: &[u8], tape: &[u8]) -> Result<(), Refusal> {
-        let mut work_a = [0u8; 49152];
-        let mut work_b = [0u8; 49152];
         let mut out = [0u8; 59137];
-        let f = clean::clean(self.request.rules, tape, &mut work_a, &mut work_b, &mut out)?;
-        let counts = Counts {
-            tally: f.tally,
-            removed: f.removed,
-            cut: f.cut,
+        let told = self.clean(tape, &mut out)?;
+        let cleaning = Cleaning {
+            rules: self.request.rules,
+            name,
+            raw: tape,
+            cleaned: front(&out, told.length),
+            told,
         };
-        let fin = front(&out, f.length);
         match self.request.destination {
-            Destination::StandardOutput => self.print_page(name, tape, fin, counts),
+            Destination::StandardOutput => print_page(self.rt, &cleaning),
             Destination::File(k) | Destination::Folder(k) => {
-                self.write_page(nth_word(self.words, k), name, tape, fin, counts)
+                write_page(self.rt, nth_word(self.words, k), &cleaning)
             }
         }
         Ok(())
@@ -386,7 +366,7 @@ impl Call<'_> {
             Verb::Edition => self.edition_one(name, tape),
             Verb::Offsets => self.offsets_one(name, tape),
             Verb::Page => self.page_one(name, tape),
-            Verb::Start => start_one(self.rt, self.words, self.request, tape),
+            Verb::Start => self.start_one(tape),
             _ => Ok(()),
         }
     }
@@ -459,8 +439,11 @@ impl Call<'_> {
     // ---- no file is read
 
     fn laborious(&self) {
+        let Some(Value::Number(n)) = self.request.value else {
+            return;
+        };
         let mut out = [0u8; 59137];
-        let answer = laborious::laborious(self.number(), &mut out);
+        let answer = laborious::laborious(n, &mut out);
         if let Err(refused) = self.deliver_front(b"laborious", &out, answer) {
             tell_refusal(b"laborious", refused);
         }

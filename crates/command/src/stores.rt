@@ -75,7 +75,7 @@ impl Call<'_> {
         }
     }
 
-    // A store that was read: its bytes, or zeros of a new one.
+    // Does what is asked with a store: the bytes that were read, or zeros where it is new.
     fn act(&self, action: Action, at: &[u8], store: &mut [u8]) -> Result<(), Refusal> {
         let name = name_of(self.word(self.request.third));
         match action {

@@ -27,8 +27,7 @@ fn put_number(s: &[u8], out: &mut Cursor)
     put_down(s, &mut down);
     let n = down.at;
     out.put_byte(18);
-    // Kept: there is no `From` from usize to u64, and `try_from` has a branch that no length takes.
-    out.put_le(n as u64, 2);
+    out.put(&n.to_le_bytes()[..2]);
     out.put(&text[..n]);
 }
 

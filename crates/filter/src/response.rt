@@ -12,6 +12,8 @@ use printing::put_decimal;
 use text::Cursor;
 
 // Puts the line of a refusal, and says how long it is.
+// Kept: beside `put_refusal` of crate reports, whose line goes on with what the number means: one function for the front that the two share
+// is no plainer, since this program would rest on the reports for four calls.
 fn put_refusal(refused: Refusal, out: &mut [u8]) -> usize
     requires { 53 ≤ length out.old }
     ensures { Shows (refusal (number_of refused.reason) refused.place) out.old out.new result }

@@ -31,7 +31,7 @@ use Rattle.reference.specs.Options.{option_of}
 use Rattle.listing_text.specs.declared.reading.Unmade.{Unmade}
 use Rattle.listing_text.specs.declared.reading.Unmade.TheVariants.{Full, Wrong}
 use Rattle.listing_text.proofs.Pages.{puts_append, all-put}
-use Rattle.listing_text.proofs.Spelling.{tag}
+use Rattle.listing_text.proofs.Spelling.{tag, tag_some}
 
 -- ---- the first two fields
 
@@ -66,6 +66,10 @@ module _ (i : Text) where
 pub indent-byte : {E : Type 0} (i : Text) {n : ℕ} (r : Result ℕ E) → some n ≡ number_in 10 i → OkIff r (n < 256) n → option_of (result_ok r) ≡ indent_in i
 indent-byte i (Ok m) e h = let k : m ≤ 255 = omega (arith, h.0, h.1) in indent_is i (rw h.1 e) k
 indent-byte i (Err x) e h = indent_large i e (omega (arith, h))
+
+pub tag-byte : {E : Type 0} (l : ℕ) {kind : ℕ} (r : Result ℕ E) → some kind ≡ position (eqb l) letters → kind < 8 → OkIff r (16 + kind < 256) (16 + kind) → option_of (result_ok r) ≡ tag l
+tag-byte l (Ok m) e k h = ap some h.1 ∙ tag_some l e
+tag-byte l (Err x) e k h = absurd (h (omega arith))
 
 module _ (a i : Text) where
   pub no_address : none ≡ address_in a → nothing false ≡ read_of (line_command a i)

@@ -98,42 +98,11 @@ no_letter (suc (suc (suc (suc (suc (suc (suc (suc k)))))))) n₀ n₁ n₂ n₃ 
 abbrev pub tag : ℕ → Option ℕ
 tag l = let_some (position (eqb l) letters) else none then λ kind. some (16 + kind)
 
-module _ {l : ℕ} where
-  pub tag_t : l ≡ 116 → some 16 ≡ tag l
-  unfolding when◌then◌else◌ let_some◌else◌then◌
-  tag_t e = rw e
+module _ (l : ℕ) where
+  pub tag_some : {kind : ℕ} → some kind ≡ position (eqb l) letters → some (16 + kind) ≡ tag l
+  unfolding let_some◌else◌then◌
+  tag_some e = ap (λ (o : Option ℕ). let_some o else none then λ kind. some (16 + kind)) e
 
-  pub tag_r : l ≡ 114 → some 17 ≡ tag l
-  unfolding when◌then◌else◌ let_some◌else◌then◌
-  tag_r e = rw e
-
-  pub tag_n : l ≡ 110 → some 18 ≡ tag l
-  unfolding when◌then◌else◌ let_some◌else◌then◌
-  tag_n e = rw e
-
-  pub tag_k : l ≡ 107 → some 19 ≡ tag l
-  unfolding when◌then◌else◌ let_some◌else◌then◌
-  tag_k e = rw e
-
-  pub tag_s : l ≡ 115 → some 20 ≡ tag l
-  unfolding when◌then◌else◌ let_some◌else◌then◌
-  tag_s e = rw e
-
-  pub tag_a : l ≡ 97 → some 21 ≡ tag l
-  unfolding when◌then◌else◌ let_some◌else◌then◌
-  tag_a e = rw e
-
-  pub tag_p : l ≡ 112 → some 22 ≡ tag l
-  unfolding when◌then◌else◌ let_some◌else◌then◌
-  tag_p e = rw e
-
-  pub tag_x : l ≡ 120 → some 23 ≡ tag l
-  unfolding when◌then◌else◌ let_some◌else◌then◌
-  tag_x e = rw e
-
-  pub tag_none : (l ≡ 116 → ⊥) → (l ≡ 114 → ⊥) → (l ≡ 110 → ⊥) → (l ≡ 107 → ⊥) → (l ≡ 115 → ⊥) → (l ≡ 97 → ⊥) → (l ≡ 112 → ⊥) → (l ≡ 120 → ⊥)
-      → none ≡ tag l
-  unfolding when◌then◌else◌ let_some◌else◌then◌
-  tag_none t r n k s a p x = rw (ne_eqb l 116 t, ne_eqb l 114 r, ne_eqb l 110 n, ne_eqb l 107 k, ne_eqb l 115 s, ne_eqb l 97 a, ne_eqb l 112 p, ne_eqb l 120 x)
-
-pub ruleset tags = (tag_t, tag_r, tag_n, tag_k, tag_s, tag_a, tag_p, tag_x, tag_none)
+  pub tag_none : none ≡ position (eqb l) letters → none ≡ tag l
+  unfolding let_some◌else◌then◌
+  tag_none e = ap (λ (o : Option ℕ). let_some o else none then λ kind. some (16 + kind)) e

@@ -27,18 +27,18 @@ use Rattle.tape.specs.declared.commands.Command.TheVariants.{Addressed, Plain, M
 use Rattle.listing_text.specs.Room.{laid, Page, puts, Adds, empty}
 use Rattle.listing_text.specs.Forms.{line_end, short_hex, span_text, span_of, command_text, TokenEnds}
 use Rattle.listing_text.specs.Showing.{Shown, begun, shown_at, shown_from, number_told, place_told, Shows}
-use Rattle.listing_text.specs.declared.forms.Span.{Span}
+use Rattle.lines.specs.declared.marks.Marks.{Marks}
 use Rattle.listing_text.proofs.Pages.{puts_append, all-put}
 
 -- ---- marks to read
 
-module _ (own span : Span) where
-  pub same_span : (eqb span.lowest own.lowest and eqb span.highest own.highest) ≡ true → [] ≡ span_text (span_of own) (some (span_of span))
+module _ (own span : Marks) where
+  pub same_span : (eqb span.low own.low and eqb span.high own.high) ≡ true → [] ≡ span_text (span_of own) (some (span_of span))
   unfolding span_text when◌then◌else◌
   same_span t = rw t
 
-  pub other_span : (eqb span.lowest own.lowest and eqb span.highest own.highest) ≡ false
-      → short_hex span.lowest ++ (46 ∷ 46 ∷ []) ++ short_hex span.highest ++ (32 ∷ []) ≡ span_text (span_of own) (some (span_of span))
+  pub other_span : (eqb span.low own.low and eqb span.high own.high) ≡ false
+      → short_hex span.low ++ (46 ∷ 46 ∷ []) ++ short_hex span.high ++ (32 ∷ []) ≡ span_text (span_of own) (some (span_of span))
   unfolding span_text when◌then◌else◌
   other_span t = rw t
 

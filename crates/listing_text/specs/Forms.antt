@@ -14,7 +14,7 @@ use Rattle.reference.specs.Questions.{Answer, Refused, Passed}
 use Rattle.tape.specs.Commands.{Sized, standing}
 use Rattle.tape.specs.declared.commands.Command as Code'
 use Rattle.tape.specs.declared.commands.Command.TheVariants.{Addressed, Plain, Marked, Token, End}
-use Rattle.listing_text.specs.declared.forms.Span as Code
+use Rattle.lines.specs.declared.marks.Marks as Code
 use Rattle.printing.specs.Decimals.{decimal}
 use Rattle.io.specs.Digits.{last_digits}
 
@@ -61,11 +61,11 @@ exact_command at end = line_end at
 
 -- ---- to read
 
--- the code's span
-abbrev pub span_of : Code.Span → Span
-span_of s = record { lowest = s.lowest; highest = s.highest }
+-- the code's marks
+abbrev pub span_of : Code.Marks → Span
+span_of s = record { lowest = s.low; highest = s.high }
 
-abbrev pub marks_of : std.Option Code.Span → Option Span
+abbrev pub marks_of : std.Option Code.Marks → Option Span
 marks_of (std.Some s) = some (span_of s)
 marks_of std.None = none
 

@@ -1,5 +1,5 @@
 // A field of the exact form: what it says, and its bytes on the tape.
-ghost use Rattle.std.specs.Prelude.{◌≡◌, ◌+◌, eqb};
+ghost use Rattle.std.specs.Prelude.{◌≡◌, ◌+◌, ◌<◌, eqb, IfSome};
 ghost use Rattle.std.proofs.Math.Option.{none, some};
 ghost use Rattle.reference.specs.Control.{let_some◌else◌then◌};
 ghost use Rattle.reference.specs.Lists.{position};
@@ -9,6 +9,7 @@ ghost use Rattle.listing_text.specs.Forms.{letters};
 ghost use Rattle.listing_text.specs.Exact.{address_in, indent_in, line_command, span_command, token_command, field_command};
 ghost use Rattle.listing_text.specs.Parsed.{addressed, bytes_in, read_in, read_of, PutsRead};
 
+use crate::forms::LETTERS;
 use crate::room::Clipped;
 use text::same;
 use words::number_in;
@@ -65,21 +66,19 @@ fn span_of<'a>(span: &[u8]) -> Option<Field<'a>>
     Some(Field::Marks { low, high })
 }
 
+// The kind that has a letter.
+fn kind_of(letter: u8) -> Option<usize>
+    ensures is { option_of result ≡ position (eqb letter) letters }
+    ensures below { IfSome result (λ k. k < 8) }
+{
+    LETTERS.iter().position(|b| letter == *b)
+}
+
 // A token's first byte on the tape, by the letter of its kind.
 fn tag_of(letter: u8) -> Option<u8>
     ensures { option_of result ≡ (let_some (position (eqb letter) letters) else none then λ kind. some (16 + kind)) }
 {
-    match letter {
-        b't' => Some(16),
-        b'r' => Some(17),
-        b'n' => Some(18),
-        b'k' => Some(19),
-        b's' => Some(20),
-        b'a' => Some(21),
-        b'p' => Some(22),
-        b'x' => Some(23),
-        _ => None,
-    }
+    u8::try_from(16 + kind_of(letter)?).ok()
 }
 
 fn token_of(letter: u8, text: &[u8]) -> Option<Field>
@@ -141,13 +140,8 @@ impl<'a> Field<'a> {
 fn put_read(read: Option<Field>, out: &mut Clipped) -> Result<(), Malformed>
     ensures { PutsRead out.old (read_in read.entry) out.new result }
 {
-    match read {
-        Some(field) => {
-            field.put(out);
-            Ok(())
-        }
-        None => Err(Malformed),
-    }
+    read.ok_or(Malformed)?.put(out);
+    Ok(())
 }
 
 // Puts the command of a line's first two fields.

@@ -8,6 +8,7 @@ ghost use Rattle.listing_text.specs.Forms.{line_end, hexadecimal, enough, blanks
 ghost use Rattle.listing_text.specs.Forms.{own_span, span_text, span_of, marks_of, marks_at, read_command_text, command_text, TokenEnds};
 
 use crate::room::Clipped;
+use lines::marks::Marks;
 use tape::commands::Command;
 use tape::reader::command_at;
 
@@ -23,6 +24,8 @@ fn put_hex(n: u64, least: usize, out: &mut Clipped)
     out.put(&digits[..k]);
 }
 
+// Kept: beside crate printing's, which puts onto a `Cursor`: a trait over the two is no plainer, since the one has to have room and the
+// other does not, so each call would stand under two clauses.
 fn put_decimal(n: u64, out: &mut Clipped)
     ensures { Puts out.old (decimal n) out.new }
 {
@@ -51,20 +54,16 @@ fn put_blanks(indent: u64, out: &mut Clipped)
 
 // ---- exact
 
-// The letter of a kind: Text, Register, Number, Keyword, Symbol, Address, Punct, Prefix.
+// By kind: Text, Register, Number, Keyword, Symbol, Address, Punct, Prefix.
+pub const LETTERS: [u8; 8] = *b"trnksapx";
+
+// The letter of a kind; 0 for a number that is none.
 fn letter_of(kind: u64) -> u8
     ensures { result ≡ get_or letters kind 0 }
 {
-    match kind {
-        0 => b't',
-        1 => b'r',
-        2 => b'n',
-        3 => b'k',
-        4 => b's',
-        5 => b'a',
-        6 => b'p',
-        7 => b'x',
-        _ => 0,
+    match usize::try_from(kind) {
+        Ok(k) => LETTERS.get(k).copied().unwrap_or(0),
+        Err(_) => 0,
     }
 }
 
@@ -116,53 +115,42 @@ fn put_exact(tape: &[u8], at: usize, next: usize, command: Command, out: &mut Cl
 
 // ---- to read
 
-// From an address to an address.
-#[derive(Clone, Copy, PartialEq, Eq)]
-struct Span {
-    lowest: u64,
-    highest: u64,
-}
-
 // What a line's address says; of a line without one nothing, from 1 to 0.
-fn own_span(address: Option<u64>) -> Span
+// Kept: marks from 1 to 0, not an `Option`: such marks behind a line without an address say what the line says and are left out; with an
+// `Option` in place of `own` they would be put, and the text to read would change.
+fn own_span(address: Option<u64>) -> Marks
     ensures { span_of result ≡ own_span (option_of address) }
 {
     match address {
-        Some(address) => Span {
-            lowest: address,
-            highest: address,
+        Some(address) => Marks {
+            low: address,
+            high: address,
         },
-        None => Span {
-            lowest: 1,
-            highest: 0,
-        },
+        None => Marks { low: 1, high: 0 },
     }
 }
 
 // The marks that stand at an offset, if any.
-fn marks_at(tape: &[u8], at: usize) -> Option<Span>
+fn marks_at(tape: &[u8], at: usize) -> Option<Marks>
     ensures { marks_of result ≡ marks_at tape.now at }
 {
     match command_at::<false>(tape, at).ok()? {
-        Command::Marked { low, high } => Some(Span {
-            lowest: low,
-            highest: high,
-        }),
+        Command::Marked { low, high } => Some(Marks { low, high }),
         _ => None,
     }
 }
 
 // Puts marks, unless they say just what the line's address does.
-fn put_span(own: Span, marks: Option<Span>, out: &mut Clipped)
+fn put_span(own: Marks, marks: Option<Marks>, out: &mut Clipped)
     ensures { Puts out.old (span_text (span_of own) (marks_of marks)) out.new }
 {
     if let Some(span) = marks {
         if span == own {
             return;
         }
-        put_hex(span.lowest, 8, out);
+        put_hex(span.low, 8, out);
         out.put(b"..");
-        put_hex(span.highest, 8, out);
+        put_hex(span.high, 8, out);
         out.put(b" ");
     }
 }

@@ -61,6 +61,8 @@ fn next_line(text: &[u8]) -> Option<(&[u8], &[u8])>
     Some((line, behind.unwrap_or(&[])))
 }
 
+// Kept: lines are counted by hand: `enumerate` is no plainer, since it wants an iterator of this file's own for one loop, and counts in
+// `usize`, where `Unmade` tells a `u64`.
 // Reads the exact form: puts the tape of a text, and answers its length.
 pub fn put_tape(text: &[u8], out: &mut [u8]) -> Result<usize, Unmade>
     ensures { Makes (tape_of text.now) out.old out.new result }

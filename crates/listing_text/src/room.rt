@@ -1,5 +1,6 @@
-// Bytes put into a lent slice one after the other, as far as they fit: no function needs to know how long what it puts may be. (Crate
-// text's `Cursor` has room for what is put, by its clauses.)
+// Bytes put into a lent slice one after the other, as far as they fit: no function needs to know how long what it puts may be.
+// Kept: beside text's `Cursor`: each of its clauses asks for room for all that is put. What is put here has no length known before, so a
+// byte that does not fit is left out, and that it was is noted; with `Cursor` every call would stand behind a test of its own for room.
 ghost use Rattle.std.specs.Prelude.{◌≡◌, [], ◌∷◌, ◌≤◌};
 ghost use Rattle.reference.specs.Tape.{to_le_bytes};
 ghost use Rattle.listing_text.specs.Room.{Puts, page, empty};
@@ -37,6 +38,7 @@ impl<'a> Clipped<'a> {
     }
 
     // Puts a text.
+    // Kept: byte by byte: `copy_from_slice` is no plainer, since the part that fits would have to be counted and cut off first.
     pub fn put(&mut self, s: &[u8])
         ensures { Puts self.old s.now self.new }
     {

@@ -9,6 +9,8 @@ use answers::{Reason, Refusal};
 use tape::questions::{NONE, Totals, step};
 
 // How much of the text stands in the slice, whether it is all, and the refusal that ended it.
+// Kept: a length beside a flag: the length is how much stands in the slice also where that is not all, as the clause says, and a refusal
+// may end either; an `Option` of the length would tell less.
 #[derive(Clone, Copy, Debug, PartialEq, Eq)]
 pub struct Shown {
     pub length: usize,
@@ -26,8 +28,8 @@ fn told(page: &Clipped, refusal: Option<Refusal>) -> Shown
     }
 }
 
-// Whether a line has begun before an offset, and whether its command stands just before. The totals of a listing are not asked: cleaning
-// may lengthen a text.
+// What the questions know before an offset: one line where one has begun, none at the front, and whether the line's command stands just
+// before. The totals of a listing are not asked: cleaning may lengthen a text.
 fn begun(at: usize, fresh: bool) -> Totals
     ensures { totals_of result ≡ begun at fresh }
 {
@@ -39,6 +41,7 @@ fn begun(at: usize, fresh: bool) -> Totals
     }
 }
 
+// Kept: a walk by `step`, which an iterator of commands does not replace: each turn goes by the offset and by the totals so far.
 // Puts the commands of a tape up to the end, or to the first that a question refuses: in the exact form, or to read. Each turn takes a byte
 // of the tape at least.
 pub fn put_listing(tape: &[u8], exact: bool, out: &mut [u8]) -> Shown

@@ -16,7 +16,10 @@ use Rattle.reference.proofs.Reading.{ask-yes, ask_no, refused_passed, by_passed,
 use Rattle.answers.specs.Answers.{Writes}
 use Rattle.answers.specs.declared.Reason.{Reason}
 use Rattle.answers.specs.declared.Reason.TheVariants as reason
-use Rattle.answers.specs.Refusals.{number_of}
+use Rattle.answers.specs.declared.Refusal.{Refusal}
+use Rattle.answers.specs.Refusals.{number_of, refusing}
+use Rattle.std.specs.Prelude.{Result, Ok, Err}
+use Rattle.std.specs.Result.{MatchResult, IsErrAnd}
 use Rattle.text.specs.Cursor.{Puts}
 use Rattle.text.specs.declared.cursor.Cursor.{Cursor}
 use Rattle.text.proofs.Cursors.{then_puts, at_front}
@@ -152,9 +155,16 @@ module _ (tape : List ℕ) (output : ℕ) where
   from-small h = ask_no _ [] _ [] _ tt (lt-leb OUTPUT output h)
 
   module _ (room : 59146 ≤ output) where
-    pub from_front : {n : ℕ} → n ≡ first_no ((19, begins_with_06 tape) ∷ (4, has_base tape) ∷ []) → (n ≡ 0 → ⊥) → from_offsets tape output ≡ Refused n 0
+    from_front : {n : ℕ} → n ≡ first_no ((19, begins_with_06 tape) ∷ (4, has_base tape) ∷ []) → (n ≡ 0 → ⊥) → from_offsets tape output ≡ Refused n 0
     unfolding from_offsets has_output read_offsets
     from_front e z = ask-yes _ _ _ (le-leb OUTPUT output room, tt) ∙ let_refused _ (ask_number _ _ _ z (sym e))
+
+    -- of what `map_err` and `?` make of the answer
+    pub from_early : {A : Type 0} (o : Result A Reason) → refusing o ≡ first_no ((19, begins_with_06 tape) ∷ (4, has_base tape) ∷ []) → {m : Result A Refusal}
+        → MatchResult o (λ a. m ≡ Ok a) (λ r. IsErrAnd m (λ x. x ≡ record { reason = r; place = 0 })) → (x : Refusal) → m ≡ Err x
+        → from_offsets tape output ≡ Refused (number_of x.reason) x.place
+    from_early (Ok a) e h x is = cc
+    from_early (Err r) e h x is = let same : x ≡ record { reason = r; place = 0 } = rw is at h in rw same (from_front e (numbered r))
 
     module _ (f : Fronted tape) where
       begun : read_offsets tape ≡ read_by offsets tape

@@ -69,8 +69,6 @@ pub fn from_offsets(tape: &[u8], out: &mut [u8]) -> Answer
     if out.len() < OUTPUT_BYTES {
         return Err(Reason::TooLittleRoom.at(0));
     }
-    match asked(tape) {
-        Err(reason) => Err(reason.at(0)),
-        Ok(()) => raise(tape, out),
-    }
+    asked(tape).map_err(|reason| reason.at(0))?;
+    raise(tape, out)
 }

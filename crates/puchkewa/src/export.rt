@@ -6,6 +6,7 @@ use clean::{Told, clean};
 use lines::rules::Rules;
 
 // The settings of a call.
+// Kept: beside `Rules` and `Finished`, the C interface's own structs: their fields and their order are those of include/puchkewa.h.
 #[repr(C)]
 #[derive(Clone, Copy, Debug, PartialEq, Eq)]
 pub struct Settings {

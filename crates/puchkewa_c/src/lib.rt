@@ -1,5 +1,6 @@
-// The archive for C and Rust (include/puchkewa.h): each entry of crate puchkewa, exported under its name with the same clauses. An archive
-// holds only the exports of the crate that it is made of.
+// The archive for C and Rust (include/puchkewa.h): each entry of crate puchkewa, exported under its name with the same clauses.
+// Kept: each entry here and in puchkewa: a crate is built as a library or as an archive, no crate can use an archive, and `no_mangle` on a
+// function of a library exports nothing. So the library has the entries for Rattle, and the archive one export for each.
 #![tactic(auto)]
 
 mod export; // the cleaning, for C and Rust

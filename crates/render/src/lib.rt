@@ -10,36 +10,39 @@ mod walking; // the lines of a tape
 
 ghost use Rattle.render.specs.Sinks.{Later};
 
+use clean::Finished;
 use lines::rules::Rules;
-pub use sheet::Counts;
-pub use sink::Sink;
+pub use sink::{Sink, count_of};
 use sink::{Output, Unwritten};
 
-// Puts the page of a tape that was cleaned to `fin`, up to the first piece that the system does not take: nothing more is put after it, so
-// that the system's reason stays.
-fn put_all(
-    out: Output,
-    rules: Rules,
-    name: &[u8],
-    tape: &[u8],
-    fin: &[u8],
-    counts: Counts,
-) -> Result<(), Unwritten> {
+// A cleaning: its settings, the name of the tape's file, the tape before and after, and what is told of the run.
+#[derive(Clone, Copy)]
+pub struct Cleaning<'a> {
+    pub rules: Rules,
+    pub name: &'a [u8],
+    pub raw: &'a [u8],
+    pub cleaned: &'a [u8],
+    pub told: Finished,
+}
+
+// Puts the page of a cleaning, up to the first piece that the system does not take: nothing more is put after it, so that the system's
+// reason stays.
+fn put_all(out: Output, cleaning: &Cleaning) -> Result<(), Unwritten> {
     let mut places = [None; 256];
-    frame::put_head(out, name)?;
-    rows::put_rows(out, rules, tape, fin, &mut places)?;
+    frame::put_head(out, cleaning.name)?;
+    rows::put_rows(out, cleaning, &mut places)?;
     frame::put_middle(out)?;
-    sheet::put_sheet(out, rules, tape, fin, counts, &places)?;
+    sheet::put_sheet(out, cleaning, &places)?;
     frame::put_foot(out)
 }
 
-// Puts the page of a tape that was cleaned to `fin`, where all so far was written, and notes whether all of it was. (What a system call
-// wrote no contract can say.)
-pub fn put_page(sink: &mut Sink, rules: Rules, name: &[u8], tape: &[u8], fin: &[u8], counts: Counts)
+// Puts the page of a cleaning, where all so far was written, and notes whether all of it was. (What a system call wrote no contract can
+// say.)
+pub fn put_page(sink: &mut Sink, cleaning: &Cleaning)
     ensures { Later sink.old sink.new }
 {
     if sink.done {
         let out = Output { fd: sink.fd };
-        sink.done = put_all(out, rules, name, tape, fin, counts).is_ok();
+        sink.done = put_all(out, cleaning).is_ok();
     }
 }

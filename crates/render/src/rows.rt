@@ -1,49 +1,46 @@
 // The rows of the page: each raw line, and beside it what became of it. What a raw line came into is asked of crate sources, line by line.
-use crate::sink::{Output, Unwritten, number, put, put_hex, put_number};
-use crate::walking::{Line, Lines, Span, front};
-use lines::rules::Rules;
+use crate::Cleaning;
+use crate::sink::{Output, Unwritten, count_of, put, put_hex, put_number};
+use crate::walking::{Line, Lines};
+use lines::marks::Marks;
 use sources::came_into;
 
 // ---- what a raw line came into
 
-// How many lines are finished, and which of them the raw line itself became, if it is not gone.
+// What a raw line came into: the finished line q where flag q is 1, and the one that it became itself, if it is not gone.
 #[derive(Clone, Copy)]
-struct Told {
-    finished: u64,
+struct Trace {
+    flags: [u8; 256],
     became: Option<usize>,
 }
 
-// Asks of raw line k. Flag q says whether it came into the finished line q. Line k alone has an address in the copy that is cleaned, so the
-// finished line that has one is line k.
-fn ask(rules: Rules, tape: &[u8], k: usize, flags: &mut [u8]) -> Told {
+// Asks of raw line k. Line k alone has an address in the copy that is cleaned, so the finished line that has one is line k. Where the call
+// is refused, the flags and the output stay zero, and there is no such line.
+fn ask(cleaning: &Cleaning, k: usize) -> Trace {
+    let mut flags = [0u8; 256];
     let mut copy = [0u8; 34561];
     let mut work_a = [0u8; 49152];
     let mut work_b = [0u8; 49152];
     let mut out = [0u8; 59137];
-    match came_into(
-        rules,
-        tape,
+    let _ = came_into(
+        cleaning.rules,
+        cleaning.raw,
         k,
         &mut copy,
         &mut work_a,
         &mut work_b,
         &mut out,
+        &mut flags,
+    );
+    Trace {
         flags,
-    ) {
-        Ok(n) => Told {
-            finished: n,
-            became: Lines::new(&out).position(|line| line.address.is_some()),
-        },
-        Err(_) => Told {
-            finished: 0,
-            became: None,
-        },
+        became: Lines::new(&out).position(|line| line.address.is_some()),
     }
 }
 
-// The first n finished lines that are flagged, from 1, each behind a blank.
-fn put_flagged(out: Output, flags: &[u8], n: u64) -> Result<(), Unwritten> {
-    for (flag, q) in flags.iter().zip(1..=n) {
+// The finished lines that are flagged, from 1, each behind a blank.
+fn put_flagged(out: Output, flags: &[u8]) -> Result<(), Unwritten> {
+    for (flag, q) in flags.iter().zip(1..=256) {
         if *flag == 1 {
             put(out, b" ")?;
             put_number(out, q)?;
@@ -63,13 +60,13 @@ fn put_address(out: Output, address: Option<u64>) -> Result<(), Unwritten> {
 }
 
 // The lowest and the highest address of marks, if the line has any.
-fn put_marks(out: Output, marks: Option<Span>) -> Result<(), Unwritten> {
-    let Some(span) = marks else {
+fn put_marks(out: Output, marks: Option<Marks>) -> Result<(), Unwritten> {
+    let Some(marks) = marks else {
         return Ok(());
     };
-    put_hex(out, span.low)?;
+    put_hex(out, marks.low)?;
     put(out, b"..")?;
-    put_hex(out, span.high)
+    put_hex(out, marks.high)
 }
 
 // The tokens of a line in their cells, by way of a buffer that has room for them.
@@ -80,7 +77,7 @@ fn put_tokens_by(out: Output, tokens: &[u8], cells: &mut [u8]) -> Result<(), Unw
         return Ok(());
     }
     let n = page::put_line(tokens, cells);
-    put(out, front(cells, n))
+    put(out, cells.get(..n).unwrap_or_default())
 }
 
 // The tokens of a line in their cells. A line of an accepted or a cleaned tape has at most 59,137 bytes, and its cells at most twelve
@@ -100,16 +97,9 @@ enum Fate {
     Kept,
 }
 
-// A raw line, number k from 0; of the finished lines, n of them, those are flagged that it came into.
-fn put_raw(
-    out: Output,
-    fate: Fate,
-    line: Line,
-    k: usize,
-    flags: &[u8],
-    n: u64,
-) -> Result<(), Unwritten> {
-    let number = number(k.saturating_add(1));
+// A raw line, number k from 0; the finished lines that it came into are flagged.
+fn put_raw(out: Output, fate: Fate, line: Line, k: usize, flags: &[u8]) -> Result<(), Unwritten> {
+    let number = count_of(k.saturating_add(1));
     match fate {
         Fate::Gone => put(out, b"<tr class=gone data-k="),
         Fate::Rewritten => put(out, b"<tr class=changed data-k="),
@@ -117,7 +107,7 @@ fn put_raw(
     }?;
     put_number(out, number)?;
     put(out, b" data-into=\"")?;
-    put_flagged(out, flags, n)?;
+    put_flagged(out, flags)?;
     put(out, b"\"><td class=n>")?;
     put_number(out, number)?;
     put(out, b"</td><td class=a>")?;
@@ -136,9 +126,9 @@ fn put_raw(
 }
 
 // Behind a raw line that is gone: which cleaned lines it came into.
-fn put_arrow(out: Output, flags: &[u8], n: u64) -> Result<(), Unwritten> {
+fn put_arrow(out: Output, flags: &[u8]) -> Result<(), Unwritten> {
     put(out, b"&rarr;")?;
-    put_flagged(out, flags, n)?;
+    put_flagged(out, flags)?;
     put(
         out,
         b"</td><td class=m></td><td class=o></td><td class=p></td></tr>\n",
@@ -147,7 +137,7 @@ fn put_arrow(out: Output, flags: &[u8], n: u64) -> Result<(), Unwritten> {
 
 // A cleaned line, number q from 0, with its marks.
 fn put_cleaned(out: Output, line: Line, q: usize) -> Result<(), Unwritten> {
-    let number = number(q.saturating_add(1));
+    let number = count_of(q.saturating_add(1));
     put(out, b"</td><td class=m>")?;
     put_number(out, number)?;
     put(out, b"</td><td class=o data-q=")?;
@@ -170,37 +160,27 @@ fn note(places: &mut [Option<usize>], k: usize, q: usize) {
     }
 }
 
-// All rows. Lines that stay keep their order, so the finished line beside a raw one that stays is the next.
+// All rows: beside a raw line that stays, the finished line that it became. Lines that stay keep their order, and no other is new.
 pub(crate) fn put_rows(
     out: Output,
-    rules: Rules,
-    tape: &[u8],
-    fin: &[u8],
+    cleaning: &Cleaning,
     places: &mut [Option<usize>],
 ) -> Result<(), Unwritten> {
-    let mut flags = [0u8; 256];
-    let mut cleaned = Lines::new(fin);
-    let mut next = cleaned.next();
-    let mut q = 0usize;
-    for (k, raw) in Lines::new(tape).enumerate() {
-        let told = ask(rules, tape, k, &mut flags);
-        match next {
-            Some(line) if told.became == Some(q) => {
-                let fate = if raw.tokens == line.tokens {
-                    Fate::Kept
-                } else {
-                    Fate::Rewritten
-                };
-                put_raw(out, fate, raw, k, &flags, told.finished)?;
-                put_cleaned(out, line, q)?;
-                note(places, k, q);
-                next = cleaned.next();
-                q = q.saturating_add(1);
-            }
-            _ => {
-                put_raw(out, Fate::Gone, raw, k, &flags, told.finished)?;
-                put_arrow(out, &flags, told.finished)?;
-            }
+    for (k, raw) in Lines::new(cleaning.raw).enumerate() {
+        let Trace { flags, became } = ask(cleaning, k);
+        let line = became.and_then(|q| Lines::new(cleaning.cleaned).nth(q));
+        if let (Some(q), Some(line)) = (became, line) {
+            let fate = if raw.tokens == line.tokens {
+                Fate::Kept
+            } else {
+                Fate::Rewritten
+            };
+            put_raw(out, fate, raw, k, &flags)?;
+            put_cleaned(out, line, q)?;
+            note(places, k, q);
+        } else {
+            put_raw(out, Fate::Gone, raw, k, &flags)?;
+            put_arrow(out, &flags)?;
         }
     }
     Ok(())

@@ -2,20 +2,15 @@
 // The numbers are the reply's, and those that crate tallies counts from the two tapes: of the listings that they hold, as the reference
 // counts (its theorem `ticks` says how they must come out). Which labels stand, and which addresses are held, is counted here without a
 // promise.
-use crate::sink::{Output, Unwritten, number, put, put_number, put_text};
-use crate::walking::{Line, Lines, SYMBOL, Span, before, label_of, opens, symbol_of};
+use crate::Cleaning;
+use crate::sink::{Output, Unwritten, count_of, put, put_number, put_text};
+use crate::walking::{Line, Lines, before, label_of, opens, symbol_of};
+use clean::{Finished, Tally};
+use lines::marks::Marks;
 use lines::rules::Rules;
-use rounds::Tally;
+use lines::words::SYMBOL;
 use tallies::{Sizes, count_calls, count_casts, count_labels, count_sizes};
 use walk::{Commands, Event};
-
-// What the reply told of the run: the rounds, the lines removed, the results cut.
-#[derive(Clone, Copy)]
-pub struct Counts {
-    pub tally: Tally,
-    pub removed: u64,
-    pub cut: u64,
-}
 
 // A tick, or a cross: the latter is never seen unless the counting or the theorem is wrong.
 fn put_tick(out: Output, holds: bool) -> Result<(), Unwritten> {
@@ -27,86 +22,101 @@ fn put_tick(out: Output, holds: bool) -> Result<(), Unwritten> {
 
 fn put_count(out: Output, n: usize) -> Result<(), Unwritten> {
     put(out, b"<td class=d>")?;
-    put_number(out, number(n))?;
+    put_number(out, count_of(n))?;
     put(out, b"</td>")
 }
 
-// ---- calls
-
-fn put_calls_of(out: Output, tape: &[u8], fin: &[u8], name: &[u8]) -> Result<(), Unwritten> {
-    let before = count_calls(tape, name);
-    let now = count_calls(fin, name);
+// A row of two numbers: of a name, or where there is none, of the calls through a cast pointer.
+fn put_row(
+    out: Output,
+    holds: bool,
+    name: Option<&[u8]>,
+    first: usize,
+    second: usize,
+) -> Result<(), Unwritten> {
     put(out, b"<tr>")?;
-    put_tick(out, before <= now)?;
+    put_tick(out, holds)?;
     put(out, b"<td class=w>")?;
-    put_text(out, 4, name)?;
+    match name {
+        Some(name) => put_text(out, SYMBOL, name),
+        None => put(out, b"<em>through a cast pointer</em>"),
+    }?;
     put(out, b"</td>")?;
-    put_count(out, before)?;
-    put_count(out, now)?;
+    put_count(out, first)?;
+    put_count(out, second)?;
     put(out, b"</tr>\n")
 }
 
+// ---- calls: a callee is a name, or none for a cast pointer
+
+fn count_callee(tape: &[u8], callee: Option<&[u8]>) -> usize {
+    match callee {
+        Some(name) => count_calls(tape, name),
+        None => count_casts(tape),
+    }
+}
+
+fn put_callee(out: Output, cleaning: &Cleaning, callee: Option<&[u8]>) -> Result<(), Unwritten> {
+    let before = count_callee(cleaning.raw, callee);
+    let now = count_callee(cleaning.cleaned, callee);
+    put_row(out, before <= now, callee, before, now)
+}
+
 // A row for each name that is called, in the order of the first calls: no bracket opened behind the name in what stands before it.
-fn put_names(out: Output, tape: &[u8], fin: &[u8]) -> Result<(), Unwritten> {
-    let mut commands = Commands::new(tape);
+fn put_names(out: Output, cleaning: &Cleaning) -> Result<(), Unwritten> {
+    let mut commands = Commands::new(cleaning.raw);
     let mut symbol = None;
-    let mut from = tape;
+    let mut from = cleaning.raw;
     while let Some(event) = commands.next() {
         if let Some((name, earlier)) = symbol
             && opens(event)
             && count_calls(earlier, name) == 0
         {
-            put_calls_of(out, tape, fin, name)?;
+            put_callee(out, cleaning, Some(name))?;
         }
-        symbol = symbol_of(event).map(|name| (name, before(tape, from)));
+        symbol = symbol_of(event).map(|name| (name, before(cleaning.raw, from)));
         from = commands.as_bytes();
     }
     Ok(())
 }
 
-fn put_casts(out: Output, tape: &[u8], fin: &[u8]) -> Result<(), Unwritten> {
-    let before = count_casts(tape);
-    let now = count_casts(fin);
-    put(out, b"<tr>")?;
-    put_tick(out, before <= now)?;
-    put(out, b"<td class=w><em>through a cast pointer</em></td>")?;
-    put_count(out, before)?;
-    put_count(out, now)?;
-    put(out, b"</tr>\n")
-}
-
-fn put_calls(out: Output, tape: &[u8], fin: &[u8]) -> Result<(), Unwritten> {
+fn put_calls(out: Output, cleaning: &Cleaning) -> Result<(), Unwritten> {
     put(
         out,
         b"<div><h3>Calls <code>calls-stay</code></h3><table class=q><thead><tr><th></th><th>callee</th><th>before</th><th>after</th></tr><\
           /thead><tbody \
           id=calls>\n",
     )?;
-    put_names(out, tape, fin)?;
-    put_casts(out, tape, fin)?;
+    put_names(out, cleaning)?;
+    put_callee(out, cleaning, None)?;
     put(out, b"</tbody></table></div>\n")
 }
 
-// Whether each name that is called is called as often afterwards.
-fn calls_stay(tape: &[u8], fin: &[u8]) -> bool {
+// Whether a callee is called as often afterwards.
+fn stays(cleaning: &Cleaning, callee: Option<&[u8]>) -> bool {
+    count_callee(cleaning.raw, callee) <= count_callee(cleaning.cleaned, callee)
+}
+
+// Whether each callee is called as often afterwards.
+fn calls_stay(cleaning: &Cleaning) -> bool {
     let mut symbol = None;
-    for event in Commands::new(tape) {
+    for event in Commands::new(cleaning.raw) {
         if let Some(name) = symbol
             && opens(event)
-            && count_calls(fin, name) < count_calls(tape, name)
+            && !stays(cleaning, Some(name))
         {
             return false;
         }
         symbol = symbol_of(event);
     }
-    count_casts(tape) <= count_casts(fin)
+    stays(cleaning, None)
 }
 
 // ---- labels
 
 // Whether a line stands as the finished line of that number, with the same tokens.
-fn stands(line: Line, fin: &[u8], place: Option<usize>) -> bool {
-    match place.and_then(|q| Lines::new(fin).nth(q)) {
+fn stands(line: Line, cleaned: &[u8], place: Option<usize>) -> bool {
+    match place.and_then(|q| Lines::new(cleaned).nth(q)) {
         Some(finished) => finished.tokens == line.tokens,
         None => false,
     }
@@ -114,77 +124,73 @@ fn stands(line: Line, fin: &[u8], place: Option<usize>) -> bool {
 
 fn put_label_rows(
     out: Output,
-    tape: &[u8],
-    fin: &[u8],
+    cleaning: &Cleaning,
     places: &[Option<usize>],
 ) -> Result<(), Unwritten> {
-    for (k, line) in Lines::new(tape).enumerate() {
+    for (k, line) in Lines::new(cleaning.raw).enumerate() {
         if let Some(name) = label_of(line) {
             let place = places.get(k).copied().flatten();
-            put(out, b"<tr>")?;
-            put_tick(out, stands(line, fin, place))?;
-            put(out, b"<td class=w>")?;
-            put_text(out, SYMBOL, name)?;
-            put(out, b"</td>")?;
-            put_count(out, k.saturating_add(1))?;
-            put_count(out, place.map_or(0, |q| q.saturating_add(1)))?;
-            put(out, b"</tr>\n")?;
+            put_row(
+                out,
+                stands(line, cleaning.cleaned, place),
+                Some(name),
+                k.saturating_add(1),
+                place.map_or(0, |q| q.saturating_add(1)),
+            )?;
         }
     }
     Ok(())
 }
 
-fn put_labels(
-    out: Output,
-    tape: &[u8],
-    fin: &[u8],
-    places: &[Option<usize>],
-) -> Result<(), Unwritten> {
+fn put_labels(out: Output, cleaning: &Cleaning, places: &[Option<usize>]) -> Result<(), Unwritten> {
     put(
         out,
         b"<div><h3>Labels <code>labels-stand</code></h3><table class=q><thead><tr><th>stands</th><th>label</th><th>raw \
           line</th><th>cleaned \
           line</th></tr></thead><tbody id=labels>\n",
     )?;
-    put_label_rows(out, tape, fin, places)?;
+    put_label_rows(out, cleaning, places)?;
     put(out, b"</tbody></table></div>\n")
 }
 
 // How many labels stand.
-fn count_standing(tape: &[u8], fin: &[u8], places: &[Option<usize>]) -> usize {
-    Lines::new(tape)
+fn count_standing(cleaning: &Cleaning, places: &[Option<usize>]) -> usize {
+    Lines::new(cleaning.raw)
         .zip(places)
-        .filter(|(line, place)| label_of(*line).is_some() && stands(*line, fin, **place))
+        .filter(|(line, place)| {
+            label_of(*line).is_some() && stands(*line, cleaning.cleaned, **place)
+        })
         .count()
 }
 
 // ---- addresses
 
 // The addresses that a command says, if any.
-fn span_of(event: Event) -> Option<Span> {
+fn marks_of(event: Event) -> Option<Marks> {
     match event {
-        Event::Line { address, .. } => address.map(|a| Span { low: a, high: a }),
-        Event::Marks { low, high } if low <= high => Some(Span { low, high }),
+        Event::Line { address, .. } => address.map(|a| Marks { low: a, high: a }),
+        Event::Marks { low, high } if low <= high => Some(Marks { low, high }),
         _ => None,
     }
 }
 
-// Whether the marks of some line hold a span.
-fn is_held(fin: &[u8], s: Span) -> bool {
-    Lines::new(fin).any(|line| match line.marks {
+// Whether addresses lie within the marks of some line.
+fn is_held(cleaned: &[u8], s: Marks) -> bool {
+    Lines::new(cleaned).any(|line| match line.marks {
         Some(m) => m.low <= s.low && s.high <= m.high,
         None => false,
     })
 }
 
-// How many addresses and marks a tape has, and how many of them lie within the marks of some finished line.
-fn count_spans(tape: &[u8], fin: &[u8]) -> (usize, usize) {
+// How many addresses and marks the raw tape has, and how many of them lie within the marks of some finished line.
+// Kept: counted by hand: tried as `filter_map` and `count`, and the proof did not close at the bound that `count` asks of the items.
+fn count_marks(cleaning: &Cleaning) -> (usize, usize) {
     let mut all = 0usize;
     let mut held = 0usize;
-    for event in Commands::new(tape) {
-        if let Some(span) = span_of(event) {
+    for event in Commands::new(cleaning.raw) {
+        if let Some(marks) = marks_of(event) {
             all = all.saturating_add(1);
-            held = held.saturating_add(usize::from(is_held(fin, span)));
+            held = held.saturating_add(usize::from(is_held(cleaning.cleaned, marks)));
         }
     }
     (all, held)
@@ -192,18 +198,23 @@ fn count_spans(tape: &[u8], fin: &[u8]) -> (usize, usize) {
 
 // ---- counts and settings
 
-fn put_entry(out: Output, name: &[u8], n: u64) -> Result<(), Unwritten> {
+// The name of a row, in front of its cell.
+fn put_name(out: Output, name: &[u8]) -> Result<(), Unwritten> {
     put(out, b"<tr><th>")?;
     put(out, name)?;
-    put(out, b"</th><td class=d>")?;
+    put(out, b"</th>")
+}
+
+fn put_entry(out: Output, name: &[u8], n: u64) -> Result<(), Unwritten> {
+    put_name(out, name)?;
+    put(out, b"<td class=d>")?;
     put_number(out, n)?;
     put(out, b"</td></tr>\n")
 }
 
 fn put_said(out: Output, name: &[u8], words: &[u8]) -> Result<(), Unwritten> {
-    put(out, b"<tr><th>")?;
-    put(out, name)?;
-    put(out, b"</th><td>")?;
+    put_name(out, name)?;
+    put(out, b"<td>")?;
     put(out, words)?;
     put(out, b"</td></tr>\n")
 }
@@ -230,17 +241,16 @@ fn put_tally(out: Output, tally: Tally) -> Result<(), Unwritten> {
     }
 }
 
-fn put_counts(out: Output, lines: usize, left: usize, counts: Counts) -> Result<(), Unwritten> {
-    let tally = counts.tally;
+fn put_counts(out: Output, lines: usize, left: usize, told: Finished) -> Result<(), Unwritten> {
     put(
         out,
         b"<div><h3>Counts</h3><table class=q><tbody id=counts>\n",
     )?;
-    put_entry(out, b"raw lines", number(lines))?;
-    put_entry(out, b"cleaned lines", number(left))?;
-    put_entry(out, b"lines removed", counts.removed)?;
-    put_entry(out, b"results cut", counts.cut)?;
-    put_tally(out, tally)?;
+    put_entry(out, b"raw lines", count_of(lines))?;
+    put_entry(out, b"cleaned lines", count_of(left))?;
+    put_entry(out, b"lines removed", told.removed)?;
+    put_entry(out, b"results cut", told.cut)?;
+    put_tally(out, told.tally)?;
     put(out, b"</tbody></table></div>\n")
 }
 
@@ -293,6 +303,13 @@ fn put_sentence(out: Output, holds: bool, sentence: &[u8]) -> Result<(), Unwritt
     put(out, b"</td><td class=h>")
 }
 
+// A sentence that only the theorem ticks: nothing is counted here.
+fn put_proved(out: Output, sentence: &[u8], here: &[u8]) -> Result<(), Unwritten> {
+    put_sentence(out, true, sentence)?;
+    put(out, here)?;
+    put(out, b"</td></tr>\n")
+}
+
 // So many, then as many.
 fn put_two(
     out: Output,
@@ -301,16 +318,16 @@ fn put_two(
     m: usize,
     behind: &[u8],
 ) -> Result<(), Unwritten> {
-    put_number(out, number(n))?;
+    put_number(out, count_of(n))?;
     put(out, between)?;
-    put_number(out, number(m))?;
+    put_number(out, count_of(m))?;
     put(out, behind)
 }
 
-fn put_calls_row(out: Output, tape: &[u8], fin: &[u8]) -> Result<(), Unwritten> {
+fn put_calls_row(out: Output, cleaning: &Cleaning) -> Result<(), Unwritten> {
     put_sentence(
         out,
-        calls_stay(tape, fin),
+        calls_stay(cleaning),
         b"<b>No call by name is lost, and none through a cast pointer.</b> After a step each function is called in the listing at least \
           as many times as \
           before it. <code>calls-stay</code>",
@@ -329,18 +346,8 @@ fn put_labels_row(out: Output, all: usize, stand: usize) -> Result<(), Unwritten
     put_two(out, stand, b" of ", all, b" stand unchanged</td></tr>\n")
 }
 
-fn put_places_row(out: Output) -> Result<(), Unwritten> {
-    put_sentence(
-        out,
-        true,
-        b"<b>Places stay.</b> The pairs of address and indent that are left stand in the input's order, and none is new. \
-          <code>pairs-in-order</code>",
-    )?;
-    put(out, b"by the theorem: line beside line above</td></tr>\n")
-}
-
 fn put_gone_row(out: Output, lines: usize, left: usize, removed: u64) -> Result<(), Unwritten> {
-    let whole = number(lines).checked_sub(number(left)) == Some(removed);
+    let whole = count_of(lines).checked_sub(count_of(left)) == Some(removed);
     put_sentence(
         out,
         whole,
@@ -369,18 +376,8 @@ fn put_size_row(out: Output, before: Sizes, after: Sizes) -> Result<(), Unwritte
     put_two(out, before.text, b", then ", after.text, b"</td></tr>\n")
 }
 
-fn put_rounds_row(out: Output) -> Result<(), Unwritten> {
-    put_sentence(
-        out,
-        true,
-        b"<b>It ends, and soon.</b> A round that begins with m lines and removes s of them makes at most m + s attempts. \
-          <code>Bounded</code>",
-    )?;
-    put(out, b"by the theorem: attempts above</td></tr>\n")
-}
-
-fn put_addresses_row(out: Output, tape: &[u8], fin: &[u8]) -> Result<(), Unwritten> {
-    let (all, held) = count_spans(tape, fin);
+fn put_addresses_row(out: Output, cleaning: &Cleaning) -> Result<(), Unwritten> {
+    let (all, held) = count_marks(cleaning);
     put_sentence(
         out,
         all == held,
@@ -397,40 +394,11 @@ fn put_addresses_row(out: Output, tape: &[u8], fin: &[u8]) -> Result<(), Unwritt
     )
 }
 
-fn put_run_row(out: Output) -> Result<(), Unwritten> {
-    put_sentence(
-        out,
-        true,
-        b"<b>You get the end of that very run.</b> The output is the tape of the finished listing, and the reported attempts, removals \
-          and cuts are those of \
-          the run. <code>output-is</code> <code>report-is</code>",
-    )?;
-    put(out, b"by the theorem</td></tr>\n")
-}
-
-// Only with the profile.
-fn put_value_row(out: Output, profile: bool) -> Result<(), Unwritten> {
-    if !profile {
-        return Ok(());
-    }
-    put_sentence(
-        out,
-        true,
-        b"<b>The formula returns the same value.</b> Whatever values the registers have at the beginning, what the cleaned listing \
-          returns is what the input \
-          returns, modulo 2^64. <code>Means</code>",
-    )?;
-    put(out, b"by the theorem</td></tr>\n")
-}
-
 fn put_guarantee(
     out: Output,
-    rules: Rules,
-    tape: &[u8],
-    fin: &[u8],
+    cleaning: &Cleaning,
     before: Sizes,
     after: Sizes,
-    removed: u64,
     places: &[Option<usize>],
 ) -> Result<(), Unwritten> {
     put(
@@ -439,38 +407,63 @@ fn put_guarantee(
           every step of its \
           cleaning</th><th>here</th></tr></thead><tbody id=guarantee>\n",
     )?;
-    put_calls_row(out, tape, fin)?;
-    put_labels_row(out, count_labels(tape), count_standing(tape, fin, places))?;
-    put_places_row(out)?;
-    put_gone_row(out, before.lines, after.lines, removed)?;
+    put_calls_row(out, cleaning)?;
+    put_labels_row(
+        out,
+        count_labels(cleaning.raw),
+        count_standing(cleaning, places),
+    )?;
+    put_proved(
+        out,
+        b"<b>Places stay.</b> The pairs of address and indent that are left stand in the input's order, and none is new. \
+          <code>pairs-in-order</code>",
+        b"by the theorem: line beside line above",
+    )?;
+    put_gone_row(out, before.lines, after.lines, cleaning.told.removed)?;
     put_size_row(out, before, after)?;
-    put_rounds_row(out)?;
-    put_addresses_row(out, tape, fin)?;
-    put_run_row(out)?;
-    put_value_row(out, rules.profile)?;
+    put_proved(
+        out,
+        b"<b>It ends, and soon.</b> A round that begins with m lines and removes s of them makes at most m + s attempts. \
+          <code>Bounded</code>",
+        b"by the theorem: attempts above",
+    )?;
+    put_addresses_row(out, cleaning)?;
+    put_proved(
+        out,
+        b"<b>You get the end of that very run.</b> The output is the tape of the finished listing, and the reported attempts, removals \
+          and cuts are those of \
+          the run. <code>output-is</code> <code>report-is</code>",
+        b"by the theorem",
+    )?;
+    if cleaning.rules.profile {
+        put_proved(
+            out,
+            b"<b>The formula returns the same value.</b> Whatever values the registers have at the beginning, what the cleaned listing \
+              returns is what the input \
+              returns, modulo 2^64. <code>Means</code>",
+            b"by the theorem",
+        )?;
+    }
     put(out, b"</tbody></table>\n")
 }
 
 pub(crate) fn put_sheet(
     out: Output,
-    rules: Rules,
-    tape: &[u8],
-    fin: &[u8],
-    counts: Counts,
+    cleaning: &Cleaning,
     places: &[Option<usize>],
 ) -> Result<(), Unwritten> {
-    let before = count_sizes(tape);
-    let after = count_sizes(fin);
+    let before = count_sizes(cleaning.raw);
+    let after = count_sizes(cleaning.cleaned);
     put(
         out,
         b"<section><h2>Field engineer's sheet</h2><div class=four>\n",
     )?;
-    put_calls(out, tape, fin)?;
-    put_labels(out, tape, fin, places)?;
-    put_counts(out, before.lines, after.lines, counts)?;
-    put_settings(out, rules)?;
+    put_calls(out, cleaning)?;
+    put_labels(out, cleaning, places)?;
+    put_counts(out, before.lines, after.lines, cleaning.told)?;
+    put_settings(out, cleaning.rules)?;
     put(out, b"</div>\n")?;
-    put_guarantee(out, rules, tape, fin, before, after, counts.removed, places)?;
+    put_guarantee(out, cleaning, before, after, places)?;
     put(
         out,
         b"<p class=z>The sentences are theorems that a machine has checked, for all inputs; the numbers were counted from the two tapes \

@@ -1,8 +1,10 @@
 // Where a page goes while it is written piece by piece. Texts reach it in cells, escaped.
-use crate::walking::front;
+ghost use Rattle.std.specs.Prelude.{◌≡◌};
+
 use text::Cursor;
 
 // What is written to, and whether all pieces so far were written.
+// Kept: a flag, not a `Result`: `put_page` promises of it that a sink that failed before is still failed, and an answer has no before.
 #[derive(Clone, Copy, Debug)]
 pub struct Sink {
     pub fd: i32,
@@ -35,7 +37,9 @@ pub(crate) fn put_number(out: Output, n: u64) -> Result<(), Unwritten> {
 
 // How many there are of something, as a number that is put.
 // Kept: std has no `From` of usize for u64, and the error of `try_from`, which cannot come, would want an answer: no plainer.
-pub(crate) fn number(n: usize) -> u64 {
+pub fn count_of(n: usize) -> u64
+    ensures { result ≡ n }
+{
     n as u64
 }
 
@@ -57,5 +61,5 @@ pub(crate) fn put_text(out: Output, kind: u64, text: &[u8]) -> Result<(), Unwrit
     let mut cell = Cursor::new(&mut cells, 0);
     page::put_cells(kind, text, &mut cell);
     let n = cell.at;
-    put(out, front(&cells, n))
+    put(out, cells.get(..n).unwrap_or_default())
 }

@@ -3,37 +3,23 @@
 ghost use Rattle.std.specs.Prelude.{length};
 ghost use Rattle.std.specs.Iterator.{at_most};
 
-use text::{is_colon, starts};
+use lines::marks::Marks;
+use lines::words::SYMBOL;
+use text::is_colon;
 use walk::{Commands, Event};
-
-pub(crate) const SYMBOL: u64 = 4;
-
-const PUNCT: u64 = 6;
-
-// From an address to an address.
-#[derive(Clone, Copy, Debug)]
-pub(crate) struct Span {
-    pub low: u64,
-    pub high: u64,
-}
 
 // A line: its address and indent, its marks, and the bytes of its tokens.
 #[derive(Clone, Copy, Debug)]
 pub(crate) struct Line<'a> {
     pub address: Option<u64>,
     pub indent: u64,
-    pub marks: Option<Span>,
+    pub marks: Option<Marks>,
     pub tokens: &'a [u8],
-}
-
-// The first n bytes; none where there are not so many.
-pub(crate) fn front(bytes: &[u8], n: usize) -> &[u8] {
-    bytes.get(..n).unwrap_or(&[])
 }
 
 // The first bytes of a text, up to what it ends with.
 pub(crate) fn before<'a>(bytes: &'a [u8], end: &[u8]) -> &'a [u8] {
-    front(bytes, bytes.len().saturating_sub(end.len()))
+    &bytes[..bytes.len().saturating_sub(end.len())]
 }
 
 // ---- lines
@@ -73,7 +59,7 @@ impl<'a> Iterator for Lines<'a> {
         let mut body = commands.as_bytes();
         let mut marks = None;
         if let Some(Event::Marks { low, high }) = commands.next() {
-            marks = Some(Span { low, high });
+            marks = Some(Marks { low, high });
             body = commands.as_bytes();
         }
         let rest = behind_tokens(body);
@@ -90,7 +76,7 @@ impl<'a> Iterator for Lines<'a> {
     }
 }
 
-// The tokens of a line, as texts of a kind.
+// The token with the number n of a line, if there is one: its kind and its text.
 fn token(tokens: &[u8], n: usize) -> Option<(u64, &[u8])> {
     match Commands::new(tokens).nth(n)? {
         Event::Token { kind, text } => Some((kind, text)),
@@ -122,7 +108,7 @@ pub(crate) fn symbol_of(event: Event) -> Option<&[u8]> {
 // A bracket that opens behind a name calls it.
 pub(crate) fn opens(event: Event) -> bool {
     match event {
-        Event::Token { kind, text } => kind == PUNCT && starts(text, b"("),
+        Event::Token { kind, text } => tallies::opens(kind, text),
         _ => false,
     }
 }

@@ -1,10 +1,7 @@
 -- How long the pieces of a report are, and its names and numbers one behind the other. Assumes nothing.
-use Rattle.std.proofs.Common.{◌≡◌, ℕ, zero, suc, ◌+◌, ◌/◌, ◌%◌, ◌≤◌, ◌<◌, Bool, true, List, [], ◌∷◌, ◌++◌, map, length, get_or, length-append, refl, sym, ◌∙◌, arith, leb}
-use Rattle.std.proofs.lemmas.List.{length-map, get_or_default}
-use lib.ListN.{get_or-map, get_or-eq_default}
+use Rattle.std.proofs.Common.{◌≡◌, ℕ, zero, suc, ◌+◌, ◌/◌, ◌%◌, ◌≤◌, Bool, true, List, [], ◌∷◌, ◌++◌, length, get_or, length-append, refl, sym, arith, leb}
 use mathlib.Core.List.{append_assoc}
 use borrow.Author.Tests.{leb-true}
-use Rattle.std.specs.Borrow.{Bor}
 use Rattle.reference.specs.Control.{◌and◌}
 use Rattle.reference.specs.Text.{Text}
 use Rattle.reference.specs.Numbers.{digit_byte, digits}
@@ -33,14 +30,6 @@ short_at (t ∷ ts) e (suc n) = short_at ts (both e).1 n
 pub meaning-length : (n : ℕ) → length (meaning n) ≤ 200
 unfolding meaning meanings short ◌and◌
 meaning-length n = short_at meanings refl n
-
--- ---- a row
-
-pub row_at : (rows : List (Bor Text)) (b : Bor Text) (n : ℕ) → n < length rows → (get_or rows n b).now ≡ get_or (map (λ r. r.now) rows) n []
-row_at rows b n h = sym (get_or-map (λ r. r.now) rows n b) ∙ get_or_default (map (λ r. r.now) rows) n b.now [] (rw length-map h)
-
-pub no_row : (rows : List (Bor Text)) (n : ℕ) → length rows ≤ n → [] ≡ get_or (map (λ r. r.now) rows) n []
-no_row rows n h = sym (get_or-eq_default (map (λ r. r.now) rows) [] (rw length-map h))
 
 -- ---- what is told of a cleaning has 73 bytes at most
 

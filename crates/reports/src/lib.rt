@@ -17,6 +17,8 @@ use rounds::Tally;
 use text::Cursor;
 
 // What each question's refusal means, by its number; nothing for 0.
+// Kept: a table by number, not by `Reason`: `put_refusal` promises the line of each number, of one that no question has too. By `Reason`
+// it would promise less.
 const MEANINGS: [&[u8]; 23] = [
     b"",
     b"the convention is not 0, 1 or 2",
@@ -48,8 +50,8 @@ fn text_in(rows: &[&'static [u8]], row: u64) -> &'static [u8]
     ensures { result.now ≡ get_or (map (λ t. t.now) rows.now) row [] }
 {
     match usize::try_from(row) {
-        Ok(n) if n < rows.len() => rows[n],
-        _ => b"",
+        Ok(n) => rows.get(n).copied().unwrap_or(b""),
+        Err(_) => b"",
     }
 }
 
@@ -128,6 +130,7 @@ fn put_tally(tally: Tally, out: &mut Cursor)
 }
 
 // Puts the line of what a cleaning did at the front, and says how long it is.
+// Kept: four numbers: `Finished` of crate clean is no plainer, since the reports would rest on the whole of cleaning for one type.
 pub fn put_counts(size: u64, tally: Tally, removed: u64, cut: u64, out: &mut [u8]) -> usize
     requires { 256 ≤ length out.old }
     ensures { Written out.old 0 (counts size (tally_of tally) removed cut) out.new result }
@@ -156,6 +159,7 @@ pub fn put_start(chosen: &[u8], v: u64, out: &mut [u8]) -> usize
 }
 
 // A hexadecimal digit.
+// Kept: std's `char::from_digit` is no plainer: it answers an `Option` of a `char`, and of a digit below 16 a byte is wanted.
 fn digit_byte(d: u8) -> u8
     requires { d < 16 }
     ensures { result ≡ digit_byte d }

@@ -1,7 +1,10 @@
 -- The call `came_into`: what the answers of the calls that it makes say of it. Assumes nothing.
 use Rattle.std.specs.Prelude.{Result, Ok, Err}
 use Rattle.answers.specs.declared.Reason.{Reason}
-use Rattle.answers.specs.Refusals.{refusing}
+use Rattle.std.specs.Result.{MatchResult, IsErrAnd}
+use Rattle.answers.specs.declared.Refusal.{Refusal}
+use Rattle.answers.specs.Refusals.{number_of, refusing}
+use Rattle.offsets.proofs.Answering.{numbered}
 use Prim.Native.Nat.{ℕ, zero, suc, ◌≤◌, ◌<◌}
 use native.Mathlib.Omega.{arith}
 use mathlib.Core.Path.{◌≡◌, refl, sym, ap, ◌∙◌}
@@ -159,9 +162,16 @@ module _ (rules : Rules) (k : ℕ) (tape : List ℕ) (lent : Lent) where
     refused_into = said (sym (ap measured answer_refused)) (rw (copy_refused, cleaning_refused, answer_refused))
 
   -- by the settings, or a length that the cleaning asks
-  pub refused_at_door : {n : ℕ} → n ≡ first_no (door rules lent) → (n ≡ 0 → ⊥) → CameInto rules k tape lent lent (Refused n 0)
+  refused_at_door : {n : ℕ} → n ≡ first_no (door rules lent) → (n ≡ 0 → ⊥) → CameInto rules k tape lent lent (Refused n 0)
   unfolding ask_lent
   refused_at_door e z = refused_into (λ f. ask_number _ (door rules lent) _ z (sym e))
+
+  -- of what `map_err` and `?` make of its answer
+  pub refused_early : {A : Type 0} (o : Result A Reason) → refusing o ≡ first_no (door rules lent) → {m : Result A Refusal}
+      → MatchResult o (λ a. m ≡ Ok a) (λ r. IsErrAnd m (λ x. x ≡ record { reason = r; place = 0 })) → (x : Refusal) → m ≡ Err x
+      → CameInto rules k tape lent lent (Refused (number_of x.reason) x.place)
+  refused_early (Ok a) e h x is = cc
+  refused_early (Err r) e h x is = let same : x ≡ record { reason = r; place = 0 } = rw is at h in rw same (refused_at_door e (numbered r))
 
   module _ {n : ℕ} (e : n ≡ first_no (door rules lent)) (z : n ≡ 0) where
     open_door : Yes (door rules lent)
@@ -295,8 +305,3 @@ module _ (rules : Rules) (k : ℕ) (tape : List ℕ) (lent : Lent) where
             said (v.reply_is ∙ ap measured (sym came-reply_is))
             (rw (came-copy_is, came_cleaning_is, came-reply_is)
             (λ i. record { copy = copy_is i; work_a = g.work_a_is i; work_b = g.work_b_is i; output = g.output_is i; flags = v.output_is i }))
-
--- questions that refuse for no reason have no number
-pub nothing_refused : {A : Type 0} (r : Result A Reason) → ((x : Reason) → r ≡ Err x → ⊥) → refusing r ≡ 0
-nothing_refused (Ok a) n = refl
-nothing_refused (Err x) n = absurd (n x refl)

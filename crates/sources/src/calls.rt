@@ -1,5 +1,5 @@
-// The copy, and the call that cleans it and tells what its one line came into. The lent slices stay parameters: a struct of them would need
-// in each contract, besides, that it still lends the same slices.
+// The copy, and the call that cleans it and tells what its one line came into.
+// Kept: the lent slices as parameters: a struct of them would need in each contract, besides, that it still lends the same slices.
 ghost use Rattle.std.specs.Prelude.{◌≤◌, length};
 ghost use Rattle.answers.specs.Answers.{answer_of, Writes};
 ghost use Rattle.lines.specs.Rules.{rules_of};
@@ -9,7 +9,7 @@ ghost use Rattle.sources.specs.Calls.{FlagsCleaned, lent_as, CameInto};
 
 use crate::copying::put_commands;
 use crate::walking::walk;
-use answers::{Answer, Reason};
+use answers::{Answer, Reason, Refusal};
 use clean::clean;
 use lines::rules::Rules;
 use tape::questions::{asked, check};
@@ -17,17 +17,25 @@ use tape::questions::{asked, check};
 // What the copy has at least: the bytes of the longest tape that is accepted.
 const COPY_BYTES: usize = 34561;
 
-// The copy of a tape in which line k alone has an address, and no 03 stands: it stands at the front of `out`, and its length is answered.
-// Where there is no line k, no line has an address. A refusal changes nothing.
-pub fn only(k: usize, tape: &[u8], out: &mut [u8]) -> Answer
+// `only`, with the copy's length as the slice's.
+fn copy_only(k: usize, tape: &[u8], out: &mut [u8]) -> Result<usize, Refusal>
     ensures { Writes (only_reply k tape.now (length out.old)) out.old out.new (answer_of result) }
 {
     if out.len() < COPY_BYTES {
         return Err(Reason::TooLittleRoom.at(0));
     }
     check::<false>(tape)?;
+    Ok(put_commands(tape, k, out))
+}
+
+// The copy of a tape in which line k alone has an address, and no 03 stands: it stands at the front of `out`, and its length is answered.
+// Where there is no line k, no line has an address. A refusal changes nothing.
+pub fn only(k: usize, tape: &[u8], out: &mut [u8]) -> Answer
+    ensures { Writes (only_reply k tape.now (length out.old)) out.old out.new (answer_of result) }
+{
+    let n = copy_only(k, tape, out)?;
     // Kept: there is no `From` from usize to u64, and `try_from` has a branch that no length takes.
-    Ok(put_commands(tape, k, out) as u64)
+    Ok(n as u64)
 }
 
 // Cleans an accepted tape, and writes a flag for each finished line to the front of `flags`: 1 where it has marks, else 0.
@@ -65,13 +73,10 @@ pub fn came_into(
     ensures { CameInto (rules_of rules) k tape.now (lent_as copy.old work_a.old work_b.old out.old flags.old)
         (lent_as copy.new work_a.new work_b.new out.new flags.new) (answer_of result) }
 {
-    if let Err(reason) = asked(rules, work_a.len(), work_b.len(), out.len()) {
-        return Err(reason.at(0));
-    }
+    asked(rules, work_a.len(), work_b.len(), out.len()).map_err(|reason| reason.at(0))?;
     if flags.len() < 256 {
         return Err(Reason::TooLittleRoom.at(0));
     }
-    let n = only(k, tape, copy)?;
-    // Kept: there is no `From` from u64 to usize, and `try_from` has a branch that no length of a tape takes.
-    flags_of(rules, &copy[..n as usize], work_a, work_b, out, flags)
+    let n = copy_only(k, tape, copy)?;
+    flags_of(rules, &copy[..n], work_a, work_b, out, flags)
 }

@@ -30,10 +30,10 @@ use Rattle.lines.specs.Words.{kind_of, text_of, token_of, tokens_of, Points, Hol
 use Rattle.lines.specs.Lines.{first_of, count_of, part_of}
 use Rattle.formula.specs.Places.{Readable}
 use Rattle.formula.specs.Values.{Pair, pair_at, no_token, Worth, value_of, Evaluates}
-use Rattle.formula.specs.declared.evaluators.Value.{Value}
+use Rattle.start.specs.declared.reckoning.Pair.{Pair as Numbers}
 use Rattle.formula.proofs.Profiled.{readable_same, readable-rest}
 use Rattle.start.specs.Pairs.{affine}
-use Rattle.start.specs.Reckoning.{with_pair, number_pair, Prices, Priced, same_register, Overwritten, Begun, Assigned, Returned}
+use Rattle.start.specs.Reckoning.{pair_of, worth_of, with_pair, number_pair, Prices, Priced, same_register, Overwritten, Begun, Assigned, Returned}
 use Rattle.start.proofs.Registers.{wide_text}
 use Rattle.std.specs.Prelude.{Some, None}
 use Rattle.reference.specs.Options.{option_of}
@@ -336,12 +336,12 @@ module _ (tape : Text) (tokens : List ℕ) (l f n : ℕ) (ef : f ≡ first_of l)
       same = rw (ef, en) (tokens-behind-first tokens l tape b.some_token)
 
 -- the answer, and what the definition says of the line
-module _ {r : Worth} {o : Option Pair} {v : Pair} (e : value_of r ≡ o) (q : o ≡ some v) where
-  returned_is : {u : Value} → r ≡ Some u → v ≡ (u.multiplier, u.constant)
-  returned_is f = sym (some_inj (sym (ap value_of f) ∙ e ∙ q))
+module _ {r : std.Option Numbers} {o : Option Pair} {v : Pair} (e : worth_of r ≡ o) (q : o ≡ some v) where
+  returned_is : {u : Numbers} → r ≡ Some u → v ≡ pair_of u
+  returned_is f = sym (some_inj (sym (ap worth_of f) ∙ e ∙ q))
 
   returned_none : r ≡ None → ⊥
-  returned_none f = none-some (sym (ap value_of f) ∙ e ∙ q)
+  returned_none f = none-some (sym (ap worth_of f) ∙ e ∙ q)
 
 -- ---- a line that assigns
 
@@ -363,34 +363,41 @@ module _ (tape : Text) (tokens : List ℕ) (l f : ℕ) (ef : f ≡ first_of l) (
       here : first_of l + 0 ≡ f
       here = omega (arith, ef)
 
-  module _ (values values' : List ℕ) {r : Worth}
+  module _ (values values' : List ℕ) {r : std.Option Numbers}
       (e : (σ : Text → Pair) → Priced σ (tokens_of tape tape tokens) values
-      → value_of r ≡ evaluate affine σ (bytes " = ") (lexemes (drop 1 (tokens_of tape tape (part_of tokens l))))) where
-    pub line_assigned : (u : Value) → r ≡ Some u → Overwritten (token_of tape tape (get_or tokens f 0)) (u.multiplier, u.constant) (tokens_of tape tape tokens) values values'
+      → worth_of r ≡ evaluate affine σ (bytes " = ") (lexemes (drop 1 (tokens_of tape tape (part_of tokens l))))) where
+    pub line_assigned : (u : Numbers) → r ≡ Some u → Overwritten (token_of tape tape (get_or tokens f 0)) (pair_of u) (tokens_of tape tape tokens) values values'
         → Assigned (tokens_of tape tape (part_of tokens l)) (tokens_of tape tape tokens) values values'
     unfolding assigned_value
     line_assigned u q o = λ σ x v h w a.
-        (let same : v ≡ (u.multiplier, u.constant) = returned_is (e σ h) a q in
+        (let same : v ≡ pair_of u = returned_is (e σ h) a q in
         subst⁻¹ (λ (p : Pair). Priced (assign x p σ) (tokens_of tape tape tokens) values') same
-        (assigned_prices σ (token_of tape tape (get_or tokens f 0)) x (u.multiplier, u.constant) (ap wide (sym first_is) ∙ w) (tokens_of tape tape tokens) values values' o h))
+        (assigned_prices σ (token_of tape tape (get_or tokens f 0)) x (pair_of u) (ap wide (sym first_is) ∙ w) (tokens_of tape tape tokens) values values' o h))
 
     pub line_unassigned : r ≡ None → Assigned (tokens_of tape tape (part_of tokens l)) (tokens_of tape tape tokens) values values'
     unfolding assigned_value
     line_unassigned q = λ σ x v h w a. absurd (returned_none (e σ h) a q)
 
-pub broken : (r : Worth) → ((u : Value) → r ≡ Some u → ⊥) → r ≡ None
+pub broken : (r : std.Option Numbers) → ((u : Numbers) → r ≡ Some u → ⊥) → r ≡ None
 broken (Some u) h = absurd (h u refl)
 broken None h = refl
 
 -- ---- a line that returns
 
-module _ (tape : Text) (tokens : List ℕ) (l : ℕ) (values : List ℕ) {r : Worth}
+module _ (tape : Text) (tokens : List ℕ) (l : ℕ) (values : List ℕ) {r : std.Option Numbers}
     (e : (σ : Text → Pair) → Priced σ (tokens_of tape tape tokens) values
-    → value_of r ≡ evaluate affine σ (bytes " ") (lexemes (drop 1 (tokens_of tape tape (part_of tokens l))))) where
-  pub line_returned : (u : Value) → r ≡ Some u → Returned (tokens_of tape tape (part_of tokens l)) (tokens_of tape tape tokens) values (u.multiplier, u.constant)
+    → worth_of r ≡ evaluate affine σ (bytes " ") (lexemes (drop 1 (tokens_of tape tape (part_of tokens l))))) where
+  line_returned : (u : Numbers) → r ≡ Some u → Returned (tokens_of tape tape (part_of tokens l)) (tokens_of tape tape tokens) values (pair_of u)
   unfolding returned_value
   line_returned u q = λ σ v h a. returned_is (e σ h) a q
 
-  pub line_unreturned : (p : Pair) → r ≡ None → Returned (tokens_of tape tape (part_of tokens l)) (tokens_of tape tape tokens) values p
+  line_unreturned : (p : Pair) → r ≡ None → Returned (tokens_of tape tape (part_of tokens l)) (tokens_of tape tape tokens) values p
   unfolding returned_value
   line_unreturned p q = λ σ v h a. absurd (returned_none (e σ h) a q)
+
+-- the answer, or the pair p where there is none
+pub line_worth : (tape : Text) (tokens : List ℕ) (l : ℕ) (values : List ℕ) (r : std.Option Numbers)
+    → ((σ : Text → Pair) → Priced σ (tokens_of tape tape tokens) values → worth_of r ≡ evaluate affine σ (bytes " ") (lexemes (drop 1 (tokens_of tape tape (part_of tokens l)))))
+    → (p : Numbers) → Returned (tokens_of tape tape (part_of tokens l)) (tokens_of tape tape tokens) values (pair_of (unwrap_or r p))
+line_worth tape tokens l values (Some u) e p = line_returned tape tokens l values e u refl
+line_worth tape tokens l values None e p = line_unreturned tape tokens l values e (pair_of p) refl

@@ -5,3 +5,4 @@ pub mod Solved
 pub mod Smallest
 pub mod Items
 pub mod Reckoning
+pub mod Formulas

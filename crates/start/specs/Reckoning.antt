@@ -1,6 +1,7 @@
 -- What the table of pairs means, and what the functions over it do. Assumes nothing.
 use Rattle.std.specs.Prelude.{ℕ, ◌+◌, ◌*◌, ◌≤◌, ◌<◌, ◌≡◌, Bool, List, ℤ, length, drop, get_or, set}
-use Rattle.std.proofs.Math.Option.{none, some}
+use Rattle.std.specs.Prelude as std
+use Rattle.std.proofs.Math.Option.{Option, none, some}
 use Rattle.reference.specs.Control.{◌and◌, when◌then◌else◌}
 use Rattle.reference.specs.Text.{Text, ◌≟◌}
 use Rattle.reference.specs.Listing.{Token, is, Register}
@@ -16,6 +17,11 @@ use Rattle.start.specs.declared.reckoning.Pair.{Pair as Numbers}
 
 abbrev pub pair_of : Numbers → Pair
 pair_of p = (p.multiplier, p.constant)
+
+-- a pair, or none
+abbrev pub worth_of : std.Option Numbers → Option Pair
+worth_of (std.Some p) = some (pair_of p)
+worth_of std.None = none
 
 -- a number's pair
 abbrev pub number_pair : ℤ → Pair

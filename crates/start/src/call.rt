@@ -3,11 +3,12 @@ ghost use Rattle.std.specs.Prelude.{◌≡◌, ◌≤◌, length};
 ghost use Rattle.reference.specs.Listing.{Listing};
 ghost use Rattle.reference.specs.Questions.{Passed, read};
 ghost use Rattle.tape.specs.Questions.{AcceptedTape};
-ghost use Rattle.lines.specs.Lines.{Reading, listing_read};
+ghost use Rattle.lines.specs.Lines.{Reading};
 ghost use Rattle.answers.specs.Answers.{answer_of};
 ghost use Rattle.start.specs.Start.{ask_names, ask_formula, start_reply};
-ghost use Rattle.start.specs.Reckoning.{Profiled};
+ghost use Rattle.start.specs.Formulas.{listing_in, Profiled};
 
+use crate::formulas::{Formula, Starts};
 use crate::listed::{are_known, is_register};
 use crate::reckoning::reckon;
 use answers::{Answer, Reason};
@@ -15,31 +16,26 @@ use lines::marks::Marks;
 use solving::solve_sum;
 
 // 16 and 15, and the start value, of a listing in the profile.
-fn solved(
-    tape: &[u8],
-    tokens: &[u64],
-    lines: &[u64],
-    chosen: &[u8],
-    list: &[u8],
-    wanted: u64,
-) -> Answer
-    requires { Profiled tape.now tokens.now lines.now × (length tokens.now ≤ 1024) }
-    ensures { (reading : Reading) → answer_of result ≡ ask_names (listing_read tape.now tape.now tokens.now reading lines.now)
-        chosen.now list.now wanted }
+fn solved(formula: &Formula<'_>, starts: &Starts<'_>, wanted: u64) -> Answer
+    requires { Profiled formula.now × (length formula.now.tokens.now ≤ 1024) }
+    ensures { (reading : Reading) → answer_of result ≡ ask_names (listing_in formula.now reading)
+        starts.now.chosen.now starts.now.list.now wanted }
 {
-    if !is_register(chosen) || !are_known(list) {
+    if !is_register(starts.chosen) || !are_known(starts.list) {
         return Err(Reason::NoRegister.at(0));
     }
-    let p = reckon(tape, tokens, lines, chosen, list);
+    let p = reckon(formula, starts);
     solve_sum(p.multiplier, p.constant, wanted).ok_or(Reason::NoStartValue.at(0))
 }
 
 // 14 and what follows, of a tape that passed its questions.
-fn asked(tape: &[u8], chosen: &[u8], list: &[u8], wanted: u64) -> Answer
+fn asked(tape: &[u8], starts: &Starts<'_>, wanted: u64) -> Answer
     requires { AcceptedTape tape.now }
     ensures { (input : Listing) → read tape.now ≡ Passed input
-        → answer_of result ≡ ask_formula input chosen.now list.now wanted }
+        → answer_of result ≡ ask_formula input starts.now.chosen.now starts.now.list.now wanted }
 {
+    // Kept: the arrays that crate clean has too, in its own sizes: with no heap they stand in the function that lends them, and one that
+    // made them for several callers would answer all four by value.
     let mut tokens = [0u64; 1024];
     let mut lines = [0u64; 256];
     let mut addresses = [0u64; 256];
@@ -49,7 +45,14 @@ fn asked(tape: &[u8], chosen: &[u8], list: &[u8], wanted: u64) -> Answer
     let lines = &lines[..loaded.lines];
     match formula::breaks(tape, tokens, lines) {
         Some(line) => Err(Reason::OutsideProfile.at(line)),
-        None => solved(tape, tokens, lines, chosen, list, wanted),
+        None => {
+            let formula = Formula {
+                tape,
+                tokens,
+                lines,
+            };
+            solved(&formula, starts, wanted)
+        }
     }
 }
 
@@ -59,5 +62,5 @@ pub fn start_value(tape: &[u8], chosen: &[u8], list: &[u8], wanted: u64) -> Answ
     ensures { answer_of result ≡ start_reply tape.now chosen.now list.now wanted }
 {
     tape::check::<false>(tape)?;
-    asked(tape, chosen, list, wanted)
+    asked(tape, &Starts { chosen, list }, wanted)
 }

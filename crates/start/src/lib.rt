@@ -2,6 +2,7 @@
 #![tactic(auto)]
 
 mod call; // the questions, and the answer
+mod formulas; // a formula as it stands in the tables, and where its registers start
 mod listed; // the list of names with their start values
 mod reckoning; // a formula reckoned in pairs of a multiplier and a constant
 

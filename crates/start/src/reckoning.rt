@@ -7,17 +7,19 @@ ghost use Rattle.reference.specs.Text.{Text};
 ghost use Rattle.reference.specs.Numbers.{parse_c_number};
 ghost use Rattle.reference.specs.Evaluators.{of_integer, lexemes, evaluate};
 ghost use Rattle.reference.specs.Straight.{execute};
-ghost use Rattle.lines.specs.Words.{text_of, token_of, tokens_of, Points, Holds};
-ghost use Rattle.lines.specs.Lines.{part_of, Reading, listing_read};
+ghost use Rattle.lines.specs.Words as Words;
+ghost use Rattle.lines.specs.Words.{text_of, token_of};
+ghost use Rattle.lines.specs.Lines.{Reading};
 ghost use Rattle.formula.specs.Values as Values;
-ghost use Rattle.formula.specs.Values.{value_of};
 ghost use Rattle.start.specs.Start.{Entry, entries};
 ghost use Rattle.start.specs.Pairs.{affine, start_pairs, returned_pair};
-ghost use Rattle.start.specs.Reckoning.{pair_of, with_pair, Prices, Priced, same_register, Overwritten};
-ghost use Rattle.start.specs.Reckoning.{Begun, Assigned, Returned, Profiled};
+ghost use Rattle.start.specs.Reckoning.{pair_of, worth_of, with_pair, Prices, Priced, same_register, Overwritten};
+ghost use Rattle.start.specs.Reckoning.{Assigned, Returned};
+ghost use Rattle.start.specs.Formulas.{token_in, tokens_in, line_in, listing_in, Points, Holds, Begun, Profiled, HasRoom};
 
+use crate::formulas::{Formula, Starts};
 use crate::listed::value_of;
-use formula::evaluators::{Value, evaluate};
+use formula::evaluators::evaluate;
 use lines::texts::Texts;
 use lines::words;
 use numbers::parse_c_number;
@@ -41,10 +43,10 @@ fn store_pair(values: &mut [u64], k: usize, p: Pair)
 // ---- at the start
 
 // What a register starts with: the chosen one with 1 · v + 0, any other with its listed value.
-fn start_pair(chosen: &[u8], list: &[u8], name: &[u8]) -> Pair
-    ensures { (es : List Entry) → entries list.now ≡ some es → pair_of result ≡ start_pairs chosen.now es name.now }
+fn start_pair(starts: &Starts<'_>, name: &[u8]) -> Pair
+    ensures { (es : List Entry) → entries starts.now.list.now ≡ some es → pair_of result ≡ start_pairs starts.now.chosen.now es name.now }
 {
-    if text::same(name, chosen) {
+    if text::same(name, starts.chosen) {
         return Pair {
             multiplier: 1,
             constant: 0,
@@ -52,7 +54,7 @@ fn start_pair(chosen: &[u8], list: &[u8], name: &[u8]) -> Pair
     }
     Pair {
         multiplier: 0,
-        constant: value_of(list, name),
+        constant: value_of(starts.list, name),
     }
 }
 
@@ -65,17 +67,17 @@ fn number_value(s: &[u8]) -> u64
 
 // The text of a token; all stand in the tape.
 fn text_of(tape: &[u8], w: u64) -> &[u8]
-    requires { Points tape.now tape.now w }
+    requires { Words.Points tape.now tape.now w }
     ensures { result.now ≡ text_of tape.now tape.now w }
 {
     words::text(&Texts { tape, area: tape }, w)
 }
 
 // What a token is worth at the start.
-fn token_pair(tape: &[u8], w: u64, chosen: &[u8], list: &[u8]) -> Pair
-    requires { Points tape.now tape.now w }
-    ensures { (es : List Entry) → entries list.now ≡ some es
-        → Prices (start_pairs chosen.now es) (token_of tape.now tape.now w) (pair_of result) }
+fn token_pair(tape: &[u8], w: u64, starts: &Starts<'_>) -> Pair
+    requires { Words.Points tape.now tape.now w }
+    ensures { (es : List Entry) → entries starts.now.list.now ≡ some es
+        → Prices (start_pairs starts.now.chosen.now es) (token_of tape.now tape.now w) (pair_of result) }
 {
     let s = text_of(tape, w);
     if words::kind(w) == words::NUMBER {
@@ -84,17 +86,17 @@ fn token_pair(tape: &[u8], w: u64, chosen: &[u8], list: &[u8]) -> Pair
             constant: number_value(s),
         };
     }
-    start_pair(chosen, list, s)
+    start_pair(starts, s)
 }
 
 // Fills the table with what each token is worth at the start.
-pub fn fill(tape: &[u8], tokens: &[u64], chosen: &[u8], list: &[u8], values: &mut [u64])
-    requires { Holds tape.now tape.now tokens.now × (2 * length tokens.now ≤ length values.old) }
-    ensures { (es : List Entry) → entries list.now ≡ some es → Priced (start_pairs chosen.now es)
-        (tokens_of tape.now tape.now tokens.now) values.new }
+fn fill(formula: &Formula<'_>, starts: &Starts<'_>, values: &mut [u64])
+    requires { Holds formula.now × HasRoom formula.now values.old }
+    ensures { (es : List Entry) → entries starts.now.list.now ≡ some es → Priced (start_pairs starts.now.chosen.now es)
+        (tokens_in formula.now) values.new }
 {
-    for (k, &w) in tokens.iter().enumerate() {
-        store_pair(values, k, token_pair(tape, w, chosen, list));
+    for (k, &w) in formula.tokens.iter().enumerate() {
+        store_pair(values, k, token_pair(formula.tape, w, starts));
     }
 }
 
@@ -102,21 +104,19 @@ pub fn fill(tape: &[u8], tokens: &[u64], chosen: &[u8], list: &[u8], values: &mu
 
 // Whether a token is the register that another one is.
 fn is_same(tape: &[u8], w: u64, target: u64) -> bool
-    requires { Points tape.now tape.now w × Points tape.now tape.now target }
+    requires { Words.Points tape.now tape.now w × Words.Points tape.now tape.now target }
     ensures { result ≡ same_register (token_of tape.now tape.now target) (token_of tape.now tape.now w) }
 {
     words::kind(w) == words::REGISTER && text::same(text_of(tape, w), text_of(tape, target))
 }
 
 // Gives every token of a register the pair p.
-fn overwrite(tape: &[u8], tokens: &[u64], target: u64, p: Pair, values: &mut [u64])
-    requires { Holds tape.now tape.now tokens.now × Points tape.now tape.now target
-        × (2 * length tokens.now ≤ length values.old) }
-    ensures { Overwritten (token_of tape.now tape.now target) (pair_of p)
-        (tokens_of tape.now tape.now tokens.now) values.old values.new }
+fn overwrite(formula: &Formula<'_>, target: u64, p: Pair, values: &mut [u64])
+    requires { Holds formula.now × Points formula.now target × HasRoom formula.now values.old }
+    ensures { Overwritten (token_in formula.now target) (pair_of p) (tokens_in formula.now) values.old values.new }
 {
-    for (k, &w) in tokens.iter().enumerate() {
-        if is_same(tape, w, target) {
+    for (k, &w) in formula.tokens.iter().enumerate() {
+        if is_same(formula.tape, w, target) {
             store_pair(values, k, p);
         }
     }
@@ -125,75 +125,73 @@ fn overwrite(tape: &[u8], tokens: &[u64], target: u64, p: Pair, values: &mut [u6
 // ---- a line
 
 // What the tokens behind the first one of a line are worth.
-fn behind_first(tape: &[u8], tokens: &[u64], values: &[u64], l: u64, before: &[u8]) -> Option<Value>
-    requires { Begun tape.now tokens.now l × (2 * length tokens.now ≤ length values.now) }
-    ensures { (σ : Text → Values.Pair) → Priced σ (tokens_of tape.now tape.now tokens.now) values.now → value_of result
-        ≡ evaluate affine σ before.now (lexemes (drop 1 (tokens_of tape.now tape.now (part_of tokens.now l)))) }
+fn behind_first(formula: &Formula<'_>, values: &[u64], l: u64, before: &[u8]) -> Option<Pair>
+    requires { Begun formula.now l × HasRoom formula.now values.now }
+    ensures { (σ : Text → Values.Pair) → Priced σ (tokens_in formula.now) values.now → worth_of result
+        ≡ evaluate affine σ before.now (lexemes (drop 1 (line_in formula.now l))) }
 {
     let first = words::first(l);
     let from = first + 1;
     let to = first + words::count(l);
     let start = 2 * from;
     let end = 2 * to;
-    evaluate(tape, &tokens[from..to], &values[start..end], before)
+    let v = evaluate(
+        formula.tape,
+        &formula.tokens[from..to],
+        &values[start..end],
+        before,
+    )?;
+    Some(Pair {
+        multiplier: v.multiplier,
+        constant: v.constant,
+    })
 }
 
 // Reads a line that assigns, and changes the pairs of its register.
-fn assign_line(tape: &[u8], tokens: &[u64], l: u64, values: &mut [u64])
-    requires { Holds tape.now tape.now tokens.now × Begun tape.now tokens.now l
-        × (2 * length tokens.now ≤ length values.old) }
-    ensures { Assigned (tokens_of tape.now tape.now (part_of tokens.now l))
-        (tokens_of tape.now tape.now tokens.now) values.old values.new }
+fn assign_line(formula: &Formula<'_>, l: u64, values: &mut [u64])
+    requires { Holds formula.now × Begun formula.now l × HasRoom formula.now values.old }
+    ensures { Assigned (line_in formula.now l) (tokens_in formula.now) values.old values.new }
 {
-    if let Some(v) = behind_first(tape, tokens, values, l, b" = ") {
-        let p = Pair {
-            multiplier: v.multiplier,
-            constant: v.constant,
-        };
-        overwrite(tape, tokens, tokens[words::first(l)], p, values);
+    if let Some(p) = behind_first(formula, values, l, b" = ") {
+        overwrite(formula, formula.tokens[words::first(l)], p, values);
     }
 }
 
 // What a line that returns is worth.
-fn returned(tape: &[u8], tokens: &[u64], values: &[u64], l: u64) -> Pair
-    requires { Begun tape.now tokens.now l × (2 * length tokens.now ≤ length values.now) }
-    ensures { Returned (tokens_of tape.now tape.now (part_of tokens.now l))
-        (tokens_of tape.now tape.now tokens.now) values.now (pair_of result) }
+fn returned(formula: &Formula<'_>, values: &[u64], l: u64) -> Pair
+    requires { Begun formula.now l × HasRoom formula.now values.now }
+    ensures { Returned (line_in formula.now l) (tokens_in formula.now) values.now (pair_of result) }
 {
-    match behind_first(tape, tokens, values, l, b" ") {
-        Some(v) => Pair {
-            multiplier: v.multiplier,
-            constant: v.constant,
-        },
-        None => Pair {
-            multiplier: 0,
-            constant: 0,
-        },
-    }
+    behind_first(formula, values, l, b" ").unwrap_or(Pair {
+        multiplier: 0,
+        constant: 0,
+    })
 }
 
 // ---- the whole formula
 
 // What a listing in the profile returns, the table having what each token is worth at the start.
-fn run(tape: &[u8], tokens: &[u64], lines: &[u64], values: &mut [u64]) -> Pair
-    requires { Profiled tape.now tokens.now lines.now × (2 * length tokens.now ≤ length values.old) }
-    ensures { (reading : Reading) (σ : Text → Values.Pair) → Priced σ (tokens_of tape.now tape.now tokens.now) values.old
-        → execute affine σ (listing_read tape.now tape.now tokens.now reading lines.now) ≡ some (pair_of result) }
+fn run(formula: &Formula<'_>, values: &mut [u64]) -> Pair
+    requires { Profiled formula.now × HasRoom formula.now values.old }
+    ensures { (reading : Reading) (σ : Text → Values.Pair) → Priced σ (tokens_in formula.now) values.old
+        → execute affine σ (listing_in formula.now reading) ≡ some (pair_of result) }
 {
-    let last = lines.len() - 1;
-    for &line in &lines[..last] {
-        assign_line(tape, tokens, line, values);
+    let last = formula.lines.len() - 1;
+    for &line in &formula.lines[..last] {
+        assign_line(formula, line, values);
     }
-    returned(tape, tokens, values, lines[last])
+    returned(formula, values, formula.lines[last])
 }
 
 // The pair of a formula: what it returns where the chosen register starts with v, for every v.
-pub fn reckon(tape: &[u8], tokens: &[u64], lines: &[u64], chosen: &[u8], list: &[u8]) -> Pair
-    requires { Profiled tape.now tokens.now lines.now × (length tokens.now ≤ 1024) }
-    ensures { (reading : Reading) (es : List Entry) → entries list.now ≡ some es
-        → returned_pair chosen.now es (listing_read tape.now tape.now tokens.now reading lines.now) ≡ some (pair_of result) }
+pub fn reckon(formula: &Formula<'_>, starts: &Starts<'_>) -> Pair
+    requires { Profiled formula.now × (length formula.now.tokens.now ≤ 1024) }
+    ensures { (reading : Reading) (es : List Entry) → entries starts.now.list.now ≡ some es
+        → returned_pair starts.now.chosen.now es (listing_in formula.now reading) ≡ some (pair_of result) }
 {
+    // Kept: the pairs lie flat, a multiplier and a constant in turn: `evaluate` takes the values of a line so, and a table of `Pair` would
+    // have to be copied flat for each line.
     let mut values = [0u64; 2048];
-    fill(tape, tokens, chosen, list, &mut values);
-    run(tape, tokens, lines, &mut values)
+    fill(formula, starts, &mut values);
+    run(formula, &mut values)
 }

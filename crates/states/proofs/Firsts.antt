@@ -9,6 +9,10 @@ use mathlib.Core.Path.{◌≡◌, refl, sym}
 use mathlib.Core.Logic.{by_cases}
 use mathlib.Core.Bool.{Bool, true, false}
 use mathlib.Core.Option.{Option, none, some}
+use Rattle.std.specs.Prelude as std
+use Rattle.std.specs.Prelude.{Some, None}
+use Rattle.std.specs.Option.{MatchOption}
+use Rattle.reference.specs.Options.{option_of}
 use Rattle.reference.specs.Control.{when◌then◌else◌}
 use Rattle.reference.proofs.Cases.{by-if, some_inj, none-some}
 use Rattle.states.specs.Store.{first}
@@ -81,6 +85,13 @@ module _ (p : ℕ → Bool) where
       (some_first k (suc i) j (record
       { passes = h.passes; from = c; below = omega arith; before = λ l a b. h.before l (omega arith) b })))
       (λ c. (let s : j ≡ i = omega arith in let y : p i ≡ true = rw s at h.passes in rw (y, s)))
+
+-- a number that `find` answers of the n from 0 on
+pub found_first : (p : ℕ → Bool) (n : ℕ) (r : std.Option ℕ)
+    → MatchOption r ((k : ℕ) → 0 ≤ k → k < n → p k ≡ false) (λ i. (0 ≤ i) × (i < n) × (p i ≡ true) × ((k : ℕ) → 0 ≤ k → k < i → p k ≡ false))
+    → option_of r ≡ first n 0 p
+found_first p n None h = sym (none_first p n 0 (λ j a b. h j a (omega arith)))
+found_first p n (Some i) h = sym (some_first p n 0 i (record { passes = h.2; from = h.0; below = omega arith; before = h.3 }))
 
 pub first_same : (p q : ℕ → Bool) (k i : ℕ) → ((j : ℕ) → i ≤ j → j < i + k → p j ≡ q j) → first k i p ≡ first k i q
 unfolding first

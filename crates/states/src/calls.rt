@@ -61,8 +61,7 @@ fn put_body(tape: &[u8], out: &mut Cursor)
     requires { Fits out.old (4 + length tape.now) }
     ensures { Puts out.old (body tape.now) out.new }
 {
-    // Kept: there is no `From` from usize to u64, and `try_from` has a branch that no length takes.
-    out.put_le(tape.len() as u64, 4);
+    out.put(&tape.len().to_le_bytes()[..4]);
     out.put(tape);
 }
 
@@ -86,8 +85,8 @@ fn take(store: &mut [u8], i: usize, name: &[u8], tape: &[u8])
     put_body(tape, &mut out);
 }
 
-fn save_named(store: &mut [u8], name: &[u8], tape: &[u8]) -> Answer
-    requires { length name.now ≡ 8 }
+// Saves a tape under a name: in place of the one that is held under it, or in the first free cell. A refusal changes nothing.
+pub fn save(store: &mut [u8], name: &[u8; 8], tape: &[u8]) -> Answer
     ensures { Saves store.old name.now tape.now store.new (answer_of result) }
 {
     match save_place(store, name, tape)? {
@@ -97,23 +96,9 @@ fn save_named(store: &mut [u8], name: &[u8], tape: &[u8]) -> Answer
     Ok(0)
 }
 
-// Saves a tape under a name: in place of the one that is held under it, or in the first free cell. A refusal changes nothing.
-pub fn save(store: &mut [u8], name: &[u8; 8], tape: &[u8]) -> Answer
-    ensures { Saves store.old name.now tape.now store.new (answer_of result) }
-{
-    save_named(store, name, tape)
-}
-
 // ---- deleting
 
-// Question 2 of coming back.
-fn has_room(store: usize, out: usize) -> bool
-    ensures { result ≡ (leb STORE store and leb ROOM out) }
-{
-    STORE_BYTES <= store && ROOM_BYTES <= out
-}
-
-// The cell that is held under a name, as an answer: its number, or 20.
+// The cell that is held under a name, as an answer: its number, or 2, 22 or 20 (the questions of `opened` first).
 fn held(store: &[u8], room: bool, name: &[u8]) -> Result<usize, Refusal>
     requires { room ≡ true → STORE ≤ length store.now }
     ensures { cell_of result ≡ held_cell store.now room name.now }
@@ -140,6 +125,13 @@ pub fn delete(store: &mut [u8], name: &[u8; 8]) -> Answer
 }
 
 // ---- coming back
+
+// Question 2 of coming back.
+fn has_room(store: usize, out: usize) -> bool
+    ensures { result ≡ (leb STORE store and leb ROOM out) }
+{
+    STORE_BYTES <= store && ROOM_BYTES <= out
+}
 
 // Copies the tape of the cell i, as it stands, to the front of the output.
 fn copy_out(store: &[u8], i: usize, out: &mut [u8]) -> usize

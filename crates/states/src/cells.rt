@@ -18,7 +18,7 @@ pub fn cell_start(i: usize) -> usize
     i * CELL_BYTES
 }
 
-pub fn cell_at(store: &[u8], i: usize) -> &[u8]
+fn cell_at(store: &[u8], i: usize) -> &[u8]
     requires { InStore store.now i }
     ensures { result.now ≡ cell store.now i }
 {
@@ -43,11 +43,19 @@ fn cell_length(cell: &[u8]) -> usize
     number_at(cell, 9, 4) as usize
 }
 
-fn holds(cell: &[u8], name: &[u8]) -> bool
-    requires { 13 ≤ length cell.now }
-    ensures { result ≡ holds name.now cell.now }
+fn holds(store: &[u8], i: usize, name: &[u8]) -> bool
+    requires { InStore store.now i }
+    ensures { result ≡ holds name.now (cell store.now i) }
 {
+    let cell = cell_at(store, i);
     cell[0] == 1 && same(cell_name(cell), name)
+}
+
+fn is_free(store: &[u8], i: usize) -> bool
+    requires { InStore store.now i }
+    ensures { result ≡ is_free (cell store.now i) }
+{
+    cell_at(store, i)[0] == 0
 }
 
 // ---- cells looked for
@@ -57,31 +65,14 @@ pub fn named(store: &[u8], k: usize, name: &[u8]) -> Option<usize>
     requires { (k ≤ 8) × (STORE ≤ length store.now) }
     ensures { option_of result ≡ named store.now k name.now }
 {
-    for i in 0..k {
-        if holds(cell_at(store, i), name) {
-            return Some(i);
-        }
-    }
-    None
-}
-
-fn is_free(cell: &[u8]) -> bool
-    requires { 13 ≤ length cell.now }
-    ensures { result ≡ is_free cell.now }
-{
-    cell[0] == 0
+    (0..k).find(|i| holds(store, *i, name))
 }
 
 pub fn free_cell(store: &[u8]) -> Option<usize>
     requires { STORE ≤ length store.now }
     ensures { option_of result ≡ free_cell store.now }
 {
-    for i in 0..8 {
-        if is_free(cell_at(store, i)) {
-            return Some(i);
-        }
-    }
-    None
+    (0..8).find(|i| is_free(store, *i))
 }
 
 // ---- question 22
@@ -117,12 +108,7 @@ pub fn wrong_cell(store: &[u8]) -> Option<usize>
     requires { STORE ≤ length store.now }
     ensures { option_of result ≡ wrong_cell store.now }
 {
-    for i in 0..8 {
-        if is_wrong(store, i) {
-            return Some(i);
-        }
-    }
-    None
+    (0..8).find(|i| is_wrong(store, *i))
 }
 
 // ---- the tape of a cell

@@ -25,7 +25,8 @@ fn is_name(kind: u64, text: &[u8], name: &[u8]) -> bool
     kind == SYMBOL && text == name
 }
 
-fn opens(kind: u64, text: &[u8]) -> bool
+// Whether a token is a bracket that opens: behind a name it calls it.
+pub fn opens(kind: u64, text: &[u8]) -> bool
     ensures { result ≡ opens (token kind text.now ∷ []) }
 {
     kind == PUNCT && begins_bracket(text)

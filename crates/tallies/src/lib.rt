@@ -9,7 +9,7 @@ mod labels; // label lines
 mod sizes; // lines, tokens, bytes of text
 mod tally; // the pass over the commands that they share
 
-pub use calls::count_calls;
+pub use calls::{count_calls, opens};
 pub use casts::count_casts;
 pub use labels::count_labels;
 pub use sizes::{Sizes, count_sizes};

@@ -1,18 +1,20 @@
 -- Digits, and a number read digit by digit: each turn of the loop. Assumes nothing.
-use Rattle.std.proofs.Common.{◌≡◌, ℕ, suc, ◌+◌, ◌-◌, ◌*◌, ◌%◌, ◌^◌, ◌≤◌, ◌<◌, Bool, true, false, eqb, leb, List, [], ◌∷◌, length, drop, get_or, refl, sym, ap, ◌∙◌, arith, add-one, pow-suc}
+use Rattle.std.proofs.Common.{◌≡◌, ℕ, suc, ◌+◌, ◌-◌, ◌*◌, ◌%◌, ◌^◌, ◌≤◌, ◌<◌, Bool, true, false, eqb, leb, List, [], ◌∷◌, length, take, drop, get_or, refl, sym, ap, ◌∙◌, arith, add-one, pow-suc}
 use native.Mathlib.Nat.{pow-le-pow_right, mul-le-mul_left}
 use native.Mathlib.Decide.{dec_le, dec_lt, ℕ_discrete}
-use mathlib.Core.Bool.{true≢false}
 use mathlib.Core.Option.{Option, none, some}
 use mathlib.Core.Logic.{by_cases, ◌⊎◌, inl, inr}
 use lib.ListN.{drop_of_length-le}
+use lib.Pointwise.{pointwise}
+use Rattle.std.proofs.lemmas.List.{length-take}
 use lib.Seq.{drop-cons}
 use borrow.Author.Tests.{le-leb, lt-leb, lt-ltb, le-ltb, eq-eqb, ne_eqb}
 use Rattle.std.specs.Char.{digit_value}
 use Rattle.reference.specs.Control.{when◌then◌else◌, let_some◌else◌then◌}
-use Rattle.reference.specs.Text.{Text, bytes, starts_with}
+use Rattle.reference.specs.Text.{Text, starts_with}
 use Rattle.reference.proofs.Cases.{by-if, some_inj, none-some}
-use Rattle.laws.proofs.Scans.{if-true, if-false, starts_short}
+use Rattle.laws.proofs.Scans.{if-true, if-false, starts_take, starts_short, same_lengths}
+use Rattle.laws.proofs.Std.{same-std}
 use Rattle.words.specs.Numerals.{digit, digit_in, digits_from, within_64, number_in, unsigned_in, magnitude_in, negated, negative_in}
 
 pub grown : (base v d i : ℕ) → v < 16 ^ i → base ≤ 16 → d < base → v * base + d < 16 ^ (i + 1)
@@ -146,8 +148,11 @@ unfolding digits_from
 digit_end base v w i h = rw (drop_of_length-le w h)
 
 -- a word that begins 0x has two bytes
-pub starts_two : (w : List ℕ) → starts_with w (bytes "0x") ≡ true → 2 ≤ length w
-starts_two w e = by_cases (dec_le 2 (length w)) (λ h. h) (λ h. absurd (true≢false (sym e ∙ starts_short w (bytes "0x") (omega arith))))
+-- what `strip_prefix` asks
+pub prefix-std : (s t : Text) → pointwise eqb (take (length t) s) t ≡ starts_with s t
+prefix-std s t = same-std (take (length t) s) t
+    ∙ by_cases (dec_le (length t) (length s)) (λ k. sym (starts_take s t k))
+    (λ k. same_lengths (take (length t) s) t (λ e. omega (arith, length-take (length t) s)) ∙ sym (starts_short s t (omega arith)))
 
 -- ---- numbers below 2^64
 
@@ -204,9 +209,6 @@ module _ (base : ℕ) (w : Text) where
   unsigned_from e t = if-false _ _ (sym e ∙ t)
 
 -- a word that begins with a minus has a byte
-pub starts_one : (w : List ℕ) → starts_with w (bytes "-") ≡ true → 1 ≤ length w
-starts_one w e = by_cases (dec_le 1 (length w)) (λ h. h) (λ h. absurd (true≢false (sym e ∙ starts_short w (bytes "-") (omega arith))))
-
 -- ---- a number behind a minus
 
 pub negated_over : (v : ℕ) → 2 ^ 63 < v → none ≡ negated v

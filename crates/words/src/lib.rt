@@ -1,5 +1,5 @@
 // The words of a slice, and the numbers that digits stand for. What words ask for is said above this, in crate arguments: the text form of
-// a listing and the reports need words and digits, and no grammar.
+// a listing needs numbers, and no grammar.
 #![tactic(auto)]
 
 mod numerals; // digits that stand for a number

@@ -29,10 +29,9 @@ pub fn number_in(word: &[u8], base: u64) -> Option<u64>
 pub fn base_in(word: &[u8]) -> Option<u64>
     ensures { option_of result ≡ base_in word.now }
 {
-    if text::starts(word, b"0x") {
-        number_in(&word[2..], 16)
-    } else {
-        number_in(word, 16)
+    match word.strip_prefix(b"0x") {
+        Some(digits) => number_in(digits, 16),
+        None => number_in(word, 16),
     }
 }
 
@@ -56,10 +55,9 @@ fn unsigned_in(word: &[u8], base: u64) -> Option<u64>
 fn magnitude_in(word: &[u8]) -> Option<u64>
     ensures { option_of result ≡ magnitude_in word.now }
 {
-    if text::starts(word, b"0x") {
-        unsigned_in(&word[2..], 16)
-    } else {
-        unsigned_in(word, 10)
+    match word.strip_prefix(b"0x") {
+        Some(digits) => unsigned_in(digits, 16),
+        None => unsigned_in(word, 10),
     }
 }
 
@@ -85,9 +83,8 @@ fn negative_in(word: &[u8]) -> Option<u64>
 pub fn integer_in(word: &[u8]) -> Option<u64>
     ensures { option_of result ≡ integer_in word.now }
 {
-    if text::starts(word, b"-") {
-        negative_in(&word[1..])
-    } else {
-        magnitude_in(word)
+    match word.strip_prefix(b"-") {
+        Some(digits) => negative_in(digits),
+        None => magnitude_in(word),
     }
 }

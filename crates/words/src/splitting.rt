@@ -23,7 +23,7 @@ pub fn word_end(words: &[u8], at: usize) -> usize
 pub fn nth_word(row: &[u8], n: u64) -> &[u8]
     ensures { result.now ≡ get_or (split row.now) n [] }
 {
-    // Kept: a cast: `nth` takes a `usize`, which holds 64 bits wherever this is built, and `usize::try_from` is no plainer, since it asks
-    // what to do where it does not.
+    // Kept: a cast: the numbers of words are `u64` in `Request` of crate arguments and in its definitions, and a `usize` holds 64 bits
+    // wherever this is built. `usize::try_from` is no plainer: a second way to `&[]` would stand beside `unwrap_or`.
     row.split(|b| *b == 0).nth(n as usize).unwrap_or(&[])
 }

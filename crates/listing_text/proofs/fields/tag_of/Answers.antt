@@ -1,31 +1,16 @@
 -- `listing_text::fields::tag_of` meets its contract. Assumes nothing.
-use borrow.Author.Rules.{rules}
-use Rattle.listing_text.proofs.Spelling.{tags}
+use mathlib.Core.Path.{ap, ◌∙◌}
+use Rattle.std.proofs.Common.{arith}
+use Rattle.reference.specs.Options.{option_of}
+use Rattle.listing_text.proofs.Spelling.{tag_none}
+use Rattle.listing_text.proofs.Fielding.{tag-byte}
 use Rattle.listing_text.proofs.fields.tag_of.Goals as goal
 
-pub returns-in-116 : goal.returns-in-116
-returns-in-116 c = search (rules, tags)
+pub returns-in_err-kind_of : goal.returns-in_err-kind_of
+returns-in_err-kind_of c = ap option_of c.from_residual.ensures ∙ tag_none _ c.in_err-kind_of.ensures.is
 
-pub returns-in-114 : goal.returns-in-114
-returns-in-114 c = search (rules, tags)
+pub overflow_add-branch : goal.overflow_add-branch
+overflow_add-branch c = omega (arith, c.in_ok-kind_of.ensures.below)
 
-pub returns-in-110 : goal.returns-in-110
-returns-in-110 c = search (rules, tags)
-
-pub returns-in-107 : goal.returns-in-107
-returns-in-107 c = search (rules, tags)
-
-pub returns-in-115 : goal.returns-in-115
-returns-in-115 c = search (rules, tags)
-
-pub returns-in-97 : goal.returns-in-97
-returns-in-97 c = search (rules, tags)
-
-pub returns-in-112 : goal.returns-in-112
-returns-in-112 c = search (rules, tags)
-
-pub returns-in-120 : goal.returns-in-120
-returns-in-120 c = search (rules, tags)
-
-pub returns-in_default : goal.returns-in_default
-returns-in_default c = search (rules, tags)
+pub returns : goal.returns
+returns c = let k = c.in_ok-kind_of.ensures in ap option_of c.ok.ensures.value ∙ tag-byte _ c.try_from.result k.is k.below c.try_from.ensures

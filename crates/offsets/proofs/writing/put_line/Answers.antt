@@ -1,5 +1,4 @@
 -- `offsets::writing::put_line` meets its contract. Assumes nothing.
-use native.Mathlib.Omega.{arith}
 use Rattle.tape.specs.Commands.{form_of}
 use Rattle.offsets.proofs.Putting.{line-indent, line_puts}
 use Rattle.offsets.specs.contracts.writing.put_line as code

@@ -19,11 +19,11 @@ pub loop-k-preserved : goal.loop-k-preserved
 loop-k-preserved c =
     let e = c.store_pair.ensures in
     let long = ap length e ∙ length_with _ _ _ in (
-      (λ es q. filled_next _ c.args.tape.now c.args.tokens.now _ _ (c.loop-k.invariant.0 es q) c.loop-k-test.true c.loop-k.invariant.2 _ (c.token_pair.ensures es q) _ e),
+      (λ es q. filled_next _ c.args.formula.now.tape.now c.args.formula.now.tokens.now _ _ (c.loop-k.invariant.0 es q) c.loop-k-test.true c.loop-k.invariant.2 _ (c.token_pair.ensures es q) _ e),
       long ∙ c.loop-k.invariant.1,
       omega (arith, long, c.loop-k.invariant.2),
     )
 
 pub returns : goal.returns
 returns c = λ es q. filled-all _ _ _ _ (c.loop-k.invariant.0 es q)
-    (omega (arith, c.loop-k-test.false, map-length c.args.tape.now c.args.tokens.now))
+    (omega (arith, c.loop-k-test.false, map-length c.args.formula.now.tape.now c.args.formula.now.tokens.now))

@@ -12,5 +12,5 @@ use Rattle.start.proofs.reckoning.fill.Given as goal
 
 abbrev pub invariant-loop-k : goal.invariant-loop-k
 invariant-loop-k l =
-    ((es : List Entry) → entries l.list ≡ some es → FilledTo (start_pairs l.chosen es) (tokens_of l.tape l.tape l.tokens) l.k l.values)
-    × (length l.values ≡ length l.initial.values) × (2 * length l.tokens ≤ length l.values)
+    ((es : List Entry) → entries l.starts.list.now ≡ some es → FilledTo (start_pairs l.starts.chosen.now es) (tokens_of l.formula.tape.now l.formula.tape.now l.formula.tokens.now) l.k l.values)
+    × (length l.values ≡ length l.initial.values) × (2 * length l.formula.tokens.now ≤ length l.values)

@@ -6,4 +6,4 @@ use Rattle.start.proofs.reckoning.overwrite.Given as goal
 
 abbrev pub invariant-loop-k : goal.invariant-loop-k
 invariant-loop-k l =
-    Overwriting (token_of l.tape l.tape l.target) (pair_of l.p) l.tape l.tokens l.initial.values l.k l.values
+    Overwriting (token_of l.formula.tape.now l.formula.tape.now l.target) (pair_of l.p) l.formula.tape.now l.formula.tokens.now l.initial.values l.k l.values

@@ -1,11 +1,6 @@
 -- `start::reckoning::returned` meets its contract. Assumes nothing.
-use Rattle.start.proofs.Pricing.{line_returned, line_unreturned}
+use Rattle.start.proofs.Pricing.{line_worth}
 use Rattle.start.proofs.reckoning.returned.Goals as goal
 
-pub returns-in-Some : goal.returns-in-Some
-returns-in-Some c =
-    line_returned c.args.tape.now c.args.tokens.now c.args.l _ c.behind_first.ensures _ c.in-Some.is
-
-pub returns-in-None : goal.returns-in-None
-returns-in-None c =
-    line_unreturned c.args.tape.now c.args.tokens.now c.args.l _ c.behind_first.ensures _ c.in-None.is
+pub returns : goal.returns
+returns c = rw c.unwrap_or.ensures (line_worth c.args.formula.now.tape.now c.args.formula.now.tokens.now c.args.l _ _ c.behind_first.ensures _)

@@ -1,21 +1,17 @@
 -- `words::numerals::integer_in` meets its contract. Assumes nothing.
 use Rattle.std.proofs.Common.{sym, ◌∙◌}
-use Rattle.std.proofs.lemmas.List.{take_rest}
-use Rattle.words.proofs.Branches.{if_here, if-there, true_of, false_of}
-use Rattle.words.proofs.Digits.{starts_one}
+use Rattle.reference.specs.Text.{bytes}
+use Rattle.words.proofs.Branches.{if_here, if-there}
+use Rattle.words.proofs.Digits.{prefix-std}
 use Rattle.words.specs.Numerals.{integer_in}
 use Rattle.words.proofs.numerals.integer_in.Goals as goal
 
-pub slice_bounds-negative_in-count : goal.slice_bounds-negative_in-count
-slice_bounds-negative_in-count c = starts_one c.args.word.now (sym c.starts.ensures ∙ c.if-starts.true)
-
-pub slice_bounds-negative_in-start : goal.slice_bounds-negative_in-start
-slice_bounds-negative_in-start c = starts_one c.args.word.now (sym c.starts.ensures ∙ c.if-starts.true)
-
-pub returns-then-starts : goal.returns-then-starts
+pub returns-in-Some : goal.returns-in-Some
 unfolding integer_in
-returns-then-starts c = if_here _ (true_of c.starts.ensures c.if-starts.true) (rw (take_rest c.args.word.now 1) at c.negative_in.ensures)
+returns-in-Some c =
+    let e = c.in-Some.ensures.cases in
+    if_here _ (sym (prefix-std c.args.word.now (bytes "-")) ∙ e.0) (rw e.1 at c.negative_in.ensures)
 
-pub returns-else-starts : goal.returns-else-starts
+pub returns-in-None : goal.returns-in-None
 unfolding integer_in
-returns-else-starts c = if-there _ (false_of c.starts.ensures c.if-starts.false) c.magnitude_in.ensures
+returns-in-None c = if-there _ (sym (prefix-std c.args.word.now (bytes "-")) ∙ c.in-None.ensures.cases) c.magnitude_in.ensures

@@ -1,4 +1,4 @@
--- `sources::calls::only` meets its contract. Assumes nothing.
+-- `sources::calls::copy_only` meets its contract. Assumes nothing.
 use lib.ListN.{length}
 use mathlib.Core.Path.{sym, ap, ◌∙◌}
 use Rattle.std.proofs.lemmas.Result.{err_from_is_err_and}
@@ -6,7 +6,7 @@ use Rattle.tape.specs.Questions.{checked}
 use Rattle.tape.proofs.questions.Reading.{refused_by, accepted_by}
 use Rattle.offsets.proofs.Answering.{refused_call}
 use Rattle.sources.proofs.Answering.{only-small, only_refused, only-written}
-use Rattle.sources.proofs.calls.only.Goals as goal
+use Rattle.sources.proofs.calls.copy_only.Goals as goal
 
 pub returns-then-out-lt-COPY_BYTES : goal.returns-then-out-lt-COPY_BYTES
 returns-then-out-lt-COPY_BYTES c = let a = c.args in
