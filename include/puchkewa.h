@@ -52,7 +52,7 @@ struct puchkewa_settings {
     bool parts;         /* true: a value assigned to a part of a register is joined into a use below 32 bits only if that is the same part: ah is not al */
     bool profile;       /* true: the listing must be a straight piece: assignments to 64-bit registers, and a return, of sums and differences; each expression
                            of more than one token that is joined into another gets brackets, and what is returned is the same before and after. Such a
-                           call goes down into nested brackets, 144 bytes of stack each: up to 3.6 MB for a tape that is nothing but brackets
+                           call goes down into nested brackets, 160 bytes of stack each: up to 4.1 MB for a tape that is nothing but brackets
                            (docs/TIMES.md) */
 };
 
