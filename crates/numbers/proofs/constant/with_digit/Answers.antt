@@ -1,8 +1,8 @@
--- `numbers::parse::with_digit` meets its contract. Assumes nothing.
+-- `numbers::constant::with_digit` meets its contract. Assumes nothing.
 use Rattle.std.proofs.Common.{ap, ◌∙◌, arith}
 use Rattle.reference.specs.Options.{option_of}
 use Rattle.numbers.proofs.Reading.{with_none, with_over, with_in}
-use Rattle.numbers.proofs.parse.with_digit.Goals as goal
+use Rattle.numbers.proofs.constant.with_digit.Goals as goal
 
 pub returns-in_err-d : goal.returns-in_err-d
 returns-in_err-d c =
