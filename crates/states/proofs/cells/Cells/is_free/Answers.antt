@@ -1,14 +1,14 @@
--- `states::cells::is_free` meets its contract. Assumes nothing.
+-- `states::cells::Cells::is_free` meets its contract. Assumes nothing.
 use lib.ListN.{length}
 use native.Mathlib.Omega.{arith}
 use mathlib.Core.Path.{refl, ap}
 use Rattle.states.specs.Store.{first_byte}
 use Rattle.states.proofs.Contents.{cell_head}
-use Rattle.states.proofs.cells.is_free.Goals as goal
+use Rattle.states.proofs.cells.Cells.is_free.Goals as goal
 
 pub bounds-cell_at-0 : goal.bounds-cell_at-0
 bounds-cell_at-0 c =
-    let h = cell_head c.args.store.now c.args.i c.requires.below c.requires.whole in
+    let h = cell_head c.args.self.now.bytes.now c.args.i c.requires c.args.self.now.whole in
     omega (arith, h, ap length c.cell_at.ensures)
 
 pub returns : goal.returns

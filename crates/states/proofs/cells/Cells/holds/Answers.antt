@@ -1,4 +1,4 @@
--- `states::cells::holds` meets its contract. Assumes nothing.
+-- `states::cells::Cells::holds` meets its contract. Assumes nothing.
 use Rattle.laws.proofs.Scans.{and_true}
 use borrow.Author.Tests.{eq-eqb, ne_eqb}
 use Rattle.reference.specs.Control.{◌and◌}
@@ -7,15 +7,15 @@ use mathlib.Core.Path.{sym, ap, ◌∙◌}
 use lib.ListN.{length}
 use native.Mathlib.Omega.{arith}
 use Rattle.states.proofs.Contents.{cell_head}
-use Rattle.states.proofs.cells.holds.Goals as goal
+use Rattle.states.proofs.cells.Cells.holds.Goals as goal
 
 pub bounds-cell-0 : goal.bounds-cell-0
 bounds-cell-0 c =
-    let h = cell_head c.args.store.now c.args.i c.requires.below c.requires.whole in
+    let h = cell_head c.args.self.now.bytes.now c.args.i c.requires c.args.self.now.whole in
     omega (arith, h, ap length c.cell_at-cell.ensures)
 
 pub cell_name-requires : goal.cell_name-requires
-cell_name-requires c = rw c.cell_at-cell.ensures (cell_head c.args.store.now c.args.i c.requires.below c.requires.whole)
+cell_name-requires c = rw c.cell_at-cell.ensures (cell_head c.args.self.now.bytes.now c.args.i c.requires c.args.self.now.whole)
 
 pub returns-then-cell-eq1 : goal.returns-then-cell-eq1
 unfolding holds first_byte
