@@ -3,7 +3,7 @@
  *
  * Each function is proved to meet what is said here, for every input (crates/puchkewa/src; the promise of the cleaning is `Cleans` in
  * crates/clean/specs/Replies.antt, that of a call that writes a tape is `WritesTold` in crates/answers/specs/Answers.antt). They keep no state,
- * allocate nothing and call nothing of C but memset and memcpy. Not proved, but measured: the cleaning takes about 117,000 bytes of stack, without the profile. Calls in several
+ * allocate nothing and call nothing of C but memset, memcpy and memmove. Not proved, but measured: the cleaning takes about 117,000 bytes of stack, without the profile. Calls in several
  * threads are safe where they share no memory that one of them writes.
  *
  * Link with target/staticlib/libpuchkewa.a, which `bin/archive` makes (x86-64 Linux). */
@@ -52,7 +52,7 @@ struct puchkewa_settings {
     bool parts;         /* true: a value assigned to a part of a register is joined into a use below 32 bits only if that is the same part: ah is not al */
     bool profile;       /* true: the listing must be a straight piece: assignments to 64-bit registers, and a return, of sums and differences; each expression
                            of more than one token that is joined into another gets brackets, and what is returned is the same before and after. Such a
-                           call goes down into nested brackets, 160 bytes of stack each: up to 4.1 MB for a tape that is nothing but brackets
+                           call goes down into nested brackets, 144 bytes of stack each: up to 3.7 MB for a tape that is nothing but brackets
                            (docs/TIMES.md) */
 };
 

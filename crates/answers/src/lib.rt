@@ -8,7 +8,7 @@ ghost use Rattle.answers.specs.Answers.{answer_of, in_numbers, numbers_of};
 use std::error::Error;
 use std::fmt;
 
-// What the question that refuses a call asks for and does not find. Their numbers are `number_of`'s, by documents 01 and 02.
+// What refuses a call. The numbers are `number_of`'s, by documents 01 and 02.
 #[derive(Clone, Copy, Debug, PartialEq, Eq, Hash)]
 pub enum Reason {
     UnknownConvention,
@@ -16,9 +16,9 @@ pub enum Reason {
     TooLittleRoom,
     NoCommand,
     CutOff,
-    OutOfPlace, // a token before any line, or marks not directly after a line's command
-    OutOfBounds, // an indent, an empty text, a long number
-    TooMany, // lines or tokens
+    OutOfPlace, // a token before any line; marks not directly after a line's command, or with their lowest above their highest
+    OutOfBounds, // an indent above 63, an empty text, a number of more than 24 bytes
+    TooMany, // a tape of more than 256 lines or 1,024 tokens
     TooMuchText,
     Unprintable,
     BytesAfterEnd,
@@ -27,7 +27,7 @@ pub enum Reason {
     OutsideProfile,
     NoStartValue,
     NoRegister,
-    TooManyLines,
+    TooLong, // more than 256 lines are asked for
     OutOfReach,
     NoBase,
     NotHeld,
@@ -67,7 +67,7 @@ impl Reason {
             Reason::OutsideProfile => 14,
             Reason::NoStartValue => 15,
             Reason::NoRegister => 16,
-            Reason::TooManyLines => 17,
+            Reason::TooLong => 17,
             Reason::OutOfReach => 18,
             Reason::NoBase => 19,
             Reason::NotHeld => 20,
@@ -116,7 +116,7 @@ impl TryFrom<u64> for Reason {
             14 => Ok(Reason::OutsideProfile),
             15 => Ok(Reason::NoStartValue),
             16 => Ok(Reason::NoRegister),
-            17 => Ok(Reason::TooManyLines),
+            17 => Ok(Reason::TooLong),
             18 => Ok(Reason::OutOfReach),
             19 => Ok(Reason::NoBase),
             20 => Ok(Reason::NotHeld),
@@ -135,6 +135,7 @@ impl fmt::Display for UnknownReason {
 
 impl Error for UnknownReason {}
 
+// For programs that call the library: the command and the filter put their lines byte by byte.
 impl fmt::Display for Refusal {
     fn fmt<W: fmt::Write>(&self, f: &mut fmt::Formatter<W>) -> fmt::Result {
         let number = self.reason.number();
@@ -145,7 +146,10 @@ impl fmt::Display for Refusal {
 
 impl Error for Refusal {}
 
-// `refusal` is 0 where the call was not refused, else the number of the question that refused, at `place`; then `value` is 0.
+// An answer in numbers. `refusal` is 0 where the call was not refused, else the number of the question that refused, at `place`; then
+// `value` is 0.
+// Kept: numbers in place of a `Result`: it is the C interface's own struct. Its fields, their order, and 0 for no refusal are those of
+// `puchkewa_answer` in include/puchkewa.h.
 #[repr(C)]
 #[derive(Clone, Copy, Debug, PartialEq, Eq)]
 pub struct Told {
@@ -154,20 +158,21 @@ pub struct Told {
     pub value: u64,
 }
 
-// An answer in numbers.
-pub fn tell(answer: Answer) -> Told
-    ensures { numbers_of result ≡ in_numbers (answer_of answer) }
-{
-    match answer {
-        Err(refusal) => Told {
-            refusal: refusal.reason.number(),
-            place: refusal.place,
-            value: 0,
-        },
-        Ok(value) => Told {
-            refusal: 0,
-            place: 0,
-            value,
-        },
+impl From<Answer> for Told {
+    ghost from_gives = { λ answer told. numbers_of told ≡ in_numbers (answer_of answer) };
+
+    fn from(answer: Answer) -> Told {
+        match answer {
+            Err(refusal) => Told {
+                refusal: refusal.reason.number(),
+                place: refusal.place,
+                value: 0,
+            },
+            Ok(value) => Told {
+                refusal: 0,
+                place: 0,
+                value,
+            },
+        }
     }
 }

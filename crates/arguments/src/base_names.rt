@@ -16,7 +16,7 @@ pub fn base_name(path: &[u8]) -> &[u8]
     ensures { result.now ≡ base_name path.now }
 {
     // Kept: std's `rposition` was tried: the search left both ends open (`returns-in-Some`, `returns-in-None`), since no law in laws::Std
-    // turns what it promises into the definition's recursion.
+    // turns what it promises into the definition's recursion, and none was written for it.
     let mut base = path;
     for (i, b) in path.iter().enumerate() {
         if *b == SLASH {
@@ -34,12 +34,14 @@ fn is_taken_same(taken: Option<u64>, k: u64, a: &[u8], b: &[u8]) -> bool
 }
 
 // Of the words from number k on, the first operand that has the base name of a path. s is what is known before it.
+// Kept: (s, k, words) are three parameters, here and below: a struct of them would be made for these two, and taken apart in both
+// contracts.
 fn same_later(path: &[u8], s: Request, k: u64, words: &[u8]) -> Option<u64>
     requires { k + length words.now < 2 ^ 64 }
     ensures { result ≡ same_later path.now s k (split words.now) }
 {
     let mut t = s;
-    // Kept: counted by hand: the numbers go on from k, and `enumerate` counts from 0 and in `usize`.
+    // Kept: counted by hand, as in `parse` (reading.rt says why).
     let mut n = k;
     let mut left = words;
     while let Some((word, rest)) = next_word(left) {
@@ -70,7 +72,8 @@ pub fn clash(words: &[u8]) -> Option<u64>
     ensures { result ≡ clash_of (split words.now) }
 {
     let mut s = Request::begin();
-    // Kept: counted by hand: what stands behind each word is looked through, and `enumerate` does not hand that out.
+    // Kept: counted by hand, and by what is left, which `next_word` hands out beside each word and which is looked through here: a `for`
+    // holds its iterator, so that the rest would be cut out of `words` by an offset of its own.
     let mut k: u64 = 0;
     let mut left = words;
     while let Some((word, rest)) = next_word(left) {

@@ -8,6 +8,7 @@ use text::Cursor;
 use words::integer_in;
 
 // Where the first = stands.
+// Kept: beside `place_of` of crate listing_text: crate words, on which both rest, would have a public function more for this one line.
 fn equals_in(word: &[u8]) -> Option<usize>
     ensures { result ≡ position (λ b. b == 61) word.now }
 {

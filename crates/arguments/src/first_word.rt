@@ -24,5 +24,5 @@ pub fn next_word(words: &[u8]) -> Option<(&[u8], &[u8])>
 pub fn is_at(taken: Option<u64>, k: u64) -> bool
     ensures { result ≡ is_at taken k }
 {
-    taken.is_some_and(|n| n == k)
+    taken == Some(k)
 }

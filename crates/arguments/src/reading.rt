@@ -32,6 +32,8 @@ fn is_help(word: &[u8]) -> bool
 }
 
 // Each takes word k.
+// Kept: number and word are two parameters, in fourteen methods: the definitions take the two, so that each contract would take a struct of
+// them apart again.
 impl Request {
     fn take_verb(self, k: u64, word: &[u8]) -> Self
         ensures { result ≡ take_verb self k word.now }
@@ -322,8 +324,8 @@ pub fn parse(words: &[u8]) -> Request
     ensures { result ≡ request_of (split words.now) }
 {
     let mut s = Request::begin();
-    // Kept: counted by hand: an iterator over the words with `enumerate`, which was tried here, counts in `usize`, where a word's number in
-    // `Request` is a `u64`; and it would stand for this one loop alone.
+    // Kept: counted by hand, word by word, as in the loops beside it: `(0..).zip(words.split_inclusive(|b| *b == 0))` would hand out each
+    // word with the 0 behind it, which each loop would cut off again: no plainer.
     let mut k: u64 = 0;
     let mut left = words;
     while let Some((word, rest)) = next_word(left) {
@@ -335,13 +337,15 @@ pub fn parse(words: &[u8]) -> Request
 }
 
 // Puts the entries of a slice of words at the front, as the list that crate start takes, and says how long it is.
+// Kept: it answers a length: it promises every byte of the lent buffer, those behind the list too (`Written`), of which a slice of the
+// buffer as the answer would say nothing.
 pub fn put_entries(words: &[u8], out: &mut [u8]) -> usize
     requires { 9 * length words.now + 9 ≤ length out.old }
     ensures { Written out.old 0 (entries_of (split words.now)) out.new result }
 {
     let mut s = Request::begin();
     let mut list = Cursor::new(out, 0);
-    // Kept: counted by hand: the room for entries is known by the bytes that are left, and an iterator hands out words.
+    // Kept: counted by hand, as in `parse`.
     let mut k: u64 = 0;
     let mut left = words;
     while let Some((word, rest)) = next_word(left) {

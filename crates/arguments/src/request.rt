@@ -62,8 +62,7 @@ pub enum Kind {
 }
 
 // What an operand stands for.
-// Kept: an edition is the byte that `Rules` of crate lines holds and the C interface hands over: the same row of words reads the operand of
-// `edition` and the value of -e, and a second row of the same two words is no plainer.
+// Kept: an edition is a byte (word_tables.rt says why).
 #[derive(Clone, Copy, Debug, PartialEq, Eq)]
 pub enum Value {
     Edition(u8),

@@ -36,8 +36,8 @@ const OPTIONS: [(&[u8], Flag); 10] = [
     (b"--choose", Flag::Choose),
 ];
 
-// Kept: conventions and editions are numbers, as the C interface hands them over and `Rules` of crate lines holds them. The operand of
-// `edition` is read by the same row as the value of -e: a second row of the same two words is no plainer.
+// Kept: conventions and editions are numbers, as the C interface hands them over and `Rules` of crate lines holds them: an enum here would
+// be turned into that number again for each, and is no plainer for the one place that asks an edition apart (`edition` of the command).
 const CONVENTIONS: [(&[u8], u8); 3] = [(b"32", 0), (b"sysv", 1), (b"windows", 2)];
 
 const EDITIONS: [(&[u8], u8); 2] = [(b"2018", 0), (b"2024", 1)];
@@ -53,12 +53,8 @@ const ACTIONS: [(&[u8], Action); 4] = [
 fn meaning<T: Copy>(rows: &[(&[u8], T)], word: &[u8]) -> Option<T>
     ensures { result ≡ meaning_in (map row_of rows.now) word.now }
 {
-    for row in rows {
-        if row.0 == word {
-            return Some(row.1);
-        }
-    }
-    None
+    let row = rows.iter().find(|row| row.0 == word)?;
+    Some(row.1)
 }
 
 pub(crate) fn verb_in(word: &[u8]) -> Option<Verb>

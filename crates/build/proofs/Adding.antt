@@ -39,7 +39,7 @@ module _ {tape area : Text} {tokens : List ℕ} {at : Size} {out : List Token} {
     part_is = rw (first_is, count_is) words_are
 
     added : (line : Reading → Line) → ((addresses : Reading) → with_tokens out (line_read tape (used area' at') (used_words tokens' at') addresses w) ≡ line addresses)
-        → Added tape area tokens at line n k area' tokens' (record { line = v; size = at' })
+        → Added tape area tokens at line n k area' tokens' at' v
     added line e =
         let none : words_from at.tokens tokens at ≡ [] = slice_empty at.tokens tokens in
         record {
@@ -70,12 +70,12 @@ part_length {words = words} {w} i = length-take-le (count_of w) (drop (first_of 
 module _ {tape old : Text} {words : List ℕ} {w : ℕ} (i : Lined tape old words w) {area : Text} {tokens : List ℕ} {at : Size} {area' : Text} {tokens' : List ℕ} {at' : Size}
     (hf : at.tokens < 65536) {v : ℕ} (ev : v ≡ with_part w at.tokens (at'.tokens - at.tokens)) where
   pub added-kept : {n : ℕ} → LineAdded tape area tokens at (tokens_of tape old (part_of words w)) n (length (part_of words w)) area' tokens' at'
-      → Added tape area tokens at (λ addresses. line_read tape old words addresses w) n (count_of w) area' tokens' (record { line = v; size = at' })
+      → Added tape area tokens at (λ addresses. line_read tape old words addresses w) n (count_of w) area' tokens' at' v
   added-kept l =
       rw (part_length i) at (added l w hf (omega (arith, part_length i, count-below w)) ev (λ addresses. line_read tape old words addresses w) (λ addresses. refl))
 
   pub added_rewritten : (edition : ℕ) (name : Text) (right : List Token) {n k : ℕ} → k < 2048
       → LineAdded tape area tokens at (fold edition (merge (substitute name right (tokens_of tape old (part_of words w))))) n k area' tokens' at'
-      → Added tape area tokens at (λ addresses. rewrite_use edition name right (line_read tape old words addresses w)) n k area' tokens' (record { line = v; size = at' })
+      → Added tape area tokens at (λ addresses. rewrite_use edition name right (line_read tape old words addresses w)) n k area' tokens' at' v
   unfolding rewrite_use
   added_rewritten edition name right hk l = added l w hf hk ev (λ addresses. rewrite_use edition name right (line_read tape old words addresses w)) (λ addresses. refl)

@@ -1,42 +1,30 @@
 // Numbers folded in place (`fold` of the Rust): `n + m` and `n - m` between plain delimiters, with a read and a write index. What a fold
 // makes is put at the end of the text in use, and looked at again.
-// Kept: the area and the line that are written are lent slices, and the tape stands beside them: with a struct of them each contract would
-// have to say besides that the same two are still lent, which is no plainer.
-ghost use Rattle.std.specs.Prelude.{◌≡◌, ◌+◌, ◌≤◌, ◌<◌, length, take, drop};
+// Kept: within a line the area and the line's words are lent slices beside the tape: the words are a part of the builder's, so a builder
+// of them would be put together for `fold` alone, and its size would count what `Folding` counts.
+// Kept: `edition` is a byte, as `Rules` has it and crate numbers takes it: a kind of its own would be made of the byte here and turned back
+// into it at each number that is read.
+ghost use Rattle.std.specs.Prelude.{◌≡◌, ◌<◌, length};
 ghost use Rattle.reference.specs.Options.{option_of};
 ghost use Rattle.reference.specs.Control.{◌or◌};
 ghost use Rattle.reference.specs.Text.{bytes, ◌≟◌};
 ghost use Rattle.reference.specs.Numbers.{delim_before, delim_after};
-ghost use Rattle.build.specs.Folding.{operated, sum_of, number_token, last_of, fold_next, Foldable, Stepped, Folded, signs_room};
-ghost use Rattle.build.specs.Folding.{FoldedLast};
-ghost use Rattle.build.specs.State.{line_now, Room, Built};
+ghost use Rattle.build.specs.Folding.{sum_of, number_token, last_of, fold_next, Foldable, Stepped, Folded, signs_room};
+ghost use Rattle.build.specs.Builders.{SameLent, line_now, Room, Built, FoldedLast};
 ghost use Rattle.lines.specs.Texts.{Holds, Points, token_of, tokens_of};
 
-use crate::used::Size;
+use crate::builder::Builder;
 use lines::texts::Texts;
 use lines::words;
 use numbers::{put_number, read_number, wrapping_add, wrapping_sub};
-use text::Cursor;
-
-// a + b or a - b, where both were read.
-fn operate(plus: bool, a: Option<i64>, b: Option<i64>) -> Option<i64>
-    ensures { option_of result ≡ operated plus (option_of a) (option_of b) }
-{
-    let x = a?;
-    let y = b?;
-    Some(if plus {
-        wrapping_add(x, y)
-    } else {
-        wrapping_sub(x, y)
-    })
-}
+use text::{Cursor, same};
 
 // Whether a token between two numbers is an operator that folds.
 #[tactic(auto, using(laws::proofs::Std::tests_of_std))]
 fn is_sign(s: &[u8]) -> bool
     ensures { result ≡ ((s.now ≟ bytes " + ") or (s.now ≟ bytes " - ")) }
 {
-    text::is_plus(s) || text::is_minus(s)
+    same(s, b" + ") || same(s, b" - ")
 }
 
 // The sum or the difference of two Numbers around an operator token, read by an edition.
@@ -52,11 +40,13 @@ fn sum_of(texts: &Texts<'_>, left: u64, operator: u64, right: u64, edition: u8) 
     if !is_sign(sign) {
         return None;
     }
-    operate(
-        text::is_plus(sign),
-        read_number(edition, words::text(texts, left)),
-        read_number(edition, words::text(texts, right)),
-    )
+    let x = read_number(edition, words::text(texts, left))?;
+    let y = read_number(edition, words::text(texts, right))?;
+    Some(if same(sign, b" + ") {
+        wrapping_add(x, y)
+    } else {
+        wrapping_sub(x, y)
+    })
 }
 
 // Whether the tokens before a fold end with a delimiter, or are none.
@@ -162,24 +152,22 @@ fn fold(tape: &[u8], area: &mut [u8], line: &mut [u64], text: usize, edition: u8
     f
 }
 
-// Folds the line that began at `from`.
-pub fn fold_last(
-    tape: &[u8],
-    area: &mut [u8],
-    tokens: &mut [u64],
-    from: usize,
-    size: Size,
-    edition: u8,
-) -> Size
-    requires { Built tape.now area.old tokens.old from size
-        × Room area.old tokens.old size (signs_room (line_now tape.now area.old tokens.old from size)) 0 }
-    ensures { FoldedLast edition tape.now area.old tokens.old from size area.new tokens.new result }
-{
-    let to = size.tokens;
-    let f = fold(tape, area, &mut tokens[from..to], size.text, edition);
-    Size {
-        lines: size.lines,
-        tokens: from + f.kept,
-        text: f.text,
+impl Builder<'_> {
+    // Folds the line that began at `from`.
+    pub(crate) fn fold_last(&mut self, tape: &[u8], from: usize, edition: u8)
+        requires { Built tape.now self.old from × Room self.old (signs_room (line_now tape.now self.old from)) 0 }
+        ensures folded { FoldedLast edition tape.now self.old from self.new }
+        ensures lent { SameLent self.old self.new }
+    {
+        let to = self.size.tokens;
+        let f = fold(
+            tape,
+            self.area,
+            &mut self.tokens[from..to],
+            self.size.text,
+            edition,
+        );
+        self.size.tokens = from + f.kept;
+        self.size.text = f.text;
     }
 }

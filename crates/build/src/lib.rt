@@ -3,7 +3,10 @@
 #![tactic(auto)]
 
 mod append; // a word, a text, more text for the last token
+pub mod builder; // a set that a listing is built in
 mod fold; // numbers folded in place
 pub mod line; // a line kept or rewritten
 pub mod merge; // tokens joined one by one
 pub mod used; // how much of a set is in use
+
+pub use builder::Builder;

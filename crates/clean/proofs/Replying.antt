@@ -52,7 +52,7 @@ number_above r = elim r as (λ x. number_of x ≡ 0 → ⊥) [
   | reason.OutsideProfile ↦ λ e. omega arith
   | reason.NoStartValue ↦ λ e. omega arith
   | reason.NoRegister ↦ λ e. omega arith
-  | reason.TooManyLines ↦ λ e. omega arith
+  | reason.TooLong ↦ λ e. omega arith
   | reason.OutOfReach ↦ λ e. omega arith
   | reason.NoBase ↦ λ e. omega arith
   | reason.NotHeld ↦ λ e. omega arith

@@ -11,7 +11,6 @@ use Rattle.reference.specs.Text.{Text}
 use Rattle.reference.specs.Listing.{Token, Listing}
 use Rattle.reference.specs.Rules.{Rules}
 use Rattle.reference.specs.Run.{run, attempts_of, finished, counts}
-use Rattle.reference.specs.Spans.{Marks}
 use Rattle.reference.specs.Marks.{carry, finished_marks}
 use Rattle.reference.specs.Claim.{sum}
 use Rattle.reference.specs.Tape as Tape
@@ -27,18 +26,22 @@ use Rattle.reference.proofs.Marks.{carried}
 use Rattle.reference.proofs.Guarantee.{output-length}
 use Rattle.joining.specs.Limits.{RunLimits}
 use Rattle.lines.specs.Lines.{own, origin_of, bare}
+use Rattle.lines.specs.Marks.{lows_of, highs_of}
+use Rattle.lines.specs.declared.marks.Marks as code
 use Rattle.lines.proofs.words.Lines.{bare-means}
 use Rattle.build.specs.declared.used.Size.{Size}
-use Rattle.join.specs.Current.{used_lines, listing_now}
+use Rattle.join.specs.declared.workspace.Workspace.{Workspace}
+use Rattle.join.specs.Current.{used_lines, listing_now, bare_now}
 use Rattle.rounds.specs.Carries.{Held, Marked}
 use Rattle.rounds.specs.Runs.{counts_of, Ran}
+use Rattle.rounds.specs.Workspaces.{Runnable}
 use Rattle.rounds.specs.declared.run.Outcome.{Outcome}
 use Rattle.tape.specs.declared.questions.Totals.{Totals}
 use Rattle.tables.specs.Tables.{marks_for, Loaded, LoadedMarks}
 use Rattle.tables.specs.Writing.{Wrote}
 use Rattle.tables.proofs.loading.Loaded.{loaded-limits, loaded-rising}
 use Rattle.clean.specs.Replies.{cleaned}
-use Rattle.clean.specs.Cleaning.{Loadable, ReplyWritten}
+use Rattle.clean.specs.Cleaning.{ReplyWritten}
 
 -- ---- the limits of a tape's listing, without its addresses
 
@@ -76,36 +79,23 @@ all_mapped P f (x ∷ xs) h = (h 0 (omega arith), all_mapped P f xs (λ i b. h (
 abbrev start : Totals → Size
 start t = record { lines = t.lines; tokens = t.tokens; text = 0 }
 
+-- the tape of what a run leaves
+abbrev tape_left : List ℕ → List ℕ → Text → List ℕ → List ℕ → List code.Marks → Size → List ℕ
+tape_left tape addresses area tokens lines marks at =
+    Tape.write (listing_now tape area tokens lines at (own addresses)) (marks_for (lows_of marks) (highs_of marks) (used_lines lines at))
+
 module _ {tape tokens lines addresses : List ℕ} {t : Totals} (l : Loaded tape tokens lines addresses t) (area : Text) where
   loaded_is : read tape ≡ Passed (listing_now tape area tokens lines (start t) (own addresses))
   loaded_is = l.listing (take 0 area)
 
-  pub loadable : (area2 : Text) (lows highs : List ℕ) → WORK ≤ length area → WORK ≤ length area2 → length tokens ≡ 2048 → length lines ≡ 256
-      → length lows ≡ 256 → length highs ≡ 256 → Loadable tape area tokens lines area2 lows highs (start t)
-  loadable area2 lows highs a b h k el eh =
-      let few = loaded-limits l in
-      record {
-        current =
-            record {
-              text_fits = zero-le;
-              words_fit = omega (arith, few);
-              lines_fit = omega (arith, few);
-              listed = l.listed (take 0 area);
-            };
-        limits =
-            rw (bare-means tape (take 0 area) (take t.tokens tokens) (own addresses) (take t.lines lines))
-            (bare-limits (read-limits tape _ loaded_is));
-        first_text = a;
-        first_words = omega arith;
-        words_short = omega arith;
-        second_text = b;
-        for_lows = omega arith;
-        for_highs = omega arith;
-      }
+  limits-loaded : RunLimits (bare_now tape area tokens lines (start t))
+  limits-loaded =
+      rw (bare-means tape (take 0 area) (take t.tokens tokens) (own addresses) (take t.lines lines))
+      (bare-limits (read-limits tape _ loaded_is))
 
-  module _ {lows highs : List ℕ} (m : LoadedMarks tape lines lows highs t) (k : length lines ≡ 256) (el : length lows ≡ 256) (eh : length highs ≡ 256) where
+  module _ (marks : List code.Marks) (m : LoadedMarks tape lines (lows_of marks) (highs_of marks) t) (k : length lines ≡ 256) (em : length marks ≡ 256) where
     -- the tables have the marks of the lines that were loaded
-    loaded-marked : Marked (map origin_of (take t.lines lines)) lows highs
+    loaded-marked : Marked (map origin_of (take t.lines lines)) (lows_of marks) (highs_of marks)
     loaded-marked =
         let few = loaded-limits l in
         let fits : t.lines ≤ length lines = omega (arith, few) in
@@ -114,48 +104,84 @@ module _ {tape tokens lines addresses : List ℕ} {t : Totals} (l : Loaded tape 
         record {
           rising = loaded-rising fits m;
           each =
-              all_mapped (Held lows highs) origin_of front
+              all_mapped (Held (lows_of marks) (highs_of marks)) origin_of front
               (λ i b.
               (let below : i < t.lines = omega arith in
               let here : origin_of (get_or front i 0) ≡ i = ap origin_of (get_or-take t.lines lines i 0 below) ∙ m.origins i below in
-              rw here (record { low_inside = omega (arith, few); high_inside = omega (arith, few); kept = m.kept i below })));
+              rw here (
+              record {
+                low_inside = omega (arith, few, length-map marks (λ m. m.low));
+                high_inside = omega (arith, few, length-map marks (λ m. m.high));
+                kept = m.kept i below;
+              }
+              )));
         }
 
     -- ---- what the run left
 
-    module _ (rules : Rules) {area' : Text} {tokens' lines' lows' highs' : List ℕ} {r : Outcome}
-        (p : Ran rules tape area tokens lines lows highs (start t) area' tokens' lines' lows' highs' r) where
-      abbrev left_lines : Listing
-      left_lines = listing_now tape area' tokens' lines' r.size (own addresses)
-
-      abbrev left_marks : List Marks
-      left_marks = marks_for lows' highs' (used_lines lines' r.size)
-
-      marks_left : (input : Listing) → listing_now tape area tokens lines (start t) (own addresses) ≡ input
-          → left_marks ≡ finished_marks rules input (marks_in tape)
-      marks_left input same =
+    module _ (rules : Rules) {area' : Text} {tokens' lines' : List ℕ} (marks' : List code.Marks) {r : Outcome}
+        (p : Ran rules tape area tokens lines (lows_of marks) (highs_of marks) (start t) area' tokens' lines' (lows_of marks') (highs_of marks') r) where
+      left_marks : (input : Listing) → listing_now tape area tokens lines (start t) (own addresses) ≡ input
+          → marks_for (lows_of marks') (highs_of marks') (used_lines lines' r.size) ≡ finished_marks rules input (marks_in tape)
+      left_marks input same =
           (p.marks (own addresses) loaded-marked).1
           ∙ rw same
           (ap (carry (attempts_of (run rules input))) (m.means input (loaded_is ∙ ap Passed same)) ∙ carried rules input (marks_in tape))
 
-      pub fits-output : {n : ℕ} → OUTPUT ≤ n → length (Tape.write left_lines left_marks) ≤ n
-      fits-output h = rw (p.finished (own addresses)) (le_trans (output-length rules tape _ left_marks loaded_is) h)
+      -- what stands in the area and in the tables after the run is what the workspace said
+      module _ {left-area : Text} {left-tokens left-words : List ℕ} {left-table : List code.Marks} (ea : left-area ≡ area') (et : left-tokens ≡ tokens')
+          (el : left-words ≡ lines') (eh : left-table ≡ marks') where
+        pub fits-output : {n : ℕ} → OUTPUT ≤ n → length (tape_left tape addresses left-area left-tokens left-words left-table r.size) ≤ n
+        fits-output h =
+            rw (ea, et, el, eh, p.finished (own addresses))
+            (le_trans (output-length rules tape _ (marks_for (lows_of marks') (highs_of marks') (used_lines lines' r.size)) loaded_is) h)
 
-      pub writes : {out out' : List ℕ} {n : ℕ} → Wrote (Tape.write left_lines left_marks) out out' n → (input : Listing) → read tape ≡ Passed input
-          → ReplyWritten (cleaned rules tape input) out out' (record { length = n; tally = r.tally; removed = r.removed; cut = r.cut })
-      unfolding output_after
-      writes {out} w input e =
-          let same : listing_now tape area tokens lines (start t) (own addresses) ≡ input = passed_inj (sym loaded_is ∙ e) in
-          let lines_are : left_lines ≡ finished rules input = p.finished (own addresses) ∙ ap (finished rules) same in
-          let marks_are : left_marks ≡ finished_marks rules input (marks_in tape) = marks_left input same in
-          let left : Tape.write left_lines left_marks ≡ Tape.write (finished rules input) (finished_marks rules input (marks_in tape)) =
-          (λ i. Tape.write (lines_are i) (marks_are i)) in
-          let counted : counts_of r ≡ counts rules (run rules input) = p.counts (own addresses) ∙ ap (λ l. counts rules (run rules l)) same in
-          let long = w.ends ∙ ap length left in
+        left_is : (input : Listing) → listing_now tape area tokens lines (start t) (own addresses) ≡ input
+            → tape_left tape addresses left-area left-tokens left-words left-table r.size ≡ Tape.write (finished rules input) (finished_marks rules input (marks_in tape))
+        left_is input same =
+            let lines_are : listing_now tape area' tokens' lines' r.size (own addresses) ≡ finished rules input = p.finished (own addresses) ∙ ap (finished rules) same in
+            rw (ea, et, el, eh) (λ i. Tape.write (lines_are i) (left_marks input same i))
+
+        pub writes : {out out' : List ℕ} {n : ℕ} → Wrote (tape_left tape addresses left-area left-tokens left-words left-table r.size) out out' n
+            → (input : Listing) → read tape ≡ Passed input → ReplyWritten (cleaned rules tape input) out out' (record { length = n; tally = r.tally; removed = r.removed; cut = r.cut })
+        unfolding output_after
+        writes {out} w input e =
+            let same : listing_now tape area tokens lines (start t) (own addresses) ≡ input = passed_inj (sym loaded_is ∙ e) in
+            let is = left_is input same in
+            let counted : counts_of r ≡ counts rules (run rules input) = p.counts (own addresses) ∙ ap (λ l. counts rules (run rules l)) same in
+            let long = w.ends ∙ ap length is in
+            record {
+              summary_is = λ i. Passed (record { length = long i; counts = counted i });
+              output_is = w.holds ∙ ap (λ s. s ++ drop (length s) out) is;
+            }
+
+-- ---- the workspace of a loaded listing
+
+-- its run can begin
+pub loaded-runnable : {tape addresses : List ℕ} (w : Workspace) {t : Totals} → Loaded tape w.tokens.now w.lines.now addresses t
+    → WORK ≤ length w.area.now → WORK ≤ length w.area2.now → length w.tokens.now ≡ 2048 → length w.lines.now ≡ 256 → length w.tokens2.now ≡ 2048
+    → length w.marks.now ≡ 256 → Runnable tape w (start t)
+loaded-runnable w l a b k n k2 m =
+    let few = loaded-limits l in
+    record {
+      current =
           record {
-            summary_is = λ i. Passed (record { length = long i; counts = counted i });
-            output_is = w.holds ∙ ap (λ s. s ++ drop (length s) out) left;
-          }
+            text_fits = zero-le;
+            words_fit = omega (arith, few);
+            lines_fit = omega (arith, few);
+            listed = l.listed (take 0 w.area.now);
+          };
+      limits = limits-loaded l w.area.now;
+      lent =
+          record {
+            first_text = a;
+            first_words = omega arith;
+            second_text = b;
+            second_words = omega arith;
+          };
+      words_short = omega arith;
+      for_marks = omega arith;
+    }
 
 -- ---- a work area, worked in at its front and wiped
 

@@ -8,7 +8,7 @@ ghost use Rattle.lines.specs.Rules.{rules_of};
 ghost use Rattle.tape.specs.Questions.{AcceptedTape};
 ghost use Rattle.clean.specs.Replies.{outside};
 
-use lines::marks::Marks;
+use crate::tabled::Tables;
 use lines::rules::Rules;
 
 // The first line that breaks the profile. The tables are this function's own, so a call without the profile has no part in them.
@@ -16,12 +16,13 @@ fn broken(tape: &[u8]) -> Option<usize>
     requires { AcceptedTape tape.now }
     ensures { (input : Listing) → read tape.now ≡ Passed input → option_of result ≡ breaks input }
 {
-    let mut tokens = [0u64; 1024];
-    let mut lines = [0u64; 256];
-    let mut addresses = [0u64; 256];
-    let mut marks = [Marks { low: 0, high: 0 }; 256];
-    let loaded = tables::load(tape, &mut tokens, &mut lines, &mut addresses, &mut marks);
-    formula::breaks(tape, &tokens[..loaded.tokens], &lines[..loaded.lines])
+    let mut own = Tables::<1024>::EMPTY;
+    let loaded = own.load(tape);
+    formula::breaks(
+        tape,
+        &own.tokens[..loaded.tokens],
+        &own.lines[..loaded.lines],
+    )
 }
 
 // The first line that breaks the profile, where the profile is asked for.

@@ -1,17 +1,16 @@
 // The cleaning of a tape that passed all questions.
-// Kept: the slices that are written to are parameters of their own. A struct of them is no plainer: each contract would have to say,
-// besides, that it still lends the same slices.
 ghost use Rattle.std.specs.Prelude.{◌≡◌};
 ghost use Rattle.reference.specs.Listing as reference;
 ghost use Rattle.reference.specs.Questions.{Passed, read};
 ghost use Rattle.lines.specs.Rules.{rules_of};
-ghost use Rattle.rounds.specs.Runs.{Ran};
+ghost use Rattle.join.specs.Workspaces.{SameLent};
+ghost use Rattle.rounds.specs.Workspaces.{Runnable, Ran};
 ghost use Rattle.clean.specs.Replies.{cleaned};
-ghost use Rattle.clean.specs.Cleaning.{Loadable, Writable, ReplyWritten, Cleanable, Finishes};
-ghost use Rattle.lines.specs.Marks.{highs_of, lows_of};
+ghost use Rattle.clean.specs.Cleaning.{Writable, ReplyWritten, Cleanable, Finishes};
 
+use crate::tabled::Tables;
 use build::used::Size;
-use lines::marks::Marks;
+use join::Workspace;
 use lines::rules::Rules;
 use lines::texts::{Listing, Texts};
 use rounds::{Outcome, Tally, optimize};
@@ -25,33 +24,18 @@ pub struct Finished {
     pub cut: u64,
 }
 
-// Cleans a listing that was loaded into the tables, in which the texts are all in the tape; `marks` has the marks of its lines.
-fn optimized(
-    tape: &[u8],
-    area: &mut [u8],
-    tokens: &mut [u64],
-    lines: &mut [u64],
-    area2: &mut [u8],
-    marks: &mut [Marks],
-    size: Size,
-    rules: Rules,
-) -> Outcome
-    requires { Loadable tape.now area.old tokens.old lines.old area2.old (lows_of marks.old) (highs_of marks.old) size }
-    ensures { Ran (rules_of rules) tape.now area.old tokens.old lines.old (lows_of marks.old) (highs_of marks.old) size area.new
-        tokens.new lines.new (lows_of marks.new) (highs_of marks.new) result }
+// Cleans a listing that was loaded into the workspace, in which the texts are all in the tape.
+fn optimized(tape: &[u8], room: &mut Workspace<'_>, size: Size, rules: Rules) -> Outcome
+    requires { Runnable tape.now room.old size }
+    ensures ran { Ran (rules_of rules) tape.now room.old size room.new result }
+    ensures lent { SameLent room.old room.new }
 {
-    let mut tokens2 = [0u64; 2048];
-    let mut labels = [0u64; 256];
+    let mut labels = [0usize; 256];
     let mut slots = [0u8; 49152];
     let mut slot_words = [0u64; 1024];
     optimize(
         tape,
-        area,
-        tokens,
-        lines,
-        area2,
-        &mut tokens2,
-        marks,
+        room,
         &mut labels,
         &mut slots,
         &mut slot_words,
@@ -66,26 +50,23 @@ fn written(rules: Rules, tape: &[u8], area: &mut [u8], area2: &mut [u8], out: &m
     ensures { (input : reference.Listing) → read tape.now ≡ Passed input
         → ReplyWritten (cleaned (rules_of rules) tape.now input) out.old out.new result }
 {
-    let mut tokens = [0u64; 2048];
-    let mut lines = [0u64; 256];
-    let mut addresses = [0u64; 256];
-    let mut marks = [Marks { low: 0, high: 0 }; 256];
-    let loaded = tables::load(tape, &mut tokens, &mut lines, &mut addresses, &mut marks);
+    let mut own = Tables::<2048>::EMPTY;
+    let loaded = own.load(tape);
     let size = Size {
         lines: loaded.lines,
         tokens: loaded.tokens,
         text: 0,
     };
-    let r = optimized(
-        tape,
+    let mut tokens2 = [0u64; 2048];
+    let mut room = Workspace {
         area,
-        &mut tokens,
-        &mut lines,
+        tokens: &mut own.tokens,
+        lines: &mut own.lines,
         area2,
-        &mut marks,
-        size,
-        rules,
-    );
+        tokens2: &mut tokens2,
+        marks: &mut own.marks,
+    };
+    let r = optimized(tape, &mut room, size, rules);
     let Size {
         lines: n,
         tokens: used,
@@ -96,10 +77,10 @@ fn written(rules: Rules, tape: &[u8], area: &mut [u8], area2: &mut [u8], out: &m
             tape,
             area: &area[..text],
         },
-        tokens: &tokens[..used],
-        lines: &lines[..n],
+        tokens: &own.tokens[..used],
+        lines: &own.lines[..n],
     };
-    let length = tables::write(&listing, &addresses, &marks, out);
+    let length = tables::write(&listing, &own.addresses, &own.marks, out);
     Finished {
         length,
         tally: r.tally,

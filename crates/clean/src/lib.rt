@@ -4,6 +4,7 @@
 mod asking; // the question of the profile
 mod cleaning; // the whole cleaning of an accepted tape
 mod entry; // the questions, then the cleaning
+mod tabled; // the tables of a listing, in the frame of the function that fills them
 mod told; // what is told of the rounds, in numbers
 
 pub use cleaning::Finished;

@@ -2,6 +2,7 @@
 use rounds::Tally;
 
 // The attempts of each of three rounds, or the number of rounds and the attempts in all: the numbers of the other setting are 0.
+// Kept: the report of the C interface is filled from it, which has a place for each of the five; `Tally` is the enum that it is made from.
 #[derive(Clone, Copy, Default)]
 pub struct Told {
     pub first: u64,

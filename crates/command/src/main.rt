@@ -104,11 +104,14 @@ impl Call<'_> {
         }
     }
 
-    // The result of a call beside the cleaning: the front of its output.
-    fn deliver_front(&self, name: &[u8], out: &[u8], answer: Answer) -> Result<(), Refusal> {
-        let n = answer?;
+    // A call beside the cleaning: what it puts into a buffer of 131,072 bytes is delivered.
+    fn answered<F: FnOnce(&mut [u8]) -> Answer>(&self, name: &[u8], call: F) -> Result<(), Refusal>
+        requires { F.IsAlwaysCallable call }
+    {
+        let mut out = [0u8; 131072];
+        let n = call(&mut out)?;
         // Kept: an answer is a u64, as C has it; std has no `From` of it for usize, and the error of `try_from` cannot come: no plainer.
-        self.deliver(name, front(out, n as usize));
+        self.deliver(name, front(&out, n as usize));
         Ok(())
     }
 }
@@ -183,9 +186,9 @@ impl Call<'_> {
 
 // The page of a cleaning, to what is open, and whether all of it was written.
 fn put_whole(fd: i32, cleaning: &Cleaning) -> bool {
-    let mut sink = Sink { fd, done: true };
+    let mut sink = Sink { fd, sound: true };
     put_page(&mut sink, cleaning);
-    sink.done
+    sink.sound
 }
 
 // To standard output.
@@ -260,27 +263,21 @@ impl Call<'_> {
     }
 
     fn edition_one(&self, name: &[u8], tape: &[u8]) -> Result<(), Refusal> {
-        let mut out = [0u8; 131072];
-        let answer = match self.request.value {
-            Some(Value::Edition(0)) => editions::to_2018(tape, &mut out),
-            _ => editions::to_2024(tape, &mut out),
-        };
-        self.deliver_front(name, &out, answer)
+        match self.request.value {
+            Some(Value::Edition(0)) => self.answered(name, |out| editions::to_2018(tape, out)),
+            _ => self.answered(name, |out| editions::to_2024(tape, out)),
+        }
     }
 
     fn offsets_one(&self, name: &[u8], tape: &[u8]) -> Result<(), Refusal> {
         let Some(Value::Number(base)) = self.request.value else {
             return Ok(());
         };
-        let mut out = [0u8; 59146];
-        let answer = offsets::to_offsets(base, tape, &mut out);
-        self.deliver_front(name, &out, answer)
+        self.answered(name, |out| offsets::to_offsets(base, tape, out))
     }
 
     fn addresses_one(&self, name: &[u8], tape: &[u8]) -> Result<(), Refusal> {
-        let mut out = [0u8; 59146];
-        let answer = offsets::from_offsets(tape, &mut out);
-        self.deliver_front(name, &out, answer)
+        self.answered(name, |out| offsets::from_offsets(tape, out))
     }
 
     // A bare tape is shown up to the command that is wrong; nothing of it where its text has more than 262,144 bytes.
@@ -397,6 +394,7 @@ impl Call<'_> {
     }
 
     // Every operand is a file: the words are taken once more, and each that is an operand is done.
+    // Kept: counted by hand, as in `parse` of crate arguments, which says why.
     fn each_file(&self, verb: Verb) {
         let mut s = Request::begin();
         let mut left = self.words;
@@ -442,9 +440,7 @@ impl Call<'_> {
         let Some(Value::Number(n)) = self.request.value else {
             return;
         };
-        let mut out = [0u8; 59137];
-        let answer = laborious::laborious(n, &mut out);
-        if let Err(refused) = self.deliver_front(b"laborious", &out, answer) {
+        if let Err(refused) = self.answered(b"laborious", |out| laborious::laborious(n, out)) {
             tell_refusal(b"laborious", refused);
         }
     }
@@ -464,6 +460,7 @@ impl Call<'_> {
                 Some(Value::Verb(told)) => help::help(Some(told)),
                 _ => help::help(None),
             },
+            // Kept: the version's text, which the page of crate render has too: by one name the line's end here would be written by itself.
             Verb::Version | Verb::VersionOption => write_output(self.rt, b"puchkewa 0.15.0\n"),
         }
     }

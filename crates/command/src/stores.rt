@@ -5,6 +5,7 @@ use crate::{Call, print_decimal, tell_no_memory, tell_refusal};
 use answers::{Reason, Refusal};
 use arguments::{Action, Value};
 use std::io::{Error, ErrorKind};
+use tape::little_endian::number_at;
 use words::word_end;
 
 const STORE: usize = 524288;
@@ -29,13 +30,15 @@ fn print_state_name(rt: &HostRuntime, name: &[u8]) {
 }
 
 // One cell, if it is held: its name and the length of its tape.
+// Kept: read by its offsets: crate states offers the three calls of the C interface, and none that lists: a walk over its cells would be
+// public there for this one function.
 fn print_cell(rt: &HostRuntime, cell: &[u8]) {
     if cell.len() < 13 || cell[0] == 0 {
         return;
     }
     print_state_name(rt, &cell[1..9]);
     write_output(rt, b" ");
-    print_decimal(u64::from(u32::from_le_bytes([cell[9], cell[10], cell[11], cell[12]])));
+    print_decimal(number_at(cell, 9, 4));
     write_output(rt, b"\n");
 }
 
@@ -62,6 +65,8 @@ fn is_of_store(refused: Refusal) -> bool {
     )
 }
 
+// Kept: what is done, the path and the store are three parameters: one buffer is filled by the first of the methods and cut to its size for
+// the next, so that a struct of the three would be made twice.
 impl Call<'_> {
     fn save_state(&self, at: &[u8], store: &mut [u8], name: &[u8; 8], file: &[u8]) {
         let mut input = [0u8; 131072];
@@ -89,11 +94,7 @@ impl Call<'_> {
                 self.save_state(at, store, &name, file);
                 Ok(())
             }
-            Action::Get => {
-                let mut out = [0u8; 65523];
-                let answer = states::restore(store, &name, &mut out);
-                self.deliver_front(at, &out, answer)
-            }
+            Action::Get => self.answered(at, |out| states::restore(store, &name, out)),
             Action::Delete => {
                 states::delete(store, &name)?;
                 write_file(self.rt, at, store);

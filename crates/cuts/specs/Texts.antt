@@ -12,9 +12,6 @@ Cuttable t tokens lines labels = Cuts.Cuttable t.tape.now t.area.now tokens line
 abbrev pub labels_now : Texts → List ℕ → List ℕ → List ℕ → Labels
 labels_now t tokens lines labels = Cuts.labels_now t.tape.now t.area.now tokens lines labels
 
-abbrev pub dead_at : Rules → Texts → List ℕ → List ℕ → List ℕ → ℕ → Bool
-dead_at rules t tokens lines labels i = Cuts.dead_at rules t.tape.now t.area.now tokens lines labels i
-
 abbrev pub Dropped : Rules → Texts → List ℕ → List ℕ → List ℕ → ℕ → List ℕ → Bool → Type 0
 Dropped rules t tokens lines labels i lines' r = Cuts.Dropped rules t.tape.now t.area.now tokens lines labels i lines' r
 

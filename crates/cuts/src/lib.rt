@@ -2,20 +2,21 @@
 #![tactic(auto)]
 
 ghost use Rattle.std.specs.Prelude.{◌≡◌, ◌<◌, ◌≤◌, length};
-ghost use Rattle.reference.specs.Run.{drop_dead_results};
+ghost use Rattle.reference.specs.Run.{dead_result, drop_dead_results};
 ghost use Rattle.joining.specs.Rounds.{cuts};
 ghost use Rattle.lines.specs.Rules.{rules_of};
 ghost use Rattle.lines.specs.Lines.{Listed};
-ghost use Rattle.lines.specs.Texts.{Holds, tokens_of};
+ghost use Rattle.lines.specs.Texts.{Holds, bare_listing, tokens_of};
+ghost use Rattle.life.specs.Labels.{Labelled, labels_of};
 ghost use Rattle.cuts.specs.Cuts.{keeps_result};
-ghost use Rattle.cuts.specs.Texts.{Cuttable, labels_now, dead_at, Dropped, Cut};
+ghost use Rattle.cuts.specs.Texts.{Cuttable, labels_now, Dropped, Cut};
 
-use life::{Followed, dead_after, gather_labels};
+use life::{Followed, LabelledListing, dead_after, gather_labels};
 use lines::rules::Rules;
 use lines::texts::{Listing, Texts};
 use lines::{shapes, words};
 use names::RAX;
-use text::{is_assign, is_result_name};
+use text::{is_result_name, same};
 
 // Whether a line assigns the result of a call to rax or eax.
 #[tactic(auto, using(crate::proofs::Cutting::called_inside))]
@@ -25,43 +26,48 @@ fn keeps_result(texts: &Texts<'_>, line: &[u64]) -> bool
 {
     shapes::call_at(texts, line) == Some(2)
         && is_result_name(words::text(texts, line[0]))
-        && is_assign(words::text(texts, line[1]))
+        && same(words::text(texts, line[1]), b" = ")
 }
 
 // Whether line i assigns a result that is never read.
-fn is_dead_result(listing: &Listing<'_>, labels: &[u64], i: usize, rules: Rules) -> bool
-    requires { Cuttable listing.now.texts listing.now.tokens.now listing.now.lines.now labels.now × (i < length listing.now.lines.now) }
-    ensures { result ≡ dead_at (rules_of rules) listing.now.texts listing.now.tokens.now listing.now.lines.now labels.now i }
+fn is_dead_result(scope: &LabelledListing<'_>, i: usize, rules: Rules) -> bool
+    requires { Labelled scope.now × (i < length scope.now.listing.lines.now) }
+    ensures { result ≡ dead_result (rules_of rules) (labels_of scope.now) (bare_listing scope.now.listing) i }
 {
-    let l = listing.lines[i];
+    let l = scope.listing.lines[i];
     let v = Followed {
         family: RAX,
         indent: words::indent(l),
         start: i,
         rules,
     };
-    keeps_result(&listing.texts, words::line_of(listing.tokens, l))
-        && dead_after(listing, labels, i, v)
+    let line = words::line_of(scope.listing.tokens, l);
+    keeps_result(&scope.listing.texts, line) && dead_after(scope, i, v)
 }
 
 // Cuts the result of line i off, if it is never read, and says whether it is.
-fn drop_at(
-    texts: &Texts<'_>,
+// Kept: texts, tokens, lines and labels apart, here and below: the lines are written between two questions, so no `LabelledListing`, which
+// shares them, can be held over the writing; it is made anew for each question.
+fn drop_at<'a>(
+    texts: &Texts<'a>,
     tokens: &[u64],
     lines: &mut [u64],
-    labels: &[u64],
+    labels: &'a [usize],
     i: usize,
     rules: Rules,
 ) -> bool
     requires { Cuttable texts.now tokens.now lines.old labels.now × (i < length lines.old) }
     ensures { Dropped (rules_of rules) texts.now tokens.now lines.old labels.now i lines.new result }
 {
-    let listing = Listing {
-        texts: *texts,
-        tokens,
-        lines,
+    let scope = LabelledListing {
+        listing: Listing {
+            texts: *texts,
+            tokens,
+            lines,
+        },
+        labels,
     };
-    if !is_dead_result(&listing, labels, i, rules) {
+    if !is_dead_result(&scope, i, rules) {
         return false;
     }
     let l = lines[i];
@@ -70,11 +76,11 @@ fn drop_at(
 }
 
 // Cuts the dead results of all lines, in turn, the labels standing at these places, and says how many results that is.
-fn drop_results(
-    texts: &Texts<'_>,
+fn drop_results<'a>(
+    texts: &Texts<'a>,
     tokens: &[u64],
     lines: &mut [u64],
-    labels: &[u64],
+    labels: &'a [usize],
     rules: Rules,
 ) -> u64
     requires { Cuttable texts.now tokens.now lines.old labels.now }
@@ -95,7 +101,7 @@ pub fn drop_dead_results(
     texts: &Texts<'_>,
     tokens: &[u64],
     lines: &mut [u64],
-    labels: &mut [u64],
+    labels: &mut [usize],
     rules: Rules,
 ) -> u64
     requires { Listed texts.now.tape.now texts.now.area.now tokens.now lines.old × (length tokens.now ≤ 65536)
@@ -108,5 +114,6 @@ pub fn drop_dead_results(
         lines,
     };
     let known = gather_labels(&listing, labels);
-    drop_results(texts, tokens, lines, &labels[..known], rules)
+    // The texts are lent again, for as long as the labels.
+    drop_results(&*texts, tokens, lines, &labels[..known], rules)
 }

@@ -55,16 +55,11 @@ module _ (s : Text) {m : Bool} (e : m ≡ starts_with s (bytes "-")) where
   unfolding begins_binary let_some◌else◌then◌
   binary-plain f u = u ∙ sym (rw (no_prefix (bytes "-") s (sym e ∙ f)) refl)
 
-  pub minus-first : m ≡ true → 1 ≤ length s
-  minus-first t = starts_with_length s (bytes "-") (sym e ∙ t)
-
-  pub binary-minus : {x : Bool} → m ≡ true
-      → x ≡ (starts_with (take (length s - 1) (drop 1 s)) (bytes "0b") or starts_with (take (length s - 1) (drop 1 s)) (bytes "0B"))
+  pub binary-minus : {x : Bool} {r : Text} → m ≡ true → r ≡ drop 1 s → x ≡ (starts_with r (bytes "0b") or starts_with r (bytes "0B"))
       → x ≡ begins_binary s
-  binary-minus t u =
-      let whole : s ≡ bytes "-" ++ take (length s - 1) (drop 1 s) =
-      begins s (bytes "-") (sym e ∙ t) ∙ ap (bytes "-" ++◌) (sym (to_end 1 s)) in
-      u ∙ sym (ap begins_binary whole ∙ behind-minus (take (length s - 1) (drop 1 s)))
+  binary-minus {r = r} t d u =
+      let whole : s ≡ bytes "-" ++ r = begins s (bytes "-") (sym e ∙ t) ∙ ap (bytes "-" ++◌) (sym d) in
+      u ∙ sym (ap begins_binary whole ∙ behind-minus r)
 
 module _ (s : Text) {x : Bool} (e : x ≡ is_newer s) where
   pub older : x ≡ false → false ≡ has_no_older s

@@ -108,24 +108,16 @@ module _ (s : Text) {x : Bool} (e : x ≡ starts_with s (bytes "-")) where
   pub unsigned-put : {p p' : Cursor} → x ≡ false → Puts p (down_constant s) p' → Puts p (down_text s) p'
   unsigned-put f p = rw (down-plain s (sym e ∙ f)) p
 
-  module _ (t : x ≡ true) where
-    pub minus-fits : 1 ≤ length s
-    minus-fits = starts_with_length s (bytes "-") (sym e ∙ t)
-
-    behind : s ≡ bytes "-" ++ take (length s - 1) (drop 1 s)
-    behind = begins s (bytes "-") (sym e ∙ t) ∙ ap (bytes "-" ++◌) (sym (to_end 1 s))
+  module _ {r : Text} (t : x ≡ true) (d : r ≡ drop 1 s) where
+    behind : s ≡ bytes "-" ++ r
+    behind = begins s (bytes "-") (sym e ∙ t) ∙ ap (bytes "-" ++◌) (sym d)
 
     -- behind the minus there is room for the rest
-    pub signed-room : {p p' : Cursor} → Fits p (length s) → Puts p (45 ∷ []) p' → Fits p' (length (take (length s - 1) (drop 1 s)))
-    signed-room h w =
-        let e : length (take (length s - 1) (drop 1 s)) + 1 ≡ length s = rw to_end (omega (arith, length-drop 1 s, minus-fits)) in
-        room_left w _ (omega arith)
+    pub signed-room : {p p' : Cursor} → Fits p (length s) → Puts p (45 ∷ []) p' → Fits p' (length r)
+    signed-room h w = room_left w _ (omega (arith, h, ap length behind))
 
-    pub signed_ready : has_no_older s ≡ false → Ready (take (length s - 1) (drop 1 s))
-    signed_ready h = minus_ready (take (length s - 1) (drop 1 s)) (ap has_no_older (sym behind) ∙ h)
+    pub signed_ready : has_no_older s ≡ false → Ready r
+    signed_ready h = minus_ready r (ap has_no_older (sym behind) ∙ h)
 
-    pub signed-put : {p p' p'' : Cursor} → Fits p (length s) → Puts p (45 ∷ []) p' → Puts p' (down_constant (take (length s - 1) (drop 1 s))) p''
-        → Puts p (down_text s) p''
-    signed-put h w x =
-        let r : Text = take (length s - 1) (drop 1 s) in
-        puts_as (then_puts w (omega arith) x) (sym (ap down_text behind ∙ down-minus r))
+    pub signed-put : {p p' p'' : Cursor} → Fits p (length s) → Puts p (45 ∷ []) p' → Puts p' (down_constant r) p'' → Puts p (down_text s) p''
+    signed-put h w x = puts_as (then_puts w (omega (arith, h)) x) (sym (ap down_text behind ∙ down-minus r))

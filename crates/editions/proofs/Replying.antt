@@ -3,9 +3,9 @@ use Prim.Native.Nat.{ℕ, ◌<◌, ◌≤◌}
 use native.Mathlib.Omega.{arith}
 use mathlib.Core.Path.{◌≡◌, refl, sym, ap, ◌∙◌}
 use mathlib.Core.Bool.{Bool}
-use mathlib.Core.List.{List, []}
+use mathlib.Core.List.{List, [], ◌++◌}
 use mathlib.Core.Option.{none, some}
-use lib.ListN.{length}
+use lib.ListN.{length, drop}
 use lib.Seq.{paste}
 use borrow.Author.Tests.{le-leb, lt-leb}
 use Rattle.reference.specs.Control.{let_some◌else◌then◌}
@@ -18,7 +18,7 @@ use Rattle.reference.proofs.Tapes.{write_read}
 use Rattle.answers.specs.Answers.{Writes}
 use Rattle.tape.specs.Bytes.{Puts}
 use Rattle.tape.specs.Questions.{AcceptedTape}
-use Rattle.tape.proofs.little_endian.Bytes.{put_front, put_pasted}
+use Rattle.tape.proofs.little_endian.Bytes.{put_front}
 use Rattle.editions.specs.Conversion.{up_token, earns_12, earns_13, change, of_command, first_place, converted}
 use Rattle.editions.specs.Lowering.{Lowerable}
 use Rattle.editions.proofs.Listings.{change_same}
@@ -66,10 +66,10 @@ lowerable tape k e = record { accepted = k; nowhere = sym e }
 -- going up: the tape itself
 pub copied-up : (tape out : List ℕ) {out' : List ℕ} (k : AcceptedTape tape) → Bytes tape
     → none ≡ first_place (of_command earns_12) (length tape) tape 0
-    → out' ≡ paste out 0 tape (length tape) → Puts out 0 (write (change up_token k.listing) (marks_in tape)) out' (length tape)
+    → out' ≡ tape ++ drop (length tape) out → Puts out 0 (write (change up_token k.listing) (marks_in tape)) out' (length tape)
 copied-up tape out k b e p =
     let lines = k.listing in
     let kept : change up_token lines ≡ lines = change_same up_token earns_12 up_kept lines (clean earns_12 tape lines k.reads (sym e)) in
     let same : write (change up_token lines) (marks_in tape) ≡ tape =
     ap (λ (l : Listing). write l (marks_in tape)) kept ∙ write_read tape lines b k.reads in
-    rw same (record { holds = p ∙ put_pasted out 0 tape; ends = omega arith })
+    rw same (record { holds = p ∙ sym (put_front out tape); ends = omega arith })

@@ -8,9 +8,11 @@ ghost use Rattle.editions.specs.Conversion.{to_2018, to_2024};
 use crate::questions::first_place;
 use crate::writing::lower;
 use answers::{Answer, Reason};
-use text::copy_bytes;
 
 // Once the tape is read.
+// Kept: that the tape is accepted stands as a clause, here and of the walks, as in the other crates that go on with an accepted tape
+// (clean, sources, start, tables): a struct that says it would be crate tape's, made by `check` beside the totals, and is no plainer for
+// this crate alone.
 fn lowered(tape: &[u8], out: &mut [u8]) -> Answer
     requires { AcceptedTape tape.now × (length tape.now ≤ length out.old) }
     ensures { Writes (to_2018 tape.now (length out.old)) out.old out.new (answer_of result) }
@@ -29,7 +31,7 @@ fn raised(tape: &[u8], out: &mut [u8]) -> Answer
     match first_place::<true>(tape) {
         Some(place) => Err(Reason::NewKeyword.at(place)),
         None => {
-            copy_bytes(tape, out, 0);
+            out[..tape.len()].copy_from_slice(tape);
             // Kept: there is no `From` from usize to u64, and `try_from` has a branch that no length takes.
             Ok(tape.len() as u64)
         }
@@ -37,6 +39,7 @@ fn raised(tape: &[u8], out: &mut [u8]) -> Answer
 }
 
 // From the 2024 edition down to the 2018 edition.
+// Kept: the two calls share four lines: with the direction as a const parameter each of the two would be one function more: no plainer.
 pub fn to_2018(tape: &[u8], out: &mut [u8]) -> Answer
     ensures { Writes (to_2018 tape.now (length out.old)) out.old out.new (answer_of result) }
 {

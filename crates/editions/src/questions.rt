@@ -14,7 +14,6 @@ use lines::words::{NUMBER, SYMBOL};
 use numbers::{begins_binary, read_number};
 use tape::commands::{Command, size_of};
 use tape::reader::token_text;
-use text::begins_minus;
 use walk::next_at;
 
 // ---- one text
@@ -23,10 +22,9 @@ use walk::next_at;
 fn is_binary(s: &[u8]) -> bool
     ensures { result ≡ begins_binary s.now }
 {
-    if begins_minus(s) {
-        begins_binary(&s[1..])
-    } else {
-        begins_binary(s)
+    match s.strip_prefix(b"-") {
+        Some(rest) => begins_binary(rest),
+        None => begins_binary(s),
     }
 }
 
@@ -95,6 +93,8 @@ fn command_earns<const UP: bool>(tape: &[u8], at: usize, command: Command) -> bo
 // ---- the whole tape
 
 // The leftmost command that earns 12 going up, or 13 going down.
+// Kept: a walk by offsets, since the place of a command is asked: over `Commands` of crate walk it would be counted from how much is left
+// (`as_bytes`) before each turn: no plainer.
 pub fn first_place<const UP: bool>(tape: &[u8]) -> Option<usize>
     requires { AcceptedTape tape.now }
     ensures { option_of result ≡ leftmost UP tape.now }

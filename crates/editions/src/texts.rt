@@ -7,7 +7,7 @@ ghost use Rattle.editions.specs.Numbers.{without_quotes, down_constant, down_tex
 ghost use Rattle.editions.specs.Lowering.{Ready};
 
 use numbers::{MOST, begins_binary, put_digits, row};
-use text::{Cursor, begins_minus};
+use text::Cursor;
 
 const QUOTE: u8 = b'\'';
 
@@ -45,6 +45,7 @@ fn put_constant(s: &[u8], out: &mut Cursor)
     requires { Ready s.now × Fits out.old (length s.now) }
     ensures { Puts out.old (down_constant s.now) out.new }
 {
+    // Kept: the two bytes are tested, then cut off: they are `0b` or `0B`, and `strip_prefix` takes one prefix.
     if !begins_binary(s) {
         put_unquoted(s, out);
     } else if let Some(n) = row(&s[2..], 2, MOST) {
@@ -57,9 +58,11 @@ pub fn put_down(s: &[u8], out: &mut Cursor)
     requires { (has_no_older s.now ≡ false) × Fits out.old (length s.now) }
     ensures { Puts out.old (down_text s.now) out.new }
 {
-    if !begins_minus(s) {
-        return put_constant(s, out);
+    match s.strip_prefix(b"-") {
+        Some(rest) => {
+            out.put_byte(b'-');
+            put_constant(rest, out);
+        }
+        None => put_constant(s, out),
     }
-    out.put_byte(b'-');
-    put_constant(&s[1..], out);
 }

@@ -45,6 +45,8 @@ fn put_command(tape: &[u8], at: usize, command: Command, out: &mut Cursor)
 }
 
 // Writes the tape gone down to the front of `out`, and says how long it is. No command of it earns 13.
+// Kept: a walk by offsets, since commands are copied from where they stand: over `Commands` of crate walk each would be cut out of what is
+// left before and after it (`as_bytes`): no plainer.
 pub fn lower(tape: &[u8], out: &mut [u8]) -> usize
     requires { Lowerable tape.now × (length tape.now ≤ length out.old) }
     ensures { (lines : Listing) → read tape.now ≡ Passed lines

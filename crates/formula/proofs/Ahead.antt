@@ -28,37 +28,37 @@ behind_one c t xs (a_register x w e) = rw e
 behind_one c t xs (a_number z w n e) = rw e
 behind_one c t xs (a_junk w n e) = rw e
 
-module _ (tape : Text) (line : List ℕ) {o : Option (List Lexeme)} where
-  pub leads_nowhere : o ≡ none → Leads tape line o std.None
+module _ (tape area : Text) (line : List ℕ) {o : Option (List Lexeme)} where
+  pub leads_nowhere : o ≡ none → Leads tape area line o std.None
   leads_nowhere e = record { is = sym e; placed = λ p q. cc }
 
-  pub leads_to : (p : Place) → o ≡ some (left (tokens_of tape tape line) p.token p.byte) → Placed line p.token p.byte → Leads tape line o (std.Some p)
+  pub leads_to : (p : Place) → o ≡ some (left (tokens_of tape area line) p.token p.byte) → Placed line p.token p.byte → Leads tape area line o (std.Some p)
   leads_to p e h = record { is = sym e; placed = same }
     where
       same : (u : Place) → std.Some p ≡ std.Some u → Placed line u.token u.byte
       same u q = let x : p ≡ u = cc in rw (← x) h
 
-module _ (tape : Text) (line : List ℕ) (h : Readable tape line) (k b : ℕ) (p : Placed line k b) where
-  pub byte_past : (c : ℕ) → length line ≤ k → Leads tape line (behind (c ∷ []) (left (tokens_of tape tape line) k b)) std.None
+module _ (tape area : Text) (line : List ℕ) (h : Readable tape area line) (k b : ℕ) (p : Placed line k b) where
+  pub byte_past : (c : ℕ) → length line ≤ k → Leads tape area line (behind (c ∷ []) (left (tokens_of tape area line) k b)) std.None
   unfolding behind
-  byte_past c l = leads_nowhere tape line (ap (behind (c ∷ [])) (left_end tape line k b l))
+  byte_past c l = leads_nowhere tape area line (ap (behind (c ∷ [])) (left_end tape area line k b l))
 
   module _ (l : k < length line) {x : ℕ} (ex : x ≡ kind_of (get_or line k 0)) where
-    pub byte_other : (c : ℕ) → (x ≡ Punct → ⊥) → Leads tape line (behind (c ∷ []) (left (tokens_of tape tape line) k b)) std.None
+    pub byte_other : (c : ℕ) → (x ≡ Punct → ⊥) → Leads tape area line (behind (c ∷ []) (left (tokens_of tape area line) k b)) std.None
     byte_other c n =
         let m : kind_of (get_or line k 0) ≡ Punct → ⊥ = λ e. n (ex ∙ e) in
-        leads_nowhere tape line
-        (ap (behind (c ∷ [])) (left_other tape line k l m b (p l)) ∙ behind_one c (token_of tape tape (get_or line k 0)) _ (one_of _ (no_punct tape line k l m)))
+        leads_nowhere tape area line
+        (ap (behind (c ∷ [])) (left_other tape area line k l m b (p l)) ∙ behind_one c (token_of tape area (get_or line k 0)) _ (one_of _ (no_punct tape area line k l m)))
 
-    module _ (ep : x ≡ Punct) {s : Text} (es : s ≡ text_of tape tape (get_or line k 0)) where
-      points : Points tape tape (get_or line k 0)
+    module _ (ep : x ≡ Punct) {s : Text} (es : s ≡ text_of tape area (get_or line k 0)) where
+      points : Points tape area (get_or line k 0)
       points = h.holds.at k l
 
       kind : kind_of (get_or line k 0) ≡ Punct
       kind = sym ex ∙ ep
 
       inside : b < len_of (get_or line k 0)
-      inside = omega (arith, p l, size_punct tape line k l points kind)
+      inside = omega (arith, p l, size_punct tape area line k l points kind)
 
       pub byte_inside : b < length s
       byte_inside = rw es (omega (arith, inside, text_length points))
@@ -66,23 +66,23 @@ module _ (tape : Text) (line : List ℕ) (h : Readable tape line) (k b : ℕ) (p
       pub byte_short : b < 65536
       byte_short = omega (arith, inside, len_below (get_or line k 0))
 
-      found : (c : ℕ) → behind (c ∷ []) (left (tokens_of tape tape line) k b) ≡ (when eqb (get_or s b 0) c then some (left (tokens_of tape tape line) k (b + 1)) else none)
-      found c = ap (behind (c ∷ [])) (left_sign tape line k l points kind b inside) ∙ behind-sign c _ _ ∙ rw es refl
+      found : (c : ℕ) → behind (c ∷ []) (left (tokens_of tape area line) k b) ≡ (when eqb (get_or s b 0) c then some (left (tokens_of tape area line) k (b + 1)) else none)
+      found c = ap (behind (c ∷ [])) (left_sign tape area line k l points kind b inside) ∙ behind-sign c _ _ ∙ rw es refl
 
-      pub byte_differs : (c : ℕ) → (get_or s b 0 ≡ c → ⊥) → Leads tape line (behind (c ∷ []) (left (tokens_of tape tape line) k b)) std.None
-      byte_differs c n = leads_nowhere tape line (found c ∙ if-false _ _ (ne_eqb _ _ n))
+      pub byte_differs : (c : ℕ) → (get_or s b 0 ≡ c → ⊥) → Leads tape area line (behind (c ∷ []) (left (tokens_of tape area line) k b)) std.None
+      byte_differs c n = leads_nowhere tape area line (found c ∙ if-false _ _ (ne_eqb _ _ n))
 
-      pub byte_more : (c : ℕ) → get_or s b 0 ≡ c → b + 1 < length s → Leads tape line (behind (c ∷ []) (left (tokens_of tape tape line) k b)) (std.Some (record { token = k; byte = b + 1 }))
+      pub byte_more : (c : ℕ) → get_or s b 0 ≡ c → b + 1 < length s → Leads tape area line (behind (c ∷ []) (left (tokens_of tape area line) k b)) (std.Some (record { token = k; byte = b + 1 }))
       byte_more c e m =
-          leads_to tape line (record { token = k; byte = b + 1 }) (found c ∙ if-true _ _ (eq-eqb _ _ e))
-          (λ q. omega (arith, size_punct tape line k l points kind, text_length points, rw es at m))
+          leads_to tape area line (record { token = k; byte = b + 1 }) (found c ∙ if-true _ _ (eq-eqb _ _ e))
+          (λ q. omega (arith, size_punct tape area line k l points kind, text_length points, rw es at m))
 
-      pub byte_last : (c : ℕ) → get_or s b 0 ≡ c → length s ≤ b + 1 → Leads tape line (behind (c ∷ []) (left (tokens_of tape tape line) k b)) (std.Some (record { token = k + 1; byte = 0 }))
+      pub byte_last : (c : ℕ) → get_or s b 0 ≡ c → length s ≤ b + 1 → Leads tape area line (behind (c ∷ []) (left (tokens_of tape area line) k b)) (std.Some (record { token = k + 1; byte = 0 }))
       byte_last c e m =
-          leads_to tape line (record { token = k + 1; byte = 0 })
+          leads_to tape area line (record { token = k + 1; byte = 0 })
           (found c ∙ if-true _ _ (eq-eqb _ _ e)
-          ∙ ap (λ (r : List Lexeme). some r) (left_over tape line k l points kind (b + 1) (omega (arith, text_length points, rw es at m))))
-          (placed-whole tape line h (k + 1))
+          ∙ ap (λ (r : List Lexeme). some r) (left_over tape area line k l points kind (b + 1) (omega (arith, text_length points, rw es at m))))
+          (placed-whole tape area line h (k + 1))
 
 -- ---- a text
 
@@ -98,57 +98,57 @@ behind_two c cs (sign b ∷ xs) = go (eqb b c)
     go true = unfold when◌then◌else◌ in refl
     go false = unfold when◌then◌else◌ in refl
 
-module _ (tape : Text) (line t : List ℕ) (p : Place) (i : ℕ) {o : Option (List Lexeme)} (inv : o ≡ behind (drop i t) (left (tokens_of tape tape line) p.token p.byte)) where
-  pub text_over : length t ≤ i → Placed line p.token p.byte → Leads tape line o (std.Some p)
+module _ (tape area : Text) (line t : List ℕ) (p : Place) (i : ℕ) {o : Option (List Lexeme)} (inv : o ≡ behind (drop i t) (left (tokens_of tape area line) p.token p.byte)) where
+  pub text_over : length t ≤ i → Placed line p.token p.byte → Leads tape area line o (std.Some p)
   unfolding behind
-  text_over l h = leads_to tape line p (inv ∙ ap (λ (r : Text). behind r (left (tokens_of tape tape line) p.token p.byte)) (drop_past i t l)) h
+  text_over l h = leads_to tape area line p (inv ∙ ap (λ (r : Text). behind r (left (tokens_of tape area line) p.token p.byte)) (drop_past i t l)) h
 
-  module _ (l : i < length t) {r : std.Option Place} (q : Leads tape line (behind (get_or t i 0 ∷ []) (left (tokens_of tape tape line) p.token p.byte)) r) where
-    here : o ≡ (let_some (ahead_of (tokens_of tape tape line) r) else none then λ xs. behind (drop (i + 1) t) xs)
+  module _ (l : i < length t) {r : std.Option Place} (q : Leads tape area line (behind (get_or t i 0 ∷ []) (left (tokens_of tape area line) p.token p.byte)) r) where
+    here : o ≡ (let_some (ahead_of (tokens_of tape area line) r) else none then λ xs. behind (drop (i + 1) t) xs)
     here =
         inv
-        ∙ ap (λ (s : Text). behind s (left (tokens_of tape tape line) p.token p.byte)) (drop-cons t i 0 l)
-        ∙ behind_two (get_or t i 0) (drop (suc i) t) (left (tokens_of tape tape line) p.token p.byte)
+        ∙ ap (λ (s : Text). behind s (left (tokens_of tape area line) p.token p.byte)) (drop-cons t i 0 l)
+        ∙ behind_two (get_or t i 0) (drop (suc i) t) (left (tokens_of tape area line) p.token p.byte)
         ∙ rw (← q.is, add-one i) refl
 
-    pub text_fails : r ≡ std.None → Leads tape line o std.None
+    pub text_fails : r ≡ std.None → Leads tape area line o std.None
     unfolding let_some◌else◌then◌
-    text_fails e = leads_nowhere tape line (here ∙ rw e refl)
+    text_fails e = leads_nowhere tape area line (here ∙ rw e refl)
 
-    pub text_goes : (u : Place) → r ≡ std.Some u → o ≡ behind (drop (i + 1) t) (left (tokens_of tape tape line) u.token u.byte)
+    pub text_goes : (u : Place) → r ≡ std.Some u → o ≡ behind (drop (i + 1) t) (left (tokens_of tape area line) u.token u.byte)
     unfolding let_some◌else◌then◌
     text_goes u e = here ∙ rw e refl
 
-pub leads_placed : {tape : Text} {line : List ℕ} {o : Option (List Lexeme)} {r : std.Option Place} (p : Place) → Leads tape line o r → r ≡ std.Some p → Placed line p.token p.byte
+pub leads_placed : {tape area : Text} {line : List ℕ} {o : Option (List Lexeme)} {r : std.Option Place} (p : Place) → Leads tape area line o r → r ≡ std.Some p → Placed line p.token p.byte
 leads_placed p q e = q.placed p e
 
 -- what an answer leads to
-pub leads_some : {tape : Text} {line : List ℕ} {o : Option (List Lexeme)} {r : std.Option Place} (p : Place) → Leads tape line o r → r ≡ std.Some p
-    → o ≡ some (left (tokens_of tape tape line) p.token p.byte)
-leads_some {tape} {line} p q e = sym q.is ∙ ap (ahead_of (tokens_of tape tape line)) e
+pub leads_some : {tape area : Text} {line : List ℕ} {o : Option (List Lexeme)} {r : std.Option Place} (p : Place) → Leads tape area line o r → r ≡ std.Some p
+    → o ≡ some (left (tokens_of tape area line) p.token p.byte)
+leads_some {tape} {area} {line} p q e = sym q.is ∙ ap (ahead_of (tokens_of tape area line)) e
 
-pub leads_none : {tape : Text} {line : List ℕ} {o : Option (List Lexeme)} {r : std.Option Place} → Leads tape line o r → r ≡ std.None → o ≡ none
-leads_none {tape} {line} q e = sym q.is ∙ ap (ahead_of (tokens_of tape tape line)) e
+pub leads_none : {tape area : Text} {line : List ℕ} {o : Option (List Lexeme)} {r : std.Option Place} → Leads tape area line o r → r ≡ std.None → o ≡ none
+leads_none {tape} {area} {line} q e = sym q.is ∙ ap (ahead_of (tokens_of tape area line)) e
 
 -- ---- operators
 
-module _ (tape : Text) (line : List ℕ) (xs : List Lexeme) {r : std.Option Place} (q : Leads tape line (behind (bytes " + ") xs) r) where
-  operates : (s : Sign) (p : Place) → operator xs ≡ some (operator_of s, left (tokens_of tape tape line) p.token p.byte) → Placed line p.token p.byte
-      → Operates tape line (operator xs) (std.Some (record { sign = s; place = p }))
+module _ (tape area : Text) (line : List ℕ) (xs : List Lexeme) {r : std.Option Place} (q : Leads tape area line (behind (bytes " + ") xs) r) where
+  operates : (s : Sign) (p : Place) → operator xs ≡ some (operator_of s, left (tokens_of tape area line) p.token p.byte) → Placed line p.token p.byte
+      → Operates tape area line (operator xs) (std.Some (record { sign = s; place = p }))
   operates s p e h = record { is = sym e; placed = same }
     where
       same : (u : Operation) → std.Some (record { sign = s; place = p }) ≡ std.Some u → Placed line u.place.token u.place.byte
       same u f = let x : record { sign = s; place = p } ≡ u = cc in rw (← x) h
 
-  pub operator-adds : (p : Place) → r ≡ std.Some p → Operates tape line (operator xs) (std.Some (record { sign = Plus; place = p }))
+  pub operator-adds : (p : Place) → r ≡ std.Some p → Operates tape area line (operator xs) (std.Some (record { sign = Plus; place = p }))
   unfolding operator let_some◌else◌then◌
   operator-adds p e = operates Plus p (rw (leads_some p q e) refl) (q.placed p e)
 
-  module _ (e : r ≡ std.None) {s : std.Option Place} (z : Leads tape line (behind (bytes " - ") xs) s) where
-    pub operator-takes : (p : Place) → s ≡ std.Some p → Operates tape line (operator xs) (std.Some (record { sign = Minus; place = p }))
+  module _ (e : r ≡ std.None) {s : std.Option Place} (z : Leads tape area line (behind (bytes " - ") xs) s) where
+    pub operator-takes : (p : Place) → s ≡ std.Some p → Operates tape area line (operator xs) (std.Some (record { sign = Minus; place = p }))
     unfolding operator let_some◌else◌then◌
     operator-takes p f = operates Minus p (rw (leads_none q e, leads_some p z f) refl) (z.placed p f)
 
-    pub operator_none : s ≡ std.None → Operates tape line (operator xs) std.None
+    pub operator_none : s ≡ std.None → Operates tape area line (operator xs) std.None
     unfolding operator let_some◌else◌then◌
     operator_none f = record { is = sym (rw (leads_none q e, leads_none z f) refl); placed = λ p g. cc }

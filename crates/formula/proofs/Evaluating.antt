@@ -1,5 +1,5 @@
 -- The answers of `term` and `expression`, case by case. Assumes nothing.
-use Rattle.std.proofs.Common.{◌≡◌, ℕ, ◌+◌, ◌*◌, ◌<◌, ◌≤◌, Bool, true, false, eqb, List, ◌∷◌, ◌++◌, length, get_or, ℤ, sym, refl, ap, ◌∙◌, arith}
+use Rattle.std.proofs.Common.{◌≡◌, ℕ, ◌+◌, ◌<◌, ◌≤◌, Bool, true, false, eqb, List, ◌∷◌, ◌++◌, length, get_or, ℤ, sym, refl, ap, ◌∙◌, arith}
 use mathlib.Core.Bool.{false≢true}
 use Rattle.std.specs.Prelude as std
 use mathlib.Core.Option.{Option, none, some}
@@ -13,19 +13,20 @@ use Rattle.straight.proofs.Enough.{behind-length, operator-shorter, expression_o
 use Rattle.lines.specs.Words.{kind_of, token_of, tokens_of, Points}
 use Rattle.formula.specs.Places.{left, Placed, Readable, Leads, operator_of, operated_of, Operates}
 use Rattle.formula.specs.Terms.{is_junk, has_junk}
-use Rattle.formula.specs.Values.{Pair, pairs, joined, pair_at, no_token, Valued, told, pair_of, worth_of, Worths, Term, Expression}
+use Rattle.formula.specs.Values.{Pair, pairs, joined, pair_at, no_token, Valued, Worth, numbers_of, pair_of, worth_of, Worths, Term, Expression}
 use Rattle.formula.specs.declared.places.Place.{Place}
 use Rattle.formula.specs.declared.places.Sign.{Sign}
 use Rattle.formula.specs.declared.places.Sign.TheVariants.{Plus, Minus}
 use Rattle.formula.specs.declared.places.Operation.{Operation}
+use Rattle.formula.specs.declared.evaluators.Pair.{Pair as Held}
 use Rattle.formula.specs.declared.evaluators.Value.{Value}
 use Rattle.formula.proofs.Left.{left_end, left_sign, size_punct, left_other, no_punct, token_at, One, a_register, a_number, a_junk, one_of, placed-whole}
 use Rattle.formula.proofs.Ahead.{leads_some, leads_none}
 use Rattle.formula.proofs.Junk.{no_junk_at}
 
 -- a value, and the place before the token k
-abbrev pub before_token : ℕ → ℕ → ℕ → Value
-before_token m c k = record { multiplier = m; constant = c; place = record { token = k; byte = 0 } }
+abbrev pub before_token : Held → ℕ → Value
+before_token p k = record { pair = p; place = record { token = k; byte = 0 } }
 
 -- ---- a term behind a bracket
 
@@ -47,34 +48,31 @@ module _ (number : ℤ → Pair) (σ : Text → Pair) where
 
 -- ---- an expression on the way: where it began, the sum so far, how the next term joins it, and the place of that term
 
-pub record Joining (tape : Text) (line values : List ℕ) (k₀ b₀ : ℕ) (how : std.Option Sign) (m c k b : ℕ) : Type 0 where
-  pub is : (number : ℤ → Pair) (σ : Text → Pair) → Valued number σ (tokens_of tape tape line) values
-      → expression_of (pairs number) σ (left (tokens_of tape tape line) k₀ b₀)
-      ≡ (let_some (term_of (pairs number) σ (left (tokens_of tape tape line) k b)) else none then λ r.
+pub record Joining (tape area : Text) (line : List ℕ) (values : List Held) (k₀ b₀ : ℕ) (how : std.Option Sign) (m c k b : ℕ) : Type 0 where
+  pub is : (number : ℤ → Pair) (σ : Text → Pair) → Valued number σ (tokens_of tape area line) values
+      → expression_of (pairs number) σ (left (tokens_of tape area line) k₀ b₀)
+      ≡ (let_some (term_of (pairs number) σ (left (tokens_of tape area line) k b)) else none then λ r.
       further_of (pairs number) σ (joined how m r.0.0, joined how c r.0.1) r.1)
 
-module _ (tape : Text) (line values : List ℕ) where
+module _ (tape area : Text) (line : List ℕ) (values : List Held) where
   abbrev ts : List Token
-  ts = tokens_of tape tape line
+  ts = tokens_of tape area line
 
   -- ---- answers
 
   module _ {xs : List Lexeme} {f : Arithmetic Pair → (Text → Pair) → ℕ → List Lexeme → Option (Pair × List Lexeme)} where
-    breaks_by : (out : Value)
-        → ((number : ℤ → Pair) (σ : Text → Pair) → Valued number σ ts values → f (pairs number) σ (fuel_for xs) xs ≡ none) → Worths tape line values xs f (told false out)
-    unfolding told
-    breaks_by out h =
+    breaks_by : ((number : ℤ → Pair) (σ : Text → Pair) → Valued number σ ts values → f (pairs number) σ (fuel_for xs) xs ≡ none) → Worths tape area line values xs f std.None
+    breaks_by h =
         record {
           is = λ number σ v. sym (h number σ v);
           placed = λ u e. cc;
           shorter = λ u e. cc;
         }
 
-    worth_by : {out : Value} (v : Value) → out ≡ v
+    worth_by : (v : Value)
         → ((number : ℤ → Pair) (σ : Text → Pair) → Valued number σ ts values → f (pairs number) σ (fuel_for xs) xs ≡ some (pair_of v, left ts v.place.token v.place.byte))
-        → Placed line v.place.token v.place.byte → length (left ts v.place.token v.place.byte) < length xs → Worths tape line values xs f (told true out)
-    unfolding told
-    worth_by v e h p l = rw e (record { is = λ number σ w. sym (h number σ w); placed = same; shorter = less })
+        → Placed line v.place.token v.place.byte → length (left ts v.place.token v.place.byte) < length xs → Worths tape area line values xs f (std.Some v)
+    worth_by v h p l = record { is = λ number σ w. sym (h number σ w); placed = same; shorter = less }
       where
         same : (u : Value) → std.Some v ≡ std.Some u → Placed line u.place.token u.place.byte
         same u f = let x : v ≡ u = cc in rw (← x) p
@@ -82,78 +80,73 @@ module _ (tape : Text) (line values : List ℕ) where
         less : (u : Value) → std.Some v ≡ std.Some u → length (left ts u.place.token u.place.byte) < length xs
         less u f = let x : v ≡ u = cc in rw (← x) l
 
-    module _ {y : Bool} (out : Value) (q : Worths tape line values xs f (told y out)) where
-      pub worth_none : y ≡ false → (number : ℤ → Pair) (σ : Text → Pair) → Valued number σ ts values → f (pairs number) σ (fuel_for xs) xs ≡ none
-      unfolding told
-      worth_none e number σ v = sym (q.is number σ v) ∙ ap (λ (x : Bool). worth_of ts (told x out)) e
+    module _ {y : Worth} (q : Worths tape area line values xs f y) where
+      pub worth_none : y ≡ std.None → (number : ℤ → Pair) (σ : Text → Pair) → Valued number σ ts values → f (pairs number) σ (fuel_for xs) xs ≡ none
+      worth_none e number σ v = sym (q.is number σ v) ∙ ap (worth_of ts) e
 
-      module _ (e : y ≡ true) where
-        so : told y out ≡ std.Some out
-        unfolding told
-        so = ap (λ (x : Bool). told x out) e
-
+      module _ (out : Value) (e : y ≡ std.Some out) where
         pub worth_some : (number : ℤ → Pair) (σ : Text → Pair) → Valued number σ ts values
-            → f (pairs number) σ (fuel_for xs) xs ≡ some ((out.multiplier, out.constant), left ts out.place.token out.place.byte)
-        worth_some number σ v = sym (q.is number σ v) ∙ ap (worth_of ts) so
+            → f (pairs number) σ (fuel_for xs) xs ≡ some ((out.pair.multiplier, out.pair.constant), left ts out.place.token out.place.byte)
+        worth_some number σ v = sym (q.is number σ v) ∙ ap (worth_of ts) e
 
         pub worth-placed : Placed line out.place.token out.place.byte
-        worth-placed = q.placed _ so
+        worth-placed = q.placed out e
 
         worth-shorter : length (left ts out.place.token out.place.byte) < length xs
-        worth-shorter = q.shorter _ so
+        worth-shorter = q.shorter out e
 
   -- ---- a term
 
-  module _ (h : Readable tape line) (k b : ℕ) (p : Placed line k b) where
-    pub term_past : (out : Value) → length line ≤ k → Term tape line values k b (told false out)
-    term_past out l = breaks_by out (λ number σ v. ap (term_of (pairs number) σ) (left_end tape line k b l) ∙ term_none (pairs number) σ)
+  module _ (h : Readable tape area line) (k b : ℕ) (p : Placed line k b) where
+    pub term_past : length line ≤ k → Term tape area line values k b std.None
+    term_past l = breaks_by (λ number σ v. ap (term_of (pairs number) σ) (left_end tape area line k b l) ∙ term_none (pairs number) σ)
 
     module _ (l : k < length line) {x : ℕ} (ex : x ≡ kind_of (get_or line k 0)) where
       -- another token than a Punct
-      pub term-worth : (x ≡ Punct → ⊥) → has_junk tape line ≡ false → {m c : ℕ} {out : Value} → m ≡ get_or values (2 * k) 0 → c ≡ get_or values (2 * k + 1) 0
-          → out ≡ before_token m c (k + 1) → Term tape line values k b (told true out)
-      term-worth n free {m} {c} em ec eo =
-          worth_by (before_token m c (k + 1)) eo (λ number σ v. ap (term_of (pairs number) σ) whole ∙ go number σ v one) (placed-whole tape line h (k + 1)) fewer
+      pub term-worth : (x ≡ Punct → ⊥) → has_junk tape area line ≡ false → {u : Held} → numbers_of u ≡ pair_at values k
+          → Term tape area line values k b (std.Some (before_token u (k + 1)))
+      term-worth n free {u} eu =
+          worth_by (before_token u (k + 1)) (λ number σ v. ap (term_of (pairs number) σ) whole ∙ go number σ v one) (placed-whole tape area line h (k + 1)) fewer
         where
           other : kind_of (get_or line k 0) ≡ Punct → ⊥
           other e = n (ex ∙ e)
 
-          whole : left ts k b ≡ lexemes_of (token_of tape tape (get_or line k 0)) ++ left ts (k + 1) 0
-          whole = left_other tape line k l other b (p l)
+          whole : left ts k b ≡ lexemes_of (token_of tape area (get_or line k 0)) ++ left ts (k + 1) 0
+          whole = left_other tape area line k l other b (p l)
 
-          one : One (token_of tape tape (get_or line k 0))
-          one = one_of (token_of tape tape (get_or line k 0)) (no_punct tape line k l other)
+          one : One (token_of tape area (get_or line k 0))
+          one = one_of (token_of tape area (get_or line k 0)) (no_punct tape area line k l other)
 
           fewer : length (left ts (k + 1) 0) < length (left ts k b)
           fewer = rw whole (size one)
             where
-              size : One (token_of tape tape (get_or line k 0)) → length (left ts (k + 1) 0) < length (lexemes_of (token_of tape tape (get_or line k 0)) ++ left ts (k + 1) 0)
+              size : One (token_of tape area (get_or line k 0)) → length (left ts (k + 1) 0) < length (lexemes_of (token_of tape area (get_or line k 0)) ++ left ts (k + 1) 0)
               size (a_register z w e) = rw e (omega arith)
               size (a_number z w n e) = rw e (omega arith)
               size (a_junk w n e) = rw e (omega arith)
 
           long : k < length ts
-          long = omega (arith, length-map line (token_of tape tape))
+          long = omega (arith, length-map line (token_of tape area))
 
-          pair : pair_at values k ≡ (m, c)
-          pair = rw (em, ec) refl
+          pair : pair_at values k ≡ numbers_of u
+          pair = sym eu
 
-          go : (number : ℤ → Pair) (σ : Text → Pair) → Valued number σ ts values → One (token_of tape tape (get_or line k 0))
-              → term_of (pairs number) σ (lexemes_of (token_of tape tape (get_or line k 0)) ++ left ts (k + 1) 0) ≡ some ((m, c), left ts (k + 1) 0)
+          go : (number : ℤ → Pair) (σ : Text → Pair) → Valued number σ ts values → One (token_of tape area (get_or line k 0))
+              → term_of (pairs number) σ (lexemes_of (token_of tape area (get_or line k 0)) ++ left ts (k + 1) 0) ≡ some (numbers_of u, left ts (k + 1) 0)
           go number σ v (a_register z w e) =
               ap (λ (r : List Lexeme). term_of (pairs number) σ (r ++ left ts (k + 1) 0)) e ∙ term-register (pairs number) σ z (left ts (k + 1) 0)
-              ∙ ap (λ (q : Pair). some (q, left ts (k + 1) 0)) (sym (v.register k z long (ap wide (token_at tape line k l no_token) ∙ w)) ∙ pair)
+              ∙ ap (λ (q : Pair). some (q, left ts (k + 1) 0)) (sym (v.register k z long (ap wide (token_at tape area line k l no_token) ∙ w)) ∙ pair)
           go number σ v (a_number z w n e) =
               ap (λ (r : List Lexeme). term_of (pairs number) σ (r ++ left ts (k + 1) 0)) e ∙ term_number (pairs number) σ z (left ts (k + 1) 0)
-              ∙ ap (λ (q : Pair). some (q, left ts (k + 1) 0)) (sym (v.number_is k z long (ap number_of (token_at tape line k l no_token) ∙ n)) ∙ pair)
-          go number σ v (a_junk w n e) = absurd (false≢true (sym (no_junk_at tape line free k l) ∙ junked))
+              ∙ ap (λ (q : Pair). some (q, left ts (k + 1) 0)) (sym (v.number_is k z long (ap number_of (token_at tape area line k l no_token) ∙ n)) ∙ pair)
+          go number σ v (a_junk w n e) = absurd (false≢true (sym (no_junk_at tape area line free k l) ∙ junked))
             where
-              junked : any is_junk (lexemes_of (token_of tape tape (get_or line k 0))) ≡ true
+              junked : any is_junk (lexemes_of (token_of tape area (get_or line k 0))) ≡ true
               junked = unfold is_junk ◌or◌ in rw e refl
 
       -- a Punct: a bracket, or nothing
-      module _ (ep : x ≡ Punct) {r : std.Option Place} (q : Leads tape line (behind (bytes "(") (left ts k b)) r) where
-        points : Points tape tape (get_or line k 0)
+      module _ (ep : x ≡ Punct) {r : std.Option Place} (q : Leads tape area line (behind (bytes "(") (left ts k b)) r) where
+        points : Points tape area (get_or line k 0)
         points = h.holds.at k l
 
         kind : kind_of (get_or line k 0) ≡ Punct
@@ -162,70 +155,70 @@ module _ (tape : Text) (line values : List ℕ) where
         opened : (number : ℤ → Pair) (σ : Text → Pair)
             → term_of (pairs number) σ (left ts k b) ≡ (let_some (behind (bytes "(") (left ts k b)) else none then λ zs. bracket (expression_of (pairs number) σ zs))
         opened number σ =
-            let s = left_sign tape line k l points kind b (omega (arith, p l, size_punct tape line k l points kind)) in
+            let s = left_sign tape area line k l points kind b (omega (arith, p l, size_punct tape area line k l points kind)) in
             ap (term_of (pairs number) σ) s ∙ term-opened number σ _ _
             ∙ ap (λ (xs : List Lexeme). let_some (behind (bytes "(") xs) else none then λ zs. bracket (expression_of (pairs number) σ zs)) (sym s)
 
-        pub term_unopened : (out : Value) → r ≡ std.None → Term tape line values k b (told false out)
+        pub term_unopened : r ≡ std.None → Term tape area line values k b std.None
         unfolding let_some◌else◌then◌
-        term_unopened out e = breaks_by out (λ number σ v. opened number σ ∙ rw (leads_none q e) refl)
+        term_unopened e = breaks_by (λ number σ v. opened number σ ∙ rw (leads_none q e) refl)
 
         inner : (i : Place) → r ≡ std.Some i → (number : ℤ → Pair) (σ : Text → Pair)
             → term_of (pairs number) σ (left ts k b) ≡ bracket (expression_of (pairs number) σ (left ts i.token i.byte))
         unfolding let_some◌else◌then◌
         inner i e number σ = opened number σ ∙ rw (leads_some i q e) refl
 
-        module _ (i : Place) (e : r ≡ std.Some i) {y : Bool} (out : Value) (w : Expression tape line values i.token i.byte (told y out)) where
-          pub term-broken : y ≡ false → Term tape line values k b (told false out)
+        module _ (i : Place) (e : r ≡ std.Some i) {y : Worth} (w : Expression tape area line values i.token i.byte y) where
+          pub term-broken : y ≡ std.None → Term tape area line values k b std.None
           unfolding let_some◌else◌then◌ bracket
-          term-broken f = breaks_by out (λ number σ v. inner i e number σ ∙ rw (worth_none out w f number σ v) refl)
+          term-broken f = breaks_by (λ number σ v. inner i e number σ ∙ rw (worth_none w f number σ v) refl)
 
-          module _ (f : y ≡ true) {u : std.Option Place} (z : Leads tape line (behind (bytes ")") (left ts out.place.token out.place.byte)) u) where
-            pub term_unclosed : u ≡ std.None → Term tape line values k b (told false out)
+          module _ (out : Value) (f : y ≡ std.Some out) {u : std.Option Place} (z : Leads tape area line (behind (bytes ")") (left ts out.place.token out.place.byte)) u) where
+            pub term_unclosed : u ≡ std.None → Term tape area line values k b std.None
             unfolding let_some◌else◌then◌ bracket
-            term_unclosed g = breaks_by out (λ number σ v. inner i e number σ ∙ rw (worth_some out w f number σ v, leads_none z g) refl)
+            term_unclosed g = breaks_by (λ number σ v. inner i e number σ ∙ rw (worth_some w out f number σ v, leads_none z g) refl)
 
-            pub term_closed : (i' : Place) → u ≡ std.Some i' → {out' : Value} → out' ≡ record out { place = i' } → Term tape line values k b (told true out')
+            pub term_closed : (i' : Place) → u ≡ std.Some i' → Term tape area line values k b (std.Some (record out { place = i' }))
             unfolding let_some◌else◌then◌ bracket
-            term_closed i' g eo =
-                worth_by (record out { place = i' }) eo
-                (λ number σ v. inner i e number σ ∙ rw (worth_some out w f number σ v, leads_some i' z g) refl) (z.placed i' g)
+            term_closed i' g =
+                worth_by (record out { place = i' })
+                (λ number σ v. inner i e number σ ∙ rw (worth_some w out f number σ v, leads_some i' z g) refl) (z.placed i' g)
                 (omega (
                   arith,
                   behind-length (bytes "(") (left ts k b) (left ts i.token i.byte) (leads_some i q e),
-                  worth-shorter out w f,
+                  worth-shorter w out f,
                   behind-length (bytes ")") (left ts out.place.token out.place.byte) (left ts i'.token i'.byte) (leads_some i' z g),
                 ))
 
   -- ---- an expression
 
-  pub joining_begins : (m c k b : ℕ) → Joining tape line values k b std.None m c k b
+  pub joining_begins : (m c k b : ℕ) → Joining tape area line values k b std.None m c k b
   joining_begins m c k b = record { is = λ number σ v. expression_is (pairs number) σ (left ts k b) }
 
-  module _ (k₀ b₀ : ℕ) {how : std.Option Sign} (m c k b : ℕ) (inv : Joining tape line values k₀ b₀ how m c k b) {y : Bool} (out : Value) (w : Term tape line values k b (told y out)) where
-    pub expression-broken : y ≡ false → Expression tape line values k₀ b₀ (told false out)
+  module _ (k₀ b₀ : ℕ) {how : std.Option Sign} (m c k b : ℕ) (inv : Joining tape area line values k₀ b₀ how m c k b) {y : Worth} (w : Term tape area line values k b y) where
+    pub expression-broken : y ≡ std.None → Expression tape area line values k₀ b₀ std.None
     unfolding let_some◌else◌then◌
-    expression-broken e = breaks_by out (λ number σ v. inv.is number σ v ∙ rw (worth_none out w e number σ v) refl)
+    expression-broken e = breaks_by (λ number σ v. inv.is number σ v ∙ rw (worth_none w e number σ v) refl)
 
     -- behind the term
-    module _ (e : y ≡ true) {m' c' : ℕ} (em : m' ≡ joined how m out.multiplier) (ec : c' ≡ joined how c out.constant) {o : std.Option Operation}
-        (q : Operates tape line (operator (left ts out.place.token out.place.byte)) o) where
+    module _ (out : Value) (e : y ≡ std.Some out) {m' c' : ℕ} (em : m' ≡ joined how m out.pair.multiplier) (ec : c' ≡ joined how c out.pair.constant) {o : std.Option Operation}
+        (q : Operates tape area line (operator (left ts out.place.token out.place.byte)) o) where
       summed : (number : ℤ → Pair) (σ : Text → Pair) → Valued number σ ts values
           → expression_of (pairs number) σ (left ts k₀ b₀)
           ≡ (let_some (operated_of ts o) else some ((m', c'), left ts out.place.token out.place.byte) then λ p.
           let_some (term_of (pairs number) σ p.1) else none then λ r. further_of (pairs number) σ (combine (pairs number) p.0 (m', c') r.0) r.1)
       unfolding let_some◌else◌then◌
       summed number σ v =
-          inv.is number σ v ∙ rw (worth_some out w e number σ v, ← em, ← ec) refl
+          inv.is number σ v ∙ rw (worth_some w out e number σ v, ← em, ← ec) refl
           ∙ further_is (pairs number) σ (m', c') (left ts out.place.token out.place.byte) ∙ rw (← q.is) refl
 
-      pub expression-over : length (left ts k b) ≤ length (left ts k₀ b₀) → o ≡ std.None → {out' : Value} → out' ≡ record out { multiplier = m'; constant = c' }
-          → Expression tape line values k₀ b₀ (told true out')
+      pub expression-over : length (left ts k b) ≤ length (left ts k₀ b₀) → o ≡ std.None
+          → Expression tape area line values k₀ b₀ (std.Some (record out { pair = record { multiplier = m'; constant = c' } }))
       unfolding let_some◌else◌then◌
-      expression-over l f eo =
-          worth_by (record out { multiplier = m'; constant = c' }) eo (λ number σ v. summed number σ v ∙ rw f refl) (worth-placed out w e) (omega (arith, worth-shorter out w e))
+      expression-over l f =
+          worth_by (record out { pair = record { multiplier = m'; constant = c' } }) (λ number σ v. summed number σ v ∙ rw f refl) (worth-placed w out e) (omega (arith, worth-shorter w out e))
 
-      pub joining_goes : (i : Operation) → o ≡ std.Some i → Joining tape line values k₀ b₀ (std.Some i.sign) m' c' i.place.token i.place.byte
+      pub joining_goes : (i : Operation) → o ≡ std.Some i → Joining tape area line values k₀ b₀ (std.Some i.sign) m' c' i.place.token i.place.byte
       unfolding let_some◌else◌then◌
       joining_goes i f = record { is = λ number σ v. summed number σ v ∙ rw f (by number σ i.sign) }
         where
@@ -239,13 +232,13 @@ module _ (tape : Text) (line values : List ℕ) where
 
   -- ---- what is left falls
 
-  pub opens-shorter : (k b : ℕ) {r : std.Option Place} (i : Place) → Leads tape line (behind (bytes "(") (left ts k b)) r → r ≡ std.Some i
+  pub opens-shorter : (k b : ℕ) {r : std.Option Place} (i : Place) → Leads tape area line (behind (bytes "(") (left ts k b)) r → r ≡ std.Some i
       → length (left ts i.token i.byte) < length (left ts k b)
   opens-shorter k b i q e = omega (arith, behind-length (bytes "(") (left ts k b) (left ts i.token i.byte) (leads_some i q e))
 
   -- behind a term and the operator that follows it
-  module _ (k b : ℕ) {y : Bool} (out : Value) (w : Term tape line values k b (told y out)) (e : y ≡ true) {o : std.Option Operation}
-      (q : Operates tape line (operator (left ts out.place.token out.place.byte)) o) (i : Operation) (f : o ≡ std.Some i) where
+  module _ (k b : ℕ) {y : Worth} (w : Term tape area line values k b y) (out : Value) (e : y ≡ std.Some out) {o : std.Option Operation}
+      (q : Operates tape area line (operator (left ts out.place.token out.place.byte)) o) (i : Operation) (f : o ≡ std.Some i) where
     pub next_placed : Placed line i.place.token i.place.byte
     next_placed = q.placed i f
 
@@ -253,7 +246,7 @@ module _ (tape : Text) (line values : List ℕ) where
     next-less =
         omega (
           arith,
-          worth-shorter out w e,
+          worth-shorter w out e,
           operator-shorter (left ts out.place.token out.place.byte) (operator_of i.sign, left ts i.place.token i.place.byte) (sym q.is ∙ ap (operated_of ts) f),
         )
 

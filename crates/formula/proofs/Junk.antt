@@ -1,5 +1,5 @@
 -- A lexeme that no expression has breaks the profile wherever it stands, since no evaluator reads past it; and the scan for one. Assumes nothing.
-use Rattle.std.proofs.Common.{◌≡◌, ℕ, zero, suc, ◌+◌, ◌<◌, ◌≤◌, Bool, true, false, not as flip, List, [], ◌∷◌, map, length, get_or, drop, sym, refl, ap, ◌∙◌, add-one, arith, drop-cons, eq-eqb, ne_eqb}
+use Rattle.std.proofs.Common.{◌≡◌, ℕ, zero, suc, ◌<◌, Bool, true, false, not as flip, List, [], ◌∷◌, map, length, get_or, sym, refl, ap, ◌∙◌, arith, eq-eqb, ne_eqb}
 use mathlib.Core.Bool.{false≢true}
 use mathlib.Core.Option.{Option, none, some}
 use Rattle.reference.specs.Control.{◌or◌}
@@ -8,12 +8,13 @@ use Rattle.reference.specs.Text.{Text, bytes}
 use Rattle.reference.specs.Listing.{is, Punct}
 use Rattle.reference.specs.Evaluators.{Arithmetic, wide, number_of, Lexeme, sign, reg, num, junk, lexemes_of, lexemes, behind, Operator, operator, combine, expression, term, further, evaluate}
 use Rattle.reference.proofs.Cases.{by-some, neither, some_inj, none-some, if_some, bind-some}
-use Rattle.laws.proofs.Scans.{or_true, or_false, any_append}
+use Rattle.laws.proofs.Scans.{any_append}
 use Rattle.lines.specs.Words.{kind_of, text_of, token_of, tokens_of}
 use Rattle.formula.specs.Terms.{is_junk, has_junk}
 use Rattle.formula.specs.Values.{pairs, Evaluates}
+use Rattle.formula.specs.declared.evaluators.Pair.{Pair as Held}
 use Rattle.std.specs.Prelude as std
-use Rattle.formula.proofs.Left.{drop_past, punct-lexemes, One, a_register, a_number, a_junk, one_of}
+use Rattle.formula.proofs.Left.{punct-lexemes, One, a_register, a_number, a_junk, one_of}
 
 -- ---- what is read has none
 
@@ -84,11 +85,11 @@ module _ {X : Type 0} (a : Arithmetic X) (σ : Text → X) where
       go none e = refl
       go (some v) e = absurd (false≢true (sym (evaluated before xs v e) ∙ h))
 
-pub whole-junk : (tape : Text) (line values before : List ℕ) {x : Bool} → x ≡ has_junk tape line → x ≡ true → Evaluates tape line values before std.None
-whole-junk tape line values before e h number σ v = sym (evaluate-junk (pairs number) σ before (lexemes (tokens_of tape tape line)) (sym e ∙ h))
+pub whole-junk : (tape area : Text) (line : List ℕ) (values : List Held) (before : List ℕ) {x : Bool} → x ≡ has_junk tape area line → x ≡ true → Evaluates tape area line values before std.None
+whole-junk tape area line values before e h number σ v = sym (evaluate-junk (pairs number) σ before (lexemes (tokens_of tape area line)) (sym e ∙ h))
 
-pub no_junk : (tape : Text) (line : List ℕ) {x : Bool} → x ≡ has_junk tape line → x ≡ false → has_junk tape line ≡ false
-no_junk tape line e h = sym e ∙ h
+pub no_junk : (tape area : Text) (line : List ℕ) {x : Bool} → x ≡ has_junk tape area line → x ≡ false → has_junk tape area line ≡ false
+no_junk tape area line e h = sym e ∙ h
 
 -- ---- a token
 
@@ -97,46 +98,37 @@ unfolding is_junk ◌or◌
 signs_clean [] = refl
 signs_clean (c ∷ cs) = signs_clean cs
 
-module _ (tape : Text) (w : ℕ) {x : ℕ} (ex : x ≡ kind_of w) where
-  pub junk-punct : x ≡ Punct → false ≡ any is_junk (lexemes_of (token_of tape tape w))
-  junk-punct ep = sym (ap (any is_junk) (punct-lexemes (token_of tape tape w) (unfold is in eq-eqb _ _ (sym ex ∙ ep))) ∙ signs_clean (text_of tape tape w))
+module _ (tape area : Text) (w : ℕ) {x : ℕ} (ex : x ≡ kind_of w) where
+  pub junk-punct : x ≡ Punct → false ≡ any is_junk (lexemes_of (token_of tape area w))
+  junk-punct ep = sym (ap (any is_junk) (punct-lexemes (token_of tape area w) (unfold is in eq-eqb _ _ (sym ex ∙ ep))) ∙ signs_clean (text_of tape area w))
 
-  pub junk-other : (x ≡ Punct → ⊥) → {y : Bool} → y ≡ (is_some (wide (token_of tape tape w)) or is_some (number_of (token_of tape tape w)))
-      → flip y ≡ any is_junk (lexemes_of (token_of tape tape w))
+  pub junk-other : (x ≡ Punct → ⊥) → {y : Bool} → y ≡ (is_some (wide (token_of tape area w)) or is_some (number_of (token_of tape area w)))
+      → flip y ≡ any is_junk (lexemes_of (token_of tape area w))
   unfolding is_junk ◌or◌
-  junk-other n {y} ey = ap flip ey ∙ sym (go (one_of (token_of tape tape w) (unfold is in ne_eqb _ _ (λ e. n (ex ∙ e)))))
+  junk-other n {y} ey = ap flip ey ∙ sym (go (one_of (token_of tape area w) (unfold is in ne_eqb _ _ (λ e. n (ex ∙ e)))))
     where
-      go : One (token_of tape tape w)
-          → any is_junk (lexemes_of (token_of tape tape w)) ≡ flip (is_some (wide (token_of tape tape w)) or is_some (number_of (token_of tape tape w)))
+      go : One (token_of tape area w)
+          → any is_junk (lexemes_of (token_of tape area w)) ≡ flip (is_some (wide (token_of tape area w)) or is_some (number_of (token_of tape area w)))
       go (a_register z p e) = rw (e, p) refl
       go (a_number z p q e) = rw (e, p, q) refl
       go (a_junk p q e) = rw (e, p, q) refl
 
 -- ---- the scan of a line
 
-module _ (tape : Text) where
-  first-junk : (w : ℕ) (ws : List ℕ) → has_junk tape (w ∷ ws) ≡ (any is_junk (lexemes_of (token_of tape tape w)) or has_junk tape ws)
+module _ (tape area : Text) where
+  first-junk : (w : ℕ) (ws : List ℕ) → has_junk tape area (w ∷ ws) ≡ (any is_junk (lexemes_of (token_of tape area w)) or has_junk tape area ws)
   unfolding lexemes
-  first-junk w ws = any_append is_junk (lexemes_of (token_of tape tape w)) (lexemes (tokens_of tape tape ws))
+  first-junk w ws = any_append is_junk (lexemes_of (token_of tape area w)) (lexemes (tokens_of tape area ws))
 
   -- in a line that has none no token is one
-  pub no_junk_at : (line : List ℕ) → has_junk tape line ≡ false → (k : ℕ) → k < length line
-      → any is_junk (lexemes_of (token_of tape tape (get_or line k 0))) ≡ false
+  pub no_junk_at : (line : List ℕ) → has_junk tape area line ≡ false → (k : ℕ) → k < length line
+      → any is_junk (lexemes_of (token_of tape area (get_or line k 0))) ≡ false
   no_junk_at [] h k l = absurd (omega arith)
   no_junk_at (w ∷ ws) h zero l = (neither (sym (first-junk w ws) ∙ h)).0
   no_junk_at (w ∷ ws) h (suc k) l = no_junk_at ws (neither (sym (first-junk w ws) ∙ h)).1 k (omega arith)
 
-  module _ (line : List ℕ) (i : ℕ) {o : Bool} (inv : o ≡ has_junk tape (drop i line)) where
-    pub scan-over : length line ≤ i → false ≡ o
-    unfolding lexemes
-    scan-over l = sym (inv ∙ ap (has_junk tape) (drop_past i line l))
-
-    module _ (l : i < length line) {y : Bool} (ey : y ≡ any is_junk (lexemes_of (token_of tape tape (get_or line i 0)))) where
-      here : o ≡ (y or has_junk tape (drop (i + 1) line))
-      here = inv ∙ ap (has_junk tape) (drop-cons line i 0 l) ∙ first-junk (get_or line i 0) (drop (suc i) line) ∙ rw (← ey, add-one i) refl
-
-      pub scan_hits : y ≡ true → true ≡ o
-      scan_hits h = sym (here ∙ or_true _ h)
-
-      pub scan-goes : y ≡ false → o ≡ has_junk tape (drop (i + 1) line)
-      scan-goes h = here ∙ or_false _ h
+  -- the scan of its words
+  pub scan_is : (line : List ℕ) → any (λ (w : ℕ). any is_junk (lexemes_of (token_of tape area w))) line ≡ has_junk tape area line
+  unfolding lexemes
+  scan_is [] = refl
+  scan_is (w ∷ ws) = ap (λ (b : Bool). any is_junk (lexemes_of (token_of tape area w)) or b) (scan_is ws) ∙ sym (first-junk w ws)

@@ -56,13 +56,13 @@ one_of t e = go (wide t) refl
 
 -- ---- places
 
-module _ (tape : Text) (line : List ℕ) where
+module _ (tape area : Text) (line : List ℕ) where
   abbrev ts : List Token
-  ts = tokens_of tape tape line
+  ts = tokens_of tape area line
 
   pub left_end : (k b : ℕ) → length line ≤ k → left ts k b ≡ []
   unfolding left left_of
-  left_end k b h = rw (drop-map (token_of tape tape) k line, drop_past k line h)
+  left_end k b h = rw (drop-map (token_of tape area) k line, drop_past k line h)
 
   pub left_whole : (k : ℕ) → left ts k 0 ≡ lexemes (drop k ts)
   unfolding left
@@ -73,25 +73,25 @@ module _ (tape : Text) (line : List ℕ) where
       go (u ∷ us) = unfold left_of lexemes in refl
 
   module _ (k : ℕ) (h : k < length line) where
-    tokens_at : drop k ts ≡ token_of tape tape (get_or line k 0) ∷ drop (suc k) ts
+    tokens_at : drop k ts ≡ token_of tape area (get_or line k 0) ∷ drop (suc k) ts
     tokens_at =
-        drop-map (token_of tape tape) k line ∙ ap (map (token_of tape tape)) (drop-cons line k 0 h)
-        ∙ ap {B = List Token} (λ r. token_of tape tape (get_or line k 0) ∷ r) (sym (drop-map (token_of tape tape) (suc k) line))
+        drop-map (token_of tape area) k line ∙ ap (map (token_of tape area)) (drop-cons line k 0 h)
+        ∙ ap {B = List Token} (λ r. token_of tape area (get_or line k 0) ∷ r) (sym (drop-map (token_of tape area) (suc k) line))
 
-    pub token_at : (d : Token) → get_or ts k d ≡ token_of tape tape (get_or line k 0)
-    token_at d = get_d_map (token_of tape tape) k line 0 d h
+    pub token_at : (d : Token) → get_or ts k d ≡ token_of tape area (get_or line k 0)
+    token_at d = get_d_map (token_of tape area) k line 0 d h
 
-    pub left_at : (b : ℕ) → left ts k b ≡ drop b (lexemes_of (token_of tape tape (get_or line k 0))) ++ left ts (k + 1) 0
+    pub left_at : (b : ℕ) → left ts k b ≡ drop b (lexemes_of (token_of tape area (get_or line k 0))) ++ left ts (k + 1) 0
     left_at b =
-        opened ∙ ap (λ (r : List Lexeme). drop b (lexemes_of (token_of tape tape (get_or line k 0))) ++ r) (sym (ap (λ (n : ℕ). left ts n 0) (add-one k) ∙ left_whole (suc k)))
+        opened ∙ ap (λ (r : List Lexeme). drop b (lexemes_of (token_of tape area (get_or line k 0))) ++ r) (sym (ap (λ (n : ℕ). left ts n 0) (add-one k) ∙ left_whole (suc k)))
       where
-        opened : left ts k b ≡ drop b (lexemes_of (token_of tape tape (get_or line k 0))) ++ lexemes (drop (suc k) ts)
+        opened : left ts k b ≡ drop b (lexemes_of (token_of tape area (get_or line k 0))) ++ lexemes (drop (suc k) ts)
         opened = unfold left left_of in rw tokens_at
 
     -- ---- a Punct
 
-    module _ (points : Points tape tape (get_or line k 0)) (p : kind_of (get_or line k 0) ≡ Punct) where
-      is_punct : is Punct (token_of tape tape (get_or line k 0)) ≡ true
+    module _ (points : Points tape area (get_or line k 0)) (p : kind_of (get_or line k 0) ≡ Punct) where
+      is_punct : is Punct (token_of tape area (get_or line k 0)) ≡ true
       unfolding is
       is_punct = eq-eqb _ _ p
 
@@ -99,25 +99,25 @@ module _ (tape : Text) (line : List ℕ) where
       unfolding size_of
       size_punct = if-true _ _ (eq-eqb _ _ p)
 
-      signs_at : (b : ℕ) → left ts k b ≡ map sign (drop b (text_of tape tape (get_or line k 0))) ++ left ts (k + 1) 0
+      signs_at : (b : ℕ) → left ts k b ≡ map sign (drop b (text_of tape area (get_or line k 0))) ++ left ts (k + 1) 0
       signs_at b =
-          left_at b ∙ ap (λ (r : List Lexeme). drop b r ++ left ts (k + 1) 0) (punct-lexemes (token_of tape tape (get_or line k 0)) is_punct)
-          ∙ ap (λ (r : List Lexeme). r ++ left ts (k + 1) 0) (drop-map sign b (text_of tape tape (get_or line k 0)))
+          left_at b ∙ ap (λ (r : List Lexeme). drop b r ++ left ts (k + 1) 0) (punct-lexemes (token_of tape area (get_or line k 0)) is_punct)
+          ∙ ap (λ (r : List Lexeme). r ++ left ts (k + 1) 0) (drop-map sign b (text_of tape area (get_or line k 0)))
 
-      pub left_sign : (b : ℕ) → b < len_of (get_or line k 0) → left ts k b ≡ sign (get_or (text_of tape tape (get_or line k 0)) b 0) ∷ left ts k (b + 1)
+      pub left_sign : (b : ℕ) → b < len_of (get_or line k 0) → left ts k b ≡ sign (get_or (text_of tape area (get_or line k 0)) b 0) ∷ left ts k (b + 1)
       left_sign b l =
-          let s : Text = text_of tape tape (get_or line k 0) in
+          let s : Text = text_of tape area (get_or line k 0) in
           signs_at b ∙ ap (λ (r : Text). map sign r ++ left ts (k + 1) 0) (drop-cons s b 0 (omega (arith, text_length points)))
           ∙ ap {B = List Lexeme} (λ r. sign (get_or s b 0) ∷ r) (sym (ap (λ (n : ℕ). left ts k n) (add-one b) ∙ signs_at (suc b)))
 
       pub left_over : (b : ℕ) → len_of (get_or line k 0) ≤ b → left ts k b ≡ left ts (k + 1) 0
       left_over b l =
-          signs_at b ∙ ap (λ (r : Text). map sign r ++ left ts (k + 1) 0) (drop_past b (text_of tape tape (get_or line k 0)) (omega (arith, text_length points)))
+          signs_at b ∙ ap (λ (r : Text). map sign r ++ left ts (k + 1) 0) (drop_past b (text_of tape area (get_or line k 0)) (omega (arith, text_length points)))
 
     -- ---- another token
 
     module _ (p : kind_of (get_or line k 0) ≡ Punct → ⊥) where
-      pub no_punct : is Punct (token_of tape tape (get_or line k 0)) ≡ false
+      pub no_punct : is Punct (token_of tape area (get_or line k 0)) ≡ false
       unfolding is
       no_punct = ne_eqb _ _ p
 
@@ -125,15 +125,15 @@ module _ (tape : Text) (line : List ℕ) where
       unfolding size_of
       size_other = if-false _ _ (ne_eqb _ _ p)
 
-      pub left_other : (b : ℕ) → b < size_of (get_or line k 0) → left ts k b ≡ lexemes_of (token_of tape tape (get_or line k 0)) ++ left ts (k + 1) 0
+      pub left_other : (b : ℕ) → b < size_of (get_or line k 0) → left ts k b ≡ lexemes_of (token_of tape area (get_or line k 0)) ++ left ts (k + 1) 0
       left_other b l =
           let z : b ≡ 0 = omega (arith, size_other) in
           ap (λ (n : ℕ). left ts k n) z ∙ left_at 0
 
 -- every place at the beginning of a token is one
-pub placed-whole : (tape : Text) (line : List ℕ) → Readable tape line → (k : ℕ) → Placed line k 0
+pub placed-whole : (tape area : Text) (line : List ℕ) → Readable tape area line → (k : ℕ) → Placed line k 0
 unfolding size_of when◌then◌else◌
-placed-whole tape line h k l = go (eqb (kind_of (get_or line k 0)) Punct)
+placed-whole tape area line h k l = go (eqb (kind_of (get_or line k 0)) Punct)
   where
     go : (b : Bool) → 0 < (when b then len_of (get_or line k 0) else 1)
     go true = h.filled k l

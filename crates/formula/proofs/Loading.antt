@@ -29,7 +29,7 @@ module _ (tape tokens lines addresses : List ℕ) (t : Totals) (l : Loaded tape 
       words : List ℕ
       words = take t.tokens tokens
 
-      readable : (k : ℕ) → k < length (take t.lines lines) → Readable tape (part_of (take t.tokens tokens) (get_or (take t.lines lines) k 0))
+      readable : (k : ℕ) → k < length (take t.lines lines) → Readable tape tape (part_of (take t.tokens tokens) (get_or (take t.lines lines) k 0))
       readable k h =
           let here = (l.listed tape).at k h in
           let limits = read-limits tape _ (l.listing tape) in

@@ -1,5 +1,7 @@
--- What the code's places, terms and values mean in the evaluators of the reference, and when a listing's profile is asked.
+-- What the code's places, terms and values mean in the evaluators of the reference, also over a line as the code lends it, and when a
+-- listing's profile is asked.
 pub mod Places
 pub mod Terms
 pub mod Values
 pub mod Profile
+pub mod Line

@@ -30,9 +30,9 @@ size_of w = when kind_of w == Punct then len_of w else 1
 abbrev pub Placed : List ℕ → ℕ → ℕ → Type 0
 Placed line k b = k < length line → b < size_of (slice_index line k)
 
--- every word points into the tape, and no text is empty
-pub record Readable (tape : Text) (line : List ℕ) : Type 0 where
-  pub holds : Holds tape tape line
+-- every word points into its text, and no text is empty
+pub record Readable (tape area : Text) (line : List ℕ) : Type 0 where
+  pub holds : Holds tape area line
   pub filled : (k : ℕ) → k < length line → 1 ≤ len_of (slice_index line k)
 
 abbrev pub ahead_of : List Token → std.Option Place → Option (List Lexeme)
@@ -40,8 +40,8 @@ ahead_of ts (std.Some p) = some (left ts p.token p.byte)
 ahead_of ts std.None = none
 
 -- the answer r leads to what the definition o leaves
-pub record Leads (tape : Text) (line : List ℕ) (o : Option (List Lexeme)) (r : std.Option Place) : Type 0 where
-  pub is : ahead_of (tokens_of tape tape line) r ≡ o
+pub record Leads (tape area : Text) (line : List ℕ) (o : Option (List Lexeme)) (r : std.Option Place) : Type 0 where
+  pub is : ahead_of (tokens_of tape area line) r ≡ o
   pub placed : (p : Place) → r ≡ std.Some p → Placed line p.token p.byte
 
 abbrev pub operator_of : Sign → E.Operator
@@ -52,6 +52,6 @@ abbrev pub operated_of : List Token → std.Option Operation → Option (E.Opera
 operated_of ts (std.Some o) = some (operator_of o.sign, left ts o.place.token o.place.byte)
 operated_of ts std.None = none
 
-pub record Operates (tape : Text) (line : List ℕ) (o : Option (E.Operator × List Lexeme)) (r : std.Option Operation) : Type 0 where
-  pub is : operated_of (tokens_of tape tape line) r ≡ o
+pub record Operates (tape area : Text) (line : List ℕ) (o : Option (E.Operator × List Lexeme)) (r : std.Option Operation) : Type 0 where
+  pub is : operated_of (tokens_of tape area line) r ≡ o
   pub placed : (p : Operation) → r ≡ std.Some p → Placed line p.place.token p.place.byte

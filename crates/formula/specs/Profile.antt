@@ -4,6 +4,11 @@ use Rattle.reference.specs.Text.{Text}
 use Rattle.lines.specs.Lines.{part_of, Listed}
 use Rattle.formula.specs.Places.{Readable}
 
-pub record Filled (tape : Text) (tokens lines : List ℕ) : Type 0 where
-  pub listed : Listed tape tape tokens lines
-  pub readable : (k : ℕ) → k < length lines → Readable tape (part_of tokens (slice_index lines k))
+-- each line can be read, and its texts stand in a tape and an area
+pub record FilledIn (tape area : Text) (tokens lines : List ℕ) : Type 0 where
+  pub listed : Listed tape area tokens lines
+  pub readable : (k : ℕ) → k < length lines → Readable tape area (part_of tokens (slice_index lines k))
+
+-- all texts stand in the tape
+abbrev pub Filled : Text → List ℕ → List ℕ → Type 0
+Filled tape = FilledIn tape tape

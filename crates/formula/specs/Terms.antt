@@ -17,5 +17,5 @@ is_junk (reg x) = false
 is_junk (num z) = false
 is_junk junk = true
 
-abbrev pub has_junk : Text → List ℕ → Bool
-has_junk tape line = any is_junk (lexemes (tokens_of tape tape line))
+abbrev pub has_junk : Text → Text → List ℕ → Bool
+has_junk tape area line = any is_junk (lexemes (tokens_of tape area line))

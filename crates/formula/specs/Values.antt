@@ -1,5 +1,5 @@
 -- What the evaluators answer, in pairs of numbers modulo 2^64: a multiplier, and a constant. Assumes nothing.
-use Rattle.std.specs.Prelude.{◌≡◌, ℕ, ◌+◌, ◌*◌, ◌<◌, Bool, true, false, List, [], length, ℤ, slice_index, slice_index_or}
+use Rattle.std.specs.Prelude.{◌≡◌, ℕ, ◌<◌, Bool, true, false, List, [], length, ℤ, slice_index_or}
 use Rattle.std.specs.Prelude as std
 use Rattle.std.proofs.Math.Option.{Option, none, some}
 use Rattle.reference.specs.Text.{Text}
@@ -9,6 +9,7 @@ use Rattle.lines.specs.Words.{tokens_of}
 use Rattle.formula.specs.Places.{left, Placed}
 use Rattle.formula.specs.declared.places.Sign.{Sign}
 use Rattle.formula.specs.declared.places.Sign.TheVariants.{Plus, Minus}
+use Rattle.formula.specs.declared.evaluators.Pair as held
 use Rattle.formula.specs.declared.evaluators.Value.{Value}
 
 -- a value, or none
@@ -17,6 +18,10 @@ Worth = std.Option Value
 
 abbrev pub Pair : Type 0
 Pair = ℕ × ℕ
+
+-- the two numbers of a pair of the code
+abbrev pub numbers_of : held.Pair → Pair
+numbers_of p = (p.multiplier, p.constant)
 
 -- pairs are added and taken part by part; `number` says which pair a number is
 abbrev pub pairs : (ℤ → Pair) → Arithmetic Pair
@@ -33,50 +38,48 @@ joined std.None v w = w
 joined (std.Some Plus) v w = plus v w
 joined (std.Some Minus) v w = minus v w
 
--- the pair of the token k
-abbrev pub pair_at : List ℕ → ℕ → Pair
-pair_at values k = (slice_index values (2 * k), slice_index values (2 * k + 1))
+abbrev pub zero_pair : held.Pair
+zero_pair = record { multiplier = 0; constant = 0 }
+
+-- the pair of the token k; past the end, 0 and 0
+abbrev pub pair_at : List held.Pair → ℕ → Pair
+pair_at values k = numbers_of (slice_index_or values k zero_pair)
 
 abbrev pub no_token : Token
 no_token = token 0 []
 
 -- the table has the pair of each register and of each number of a line
-pub record Valued (number : ℤ → Pair) (σ : Text → Pair) (ts : List Token) (values : List ℕ) : Type 0 where
+pub record Valued (number : ℤ → Pair) (σ : Text → Pair) (ts : List Token) (values : List held.Pair) : Type 0 where
   pub register : (k : ℕ) (x : Text) → k < length ts → wide (slice_index_or ts k no_token) ≡ some x → pair_at values k ≡ σ x
   pub number_is : (k : ℕ) (z : ℤ) → k < length ts → number_of (slice_index_or ts k no_token) ≡ some z → pair_at values k ≡ number z
 
--- the answer that an evaluator leaves: whether there is a value, and a value
-unfoldable pub told : Bool → Value → Worth
-told true out = std.Some out
-told false out = std.None
-
 abbrev pub pair_of : Value → Pair
-pair_of v = (v.multiplier, v.constant)
+pair_of v = numbers_of v.pair
 
 abbrev pub worth_of : List Token → Worth → Option (Pair × List Lexeme)
 worth_of ts (std.Some v) = some (pair_of v, left ts v.place.token v.place.byte)
 worth_of ts std.None = none
 
 -- the answer r is what an evaluator answers of the lexemes xs, whichever pairs the table has; and what is left is less
-pub record Worths (tape : Text) (line values : List ℕ) (xs : List Lexeme)
+pub record Worths (tape area : Text) (line : List ℕ) (values : List held.Pair) (xs : List Lexeme)
     (evaluator : Arithmetic Pair → (Text → Pair) → ℕ → List Lexeme → Option (Pair × List Lexeme)) (r : Worth) : Type 0 where
-  pub is : (number : ℤ → Pair) (σ : Text → Pair) → Valued number σ (tokens_of tape tape line) values
-      → worth_of (tokens_of tape tape line) r ≡ evaluator (pairs number) σ (fuel_for xs) xs
+  pub is : (number : ℤ → Pair) (σ : Text → Pair) → Valued number σ (tokens_of tape area line) values
+      → worth_of (tokens_of tape area line) r ≡ evaluator (pairs number) σ (fuel_for xs) xs
   pub placed : (v : Value) → r ≡ std.Some v → Placed line v.place.token v.place.byte
-  pub shorter : (v : Value) → r ≡ std.Some v → length (left (tokens_of tape tape line) v.place.token v.place.byte) < length xs
+  pub shorter : (v : Value) → r ≡ std.Some v → length (left (tokens_of tape area line) v.place.token v.place.byte) < length xs
 
-abbrev pub Term : Text → List ℕ → List ℕ → ℕ → ℕ → Worth → Type 0
-Term tape line values k b = Worths tape line values (left (tokens_of tape tape line) k b) term
+abbrev pub Term : Text → Text → List ℕ → List held.Pair → ℕ → ℕ → Worth → Type 0
+Term tape area line values k b = Worths tape area line values (left (tokens_of tape area line) k b) term
 
-abbrev pub Expression : Text → List ℕ → List ℕ → ℕ → ℕ → Worth → Type 0
-Expression tape line values k b = Worths tape line values (left (tokens_of tape tape line) k b) expression
+abbrev pub Expression : Text → Text → List ℕ → List held.Pair → ℕ → ℕ → Worth → Type 0
+Expression tape area line values k b = Worths tape area line values (left (tokens_of tape area line) k b) expression
 
 abbrev pub value_of : Worth → Option Pair
 value_of (std.Some v) = some (pair_of v)
 value_of std.None = none
 
 -- the answer r is what a whole line is worth
-abbrev pub Evaluates : Text → List ℕ → List ℕ → Text → Worth → Type 0
-Evaluates tape line values before r =
-    (number : ℤ → Pair) (σ : Text → Pair) → Valued number σ (tokens_of tape tape line) values
-    → value_of r ≡ evaluate (pairs number) σ before (lexemes (tokens_of tape tape line))
+abbrev pub Evaluates : Text → Text → List ℕ → List held.Pair → Text → Worth → Type 0
+Evaluates tape area line values before r =
+    (number : ℤ → Pair) (σ : Text → Pair) → Valued number σ (tokens_of tape area line) values
+    → value_of r ≡ evaluate (pairs number) σ before (lexemes (tokens_of tape area line))

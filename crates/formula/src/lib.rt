@@ -2,6 +2,7 @@
 #![tactic(auto)]
 
 pub mod evaluators;
+pub mod line;
 pub mod places;
 pub mod profile;
 pub mod terms;

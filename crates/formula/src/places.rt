@@ -1,10 +1,9 @@
-// Places in a line: a token's number and a byte of its text, which is 0 in a token that is no Punct. The tokens' texts are all in the tape.
+// Places in a line: a token's number and a byte of its text, which is 0 in a token that is no Punct.
 ghost use Rattle.std.specs.Prelude.{[], ◌∷◌};
 ghost use Rattle.reference.specs.Evaluators.{behind, operator};
-ghost use Rattle.lines.specs.Words.{tokens_of};
-ghost use Rattle.formula.specs.Places.{left, Placed, Readable, Leads, Operates};
+ghost use Rattle.formula.specs.Line.{left, Placed, Readable, Leads, Operates};
 
-use crate::terms::text_of;
+use crate::line::Line;
 use lines::words;
 
 #[derive(Clone, Copy, Debug, PartialEq, Eq)]
@@ -27,18 +26,18 @@ pub struct Operation {
 }
 
 // The place behind the byte c of a Punct, if it stands here.
-fn behind_byte(tape: &[u8], line: &[u64], place: Place, c: u8) -> Option<Place>
-    requires { Readable tape.now line.now × Placed line.now place.token place.byte }
-    ensures { Leads tape.now line.now (behind (c ∷ []) (left (tokens_of tape.now tape.now line.now) place.token place.byte)) result }
+fn behind_byte(line: &Line<'_>, place: Place, c: u8) -> Option<Place>
+    requires { Readable line.now × Placed line.now place }
+    ensures { Leads line.now (behind (c ∷ []) (left line.now place)) result }
 {
-    if line.len() <= place.token {
+    if line.words.len() <= place.token {
         return None;
     }
-    let w = line[place.token];
+    let w = line.words[place.token];
     if words::kind(w) != words::PUNCT {
         return None;
     }
-    let s = text_of(tape, w);
+    let s = words::text(&line.texts, w);
     if s[place.byte] != c {
         return None;
     }
@@ -55,29 +54,29 @@ fn behind_byte(tape: &[u8], line: &[u64], place: Place, c: u8) -> Option<Place>
 }
 
 // The place behind a text of Puncts, if it stands here.
-pub fn behind(tape: &[u8], line: &[u64], start: Place, t: &[u8]) -> Option<Place>
-    requires { Readable tape.now line.now × Placed line.now start.token start.byte }
-    ensures { Leads tape.now line.now (behind t.now (left (tokens_of tape.now tape.now line.now) start.token start.byte)) result }
+pub fn behind(line: &Line<'_>, start: Place, t: &[u8]) -> Option<Place>
+    requires { Readable line.now × Placed line.now start }
+    ensures { Leads line.now (behind t.now (left line.now start)) result }
 {
     let mut place = start;
     for c in t {
-        place = behind_byte(tape, line, place, *c)?;
+        place = behind_byte(line, place, *c)?;
     }
     Some(place)
 }
 
 // The operator at a place, if one stands here.
-pub fn operator(tape: &[u8], line: &[u64], place: Place) -> Option<Operation>
-    requires { Readable tape.now line.now × Placed line.now place.token place.byte }
-    ensures { Operates tape.now line.now (operator (left (tokens_of tape.now tape.now line.now) place.token place.byte)) result }
+pub fn operator(line: &Line<'_>, place: Place) -> Option<Operation>
+    requires { Readable line.now × Placed line.now place }
+    ensures { Operates line.now (operator (left line.now place)) result }
 {
-    if let Some(next) = behind(tape, line, place, b" + ") {
+    if let Some(next) = behind(line, place, b" + ") {
         return Some(Operation {
             sign: Sign::Plus,
             place: next,
         });
     }
-    let next = behind(tape, line, place, b" - ")?;
+    let next = behind(line, place, b" - ")?;
     Some(Operation {
         sign: Sign::Minus,
         place: next,

@@ -3,30 +3,24 @@ ghost use Rattle.std.specs.Prelude.{◌≡◌, nat_eq};
 ghost use Rattle.reference.specs.Control.{◌or◌};
 ghost use Rattle.reference.specs.Lists.{any, count, is_some};
 ghost use Rattle.reference.specs.Evaluators.{wide, is_tidy, number_of, lexemes_of};
-ghost use Rattle.lines.specs.Words.{text_of, token_of, Holds, Points};
-ghost use Rattle.formula.specs.Terms.{is_plain, is_junk, has_junk};
+ghost use Rattle.lines.specs.Texts.{token_of, Points};
+ghost use Rattle.formula.specs.Terms.{is_plain, is_junk};
+ghost use Rattle.formula.specs.Line.{has_junk, Holds};
 
+use crate::line::Line;
 use lines::texts::Texts;
 use lines::{fams, words};
 use numbers::parse_c_number;
 
-// The text of a token; all stand in the tape.
-pub(crate) fn text_of(tape: &[u8], w: u64) -> &[u8]
-    requires { Points tape.now tape.now w }
-    ensures { result.now ≡ text_of tape.now tape.now w }
-{
-    words::text(&Texts { tape, area: tape }, w)
-}
-
 // Whether a token is a 64-bit register and no stack slot.
-pub fn is_wide(tape: &[u8], w: u64) -> bool
-    requires { Points tape.now tape.now w }
-    ensures { result ≡ is_some (wide (token_of tape.now tape.now w)) }
+pub fn is_wide(texts: &Texts<'_>, w: u64) -> bool
+    requires { Points texts.now w }
+    ensures { result ≡ is_some (wide (token_of texts.now w)) }
 {
-    let Some(n) = fams::fam_of(&Texts { tape, area: tape }, w) else {
+    let Some(n) = fams::fam_of(texts, w) else {
         return false;
     };
-    n.width == 64 && !text::begins_slot(text_of(tape, w))
+    n.width == 64 && !text::starts(words::text(texts, w), b"var_")
 }
 
 // How often a byte stands in a text.
@@ -40,7 +34,7 @@ fn count_byte(s: &[u8], b: u8) -> usize
 fn is_plain(s: &[u8]) -> bool
     ensures { result ≡ is_plain s.now }
 {
-    text::begins_hex(s) || (!text::starts(s, b"0") || text::same(s, b"0"))
+    text::starts(s, b"0x") || (!text::starts(s, b"0") || text::same(s, b"0"))
 }
 
 // "no plus, at most one minus, no leading zero in decimal except `0`"
@@ -53,49 +47,44 @@ fn is_tidy(s: &[u8]) -> bool
     if 1 < count_byte(s, b'-') {
         return false;
     }
-    if text::begins_minus(s) {
-        return is_plain(&s[1..]);
+    match s.strip_prefix(b"-") {
+        Some(rest) => is_plain(rest),
+        None => is_plain(s),
     }
-    is_plain(s)
 }
 
 // Whether a token is a number of the profile.
-pub fn is_number(tape: &[u8], w: u64) -> bool
-    requires { Points tape.now tape.now w }
-    ensures { result ≡ is_some (number_of (token_of tape.now tape.now w)) }
+fn is_number(texts: &Texts<'_>, w: u64) -> bool
+    requires { Points texts.now w }
+    ensures { result ≡ is_some (number_of (token_of texts.now w)) }
 {
     if words::kind(w) != words::NUMBER {
         return false;
     }
-    let s = text_of(tape, w);
+    let s = words::text(texts, w);
     is_tidy(s) && parse_c_number(s).is_some()
 }
 
 // Whether a token is worth something by itself.
-pub fn is_term(tape: &[u8], w: u64) -> bool
-    requires { Points tape.now tape.now w }
-    ensures { result ≡ (is_some (wide (token_of tape.now tape.now w)) or is_some (number_of (token_of tape.now tape.now w))) }
+fn is_term(texts: &Texts<'_>, w: u64) -> bool
+    requires { Points texts.now w }
+    ensures { result ≡ (is_some (wide (token_of texts.now w)) or is_some (number_of (token_of texts.now w))) }
 {
-    is_wide(tape, w) || is_number(tape, w)
+    is_wide(texts, w) || is_number(texts, w)
 }
 
 // Whether a token can stand in no expression.
-fn is_junk(tape: &[u8], w: u64) -> bool
-    requires { Points tape.now tape.now w }
-    ensures { result ≡ any is_junk (lexemes_of (token_of tape.now tape.now w)) }
+fn is_junk(texts: &Texts<'_>, w: u64) -> bool
+    requires { Points texts.now w }
+    ensures { result ≡ any is_junk (lexemes_of (token_of texts.now w)) }
 {
-    words::kind(w) != words::PUNCT && !is_term(tape, w)
+    words::kind(w) != words::PUNCT && !is_term(texts, w)
 }
 
 // Whether a line has a token that can stand in no expression, wherever it stands.
-pub fn has_junk(tape: &[u8], line: &[u64]) -> bool
-    requires { Holds tape.now tape.now line.now }
-    ensures { result ≡ has_junk tape.now line.now }
+pub fn has_junk(line: &Line<'_>) -> bool
+    requires { Holds line.now }
+    ensures { result ≡ has_junk line.now }
 {
-    for w in line {
-        if is_junk(tape, *w) {
-            return true;
-        }
-    }
-    false
+    line.words.iter().any(|w| is_junk(&line.texts, *w))
 }

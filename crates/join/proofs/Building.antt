@@ -17,9 +17,8 @@ use Rattle.lines.specs.Lines.{Reading, listing_read}
 use Rattle.lines.proofs.words.Lines.{listing_at, listed_none}
 use Rattle.plan.specs.declared.plans.Join.{Join}
 use Rattle.build.specs.declared.used.Size.{Size}
-use Rattle.build.specs.declared.line.Appended.{Appended}
 use Rattle.build.proofs.Listing.{listed-added, listing-added}
-use Rattle.join.specs.Building.{Placed, Put, plan_of, Plannable, nothing_used, acted_upto, Upto, Rebuilt}
+use Rattle.join.specs.Building.{Placed, plan_of, Plannable, nothing_used, acted_upto, Upto, Rebuilt}
 use Rattle.join.proofs.Rows.{within_begin, text_few, words_few, within_passed, within-placed}
 
 -- two lists with the same rest
@@ -63,16 +62,16 @@ module _ {rules : Rules} {tape old : Text} {words lines : List ℕ} {j : Join} (
 
     -- any other line
     module _ (b : k < length lines) (n : k ≡ j.line → ⊥) {source : ℕ} (es : source ≡ get_or lines j.line 0) where
-      pub placed : {area' : Text} {tokens' : List ℕ} {r : Appended} → Placed rules tape old words source j k (get_or lines' k 0) area tokens size area' tokens' r
-          → {lines'' : List ℕ} {size' : Size} → Put r lines' lines'' size' → Upto rules tape old words lines j (k + 1) area' tokens' lines'' size'
-      placed {area'} {tokens'} {r} a p =
+      pub placed : {area' : Text} {tokens' : List ℕ} {at' : Size} {v : ℕ} → Placed rules tape old words source j k (get_or lines' k 0) area tokens size area' tokens' at' v
+          → Upto rules tape old words lines j (k + 1) area' tokens' (set lines' at'.lines v) (record { lines = at'.lines + 1; tokens = at'.tokens; text = at'.text })
+      placed {at' = at'} {v} a =
           let el : get_or lines' k 0 ≡ get_or lines k 0 = rest_at k lines' lines u.rest_is in
-          let inside : r.size.lines < length lines' = omega (arith, a.lines_are, u.behind, u.as_many) in
-          let front : take (r.size.lines + 1) (set lines' r.size.lines r.line) ≡ take size.lines lines' ++ (r.line ∷ []) =
-          rw (add-one, take-suc-set lines' r.size.lines r.line inside, a.lines_are) in
-          rw (p.size_is, p.lines_are) (record {
-            as_many = length-set lines' r.size.lines r.line ∙ u.as_many;
-            rest_is = drop-set-lt (k + 1) lines' r.size.lines r.line (omega (arith, a.lines_are, u.behind)) ∙ rest-next k lines' lines u.rest_is;
+          let inside : at'.lines < length lines' = omega (arith, a.lines_are, u.behind, u.as_many) in
+          let front : take (at'.lines + 1) (set lines' at'.lines v) ≡ take size.lines lines' ++ (v ∷ []) =
+          rw (add-one, take-suc-set lines' at'.lines v inside, a.lines_are) in
+          record {
+            as_many = length-set lines' at'.lines v ∙ u.as_many;
+            rest_is = drop-set-lt (k + 1) lines' at'.lines v (omega (arith, a.lines_are, u.behind)) ∙ rest-next k lines' lines u.rest_is;
             behind = omega (arith, a.lines_are, u.behind);
             listed = rw front (listed-added a u.listed);
             means = λ addresses.
@@ -82,7 +81,7 @@ module _ {rules : Rules} {tape old : Text} {words lines : List ℕ} {j : Join} (
                 (sym (built_turn (acted_line rules j.line plan) j.line (listing_read tape old words addresses lines) k blank (rw length-map b) n
                 ∙ rw (listing_at tape old words addresses lines k b, el, es)));
             within = within-placed h u.within b n es el a refl refl;
-          })
+          }
 
     pub finished : length lines ≡ k → size.text ≤ length area → size.tokens ≤ length tokens → Rebuilt rules tape old words lines j area tokens lines' size
     finished e ha ht = record {

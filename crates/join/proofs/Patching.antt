@@ -23,7 +23,6 @@ use Rattle.lines.specs.Lines.{Reading, line_read, bare_in, listing_read, Lined, 
 use Rattle.lines.proofs.words.Lines.{listing_at, listed-set, listed-grows, listing-grows, listed-remove}
 use Rattle.plan.specs.declared.plans.Join.{Join}
 use Rattle.build.specs.declared.used.Size.{Size}
-use Rattle.build.specs.declared.line.Appended.{Appended}
 use Rattle.build.proofs.Growing.{grown}
 use Rattle.build.proofs.Listing.{lined_elsewhere, line_elsewhere}
 use Rattle.join.specs.Building.{new_tokens, Placeable, Placed, plan_of, Plannable}
@@ -177,36 +176,36 @@ module _ {rules : Rules} {tape old : Text} {words lines : List ℕ} {j : Join} (
             })
             (omega (arith, u.words_left, s.words_short)) es same_word
 
-        module _ {area' : Text} {tokens' : List ℕ} {r : Appended} (a : Placed rules tape old words source j k (get_or lines' k 0) area tokens size area' tokens' r)
+        module _ {area' : Text} {tokens' : List ℕ} {at' : Size} {v : ℕ} (a : Placed rules tape old words source j k (get_or lines' k 0) area tokens size area' tokens' at' v)
             (s : Spare area' tokens' from (need_from words lines j (j.line + 1))) where
-          row_text : r.size.text ≤ size.text + sum room row
+          row_text : at'.text ≤ size.text + sum room row
           row_text = (rw (es, same_word) at a).text_most
 
-          row_words : r.size.tokens ≤ size.tokens + length row
+          row_words : at'.tokens ≤ size.tokens + length row
           row_words = (rw (es, same_word) at a).words_most
 
-          text_now : r.size.text + need_from words lines j (k + 1) ≤ from.text + need_from words lines j (j.line + 1)
+          text_now : at'.text + need_from words lines j (k + 1) ≤ from.text + need_from words lines j (j.line + 1)
           text_now = omega (arith, row_text, row_room, u.text_left, need_step)
 
-          words-now : 24 * r.size.tokens + need_from words lines j (k + 1) ≤ 24 * from.tokens + need_from words lines j (j.line + 1)
+          words-now : 24 * at'.tokens + need_from words lines j (k + 1) ≤ 24 * from.tokens + need_from words lines j (j.line + 1)
           words-now = omega (arith, row_words, row_room, room-count row, u.words_left, need_step)
 
-          of_text : Mixes old area area' from.text size.text r.size.text
-          of_text = mixes old area area' from.text size.text r.size.text eo u.text_from a.text_grows (omega (arith, text_now, s.text_fits)) a.text_below
+          of_text : Mixes old area area' from.text size.text at'.text
+          of_text = mixes old area area' from.text size.text at'.text eo u.text_from a.text_grows (omega (arith, text_now, s.text_fits)) a.text_below
 
-          of_words : Mixes words tokens tokens' from.tokens size.tokens r.size.tokens
-          of_words = mixes words tokens tokens' from.tokens size.tokens r.size.tokens ew u.words_from (omega (arith, a.end_is)) (omega (arith, words-now, s.words_fit)) a.words_below
+          of_words : Mixes words tokens tokens' from.tokens size.tokens at'.tokens
+          of_words = mixes words tokens tokens' from.tokens size.tokens at'.tokens ew u.words_from (omega (arith, a.end_is)) (omega (arith, words-now, s.words_fit)) a.words_below
 
           abbrev new_text : Text
-          new_text = mixed old from.text r.size.text area'
+          new_text = mixed old from.text at'.text area'
 
           abbrev new_words : List ℕ
-          new_words = mixed words from.tokens r.size.tokens tokens'
+          new_words = mixed words from.tokens at'.tokens tokens'
 
-          lined-now : Lined tape new_text new_words r.line
+          lined-now : Lined tape new_text new_words v
           lined-now = rw (of_text.whole, of_words.whole) at (lined_elsewhere a new_text new_words of_text.part of_words.part of_text.long of_words.long)
 
-          line_now : (addresses : Reading) → line_read tape new_text new_words addresses r.line ≡ by_plan k (get_or (listing_read tape old words addresses lines) k blank)
+          line_now : (addresses : Reading) → line_read tape new_text new_words addresses v ≡ by_plan k (get_or (listing_read tape old words addresses lines) k blank)
           line_now addresses =
               (rw (of_text.whole, of_words.whole) at (line_elsewhere a new_text new_words of_text.part of_words.part of_text.long of_words.long addresses))
               ∙ rw (old_line addresses, es)
@@ -217,15 +216,15 @@ module _ {rules : Rules} {tape old : Text} {words lines : List ℕ} {j : Join} (
           listing_now : (addresses : Reading) → listing_read tape new_text new_words addresses lines' ≡ changed_upto by_plan (listing_read tape old words addresses lines) k
           listing_now addresses = rw (of_text.more, of_words.more) (listing-grows _ _ u.listed addresses) ∙ u.means addresses
 
-          pub patch_placed : Patching rules tape old words lines j from (k + 1) area' tokens' (set lines' k r.line) r.size
+          pub patch_placed : Patching rules tape old words lines j from (k + 1) area' tokens' (set lines' k v) at'
           patch_placed = record {
-            as_many = length-set lines' k r.line ∙ u.as_many;
-            rest_is = drop-set-lt (k + 1) lines' k r.line (omega arith) ∙ rest-next k lines' lines u.rest_is;
+            as_many = length-set lines' k v ∙ u.as_many;
+            rest_is = drop-set-lt (k + 1) lines' k v (omega arith) ∙ rest-next k lines' lines u.rest_is;
             text_from = omega (arith, u.text_from, a.text_grows);
             words_from = omega (arith, u.words_from, a.end_is);
             listed = listed-set listed-now k lined-now;
             means = λ addresses.
-                map-set (line_read tape new_text new_words addresses) lines' k r.line
+                map-set (line_read tape new_text new_words addresses) lines' k v
                 ∙ rw (listing_now addresses, line_now addresses)
                 (sym (changed-set by_plan (listing_read tape old words addresses lines) k (rw length-map next-inside)));
             text_left = text_now;

@@ -20,7 +20,6 @@ use Rattle.lines.specs.Lines.{Reading, part_of, line_read, bare_in}
 use Rattle.plan.specs.declared.plans.Join.{Join}
 use Rattle.plan.specs.Plans.{join_in}
 use Rattle.build.specs.declared.used.Size.{Size}
-use Rattle.build.specs.declared.line.Appended.{Appended}
 use Rattle.build.specs.Substitution.{right_of}
 use Rattle.build.specs.Added.{Added, Keepable, Kept, unmerged, Rewritable, Rewritten}
 use Rattle.build.proofs.Rooms.{text_room}
@@ -46,9 +45,9 @@ module _ (vol : List Text) (i : ℕ) (p : Plan) (k : ℕ) (l : Line) where
 -- ---- what is appended
 
 -- the same line, said in other words, and within wider bounds
-module _ {tape area : Text} {tokens : List ℕ} {at : Size} {line : Reading → Line} {n k : ℕ} {area' : Text} {tokens' : List ℕ} {r : Appended} where
-  added_as : Added tape area tokens at line n k area' tokens' r → (line' : Reading → Line) (n' k' : ℕ) → ((addresses : Reading) → line addresses ≡ line' addresses) → n ≤ n' → k ≤ k'
-      → Added tape area tokens at line' n' k' area' tokens' r
+module _ {tape area : Text} {tokens : List ℕ} {at : Size} {line : Reading → Line} {n k : ℕ} {area' : Text} {tokens' : List ℕ} {at' : Size} {v : ℕ} where
+  added_as : Added tape area tokens at line n k area' tokens' at' v → (line' : Reading → Line) (n' k' : ℕ) → ((addresses : Reading) → line addresses ≡ line' addresses) → n ≤ n' → k ≤ k'
+      → Added tape area tokens at line' n' k' area' tokens' at' v
   added_as a line' n' k' same hn hk = record {
     lined = a.lined;
     line_is = λ addresses. a.line_is addresses ∙ same addresses;
@@ -96,8 +95,8 @@ module _ {rules : Rules} {tape old : Text} {words : List ℕ} {source : ℕ} {j 
           first_fits = h.first_fits;
         }
 
-    pub placed-kept : {area' : Text} {tokens' : List ℕ} {r : Appended} → Kept tape old words l area tokens at area' tokens' r
-        → Placed rules tape old words source j k l area tokens at area' tokens' r
+    pub placed-kept : {area' : Text} {tokens' : List ℕ} {at' : Size} {v : ℕ} → Kept tape old words l area tokens at area' tokens' at' v
+        → Placed rules tape old words source j k l area tokens at area' tokens' at' v
     unfolding changes
     placed-kept a =
         added_as a _ _ _ (λ addresses. sym (line_kept (volatile rules) j.line plan _ k (line_read tape old words addresses l) same))
@@ -124,8 +123,8 @@ module _ {rules : Rules} {tape old : Text} {words : List ℕ} {source : ℕ} {j 
       few = rw rewritten_tokens at h.few;
     }
 
-    pub placed_rewritten : {area' : Text} {tokens' : List ℕ} {r : Appended} → Rewritten rules.edition tape old words source (substitution_of j) l area tokens at area' tokens' r
-        → Placed rules tape old words source j k l area tokens at area' tokens' r
+    pub placed_rewritten : {area' : Text} {tokens' : List ℕ} {at' : Size} {v : ℕ} → Rewritten rules.edition tape old words source (substitution_of j) l area tokens at area' tokens' at' v
+        → Placed rules tape old words source j k l area tokens at area' tokens' at' v
     unfolding changes right_of right_side_of
     placed_rewritten a =
         added_as a _ _ _ (λ addresses. sym (line_changed (volatile rules) j.line plan _ k (line_read tape old words addresses l) other))

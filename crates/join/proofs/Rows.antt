@@ -19,7 +19,6 @@ use Rattle.lines.specs.Lines.{bare_listing}
 use Rattle.lines.proofs.words.Lines.{bare_at}
 use Rattle.plan.specs.declared.plans.Join.{Join}
 use Rattle.build.specs.declared.used.Size.{Size}
-use Rattle.build.specs.declared.line.Appended.{Appended}
 use Rattle.build.specs.State.{Room}
 use Rattle.join.specs.Building.{new_tokens, Placeable, Placed, plan_of, Plannable, unmerged_upto, Within, nothing_used}
 
@@ -101,8 +100,8 @@ module _ {rules : Rules} {tape old : Text} {words lines : List ℕ} {j : Join} (
           placeable_in k b n (record { text_fits = omega arith; short = omega arith; words_fit = omega arith }) (omega arith) es el
 
       -- it is written
-      pub within-placed : {area' : Text} {tokens' : List ℕ} {r : Appended} → Placed rules tape old words source j k l area tokens size area' tokens' r
-          → {size' : Size} → size'.text ≡ r.size.text → size'.tokens ≡ r.size.tokens → Within rules tape old words lines j (k + 1) size'
+      pub within-placed : {area' : Text} {tokens' : List ℕ} {at' : Size} {v : ℕ} → Placed rules tape old words source j k l area tokens size area' tokens' at' v
+          → {size' : Size} → size'.text ≡ at'.text → size'.tokens ≡ at'.tokens → Within rules tape old words lines j (k + 1) size'
       within-placed a et ew =
           let p = rw (es, el) at a in
           record { text_most = omega (arith, p.text_most, w.text_most, more_room k b n); words_most = omega (arith, p.words_most, w.words_most, more_words k b n) }

@@ -1,7 +1,7 @@
 -- The new listing of a plan, line after line: what a line becomes, what the loop that builds it has after k lines, and what is left in
 -- the end.
 -- Assumes nothing.
-use Rattle.std.specs.Prelude.{ℕ, ◌+◌, ◌≤◌, ◌<◌, ◌≡◌, List, length, get_or, set, take, drop}
+use Rattle.std.specs.Prelude.{ℕ, ◌≤◌, ◌<◌, ◌≡◌, List, length, get_or, take, drop}
 use Rattle.reference.specs.Text.{Text}
 use Rattle.reference.specs.Listing.{Token, Line, Listing}
 use Rattle.reference.specs.Rules.{Rules, volatile}
@@ -16,7 +16,6 @@ use Rattle.plan.specs.Plans.{join_in, Joins}
 use Rattle.build.specs.State.{used, Room}
 use Rattle.build.specs.Added.{used_words, Added}
 use Rattle.build.specs.declared.used.Size.{Size}
-use Rattle.build.specs.declared.line.Appended.{Appended}
 use Rattle.build.specs.declared.merge.Substitution.{Substitution}
 use Rattle.join.specs.Current.{listing_now, Current}
 
@@ -48,15 +47,10 @@ pub record Placeable (rules : Rules) (tape old : Text) (words : List ℕ) (sourc
   pub first_fits : at.tokens < 65536
   pub few : length (new_tokens rules tape old words source j k l) < 2048
 
-abbrev pub Placed : Rules → Text → Text → List ℕ → ℕ → Join → ℕ → ℕ → Text → List ℕ → Size → Text → List ℕ → Appended → Type 0
+abbrev pub Placed : Rules → Text → Text → List ℕ → ℕ → Join → ℕ → ℕ → Text → List ℕ → Size → Text → List ℕ → Size → ℕ → Type 0
 Placed rules tape old words source j k l area tokens at =
     Added tape area tokens at (new_line rules tape old words source j k l)
     (sum room (new_tokens rules tape old words source j k l)) (length (new_tokens rules tape old words source j k l))
-
--- the word of the line that was appended stands behind the lines in use, and every other word is as it was
-pub record Put (a : Appended) (lines lines' : List ℕ) (r : Size) : Type 0 where
-  pub lines_are : lines' ≡ set lines a.size.lines a.line
-  pub size_is : r ≡ record { lines = a.size.lines + 1; tokens = a.size.tokens; text = a.size.text }
 
 -- ---- the listing
 

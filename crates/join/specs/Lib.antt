@@ -1,7 +1,9 @@
 -- What an attempt's contracts cite: the listing that it works on, the new listing of a plan, the marks handed on, what it finds and leaves,
--- and a listing changed in place.
+-- and a listing changed in place; and the same over the structs in which the slices are lent (Workspaces, Builders).
 pub mod Current
 pub mod Building
 pub mod Carrying
 pub mod Attempts
+pub mod Workspaces
 pub mod Patching
+pub mod Builders

@@ -8,7 +8,7 @@ use Rattle.reference.specs.Rules.{Rules}
 use Rattle.reference.specs.Claim.{sum}
 use Rattle.joining.specs.Plan.{map_from, acted_line, act}
 use Rattle.lines.specs.Words.{len_of}
-use Rattle.lines.specs.Lines.{Reading, part_of, listing_read, Listed}
+use Rattle.lines.specs.Lines.{Reading, first_of, count_of, part_of, listing_read, Listed}
 use Rattle.plan.specs.declared.plans.Join.{Join}
 use Rattle.build.specs.declared.used.Size.{Size}
 use Rattle.join.specs.Building.{plan_of}
@@ -44,6 +44,10 @@ pub record Spare (area : Text) (tokens : List ℕ) (at : Size) (n : ℕ) : Type 
   pub text_short : at.text + n < 65536
   pub words_fit : 24 * at.tokens + n ≤ 24 * length tokens
   pub words_short : 24 * at.tokens + n < 1572864
+
+-- each of the first m lines names words among the first n
+abbrev pub Within : List ℕ → ℕ → ℕ → Type 0
+Within lines m n = (k : ℕ) → k < m → first_of (get_or lines k 0) + count_of (get_or lines k 0) ≤ n
 
 -- ---- the listing
 

@@ -1,15 +1,15 @@
 // A plan carried out in place: the lines that change are written behind the used marks, and everything else stays where it is.
-// Kept: the two sets are written, and are lent slices: with a struct of them each contract would have to say besides that the same ones
-// are still lent, which is no plainer.
 ghost use Rattle.std.specs.Prelude.{◌≡◌, ◌+◌, length};
 ghost use Rattle.lines.specs.Rules.{rules_of};
-ghost use Rattle.build.specs.State.{used};
-ghost use Rattle.build.specs.Added.{used_words};
-ghost use Rattle.join.specs.Current.{used_lines, Current};
-ghost use Rattle.join.specs.Building.{Plannable, Acted};
-ghost use Rattle.join.specs.Patching.{need_from, Spare, Patched};
+ghost use Rattle.build.specs.Builders as builders;
+ghost use Rattle.join.specs.Patching.{need_from};
+ghost use Rattle.join.specs.Builders as Builders;
+ghost use Rattle.join.specs.Builders.{Spare, Patched};
+ghost use Rattle.join.specs.Workspaces.{SameLent, Current, Plannable, Acted, SpareFirst, SpareSecond, need};
 
-use crate::changing::{is_changed, rewrite};
+use crate::changing::{is_changed, substitution};
+use crate::workspace::Workspace;
+use build::Builder;
 use build::used::Size;
 use lines::rules::Rules;
 use lines::texts::Texts;
@@ -23,77 +23,66 @@ fn patch_lines(
     lines: &mut [u64],
     j: Join,
     rules: Rules,
-    area2: &mut [u8],
-    tokens2: &mut [u64],
-    size: Size,
-) -> Size
-    requires { Plannable (rules_of rules) texts.now.tape.now texts.now.area.now tokens.now lines.old j
-        × (length texts.now.area.now ≡ size.text)
-        × (length tokens.now ≡ size.tokens)
-        × Spare area2.old tokens2.old size (need_from tokens.now lines.old j (j.line + 1)) }
-    ensures { Patched (rules_of rules) texts.now.tape.now texts.now.area.now tokens.now lines.old j size
-        area2.new tokens2.new lines.new result }
+    second: &mut Builder<'_>,
+)
+    requires { Builders.Plannable (rules_of rules) texts.now tokens.now lines.old j
+        × (length texts.now.area.now ≡ second.old.size.text)
+        × (length tokens.now ≡ second.old.size.tokens)
+        × Spare second.old (need_from tokens.now lines.old j (j.line + 1)) }
+    ensures patched { Patched (rules_of rules) texts.now tokens.now lines.old j second.old.size
+        second.new lines.new }
+    ensures lent { builders.SameLent second.old second.new }
 {
     let source = lines[j.line];
-    let mut s = size;
     for k in j.line + 1..j.last + 1 {
         let l = lines[k];
         if is_changed(texts, tokens, l, k, j, rules) {
-            let a = rewrite(
+            lines[k] = second.rewrite_line(
                 texts,
                 tokens,
                 source,
                 l,
-                j,
-                area2,
-                tokens2,
-                s,
+                substitution(j),
                 rules.edition,
             );
-            lines[k] = a.line;
-            s = a.size;
         }
     }
     lines.copy_within(j.line + 1.., j.line);
-    Size {
-        lines: lines.len() - 1,
-        ..s
-    }
+    second.size.lines = lines.len() - 1;
 }
 
 // Carries out the plan j in place.
-pub fn patch(
-    tape: &[u8],
-    area: &mut [u8],
-    tokens: &mut [u64],
-    lines: &mut [u64],
-    area2: &mut [u8],
-    tokens2: &mut [u64],
-    j: Join,
-    rules: Rules,
-    size: Size,
-) -> Size
-    requires { Plannable (rules_of rules) tape.now (used area.old size) (used_words tokens.old size) (used_lines lines.old size) j
-        × Current tape.now area.old tokens.old lines.old size
-        × Spare area.old tokens.old size (need_from (used_words tokens.old size) (used_lines lines.old size) j (j.line + 1))
-        × Spare area2.old tokens2.old size (need_from (used_words tokens.old size) (used_lines lines.old size) j (j.line + 1)) }
-    ensures { Acted (rules_of rules) tape.now (used area.old size) (used_words tokens.old size)
-        (used_lines lines.old size) j area.new tokens.new lines.new result }
+// Kept: beside `rebuild`, which begins the second set with nothing and asks other room of it: one function for both would take the size to
+// begin with, and `patch_lines` or `build` as a closure, and its clauses would have to be of that closure's.
+pub fn patch(tape: &[u8], room: &mut Workspace<'_>, j: Join, rules: Rules, size: Size) -> Size
+    requires { Plannable (rules_of rules) tape.now room.old size j × Current tape.now room.old size
+        × SpareFirst room.old size (need room.old size j) × SpareSecond room.old size (need room.old size j) }
+    ensures acted { Acted (rules_of rules) tape.now room.old size j room.new result }
+    ensures marks { room.new.marks.now ≡ room.old.marks.now }
+    ensures lent { SameLent room.old room.new }
 {
-    let after = patch_lines(
+    // Lent on one by one: it was tried without, and the borrow checker has no rule yet for a second slice that is read through a `room`
+    // that is lent to be written, so no proof could be begun.
+    let area = &mut *room.area;
+    let tokens = &mut *room.tokens;
+    let mut second = Builder {
+        area: room.area2,
+        tokens: room.tokens2,
+        size,
+    };
+    patch_lines(
         &Texts {
             tape,
             area: &area[..size.text],
         },
         &tokens[..size.tokens],
-        &mut lines[..size.lines],
+        &mut room.lines[..size.lines],
         j,
         rules,
-        area2,
-        tokens2,
-        size,
+        &mut second,
     );
-    area[size.text..after.text].copy_from_slice(&area2[size.text..after.text]);
-    tokens[size.tokens..after.tokens].copy_from_slice(&tokens2[size.tokens..after.tokens]);
+    let after = second.size;
+    area[size.text..after.text].copy_from_slice(&second.area[size.text..after.text]);
+    tokens[size.tokens..after.tokens].copy_from_slice(&second.tokens[size.tokens..after.tokens]);
     after
 }

@@ -41,7 +41,7 @@ pub fn laborious(n: u64, out: &mut [u8]) -> Answer
     ensures { Writes (laborious_reply n (length out.old)) out.old out.new (answer_of result) }
 {
     if 256 < n {
-        return Err(Reason::TooManyLines.at(0));
+        return Err(Reason::TooLong.at(0));
     }
     if out.len() < 59137 {
         return Err(Reason::TooLittleRoom.at(0));

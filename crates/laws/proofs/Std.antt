@@ -165,6 +165,12 @@ ends-std s t = same-std t (drop (length s - length t) s) ∙ same_turn t (drop (
     ∙ by_cases (dec_le (length t) (length s)) (λ k. sym (ends-drop s t k))
     (λ k. same_lengths (drop (length s - length t) s) t (λ e. omega (arith, length-drop (length s - length t) s)) ∙ sym (ends-short s t (omega arith)))
 
+-- `strip_prefix(t)`
+pub prefix-std : (s t : List ℕ) → pointwise eqb (take (length t) s) t ≡ text.starts_with s t
+prefix-std s t = same-std (take (length t) s) t
+    ∙ by_cases (dec_le (length t) (length s)) (λ k. sym (starts_take s t k))
+    (λ k. same_lengths (take (length t) s) t (λ e. omega (arith, length-take (length t) s)) ∙ sym (starts_short s t (omega arith)))
+
 -- ---- what is left behind a front of spaces
 
 pub spaces-std : (s : List ℕ) → drop (prefix_len (λ b. eqb b 32) s) s ≡ trim_start s

@@ -1,25 +1,24 @@
--- Jumps: the last line that passes a test, the lookup of a label's name, and what a `while` and a `goto` say. Assumes nothing.
-use Prim.Native.Nat.{ℕ, suc, ◌+◌, ◌-◌, ◌≤◌, ◌<◌}
+-- Jumps: the name that a label line has, and what a `while` and a `goto` say. Assumes nothing.
+use Prim.Native.Nat.{ℕ, ◌+◌, ◌≤◌, ◌<◌}
 use native.Mathlib.Numerals.{add-one}
 use native.Mathlib.Omega.{arith}
 use mathlib.Core.Path.{◌≡◌, refl, sym, ap, ◌∙◌}
 use mathlib.Core.Bool.{Bool, true, false, false≢true}
-use mathlib.Core.List.{List, [], ◌∷◌, ◌++◌, map, map-append}
-use mathlib.Core.Option.{Option, none, some}
+use mathlib.Core.List.{List, [], ◌∷◌}
+use mathlib.Core.Option.{none, some}
 use lib.Dec.{leb, ltb}
 use lib.ListN.{length, get_or, take, drop, length-map}
-use lib.Seq.{take-suc, length-take-le}
 use borrow.Author.Tests.{le-leb, lt-leb, lt-ltb, le-ltb, eq-eqb, ne_eqb}
 use Rattle.reference.specs.Control.{not, ◌and◌, when◌then◌else◌, let_some◌else◌then◌}
 use Rattle.reference.specs.Lists.{position, last_position, find, get}
-use Rattle.reference.specs.Text.{Text, bytes, ◌≟◌}
+use Rattle.reference.specs.Text.{Text, bytes}
 use Rattle.reference.specs.Listing.{is, Symbol, Line, Listing, ◌at◌}
 use Rattle.reference.specs.Shapes.{is_kw, kw_in, is_label, label_tokens}
 use Rattle.reference.specs.Join.{text_or_empty}
 use Rattle.reference.specs.Life.{Labels, lookup, touch_of, is_use, is_do, goto_target, rerun_kills, while_passes, goto_passes}
 use Rattle.laws.proofs.Scans.{if-true, if-false}
-use Rattle.joining.specs.Places.{label_at, labels_at, Labelled}
-use Rattle.joining.proofs.Labels.{label_inside, lookup_hit, lookup_miss, lookup_end}
+use Rattle.joining.specs.Places.{label_at, Labelled}
+use Rattle.joining.proofs.Labels.{label_inside}
 use Rattle.lines.specs.Words.{text_of, token_of, tokens_of, Holds}
 use Rattle.lines.specs.Lines.{indent_of, part_of, bare_in, bare_listing, Lined}
 use Rattle.lines.specs.Shapes.{symbol_from}
@@ -30,41 +29,6 @@ use Rattle.life.specs.Jumps.{jump}
 use Rattle.std.specs.Prelude as std
 use Rattle.std.specs.Prelude.{Some, None}
 use Rattle.reference.specs.Options.{option_of}
-
--- ---- the last that passes, from the end back: o is what the whole search is to find
-
-module _ {ℓ} {A : Type ℓ} (p : A → Bool) where
-  last_snoc : (xs : List A) (x : A) → last_position p (xs ++ (x ∷ [])) ≡ (when p x then some (length xs) else last_position p xs)
-  unfolding let_some◌else◌then◌ when◌then◌else◌
-  last_snoc [] x = refl
-  last_snoc (y ∷ ys) x = rw (last_snoc ys x) (go (p x))
-    where
-      here : Option ℕ
-      here = when p y then some 0 else none
-
-      go : (b : Bool) → (let_some (when b then some (length ys) else last_position p ys) else here then λ i. some (suc i))
-          ≡ (when b then some (suc (length ys)) else (let_some (last_position p ys) else here then λ i. some (suc i)))
-      go true = refl
-      go false = refl
-
-module _ {A : Type 0} (p : A → Bool) (f : ℕ → A) (ws : List ℕ) (n : ℕ) {o : Option ℕ} (inv : o ≡ last_position p (map f (take n ws)))
-    (h : 0 < n) (b : n ≤ length ws) {x : Bool} (ex : x ≡ p (f (get_or ws (n - 1) 0))) where
-  last_turn : o ≡ (when x then some (n - 1) else last_position p (map f (take (n - 1) ws)))
-  last_turn =
-      let e : n ≡ suc (n - 1) = omega arith in
-      let size : length (map f (take (n - 1) ws)) ≡ n - 1 = length-map (take (n - 1) ws) f ∙ length-take-le (n - 1) ws (omega arith) in
-      inv
-      ∙ ap (λ (m : ℕ). last_position p (map f (take m ws))) e
-      ∙ ap (λ (l : List ℕ). last_position p (map f l)) (take-suc ws (n - 1) 0 (omega arith))
-      ∙ ap (last_position p) (map-append f (take (n - 1) ws) (get_or ws (n - 1) 0 ∷ []))
-      ∙ last_snoc p (map f (take (n - 1) ws)) (f (get_or ws (n - 1) 0))
-      ∙ rw (size, ← ex)
-
-  pub last_hit : x ≡ true → some (n - 1) ≡ o
-  last_hit t = sym (last_turn ∙ if-true _ _ t)
-
-  pub last_miss : x ≡ false → o ≡ last_position p (map f (take (n - 1) ws))
-  last_miss t = last_turn ∙ if-false _ _ t
 
 -- ---- `do`
 
@@ -105,30 +69,8 @@ module _ (tape area : Text) (tokens lines places : List ℕ) (ok : Labelled (bar
     pub place_long : 0 < length (part_of tokens (get_or lines p 0))
     place_long = label-long tape area (part_of tokens (get_or lines p 0)) (ap is_label (sym at_place) ∙ labelled)
 
-    name_is : (label_at (bare_listing tape area tokens lines) p).name ≡ text_of tape area (get_or (part_of tokens (get_or lines p 0)) 0 0)
+    pub name_is : (label_at (bare_listing tape area tokens lines) p).name ≡ text_of tape area (get_or (part_of tokens (get_or lines p 0)) 0 0)
     name_is = ap (λ (l : Line). text_or_empty (get l.tokens 0)) at_place ∙ first_text tape area (part_of tokens (get_or lines p 0)) place_long
-
-  -- o is what the whole search is to find, from the last label back
-  module _ (name : Text) (n : ℕ) {o : Option ℕ} (inv : o ≡ lookup (labels_at (bare_listing tape area tokens lines) (take n places)) name) where
-    module _ (h : 0 < n) (b : n ≤ length places) {p : ℕ} (ep : p ≡ get_or places (n - 1) 0) {x : Bool}
-        (ex : x ≡ (text_of tape area (get_or (part_of tokens (get_or lines p 0)) 0 0) ≟ name)) where
-      told : {y : Bool} → x ≡ y → ((label_at (bare_listing tape area tokens lines) (get_or places (n - 1) 0)).name ≟ name) ≡ y
-      told e = rw (← ep, name_is (n - 1) (omega arith) ep) (sym ex ∙ e)
-
-      before : o ≡ lookup (labels_at (bare_listing tape area tokens lines) (take (n - 1 + 1) places)) name
-      before = let e : n ≡ n - 1 + 1 = omega arith in inv ∙ ap (λ (m : ℕ). lookup (labels_at (bare_listing tape area tokens lines) (take m places)) name) e
-
-      pub named_hit : x ≡ true → some p ≡ o
-      named_hit t = ap some ep ∙ sym (before ∙ lookup_hit (bare_listing tape area tokens lines) places name (n - 1) (omega arith) (told t))
-
-      pub named_miss : x ≡ false → o ≡ lookup (labels_at (bare_listing tape area tokens lines) (take (n - 1) places)) name
-      named_miss t = before ∙ lookup_miss (bare_listing tape area tokens lines) places name (n - 1) (omega arith) (told t)
-
-    pub named_end : n ≤ 0 → none ≡ o
-    named_end h =
-        let e : n ≡ 0 = omega arith in
-        sym (inv ∙ ap (λ (m : ℕ). lookup (labels_at (bare_listing tape area tokens lines) (take m places)) name) e
-        ∙ lookup_end (bare_listing tape area tokens lines) places name)
 
 -- ---- where a `goto` jumps to
 

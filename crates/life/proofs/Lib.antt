@@ -2,4 +2,5 @@
 pub mod Touching
 pub mod Scanning
 pub mod Jumping
+pub mod Backwards
 pub mod Places

@@ -3,15 +3,16 @@ ghost use Rattle.std.specs.Prelude.{◌≡◌, ◌<◌, length, get_or};
 ghost use Rattle.reference.specs.Text.{has};
 ghost use Rattle.reference.specs.Rules.{volatile};
 ghost use Rattle.reference.specs.Life.{dead_after};
-ghost use Rattle.joining.specs.Places.{labels_at, Labelled};
 ghost use Rattle.lines.specs.Rules.{rules_of};
 ghost use Rattle.lines.specs.Codes.{family_number};
+ghost use Rattle.life.specs.Labels.{Labelled, labels_of};
 ghost use Rattle.life.specs.Liveness.{returns_at, scan_liveness, liveness_after};
 ghost use Rattle.lines.specs.Texts.{Known, Lined, Listed, bare_in, bare_listing, fam_text};
 
 use crate::jumps::{goto_passes, while_passes};
+use crate::labels::LabelledListing;
 use crate::liveness::{Followed, Liveness, liveness_at};
-use linefacts::{is_calling, is_transparent, number_of};
+use linefacts::{fact_number, is_calling, is_transparent};
 use lines::texts::Listing;
 use lines::{fams, shapes, words};
 
@@ -21,7 +22,7 @@ fn returns_at(listing: &Listing<'_>, l: u64, base_indent: u64) -> bool
     ensures { result ≡ returns_at base_indent (bare_in listing.now.texts listing.now.tokens.now l) }
 {
     words::indent(l) <= base_indent
-        && shapes::has_return(&listing.texts, words::line_of(listing.tokens, l))
+        && shapes::has_kw(&listing.texts, words::line_of(listing.tokens, l), b"return")
 }
 
 // A line that no jump decides.
@@ -39,24 +40,27 @@ fn scan(listing: &Listing<'_>, l: u64, v: Followed) -> Liveness
 }
 
 // What line w, after the definition, does to the value.
-fn liveness_after(listing: &Listing<'_>, labels: &[u64], w: usize, v: Followed) -> Liveness
-    requires { Listed listing.now
-        × Labelled (bare_listing listing.now) labels.now × Known listing.now.texts v.family
-        × (w < length listing.now.lines.now) × (v.start < length listing.now.lines.now) }
-    ensures { result ≡ liveness_after (bare_listing listing.now)
-        (fam_text listing.now.texts v.family) v.indent
-        (labels_at (bare_listing listing.now) labels.now) v.start
-        (volatile (rules_of v.rules)) w (bare_in listing.now.texts listing.now.tokens.now (get_or listing.now.lines.now w 0)) }
+fn liveness_after(scope: &LabelledListing<'_>, w: usize, v: Followed) -> Liveness
+    requires { Labelled scope.now × Known scope.now.listing.texts v.family
+        × (w < length scope.now.listing.lines.now) × (v.start < length scope.now.listing.lines.now) }
+    ensures { result ≡ liveness_after (bare_listing scope.now.listing)
+        (fam_text scope.now.listing.texts v.family) v.indent (labels_of scope.now) v.start
+        (volatile (rules_of v.rules)) w
+        (bare_in scope.now.listing.texts scope.now.listing.tokens.now (get_or scope.now.listing.lines.now w 0)) }
 {
-    let l = listing.lines[w];
-    if shapes::has_while(&listing.texts, words::line_of(listing.tokens, l)) {
-        if while_passes(listing, w, v) {
+    let l = scope.listing.lines[w];
+    if shapes::has_kw(
+        &scope.listing.texts,
+        words::line_of(scope.listing.tokens, l),
+        b"while",
+    ) {
+        if while_passes(&scope.listing, w, v) {
             Liveness::Open
         } else {
             Liveness::Live
         }
-    } else if goto_passes(listing, labels, l, v) {
-        scan(listing, l, v)
+    } else if goto_passes(scope, l, v) {
+        scan(&scope.listing, l, v)
     } else {
         Liveness::Live
     }
@@ -65,24 +69,22 @@ fn liveness_after(listing: &Listing<'_>, labels: &[u64], w: usize, v: Followed) 
 // What line w does to the value, by its facts where they tell it: a transparent line does nothing, and a calling one what calls do to the
 // family. n is the family's number, and `overwritten` says whether calls overwrite it.
 fn liveness_by_facts(
-    listing: &Listing<'_>,
-    labels: &[u64],
+    scope: &LabelledListing<'_>,
     w: usize,
     v: Followed,
     n: u64,
     overwritten: bool,
 ) -> Liveness
-    requires { Listed listing.now
-        × Labelled (bare_listing listing.now) labels.now × Known listing.now.texts v.family
-        × (w < length listing.now.lines.now) × (v.start < length listing.now.lines.now)
-        × (n ≡ family_number (fam_text listing.now.texts v.family))
-        × (overwritten ≡ has (volatile (rules_of v.rules)) (fam_text listing.now.texts v.family)) }
-    ensures { result ≡ liveness_after (bare_listing listing.now)
-        (fam_text listing.now.texts v.family) v.indent
-        (labels_at (bare_listing listing.now) labels.now) v.start
-        (volatile (rules_of v.rules)) w (bare_in listing.now.texts listing.now.tokens.now (get_or listing.now.lines.now w 0)) }
+    requires { Labelled scope.now × Known scope.now.listing.texts v.family
+        × (w < length scope.now.listing.lines.now) × (v.start < length scope.now.listing.lines.now)
+        × (n ≡ family_number (fam_text scope.now.listing.texts v.family))
+        × (overwritten ≡ has (volatile (rules_of v.rules)) (fam_text scope.now.listing.texts v.family)) }
+    ensures { result ≡ liveness_after (bare_listing scope.now.listing)
+        (fam_text scope.now.listing.texts v.family) v.indent (labels_of scope.now) v.start
+        (volatile (rules_of v.rules)) w
+        (bare_in scope.now.listing.texts scope.now.listing.tokens.now (get_or scope.now.listing.lines.now w 0)) }
 {
-    let l = listing.lines[w];
+    let l = scope.listing.lines[w];
     if is_transparent(l, n) {
         return Liveness::Open;
     }
@@ -92,23 +94,21 @@ fn liveness_by_facts(
         }
         return Liveness::Open;
     }
-    liveness_after(listing, labels, w, v)
+    liveness_after(scope, w, v)
 }
 
 // Whether the family's value at the end of line `from` is never read again.
-pub fn dead_after(listing: &Listing<'_>, labels: &[u64], from: usize, v: Followed) -> bool
-    requires { Listed listing.now
-        × Labelled (bare_listing listing.now) labels.now × Known listing.now.texts v.family
-        × (from < length listing.now.lines.now) × (v.start < length listing.now.lines.now) }
-    ensures { result ≡ dead_after (bare_listing listing.now) from
-        (fam_text listing.now.texts v.family) v.indent
-        (labels_at (bare_listing listing.now) labels.now) v.start
+pub fn dead_after(scope: &LabelledListing<'_>, from: usize, v: Followed) -> bool
+    requires { Labelled scope.now × Known scope.now.listing.texts v.family
+        × (from < length scope.now.listing.lines.now) × (v.start < length scope.now.listing.lines.now) }
+    ensures { result ≡ dead_after (bare_listing scope.now.listing) from
+        (fam_text scope.now.listing.texts v.family) v.indent (labels_of scope.now) v.start
         (volatile (rules_of v.rules)) }
 {
-    let n = number_of(&listing.texts, v.family);
-    let overwritten = fams::is_volatile(&listing.texts, v.family, v.rules);
-    for w in from + 1..listing.lines.len() {
-        match liveness_by_facts(listing, labels, w, v, n, overwritten) {
+    let n = fact_number(&scope.listing.texts, v.family);
+    let overwritten = fams::is_volatile(&scope.listing.texts, v.family, v.rules);
+    for w in from + 1..scope.listing.lines.len() {
+        match liveness_by_facts(scope, w, v, n, overwritten) {
             Liveness::Dead => return true,
             Liveness::Live => return false,
             Liveness::Open => {}

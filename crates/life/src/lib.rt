@@ -9,6 +9,6 @@ mod labels; // the places of the label lines
 mod touches; // how a line touches a family
 
 pub use dead::dead_after;
-pub use labels::{gather_labels, shift_labels};
+pub use labels::{LabelledListing, gather_labels, shift_labels};
 pub use liveness::Followed;
 pub use touches::{Touched, kills, touch, uses};

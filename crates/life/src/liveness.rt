@@ -23,6 +23,8 @@ pub enum Liveness {
 
 // A value that is followed through the lines: the family that holds it, how deep at most a line stands that ends it, the line that defines
 // it, and the settings.
+// Kept: that a listing has a line `start` is asked beside it, in nine contracts. It is a fact of the listing too, and for `rerun_kills`
+// `killed_first` follows the value through a part of the lines, in which `start` is no place: a struct of both could not ask it.
 #[derive(Clone, Copy)]
 pub struct Followed {
     pub family: Fam,

@@ -1,7 +1,8 @@
 // The facts of lines, made from their tokens once, before the rounds.
 //
-// Kept: a function takes the texts and the tokens beside each other where it writes the lines, which a `Listing` lends to be read. A struct
-// with the lines to be written would need in its contract that it still lends the same slices, which is no plainer.
+// Kept: `gather_facts` takes the texts, the tokens and the lines beside each other: a `Listing` lends its lines to be read, and here they
+// are written. A struct that lends them to be written is no plainer: it would be made for this one function, and taken apart at once, since
+// each turn of the loop reads the texts and the tokens and writes a line.
 ghost use Rattle.std.specs.Prelude.{◌≡◌, ℕ, ◌<◌};
 ghost use Rattle.reference.specs.Lists.{any, is_some};
 ghost use Rattle.reference.specs.Shapes.{call_in};
@@ -14,17 +15,20 @@ ghost use Rattle.lines.specs.Texts.{Holds, Lined, Points, token_of, tokens_of};
 use lines::texts::Texts;
 use lines::{shapes, words};
 
-// Bits of what a line may have: a token of control flow, a Symbol; all families and control flow.
+// While facts are made, a bit that is set says what there may be; `facts_of` turns all of them over at the end.
+
+// What a line may have, in a number of its own: bit 15 a token of control flow, bit 16 a Symbol (which is no fact, and goes no further);
+// all families and control flow.
 const CONTROL: u64 = 32768;
 
 const SYMBOLS: u64 = 65536;
 
 const ALL: u64 = 65535;
 
-// Bits of whether a line calls: it may call, it may have no call.
-const CALLS: u64 = 65536;
+// Whether a line calls: bit 16 it may call, bit 17 it may have no call. Turned over they are `NO_CALL` and `CALLING` of transparent.rt.
+const MAY_CALL: u64 = 65536;
 
-const NO_CALL: u64 = 131072;
+const MAY_NOT_CALL: u64 = 131072;
 
 // Whether a token may make its line a jump, a label, the edge of a block or a call of an address.
 #[tactic(auto, using(crate::proofs::Tokens::control_keyword, crate::proofs::Tokens::control_brace, crate::proofs::Tokens::control_colon))]
@@ -34,7 +38,7 @@ fn is_control(texts: &Texts<'_>, w: u64) -> bool
 {
     words::kind(w) == words::KEYWORD
         || shapes::has_brace(texts, w)
-        || text::is_colon(words::text(texts, w))
+        || text::same(words::text(texts, w), b":")
 }
 
 // The bit of a Register's family, as its code says; one without a code may be anything.
@@ -72,6 +76,8 @@ fn bits_of(texts: &Texts<'_>, line: &[u64]) -> u64
     requires { Holds texts.now line.now }
     ensures { Bits result (λ (i : ℕ). any (seen_by i) (tokens_of texts.now line.now)) }
 {
+    // Kept: a loop: the kit's lemma of `fold` (`fold_from_yields_List`) is of a closure that computes a function of the total and the item,
+    // and `token_bits` does not promise which number it answers, only what each bit tells that is not set.
     let mut has = 0;
     for w in line {
         has |= token_bits(texts, *w);
@@ -86,15 +92,15 @@ fn call_bits(texts: &Texts<'_>, line: &[u64], has: u64) -> u64
     ensures { CallBits result (is_some (call_in (tokens_of texts.now line.now))) }
 {
     if CONTROL <= has % 65536 {
-        return CALLS + NO_CALL;
+        return MAY_CALL + MAY_NOT_CALL;
     }
     if has < SYMBOLS {
-        return NO_CALL;
+        return MAY_NOT_CALL;
     }
     if shapes::has_call(texts, line) {
-        return CALLS;
+        return MAY_CALL;
     }
-    NO_CALL
+    MAY_NOT_CALL
 }
 
 // The facts of a line: the bits of what it has and of whether it calls, turned over, so that a bit that is set says what is not.

@@ -9,4 +9,4 @@ mod gathering; // the facts of lines, made from their tokens
 mod transparent; // lines without the family, control flow and calls, and calling lines, by their facts
 
 pub use gathering::gather_facts;
-pub use transparent::{is_calling, is_transparent, number_of};
+pub use transparent::{fact_number, is_calling, is_transparent};

@@ -9,13 +9,14 @@ use lines::fams::Fam;
 use lines::texts::Texts;
 use lines::{codes, words};
 
-// The facts of control flow, of no call, of a call.
+// The bits of facts that are not of a family: the line has no control flow, it has no call, it has a call.
 const CONTROL: u64 = 15;
 
 const NO_CALL: u64 = 16;
 
 const CALLING: u64 = 17;
 
+// Whether the bit i of the facts of the line l is set.
 #[tactic(auto, unfolding(crate::specs::Transparent::has_fact, lines::specs::Facts::bit))]
 fn has_fact(l: u64, i: u64) -> bool
     requires { i < 64 }
@@ -52,6 +53,7 @@ pub fn is_calling(l: u64, n: u64) -> bool
     is_transparent_save_calls(l, n) && has_fact(l, CALLING)
 }
 
+// The number of a family that is no row's: 8 and the bucket of its name.
 fn name_number(texts: &Texts<'_>, w: u64) -> u64
     requires { Points texts.now w × (is_row (text_of texts.now w) ≡ false) }
     ensures { result ≡ family_number (text_of texts.now w) }
@@ -62,9 +64,9 @@ fn name_number(texts: &Texts<'_>, w: u64) -> u64
     }
 }
 
-// The number of a family: its row, or 8 and the bucket of its name.
+// The number that facts have for a family: its row, or 8 and the bucket of its name.
 #[tactic(auto, using(crate::proofs::Making::row_is, crate::proofs::Making::text_is))]
-pub fn number_of(texts: &Texts<'_>, f: Fam) -> u64
+pub fn fact_number(texts: &Texts<'_>, f: Fam) -> u64
     requires { Known texts.now f }
     ensures { result ≡ family_number (fam_text texts.now f) }
 {

@@ -23,8 +23,9 @@ pub record Known (tape area : Text) (f : Fam) : Type 0 where
   pub points : 8 ≤ f → Points tape area f
   pub no_row : 8 ≤ f → is_row (text_of tape area f) ≡ false
 
-unfoldable pub fam_number : Text → Text → Fam → ℕ
-fam_number tape area f = when ltb f 8 then f else number_of (text_of tape area f)
+-- the number by which the lists of what a call overwrites name the family
+unfoldable pub fam_number : Text → Text → Fam → Option ℕ
+fam_number tape area f = when ltb f 8 then some f else number_of (text_of tape area f)
 
 abbrev pub named : Text → Text → std.Option Named → Option N.Fam
 named tape area (std.Some n) = some (record { name = fam_text tape area n.family; width = n.width; lowest = n.lowest })

@@ -1,6 +1,6 @@
 // Codes: the family and the width of a token's text that begins at bit 0, found once and kept in its word. A high byte has none, and is
 // read.
-ghost use Rattle.std.specs.Prelude.{◌≡◌, ◌+◌, ◌*◌, ◌%◌};
+ghost use Rattle.std.specs.Prelude.{◌≡◌, ◌+◌, ◌*◌, ◌%◌, Some};
 ghost use Rattle.reference.specs.Text.{◌≟◌};
 ghost use Rattle.reference.specs.Names.{family};
 ghost use Rattle.names.specs.Families.{Spells};
@@ -27,14 +27,14 @@ pub fn bucket(s: &[u8]) -> u64
 // ---- from the code
 
 // The width that a code says: 64, 32, 16 or 8.
-pub fn width_of(c: u64) -> u64
+pub(crate) fn width_of(c: u64) -> u64
     ensures { result ≡ coded_width c }
 {
     64 >> (c % 4)
 }
 
 // Whether two tokens have one text: codes that differ tell at once.
-pub fn same_text(texts: &Texts<'_>, v: u64, w: u64) -> bool
+pub(crate) fn same_text(texts: &Texts<'_>, v: u64, w: u64) -> bool
     requires { Points texts.now v × Points texts.now w }
     ensures { result ≡ (text_of texts.now v ≟ text_of texts.now w) }
 {
@@ -63,7 +63,7 @@ fn place_of(width: u64) -> Option<u64>
 
 // The code of a row and a width from bit 0.
 fn row_code(s: &[u8], row: u64, width: u64) -> Option<u64>
-    requires { Spells s.now (family s.now) (Row row width 0) }
+    requires { Spells s.now (family s.now) (Some (Row row width 0)) }
     ensures { Codes s.now result }
 {
     if s.is_empty() {
@@ -75,7 +75,7 @@ fn row_code(s: &[u8], row: u64, width: u64) -> Option<u64>
 // The code of a text that is its family's name.
 #[tactic(auto, using(crate::proofs::codes::Coding::coding))]
 fn whole_code(s: &[u8], n: usize) -> Option<u64>
-    requires { Spells s.now (family s.now) (Front n 64) }
+    requires { Spells s.now (family s.now) (Some (Front n 64)) }
     ensures { Codes s.now result }
 {
     if n == 0 || n != s.len() {
@@ -86,7 +86,7 @@ fn whole_code(s: &[u8], n: usize) -> Option<u64>
 
 // The code of a text that is its family's name and one byte more, which no name of 64 bits is.
 fn front_code(s: &[u8], n: usize, width: u64) -> Option<u64>
-    requires { Spells s.now (family s.now) (Front n width) }
+    requires { Spells s.now (family s.now) (Some (Front n width)) }
     ensures { Codes s.now result }
 {
     if width == 64 || n + 1 != s.len() {
@@ -99,11 +99,15 @@ fn front_code(s: &[u8], n: usize, width: u64) -> Option<u64>
 fn code_of(s: &[u8]) -> Option<u64>
     ensures { Codes s.now result }
 {
-    match names::family(s) {
-        Spelled::Row(row, width, 0) => row_code(s, row, width),
-        Spelled::Front(n, 64) => whole_code(s, n),
-        Spelled::Front(n, width) => front_code(s, n, width),
-        Spelled::Row(_, _, _) | Spelled::Nothing => None,
+    match names::family(s)? {
+        Spelled::Row {
+            row,
+            width,
+            lowest: 0,
+        } => row_code(s, row, width),
+        Spelled::Row { .. } => None,
+        Spelled::Front { length, width: 64 } => whole_code(s, length),
+        Spelled::Front { length, width } => front_code(s, length, width),
     }
 }
 

@@ -37,18 +37,17 @@ fn spelled(texts: &Texts<'_>, w: u64) -> Option<Named>
     requires { Points texts.now w }
     ensures { Names texts.now.tape.now texts.now.area.now (family (text_of texts.now w)) result }
 {
-    match names::family(words::text(texts, w)) {
-        Spelled::Row(family, width, lowest) => Some(Named {
-            family,
+    match names::family(words::text(texts, w))? {
+        Spelled::Row { row, width, lowest } => Some(Named {
+            family: row,
             width,
             lowest,
         }),
-        Spelled::Front(n, width) => Some(Named {
-            family: words::first_bytes(w, n),
+        Spelled::Front { length, width } => Some(Named {
+            family: words::first_bytes(w, length),
             width,
             lowest: 0,
         }),
-        Spelled::Nothing => None,
     }
 }
 
@@ -119,7 +118,7 @@ pub fn is_of(texts: &Texts<'_>, w: u64, f: Fam) -> bool
 
 // Whether a token is a Register of the family, of less than 32 bits.
 #[tactic(auto, using(crate::proofs::fams::Families::families))]
-pub fn is_narrow_of(texts: &Texts<'_>, w: u64, f: Fam) -> bool
+pub(crate) fn is_narrow_of(texts: &Texts<'_>, w: u64, f: Fam) -> bool
     requires { Points texts.now w × Known texts.now f }
     ensures { result ≡ is_narrow (fam_text texts.now f) (token_of texts.now w) }
 {
@@ -129,25 +128,27 @@ pub fn is_narrow_of(texts: &Texts<'_>, w: u64, f: Fam) -> bool
     }
 }
 
-// The family by its number.
+// The number by which the lists of what a call overwrites name the family.
 #[tactic(auto, using(crate::proofs::fams::Families::families))]
-fn number_of(texts: &Texts<'_>, f: Fam) -> u64
+fn listed_number(texts: &Texts<'_>, f: Fam) -> Option<u64>
     requires { Known texts.now f }
-    ensures { result ≡ fam_number texts.now.tape.now texts.now.area.now f }
+    ensures { option_of result ≡ fam_number texts.now.tape.now texts.now.area.now f }
 {
     if f < 8 {
-        return f;
+        return Some(f);
     }
     names::number_of(words::text(texts, f))
 }
 
 // Whether a call overwrites the family.
-#[tactic(auto, using(crate::proofs::fams::Families::fam_overwritten))]
 pub fn is_volatile(texts: &Texts<'_>, f: Fam, rules: Rules) -> bool
     requires { Known texts.now f }
     ensures { result ≡ has (volatile (rules_of rules)) (fam_text texts.now f) }
 {
-    names::overwritten(number_of(texts, f), rules.convention)
+    let Some(n) = listed_number(texts, f) else {
+        return false;
+    };
+    names::overwritten(n, rules.convention)
 }
 
 // ---- in a line

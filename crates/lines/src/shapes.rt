@@ -4,7 +4,7 @@
 ghost use Rattle.std.specs.Prelude.{◌≡◌, ◌+◌, ◌≤◌, ◌<◌, length, get_or};
 ghost use Rattle.reference.specs.Options.{option_of};
 ghost use Rattle.reference.specs.Lists.{position, is_some};
-ghost use Rattle.reference.specs.Text.{Text, bytes};
+ghost use Rattle.reference.specs.Text.{Text};
 ghost use Rattle.reference.specs.Shapes.{label_tokens, is_kw, kw_in, has_brace, braces_in, calls_here, call_in, begins_assignment};
 ghost use Rattle.reference.specs.Shapes.{is_written, is_operator, is_operator_expr};
 ghost use Rattle.reference.specs.Join.{lone_number};
@@ -24,13 +24,14 @@ pub fn is_label(texts: &Texts<'_>, line: &[u64]) -> bool
     let [name, colon] = line else {
         return false;
     };
-    text::is_colon(words::text(texts, *colon)) && words::kind(*name) == words::SYMBOL
+    text::same(words::text(texts, *colon), b":") && words::kind(*name) == words::SYMBOL
 }
 
 // ---- keywords
 
+// Whether a token is a Keyword with that text.
 #[tactic(auto, using(crate::proofs::shapes::Tests::token_tests), unfolding(reference::specs::Shapes::is_kw))]
-fn is_kw(texts: &Texts<'_>, w: u64, kw: &[u8]) -> bool
+pub fn is_kw(texts: &Texts<'_>, w: u64, kw: &[u8]) -> bool
     requires { Points texts.now w }
     ensures { result ≡ is_kw kw.now (token_of texts.now w) }
 {
@@ -38,56 +39,19 @@ fn is_kw(texts: &Texts<'_>, w: u64, kw: &[u8]) -> bool
 }
 
 // The place of the first Keyword with that text.
-fn kw_at(texts: &Texts<'_>, line: &[u64], kw: &[u8]) -> Option<usize>
+pub fn kw_at(texts: &Texts<'_>, line: &[u64], kw: &[u8]) -> Option<usize>
     requires { Holds texts.now line.now }
     ensures { option_of result ≡ position (is_kw kw.now) (tokens_of texts.now line.now) }
 {
     line.iter().position(|w| is_kw(texts, *w, kw))
 }
 
-fn has_kw(texts: &Texts<'_>, line: &[u64], kw: &[u8]) -> bool
+// Whether there is a Keyword with that text.
+pub fn has_kw(texts: &Texts<'_>, line: &[u64], kw: &[u8]) -> bool
     requires { Holds texts.now line.now }
     ensures { result ≡ kw_in (tokens_of texts.now line.now) kw.now }
 {
     line.iter().any(|w| is_kw(texts, *w, kw))
-}
-
-// Kept: a function for each keyword that callers ask about. With `has_kw` in place of the four, each caller would spell the keyword's
-// bytes, which is no plainer.
-
-pub fn has_do(texts: &Texts<'_>, line: &[u64]) -> bool
-    requires { Holds texts.now line.now }
-    ensures { result ≡ kw_in (tokens_of texts.now line.now) (bytes "do") }
-{
-    has_kw(texts, line, b"do")
-}
-
-pub fn has_while(texts: &Texts<'_>, line: &[u64]) -> bool
-    requires { Holds texts.now line.now }
-    ensures { result ≡ kw_in (tokens_of texts.now line.now) (bytes "while") }
-{
-    has_kw(texts, line, b"while")
-}
-
-pub fn has_goto(texts: &Texts<'_>, line: &[u64]) -> bool
-    requires { Holds texts.now line.now }
-    ensures { result ≡ kw_in (tokens_of texts.now line.now) (bytes "goto") }
-{
-    has_kw(texts, line, b"goto")
-}
-
-pub fn has_return(texts: &Texts<'_>, line: &[u64]) -> bool
-    requires { Holds texts.now line.now }
-    ensures { result ≡ kw_in (tokens_of texts.now line.now) (bytes "return") }
-{
-    has_kw(texts, line, b"return")
-}
-
-pub fn goto_at(texts: &Texts<'_>, line: &[u64]) -> Option<usize>
-    requires { Holds texts.now line.now }
-    ensures { option_of result ≡ position (is_kw (bytes "goto")) (tokens_of texts.now line.now) }
-{
-    kw_at(texts, line, b"goto")
 }
 
 // The place of the first Symbol from `from` on, whatever the texts are.
@@ -122,7 +86,7 @@ fn is_called(texts: &Texts<'_>, w: u64, next: u64) -> bool
 {
     words::kind(w) == words::SYMBOL
         && words::kind(next) == words::PUNCT
-        && text::begins_bracket(words::text(texts, next))
+        && text::starts(words::text(texts, next), b"(")
 }
 
 // Whether a token, with the one after it, is a call mark.
@@ -131,7 +95,7 @@ fn is_call_mark(texts: &Texts<'_>, w: u64, next: u64) -> bool
     ensures { result ≡ calls_here (token_of texts.now w, token_of texts.now next) }
 {
     is_called(texts, w, next)
-        || words::kind(w) == words::KEYWORD && text::begins_void(words::text(texts, w))
+        || words::kind(w) == words::KEYWORD && text::starts(words::text(texts, w), b"((void")
 }
 
 // The place of the first call mark.
@@ -155,6 +119,8 @@ pub fn has_call(texts: &Texts<'_>, line: &[u64]) -> bool
 // The right side of an assignment: the place in the line of its first token (1 where text follows the ` = ` of token 1, which its first
 // token then lacks), how many tokens it has, and whether the last of them lacks the `;` at its end. (A `;` that is a token by itself is
 // not counted.)
+// Kept: places in a line and no slice, with the line beside it in each call. A plan keeps the right side while the tables that its line
+// stands in are lent to be written, so that it can hold no part of them; a struct of line and right side would be made anew at each call.
 #[derive(Clone, Copy)]
 pub struct Expr {
     pub first: usize,
@@ -198,7 +164,7 @@ fn begins_assignment(texts: &Texts<'_>, lhs: u64, eq: u64) -> bool
 {
     words::kind(lhs) == words::REGISTER
         && words::kind(eq) == words::PUNCT
-        && text::begins_assign(words::text(texts, eq))
+        && text::starts(words::text(texts, eq), b" = ")
 }
 
 // The right side of a line whose second token begins with ` = `, from the token at `first` on.
@@ -211,7 +177,7 @@ fn right_side(texts: &Texts<'_>, line: &[u64], first: usize) -> Option<Expr>
         return None;
     }
     let last = right_word(line, n - 1);
-    if !text::ends_semicolon(words::text(texts, last)) {
+    if !text::ends(words::text(texts, last), b";") {
         return None;
     }
     if words::len(last) != 1 {
@@ -256,7 +222,7 @@ pub fn is_lone_number(line: &[u64], x: Expr) -> bool
 // ---- in a line
 
 // Whether the token at `pos` is the target of an assignment (`x = ..`, `x += ..`, `x++`).
-pub fn is_written(texts: &Texts<'_>, line: &[u64], pos: usize) -> bool
+pub(crate) fn is_written(texts: &Texts<'_>, line: &[u64], pos: usize) -> bool
     requires { Holds texts.now line.now × (pos < length line.now) }
     ensures { result ≡ is_written (tokens_of texts.now line.now) pos }
 {
@@ -267,7 +233,7 @@ pub fn is_written(texts: &Texts<'_>, line: &[u64], pos: usize) -> bool
         return false;
     }
     let s = words::text(texts, *next);
-    text::begins_assign(s) || text::begins_update(s)
+    text::starts(s, b" = ") || text::begins_update(s)
 }
 
 // Whether a token is a Punct with a space at an edge, and no comma between its edge spaces.
@@ -281,7 +247,7 @@ fn is_operator(texts: &Texts<'_>, w: u64) -> bool
     }
     let s = words::text(texts, w);
     let t = text::trim(s);
-    t.len() < s.len() && !text::is_comma(t)
+    t.len() < s.len() && !text::same(t, b",")
 }
 
 // Whether the right side x of a line has an operator among its tokens, of which there are several.

@@ -1,4 +1,9 @@
 // Where the texts of a listing's tokens stand, and a listing as it stands in the tables: what travels from function to function as one.
+//
+// Kept: that words point into their texts (`Points`, `Holds`, `Lined`, `Listed`, `Known` of specs/Texts) is asked in contracts, and is no
+// invariant of these structs. `Texts` has no words. Of a `Listing` it is a fact between values, the words of two slices against the lengths
+// of the tokens, the tape and the area; an invariant would spare its clause only where a whole listing is lent, while most functions take a
+// line or a token beside the texts, and each place that makes a `Listing` of a part of the lines or of another area would have to show it.
 
 // A token's text is a part of the tape or, once it was rewritten, of the area.
 #[derive(Clone, Copy)]

@@ -5,7 +5,10 @@
 // once rewritten, in the area.
 // A line word: first token in 16 bits, count in 11 bits, indent in 6 bits, whether it has an
 // address in 1 bit, and its origin, the number of the input line that it was, in 8 bits; above them
-// its facts (crate linefacts).
+// its facts (crate linefacts). (The address itself stands in a table, by the line's origin.)
+//
+// Kept: words that point into buffers. There is no heap, so that tokens and lines stand in arrays of a fixed size; and the area is written
+// while words point into it, which no reference to a part of it would allow.
 ghost use Rattle.std.specs.Prelude.{◌≡◌, ◌+◌, ◌/◌, ◌%◌, ◌≤◌, ◌<◌, eqb, length};
 ghost use Rattle.lines.specs.Words.{kind_of, buffer_of, start_of, len_of, word, with_code, without_first, first_bytes};
 ghost use Rattle.lines.specs.Words.{without_last, CodeIs};
@@ -17,7 +20,8 @@ use crate::texts::Texts;
 
 // The kinds that the cleaner asks about. (Address is 5 and Prefix is 7.)
 // Kept: numbers, as the C interface's tapes and the definitions have them. A kind that is read from a word is compared with one of these,
-// put into another word or written to a tape; an enum would be made of the number only to be turned back, which is no plainer.
+// put into another word or written to a tape; an enum would be made of the number only to be turned back, which is no plainer. The number
+// costs `kind < 8` in four contracts: here, in build append.rt and merge.rt, and in tables writing.rt.
 pub const PLAIN: u64 = 0;
 
 pub const REGISTER: u64 = 1;
@@ -31,13 +35,15 @@ pub const SYMBOL: u64 = 4;
 pub const PUNCT: u64 = 6;
 
 // The buffers that hold a text.
-// Kept: the two values of one bit of a word. An enum would say no more than these names, and need a function to the bit and one from it.
+// Kept: the two values of one bit of a word, as the definitions have it. An enum would need a function to the bit and one from it. A `bool`
+// would spare one clause, `buffer < 2` of `token_word`; but calls would say `true` where they say `IN_AREA`, or name it as here.
 pub const IN_TAPE: u64 = 0;
 
 pub const IN_AREA: u64 = 1;
 
 // A place, a length or a number of an input line, to be put into a word.
-// Kept: `u64` has no `From<usize>`; `try_from` would answer an error that there never is.
+// Kept: a cast: `u64` has no `From<usize>`, and `u64::try_from` is no plainer, since it asks what to do where 64 bits do not hold the
+// number, which is nowhere.
 fn wide(n: usize) -> u64
     ensures { result ≡ n }
 {
@@ -45,7 +51,8 @@ fn wide(n: usize) -> u64
 }
 
 // A place, a length or a number of an input line, read from a word: the part of `size` values whose lowest bit counts `unit`.
-// Kept: `usize` has no `From<u64>`; `try_from` would answer an error that there never is.
+// Kept: a cast: `usize` has no `From<u64>`, and `usize::try_from` is no plainer, since it asks what to do where the part does not fit,
+// which is nowhere.
 fn part(w: u64, unit: u64, size: u64) -> usize
     requires { (0 < unit) × (0 < size) }
     ensures { result ≡ w / unit % size }
@@ -102,7 +109,7 @@ pub fn code(w: u64) -> Option<u64>
 
 // The token with the code c.
 #[tactic(auto, unfolding(crate::specs::Words::with_code))]
-pub fn with_code(w: u64, c: u64) -> u64
+pub(crate) fn with_code(w: u64, c: u64) -> u64
     requires { c < 268435456 }
     ensures { result ≡ with_code w c }
 {
@@ -111,7 +118,7 @@ pub fn with_code(w: u64, c: u64) -> u64
 
 // The token without the first n bytes of its text.
 #[tactic(auto, using(crate::proofs::words::Tokens::bounds), unfolding(crate::specs::Words::without_first))]
-pub fn without_first(w: u64, n: usize) -> u64
+pub(crate) fn without_first(w: u64, n: usize) -> u64
     requires { (n ≤ len_of w) × (start_of w + len_of w < 65536) }
     ensures { result ≡ without_first w n }
 {
@@ -120,7 +127,7 @@ pub fn without_first(w: u64, n: usize) -> u64
 
 // The token of the first n bytes of its text.
 #[tactic(auto, using(crate::proofs::words::Tokens::bounds), unfolding(crate::specs::Words::first_bytes))]
-pub fn first_bytes(w: u64, n: usize) -> u64
+pub(crate) fn first_bytes(w: u64, n: usize) -> u64
     requires { n ≤ len_of w }
     ensures { result ≡ first_bytes w n }
 {
@@ -128,7 +135,7 @@ pub fn first_bytes(w: u64, n: usize) -> u64
 }
 
 // The token without the last byte of its text.
-pub fn without_last(w: u64) -> u64
+pub(crate) fn without_last(w: u64) -> u64
     requires { 1 ≤ len_of w }
     ensures { result ≡ without_last w }
 {

@@ -1,9 +1,11 @@
 -- The first part of a text, and what is left: each turn of a loop over lines or fields. Assumes nothing.
-use Prim.Native.Nat.{ℕ, suc, ◌+◌, ◌≤◌, ◌<◌}
+use Prim.Native.Nat.{ℕ, suc, ◌+◌, ◌≤◌, ◌<◌, min}
 use native.Mathlib.Omega.{arith}
 use native.Mathlib.Numerals.{add-one}
 use mathlib.Core.Path.{◌≡◌, refl, sym, ap, ◌∙◌}
-use mathlib.Core.Bool.{true}
+use native.Mathlib.Decide.{dec_lt}
+use mathlib.Core.Bool.{true, false}
+use mathlib.Core.Logic.{by_cases}
 use mathlib.Core.List.{List, [], ◌∷◌, ◌++◌}
 use lib.Dec.{eqb}
 use lib.ListN.{length, get_or, length-take}
@@ -12,15 +14,14 @@ use borrow.Author.Tests.{eq-eqb, ne_eqb}
 use Rattle.reference.specs.Control.{when◌then◌else◌}
 use Rattle.reference.specs.Text.{Text}
 use Rattle.words.specs.Splitting.{onto}
-use Rattle.std.proofs.Common.{◌-◌, Option, Some, None, MatchOption, Bor, take, drop, length-append}
+use Rattle.std.proofs.Common.{true≢false, slice_index_or, ◌-◌, Option, Some, None, MatchOption, Bor, take, drop, length-append}
 use Rattle.std.specs.List.{position, position_or_len}
 use Rattle.std.proofs.lemmas.Grind.{common_steps}
 use Rattle.std.proofs.lemmas.List.Quantifiers.{position-Some}
 use Rattle.std.proofs.lemmas.Bool.{eqb-true}
-use Rattle.std.proofs.lemmas.List.{get_or-take, take-append-drop}
+use Rattle.std.proofs.lemmas.List.{get_or-take, take-append-drop, append_assoc, append-nil, get_or_append_left, get_or-append-add}
 use Rattle.laws.proofs.Parts.{to_end}
 use Rattle.std.proofs.lemmas.List.Sums.{fails_before_first}
-use Rattle.std.specs.Option.{unwrap_or}
 use Rattle.listing_text.specs.Exact.{ended, apart}
 
 -- ---- a text without the byte b
@@ -91,10 +92,6 @@ abbrev pub parts_of : ℕ → Option (Bor Text) → List Text
 parts_of b None = []
 parts_of b (Some t) = apart b t.now
 
-abbrev pub lines_of : ℕ → Option (Bor Text) → List Text
-lines_of b None = []
-lines_of b (Some t) = ended b t.now
-
 abbrev pub size_of : Option (Bor Text) → ℕ
 size_of None = 0
 size_of (Some t) = suc (length t.now)
@@ -103,29 +100,56 @@ pub first_part : (b : ℕ) (t front : Text) (behind : Option (Bor Text)) → Wit
 first_part b t front None n e = rw e (apart-only b front n)
 first_part b t front (Some more) n e = rw e (apart_then b front more.now n)
 
-pub first_line : (b : ℕ) (t front : Text) (behind : Option (Bor Text)) → 0 < length t → Without b front → SplitsAt b t front behind → ended b t ≡ front ∷ lines_of b behind
-first_line b t front None h n e = let k : 0 < length front = rw e at h in rw e (ended-only b front k n)
-first_line b t front (Some more) h n e = rw e (ended_then b front more.now n)
-
-pub shorter : (b : ℕ) (t front : Text) (behind : Option (Bor Text)) → SplitsAt b t front behind → size_of behind ≤ length t
-shorter b t front None e = omega arith
-shorter b t front (Some more) e = omega (arith, ap length e, length-append front (b ∷ more.now))
-
 pub two_parts : (b : ℕ) (t front : Text) (behind : Option (Bor Text)) (rest : Bor Text) (second : Text) (more : Option (Bor Text)) → Without b front → SplitsAt b t front behind
     → behind ≡ Some rest → Without b second → SplitsAt b rest.now second more → apart b t ≡ front ∷ second ∷ parts_of b more
 two_parts b t front behind rest second more n e is m f =
     first_part b t front behind n e ∙ ap (λ (o : Option (Bor Text)). front ∷ parts_of b o) is ∙ ap (λ (ts : List Text). front ∷ ts) (first_part b rest.now second more m f)
 
-pub no_lines : (b : ℕ) (t : Text) → length t ≤ 0 → ended b t ≡ []
+pub no_lines : (b : ℕ) (t : Text) → length t ≡ 0 → ended b t ≡ []
 unfolding ended
 no_lines b [] h = refl
-no_lines b (x ∷ t) h = absurd (omega arith)
+no_lines b (x ∷ t) h = absurd (omega (arith, h))
 
--- the text behind a part, empty where none stands there
-pub lines_left : (b : ℕ) (behind : Option (Bor Text)) {x : Bor Text} (none : Bor Text) → x ≡ unwrap_or behind none → none.now ≡ [] → ended b x.now ≡ lines_of b behind
-lines_left b None none e n = no_lines b _ (rw (e, n) (omega arith))
-lines_left b (Some more) none e n = ap (λ (t : Bor Text). ended b t.now) e
+-- ---- a piece that `split_inclusive` gives of s: its bytes up to the first b, before which i bytes stand
 
-pub left-shorter : (behind : Option (Bor Text)) {n : ℕ} {x : Bor Text} (none : Bor Text) → x ≡ unwrap_or behind none → none.now ≡ [] → size_of behind ≤ n → 0 < n → length x.now + 1 ≤ n
-left-shorter None none e n h m = rw (e, n) (omega arith)
-left-shorter (Some more) none e n h m = rw e (omega arith)
+module _ (b : ℕ) (s x t : Text) (i : ℕ) (e : s ≡ x ++ t) (n : length x ≡ min (i + 1) (length s)) (all : (k d : ℕ) → 0 ≤ k → k < i → eqb (slice_index_or s k d) b ≡ false)
+    (at : i < length s → (d : ℕ) → eqb (slice_index_or s i d) b ≡ true) where
+  -- with a b in it, it ends there
+  ends_there : (front more : Text) → x ≡ front ++ (b ∷ more) → more ≡ []
+  ends_there front [] f = refl
+  ends_there front (y ∷ more) f =
+      let k : ℕ = length front + 0 in
+      let l : length x ≡ length front + suc (suc (length more)) = ap length f ∙ length-append front (b ∷ y ∷ more) in
+      let m : length s ≡ length x + length t = ap length e ∙ length-append x t in
+      let here : get_or s k 0 ≡ b =
+      ap (λ (r : Text). get_or r k 0) e ∙ get_or_append_left x t 0 k (omega (arith, l)) ∙ ap (λ (r : Text). get_or r k 0) f
+      ∙ get_or-append-add front (b ∷ y ∷ more) 0 0 in
+      let other : eqb (get_or s k 0) b ≡ false = all k 0 (omega arith) (omega (arith, l, m, n)) in
+      absurd (true≢false (sym (eq-eqb (get_or s k 0) b here) ∙ other))
+
+  -- with none, it is the whole
+  whole_left : Without b x → t ≡ []
+  whole_left w =
+      by_cases (dec_lt i (length s))
+      (λ h. let l : i < length x = omega (arith, n, h) in
+      absurd (w i l (sym (ap (λ (r : Text). get_or r i 0) e ∙ get_or_append_left x t 0 i l) ∙ eqb-true (get_or s i 0) b (at h 0))))
+      (λ h. none t (omega (arith, n, m, h)))
+    where
+      m : length s ≡ length x + length t
+      m = ap length e ∙ length-append x t
+
+      none : (r : Text) → length r ≡ 0 → r ≡ []
+      none [] h = refl
+      none (y ∷ r) h = absurd (omega (arith, h))
+
+  -- its line is the first of s
+  pub piece_line : 0 < length s → (front : Text) (behind : Option (Bor Text)) → Without b front → SplitsAt b x front behind → ended b s ≡ front ∷ ended b t
+  unfolding ended
+  piece_line h front None w f =
+      let z : t ≡ [] = whole_left (rw f w) in
+      let q : s ≡ front ++ [] = e ∙ (λ j. f j ++ z j) in
+      rw (q, append-nil, z) (ended-only b front (omega (arith, h, ap length q, length-append front [])) w)
+  piece_line h front (Some more) w f =
+      let z : more.now ≡ [] = ends_there front more.now f in
+      let q : s ≡ front ++ (b ∷ t) = e ∙ ap (λ (r : Text). r ++ t) (f ∙ ap (λ (r : Text). front ++ (b ∷ r)) z) ∙ append_assoc front (b ∷ []) t in
+      rw q (ended_then b front t w)

@@ -1,6 +1,6 @@
 -- What a text in the exact form reads back as. Lines end with a newline, the last one there or with the text; the fields of a line are
 -- apart by tabs: the address, the indent, then marks and tokens. Assumes nothing.
-use Rattle.std.specs.Prelude.{ℕ, suc, ◌<◌, ◌≡◌, Bool, true, false, List, [], ◌∷◌, ◌++◌, eqb, ltb, length, take, drop, get_or}
+use Rattle.std.specs.Prelude.{ℕ, suc, ◌≡◌, Bool, true, false, List, [], ◌∷◌, ◌++◌, eqb, ltb, length, take, drop, get_or}
 use Rattle.std.proofs.Math.Option.{Option, none, some}
 use Rattle.reference.specs.Control.{when◌then◌else◌, let_some◌else◌then◌}
 use Rattle.reference.specs.Lists.{position}
@@ -21,11 +21,6 @@ use Rattle.listing_text.specs.declared.reading.Unmade.TheVariants.{Full, Wrong}
 unfoldable pub ended : ℕ → Text → List Text
 ended b [] = []
 ended b (x ∷ t) = let rest = ended b t in when eqb x b then [] ∷ rest else onto x rest
-
--- the first line of a text, and what stands behind its end
-pub record FirstLine (text line rest : Text) : Type 0 where
-  pub lines : ended 10 text ≡ line ∷ ended 10 rest
-  pub falls : length rest < length text
 
 -- texts between the bytes b: one more than there are of these
 unfoldable pub apart : ℕ → Text → List Text

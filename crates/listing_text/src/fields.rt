@@ -26,6 +26,9 @@ pub enum Field<'a> {
 #[derive(Clone, Copy, Debug, PartialEq, Eq)]
 pub struct Malformed;
 
+// Kept: up to `put_read`, `None` stands for a field that is not in the exact form, of an address too, beside its own `None` for none: so
+// their definitions have it, and `?` takes what `number_in` answers as it is, where with `Malformed` each would want an `ok_or` before it.
+
 // ---- the first two fields
 
 // An address, or `-` for none.
@@ -95,6 +98,7 @@ fn token_of(letter: u8, text: &[u8]) -> Option<Field>
 fn field_of(field: &[u8]) -> Option<Field>
     ensures { read_in result ≡ read_of (field_command field.now) }
 {
+    // Kept: the two bytes by their places: a slice pattern is as many lines, since `m` goes another way than the letters.
     if field.len() < 2 || field[1] != b':' {
         return None;
     }

@@ -10,11 +10,14 @@ ghost use Rattle.listing_text.specs.Forms.{own_span, span_text, span_of, marks_o
 use crate::room::Clipped;
 use lines::marks::Marks;
 use tape::commands::Command;
+use tape::questions::Advance;
 use tape::reader::command_at;
 
 // ---- pieces
 
 // Puts so many hexadecimal digits, or as many more as it takes.
+// Kept: beside crate render's: one function would want a trait over a page that cuts and a file whose writing may fail, and a type that
+// both errors fit; that is no plainer for three lines each.
 fn put_hex(n: u64, least: usize, out: &mut Clipped)
     requires { (1 ≤ least) × (least ≤ 16) }
     ensures { Puts out.old (hexadecimal (enough (16 - least) least n) n) out.new }
@@ -58,6 +61,8 @@ fn put_blanks(indent: u64, out: &mut Clipped)
 pub const LETTERS: [u8; 8] = *b"trnksapx";
 
 // The letter of a kind; 0 for a number that is none.
+// Kept: 0 and no `Option`: the definition of the text (`get_or letters kind 0`) has a byte there for every number, so the one caller would
+// have to put the 0 itself.
 fn letter_of(kind: u64) -> u8
     ensures { result ≡ get_or letters kind 0 }
 {
@@ -99,16 +104,16 @@ fn put_exact_line(at: usize, address: Option<u64>, indent: u64, out: &mut Clippe
     put_decimal(indent, out);
 }
 
-// Puts the command that stands at an offset and ends at `next`.
-fn put_exact(tape: &[u8], at: usize, next: usize, command: Command, out: &mut Clipped)
-    requires { TokenEnds tape.now at next command }
-    ensures { Puts out.old (exact_command at (command_in tape.now at command)) out.new }
+// Puts the command that stands at an offset.
+fn put_exact(tape: &[u8], at: usize, advance: Advance, out: &mut Clipped)
+    requires { TokenEnds tape.now at advance.next advance.command }
+    ensures { Puts out.old (exact_command at (command_in tape.now at advance.command)) out.new }
 {
-    match command {
+    match advance.command {
         Command::Addressed { address, indent } => put_exact_line(at, Some(address), indent, out),
         Command::Plain { indent } => put_exact_line(at, None, indent, out),
         Command::Marked { low, high } => put_marks(low, high, out),
-        Command::Token { kind, .. } => put_token(kind, &tape[at + 3..next], out),
+        Command::Token { kind, .. } => put_token(kind, &tape[at + 3..advance.next], out),
         Command::End => put_line_end(at, out),
     }
 }
@@ -180,12 +185,14 @@ fn put_line(
     put_blanks(indent, out);
 }
 
-// Puts the command that stands at an offset and ends at `next`.
-fn put_readable(tape: &[u8], at: usize, next: usize, command: Command, out: &mut Clipped)
-    requires { TokenEnds tape.now at next command }
-    ensures { Puts out.old (read_command_text at (marks_at tape.now next) (command_in tape.now at command)) out.new }
+// Puts the command that stands at an offset.
+fn put_readable(tape: &[u8], at: usize, advance: Advance, out: &mut Clipped)
+    requires { TokenEnds tape.now at advance.next advance.command }
+    ensures { Puts out.old
+        (read_command_text at (marks_at tape.now advance.next) (command_in tape.now at advance.command)) out.new }
 {
-    match command {
+    let next = advance.next;
+    match advance.command {
         Command::Addressed { address, indent } => put_line(
             tape,
             at,
@@ -203,21 +210,14 @@ fn put_readable(tape: &[u8], at: usize, next: usize, command: Command, out: &mut
 
 // ---- either
 
-// Puts a command in either form.
-pub fn put_command(
-    tape: &[u8],
-    at: usize,
-    next: usize,
-    command: Command,
-    exact: bool,
-    out: &mut Clipped,
-)
-    requires { TokenEnds tape.now at next command }
-    ensures { Puts out.old (command_text exact tape.now at next (command_in tape.now at command)) out.new }
+// Puts the command that stands at an offset in either form.
+pub fn put_command(tape: &[u8], at: usize, advance: Advance, exact: bool, out: &mut Clipped)
+    requires { TokenEnds tape.now at advance.next advance.command }
+    ensures { Puts out.old (command_text exact tape.now at advance.next (command_in tape.now at advance.command)) out.new }
 {
     if exact {
-        put_exact(tape, at, next, command, out);
+        put_exact(tape, at, advance, out);
     } else {
-        put_readable(tape, at, next, command, out);
+        put_readable(tape, at, advance, out);
     }
 }

@@ -1,6 +1,6 @@
 // The exact form read, line by line and field by field.
-ghost use Rattle.std.specs.Prelude.{◌≡◌, ℕ, ◌<◌, [], ◌∷◌, ◌++◌, ◌==◌, length, get_or, position, MatchOption};
-ghost use Rattle.listing_text.specs.Exact.{apart, FirstLine, line_read, tape_of, Makes};
+ghost use Rattle.std.specs.Prelude.{◌≡◌, ℕ, ◌<◌, ◌∷◌, ◌++◌, ◌==◌, length, get_or, position, MatchOption};
+ghost use Rattle.listing_text.specs.Exact.{apart, line_read, tape_of, Makes};
 ghost use Rattle.listing_text.specs.Parsed.{PutsRead};
 
 use crate::fields::{Malformed, put_field, put_head};
@@ -30,10 +30,7 @@ fn put_line(line: &[u8], out: &mut Clipped) -> Result<(), Malformed>
     ensures { PutsRead out.old (line_read (apart 9 line.now)) out.new result }
 {
     let (address, behind) = split_once(line, b'\t');
-    let Some(rest) = behind else {
-        return Err(Malformed);
-    };
-    let (indent, mut left) = split_once(rest, b'\t');
+    let (indent, mut left) = split_once(behind.ok_or(Malformed)?, b'\t');
     put_head(address, indent, out)?;
     while let Some(fields) = left {
         let (field, more) = split_once(fields, b'\t');
@@ -50,32 +47,17 @@ pub enum Unmade {
     Wrong(u64),
 }
 
-// The first line of a text, and what stands behind its end; none, if there is no byte.
-fn next_line(text: &[u8]) -> Option<(&[u8], &[u8])>
-    ensures { MatchOption result (text.now ≡ []) (λ p. FirstLine text.now p.0.now p.1.now) }
-{
-    if text.is_empty() {
-        return None;
-    }
-    let (line, behind) = split_once(text, b'\n');
-    Some((line, behind.unwrap_or(&[])))
-}
-
-// Kept: lines are counted by hand: `enumerate` is no plainer, since it wants an iterator of this file's own for one loop, and counts in
-// `usize`, where `Unmade` tells a `u64`.
 // Reads the exact form: puts the tape of a text, and answers its length.
 pub fn put_tape(text: &[u8], out: &mut [u8]) -> Result<usize, Unmade>
     ensures { Makes (tape_of text.now) out.old out.new result }
 {
     let mut page = Clipped::new(out);
-    let mut n = 0;
-    let mut left = text;
-    while let Some((line, rest)) = next_line(left) {
+    for (n, piece) in (0..).zip(text.split_inclusive(|b| *b == b'\n')) {
+        let (line, _) = split_once(piece, b'\n');
+        // Kept: asked and returned: `map_err` with a closure, and `?`, says no more in as many words.
         if put_line(line, &mut page).is_err() {
             return Err(Unmade::Wrong(n));
         }
-        n += 1;
-        left = rest;
     }
     page.put_byte(255);
     if page.cut {

@@ -28,8 +28,8 @@ fn told(page: &Clipped, refusal: Option<Refusal>) -> Shown
     }
 }
 
-// What the questions know before an offset: one line where one has begun, none at the front, and whether the line's command stands just
-// before. The totals of a listing are not asked: cleaning may lengthen a text.
+// The totals that the questions are asked with at an offset: one line where one has begun, none at the front, and whether the line's
+// command stands just before. The totals of a listing are not asked: cleaning may lengthen a text.
 fn begun(at: usize, fresh: bool) -> Totals
     ensures { totals_of result ≡ begun at fresh }
 {
@@ -41,19 +41,21 @@ fn begun(at: usize, fresh: bool) -> Totals
     }
 }
 
-// Kept: a walk by `step`, which an iterator of commands does not replace: each turn goes by the offset and by the totals so far.
 // Puts the commands of a tape up to the end, or to the first that a question refuses: in the exact form, or to read. Each turn takes a byte
 // of the tape at least.
+// Kept: a flag that each turn asks: which form it is comes with the words of the command, so that with a const parameter the command would
+// choose between two calls instead.
 pub fn put_listing(tape: &[u8], exact: bool, out: &mut [u8]) -> Shown
     ensures { Shows (shown exact tape.now) out.old out.new result }
 {
     let mut page = Clipped::new(out);
     let mut at = 0;
     let mut fresh = false;
+    // Kept: by `step`: an iterator would hold the same `at` and `fresh`, and hand out a refusal too: no plainer for one loop.
     for _ in 0..tape.len() {
         match step::<false>(tape, at, begun(at, fresh)) {
             Ok(advance) => {
-                put_command(tape, at, advance.next, advance.command, exact, &mut page);
+                put_command(tape, at, advance, exact, &mut page);
                 if advance.command.is_end() {
                     return told(&page, None);
                 }

@@ -7,14 +7,20 @@ use mathlib.Core.List.{[], ◌∷◌}
 use mathlib.Core.Option.{none, some}
 use lib.ListN.{length, get_or, take, drop, length-drop}
 use borrow.Author.Tests.{eqb-true, ne_eqb, leb-true}
+use lib.Dec.{eqb, leb}
+use lib.Pointwise.{pointwise}
+use lib.Seq.{drop-drop}
+use Rattle.std.proofs.Common as std
+use Rattle.std.specs.Char.{is_ascii_digit}
 use Rattle.std.specs.List.{prefix_len}
 use Rattle.reference.specs.Control.{◌and◌, ◌or◌, when◌then◌else◌, let_some◌else◌then◌}
 use Rattle.reference.specs.Lists.{is_empty}
 use Rattle.reference.specs.Text.{Text, bytes, strip_prefix, starts_with}
 use Rattle.reference.specs.Names.{is_digit, digits_of, suffix, stack_slot, numbered}
 use Rattle.laws.proofs.Scans.{if-true, if-false, same_lengths}
+use Rattle.laws.proofs.Std.{and-std}
 use Rattle.reference.proofs.Cases.{both}
-use Rattle.names.specs.declared.families.Spelled.TheVariants.{Front, Nothing}
+use Rattle.names.specs.declared.families.Spelled.TheVariants.{Front}
 use Rattle.names.specs.Families.{Spells}
 use Rattle.names.proofs.Texts.{empty, single}
 use Rattle.names.proofs.Spelling.{low_second}
@@ -29,6 +35,11 @@ digits-prefix (c ∷ cs) = step (is_digit c) (digits-prefix cs)
     step : (b : Bool) → length (digits_of cs) ≡ prefix_len is_digit cs → length (when b then c ∷ digits_of cs else []) ≡ cond b (1 + prefix_len is_digit cs) 0
     step true e = omega (arith, e)
     step false e = refl
+
+-- `iter().take_while(|b| b.is_ascii_digit()).count()`
+pub digits-std : (l : Text) → prefix_len is_ascii_digit l ≡ prefix_len is_digit l
+digits-std [] = refl
+digits-std (c ∷ cs) = rw (and-std (leb 48 c) (leb c 57), digits-std cs)
 
 digits-take : (l : Text) → take (length (digits_of l)) l ≡ digits_of l
 unfolding when◌then◌else◌
@@ -99,16 +110,26 @@ other-numbered s e = rw e
 
 -- ---- a name with an r in front, and n where its digits end
 
-pub nonempty : (s : Text) → starts_with s (bytes "r") ≡ true → 1 ≤ length s
-nonempty [] r = absurd (false≢true r)
-nonempty (x ∷ s) r = omega arith
+pub front-std : (s : Text) → pointwise eqb (take 1 s) (bytes "r") ≡ starts_with s (bytes "r")
+front-std [] = refl
+front-std (x ∷ s) = and-std (eqb x 114) true
 
-module _ (s : Text) (r : starts_with s (bytes "r") ≡ true) {m : ℕ} (em : m ≡ prefix_len is_digit (drop 1 s)) where
+-- what `strip_prefix(b"r")` tells of s and of the rest
+abbrev pub Stripped : Text → Text → Type 0
+Stripped s rest = (pointwise eqb (take 1 s) (bytes "r") ≡ true) × (rest ≡ drop 1 s) × (length rest + 1 ≡ length s)
+
+module _ (s : Text) {rest : Text} (h : Stripped s rest) {m : ℕ} (em : m ≡ prefix_len is_digit rest) where
   abbrev n : ℕ
   n = 1 + m
 
+  r : starts_with s (bytes "r") ≡ true
+  r = sym (front-std s) ∙ h.0
+
   en : n ≡ 1 + length (digits_of (drop 1 s))
-  en = omega (arith, digits-prefix (drop 1 s))
+  en = omega (arith, em ∙ ap (prefix_len is_digit) h.1, digits-prefix (drop 1 s))
+
+  behind : drop m rest ≡ drop n s
+  behind = ap (drop m) h.1 ∙ drop-drop m 1 s
 
   opened : numbered s ≡ (when is_empty (digits_of (drop 1 s)) then stack_slot s else let_some (suffix (drop n s)) else none then λ w. some (record { name = take n s; width = w; lowest = 0 }))
   unfolding numbered strip_prefix let_some◌else◌then◌ when◌then◌else◌
@@ -122,8 +143,8 @@ module _ (s : Text) (r : starts_with s (bytes "r") ≡ true) {m : ℕ} (em : m �
           let e : x ≡ 114 = eqb-true x 114 (both r).0 in
           rw (r, t, e, digits-take s)
 
-  pub most : n ≤ length s
-  most = omega (arith, en, nonempty s r, digits-most (drop 1 s), length-drop 1 s)
+  pub most : m ≤ length rest
+  most = omega (arith, en, h.2, digits-most (drop 1 s), length-drop 1 s)
 
   pub bare : m ≡ 0 → numbered s ≡ stack_slot s
   bare e = opened ∙ if-true _ _ (no_digits (digits_of (drop 1 s)) (omega (arith, en)))
@@ -141,10 +162,10 @@ module _ (s : Text) (r : starts_with s (bytes "r") ≡ true) {m : ℕ} (em : m �
             let t : n ≡ suc (length (digits_of s)) = omega arith in
             rw (t, digits-take s) (digit-first s (λ e. f (omega arith)))
 
-    pub unnumbered : none ≡ suffix (drop n s) → Spells s (numbered s) Nothing
+    pub unnumbered : none ≡ suffix (drop m rest) → Spells s (numbered s) std.None
     unfolding let_some◌else◌then◌
-    unnumbered e = record { is = sym (go ∙ rw (sym e)); sound = tt }
+    unnumbered e = record { is = sym (go ∙ rw (sym (e ∙ ap suffix behind))); sound = tt }
 
-    pub with_number : {w : ℕ} → some w ≡ suffix (drop n s) → Spells s (numbered s) (Front n w)
+    pub with_number : {w : ℕ} → some w ≡ suffix (drop m rest) → Spells s (numbered s) (std.Some (Front n w))
     unfolding let_some◌else◌then◌
-    with_number e = record { is = sym (go ∙ rw (sym e)); sound = (most, low_second (take n s) second) }
+    with_number e = record { is = sym (go ∙ rw (sym (e ∙ ap suffix behind))); sound = (omega (arith, most, h.2), low_second (take n s) second) }

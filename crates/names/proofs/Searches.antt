@@ -63,6 +63,12 @@ pub any-agree {ℓ} : {A : Type ℓ} (t p q : A → Bool) (l : List A) → all t
 any-agree t p q [] e f = refl
 any-agree t p q (x ∷ xs) e f = rw (f x (both e).0, any-agree t p q xs (both e).1 f)
 
+-- a test that fails on every element that passes another
+pub any_fails {ℓ} : {A : Type ℓ} (t p : A → Bool) (l : List A) → all t l ≡ true → ((x : A) → t x ≡ true → p x ≡ false) → any p l ≡ false
+unfolding ◌or◌
+any_fails t p [] e f = refl
+any_fails t p (x ∷ xs) e f = rw (f x (both e).0, any_fails t p xs (both e).1 f)
+
 -- ---- a test of every number below a bound, computed
 
 unfoldable pub all-below : ℕ → (ℕ → Bool) → Bool

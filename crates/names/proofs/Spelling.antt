@@ -17,7 +17,7 @@ use Rattle.reference.specs.Text.{Text, bytes, starts_with, ◌≟◌}
 use Rattle.reference.specs.Names.{LEGACY, legacy, stack_slot, numbered, high_byte, family}
 use Rattle.laws.proofs.Scans.{if-true, if-false, same_lengths}
 use Rattle.reference.proofs.Cases.{both, fails}
-use Rattle.names.specs.declared.families.Spelled.TheVariants.{Row, Front, Nothing}
+use Rattle.names.specs.declared.families.Spelled.TheVariants.{Row, Front}
 use Rattle.names.specs.Families.{ROWS, row_name, is_row, Spells, Lists}
 use Rattle.names.proofs.Searches.{all, all-below, below_at, position_none, position_at, any_at}
 use Rattle.names.proofs.Texts.{same_true, has_all}
@@ -42,7 +42,7 @@ other-first t n = fails (λ e. n (eqb-true (get_or t 0 0) 114 (both (row-letters
 -- ---- `var_`
 
 module _ (s : Text) where
-  pub slot : starts_with s (bytes "var_") ≡ true → Spells s (stack_slot s) (Front (length s) 64)
+  pub slot : starts_with s (bytes "var_") ≡ true → Spells s (stack_slot s) (std.Some (Front (length s) 64))
   unfolding stack_slot
   slot e = record {
     is = ap (λ (l : Text). some (record { name = l; width = 64; lowest = 0 })) (take-length s) ∙ sym (if-true _ _ e);
@@ -53,7 +53,7 @@ module _ (s : Text) where
       first [] e = absurd (false≢true e)
       first (x ∷ s) e = eqb-true x 118 (both e).0
 
-  pub no_slot : starts_with s (bytes "var_") ≡ false → Spells s (stack_slot s) Nothing
+  pub no_slot : starts_with s (bytes "var_") ≡ false → Spells s (stack_slot s) std.None
   unfolding stack_slot
   no_slot e = record { is = sym (if-false _ _ e); sound = tt }
 
@@ -71,7 +71,7 @@ unfolding high_name all-below ◌and◌
 high_row k h = same_true (high_name (get_or HIGH k [])) (row_name k) (below_at 4 (λ k. high_name (get_or HIGH k []) ≟ row_name k) k refl h)
 
 module _ (s : Text) where
-  pub high : {k : ℕ} → position (◌≟ s) HIGH ≡ some k → Spells s (high_byte s) (Row k 8 8)
+  pub high : {k : ℕ} → position (◌≟ s) HIGH ≡ some k → Spells s (high_byte s) (std.Some (Row k 8 8))
   unfolding high_byte high_name
   high {k} e =
       let f : (k < 4) × ((get_or HIGH k [] ≟ s) ≡ true) = position_at (◌≟ s) HIGH [] e in
@@ -87,7 +87,7 @@ module _ (s : Text) where
 
   -- ---- the table first
 
-  pub in_table : {r w : ℕ} → Lists LEGACY s (std.Some (record { row = r; width = w })) → Spells s (family s) (Row r w 0)
+  pub in_table : {r w : ℕ} → Lists LEGACY s (std.Some (record { row = r; width = w })) → Spells s (family s) (std.Some (Row r w 0))
   unfolding family let_some◌else◌then◌
   in_table {r} {w} h =
       let e : row_name r ≡ get_or (get_or LEGACY r []) 0 [] = get_or-map (λ (names : List Text). get_or names 0 []) LEGACY r [] in

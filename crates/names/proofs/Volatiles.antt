@@ -11,10 +11,7 @@ use lib.Dec.{eqb, ltb}
 use lib.ListN.{get_or}
 use lib.Seq.{get_or-append-add}
 use borrow.Author.Tests.{ne_eqb, ltb-true}
-use Rattle.std.proofs.Common as std
 use Rattle.std.specs.List.{list_any}
-use Rattle.std.specs.Option.{unwrap_or}
-use Rattle.reference.specs.Options.{option_of}
 use Rattle.reference.specs.Control.{◌and◌, when◌then◌else◌, let_some◌else◌then◌}
 use Rattle.reference.specs.Lists.{any, position}
 use Rattle.reference.specs.Text.{Text, ◌≟◌, has}
@@ -23,9 +20,9 @@ use Rattle.laws.proofs.Scans.{or_false, any-map, any_append}
 use Rattle.laws.proofs.Std.{eqb_turn, contains-std}
 use Rattle.names.specs.Families.{ROWS, row_name, is_row}
 use Rattle.names.specs.Volatile.{NEW, name_numbered, number_of}
-use Rattle.names.proofs.Searches.{all, any-agree, none_at, position_none, position_at}
+use Rattle.names.proofs.Searches.{all, any-agree, any_fails, none_at, position_none, position_at}
 use Rattle.names.proofs.Texts.{same_true}
-use Rattle.names.proofs.Same.{same_name, has-name, row_number}
+use Rattle.names.proofs.Same.{same_name, row_number}
 
 -- ---- lists of numbers
 
@@ -62,36 +59,38 @@ module _ (c : ℕ) where
 
 -- ---- the number of a text
 
-pub numbered : (s : Text) (o : std.Option ℕ) → option_of o ≡ position (◌≟ s) NEW → 8 + unwrap_or o 4 ≡ number_of s
-unfolding number_of let_some◌else◌then◌
-numbered s std.None e = rw (sym e)
-numbered s (std.Some i) e = rw (sym e)
+module _ (s : Text) where
+  pub with_number : {i : ℕ} → some i ≡ position (◌≟ s) NEW → some (8 + i) ≡ number_of s
+  unfolding number_of let_some◌else◌then◌
+  with_number e = rw (sym e)
+
+  pub no_number : none ≡ position (◌≟ s) NEW → none ≡ number_of s
+  unfolding number_of let_some◌else◌then◌
+  no_number e = rw (sym e)
+
+-- whether the list has the name of the number that a text has
+abbrev pub number_in : List Text → Text → Bool
+number_in volatile s = let_some (number_of s) else false then λ n. has volatile (name_numbered n)
 
 module _ (s : Text) (other : is_row s ≡ false) where
   -- a text with a number has that number's name
-  named_new : {i : ℕ} → position (◌≟ s) NEW ≡ some i → name_numbered (number_of s) ≡ s
-  unfolding number_of let_some◌else◌then◌
+  named_new : {i : ℕ} → position (◌≟ s) NEW ≡ some i → name_numbered (8 + i) ≡ s
   named_new {i} e =
       let f : (i < 4) × ((get_or NEW i [] ≟ s) ≡ true) = position_at (◌≟ s) NEW [] e in
-      rw e (get_or-append-add ROWS NEW i [] ∙ same_true (get_or NEW i []) s f.1)
+      get_or-append-add ROWS NEW i [] ∙ same_true (get_or NEW i []) s f.1
 
-  -- a text with no number is no name of a list, and neither is the empty one
+  -- a text with no number is no name of a list
   unnamed_new : position (◌≟ s) NEW ≡ none → (k : ℕ) → k < 12 → (name_numbered k ≟ s) ≡ false
   unfolding is_row
   unnamed_new e k h = none_at (◌≟ s) (ROWS ++ NEW) [] k (any_append (◌≟ s) ROWS NEW ∙ or_false _ other ∙ position_none (◌≟ s) NEW e) h
 
-  new_overwritten : {volatile : List Text} {numbers : List ℕ} → Numbers volatile numbers → has volatile (name_numbered (number_of s)) ≡ has volatile s
+  new_overwritten : {volatile : List Text} {numbers : List ℕ} → Numbers volatile numbers → number_in volatile s ≡ has volatile s
   unfolding number_of let_some◌else◌then◌
   new_overwritten {volatile} {numbers} h = step (position (◌≟ s) NEW) refl
     where
-      step : (o : Option ℕ) → position (◌≟ s) NEW ≡ o → has volatile (name_numbered (number_of s)) ≡ has volatile s
-      step (some i) e = ap (has volatile) (named_new e)
-      step none e =
-          let z : name_numbered (number_of s) ≡ [] = rw e in
-          ap (has volatile) z
-          ∙ by_name h []
-          ∙ any-agree known (λ k. name_numbered k ≟ []) (λ k. name_numbered k ≟ s) numbers h.known_all (λ k f. has-name k (ltb-true k 12 f) ∙ sym (unnamed_new e k (ltb-true k 12 f)))
-          ∙ sym (by_name h s)
+      step : (o : Option ℕ) → position (◌≟ s) NEW ≡ o → number_in volatile s ≡ has volatile s
+      step (some i) e = rw e (ap (has volatile) (named_new e))
+      step none e = rw e (sym (by_name h s ∙ any_fails known (λ k. name_numbered k ≟ s) numbers h.known_all (λ k f. unnamed_new e k (ltb-true k 12 f))))
 
 -- ---- what `overwritten` answers of a family: a row, and a text that is no row's
 
@@ -99,7 +98,7 @@ module _ (c : ℕ) where
   pub row_overwritten : (r : ℕ) → r < 8 → has (volatile_of c) (name_numbered r) ≡ has (volatile_of c) (row_name r)
   row_overwritten r h = ap (has (volatile_of c)) (row_number r h)
 
-  pub text_overwritten : (s : Text) → is_row s ≡ false → has (volatile_of c) (name_numbered (number_of s)) ≡ has (volatile_of c) s
+  pub text_overwritten : (s : Text) → is_row s ≡ false → number_in (volatile_of c) s ≡ has (volatile_of c) s
   text_overwritten s other =
       by_cases (ℕ_discrete c 0) (λ e. new_overwritten s other (volatile_0 c e))
       (λ m. by_cases (ℕ_discrete c 1) (λ e. new_overwritten s other (volatile_1 c e)) (λ n. new_overwritten s other (volatile_2 c m n)))

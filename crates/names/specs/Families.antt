@@ -5,7 +5,7 @@ use Rattle.std.proofs.Math.Option.{Option, none, some}
 use Rattle.reference.specs.Text.{Text, has}
 use Rattle.reference.specs.Names.{Fam, LEGACY, legacy}
 use Rattle.names.specs.declared.families.Spelled.{Spelled}
-use Rattle.names.specs.declared.families.Spelled.TheVariants.{Row, Front, Nothing}
+use Rattle.names.specs.declared.families.Spelled.TheVariants.{Row, Front}
 use Rattle.names.specs.declared.families.Listed.{Listed}
 
 -- the families of the table, by row
@@ -19,19 +19,19 @@ row_name r = get_or ROWS r []
 unfoldable pub is_row : Text → Bool
 is_row s = has ROWS s
 
-abbrev pub spelled : Text → Spelled → Option Fam
-spelled s (Row r w l) = some (record { name = row_name r; width = w; lowest = l })
-spelled s (Front n w) = some (record { name = take n s; width = w; lowest = 0 })
-spelled s Nothing = none
+abbrev pub spelled : Text → std.Option Spelled → Option Fam
+spelled s (std.Some (Row r w l)) = some (record { name = row_name r; width = w; lowest = l })
+spelled s (std.Some (Front n w)) = some (record { name = take n s; width = w; lowest = 0 })
+spelled s std.None = none
 
 -- a row is one of the table, a front is a part of the text and no row's family
-abbrev pub Sound : Text → Spelled → Type 0
-Sound s (Row r w l) = r < 8
-Sound s (Front n w) = (n ≤ length s) × (is_row (take n s) ≡ false)
-Sound s Nothing = Unit
+abbrev pub Sound : Text → std.Option Spelled → Type 0
+Sound s (std.Some (Row r w l)) = r < 8
+Sound s (std.Some (Front n w)) = (n ≤ length s) × (is_row (take n s) ≡ false)
+Sound s std.None = Unit
 
 -- the answer r to the name s says what the definition o says
-pub record Spells (s : Text) (o : Option Fam) (r : Spelled) : Type 0 where
+pub record Spells (s : Text) (o : Option Fam) (r : std.Option Spelled) : Type 0 where
   pub is : spelled s r ≡ o
   pub sound : Sound s r
 

@@ -7,7 +7,7 @@ ghost use Rattle.names.specs.Tables.{unpadded};
 ghost use Rattle.names.specs.Families.{Spells, Lists};
 
 use crate::rows::column_in;
-use text::{begins_slot, starts};
+use text::starts;
 
 // A row for each family: its names of width 64, 32, 16 and 8.
 const NAMES: [[[u8; 3]; 4]; 8] = [
@@ -29,18 +29,15 @@ pub const RAX: u64 = 0;
 // The high bytes of the first four families.
 const HIGH: [[u8; 3]; 4] = [*b"ah\0", *b"bh\0", *b"ch\0", *b"dh\0"];
 
-// What the bytes of a name say: a row of the table, its width and its lowest bit; or how many of its bytes name its family, and its
+// What the bytes of a name say: a row of the table, the width and the lowest bit; or how many of the bytes name the family, and the
 // width, from bit 0.
-// Kept: a case for a name of no family: an `Option` around the other two is no plainer, since each answer below and each caller's match
-// then has a `Some` around its case.
 #[derive(Clone, Copy)]
 pub enum Spelled {
-    Row(u64, u64, u64),
-    Front(usize, u64),
-    Nothing,
+    Row { row: u64, width: u64, lowest: u64 },
+    Front { length: usize, width: u64 },
 }
 
-// A row of the table, and the width of a name in it.
+// A row of the table, and the width of a name in it. (Not the `Listed` of crate lines, which says where words point.)
 #[derive(Clone, Copy)]
 struct Listed {
     row: u64,
@@ -51,6 +48,7 @@ struct Listed {
 fn legacy_in(s: &[u8], table: &[[[u8; 3]; 4]]) -> Option<Listed>
     ensures { Lists (map (map unpadded) table.now) s.now result }
 {
+    // Kept: a loop: `find_map` would serve, but the kit has no lemma for what it finds (`FindsMapped`).
     for (row, names) in table.iter().enumerate() {
         if let Some(column) = column_in(s, names) {
             // Kept: a cast: `enumerate` counts in `usize`, a family's number has 64 bits, which hold it; `u64::try_from` is no plainer,
@@ -71,17 +69,11 @@ fn legacy(s: &[u8]) -> Option<Listed>
     legacy_in(s, &NAMES)
 }
 
-fn is_digit(b: u8) -> bool
-    ensures { result ≡ is_digit b }
-{
-    b.is_ascii_digit()
-}
-
 // How many digits stand in front.
 fn digits(s: &[u8]) -> usize
     ensures { result ≡ prefix_len is_digit s.now }
 {
-    s.iter().take_while(|b| is_digit(**b)).count()
+    s.iter().take_while(|b| b.is_ascii_digit()).count()
 }
 
 // The width that a numbered register's suffix says.
@@ -101,46 +93,53 @@ fn suffix(s: &[u8]) -> Option<u64>
 }
 
 // Stack variables behave like registers.
-fn stack_slot(s: &[u8]) -> Spelled
+fn stack_slot(s: &[u8]) -> Option<Spelled>
     ensures { Spells s.now (stack_slot s.now) result }
 {
-    if begins_slot(s) {
-        Spelled::Front(s.len(), 64)
-    } else {
-        Spelled::Nothing
+    if !starts(s, b"var_") {
+        return None;
     }
+    Some(Spelled::Front {
+        length: s.len(),
+        width: 64,
+    })
 }
 
 // r with digits and a suffix, and what follows it.
-fn numbered(s: &[u8]) -> Spelled
+fn numbered(s: &[u8]) -> Option<Spelled>
     ensures { Spells s.now (numbered s.now) result }
 {
-    if !starts(s, b"r") {
+    let Some(rest) = s.strip_prefix(b"r") else {
         return stack_slot(s);
-    }
-    let n = digits(&s[1..]);
+    };
+    let n = digits(rest);
     if n == 0 {
         return stack_slot(s);
     }
-    match suffix(&s[1 + n..]) {
-        Some(width) => Spelled::Front(1 + n, width),
-        None => Spelled::Nothing,
-    }
+    let width = suffix(&rest[n..])?;
+    Some(Spelled::Front {
+        length: 1 + n,
+        width,
+    })
 }
 
 // ah, bh, ch, dh, which begin at bit 8, and what follows them.
-fn high_byte(s: &[u8]) -> Spelled
+fn high_byte(s: &[u8]) -> Option<Spelled>
     ensures { Spells s.now (high_byte s.now) result }
 {
     match column_in(s, &HIGH) {
         // Kept: a cast, as in `legacy_in`: `position` counts in `usize`.
-        Some(row) => Spelled::Row(row as u64, 8, 8),
+        Some(row) => Some(Spelled::Row {
+            row: row as u64,
+            width: 8,
+            lowest: 8,
+        }),
         None => numbered(s),
     }
 }
 
-// The family, the width and the lowest bit of a name.
-pub fn family(s: &[u8]) -> Spelled
+// The family, the width and the lowest bit of a name; none where it is of no family.
+pub fn family(s: &[u8]) -> Option<Spelled>
     ensures { Spells s.now (family s.now) result }
 {
     // no name of the tables is longer
@@ -148,7 +147,11 @@ pub fn family(s: &[u8]) -> Spelled
         return numbered(s);
     }
     match legacy(s) {
-        Some(Listed { row, width }) => Spelled::Row(row, width, 0),
+        Some(Listed { row, width }) => Some(Spelled::Row {
+            row,
+            width,
+            lowest: 0,
+        }),
         None => high_byte(s),
     }
 }

@@ -1,4 +1,7 @@
 // A row of fixed-width names: three bytes each, the last a 0 where the name has two.
+//
+// Kept: document 01 names this form for the table of families: an array of arrays of fixed-width names. The high bytes and r8 to r11 are
+// rows of the same form, so that one search (`column_in`) serves all three.
 ghost use Rattle.std.specs.Prelude.{◌≡◌};
 ghost use Rattle.reference.specs.Text.{◌≟◌};
 ghost use Rattle.names.specs.Tables.{unpadded, Column};

@@ -1,5 +1,5 @@
 -- Rows of digits with quotes, and constants: each way that a reading function of the 2024 edition returns. Assumes nothing.
-use Rattle.std.proofs.Common.{◌≡◌, ℕ, suc, ◌+◌, ◌-◌, ◌*◌, ◌^◌, ◌<◌, ◌≤◌, Bool, true, false, eqb, [], ◌∷◌, length, get_or, take, drop, ℤ, neg_ℤ, sym, refl, ◌∙◌, arith}
+use Rattle.std.proofs.Common.{◌≡◌, ℕ, suc, ◌+◌, ◌-◌, ◌*◌, ◌^◌, ◌<◌, ◌≤◌, Bool, true, false, eqb, [], ◌∷◌, length, get_or, take, drop, ℤ, neg_ℤ, sym, refl, ap, ◌∙◌, arith}
 use Rattle.std.proofs.Common.{le-ltb, eq-eqb, ne_eqb, eqb-true}
 use mathlib.Core.Option.{Option, none, some}
 use Rattle.reference.specs.Control.{◌and◌, ◌or◌, when◌then◌else◌, let_some◌else◌then◌}
@@ -159,15 +159,16 @@ module _ (s : Text) {r : Bool} (e : r ≡ starts_with s (bytes "-")) where
   unfolding parse_2024
   parse_plain t = sym (unstripped (bytes "-") s e (read_constant s) _ t)
 
-  minus_is : r ≡ true → (let_some (read_constant (take (length s - 1) (drop 1 s))) else none then λ n. some (wrap (neg_ℤ n))) ≡ parse_2024 s
+  minus_is : r ≡ true → (let_some (read_constant (drop 1 s)) else none then λ n. some (wrap (neg_ℤ n))) ≡ parse_2024 s
   unfolding parse_2024
   minus_is t = sym (stripped (bytes "-") s e (read_constant s) _ t)
 
-  pub parse_read : {v : ℤ} → r ≡ true → some v ≡ read_constant (take (length s - 1) (drop 1 s)) → some (wrap (neg_ℤ v)) ≡ parse_2024 s
-  parse_read t u = then_some (λ n. wrap (neg_ℤ n)) u ∙ minus_is t
+  module _ {d : Text} (t : r ≡ true) (u : d ≡ drop 1 s) where
+    pub parse_read : {v : ℤ} → some v ≡ read_constant d → some (wrap (neg_ℤ v)) ≡ parse_2024 s
+    parse_read h = then_some (λ n. wrap (neg_ℤ n)) (h ∙ ap read_constant u) ∙ minus_is t
 
-  pub parse_unread : r ≡ true → none ≡ read_constant (take (length s - 1) (drop 1 s)) → none ≡ parse_2024 s
-  parse_unread t u = then_none (λ n. wrap (neg_ℤ n)) u ∙ minus_is t
+    pub parse_unread : none ≡ read_constant d → none ≡ parse_2024 s
+    parse_unread h = then_none (λ n. wrap (neg_ℤ n)) (h ∙ ap read_constant u) ∙ minus_is t
 
 -- ---- by an edition
 

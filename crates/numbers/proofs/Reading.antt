@@ -7,17 +7,19 @@ use mathlib.Core.Option.{Option, none, some}
 use borrow.Author.Tests.{lt-leb}
 use Rattle.reference.specs.Control.{◌and◌, when◌then◌else◌, let_some◌else◌then◌}
 use Rattle.reference.specs.Text.{Text}
-use Rattle.reference.specs.Numbers.{to_digit, digits_value, unsigned}
+use Rattle.reference.specs.Numbers.{to_digit, digits_value}
 use Rattle.laws.proofs.Scans.{if-true, if-false}
 use Rattle.numbers.specs.Reading.{at_most, with_digit}
 use Rattle.std.proofs.lemmas.Bool.{eqb-false}
 use Rattle.std.specs.Char.{digit_value}
+use Rattle.std.specs.Option.{SomeIff, unwrap_or}
+use Rattle.std.proofs.Common as std
 use Rattle.reference.proofs.Cases.{some_inj, none-some}
 
 -- ---- one digit
 
 -- the value that `to_digit` compares with the base
-unfoldable value : ℕ → ℕ
+unfoldable pub value : ℕ → ℕ
 value c =
     when leb 48 c and leb c 57 then c - 48
     else when leb 97 c and leb c 122 then c - 87
@@ -25,7 +27,7 @@ value c =
     else 99
 
 -- where std gives a digit of base 36, and where it gives none
-abbrev Agrees : ℕ → Type 0
+abbrev pub Agrees : ℕ → Type 0
 Agrees c = ((digit_value c < 36) × (value c ≡ digit_value c)) ⊎ ((digit_value c ≡ 36) × (value c ≡ 99))
 
 agrees-large : (c : ℕ) → 91 ≤ c → Agrees c
@@ -75,7 +77,7 @@ agrees-large c h =
       lt-leb c 90 (omega arith),
     ) (inr (refl, refl))))
 
-agrees : (c : ℕ) → Agrees c
+pub agrees : (c : ℕ) → Agrees c
 unfolding value when◌then◌else◌ ◌and◌
 agrees c =
     by_cases (dec_lt c 48)
@@ -108,17 +110,19 @@ agrees c =
     ) (inl (omega arith, refl)))
     (λ e. agrees-large c (omega arith)))))
 
-module _ (radix c : ℕ) (b : radix ≤ 36) where
-  pub no_digit : radix ≤ digit_value c → none ≡ to_digit radix c
-  unfolding to_digit value
-  no_digit h = let a = agrees c in sym (if-false _ _ (le-ltb (value c) radix (omega arith)))
+-- what std answers of the byte, with 99 where it gives none
+pub worth : (c : ℕ) (r : std.Option ℕ) → SomeIff r (digit_value c < 36) (digit_value c) → unwrap_or r 99 ≡ value c
+worth c std.None n = let a = agrees c in omega arith
+worth c (std.Some d) s = let a = agrees c in omega (arith, s.1)
 
-  pub a_digit : digit_value c < radix → some (digit_value c) ≡ to_digit radix c
+module _ (radix c : ℕ) {d : ℕ} (e : d ≡ value c) where
+  pub no_digit : radix ≤ d → none ≡ to_digit radix c
   unfolding to_digit value
-  a_digit h =
-      let a = agrees c in
-      let e : value c ≡ digit_value c = omega arith in
-      ap some (sym e) ∙ sym (if-true _ _ (lt-ltb (value c) radix (omega arith)))
+  no_digit h = sym (if-false _ _ (le-ltb (value c) radix (omega arith)))
+
+  pub a_digit : d < radix → some d ≡ to_digit radix c
+  unfolding to_digit value
+  a_digit h = ap some e ∙ sym (if-true _ _ (lt-ltb (value c) radix (omega arith)))
 
 -- a base with a digit is no 0
 a_base : (radix c : ℕ) {d : ℕ} → some d ≡ to_digit radix c → 0 < radix
@@ -140,13 +144,6 @@ module _ (most : ℕ) where
   most-over : (n : ℕ) → most < n → at_most most (some n) ≡ none
   unfolding at_most let_some◌else◌then◌
   most-over n h = if-false _ _ (lt-leb n most h)
-
-  pub most_is : {n : ℕ} (o : Option ℕ) → some n ≡ at_most most o → n ≤ most
-  most_is none e = let z : ◌≡◌ {A = ℕ} 0 1 = cc most_none in omega arith
-  most_is {n} (some m) e =
-      by_cases (dec_le m most)
-      (λ h. let i : n ≡ m = cc (most_in m h) in omega arith)
-      (λ h. let z : ◌≡◌ {A = ℕ} 0 1 = cc (most-over m (omega arith)) in omega arith)
 
 -- ---- a number with one digit more
 
@@ -211,42 +208,8 @@ too_large most radix p v (c ∷ s) h = step (to_digit radix c) refl (λ d. too_l
     step none t more = digit_none most radix c _ t
     step (some d) t more = digit_some most radix c _ t ∙ more d
 
-module _ (most radix v : ℕ) (s : Text) (i : ℕ) (h : i < length s) where
-  next : digits_value radix v (drop i s) ≡ (let_some (to_digit radix (get_or s i 0)) else none then λ d. digits_value radix (v * radix + d) (drop (i + 1) s))
-  unfolding digits_value
-  next = rw (add-one, drop-cons s i 0)
-
-  pub digit-read : {n : ℕ} → some n ≡ at_most most (with_digit radix v (get_or s i 0))
-      → (n ≤ most) × (at_most most (digits_value radix v (drop i s)) ≡ at_most most (digits_value radix n (drop (i + 1) s)))
-  digit-read e = byte_read most radix v (get_or s i 0) (λ n. digits_value radix n (drop (i + 1) s)) next e
-
-  pub digit-unread : none ≡ at_most most (with_digit radix v (get_or s i 0)) → at_most most (digits_value radix v (drop i s)) ≡ none
-  digit-unread e =
-      byte_unread most radix v (get_or s i 0) (λ n. digits_value radix n (drop (i + 1) s)) next (λ p n h. too_large most radix p n _ h) e
-
 pub none_empty : (s : Text) {b : Bool} → b ≡ eqb (length s) 0 → b ≡ true → length s ≡ 0
 none_empty s e t = eqb-true (length s) 0 (sym e ∙ t)
 
 pub not_empty : (s : Text) {b : Bool} → b ≡ eqb (length s) 0 → b ≡ false → length s ≡ 0 → ⊥
 not_empty s e t = eqb-false (length s) 0 (sym e ∙ t)
-
--- the whole row, empty and not
-module _ (most radix : ℕ) where
-  pub row-empty : (s : Text) → length s ≡ 0 → none ≡ at_most most (unsigned radix s)
-  unfolding unsigned
-  row-empty [] e = sym (ap (at_most most) (if-true _ _ refl) ∙ most_none most)
-  row-empty (c ∷ s) e = absurd (omega arith)
-
-  row : (s : Text) → (length s ≡ 0 → ⊥) → unsigned radix s ≡ digits_value radix 0 s
-  unfolding unsigned
-  row [] n = absurd (n refl)
-  row (c ∷ s) n = if-false _ _ refl
-
-  -- the row that is read up to i spells v
-  module _ (s : Text) (v : ℕ) {i : ℕ} (n : length s ≡ 0 → ⊥) (e : at_most most (digits_value radix 0 s) ≡ at_most most (digits_value radix v (drop i s))) where
-    pub row-unread : i < length s → none ≡ at_most most (with_digit radix v (get_or s i 0)) → none ≡ at_most most (unsigned radix s)
-    row-unread h u = sym (ap (at_most most) (row s n) ∙ e ∙ digit-unread most radix v s i h u)
-
-    pub row_read : length s ≤ i → v ≤ most → some v ≡ at_most most (unsigned radix s)
-    unfolding digits_value
-    row_read h m = sym (ap (at_most most) (row s n) ∙ e ∙ rw (drop_of_length-le s h) (most_in most v m))

@@ -1,5 +1,5 @@
 -- Signed numbers of 64 bits: what the code computes is what the definitions `as_i64` and `wrap` say. Assumes nothing.
-use Rattle.std.proofs.Common.{◌≡◌, ℕ, zero, suc, ◌-◌, ◌%◌, ◌^◌, ◌<◌, ◌≤◌, ℤ, pos, negsuc, ◌+ℤ◌, ◌-ℤ◌, neg_ℤ, sym, refl, ap}
+use Rattle.std.proofs.Common.{◌≡◌, ℕ, suc, ◌-◌, ◌%◌, ◌^◌, ◌<◌, ◌≤◌, ℤ, pos, negsuc, ◌+ℤ◌, ◌-ℤ◌, neg_ℤ, sym, refl, ap}
 use Rattle.std.proofs.Common.{◌∙◌, mod-lt, mod-eq_of_lt, arith, w64, SFits, to_z, of_z, le-ltb}
 use Rattle.std.proofs.Common.{lt-ltb}
 use native.Mathlib.Nat.{mod-mod}
@@ -7,7 +7,6 @@ use native.Mathlib.Decide.{dec_lt}
 use mathlib.Core.Logic.{by_cases}
 use lib.Signed.{mag}
 use mir.ValLaws.{to_z-of_z, to_z_pos}
-use Rattle.reference.specs.Control.{when◌then◌else◌}
 use Rattle.reference.specs.Numbers.{as_i64, wrap}
 use Rattle.laws.proofs.Scans.{if-true, if-false}
 use Rattle.numbers.specs.Bits.{bits_of}
@@ -39,18 +38,6 @@ pub wrap_bits : (z : ℤ) → wrap z ≡ as_i64 (bits_of 64 z)
 unfolding wrap as_i64 bits_of
 wrap_bits (pos n) = rw (mod-mod n (2 ^ 64))
 wrap_bits (negsuc n) = refl
-
-wrap-fits : (z : ℤ) → SFits w64 z → wrap z ≡ z
-wrap-fits z f = wrap_bits z ∙ as_bits z f
-
--- 2^63 as an i64 is its own negation
-pub negated : (n : ℕ) → n ≤ 2 ^ 63 → wrap (neg_ℤ (as_i64 n)) ≡ neg_ℤ (pos n)
-unfolding wrap as_i64 when◌then◌else◌
-negated zero h = refl
-negated (suc n) h =
-    by_cases (dec_lt (suc n) (2 ^ 63))
-    (λ l. rw (as_low (suc n) l) (wrap-fits (negsuc n) (record { sfits = omega arith })))
-    (λ l. let e : n ≡ 2 ^ 63 - 1 = omega arith in rw e refl)
 
 -- ---- what the code computes with
 

@@ -9,6 +9,6 @@ mod wrapping; // sums, differences and negations that wrap
 
 pub use constant::{begins_binary, row};
 pub use parse::parse_c_number;
-pub use print::{put_digits, put_number};
+pub use print::{last_digit, put_digits, put_number};
 pub use read::read_number;
-pub use wrapping::{MOST, wrapping_add, wrapping_neg, wrapping_sub};
+pub use wrapping::{MOST, wrapping_add, wrapping_sub};

@@ -7,8 +7,9 @@ ghost use Rattle.numbers.specs.Writing.{hexadecimal};
 use text::Cursor;
 
 // The last hexadecimal digit.
+// Kept: by hand: std's `char::from_digit` answers an `Option` of a `char`, where a byte is wanted of a number that always is a digit.
 #[tactic(auto, using(laws::proofs::Std::tests_of_std))]
-fn last_digit(v: u64) -> u8
+pub fn last_digit(v: u64) -> u8
     ensures { result ≡ digit_byte (v % 16) }
 {
     // Kept: a cast: a remainder of 16 fits in a byte, and `u8::try_from` is no plainer, since it asks what to do where it does not.
@@ -17,6 +18,8 @@ fn last_digit(v: u64) -> u8
 }
 
 // Puts the hexadecimal digits.
+// Kept: by hand: std's `LowerHex` writes into a `fmt::Formatter`. `Cursor` would need a `fmt::Write` of its own, whose `write_str` answers
+// a `Result`, where there is always room.
 pub fn put_digits(v: u64, out: &mut Cursor)
     requires { Fits out.old (length (hexadecimal v)) }
     ensures { Puts out.old (hexadecimal v) out.new }

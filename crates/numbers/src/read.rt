@@ -6,6 +6,8 @@ ghost use Rattle.reference.specs.Numbers as reference;
 use crate::constant::parse_2024;
 use crate::parse::parse_c_number;
 
+// Kept: an edition is a byte, the one of the C interface that `Rules` of crate lines holds; the definition reads by each of the 256, not by
+// two.
 pub fn read_number(edition: u8, s: &[u8]) -> Option<i64>
     ensures { option_of result ≡ reference.read_number edition s.now }
 {

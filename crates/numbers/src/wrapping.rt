@@ -1,4 +1,7 @@
-// Signed sums, differences and negations that wrap at 64 bits: `std`'s, under the definitions' words.
+// Signed sums, differences and negations that wrap at 64 bits: std's, under the definitions' words.
+// Kept: a function for each of std's. Document 01 names signed values with supplied wrapping operations, and the negation as a helper
+// (docs/DECISIONS.md, Forms that document 01 names). `signed` and the other two promise the definitions' word of std's answer, once, as
+// text's `same` does. Tried: with std's two in `sum_of` of crate build the search gives up at both, and the answers would cite the laws.
 ghost use Rattle.std.specs.Prelude.{◌≡◌, ◌+ℤ◌, ◌-ℤ◌, neg_ℤ};
 ghost use Rattle.reference.specs.Numbers.{as_i64, wrap};
 

@@ -13,6 +13,7 @@ use text::Cursor;
 pub fn asked(tape: &[u8]) -> Result<(), Reason>
     ensures { refusing result ≡ first_no ((19, begins_with_06 tape.now) ∷ (4, has_base tape.now) ∷ []) }
 {
+    // Kept: the first byte by its place: `first()` and a slice pattern were tried, and goals of each stayed open.
     if tape.is_empty() || tape[0] != 6 {
         return Err(Reason::NoBase);
     }

@@ -7,7 +7,7 @@ ghost use Rattle.offsets.specs.Offsets.{out_of_reach, wraps, first_with};
 ghost use Rattle.offsets.specs.Calls.{bad_for, held, Read};
 
 use tape::commands::{Command, header_of};
-use tape::questions::{Advance, NONE, step};
+use tape::questions::{NONE, step};
 
 // Whether an address is below the base, or 2^32 or more above it.
 fn out_of_reach(base: u64, address: u64) -> bool
@@ -48,28 +48,23 @@ fn has_refused<const BASED: bool>(command: Command, base: u64) -> bool
 }
 
 // The first command of an accepted tape that has such an address. The walk is the step's, whose totals say that the command passes.
+// Kept: a walk by offsets and totals. The offset is the answer, and the form may be either; `Commands` of crate walk yields no offset and
+// reads document 01's form alone. (An iterator of the steps: see `put_commands` of crate sources.)
 pub fn first_refused<const BASED: bool>(tape: &[u8], base: u64) -> Option<usize>
     requires { Read BASED tape.now }
     ensures { option_of result ≡ first_with (form_of BASED) (bad_for BASED base) tape.now }
 {
     let mut at = header_of::<BASED>();
     let mut totals = NONE;
-    while let Ok(
-        Advance {
-            command,
-            next,
-            totals: more,
-        },
-    ) = step::<BASED>(tape, at, totals)
-    {
-        if has_refused::<BASED>(command, base) {
+    while let Ok(step) = step::<BASED>(tape, at, totals) {
+        if has_refused::<BASED>(step.command, base) {
             return Some(at);
         }
-        if command.is_end() {
+        if step.command.is_end() {
             return None;
         }
-        at = next;
-        totals = more;
+        at = step.next;
+        totals = step.totals;
     }
     None // no accepted tape comes here
 }

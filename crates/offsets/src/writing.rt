@@ -44,19 +44,18 @@ fn put_marks<const BASED: bool>(low: u64, high: u64, out: &mut Cursor)
     out.put_le(high, w);
 }
 
-// Puts the command at an offset of the tape, which ends at `next`, in the other form.
+// Puts the command at an offset of the tape, which the step there answered, in the other form.
 fn put_command<const BASED: bool>(
     tape: &[u8],
     at: usize,
-    next: usize,
-    command: Command,
+    step: Advance,
     base: u64,
     out: &mut Cursor,
 )
-    requires { Moves BASED base tape.now at next command out.old }
-    ensures { Puts out.old (moved_bytes BASED base tape.now at command) out.new }
+    requires { Moves BASED base tape.now at step.next step.command out.old }
+    ensures { Puts out.old (moved_bytes BASED base tape.now at step.command) out.new }
 {
-    match command {
+    match step.command {
         Command::Addressed { address, indent } => {
             let address = moved::<BASED>(address, base);
             if BASED {
@@ -74,30 +73,27 @@ fn put_command<const BASED: bool>(
                 put_marks::<true>(low, high, out)
             }
         }
-        Command::Plain { .. } | Command::Token { .. } | Command::End => out.put(&tape[at..next]),
+        Command::Plain { .. } | Command::Token { .. } | Command::End => out.put(
+            &tape[at..step.next],
+        ),
     }
 }
 
 // Puts the commands of a tape that no question refuses in the other form.
+// Kept: a walk by offsets and totals. Commands are copied from where they stand, and the form may be either; `Commands` of crate walk
+// yields no offset and reads document 01's form alone. (An iterator of the steps: see `put_commands` of crate sources.)
 pub fn put_commands<const BASED: bool>(tape: &[u8], base: u64, out: &mut Cursor)
     requires { Ready BASED base tape.now × Fits out.old 34561 }
     ensures { Converts BASED base tape.now out.old out.new }
 {
     let mut at = header_of::<BASED>();
     let mut totals = NONE;
-    while let Ok(
-        Advance {
-            command,
-            next,
-            totals: more,
-        },
-    ) = step::<BASED>(tape, at, totals)
-    {
-        put_command::<BASED>(tape, at, next, command, base, out);
-        if command.is_end() {
+    while let Ok(step) = step::<BASED>(tape, at, totals) {
+        put_command::<BASED>(tape, at, step, base, out);
+        if step.command.is_end() {
             return;
         }
-        at = next;
-        totals = more;
+        at = step.next;
+        totals = step.totals;
     }
 }

@@ -19,6 +19,8 @@ pub fn put_cells(kind: u64, text: &[u8], out: &mut Cursor)
 }
 
 // Puts the cells of the tokens that a tape begins with, up to the next line, at the front, and says where they end.
+// Kept: it answers a length: it promises every byte of the lent buffer, those behind the cells too (`Written`), of which a slice of the
+// buffer as the answer would say nothing.
 pub fn put_line(tape: &[u8], out: &mut [u8]) -> usize
     requires { 12 * length tape.now ≤ length out.old }
     ensures { Written out.old 0 (line_cells (tokens_of (commands tape.now))) out.new result }

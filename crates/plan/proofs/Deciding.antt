@@ -1,10 +1,10 @@
 -- The plan of an attempt: the cases in which `propagate_constant`, `plan_among`, `plan_use`, `plan_single`, `plan_for` and
 -- `decide` return. Assumes nothing.
-use Prim.Native.Nat.{ℕ, suc, ◌≤◌, ◌<◌}
+use Prim.Native.Nat.{ℕ, suc, ◌<◌}
 use native.Mathlib.Omega.{arith}
 use mathlib.Core.Path.{◌≡◌, refl, sym, ◌∙◌}
 use mathlib.Core.Bool.{Bool, true, false, not as flip}
-use mathlib.Core.List.{List, [], ◌∷◌}
+use mathlib.Core.List.{List}
 use mathlib.Core.Option.{Option, none, some}
 use lib.ListN.{length, get_or, drop, length-map}
 use lib.Seq.{slice}
@@ -19,10 +19,6 @@ use Rattle.reference.specs.Shapes.{kw_in}
 use Rattle.reference.specs.Life.{Labels, dead_after}
 use Rattle.reference.specs.Join.{replaceable, lone_number}
 use Rattle.joining.specs.Plan as J
-use Rattle.reference.specs.Shapes.{opens_or_closes}
-use Rattle.reference.specs.Listing.{Line, ◌at◌}
-use Rattle.reference.specs.Life.{Touch, None as Untouched, Kill as Killed, Use as Used, touch, match_touch}
-use Rattle.reference.specs.Join.{ends_run}
 use Rattle.joining.specs.Plan.{reach_at, reach_from, reach_of, all_take, ends_at, plan_reach, plan_constant, use_of, wants_brackets, plan_use, plan_single, plan_for, decide}
 use Rattle.joining.proofs.Reaching.{reach-reached}
 use Rattle.joining.proofs.Straight.{use_found}
@@ -96,37 +92,6 @@ last_some r {k = k} e f = by r.used refl
     by true g = let z : some k ≡ some r.last = rw (f, ← g) at e in (sym g, sym (some_inj z))
     by false g = absurd (let z : some k ≡ none = rw (f, ← g) at e in found_never (sym z))
 
--- a reach ends no earlier than it begins
-module _ (base : ℕ) (fam : Text) (vs : List Text) where
-  abbrev at-line : ℕ → Line → J.Reach → Bool → Touch → J.Reach
-  at-line j l r ends t =
-      when ends then record { used = r.used; last = r.last; ended = true }
-      else match_touch t (record { used = r.used; last = r.last; ended = opens_or_closes l }) (record { used = r.used; last = j; ended = true })
-      (λ n. record { used = true; last = j; ended = opens_or_closes l })
-
-  by-line : (j : ℕ) (l : Line) (r : J.Reach) → r.last ≤ j → (ends : Bool) (t : Touch) → (r.last ≤ (at-line j l r ends t).last) × ((at-line j l r ends t).last ≤ j)
-  unfolding when◌then◌else◌ match_touch
-  by-line j l r h true t = (omega arith, h)
-  by-line j l r h false Untouched = (omega arith, h)
-  by-line j l r h false Killed = (h, omega arith)
-  by-line j l r h false (Used n) = (h, omega arith)
-
-  step : (j : ℕ) (l : Line) (r : J.Reach) → r.last ≤ j → (r.last ≤ (reach_at base fam vs j l r).last) × ((reach_at base fam vs j l r).last ≤ j)
-  unfolding reach_at
-  step j l r h = by-line j l r h (ends_run base l) (touch l fam vs)
-
-  reach-later : (j : ℕ) (ls : Listing) (r : J.Reach) → r.last ≤ j → r.last ≤ (reach_from base fam vs j ls r).last
-  unfolding reach_from when◌then◌else◌
-  reach-later j [] r h = omega arith
-  reach-later j (l ∷ ls) r h =
-      let s = step j l r h in
-      let t = reach-later (suc j) ls (reach_at base fam vs j l r) (omega (arith, s.1)) in
-      either r.ended r (reach_from base fam vs (suc j) ls (reach_at base fam vs j l r)) (omega arith) (omega (arith, s.0, t))
-    where
-      either : (b : Bool) (x y : J.Reach) → r.last ≤ x.last → r.last ≤ y.last → r.last ≤ (when b then x else y).last
-      either true x y p q = p
-      either false x y p q = q
-
 module _ (tape area : Text) (tokens lines : List ℕ) (i : ℕ) (fam : Text) (vs : List Text) (h : i < length lines)
     {q : std.Option ℕ} (eq : option_of q ≡ last_of (reach_of (bare_listing tape area tokens lines) i fam vs)) {k : ℕ} (e : q ≡ Some k) where
   pub reach-inside : k < length lines
@@ -134,14 +99,6 @@ module _ (tape area : Text) (tokens lines : List ℕ) (i : ℕ) (fam : Text) (vs
       let b = (reach-reached (bare_listing tape area tokens lines) i fam vs (rw length-map h)).0 in
       let c : (reach_of (bare_listing tape area tokens lines) i fam vs).last < length lines = rw length-map at b in
       rw ((last_some _ eq e).1) at c
-
-  pub reach-after : i ≤ k
-  unfolding reach_of
-  reach-after =
-      let b =
-      reach-later (bare_listing tape area tokens lines at i).indent fam vs (suc i) (drop (suc i) (bare_listing tape area tokens lines))
-      (record { used = false; last = i; ended = false }) (omega arith) in
-      rw ((last_some _ eq e).1) at b
 
 module _ (tape area : Text) (tokens lines : List ℕ) (i : ℕ) (d : Definition) (labels : Labels) (vs : List Text) where
   abbrev constant : Option J.Plan
@@ -183,8 +140,6 @@ module _ (tape area : Text) (tokens lines : List ℕ) (i : ℕ) (d : Definition)
               → Plans tape area (part_of tokens (get_or lines i 0)) i constant (Some p)
           unfolding when◌then◌else◌ ◌and◌
           constant-joins t h ep = join_plan d h k false (constant_is ∙ rw (← ea, ta, ← eb, t)) ep
-
-pub ruleset propagating = (constant_unused, constant-live, constant_refused, constant-joins)
 
 -- ---- a single use
 
@@ -244,8 +199,6 @@ module _ (rules : Rules) (tape area : Text) (tokens lines : List ℕ) (i j : ℕ
         → Plans tape area (part_of tokens (get_or lines i 0)) i used p
     unfolding when◌then◌else◌ ◌or◌ not
     used_among t h = plan_of (used_is ∙ rw (ta, ← ek, ← ex, not-false x t, ew)) h
-
-pub ruleset finding = (used_while, used-live, used_among)
 
 module _ (rules : Rules) (tape area : Text) (tokens lines : List ℕ) (i : ℕ) (d : J.Definition) (vs : List Text)
     {q : std.Option ℕ} (eq : option_of q ≡ use_of (bare_listing tape area tokens lines) i d vs) where

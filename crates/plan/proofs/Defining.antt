@@ -1,22 +1,24 @@
 -- What a right side reads, and what a line defines: the cases of `reads_at`, `reads_memory` and `definition_of`. Assumes nothing.
-use Prim.Native.Nat.{ℕ, zero, suc, ◌+◌, ◌-◌, ◌≤◌, ◌<◌}
+use Prim.Native.Nat.{ℕ, zero, suc, ◌+◌, ◌-◌, ◌<◌}
 use native.Mathlib.Omega.{arith}
-use mathlib.Core.Path.{◌≡◌, refl, sym, ◌∙◌}
+use native.Mathlib.Nat.{add-zero, zero-add}
+use mathlib.Core.Path.{◌≡◌, refl, sym, ap₂, ◌∙◌}
 use mathlib.Core.Bool.{Bool, true, false, not as flip}
-use mathlib.Core.List.{List}
-use mathlib.Core.Option.{Option, none}
-use lib.ListN.{length, get_or, drop, length-map, get_or-map}
+use mathlib.Core.List.{List, [], ◌∷◌}
+use mathlib.Core.Option.{Option, none, some}
+use lib.ListN.{length, get_or, length-map, get_or-map}
 use borrow.Author.Tests.{ne_eqb}
 use Rattle.reference.specs.Control.{not, ◌and◌, ◌or◌, when◌then◌else◌, let_some◌else◌then◌}
-use Rattle.reference.specs.Lists.{any, is_some}
+use Rattle.std.specs.List.{list_any, range_with_len}
+use Rattle.reference.specs.Lists.{any, get, is_some}
 use Rattle.reference.specs.Text.{Text, bytes, starts_with, ends_with}
 use Rattle.reference.specs.Listing.{Token, is, Register, Keyword, Symbol}
 use Rattle.reference.specs.Names.{family, of_family}
 use Rattle.reference.specs.Shapes.{call_in}
 use Rattle.reference.specs.Join.{reads_here, reads_after, reads_memory}
 use Rattle.laws.proofs.Scans.{or_only, not_same}
+use Rattle.laws.proofs.Std.{or-std}
 use Rattle.joining.specs.Plan.{definition_of}
-use Rattle.joining.proofs.Looking.{before_of, reads_begin, reads_hit, reads_miss, reads_end}
 use Rattle.lines.specs.Words.{kind_of, text_of, token_of, tokens_of, Points, Holds}
 use Rattle.lines.specs.Shapes.{expr_words, Expression, Assigns}
 use Rattle.lines.specs.Fams.{fam_text, Names}
@@ -74,37 +76,39 @@ pub ruleset reading = (reads_other, reads-keyword, reads-register, reads_first, 
 
 -- ---- all of them, one after the other
 
-before_is : (ts : List Token) (k : ℕ) → before_of ts k ≡ before_at ts k
+-- the token behind which the token k stands, where b stands before them all
+abbrev behind : Option Token → List Token → ℕ → Option Token
+behind b ts zero = b
+behind b ts (suc k) = get ts k
+
+behind-next : (t : Token) (ts : List Token) (k : ℕ) → get (t ∷ ts) k ≡ behind (some t) ts k
+behind-next t ts zero = refl
+behind-next t ts (suc k) = refl
+
+behind-none : (ts : List Token) (k : ℕ) → before_at ts k ≡ behind none ts k
 unfolding before_at when◌then◌else◌
-before_is ts zero = refl
-before_is ts (suc k) = let e : suc k - 1 ≡ k = omega arith in rw (e, ne_eqb (suc k) 0 (λ z. omega arith))
+behind-none ts zero = refl
+behind-none ts (suc k) = let e : suc k - 1 ≡ k = omega arith in rw (e, ne_eqb (suc k) 0 (λ z. omega arith))
 
-module _ (tape area : Text) (ws : List ℕ) where
-  -- what the right side reads from the token k on
-  abbrev pub reads-from : ℕ → Bool
-  reads-from k = reads_after (before_of (tokens_of tape area ws) k) (drop k (tokens_of tape area ws))
+-- t asks of the places of the right side, from a on, whether the token there reads memory
+reads-places : (b : Option Token) (d : Token) (t : ℕ → Bool) (ts : List Token) (a : ℕ) → ((k : ℕ) → k < length ts → t (a + k) ≡ reads_here (behind b ts k) (get_or ts k d))
+    → list_any t (range_with_len a (length ts)) ≡ reads_after b ts
+unfolding reads_after
+reads-places b d t [] a h = refl
+reads-places b d t (x ∷ xs) a h =
+    rw (
+      sym (rw add-zero at (h 0 (omega arith))),
+      reads-places (some x) d t xs (a + 1) (λ k l. let e : a + 1 + k ≡ a + suc k = omega arith in rw (e, ← behind-next x xs k) (h (suc k) (omega arith))),
+    )
+    (or-std (t a) (reads_after (some x) xs))
 
-  pub reads-begun : reads_memory (tokens_of tape area ws) ≡ reads-from 0
-  reads-begun = reads_begin (tokens_of tape area ws)
-
-  module _ (k : ℕ) (inv : reads_memory (tokens_of tape area ws) ≡ reads-from k) where
-    module _ (h : k < length ws) {x : Bool} (ex : x ≡ reads_here (before_at (tokens_of tape area ws) k) (token_of tape area (get_or ws k 0))) where
-      below : k < length (tokens_of tape area ws)
-      below = rw length-map h
-
-      told : {y : Bool} → x ≡ y → reads_here (before_of (tokens_of tape area ws) k) (get_or (tokens_of tape area ws) k (token_of tape area 0)) ≡ y
-      told e = rw (before_is (tokens_of tape area ws) k, get_or-map (token_of tape area) ws k 0) (sym ex ∙ e)
-
-      pub reads-true : x ≡ true → true ≡ reads_memory (tokens_of tape area ws)
-      reads-true e = sym (inv ∙ reads_hit (tokens_of tape area ws) k (token_of tape area 0) below (told e))
-
-      pub reads-next : x ≡ false → reads_memory (tokens_of tape area ws) ≡ reads-from (k + 1)
-      reads-next e = inv ∙ reads_miss (tokens_of tape area ws) k (token_of tape area 0) below (told e)
-
-    pub reads-false : length ws ≤ k → false ≡ reads_memory (tokens_of tape area ws)
-    reads-false h = sym (inv ∙ reads_end (tokens_of tape area ws) k (token_of tape area 0) (rw length-map h))
-
-pub ruleset reads = (reads-begun, reads-true, reads-next, reads-false)
+pub reads_any : (tape area : Text) (ws : List ℕ)
+    → list_any (λ k. reads_here (before_at (tokens_of tape area ws) k) (token_of tape area (get_or ws k 0))) (range_with_len 0 (length ws)) ≡ reads_memory (tokens_of tape area ws)
+unfolding reads_memory
+reads_any tape area ws =
+    rw (sym (length-map ws (token_of tape area)))
+    (reads-places none (token_of tape area 0) _ (tokens_of tape area ws) 0
+    (λ k b. rw zero-add (ap₂ reads_here (behind-none (tokens_of tape area ws) k) (sym (get_or-map (token_of tape area) ws k 0)))))
 
 -- ---- the line
 

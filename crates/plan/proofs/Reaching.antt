@@ -4,10 +4,10 @@ use Prim.Native.Nat.{ℕ, suc, ◌+◌, ◌-◌, ◌≤◌, ◌<◌}
 use native.Mathlib.Omega.{arith}
 use native.Mathlib.Numerals.{add-one}
 use mathlib.Core.Path.{◌≡◌, refl, sym, ◌∙◌}
-use mathlib.Core.Bool.{Bool, true, false}
-use mathlib.Core.List.{List, [], ◌∷◌, map}
+use mathlib.Core.Bool.{Bool, true, false, not as flip, ◌&&◌}
+use mathlib.Core.List.{List, [], ◌∷◌}
 use lib.ListN.{length, get_or, take, drop, length-map}
-use lib.Seq.{slice}
+use lib.Seq.{slice, length-take-le}
 use native.Mathlib.Decide.{dec_le}
 use mathlib.Core.Logic.{by_cases}
 use lib.Dec.{eqb, leb}
@@ -19,14 +19,25 @@ use Rattle.reference.specs.Names.{of_family}
 use Rattle.reference.specs.Shapes.{braces_in}
 use Rattle.reference.specs.Life.{touch_of, match_touch, is_kill, Labels, dead_after}
 use Rattle.reference.specs.Join.{ends_run, updates_first}
-use Rattle.laws.proofs.Scans.{any-map, any_hit, any_miss, any_end, or_only}
+use Rattle.laws.proofs.Scans.{any-map, or_only}
 use Rattle.joining.specs.Plan.{reach_at, reach_from, reach_of, refuses, all_take, ends_at}
 use Rattle.joining.proofs.Reaching.{reach-ended, reach_end, reach_turn}
-use Rattle.laws.proofs.Parts.{drop-take}
-use Rattle.std.proofs.lemmas.List.{drop-map, take-map}
+use Rattle.std.proofs.Common.{Bor, Iter}
+use Rattle.std.proofs.iter.Yields.{fronts}
+use Rattle.std.proofs.lemmas.Iterator.{YieldsList, YieldsList-from_slice}
+use Rattle.std.proofs.lemmas.Iterator.Adapters.{YieldsList-from_skip, serves_from_places}
+use Rattle.std.proofs.lemmas.Iterator.Search.{all_from_yields_List}
+use Rattle.std.proofs.lemmas.List.{drop-map, get_or-drop, get_or-take, get_or_read, length-drop, take-map}
+use Rattle.std.specs.Fn.{Called}
+use Rattle.std.specs.Iterator.{CallableAtEachTurn, ChecksAll}
+use Rattle.std.specs.Iterator.Adapters.{skip_count, skip_source, skip_steps}
+use Rattle.std.specs.List.{list_all}
+use Rattle.std.specs.Slice.Iter.{iter_rest}
+use Rattle.std.specs.declared.iter.Skip.{Skip}
+use denote.Param.Members.{Mut}
 use Rattle.reference.specs.Lists.{any}
 use Rattle.lines.specs.Words.{kind_of, text_of, token_of, tokens_of}
-use Rattle.lines.specs.Lines.{indent_of, part_of, bare_in, bare_listing}
+use Rattle.lines.specs.Lines.{indent_of, part_of, bare_in, bare_listing, Lined, Listed}
 use Rattle.lines.proofs.words.Lines.{bare_at}
 use Rattle.life.specs.declared.touches.Touched.{Touched}
 use Rattle.life.specs.declared.touches.Touched.TheVariants.{Nothing, Kill, Use}
@@ -188,50 +199,54 @@ updates_is tape area fam ws =
 
 -- ---- all of them
 
-module _ (tape area : Text) (tokens lines : List ℕ) (i last : ℕ) (fam : Text) (vs : List Text) where
+all-refuse-not : (q : ℕ → Bool) (ws : List ℕ) → list_all (λ w. flip (q w)) ws ≡ not (any q ws)
+unfolding not ◌or◌
+all-refuse-not q [] = refl
+all-refuse-not q (w ∷ ws) = rw (all-refuse-not q ws) (either (q w) (any q ws))
+  where
+    either : (a b : Bool) → (flip a && not b) ≡ not (a or b)
+    either true b = refl
+    either false b = refl
+
+module _ (tape area : Text) (tokens lines : List ℕ) (i last : ℕ) where
   -- the lines after line i, up to `last`
-  abbrev pub after : List ℕ
-  after = take (last + 1 - (i + 1)) (drop (i + 1) lines)
+  abbrev after : List ℕ
+  after = drop (i + 1) (take (last + 1) lines)
 
-  -- whether one of them from k on refuses it
-  abbrev pub refused-from : ℕ → Bool
-  refused-from k = any (refuses fam vs) (map (bare_in tape area tokens) (drop k after))
+  gives-after : {s : Skip (Iter ℕ)} → iter_rest (skip_source s) ≡ take (last + 1) lines → skip_count s ≡ i + 1 → YieldsList (skip_steps fronts) (λ y. y.now) s after
+  gives-after e n = YieldsList-from_skip (i + 1) (YieldsList-from_slice (take (last + 1) lines) e) n
 
-  abbrev taken : Bool
-  taken = all_take fam vs (slice (suc i) (suc last) (bare_listing tape area tokens lines))
+  pub serves_after : Listed tape area tokens lines → last < length lines → {s : Skip (Iter ℕ)} {F : Type 0} {R : F → Bor ℕ → F → Type 0} {Q : F → Bor ℕ → Type 0} {f : F}
+      → iter_rest (skip_source s) ≡ take (last + 1) lines → skip_count s ≡ i + 1
+      → ((x : Bor ℕ) (q : F) → R f x q → q ≡ f) → ((x : Bor ℕ) → Lined tape area tokens x.now → Q f x) → CallableAtEachTurn (skip_steps fronts) R Q s f
+  serves_after h l e n same calls =
+      serves_from_places (gives-after e n) same
+      (λ x k b p.
+      let long : length (take (last + 1) lines) ≡ last + 1 = length-take-le (last + 1) lines (omega (arith, l)) in
+      let d : k < last + 1 - (i + 1) = rw (length-drop, long) at b in
+      let m : i + 1 + k < last + 1 = omega (arith, d) in
+      let r : i + 1 + k < length lines = omega (arith, m, l) in
+      calls x (rw (get_or_read lines _ x.now r (p ∙ get_or-drop (i + 1) (take (last + 1) lines) k x.now ∙ get_or-take (last + 1) lines (i + 1 + k) x.now m) 0) (h.at _ r)))
 
-  taken_is : taken ≡ not (refused-from 0)
-  unfolding all_take
-  taken_is =
-      ap (λ ls. not (any (refuses fam vs) ls))
-      (drop-take (suc i) (suc last) (bare_listing tape area tokens lines)
-      ∙ ap (take (suc last - suc i)) (drop-map (bare_in tape area tokens) (suc i) lines)
-      ∙ take-map (bare_in tape area tokens) (suc last - suc i) (drop (suc i) lines)
-      ∙ rw (add-one i, add-one last) refl)
+  module _ (fam : Text) (vs : List Text) where
+    abbrev taken : Bool
+    taken = all_take fam vs (slice (suc i) (suc last) (bare_listing tape area tokens lines))
 
-  module _ (k : ℕ) (inv : refused-from 0 ≡ refused-from k) where
-    here : refused-from 0 ≡ any (λ w. refuses fam vs (bare_in tape area tokens w)) (drop k after)
-    here = inv ∙ any-map (refuses fam vs) (bare_in tape area tokens) (drop k after)
+    taken_is : taken ≡ not (any (λ w. refuses fam vs (bare_in tape area tokens w)) after)
+    unfolding all_take
+    taken_is =
+        ap (λ ls. not (any (refuses fam vs) ls))
+        (ap (drop (suc i)) (take-map (bare_in tape area tokens) (suc last) lines) ∙ drop-map (bare_in tape area tokens) (suc i) (take (suc last) lines))
+        ∙ ap not (any-map (refuses fam vs) (bare_in tape area tokens) (drop (suc i) (take (suc last) lines)))
+        ∙ rw (add-one i, add-one last) refl
 
-    module _ (h : k < length after) {w : ℕ} (ew : w ≡ get_or after k 0) {x : Bool} (ex : x ≡ refuses fam vs (bare_in tape area tokens w)) where
-      told : {y : Bool} → x ≡ y → refuses fam vs (bare_in tape area tokens (get_or after k 0)) ≡ y
-      told e = rw (← ew) (sym ex ∙ e)
-
-      pub taken_refused : x ≡ true → false ≡ taken
-      unfolding not
-      taken_refused e = sym (taken_is ∙ ap not (here ∙ any_hit (λ w. refuses fam vs (bare_in tape area tokens w)) after k 0 h (told e)))
-
-      pub taken_next : x ≡ false → refused-from 0 ≡ refused-from (k + 1)
-      taken_next e =
-          here
-          ∙ any_miss (λ w. refuses fam vs (bare_in tape area tokens w)) after k 0 h (told e)
-          ∙ sym (any-map (refuses fam vs) (bare_in tape area tokens) (drop (k + 1) after))
-
-    pub taken_end : length after ≤ k → true ≡ taken
-    unfolding not
-    taken_end h = sym (taken_is ∙ ap not (here ∙ any_end (λ w. refuses fam vs (bare_in tape area tokens w)) after k h))
-
-pub ruleset taking = (taken_refused, taken_next, taken_end)
+    pub all_after : {F : Type 0} {g : Mut F (Bor ℕ × Unit {0}) Bool} {s : Skip (Iter ℕ)} (u : Skip (Iter ℕ)) (h : F) (r : Bool) → ChecksAll (skip_steps fronts) g s h r u
+        → iter_rest (skip_source s) ≡ take (last + 1) lines → skip_count s ≡ i + 1
+        → ((x : Bor ℕ) (b : Bool) (q : F) → Called g h (x, tt) b q → (q ≡ h) × (b ≡ flip (refuses fam vs (bare_in tape area tokens x.now)))) → r ≡ taken
+    all_after u h r ran e n same =
+        all_from_yields_List (λ w. flip (refuses fam vs (bare_in tape area tokens w))) u h r ran (gives-after e n) same
+        ∙ all-refuse-not (λ w. refuses fam vs (bare_in tape area tokens w)) after
+        ∙ sym taken_is
 
 -- ---- the end
 

@@ -28,13 +28,13 @@ fn reads_at(texts: &Texts<'_>, line: &[u64], x: Expr, k: usize) -> bool
 {
     let w = shapes::expr_word(line, x, k);
     match words::kind(w) {
-        words::KEYWORD => text::begins_read(words::text(texts, w)),
-        words::REGISTER => text::begins_slot(words::text(texts, w)),
+        words::KEYWORD => text::starts(words::text(texts, w), b"*("),
+        words::REGISTER => text::starts(words::text(texts, w), b"var_"),
         words::SYMBOL => {
             k == 0
                 || {
                     let before = shapes::expr_word(line, x, k - 1);
-                    !text::ends_ampersand(words::text(texts, before))
+                    !text::ends(words::text(texts, before), b"&")
                 }
         }
         _ => false,
@@ -42,16 +42,11 @@ fn reads_at(texts: &Texts<'_>, line: &[u64], x: Expr, k: usize) -> bool
 }
 
 // Whether the right side x of a line reads memory.
-pub fn reads_memory(texts: &Texts<'_>, line: &[u64], x: Expr) -> bool
+fn reads_memory(texts: &Texts<'_>, line: &[u64], x: Expr) -> bool
     requires { Holds texts.now line.now × Expression line.now x }
     ensures { result ≡ reads_memory (tokens_of texts.now (expr_words line.now x)) }
 {
-    for k in 0..x.count {
-        if reads_at(texts, line, x, k) {
-            return true;
-        }
-    }
-    false
+    (0..x.count).any(|k| reads_at(texts, line, x, k))
 }
 
 // The line as a definition.

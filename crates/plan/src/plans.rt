@@ -2,10 +2,11 @@
 ghost use Rattle.std.specs.Prelude.{◌≡◌, ◌<◌, length, get_or};
 ghost use Rattle.reference.specs.Rules.{volatile};
 ghost use Rattle.reference.specs.Join.{is_bracketed};
-ghost use Rattle.joining.specs.Places.{labels_at, Labelled};
 ghost use Rattle.joining.specs.Plan.{wants_brackets, plan_constant, plan_use, plan_single, plan_for, decide};
 ghost use Rattle.lines.specs.Rules.{rules_of};
 ghost use Rattle.lines.specs.Shapes.{expr_words, Expression};
+ghost use Rattle.life.specs.Labels.{Labelled, labels_of};
+ghost use Rattle.lines.specs.Lines.{indent_of};
 ghost use Rattle.plan.specs.Slots.{slot_names, Slotted};
 ghost use Rattle.plan.specs.Plans.{plan_among};
 ghost use Rattle.plan.specs.Texts.{Plans, Sound, definition_in};
@@ -14,7 +15,7 @@ ghost use Rattle.lines.specs.Texts.{Holds, Listed, bare_listing, tokens_of, word
 use crate::definitions::{Definition, definition_of};
 use crate::slots::{SlotNames, is_addressed};
 use crate::{reaches, uses};
-use life::{Followed, dead_after};
+use life::{Followed, LabelledListing, dead_after};
 use lines::fams::Fam;
 use lines::rules::Rules;
 use lines::shapes::Expr;
@@ -23,6 +24,9 @@ use lines::{fams, shapes, words};
 
 // The right side of line `line` takes the place of each token of the family in each line after it, up to line `last`, that uses the family,
 // in brackets or without; and the line is removed. (Where the right side is not a constant, that is one token in one line.)
+// Kept: beside build's `Substitution`, which has three of these fields. Plan and build do not rest on each other, so that an edit of one
+// costs no check of the other. One type for both would stand in lines, as `Expr` does, where nothing would make or read it; join would copy
+// no fields, and contracts would say `j.substitution.family` for `j.family`.
 #[derive(Clone, Copy)]
 pub struct Join {
     pub line: usize,
@@ -31,6 +35,10 @@ pub struct Join {
     pub family: Fam,
     pub expr: Expr,
 }
+
+// Kept: here and in uses.rt a line i, its definition d and the settings stand side by side, with `Sound .. d` and `i < length lines`.
+// Both are facts of the listing too, so that a struct of i and d would spare neither clause; one that held the listing with its labels as
+// well would hand labels to `plan_among` and `use_of`, which read none.
 
 // The joining of the definition d of line i into its uses up to line `last`.
 fn join_of(i: usize, last: usize, brackets: bool, d: Definition) -> Join
@@ -45,30 +53,36 @@ fn join_of(i: usize, last: usize, brackets: bool, d: Definition) -> Join
     }
 }
 
-// Constants may be copied into several uses inside one straight-line run.
-fn propagate_constant(
-    listing: &Listing<'_>,
-    labels: &[u64],
-    i: usize,
-    d: Definition,
-    rules: Rules,
-) -> Option<Join>
-    requires { Listed listing.now
-        × Labelled (bare_listing listing.now) labels.now
-        × Sound listing.now.texts (words_at listing.now i) d × (i < length listing.now.lines.now) }
-    ensures { Plans listing.now.texts (words_at listing.now i) i
-        (plan_constant (bare_listing listing.now) i
-        (definition_in listing.now.texts (words_at listing.now i) d)
-        (labels_at (bare_listing listing.now) labels.now) (volatile (rules_of rules))) result }
+// The value that the definition d of line i gives its family.
+fn followed(listing: &Listing<'_>, i: usize, d: Definition, rules: Rules) -> Followed
+    requires { i < length listing.now.lines.now }
+    ensures { result ≡ record { family = d.name.family; indent = indent_of (get_or listing.now.lines.now i 0); start = i; rules = rules } }
 {
-    let v = Followed {
+    Followed {
         family: d.name.family,
         indent: words::indent(listing.lines[i]),
         start: i,
         rules,
-    };
-    let last = reaches::reach_of(listing, v)?;
-    if reaches::ends_at(listing, labels, last, v) && reaches::all_take(listing, last, v) {
+    }
+}
+
+// Constants may be copied into several uses inside one straight-line run.
+fn propagate_constant(
+    scope: &LabelledListing<'_>,
+    i: usize,
+    d: Definition,
+    rules: Rules,
+) -> Option<Join>
+    requires { Labelled scope.now × Sound scope.now.listing.texts (words_at scope.now.listing i) d
+        × (i < length scope.now.listing.lines.now) }
+    ensures { Plans scope.now.listing.texts (words_at scope.now.listing i) i
+        (plan_constant (bare_listing scope.now.listing) i
+        (definition_in scope.now.listing.texts (words_at scope.now.listing i) d)
+        (labels_of scope.now) (volatile (rules_of rules))) result }
+{
+    let v = followed(&scope.listing, i, d, rules);
+    let last = reaches::reach_of(&scope.listing, v)?;
+    if reaches::ends_at(scope, last, v) && reaches::all_take(&scope.listing, last, v) {
         Some(join_of(i, last, false, d))
     } else {
         None
@@ -131,101 +145,79 @@ fn plan_among(
 
 // The plan for the use on line j of the definition d of line i.
 fn plan_use(
-    listing: &Listing<'_>,
-    labels: &[u64],
+    scope: &LabelledListing<'_>,
     i: usize,
     j: usize,
     d: Definition,
     rules: Rules,
 ) -> Option<Join>
-    requires { Listed listing.now
-        × Labelled (bare_listing listing.now) labels.now
-        × Sound listing.now.texts (words_at listing.now i) d × (i < length listing.now.lines.now)
-        × (j < length listing.now.lines.now) }
-    ensures { Plans listing.now.texts (words_at listing.now i) i
-        (plan_use (rules_of rules) (bare_listing listing.now) i
-        (definition_in listing.now.texts (words_at listing.now i) d)
-        (labels_at (bare_listing listing.now) labels.now) (volatile (rules_of rules)) j) result }
+    requires { Labelled scope.now × Sound scope.now.listing.texts (words_at scope.now.listing i) d
+        × (i < length scope.now.listing.lines.now) × (j < length scope.now.listing.lines.now) }
+    ensures { Plans scope.now.listing.texts (words_at scope.now.listing i) i
+        (plan_use (rules_of rules) (bare_listing scope.now.listing) i
+        (definition_in scope.now.listing.texts (words_at scope.now.listing i) d)
+        (labels_of scope.now) (volatile (rules_of rules)) j) result }
 {
-    let line = words::line_of(listing.tokens, listing.lines[j]);
-    let v = Followed {
-        family: d.name.family,
-        indent: words::indent(listing.lines[i]),
-        start: i,
-        rules,
-    };
-    if shapes::has_while(&listing.texts, line) || !dead_after(listing, labels, j, v) {
+    let line = words::line_of(scope.listing.tokens, scope.listing.lines[j]);
+    let v = followed(&scope.listing, i, d, rules);
+    if shapes::has_kw(&scope.listing.texts, line, b"while") || !dead_after(scope, j, v) {
         return None;
     }
-    plan_among(listing, i, j, d, rules)
+    plan_among(&scope.listing, i, j, d, rules)
 }
 
 // The plan for the single use of the definition d of line i.
-fn plan_single(
-    listing: &Listing<'_>,
-    labels: &[u64],
-    i: usize,
-    d: Definition,
-    rules: Rules,
-) -> Option<Join>
-    requires { Listed listing.now
-        × Labelled (bare_listing listing.now) labels.now
-        × Sound listing.now.texts (words_at listing.now i) d × (i < length listing.now.lines.now) }
-    ensures { Plans listing.now.texts (words_at listing.now i) i
-        (plan_single (rules_of rules) (bare_listing listing.now) i
-        (definition_in listing.now.texts (words_at listing.now i) d)
-        (labels_at (bare_listing listing.now) labels.now) (volatile (rules_of rules))) result }
+fn plan_single(scope: &LabelledListing<'_>, i: usize, d: Definition, rules: Rules) -> Option<Join>
+    requires { Labelled scope.now × Sound scope.now.listing.texts (words_at scope.now.listing i) d
+        × (i < length scope.now.listing.lines.now) }
+    ensures { Plans scope.now.listing.texts (words_at scope.now.listing i) i
+        (plan_single (rules_of rules) (bare_listing scope.now.listing) i
+        (definition_in scope.now.listing.texts (words_at scope.now.listing i) d)
+        (labels_of scope.now) (volatile (rules_of rules))) result }
 {
-    let j = uses::use_of(listing, i, d, rules)?;
-    plan_use(listing, labels, i, j, d, rules)
+    let j = uses::use_of(&scope.listing, i, d, rules)?;
+    plan_use(scope, i, j, d, rules)
 }
 
 // The plan for the definition d of line i.
-fn plan_for(
-    listing: &Listing<'_>,
-    labels: &[u64],
-    i: usize,
-    d: Definition,
-    rules: Rules,
-) -> Option<Join>
-    requires { Listed listing.now
-        × Labelled (bare_listing listing.now) labels.now
-        × Sound listing.now.texts (words_at listing.now i) d × (i < length listing.now.lines.now) }
-    ensures { Plans listing.now.texts (words_at listing.now i) i
-        (plan_for (rules_of rules) (bare_listing listing.now) i
-        (definition_in listing.now.texts (words_at listing.now i) d)
-        (labels_at (bare_listing listing.now) labels.now) (volatile (rules_of rules))) result }
+fn plan_for(scope: &LabelledListing<'_>, i: usize, d: Definition, rules: Rules) -> Option<Join>
+    requires { Labelled scope.now × Sound scope.now.listing.texts (words_at scope.now.listing i) d
+        × (i < length scope.now.listing.lines.now) }
+    ensures { Plans scope.now.listing.texts (words_at scope.now.listing i) i
+        (plan_for (rules_of rules) (bare_listing scope.now.listing) i
+        (definition_in scope.now.listing.texts (words_at scope.now.listing i) d)
+        (labels_of scope.now) (volatile (rules_of rules))) result }
 {
-    if shapes::is_lone_number(words::line_of(listing.tokens, listing.lines[i]), d.expr)
-        && let Some(j) = propagate_constant(listing, labels, i, d, rules)
+    if shapes::is_lone_number(
+        words::line_of(scope.listing.tokens, scope.listing.lines[i]),
+        d.expr,
+    )
+        && let Some(j) = propagate_constant(scope, i, d, rules)
     {
         return Some(j);
     }
-    plan_single(listing, labels, i, d, rules)
+    plan_single(scope, i, d, rules)
 }
 
-// The plan for line i: `labels` are the places of the round's labels, `slots` the names that were addressed when it began.
+// The plan for line i of a listing with the places of the round's labels; `slots` are the names that were addressed when the round began.
 pub fn decide(
-    listing: &Listing<'_>,
-    labels: &[u64],
+    scope: &LabelledListing<'_>,
     slots: &SlotNames<'_>,
     i: usize,
     rules: Rules,
 ) -> Option<Join>
-    requires { Listed listing.now
-        × Labelled (bare_listing listing.now) labels.now × Slotted slots.now.text.now slots.now.words.now
-        × (i < length listing.now.lines.now) }
-    ensures { Plans listing.now.texts (words_at listing.now i) i
-        (decide (rules_of rules) (bare_listing listing.now) i
-        (labels_at (bare_listing listing.now) labels.now)
+    requires { Labelled scope.now × Slotted slots.now.text.now slots.now.words.now
+        × (i < length scope.now.listing.lines.now) }
+    ensures { Plans scope.now.listing.texts (words_at scope.now.listing i) i
+        (decide (rules_of rules) (bare_listing scope.now.listing) i (labels_of scope.now)
         (slot_names slots.now.text.now slots.now.words.now)) result }
 {
     let d = definition_of(
-        &listing.texts,
-        words::line_of(listing.tokens, listing.lines[i]),
+        &scope.listing.texts,
+        words::line_of(scope.listing.tokens, scope.listing.lines[i]),
     )?;
-    if is_addressed(&listing.texts, slots, d.name.family) {
+    if is_addressed(&scope.listing.texts, slots, d.name.family) {
         return None;
     }
-    plan_for(listing, labels, i, d, rules)
+    plan_for(scope, i, d, rules)
 }

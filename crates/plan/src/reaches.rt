@@ -1,19 +1,19 @@
 // How far a constant reaches, and whether every use takes it: the scan and the tests of `propagate_constant` of the Rust.
-ghost use Rattle.std.specs.Prelude.{◌≡◌, suc, ◌≤◌, ◌<◌, length, get_or};
+ghost use Rattle.std.specs.Prelude.{◌≡◌, suc, ◌<◌, length, get_or};
 ghost use Rattle.std.proofs.Math.Seq.{slice};
 ghost use Rattle.reference.specs.Options.{option_of};
 ghost use Rattle.reference.specs.Rules.{volatile};
 ghost use Rattle.reference.specs.Join.{ends_run, updates_first, bad_use};
-ghost use Rattle.joining.specs.Places.{labels_at, Labelled};
 ghost use Rattle.joining.specs.Plan.{reach_at, reach_of, refuses, all_take, ends_at};
 ghost use Rattle.lines.specs.Codes.{family_number};
 ghost use Rattle.lines.specs.Lines.{indent_of};
 ghost use Rattle.lines.specs.Rules.{rules_of};
+ghost use Rattle.life.specs.Labels.{Labelled, labels_of};
 ghost use Rattle.plan.specs.Reaches.{last_of, reached, Reaches};
 ghost use Rattle.lines.specs.Texts.{Holds, Known, Lined, Listed, bare_in, bare_listing, fam_text, tokens_of};
 
-use life::{Followed, Touched, dead_after};
-use linefacts::{is_calling, is_transparent, number_of};
+use life::{Followed, LabelledListing, Touched, dead_after};
+use linefacts::{fact_number, is_calling, is_transparent};
 use lines::fams::Fam;
 use lines::texts::{Listing, Texts};
 use lines::{fams, shapes, words};
@@ -27,8 +27,8 @@ fn ends_run(listing: &Listing<'_>, l: u64, base_indent: u64) -> bool
     let line = words::line_of(listing.tokens, l);
     shapes::is_label(&listing.texts, line)
         || words::indent(l) != base_indent
-        || shapes::has_while(&listing.texts, line)
-        || shapes::has_goto(&listing.texts, line)
+        || shapes::has_kw(&listing.texts, line, b"while")
+        || shapes::has_kw(&listing.texts, line, b"goto")
 }
 
 // With line j looked at: the last line that uses or overwrites the constant v, if a line uses it, `last` being that line before; and
@@ -97,8 +97,9 @@ pub fn reach_of(listing: &Listing<'_>, v: Followed) -> Option<usize>
     ensures { option_of result ≡ last_of (reach_of (bare_listing listing.now) v.start
         (fam_text listing.now.texts v.family) (volatile (rules_of v.rules))) }
 {
-    let n = number_of(&listing.texts, v.family);
+    let n = fact_number(&listing.texts, v.family);
     let mut last = None;
+    // Kept: a loop: `try_fold` would serve, but the kit has no lemma for what it ends with (`TryFoldsItems`).
     for j in v.start + 1..listing.lines.len() {
         match reach_by_facts(listing, j, v, n, last) {
             ControlFlow::Continue(reached) => last = reached,
@@ -118,7 +119,7 @@ fn updates_first(texts: &Texts<'_>, line: &[u64], f: Fam) -> bool
         && words::kind(line[1]) == words::PUNCT
         && {
             let s = words::text(texts, line[1]);
-            !text::begins_assign(s) && !text::begins_equal(s)
+            !text::starts(s, b" = ") && !text::starts(s, b" ==")
         }
 }
 
@@ -144,32 +145,29 @@ fn refuses_constant(listing: &Listing<'_>, l: u64, v: Followed) -> bool
 
 // Whether each line after the definition of the constant v, up to line `last`, that uses the family takes the constant for it.
 pub fn all_take(listing: &Listing<'_>, last: usize, v: Followed) -> bool
-    requires { Listed listing.now × Known listing.now.texts v.family × (v.start ≤ last)
+    requires { Listed listing.now × Known listing.now.texts v.family × (v.start < length listing.now.lines.now)
         × (last < length listing.now.lines.now) }
     ensures { result ≡ all_take (fam_text listing.now.texts v.family) (volatile (rules_of v.rules))
         (slice (suc v.start) (suc last) (bare_listing listing.now)) }
 {
-    for l in &listing.lines[v.start + 1..=last] {
-        if refuses_constant(listing, *l, v) {
-            return false;
-        }
-    }
-    true
+    listing.lines[..=last]
+        .iter()
+        .skip(v.start + 1)
+        .all(|l| !refuses_constant(listing, *l, v))
 }
 
 // Whether the family's value v is never read after line `last`.
-pub fn ends_at(listing: &Listing<'_>, labels: &[u64], last: usize, v: Followed) -> bool
-    requires { Listed listing.now
-        × Labelled (bare_listing listing.now) labels.now × Known listing.now.texts v.family
-        × (v.start < length listing.now.lines.now) × (last < length listing.now.lines.now)
-        × (v.indent ≡ indent_of (get_or listing.now.lines.now v.start 0)) }
-    ensures { result ≡ ends_at (bare_listing listing.now) v.start (fam_text listing.now.texts v.family)
-        (labels_at (bare_listing listing.now) labels.now) (volatile (rules_of v.rules)) last }
+pub fn ends_at(scope: &LabelledListing<'_>, last: usize, v: Followed) -> bool
+    requires { Labelled scope.now × Known scope.now.listing.texts v.family
+        × (v.start < length scope.now.listing.lines.now) × (last < length scope.now.listing.lines.now)
+        × (v.indent ≡ indent_of (get_or scope.now.listing.lines.now v.start 0)) }
+    ensures { result ≡ ends_at (bare_listing scope.now.listing) v.start (fam_text scope.now.listing.texts v.family)
+        (labels_of scope.now) (volatile (rules_of v.rules)) last }
 {
-    dead_after(listing, labels, last, v)
+    dead_after(scope, last, v)
         || life::kills(
-            &listing.texts,
-            words::line_of(listing.tokens, listing.lines[last]),
+            &scope.listing.texts,
+            words::line_of(scope.listing.tokens, scope.listing.lines[last]),
             v.family,
             v.rules,
         )

@@ -10,6 +10,8 @@ use lines::texts::Texts;
 use lines::words;
 
 // The names, and a word for each.
+// Kept: words that point into a buffer, not a list of texts: the names are copied when a round begins, since the area that they stand in is
+// written in it, and by a rule of the project there is no heap; the call lends the buffer and the words.
 #[derive(Clone, Copy)]
 pub struct SlotNames<'a> {
     pub text: &'a [u8],
@@ -26,12 +28,7 @@ fn slot_among(slots: &SlotNames<'_>, s: &[u8]) -> bool
         tape: slots.text,
         area: slots.text,
     };
-    for w in slots.words {
-        if words::text(&texts, *w) == s {
-            return true;
-        }
-    }
-    false
+    slots.words.iter().any(|w| words::text(&texts, *w) == s)
 }
 
 // Whether the family is a stack slot whose address was taken when the round began.

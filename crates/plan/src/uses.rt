@@ -14,7 +14,7 @@ ghost use Rattle.lines.specs.Texts.{Holds, Known, Lined, Listed, bare_in, bare_l
 
 use crate::definitions::Definition;
 use life::Touched;
-use linefacts::{is_calling, is_transparent, number_of};
+use linefacts::{fact_number, is_calling, is_transparent};
 use lines::fams::{Fam, Named};
 use lines::rules::Rules;
 use lines::texts::{Listing, Texts};
@@ -55,7 +55,7 @@ fn leaves_inputs(texts: &Texts<'_>, source: &[u64], line: &[u64], d: Definition)
         return false;
     };
     !fams::mentions(texts, source, d.expr, n.family)
-        && !(d.reads && text::begins_slot(words::text(texts, line[0])))
+        && !(d.reads && text::starts(words::text(texts, line[0]), b"var_"))
 }
 
 // What the line l is to the definition d of the line s.
@@ -114,7 +114,7 @@ pub fn use_of(listing: &Listing<'_>, i: usize, d: Definition, rules: Rules) -> O
         (definition_in listing.now.texts (words_at listing.now i) d) (volatile (rules_of rules)) }
 {
     let s = listing.lines[i];
-    let n = number_of(&listing.texts, d.name.family);
+    let n = fact_number(&listing.texts, d.name.family);
     for j in i + 1..listing.lines.len() {
         match look_by_facts(listing, s, listing.lines[j], d, n, rules) {
             Look::Use => return Some(j),
@@ -126,6 +126,8 @@ pub fn use_of(listing: &Listing<'_>, i: usize, d: Definition, rules: Rules) -> O
 }
 
 // ---- the token that uses it
+// Kept: a line and a place in it, each time with `pos < length line`: `line.get(pos)` would be a case for no token in each function, which
+// never comes, since `pos` is what `fams::first_of` found; and a struct of the two would ask the same as its invariant.
 
 // Whether the widths of a definition and of its use go together.
 fn widths_fit(width: u64, used: u64) -> bool
@@ -152,7 +154,7 @@ fn is_compound(texts: &Texts<'_>, line: &[u64], pos: usize) -> bool
         && words::kind(line[1]) == words::PUNCT
         && {
             let s = words::text(texts, line[1]);
-            text::begins_operator(s) && !text::begins_assign(s)
+            text::begins_operator(s) && !text::starts(s, b" = ")
         }
 }
 

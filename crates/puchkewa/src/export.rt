@@ -2,7 +2,8 @@
 ghost use Rattle.clean.specs.Replies.{Cleans};
 ghost use Rattle.puchkewa.specs.Exports.{settings_of, exported};
 
-use clean::{Told, clean};
+use answers::Refusal;
+use clean::{Finished, Told, clean};
 use lines::rules::Rules;
 
 // The settings of a call.
@@ -33,8 +34,59 @@ pub struct Report {
     pub attempts: u64,
 }
 
+impl From<Settings> for Rules {
+    ghost use Rattle.std.specs.Prelude.{◌≡◌};
+    ghost use Rattle.lines.specs.Rules.{rules_of};
+    ghost use Rattle.puchkewa.specs.Exports.{settings_of};
+
+    ghost from_gives = { λ settings rules. rules_of rules ≡ settings_of settings };
+
+    fn from(settings: Settings) -> Rules {
+        Rules {
+            convention: settings.convention,
+            settle: settings.settle,
+            edition: settings.edition,
+            parts: settings.parts,
+            profile: settings.profile,
+        }
+    }
+}
+
+impl From<Result<Finished, Refusal>> for Report {
+    ghost use Rattle.std.specs.Prelude.{◌≡◌};
+    ghost use Rattle.clean.specs.Replies.{report_of};
+    ghost use Rattle.puchkewa.specs.Exports.{exported};
+
+    ghost from_gives = { λ reply report. exported report ≡ report_of reply };
+
+    #[tactic(auto, unfolding(reference::specs::Reply::told))]
+    fn from(reply: Result<Finished, Refusal>) -> Report {
+        match reply {
+            Err(refusal) => Report {
+                refusal: refusal.reason.number(),
+                place: refusal.place,
+                ..Report::default()
+            },
+            Ok(f) => {
+                let t = Told::from(f.tally);
+                Report {
+                    // Kept: the C interface tells every number as a `u64`, and the length of a slice is a `usize`.
+                    length: f.length as u64,
+                    attempts_1: t.first,
+                    attempts_2: t.second,
+                    attempts_3: t.third,
+                    removed: f.removed,
+                    cut: f.cut,
+                    rounds: t.rounds,
+                    attempts: t.attempts,
+                    ..Report::default()
+                }
+            }
+        }
+    }
+}
+
 // Cleans the listing of a tape, as `clean` does.
-#[tactic(auto, unfolding(reference::specs::Reply::told))]
 pub fn puchkewa_clean(
     settings: Settings,
     tape: &[u8],
@@ -45,33 +97,5 @@ pub fn puchkewa_clean(
     ensures { Cleans (settings_of settings) tape.now work_a.old work_b.old out.old work_a.new
         work_b.new out.new (exported result) }
 {
-    let rules = Rules {
-        convention: settings.convention,
-        settle: settings.settle,
-        edition: settings.edition,
-        parts: settings.parts,
-        profile: settings.profile,
-    };
-    match clean(rules, tape, work_a, work_b, out) {
-        Err(refusal) => Report {
-            refusal: refusal.reason.number(),
-            place: refusal.place,
-            ..Report::default()
-        },
-        Ok(f) => {
-            let t = Told::from(f.tally);
-            Report {
-                // Kept: the C interface tells every number as a `u64`, and the length of a slice is a `usize`.
-                length: f.length as u64,
-                attempts_1: t.first,
-                attempts_2: t.second,
-                attempts_3: t.third,
-                removed: f.removed,
-                cut: f.cut,
-                rounds: t.rounds,
-                attempts: t.attempts,
-                ..Report::default()
-            }
-        }
-    }
+    Report::from(clean(Rules::from(settings), tape, work_a, work_b, out))
 }

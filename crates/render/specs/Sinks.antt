@@ -4,4 +4,4 @@ use Rattle.render.specs.declared.sink.Sink.{Sink}
 
 pub record Later (before after : Sink) : Type 0 where
   pub same : after.fd ≡ before.fd
-  pub stays_failed : before.done ≡ false → after.done ≡ false
+  pub stays_failed : before.sound ≡ false → after.sound ≡ false

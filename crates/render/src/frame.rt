@@ -61,6 +61,7 @@ fn put_style(out: Output) -> Result<(), Unwritten> {
     )
 }
 
+// Kept: beside `tell_name` of crate command: this goes onto the page, escaped, that to standard error: they share the test for a dash.
 fn put_name(out: Output, name: &[u8]) -> Result<(), Unwritten> {
     if same(name, b"-") {
         return put(out, b"standard input");

@@ -41,8 +41,8 @@ fn put_all(out: Output, cleaning: &Cleaning) -> Result<(), Unwritten> {
 pub fn put_page(sink: &mut Sink, cleaning: &Cleaning)
     ensures { Later sink.old sink.new }
 {
-    if sink.done {
+    if sink.sound {
         let out = Output { fd: sink.fd };
-        sink.done = put_all(out, cleaning).is_ok();
+        sink.sound = put_all(out, cleaning).is_ok();
     }
 }

@@ -161,6 +161,7 @@ fn note(places: &mut [Option<usize>], k: usize, q: usize) {
 }
 
 // All rows: beside a raw line that stays, the finished line that it became. Lines that stay keep their order, and no other is new.
+// Kept: the places are no part of `Cleaning`: they are written here and read by the sheet, and `Cleaning` is lent and public.
 pub(crate) fn put_rows(
     out: Output,
     cleaning: &Cleaning,

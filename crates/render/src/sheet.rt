@@ -98,6 +98,7 @@ fn stays(cleaning: &Cleaning, callee: Option<&[u8]>) -> bool {
 }
 
 // Whether each callee is called as often afterwards.
+// Kept: beside the loop of `put_names`, which holds what stands before each name besides: the two share how the last Symbol is held.
 fn calls_stay(cleaning: &Cleaning) -> bool {
     let mut symbol = None;
     for event in Commands::new(cleaning.raw) {

@@ -8,7 +8,7 @@ use text::Cursor;
 #[derive(Clone, Copy, Debug)]
 pub struct Sink {
     pub fd: i32,
-    pub done: bool,
+    pub sound: bool,
 }
 
 // The number of an open file.

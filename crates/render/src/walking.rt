@@ -5,7 +5,7 @@ ghost use Rattle.std.specs.Iterator.{at_most};
 
 use lines::marks::Marks;
 use lines::words::SYMBOL;
-use text::is_colon;
+use text::same;
 use walk::{Commands, Event};
 
 // A line: its address and indent, its marks, and the bytes of its tokens.
@@ -88,7 +88,7 @@ fn token(tokens: &[u8], n: usize) -> Option<(u64, &[u8])> {
 pub(crate) fn label_of<'a>(line: Line<'a>) -> Option<&'a [u8]> {
     let (kind, name) = token(line.tokens, 0)?;
     let (_, colon) = token(line.tokens, 1)?;
-    if kind == SYMBOL && is_colon(colon) && token(line.tokens, 2).is_none() {
+    if kind == SYMBOL && same(colon, b":") && token(line.tokens, 2).is_none() {
         Some(name)
     } else {
         None

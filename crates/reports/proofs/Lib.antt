@@ -1,3 +1,4 @@
--- Laws of what is put, piece after piece (Putting), and of names as they are shown (Showing).
+-- Laws of what is put, piece after piece (Putting), of numbers without a reason (Reasons), and of names as they are shown (Showing).
 pub mod Putting
+pub mod Reasons
 pub mod Showing

@@ -1,8 +1,9 @@
 // What the command `puchkewa` writes of a reply: the bytes are those of the definitions in specs/Reports.antt.
+// Kept: the functions that the command calls answer how many bytes they put: they promise every byte of the lent buffer, those behind the
+// line too (`Written`), of which a slice of the buffer as the answer would say nothing.
 #![tactic(auto, using(crate::proofs::Putting::lengths, text::proofs::Cursors::room_left, text::proofs::Cursors::then_puts))]
 
-ghost use Rattle.std.specs.Prelude.{◌≡◌, [], ◌++◌, ◌+◌, ◌*◌, ◌≤◌, ◌<◌, length, get_or, map};
-ghost use Rattle.reference.specs.Numbers.{digit_byte};
+ghost use Rattle.std.specs.Prelude.{◌≡◌, [], ◌++◌, ◌+◌, ◌*◌, ◌≤◌, length};
 ghost use Rattle.text.specs.Cursor.{Fits, Puts, Written};
 ghost use Rattle.numbers.specs.Writing.{hexadecimal};
 ghost use Rattle.rounds.specs.Runs.{tally_of};
@@ -10,71 +11,97 @@ ghost use Rattle.printing.specs.Decimals.{decimal};
 ghost use Rattle.answers.specs.Refusals.{number_of};
 ghost use Rattle.reports.specs.Reports.{meaning, refusal, three, settled, tallied, counts, started, escape, visible_byte, visible};
 
-use answers::Refusal;
-use numbers::put_digits;
+use answers::{Reason, Refusal};
+use numbers::{last_digit, put_digits};
 use printing::put_decimal;
 use rounds::Tally;
 use text::Cursor;
 
-// What each question's refusal means, by its number; nothing for 0.
-// Kept: a table by number, not by `Reason`: `put_refusal` promises the line of each number, of one that no question has too. By `Reason`
-// it would promise less.
-const MEANINGS: [&[u8]; 23] = [
-    b"",
-    b"the convention is not 0, 1 or 2",
-    b"a buffer that was lent is too short",
-    b"no command begins at this offset: the tape has no more bytes, or the byte there begins none",
-    b"the command that begins at this offset runs past the end of the tape",
-    b"at this offset stands a token before any line, or marks that follow no line or have their lowest above their highest",
-    b"at this offset stands an indent above 63, a text with no byte, or a number of more than 24 bytes",
-    b"the byte at this offset, in a text, is not printable (20 to 7E)",
-    b"the tape goes on behind the end that stands at this offset",
-    b"the number edition is not 0 or 1",
-    b"with the command at this offset there are more than 256 lines or 1,024 tokens",
-    b"with the text at this offset there are more than 24,576 bytes of text",
-    b"the Symbol at this offset is a keyword of C's edition of 2024",
-    b"the Number at this offset is binary or has quotes, and the edition of 2024 does not read it",
-    b"the line of this number, counted from 0, is the first that is not as the profile of straight pieces wants it",
-    b"no start value of the chosen register makes the formula return this value",
-    b"the chosen register, or one that has a value, is no 64-bit register (as rax, r8)",
-    b"more than 256 lines are asked for",
-    b"the command at this offset has an address below the base, too far above it, or past the last address",
-    b"the tape does not begin with its base (06)",
-    b"no state is held under this name",
-    b"eight states are held, and this name is new",
-    b"the cell of this number, counted from 0, is damaged",
-];
-
-// The text of a row; nothing behind the last.
-fn text_in(rows: &[&'static [u8]], row: u64) -> &'static [u8]
-    ensures { result.now ≡ get_or (map (λ t. t.now) rows.now) row [] }
+// What each reason means.
+#[tactic(auto, unfolding(crate::specs::Reports::meaning, crate::specs::Reports::meanings))]
+fn text_of(reason: Reason) -> &'static [u8]
+    ensures { result.now ≡ meaning (number_of reason) }
 {
-    match usize::try_from(row) {
-        Ok(n) => rows.get(n).copied().unwrap_or(b""),
+    match reason {
+        Reason::UnknownConvention => b"the convention is not 0, 1 or 2",
+        Reason::TooLittleRoom => b"a buffer that was lent is too short",
+        Reason::NoCommand => {
+            b"no command begins at this offset: the tape has no more bytes, or the byte there begins none"
+        }
+        Reason::CutOff => b"the command that begins at this offset runs past the end of the tape",
+        Reason::OutOfPlace => {
+            b"at this offset stands a token before any line, or marks that follow no line or have their lowest above their highest"
+        }
+        Reason::OutOfBounds => {
+            b"at this offset stands an indent above 63, a text with no byte, or a number of more than 24 bytes"
+        }
+        Reason::Unprintable => b"the byte at this offset, in a text, is not printable (20 to 7E)",
+        Reason::BytesAfterEnd => b"the tape goes on behind the end that stands at this offset",
+        Reason::UnknownEdition => b"the number edition is not 0 or 1",
+        Reason::TooMany => {
+            b"with the command at this offset there are more than 256 lines or 1,024 tokens"
+        }
+        Reason::TooMuchText => {
+            b"with the text at this offset there are more than 24,576 bytes of text"
+        }
+        Reason::NewKeyword => b"the Symbol at this offset is a keyword of C's edition of 2024",
+        Reason::UnreadNumber => {
+            b"the Number at this offset is binary or has quotes, and the edition of 2024 does not read it"
+        }
+        Reason::OutsideProfile => {
+            b"the line of this number, counted from 0, is the first that is not as the profile of straight pieces wants it"
+        }
+        Reason::NoStartValue => {
+            b"no start value of the chosen register makes the formula return this value"
+        }
+        Reason::NoRegister => {
+            b"the chosen register, or one that has a value, is no 64-bit register (as rax, r8)"
+        }
+        Reason::TooLong => b"more than 256 lines are asked for",
+        Reason::OutOfReach => {
+            b"the command at this offset has an address below the base, too far above it, or past the last address"
+        }
+        Reason::NoBase => b"the tape does not begin with its base (06)",
+        Reason::NotHeld => b"no state is held under this name",
+        Reason::StoreFull => b"eight states are held, and this name is new",
+        Reason::BrokenCell => b"the cell of this number, counted from 0, is damaged",
+    }
+}
+
+// What a refusal by a number means; nothing for a number that no reason has.
+fn meaning(number: u64) -> &'static [u8]
+    ensures { result.now ≡ meaning number }
+{
+    match Reason::try_from(number) {
+        Ok(reason) => text_of(reason),
         Err(_) => b"",
     }
 }
 
-// What a refusal by a number means; nothing for a number that no question has.
-#[tactic(auto, unfolding(crate::specs::Reports::meaning, crate::specs::Reports::meanings))]
-fn meaning(number: u64) -> &'static [u8]
-    ensures { result.now ≡ meaning number }
-{
-    text_in(&MEANINGS, number)
-}
-
-// Puts the line of a refusal by a number at the front, and says how long it is.
-pub fn put_refusal(number: u64, place: u64, out: &mut [u8]) -> usize
-    requires { 256 ≤ length out.old }
+// Puts the line of a number, what it means, and a place.
+// Kept: beside the `Display` of `Refusal`, which writes the same first bytes: that writes into a `Formatter`, and `Cursor` would want a
+// `fmt::Write` of its own for this one line: no plainer.
+fn put_told(number: u64, meant: &[u8], place: u64, out: &mut [u8]) -> usize
+    requires { (256 ≤ length out.old) × (meant.now ≡ meaning number) }
     ensures { Written out.old 0 (refusal number place) out.new result }
 {
     let mut line = Cursor::new(out, 0);
     put_named(b"refused ", number, &mut line);
     put_named(b" at ", place, &mut line);
     line.put(b": ");
-    line.put(meaning(number));
+    line.put(meant);
     line.put(b"\n");
     line.at
+}
+
+// Puts the line of a refusal by a number at the front, and says how long it is.
+// Kept: beside `put_refused`, and `meaning` with it: what a public function promises is not given up, and this one promises the line of
+// every number, also of one that no reason has.
+pub fn put_refusal(number: u64, place: u64, out: &mut [u8]) -> usize
+    requires { 256 ≤ length out.old }
+    ensures { Written out.old 0 (refusal number place) out.new result }
+{
+    put_told(number, meaning(number), place, out)
 }
 
 // The same of a refusal as a call answers it.
@@ -82,7 +109,12 @@ pub fn put_refused(refused: Refusal, out: &mut [u8]) -> usize
     requires { 256 ≤ length out.old }
     ensures { Written out.old 0 (refusal (number_of refused.reason) refused.place) out.new result }
 {
-    put_refusal(refused.reason.number(), refused.place, out)
+    put_told(
+        refused.reason.number(),
+        text_of(refused.reason),
+        refused.place,
+        out,
+    )
 }
 
 // Puts a text and a number.
@@ -130,7 +162,8 @@ fn put_tally(tally: Tally, out: &mut Cursor)
 }
 
 // Puts the line of what a cleaning did at the front, and says how long it is.
-// Kept: four numbers: `Finished` of crate clean is no plainer, since the reports would rest on the whole of cleaning for one type.
+// Kept: four values in place of crate clean's `Finished`: for that one type reports would rest on clean, and by it on tape, tables and
+// formula.
 pub fn put_counts(size: u64, tally: Tally, removed: u64, cut: u64, out: &mut [u8]) -> usize
     requires { 256 ≤ length out.old }
     ensures { Written out.old 0 (counts size (tally_of tally) removed cut) out.new result }
@@ -158,21 +191,13 @@ pub fn put_start(chosen: &[u8], v: u64, out: &mut [u8]) -> usize
     line.at
 }
 
-// A hexadecimal digit.
-// Kept: std's `char::from_digit` is no plainer: it answers an `Option` of a `char`, and of a digit below 16 a byte is wanted.
-fn digit_byte(d: u8) -> u8
-    requires { d < 16 }
-    ensures { result ≡ digit_byte d }
-{
-    if d < 10 { 48 + d } else { 87 + d }
-}
-
 // Puts a byte as \xHH.
 fn put_escape(b: u8, out: &mut Cursor)
     requires { Fits out.old 4 }
     ensures { Puts out.old (escape b) out.new }
 {
-    out.put(&[b'\\', b'x', digit_byte(b / 16), digit_byte(b % 16)]);
+    let v = u64::from(b);
+    out.put(&[b'\\', b'x', last_digit(v / 16), last_digit(v)]);
 }
 
 // Puts a byte as it is shown.

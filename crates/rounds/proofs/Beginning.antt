@@ -1,9 +1,9 @@
 -- A round's beginning: the labels and the addressed names of the listing, gathered, are what its attempts are made with. Assumes nothing.
-use Prim.Native.Nat.{ℕ}
+use Prim.Native.Nat.{ℕ, ◌≤◌, ◌<◌}
 use native.Mathlib.Omega.{arith}
 use mathlib.Core.Path.{◌≡◌, sym, ap, ◌∙◌}
 use mathlib.Core.List.{List}
-use lib.ListN.{take}
+use lib.ListN.{take, length-map}
 use Rattle.reference.specs.Text.{Text}
 use Rattle.reference.specs.Rules.{Rules}
 use Rattle.reference.specs.Claim.{text, token_count}
@@ -18,37 +18,53 @@ use Rattle.build.specs.State.{used}
 use Rattle.build.specs.Added.{used_words}
 use Rattle.plan.specs.Slots.{slot_names}
 use Rattle.plan.proofs.Addressing.{slotted_of}
+use Rattle.lines.specs.Marks.{lows_of, highs_of}
+use Rattle.join.specs.declared.workspace.Workspace.{Workspace}
 use Rattle.join.specs.Current.{used_lines, listing_now, bare_now}
 use Rattle.life.specs.Labels.{Gathered}
 use Rattle.rounds.specs.declared.rounds.Round.{Round}
-use Rattle.rounds.specs.Slots.{Roomy, Gathers}
-use Rattle.rounds.specs.Rounds.{Roundable, Made, attempts_with}
-use Rattle.rounds.specs.Runs.{Runnable}
+use Rattle.rounds.specs.Slots.{Gathers}
+use Rattle.rounds.specs.Rounds.{Made, attempts_with}
+use Rattle.rounds.specs.Workspaces.{Runnable, Roundable}
 use Rattle.cuts.proofs.Cutting.{gathered_labelled, gathered_labels}
-use Rattle.rounds.proofs.Turning.{bare_is}
+use Rattle.rounds.proofs.Turning.{bare_is, now-few}
 
-module _ {tape area : Text} {tokens lines : List ℕ} {area2 : Text} {tokens2 lows highs labels : List ℕ} {slots : Text} {slot-words : List ℕ} {at : Size}
-    (b : Runnable tape area tokens lines area2 tokens2 lows highs labels slots slot-words at) where
-  pub begin_room : Roomy slots slot-words (record { count = 0; text = 0 }) (text (bare_now tape area tokens lines at)) (token_count (bare_now tape area tokens lines at))
-  begin_room =
+module _ {tape : Text} {w : Workspace} {at : Size} (b : Runnable tape w at) where
+  abbrev area : Text
+  area = w.area.now
+
+  abbrev tokens : List ℕ
+  tokens = w.tokens.now
+
+  abbrev lines : List ℕ
+  lines = w.lines.now
+
+  abbrev lows : List ℕ
+  lows = lows_of w.marks.now
+
+  abbrev highs : List ℕ
+  highs = highs_of w.marks.now
+
+  pub begin_labels : {n : ℕ} → 256 ≤ n → at.lines ≤ n
+  begin_labels for_labels = omega (arith, for_labels, now-few b.current b.limits)
+
+  pub begin_room : {n m : ℕ} → 49152 ≤ n → 1024 ≤ m → (text (bare_now tape area tokens lines at) ≤ n) × (text (bare_now tape area tokens lines at) < 65536)
+      × (token_count (bare_now tape area tokens lines at) ≤ m)
+  begin_room for_slots for_slot_words =
       let most = fits_text b.limits.fits in
-      record {
-        text_fits = omega (arith, b.for_slots);
-        short = omega arith;
-        words_fit = omega (arith, b.for_slot_words, b.limits.fits.few);
-      }
+      (omega (arith, for_slots), omega arith, omega (arith, for_slot_words, b.limits.fits.few))
 
-  module _ {after : List ℕ} {n : ℕ} (l : Gathered (label_places 0 (bare_now tape area tokens lines at)) labels after n) where
+  module _ {labels after : List ℕ} {n : ℕ} (l : Gathered (label_places 0 (bare_now tape area tokens lines at)) labels after n) where
     module _ {slots' : Text} {words' : List ℕ} (s : Gathers (addressed_in (bare_now tape area tokens lines at)) slots' words') where
-      pub begin_roundable : Roundable tape area tokens lines area2 tokens2 lows highs (take n after) slots' words' at
+      pub begin_roundable : Roundable tape w (take n after) slots' words' at
       begin_roundable = record {
         current = b.current;
         limits = b.limits;
         lent = b.lent;
         labelled = gathered_labelled tape (used area at) (used_words tokens at) (used_lines lines at) l;
         slotted = slotted_of _ _ (bare_now tape area tokens lines at) s.holds s.names_are;
-        for_lows = b.for_lows;
-        for_highs = b.for_highs;
+        for_lows = omega (arith, b.for_marks, length-map w.marks.now (λ m. m.low));
+        for_highs = omega (arith, b.for_marks, length-map w.marks.now (λ m. m.high));
       }
 
       -- the attempts with what was gathered are the round's, whatever the addresses are

@@ -8,6 +8,7 @@ use lib.Seq.{ext_get_or, take_at, length-take-le, length_front}
 use Rattle.reference.specs.Text.{Text}
 use Rattle.reference.specs.Rules.{Rules}
 use Rattle.joining.specs.Bare.{bare_lines}
+use Rattle.joining.specs.Limits.{RunLimits}
 use Rattle.lines.specs.Lines.{Reading, numbered, origin_of, line_read, listing_read}
 use Rattle.lines.proofs.words.Each.{map_at}
 use Rattle.linefacts.specs.Gathering.{AllNoted}
@@ -17,7 +18,7 @@ use Rattle.build.specs.State.{used}
 use Rattle.build.specs.Added.{used_words}
 use Rattle.join.specs.Current.{used_lines, bare_now, Current}
 use Rattle.rounds.specs.declared.run.Progress.{Progress}
-use Rattle.rounds.specs.Runs.{SameListing, Runnable, Rounded}
+use Rattle.rounds.specs.Runs.{SameListing, Rounded}
 use Rattle.rounds.proofs.Carrying.{carries_then, carries_same, numbers_same}
 use Rattle.rounds.proofs.Turning.{bare_is}
 
@@ -56,20 +57,8 @@ module _ {tape area : Text} {tokens lines : List ℕ} {at : Size} {lines' : List
   bare_same : bare_now tape area tokens lines' at ≡ bare_now tape area tokens lines at
   bare_same = bare_is tape area tokens lines' at numbered ∙ ap bare_lines (s.means numbered) ∙ sym (bare_is tape area tokens lines at numbered)
 
-  pub runnable_same : {area2 : Text} {tokens2 lows highs labels : List ℕ} {slots : Text} {slot-words : List ℕ}
-      → Runnable tape area tokens lines area2 tokens2 lows highs labels slots slot-words at
-      → Runnable tape area tokens lines' area2 tokens2 lows highs labels slots slot-words at
-  runnable_same b = record {
-    current = s.current;
-    limits = rw bare_same b.limits;
-    lent = b.lent;
-    for_labels = b.for_labels;
-    for_slots = b.for_slots;
-    for_slot_words = b.for_slot_words;
-    words_short = b.words_short;
-    for_lows = b.for_lows;
-    for_highs = b.for_highs;
-  }
+  pub limits_same : RunLimits (bare_now tape area tokens lines at) → RunLimits (bare_now tape area tokens lines' at)
+  limits_same l = rw bare_same l
 
   numbers_stay : map origin_of (used_lines lines' at) ≡ map origin_of (used_lines lines at)
   numbers_stay =

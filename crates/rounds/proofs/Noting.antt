@@ -30,8 +30,8 @@ use Rattle.std.proofs.Common.{Option, Some, None, Bor, add-zero}
 use Rattle.std.specs.declared.slice.Windows.{Windows}
 use Rattle.std.specs.Slice.Iter.{windows_rest, windows_size, windows_steps}
 use Rattle.std.proofs.lemmas.Iterator.{window_more}
-use Rattle.rounds.specs.declared.slots.SlotSize.{SlotSize}
-use Rattle.rounds.specs.Slots.{names_now, Slotting, Roomy, Noted, Gathers}
+use Rattle.rounds.specs.declared.slots.SlotBuffer.{SlotBuffer}
+use Rattle.rounds.specs.Slots.{names_now, Slotting, Roomy, Noted, SameSlots, Gathers}
 
 -- ---- words of a buffer that grows
 
@@ -94,82 +94,98 @@ module _ (a b : Token) where
       go true = refl
       go false = refl
 
-module _ {slots : Text} {words : List ℕ} {g : SlotSize} (s : Slotting slots words g) where
-  noted_none : {names : List Text} (n k : ℕ) → names ≡ [] → Noted names n k slots words g slots words g
+module _ {g : SlotBuffer} (s : Slotting g) where
+  pub noted_none : {names : List Text} (n k : ℕ) → names ≡ [] → Noted names n k g g
   noted_none n k e = record {
     slotting = s;
-    names_are = rw e (sym (append-nil (names_now slots words g)));
+    names_are = rw e (sym (append-nil (names_now g)));
     text_most = omega arith;
     words_most = omega arith;
   }
 
-  noted_one : {names : List Text} (n : ℕ) (t : Text) → length t ≤ n → Roomy slots words g (length t) 1 → names ≡ t ∷ []
-      → {slots' : Text} → slots' ≡ paste slots g.text t (length t) → {v : ℕ} → v ≡ word 0 1 g.text (length t)
-      → Noted names n 1 slots words g slots' (set words g.count v) (record { count = g.count + 1; text = g.text + length t })
-  noted_one {names} n t le r e {slots'} es {v} ev =
-      let buffer : Text = take g.text slots in
-      let size : length buffer ≡ g.text = length-take-le g.text slots s.text_fits in
-      let front : take (g.text + length t) slots' ≡ buffer ++ t = take_behind slots g.text t s.text_fits es in
-      let now : take (g.count + 1) (set words g.count v) ≡ take g.count words ++ (v ∷ []) =
-      rw add-one (take-suc-set words g.count v (omega (arith, r.words_fit))) in
-      let points : Points (buffer ++ t) (buffer ++ t) v = rw ev (behind-points (buffer ++ t) buffer t 0 g.text (omega arith) size r.short) in
+  -- a name was put behind the others
+  pub noted_one : (t : Text) → Roomy g (length t) 1 → {g' : SlotBuffer} → g'.text.now ≡ paste g.text.now g.used t (length t)
+      → g'.words.now ≡ set g.words.now g.count (word 0 1 g.used (length t)) → g'.used ≡ g.used + length t → g'.count ≡ g.count + 1
+      → Noted (t ∷ []) (length t) 1 g g'
+  noted_one t r {g'} es ew eu ec =
+      let buffer : Text = take g.used g.text.now in
+      let v : ℕ = word 0 1 g.used (length t) in
+      let size : length buffer ≡ g.used = length-take-le g.used g.text.now s.text_fits in
+      let front : take (g.used + length t) g'.text.now ≡ buffer ++ t = take_behind g.text.now g.used t s.text_fits es in
+      let now : take (g.count + 1) g'.words.now ≡ take g.count g.words.now ++ (v ∷ []) =
+      rw (ew, add-one) (take-suc-set g.words.now g.count v (omega (arith, r.words_fit))) in
+      let points : Points (buffer ++ t) (buffer ++ t) v = behind-points (buffer ++ t) buffer t 0 g.used (omega arith) size r.short in
       let name : text_of (buffer ++ t) (buffer ++ t) v ≡ t =
-      rw ev (ap (λ (x : Token). x.text) (behind-means (buffer ++ t) buffer t 0 g.text (omega arith) size r.short)) in
+      ap (λ (x : Token). x.text) (behind-means (buffer ++ t) buffer t 0 g.used (omega arith) size r.short) in
       record {
         slotting = record {
-          text_fits = rw (es, length-paste slots g.text t (length t) r.text_fits (le_refl _)) r.text_fits;
-          words_fit = rw length-set (omega (arith, r.words_fit));
-          holds = rw (front, now) (holds_snoc (names-point buffer t s.holds) points);
+          text_fits = rw (eu, es, length-paste g.text.now g.used t (length t) r.text_fits (le_refl _)) r.text_fits;
+          words_fit = rw (ec, ew, length-set) (omega (arith, r.words_fit));
+          holds = rw (eu, ec, front, now) (holds_snoc (names-point buffer t s.holds) points);
         };
         names_are =
-            rw (front, now, e, map-append (text_of (buffer ++ t) (buffer ++ t)) (take g.count words) (v ∷ []))
+            rw (eu, ec, front, now, map-append (text_of (buffer ++ t) (buffer ++ t)) (take g.count g.words.now) (v ∷ []))
             (λ i. names_stay buffer t s.holds i ++ (name i ∷ []));
-        text_most = omega arith;
-        words_most = omega arith;
+        text_most = omega (arith, eu);
+        words_most = omega (arith, ec);
       }
 
+-- the same names in other words
+noted_as : {names names' : List Text} {n n' k : ℕ} {g g' : SlotBuffer} → names ≡ names' → n ≡ n' → Noted names n k g g' → Noted names' n' k g g'
+noted_as e f o = rw (e, f) at o
+
 -- the text of the token `before` ends in `&` or not, that of the token w begins `var_` or not
-module _ (tape area : Text) (before w : ℕ) {slots : Text} {words : List ℕ} {g : SlotSize} (s : Slotting slots words g)
+module _ (tape area : Text) (before w : ℕ) {g : SlotBuffer}
     {a : Text} (ea : a ≡ text_of tape area before) {x : Bool} (ex : x ≡ ends_with a (bytes "&")) where
-  pub noted-plain : x ≡ false → Noted (addressed_here ((token_of tape area before, token_of tape area w) ∷ [])) (len_of w) 1 slots words g slots words g
-  noted-plain f = noted_none s (len_of w) 1 (here_plain _ _ (rw ea at (sym ex ∙ f)))
+  pub noted-plain : Slotting g → x ≡ false → Noted (addressed_here ((token_of tape area before, token_of tape area w) ∷ [])) (len_of w) 1 g g
+  noted-plain s f = noted_none s (len_of w) 1 (here_plain _ _ (rw ea at (sym ex ∙ f)))
 
   module _ (t : x ≡ true) {b : Text} (eb : b ≡ text_of tape area w) {y : Bool} (ey : y ≡ starts_with b (bytes "var_")) where
-    pub noted_other : y ≡ false → Noted (addressed_here ((token_of tape area before, token_of tape area w) ∷ [])) (len_of w) 1 slots words g slots words g
-    noted_other f = noted_none s (len_of w) 1 (here_other _ _ (rw ea at (sym ex ∙ t)) (rw eb at (sym ey ∙ f)))
+    pub noted_other : Slotting g → y ≡ false → Noted (addressed_here ((token_of tape area before, token_of tape area w) ∷ [])) (len_of w) 1 g g
+    noted_other s f = noted_none s (len_of w) 1 (here_other _ _ (rw ea at (sym ex ∙ t)) (rw eb at (sym ey ∙ f)))
 
-    pub noted-slot : y ≡ true → Points tape area w → Roomy slots words g (len_of w) 1
-        → {slots' : Text} → slots' ≡ paste slots g.text b (length b) → {v : ℕ} → v ≡ word 0 1 g.text (length b)
-        → Noted (addressed_here ((token_of tape area before, token_of tape area w) ∷ [])) (len_of w) 1 slots words g
-        slots' (set words g.count v) (record { count = g.count + 1; text = g.text + length b })
-    noted-slot f p r es ev =
-        let size : length b ≡ len_of w = ap length eb ∙ text_length p in
-        noted_one s (len_of w) b (omega arith) (rw size r)
-        (here_slot (token_of tape area before) (token_of tape area w) (rw ea at (sym ex ∙ t)) (rw eb at (sym ey ∙ f)) ∙ ap (λ (x : Text). x ∷ []) (sym eb)) es ev
+    pub noted-slot : y ≡ true → Points tape area w → {g' : SlotBuffer} → Noted (b ∷ []) (length b) 1 g g'
+        → Noted (addressed_here ((token_of tape area before, token_of tape area w) ∷ [])) (len_of w) 1 g g'
+    noted-slot f p o =
+        let names : b ∷ [] ≡ addressed_here ((token_of tape area before, token_of tape area w) ∷ []) =
+        ap (λ (x : Text). x ∷ []) eb ∙ sym (here_slot (token_of tape area before) (token_of tape area w) (rw ea at (sym ex ∙ t)) (rw eb at (sym ey ∙ f))) in
+        noted_as names (ap length eb ∙ text_length p) o
+
+-- the same slices are lent after one call, and after one call after the other
+pub slots_same : (g : SlotBuffer) → SameSlots g g
+slots_same g = record { text_is = refl; words_are = refl; text_length = refl; words_length = refl }
+
+pub slots_then : {a b c : SlotBuffer} → SameSlots a b → SameSlots b c → SameSlots a c
+slots_then p q = record {
+  text_is = q.text_is ∙ p.text_is;
+  words_are = q.words_are ∙ p.words_are;
+  text_length = q.text_length ∙ p.text_length;
+  words_length = q.words_length ∙ p.words_length;
+}
 
 -- ---- one after the other
 
 -- the names so far, with `rest`, are all, and so many bytes and words are left for them
-pub record Noting (all : List Text) (bytes_most words_most : ℕ) (slots : Text) (words : List ℕ) (g : SlotSize) (rest : List Text) (n k : ℕ) : Type 0 where
-  pub slotting : Slotting slots words g
-  pub names_are : names_now slots words g ++ rest ≡ all
-  pub bytes_left : g.text + n ≤ bytes_most
+pub record Noting (all : List Text) (bytes_most words_most : ℕ) (g : SlotBuffer) (rest : List Text) (n k : ℕ) : Type 0 where
+  pub slotting : Slotting g
+  pub names_are : names_now g ++ rest ≡ all
+  pub bytes_left : g.used + n ≤ bytes_most
   pub words_left : g.count + k ≤ words_most
 
-module _ {all : List Text} {bytes_most words_most : ℕ} {slots : Text} {words : List ℕ} {g : SlotSize} (names rest : List Text) (n₁ n k₁ k : ℕ)
-    (s : Noting all bytes_most words_most slots words g (names ++ rest) (n₁ + n) (k₁ + k)) where
-  noting_next : {slots' : Text} {words' : List ℕ} {g' : SlotSize} → Noted names n₁ k₁ slots words g slots' words' g'
-      → Noting all bytes_most words_most slots' words' g' rest n k
+module _ {all : List Text} {bytes_most words_most : ℕ} {g : SlotBuffer} (names rest : List Text) (n₁ n k₁ k : ℕ)
+    (s : Noting all bytes_most words_most g (names ++ rest) (n₁ + n) (k₁ + k)) where
+  noting_next : {g' : SlotBuffer} → Noted names n₁ k₁ g g'
+      → Noting all bytes_most words_most g' rest n k
   noting_next o = record {
     slotting = o.slotting;
-    names_are = rw o.names_are (append_assoc (names_now slots words g) names rest ∙ s.names_are);
+    names_are = rw o.names_are (append_assoc (names_now g) names rest ∙ s.names_are);
     bytes_left = omega (arith, o.text_most, s.bytes_left);
     words_left = omega (arith, o.words_most, s.words_left);
   }
 
-noting_room : {all : List Text} {bytes_most words_most : ℕ} {slots : Text} {words : List ℕ} {g : SlotSize} {rest : List Text} (n₁ n k₁ k : ℕ)
-    → Noting all bytes_most words_most slots words g rest (n₁ + n) (k₁ + k) → bytes_most ≤ length slots → bytes_most < 65536 → words_most ≤ length words
-    → Roomy slots words g n₁ k₁
+noting_room : {all : List Text} {bytes_most words_most : ℕ} {g : SlotBuffer} {rest : List Text} (n₁ n k₁ k : ℕ)
+    → Noting all bytes_most words_most g rest (n₁ + n) (k₁ + k) → bytes_most ≤ length g.text.now → bytes_most < 65536 → words_most ≤ length g.words.now
+    → Roomy g n₁ k₁
 noting_room n₁ n k₁ k s a b c = record {
   text_fits = omega (arith, s.bytes_left);
   short = omega (arith, s.bytes_left);
@@ -191,20 +207,20 @@ windows-over (a ∷ []) h = refl
 windows-over (a ∷ b ∷ rest) h = absurd (omega arith)
 
 -- before the pair of the tokens k and k + 1
-abbrev pub LineNoting : Text → Text → List ℕ → Text → List ℕ → SlotSize → Text → List ℕ → SlotSize → ℕ → Type 0
-LineNoting tape area line slots₀ words₀ g₀ slots words g k =
-    Noting (names_now slots₀ words₀ g₀ ++ addressed_here (windows (tokens_of tape area line))) (g₀.text + text_in (tokens_of tape area line)) (g₀.count + length line)
-    slots words g (addressed_here (windows (drop k (tokens_of tape area line)))) (text_in (drop (k + 1) (tokens_of tape area line))) (length (drop (k + 1) line))
+abbrev pub LineNoting : Text → Text → List ℕ → SlotBuffer → SlotBuffer → ℕ → Type 0
+LineNoting tape area line g₀ g k =
+    Noting (names_now g₀ ++ addressed_here (windows (tokens_of tape area line))) (g₀.used + text_in (tokens_of tape area line)) (g₀.count + length line)
+    g (addressed_here (windows (drop k (tokens_of tape area line)))) (text_in (drop (k + 1) (tokens_of tape area line))) (length (drop (k + 1) line))
 
 -- what that pair addresses
 abbrev here : Text → Text → List ℕ → ℕ → List Text
 here tape area line k = addressed_here ((token_of tape area (get_or line k 0), token_of tape area (get_or line (k + 1) 0)) ∷ [])
 
-module _ (tape area : Text) (line : List ℕ) (slots₀ : Text) (words₀ : List ℕ) (g₀ : SlotSize) (k : ℕ) {slots : Text} {words : List ℕ} {g : SlotSize}
-    (s : LineNoting tape area line slots₀ words₀ g₀ slots words g k) where
+module _ (tape area : Text) (line : List ℕ) (g₀ : SlotBuffer) (k : ℕ) {g : SlotBuffer}
+    (s : LineNoting tape area line g₀ g k) where
   module _ (h : k + 1 < length line) (p : Points tape area (get_or line (k + 1) 0)) where
-    turn : Noting (names_now slots₀ words₀ g₀ ++ addressed_here (windows (tokens_of tape area line))) (g₀.text + text_in (tokens_of tape area line)) (g₀.count + length line)
-        slots words g (here tape area line k ++ addressed_here (windows (drop (k + 1) (tokens_of tape area line))))
+    turn : Noting (names_now g₀ ++ addressed_here (windows (tokens_of tape area line))) (g₀.used + text_in (tokens_of tape area line)) (g₀.count + length line)
+        g (here tape area line k ++ addressed_here (windows (drop (k + 1) (tokens_of tape area line))))
         (len_of (get_or line (k + 1) 0) + text_in (drop (k + 1 + 1) (tokens_of tape area line))) (1 + length (drop (k + 1 + 1) line))
     turn =
         let many : length (tokens_of tape area line) ≡ length line = length-map line (token_of tape area) in
@@ -219,42 +235,40 @@ module _ (tape area : Text) (line : List ℕ) (slots₀ : Text) (words₀ : List
         let count : length (drop (k + 1) line) ≡ 1 + length (drop (k + 1 + 1) line) = omega (arith, length-drop (k + 1) line, length-drop (k + 1 + 1) line) in
         record {
           slotting = s.slotting;
-          names_are = ap (λ (r : List Text). names_now slots words g ++ r) (sym names) ∙ s.names_are;
+          names_are = ap (λ (r : List Text). names_now g ++ r) (sym names) ∙ s.names_are;
           bytes_left = omega (arith, s.bytes_left);
           words_left = omega (arith, s.words_left);
         }
 
-    pub line_room : Roomy slots₀ words₀ g₀ (text_in (tokens_of tape area line)) (length line) → length slots ≡ length slots₀ → length words ≡ length words₀
-        → Roomy slots words g (len_of (get_or line (k + 1) 0)) 1
-    line_room r es ew = noting_room (len_of (get_or line (k + 1) 0)) _ 1 _ turn (omega (arith, r.text_fits)) r.short (omega (arith, r.words_fit))
+    pub line_room : Roomy g₀ (text_in (tokens_of tape area line)) (length line) → SameSlots g₀ g → Roomy g (len_of (get_or line (k + 1) 0)) 1
+    line_room r l =
+        noting_room (len_of (get_or line (k + 1) 0)) _ 1 _ turn (omega (arith, r.text_fits, l.text_length)) r.short (omega (arith, r.words_fit, l.words_length))
 
-    pub line_next : {slots' : Text} {words' : List ℕ} {g' : SlotSize} → Noted (here tape area line k) (len_of (get_or line (k + 1) 0)) 1 slots words g slots' words' g'
-        → LineNoting tape area line slots₀ words₀ g₀ slots' words' g' (k + 1)
+    pub line_next : {g' : SlotBuffer} → Noted (here tape area line k) (len_of (get_or line (k + 1) 0)) 1 g g'
+        → LineNoting tape area line g₀ g' (k + 1)
     line_next o = noting_next (here tape area line k) _ _ _ _ _ turn o
 
   pub line_ends : length line ≤ k + 1
-      → Noted (addressed_here (windows (tokens_of tape area line))) (text_in (tokens_of tape area line)) (length line) slots₀ words₀ g₀ slots words g
+      → Noted (addressed_here (windows (tokens_of tape area line))) (text_in (tokens_of tape area line)) (length line) g₀ g
   unfolding addressed_here
   line_ends h =
       let none : windows (drop k (tokens_of tape area line)) ≡ [] =
       windows-over (drop k (tokens_of tape area line)) (rw (length-drop, length-map) (omega arith)) in
       record {
         slotting = s.slotting;
-        names_are = sym (append-nil (names_now slots words g)) ∙ rw none at s.names_are;
+        names_are = sym (append-nil (names_now g)) ∙ rw none at s.names_are;
         text_most = omega (arith, s.bytes_left);
         words_most = omega (arith, s.words_left);
       }
 
 -- the pairs that are left, `rest` being what they are taken from
-pub record Pairs (tape area : Text) (line : List ℕ) (slots₀ : Text) (words₀ : List ℕ) (g₀ : SlotSize) (slots : Text) (words : List ℕ) (g : SlotSize)
-    (pairs : Windows ℕ) : Type 0 where
+pub record Pairs (tape area : Text) (line : List ℕ) (g₀ g : SlotBuffer) (pairs : Windows ℕ) : Type 0 where
   pub twos : windows_size pairs ≡ 2
   pub inside : length (windows_rest pairs) ≤ length line
   pub rest_is : windows_rest pairs ≡ drop (length line - length (windows_rest pairs)) line
-  pub noting : LineNoting tape area line slots₀ words₀ g₀ slots words g (length line - length (windows_rest pairs))
+  pub noting : LineNoting tape area line g₀ g (length line - length (windows_rest pairs))
 
-module _ {tape area : Text} {line : List ℕ} {slots₀ : Text} {words₀ : List ℕ} {g₀ : SlotSize} {slots : Text} {words : List ℕ} {g : SlotSize} {pairs : Windows ℕ}
-    (s : Pairs tape area line slots₀ words₀ g₀ slots words g pairs) where
+module _ {tape area : Text} {line : List ℕ} {g₀ g : SlotBuffer} {pairs : Windows ℕ} (s : Pairs tape area line g₀ g pairs) where
   abbrev place : ℕ
   place = length line - length (windows_rest pairs)
 
@@ -281,15 +295,15 @@ module _ {tape area : Text} {line : List ℕ} {slots₀ : Text} {words₀ : List
     pub pair_second : Holds tape area line → Points tape area (get_or pair.now 1 0)
     pair_second h = rw second_is (h.at (place + 1) pair_inside)
 
-    pub pair_room : Holds tape area line → Roomy slots₀ words₀ g₀ (text_in (tokens_of tape area line)) (length line)
-        → length slots ≡ length slots₀ → length words ≡ length words₀ → Roomy slots words g (len_of (get_or pair.now 1 0)) 1
-    pair_room h p es ew = rw second_is (line_room tape area line slots₀ words₀ g₀ place s.noting pair_inside (h.at (place + 1) pair_inside) p es ew)
+    pub pair_room : Holds tape area line → Roomy g₀ (text_in (tokens_of tape area line)) (length line)
+        → SameSlots g₀ g → Roomy g (len_of (get_or pair.now 1 0)) 1
+    pair_room h p l = rw second_is (line_room tape area line g₀ place s.noting pair_inside (h.at (place + 1) pair_inside) p l)
 
     -- and what it leaves
-    pub pairs_next : Holds tape area line → {slots' : Text} {words' : List ℕ} {g' : SlotSize}
+    pub pairs_next : Holds tape area line → {g' : SlotBuffer}
         → Noted (addressed_here ((token_of tape area (get_or pair.now 0 0), token_of tape area (get_or pair.now 1 0)) ∷ [])) (len_of (get_or pair.now 1 0)) 1
-        slots words g slots' words' g'
-        → Pairs tape area line slots₀ words₀ g₀ slots' words' g' next
+        g g'
+        → Pairs tape area line g₀ g' next
     pairs_next h o =
         let t = turn-of in
         let further : length line - length (windows_rest next) ≡ place + 1 = omega (arith, t.0, s.inside) in
@@ -299,24 +313,24 @@ module _ {tape area : Text} {line : List ℕ} {slots₀ : Text} {words₀ : List
           rest_is = t.1;
           noting =
               rw further
-              (line_next tape area line slots₀ words₀ g₀ place s.noting pair_inside (h.at (place + 1) pair_inside) (rw (first_is, second_is) at o));
+              (line_next tape area line g₀ place s.noting pair_inside (h.at (place + 1) pair_inside) (rw (first_is, second_is) at o));
         }
 
   pub pairs_end : (next : Windows ℕ) (r : Option (Bor (List ℕ))) → r ≡ None → windows_steps pairs r next
-      → Noted (addressed_here (windows (tokens_of tape area line))) (text_in (tokens_of tape area line)) (length line) slots₀ words₀ g₀ slots words g
+      → Noted (addressed_here (windows (tokens_of tape area line))) (text_in (tokens_of tape area line)) (length line) g₀ g
   pairs_end next r e steps =
       let last = (rw e at steps).1.0 in
-      line_ends tape area line slots₀ words₀ g₀ place s.noting (omega (arith, last, s.twos, s.inside))
+      line_ends tape area line g₀ place s.noting (omega (arith, last, s.twos, s.inside))
 
 -- ---- the lines of a listing
 
 -- before the line k
-abbrev pub LinesNoting : Listing → Text → List ℕ → SlotSize → ℕ → Type 0
-LinesNoting lines slots words g k =
-    Noting (addressed_in lines) (text lines) (token_count lines) slots words g (addressed_in (drop k lines)) (text (drop k lines)) (token_count (drop k lines))
+abbrev pub LinesNoting : Listing → SlotBuffer → ℕ → Type 0
+LinesNoting lines g k =
+    Noting (addressed_in lines) (text lines) (token_count lines) g (addressed_in (drop k lines)) (text (drop k lines)) (token_count (drop k lines))
 
-module _ (tape area : Text) (tokens lines : List ℕ) (k : ℕ) {slots : Text} {words : List ℕ} {g : SlotSize}
-    (s : LinesNoting (bare_listing tape area tokens lines) slots words g k) where
+module _ (tape area : Text) (tokens lines : List ℕ) (k : ℕ) {g : SlotBuffer}
+    (s : LinesNoting (bare_listing tape area tokens lines) g k) where
   module _ (h : k < length lines) {ws : List ℕ} (ew : ws ≡ part_of tokens (get_or lines k 0)) where
     abbrev rest : Listing
     rest = drop (k + 1) (bare_listing tape area tokens lines)
@@ -326,22 +340,24 @@ module _ (tape area : Text) (tokens lines : List ℕ) (k : ℕ) {slots : Text} {
         drop-cons (bare_listing tape area tokens lines) k blank (rw length-map h) ∙ rw (bare_at tape area tokens [] lines k h, add-one k)
 
     turned : Noting (addressed_in (bare_listing tape area tokens lines)) (text (bare_listing tape area tokens lines)) (token_count (bare_listing tape area tokens lines))
-        slots words g (addressed_here (windows (tokens_of tape area ws)) ++ addressed_in rest) (text_in (tokens_of tape area ws) + text rest) (length ws + token_count rest)
+        g (addressed_here (windows (tokens_of tape area ws)) ++ addressed_in rest) (text_in (tokens_of tape area ws) + text rest) (length ws + token_count rest)
     unfolding addressed_in
     turned = rw ew (rw (length-map (part_of tokens (get_or lines k 0)) (token_of tape area)) at (rw split at s))
 
-    pub lines-room : {slots₀ : Text} {words₀ : List ℕ}
-        → Roomy slots₀ words₀ (record { count = 0; text = 0 }) (text (bare_listing tape area tokens lines)) (token_count (bare_listing tape area tokens lines))
-        → length slots ≡ length slots₀ → length words ≡ length words₀ → Roomy slots words g (text_in (tokens_of tape area ws)) (length ws)
-    lines-room r es em = noting_room (text_in (tokens_of tape area ws)) _ (length ws) _ turned (omega (arith, r.text_fits)) (omega (arith, r.short)) (omega (arith, r.words_fit))
+    pub lines-room : {n m : ℕ} → text (bare_listing tape area tokens lines) ≤ n → text (bare_listing tape area tokens lines) < 65536
+        → token_count (bare_listing tape area tokens lines) ≤ m → length g.text.now ≡ n → length g.words.now ≡ m
+        → Roomy g (text_in (tokens_of tape area ws)) (length ws)
+    lines-room a b c en em = noting_room (text_in (tokens_of tape area ws)) _ (length ws) _ turned (omega (arith, a, en)) b (omega (arith, c, em))
 
-    pub lines_next : {slots' : Text} {words' : List ℕ} {g' : SlotSize}
-        → Noted (addressed_here (windows (tokens_of tape area ws))) (text_in (tokens_of tape area ws)) (length ws) slots words g slots' words' g'
-        → LinesNoting (bare_listing tape area tokens lines) slots' words' g' (k + 1)
+    pub lines_next : {g' : SlotBuffer}
+        → Noted (addressed_here (windows (tokens_of tape area ws))) (text_in (tokens_of tape area ws)) (length ws) g g'
+        → LinesNoting (bare_listing tape area tokens lines) g' (k + 1)
     lines_next o = noting_next (addressed_here (windows (tokens_of tape area ws))) _ _ _ _ _ turned o
 
-  pub lines_end : length lines ≤ k → Gathers (addressed_in (bare_listing tape area tokens lines)) (take g.text slots) (take g.count words)
+  -- what stands in the slices behind the names is what the buffer said
+  pub lines_end : length lines ≤ k → {slots : Text} {words : List ℕ} → slots ≡ g.text.now → words ≡ g.words.now
+      → Gathers (addressed_in (bare_listing tape area tokens lines)) (take g.used slots) (take g.count words)
   unfolding addressed_in
-  lines_end h =
+  lines_end h es ew =
       let none : drop k (bare_listing tape area tokens lines) ≡ [] = drop_of_length-le (bare_listing tape area tokens lines) {i = k} (rw length-map h) in
-      record { holds = s.slotting.holds; names_are = sym (append-nil (names_now slots words g)) ∙ rw none at s.names_are }
+      rw (es, ew) (record { holds = s.slotting.holds; names_are = sym (append-nil (names_now g)) ∙ rw none at s.names_are })

@@ -6,8 +6,8 @@ use mathlib.Core.Logic.{◌⊎◌, ⊎_elim, inl, inr}
 use mathlib.Core.Bool.{Bool, true, false}
 use mathlib.Core.List.{List, [], ◌∷◌, ◌++◌, map, map-append, flatten, append-nil, append_assoc}
 use lib.Dec.{eqb}
-use lib.ListN.{length, take, drop, set, length-append}
-use lib.Seq.{take_at, length-take-le, length_front, append_snoc}
+use lib.ListN.{length, set, length-append}
+use lib.Seq.{append_snoc}
 use borrow.Author.Tests.{eq-eqb, ne_eqb}
 use Rattle.reference.specs.Control.{◌or◌, when◌then◌else◌}
 use Rattle.reference.specs.Text.{Text}
@@ -17,7 +17,7 @@ use Rattle.reference.specs.Run.{Attempt, propagate_once, after_attempts, removal
 use Rattle.reference.specs.Run.{last_of, run, attempts_of, steps, finished, attempts_in, counts}
 use Rattle.joining.specs.Limits.{RunLimits}
 use Rattle.laws.proofs.Scans.{if-true, if-false}
-use Rattle.lines.specs.Lines.{Reading, numbered, origin_of, listing_read}
+use Rattle.lines.specs.Lines.{Reading, numbered, origin_of}
 use Rattle.build.specs.declared.used.Size.{Size}
 use Rattle.build.specs.State.{used}
 use Rattle.build.specs.Added.{used_words}
@@ -29,7 +29,7 @@ use Rattle.rounds.specs.declared.run.Tally as Code
 use Rattle.rounds.specs.Carries.{Carries}
 use Rattle.cuts.specs.Cuts.{Cut}
 use Rattle.rounds.specs.Rounds.{Made}
-use Rattle.rounds.specs.Runs.{Runnable, most_rounds, after_round, Few, Counted, Rounded, tally_of, told_of, counts_of, Ran}
+use Rattle.rounds.specs.Runs.{most_rounds, after_round, Few, Counted, Rounded, tally_of, told_of, counts_of, Ran}
 use Rattle.rounds.proofs.Carrying.{carries_none, carries_then, carries_same, numbers_same, cuts-addresses}
 use Rattle.cuts.proofs.Cutting.{last_append}
 use Rattle.rounds.proofs.Turning.{removals_append, now-length, now-few}
@@ -176,16 +176,15 @@ most-few true h = omega arith
 most-few false h = omega arith
 
 module _ {rules : Rules} {tape area₀ : Text} {tokens₀ lines₀ lows₀ highs₀ : List ℕ} {at₀ : Size} where
-  pub going_begin : {area2 : Text} {tokens2 labels : List ℕ} {slots : Text} {slot-words : List ℕ}
-      → Runnable tape area₀ tokens₀ lines₀ area2 tokens2 lows₀ highs₀ labels slots slot-words at₀ → {most : ℕ}
+  pub going_begin : Current tape area₀ tokens₀ lines₀ at₀ → RunLimits (bare_now tape area₀ tokens₀ lines₀ at₀) → {most : ℕ}
       → most ≡ most_rounds rules.settle at₀.lines
       → Going rules tape area₀ tokens₀ lines₀ lows₀ highs₀ at₀ most most area₀ tokens₀ lines₀ lows₀ highs₀ (begin at₀)
-  going_begin b e =
+  going_begin current limits e =
       record {
-        current = b.current;
-        limits = b.limits;
+        current = current;
+        limits = limits;
         few = record { rounds = omega arith; attempts = omega arith; removed = omega arith };
-        rounds = omega (arith, e, most-few rules.settle (now-few b.current b.limits));
+        rounds = omega (arith, e, most-few rules.settle (now-few current limits));
         sofar = λ addresses. sofar_begin rules _ _ at₀ (carries_none (used_lines lines₀ at₀) lows₀ highs₀);
       }
 
@@ -227,13 +226,12 @@ module _ {rules : Rules} {tape area₀ : Text} {tokens₀ lines₀ lows₀ highs
       unfolding rounds_left
       going_last e = rw (if-true 0 (more - 1) (eq-eqb r.removed 0 e)) at going_round
 
-    pub going_end : {area2 : Text} {tokens2 labels : List ℕ} {slots : Text} {slot-words : List ℕ}
-        → Runnable tape area₀ tokens₀ lines₀ area2 tokens2 lows₀ highs₀ labels slots slot-words at₀ → most ≡ most_rounds rules.settle at₀.lines
+    pub going_end : Current tape area₀ tokens₀ lines₀ at₀ → most ≡ most_rounds rules.settle at₀.lines
         → more ≡ 0 → Rounded rules tape area₀ tokens₀ lines₀ lows₀ highs₀ at₀ area tokens lines lows highs s
     unfolding run attempts_of
-    going_end b e h =
+    going_end current e h =
         let most_is : (addresses : Reading) → limit rules (listing_now tape area₀ tokens₀ lines₀ at₀ addresses) ≡ most =
-        (λ addresses. limit_is rules _ ∙ ap (most_rounds rules.settle) (now-length b.current addresses) ∙ sym e) in
+        (λ addresses. limit_is rules _ ∙ ap (most_rounds rules.settle) (now-length current addresses) ∙ sym e) in
         record {
           current = g.current;
           limits = g.limits;
@@ -272,12 +270,9 @@ cuts_are rules lines = refl
 
 module _ (rules : Rules) {tape area : Text} {tokens lines lows highs : List ℕ} {at : Size} {area' : Text} {tokens' lines' lows' highs' : List ℕ} {s : Progress}
     (m : Rounded rules tape area tokens lines lows highs at area' tokens' lines' lows' highs' s) where
-  module _ {left : List ℕ} {k : ℕ}
-      (c : Cut (drop_dead_results rules) tape (used area' s.size) (used_words tokens' s.size) (used_lines lines' s.size) left k)
-      (e : length left ≡ length (used_lines lines' s.size)) (t : Code.Tally) (et : tally_of t ≡ told_of rules.settle s) where
-    front : take s.size.lines (left ++ drop s.size.lines lines') ≡ left
-    front = take_at left _ s.size.lines (e ∙ length-take-le s.size.lines lines' m.current.lines_fit)
-
+  module _ (left : List ℕ) {k : ℕ}
+      (c : Cut (drop_dead_results rules) tape (used area' s.size) (used_words tokens' s.size) (used_lines lines' s.size) (used_lines left s.size) k)
+      (e : length left ≡ length lines') (t : Code.Tally) (et : tally_of t ≡ told_of rules.settle s) where
     cuts-made : (addresses : Reading) → drop_dead_results rules (listing_now tape area' tokens' lines' s.size addresses)
         ≡ (run rules (listing_now tape area tokens lines at addresses)).cuts
     cuts-made addresses = ap (drop_dead_results rules) (m.left addresses) ∙ sym (cuts_are rules (listing_now tape area tokens lines at addresses))
@@ -296,32 +291,29 @@ module _ (rules : Rules) {tape area : Text} {tokens lines lows highs : List ℕ}
         λ i. record { tally = tally i; lines_removed = told.removed_is i; results_cut = cut i }
 
     -- a cut line is the line that it was
-    numbers-kept : map origin_of left ≡ map origin_of (used_lines lines' s.size)
+    numbers-kept : map origin_of (used_lines left s.size) ≡ map origin_of (used_lines lines' s.size)
     numbers-kept =
         numbers_same tape (used area' s.size) (used_words tokens' s.size) (used_lines lines' s.size)
-        (used area' s.size) (used_words tokens' s.size) left
+        (used area' s.size) (used_words tokens' s.size) (used_lines left s.size)
         (ap (map (λ l. l.address)) (c.finished numbered) ∙ cuts-addresses rules (listing_now tape area' tokens' lines' s.size numbered))
 
     marks_left : (addresses : Reading) → Carries (attempts_of (run rules (listing_now tape area tokens lines at addresses)))
-        (used_lines lines at) lows highs left lows' highs'
+        (used_lines lines at) lows highs (used_lines left s.size) lows' highs'
     marks_left addresses =
         rw append-nil
         at (carries_then (attempts_of (run rules (listing_now tape area tokens lines at addresses))) [] (used_lines lines at) lows highs
-        (used_lines lines' s.size) lows' highs' left lows' highs' (m.marks addresses)
-        (carries_same (used_lines lines' s.size) left lows' highs' numbers-kept))
+        (used_lines lines' s.size) lows' highs' (used_lines left s.size) lows' highs' (m.marks addresses)
+        (carries_same (used_lines lines' s.size) (used_lines left s.size) lows' highs' numbers-kept))
 
-    pub run-made : Ran rules tape area tokens lines lows highs at area' tokens' (left ++ drop s.size.lines lines') lows' highs' outcome
+    pub run-made : Ran rules tape area tokens lines lows highs at area' tokens' left lows' highs' outcome
     run-made = record {
       current = record {
         text_fits = m.current.text_fits;
         words_fit = m.current.words_fit;
-        lines_fit = rw (length_front lines' left s.size.lines e) m.current.lines_fit;
-        listed = rw front c.listed;
+        lines_fit = omega (arith, m.current.lines_fit, e);
+        listed = c.listed;
       };
-      finished = λ addresses.
-          ap (listing_read tape (used area' s.size) (used_words tokens' s.size) addresses) front
-          ∙ c.finished addresses
-          ∙ rw (cuts-made addresses, m.left addresses) (sym (finished_is rules (listing_now tape area tokens lines at addresses)));
+      finished = λ addresses. c.finished addresses ∙ rw (cuts-made addresses, m.left addresses) (sym (finished_is rules (listing_now tape area tokens lines at addresses)));
       counts = counted;
-      marks = λ addresses. rw front (marks_left addresses);
+      marks = marks_left;
     }

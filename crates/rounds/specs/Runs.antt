@@ -8,7 +8,7 @@ use Rattle.reference.specs.Run as R
 use Rattle.joining.specs.Limits.{RunLimits}
 use Rattle.lines.specs.Lines.{Reading}
 use Rattle.build.specs.declared.used.Size.{Size}
-use Rattle.join.specs.Current.{used_lines, listing_now, bare_now, Current, Lent}
+use Rattle.join.specs.Current.{used_lines, listing_now, bare_now, Current}
 use Rattle.rounds.specs.Carries.{Carries}
 use Rattle.rounds.specs.declared.rounds.Round.{Round}
 use Rattle.rounds.specs.declared.run.Tally.{Tally}
@@ -20,20 +20,6 @@ use Rattle.rounds.specs.declared.run.Progress.{Progress}
 pub record SameListing (tape area : Text) (tokens lines : List ℕ) (at : Size) (lines' : List ℕ) : Type 0 where
   pub current : Current tape area tokens lines' at
   pub means : (addresses : Reading) → listing_now tape area tokens lines' at addresses ≡ listing_now tape area tokens lines at addresses
-
--- a listing within the limits, and tables large enough for its rounds; the table of token words is no larger than a line word can name
-pub record Runnable (tape area : Text) (tokens lines : List ℕ) (area2 : Text) (tokens2 lows highs labels : List ℕ) (slots : Text)
-    (slot-words : List ℕ)
-    (at : Size) : Type 0 where
-  pub current : Current tape area tokens lines at
-  pub limits : RunLimits (bare_now tape area tokens lines at)
-  pub lent : Lent area tokens area2 tokens2
-  pub for_labels : 256 ≤ length labels
-  pub for_slots : 49152 ≤ length slots
-  pub for_slot_words : 1024 ≤ length slot-words
-  pub words_short : length tokens ≤ 65536
-  pub for_lows : 256 ≤ length lows
-  pub for_highs : 256 ≤ length highs
 
 -- ---- the rounds
 

@@ -3,31 +3,37 @@ use Rattle.std.specs.Prelude.{ℕ, ◌+◌, ◌≤◌, ◌<◌, ◌≡◌, List,
 use Rattle.reference.specs.Text.{Text}
 use Rattle.lines.specs.Words.{Holds}
 use Rattle.plan.specs.Slots.{slot_names}
-use Rattle.rounds.specs.declared.slots.SlotSize.{SlotSize}
+use Rattle.rounds.specs.declared.slots.SlotBuffer.{SlotBuffer}
 
 -- the names so far
-abbrev pub names_now : Text → List ℕ → SlotSize → List Text
-names_now slots words g = slot_names (take g.text slots) (take g.count words)
+abbrev pub names_now : SlotBuffer → List Text
+names_now g = slot_names (take g.used g.text.now) (take g.count g.words.now)
 
 -- the names so far can be read
-pub record Slotting (slots : Text) (words : List ℕ) (g : SlotSize) : Type 0 where
-  pub text_fits : g.text ≤ length slots
-  pub words_fit : g.count ≤ length words
-  pub holds : Holds (take g.text slots) (take g.text slots) (take g.count words)
+pub record Slotting (g : SlotBuffer) : Type 0 where
+  pub text_fits : g.used ≤ length g.text.now
+  pub words_fit : g.count ≤ length g.words.now
+  pub holds : Holds (take g.used g.text.now) (take g.used g.text.now) (take g.count g.words.now)
 
 -- so many bytes and so many names more can be gathered
-pub record Roomy (slots : Text) (words : List ℕ) (g : SlotSize) (n k : ℕ) : Type 0 where
-  pub text_fits : g.text + n ≤ length slots
-  pub short : g.text + n < 65536
-  pub words_fit : g.count + k ≤ length words
+pub record Roomy (g : SlotBuffer) (n k : ℕ) : Type 0 where
+  pub text_fits : g.used + n ≤ length g.text.now
+  pub short : g.used + n < 65536
+  pub words_fit : g.count + k ≤ length g.words.now
 
 -- `names` stand behind the names before, in at most n bytes and k words
-pub record Noted (names : List Text) (n k : ℕ) (slots : Text) (words : List ℕ) (g : SlotSize) (slots' : Text) (words' : List ℕ)
-    (g' : SlotSize) : Type 0 where
-  pub slotting : Slotting slots' words' g'
-  pub names_are : names_now slots' words' g' ≡ names_now slots words g ++ names
-  pub text_most : g'.text ≤ g.text + n
+pub record Noted (names : List Text) (n k : ℕ) (g g' : SlotBuffer) : Type 0 where
+  pub slotting : Slotting g'
+  pub names_are : names_now g' ≡ names_now g ++ names
+  pub text_most : g'.used ≤ g.used + n
   pub words_most : g'.count ≤ g.count + k
+
+-- the same slices are lent, of the same lengths
+pub record SameSlots (g g' : SlotBuffer) : Type 0 where
+  pub text_is : g'.text.ghost_name ≡ g.text.ghost_name
+  pub words_are : g'.words.ghost_name ≡ g.words.ghost_name
+  pub text_length : length g'.text.now ≡ length g.text.now
+  pub words_length : length g'.words.now ≡ length g.words.now
 
 -- `names` are all that was gathered
 pub record Gathers (names : List Text) (slots : Text) (words : List ℕ) : Type 0 where

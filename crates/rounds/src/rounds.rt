@@ -1,20 +1,16 @@
 // One round: `propagate_once` of the Rust.
-// Kept: the slices that are written to are parameters of their own. A struct of them is no plainer: each contract would have to say,
-// besides, that it still lends the same slices.
+ghost use Rattle.std.specs.Prelude.{◌≡◌, length};
 ghost use Rattle.reference.specs.Run.{propagate_once};
 ghost use Rattle.lines.specs.Rules.{rules_of};
-ghost use Rattle.join.specs.Attempts.{Attemptable};
-ghost use Rattle.rounds.specs.Rounds.{Turned, Countable, Roundable, Made, attempts_with};
-ghost use Rattle.rounds.specs.Runs.{Runnable};
-ghost use Rattle.lines.specs.Marks.{highs_of, lows_of};
+ghost use Rattle.join.specs.Workspaces.{Attemptable, SameLent};
+ghost use Rattle.rounds.specs.Rounds.{Countable};
+ghost use Rattle.rounds.specs.Workspaces.{Runnable, Gatherable, Roundable, Turned, Made, attempts_with};
 
 use crate::slots::gather_slots;
 use build::used::Size;
-use join::try_at;
+use join::{Workspace, try_at};
 use life::{gather_labels, shift_labels};
-use lines::marks::Marks;
 use lines::rules::Rules;
-use lines::texts::{Listing, Texts};
 use plan::slots::SlotNames;
 
 // How far a round has come: the next line to try, the attempts and the removals so far, and the listing's size.
@@ -29,28 +25,20 @@ pub struct Round {
 // One attempt of a round.
 fn turn(
     tape: &[u8],
-    area: &mut [u8],
-    tokens: &mut [u64],
-    lines: &mut [u64],
-    area2: &mut [u8],
-    tokens2: &mut [u64],
-    marks: &mut [Marks],
-    labels: &mut [u64],
+    room: &mut Workspace<'_>,
+    labels: &mut [usize],
     slots: &SlotNames<'_>,
     r: Round,
     rules: Rules,
 ) -> Round
-    requires { Attemptable tape.now area.old tokens.old lines.old area2.old tokens2.old (lows_of marks.old) (highs_of marks.old)
-        labels.old slots.now.text.now slots.now.words.now r.next r.size × Countable r }
-    ensures { Turned (rules_of rules) tape.now area.old tokens.old lines.old
-        (lows_of marks.old) (highs_of marks.old) labels.old slots.now.text.now slots.now.words.now r
-        area.new tokens.new lines.new (lows_of marks.new) (highs_of marks.new) labels.new result }
+    requires { Attemptable tape.now room.old labels.old slots.now.text.now slots.now.words.now r.next r.size × Countable r }
+    ensures turned { Turned (rules_of rules) tape.now room.old labels.old slots.now.text.now slots.now.words.now r room.new labels.new
+        result }
+    ensures lent { SameLent room.old room.new }
 {
     let i = r.next;
     let attempts = r.attempts + 1;
-    let Some(size) = try_at(
-        tape, area, tokens, lines, area2, tokens2, marks, labels, slots, i, r.size, rules,
-    ) else {
+    let Some(size) = try_at(tape, room, labels, slots, i, r.size, rules) else {
         return Round {
             next: i + 1,
             attempts,
@@ -69,22 +57,16 @@ fn turn(
 // The attempts of a round, from line 0 on.
 fn turns(
     tape: &[u8],
-    area: &mut [u8],
-    tokens: &mut [u64],
-    lines: &mut [u64],
-    area2: &mut [u8],
-    tokens2: &mut [u64],
-    marks: &mut [Marks],
-    labels: &mut [u64],
+    room: &mut Workspace<'_>,
+    labels: &mut [usize],
     slots: &SlotNames<'_>,
     size: Size,
     rules: Rules,
 ) -> Round
-    requires { Roundable tape.now area.old tokens.old lines.old area2.old tokens2.old (lows_of marks.old) (highs_of marks.old)
-        labels.old slots.now.text.now slots.now.words.now size }
-    ensures { Made (attempts_with (rules_of rules) tape.now area.old tokens.old lines.old size labels.old slots.now.text.now
-        slots.now.words.now) tape.now area.old tokens.old lines.old (lows_of marks.old) (highs_of marks.old) size area.new
-        tokens.new lines.new (lows_of marks.new) (highs_of marks.new) result }
+    requires { Roundable tape.now room.old labels.old slots.now.text.now slots.now.words.now size }
+    ensures made { Made (attempts_with (rules_of rules) tape.now room.old size labels.old slots.now.text.now slots.now.words.now) tape.now
+        room.old size room.new result }
+    ensures lent { SameLent room.old room.new }
 {
     let mut r = Round {
         next: 0,
@@ -94,54 +76,30 @@ fn turns(
     };
     // Kept: a `for` is no plainer: an attempt sets the next line one on or one back, which no range and no iterator yields.
     while r.next < r.size.lines {
-        r = turn(
-            tape, area, tokens, lines, area2, tokens2, marks, labels, slots, r, rules,
-        );
+        r = turn(tape, room, labels, slots, r, rules);
     }
     r
 }
 
 // One round. Labels and addressed slots are gathered as it begins.
+// Kept: three slices and no struct of them, here and in `make_rounds` and `optimize`: each attempt that succeeds writes the labels, the
+// names are only read once they are gathered, and the cuts take the labels alone. Of a struct each contract would have to say besides
+// that its slices are as long as before (`Gatherable`), which the prover knows of a parameter.
 pub fn propagate_once(
     tape: &[u8],
-    area: &mut [u8],
-    tokens: &mut [u64],
-    lines: &mut [u64],
-    area2: &mut [u8],
-    tokens2: &mut [u64],
-    marks: &mut [Marks],
-    labels: &mut [u64],
+    room: &mut Workspace<'_>,
+    labels: &mut [usize],
     slots: &mut [u8],
     slot_words: &mut [u64],
     size: Size,
     rules: Rules,
 ) -> Round
-    requires { Runnable tape.now area.old tokens.old lines.old area2.old tokens2.old (lows_of marks.old) (highs_of marks.old)
-        labels.old slots.old slot_words.old size }
-    ensures { Made (propagate_once (rules_of rules)) tape.now area.old tokens.old lines.old (lows_of marks.old) (highs_of marks.old) size
-        area.new tokens.new lines.new (lows_of marks.new) (highs_of marks.new) result }
+    requires { Runnable tape.now room.old size × Gatherable labels.old slots.old slot_words.old }
+    ensures made { Made (propagate_once (rules_of rules)) tape.now room.old size room.new result }
+    ensures lent { SameLent room.old room.new }
 {
-    let listing = Listing {
-        texts: Texts {
-            tape,
-            area: &area[..size.text],
-        },
-        tokens: &tokens[..size.tokens],
-        lines: &lines[..size.lines],
-    };
+    let listing = room.listing(tape, size);
     let known = gather_labels(&listing, labels);
     let names = gather_slots(&listing, slots, slot_words);
-    turns(
-        tape,
-        area,
-        tokens,
-        lines,
-        area2,
-        tokens2,
-        marks,
-        &mut labels[..known],
-        &names,
-        size,
-        rules,
-    )
+    turns(tape, room, &mut labels[..known], &names, size, rules)
 }

@@ -3,26 +3,30 @@
 // Then the cuts. Before the rounds the facts of each line (what it lacks, and whether it calls) are noted in its word; they are no part of
 // the listing. The marks of a line, the lowest and the highest address of it and of all that was joined into it, are in `marks`, by the
 // number of the input line.
-// Kept: the slices that are written to are parameters of their own. A struct of them is no plainer: each contract would have to say,
-// besides, that it still lends the same slices.
-ghost use Rattle.std.specs.Prelude.{◌≡◌, ◌≤◌};
+ghost use Rattle.std.specs.Prelude.{◌≡◌, ◌≤◌, length};
+ghost use Rattle.reference.specs.Run.{drop_dead_results};
 ghost use Rattle.lines.specs.Rules.{rules_of};
-ghost use Rattle.join.specs.Current.{Current};
+ghost use Rattle.build.specs.State.{used};
+ghost use Rattle.build.specs.Added.{used_words};
+ghost use Rattle.cuts.specs.Cuts.{Cut};
+ghost use Rattle.join.specs.Current.{Current, used_lines};
+ghost use Rattle.join.specs.Workspaces.{SameLent};
 ghost use Rattle.rounds.specs.Rounds.{Countable};
-ghost use Rattle.rounds.specs.Runs.{SameListing, Runnable, Ran};
-ghost use Rattle.rounds.specs.Runs.{most_rounds, after_round, Few, tally_of, told_of, Rounded};
-ghost use Rattle.lines.specs.Marks.{highs_of, lows_of};
+ghost use Rattle.rounds.specs.Runs.{SameListing, most_rounds, after_round, Few, tally_of, told_of};
+ghost use Rattle.rounds.specs.Workspaces.{Runnable, Gatherable, Rounded, Ran};
 
 use crate::rounds::{Round, propagate_once};
 use build::used::Size;
 use cuts::drop_dead_results;
+use join::Workspace;
 use linefacts::gather_facts;
-use lines::marks::Marks;
 use lines::rules::Rules;
 use lines::texts::Texts;
 
 // What is told of the rounds: the attempts of each of three, 0 for one that was not made; or, of a run that settled, how many rounds it
 // made, the last included, and the attempts of them all.
+// Kept: a rule of the project gives "attempts of each of three rounds (0 for one not run)" as the answer of a call; an `Option` for each
+// would be turned back to 0 at once.
 #[derive(Clone, Copy)]
 pub enum Tally {
     Three { first: u64, second: u64, third: u64 },
@@ -82,7 +86,8 @@ fn tally_up(settle: bool, s: Progress) -> Tally
     ensures { tally_of result ≡ told_of settle s }
 {
     if settle {
-        // Kept: another type for `made` is no plainer: it is an index of `each` too, and the cast would stand there.
+        // Kept: a cast, since a count of rounds is an index too: 64 bits hold it, and `u64::try_from` is no plainer, since it asks what to
+        // do where they do not.
         Tally::Settled {
             rounds: s.made as u64,
             attempts: s.attempts,
@@ -100,22 +105,16 @@ fn tally_up(settle: bool, s: Progress) -> Tally
 // The rounds, each with what the one before it left.
 fn make_rounds(
     tape: &[u8],
-    area: &mut [u8],
-    tokens: &mut [u64],
-    lines: &mut [u64],
-    area2: &mut [u8],
-    tokens2: &mut [u64],
-    marks: &mut [Marks],
-    labels: &mut [u64],
+    room: &mut Workspace<'_>,
+    labels: &mut [usize],
     slots: &mut [u8],
     slot_words: &mut [u64],
     size: Size,
     rules: Rules,
 ) -> Progress
-    requires { Runnable tape.now area.old tokens.old lines.old area2.old tokens2.old
-        (lows_of marks.old) (highs_of marks.old) labels.old slots.old slot_words.old size }
-    ensures { Rounded (rules_of rules) tape.now area.old tokens.old lines.old (lows_of marks.old) (highs_of marks.old) size
-        area.new tokens.new lines.new (lows_of marks.new) (highs_of marks.new) result }
+    requires { Runnable tape.now room.old size × Gatherable labels.old slots.old slot_words.old }
+    ensures rounded { Rounded (rules_of rules) tape.now room.old size room.new result }
+    ensures lent { SameLent room.old room.new }
 {
     let most = most_rounds(rules.settle, size.lines);
     let mut s = Progress {
@@ -125,11 +124,8 @@ fn make_rounds(
         removed: 0,
         size,
     };
-    for _k in 0..most {
-        let r = propagate_once(
-            tape, area, tokens, lines, area2, tokens2, marks, labels, slots, slot_words, s.size,
-            rules,
-        );
+    for _ in 0..most {
+        let r = propagate_once(tape, room, labels, slots, slot_words, s.size, rules);
         s = after_round(s, r);
         if r.removed == 0 {
             break;
@@ -139,55 +135,72 @@ fn make_rounds(
 }
 
 // Notes the facts of each line of the listing in its word.
-fn note_facts(texts: &Texts<'_>, tokens: &[u64], lines: &mut [u64], size: Size)
-    requires { Current texts.now.tape.now texts.now.area.now tokens.now lines.old size }
-    ensures { SameListing texts.now.tape.now texts.now.area.now tokens.now lines.old size lines.new }
+fn note_facts(tape: &[u8], area: &[u8], tokens: &[u64], lines: &mut [u64], size: Size)
+    requires { Current tape.now area.now tokens.now lines.old size }
+    ensures { SameListing tape.now area.now tokens.now lines.old size lines.new }
 {
     gather_facts(
         &Texts {
-            tape: texts.tape,
-            area: &texts.area[..size.text],
+            tape,
+            area: &area[..size.text],
         },
         &tokens[..size.tokens],
         &mut lines[..size.lines],
     );
 }
 
+// Cuts the dead results of the listing, and says how many they are.
+fn cut_results(
+    tape: &[u8],
+    area: &[u8],
+    tokens: &[u64],
+    lines: &mut [u64],
+    labels: &mut [usize],
+    size: Size,
+    rules: Rules,
+) -> u64
+    requires { Current tape.now area.now tokens.now lines.old size × (length tokens.now ≤ 65536) × (size.lines ≤ 256)
+        × (256 ≤ length labels.old) }
+    ensures { Cut (drop_dead_results (rules_of rules)) tape.now (used area.now size) (used_words tokens.now size)
+        (used_lines lines.old size) (used_lines lines.new size) result }
+{
+    drop_dead_results(
+        &Texts {
+            tape,
+            area: &area[..size.text],
+        },
+        &tokens[..size.tokens],
+        &mut lines[..size.lines],
+        labels,
+        rules,
+    )
+}
+
 // The facts are noted, the rounds made, then the cuts.
+// Kept: `note_facts` and `cut_results` take fields of the workspace, each lent anew as `&mut`. It was tried to lend one field as `&` beside
+// another as `&mut`, and to take the workspace apart by a pattern: the borrow checker covers neither, and so no proof could be begun.
 pub fn optimize(
     tape: &[u8],
-    area: &mut [u8],
-    tokens: &mut [u64],
-    lines: &mut [u64],
-    area2: &mut [u8],
-    tokens2: &mut [u64],
-    marks: &mut [Marks],
-    labels: &mut [u64],
+    room: &mut Workspace<'_>,
+    labels: &mut [usize],
     slots: &mut [u8],
     slot_words: &mut [u64],
     size: Size,
     rules: Rules,
 ) -> Outcome
-    requires { Runnable tape.now area.old tokens.old lines.old area2.old tokens2.old
-        (lows_of marks.old) (highs_of marks.old) labels.old slots.old slot_words.old size }
-    ensures { Ran (rules_of rules) tape.now area.old tokens.old lines.old (lows_of marks.old) (highs_of marks.old) size area.new
-        tokens.new lines.new (lows_of marks.new) (highs_of marks.new) result }
+    requires { Runnable tape.now room.old size × Gatherable labels.old slots.old slot_words.old }
+    ensures ran { Ran (rules_of rules) tape.now room.old size room.new result }
+    ensures lent { SameLent room.old room.new }
 {
-    note_facts(&Texts { tape, area }, tokens, lines, size);
-    let s = make_rounds(
-        tape, area, tokens, lines, area2, tokens2, marks, labels, slots, slot_words, size, rules,
-    );
-    let texts = Texts {
-        tape,
-        area: &area[..s.size.text],
-    };
-    let cut = drop_dead_results(
-        &texts,
-        &tokens[..s.size.tokens],
-        &mut lines[..s.size.lines],
-        labels,
-        rules,
-    );
+    let area = &mut *room.area;
+    let tokens = &mut *room.tokens;
+    let lines = &mut *room.lines;
+    note_facts(tape, area, tokens, lines, size);
+    let s = make_rounds(tape, room, labels, slots, slot_words, size, rules);
+    let area = &mut *room.area;
+    let tokens = &mut *room.tokens;
+    let lines = &mut *room.lines;
+    let cut = cut_results(tape, area, tokens, lines, labels, s.size, rules);
     Outcome {
         tally: tally_up(rules.settle, s),
         removed: s.removed,

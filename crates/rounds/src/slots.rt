@@ -1,72 +1,72 @@
 // The stack slots whose address is taken when a round begins: their names are copied, since texts in the area move during the round.
-// Kept: the slices that are written to are parameters of their own. A struct of them is no plainer: each contract would have to say,
-// besides, that it still lends the same slices.
-ghost use Rattle.std.specs.Prelude.{[], ◌∷◌, length};
+ghost use Rattle.std.specs.Prelude.{[], ◌∷◌, ◌≤◌, ◌<◌, length};
 ghost use Rattle.reference.specs.Lists.{windows};
 ghost use Rattle.reference.specs.Claim.{text_in, token_count, text as text-of-all};
 ghost use Rattle.reference.specs.Run.{addressed_here, addressed_in};
 ghost use Rattle.lines.specs.Words.{len_of};
-ghost use Rattle.rounds.specs.Slots.{Slotting, Roomy, Noted, Gathers};
+ghost use Rattle.rounds.specs.Slots.{Slotting, Roomy, Noted, Gathers, SameSlots};
 ghost use Rattle.lines.specs.Texts.{Holds, Listed, Points, bare_listing, token_of, tokens_of};
 
 use lines::texts::{Listing, Texts};
 use lines::words;
 use plan::slots::SlotNames;
-use text::{begins_slot, ends_ampersand};
+use text::{ends, starts};
 
-// The size of the names that were gathered: how many they are, and how many bytes they have.
-#[derive(Clone, Copy)]
-struct SlotSize {
+// The names as they are gathered: the lent slices of their bytes and of a word for each, and how much of each is used.
+// Kept: lengths beside lent slices: by a rule of the project there is no heap.
+#[derive(Drop)]
+struct SlotBuffer<'a> {
+    text: &'a mut [u8],
+    words: &'a mut [u64],
+    used: usize,
     count: usize,
-    text: usize,
+}
+
+impl SlotBuffer<'_> {
+    // Puts a name behind the others.
+    // Kept: by hand: a `Cursor` for one `put` would be made of `text` and `used`, and `used` be read back from it: as many lines, and the
+    // word beside it asks where the name begins.
+    fn push(&mut self, s: &[u8])
+        requires { Slotting self.old × Roomy self.old (length s.now) 1 }
+        ensures noted { Noted (s.now ∷ []) (length s.now) 1 self.old self.new }
+        ensures lent { SameSlots self.old self.new }
+    {
+        let end = self.used + s.len();
+        self.text[self.used..end].copy_from_slice(s);
+        self.words[self.count] = words::token_word(
+            words::PLAIN,
+            words::IN_AREA,
+            self.used,
+            s.len(),
+        );
+        self.count += 1;
+        self.used = end;
+    }
 }
 
 // Adds the text of the token w, if it begins `var_` and the token before it ends in `&`.
-fn gather_slot(
-    texts: &Texts<'_>,
-    before: u64,
-    w: u64,
-    slots: &mut [u8],
-    slot_words: &mut [u64],
-    g: SlotSize,
-) -> SlotSize
-    requires { Points texts.now before × Points texts.now w × Slotting slots.old slot_words.old g
-        × Roomy slots.old slot_words.old g (len_of w) 1 }
-    ensures { Noted (addressed_here ((token_of texts.now before, token_of texts.now w) ∷ [])) (len_of w) 1
-        slots.old slot_words.old g slots.new slot_words.new result }
+fn gather_slot(texts: &Texts<'_>, before: u64, w: u64, names: &mut SlotBuffer<'_>)
+    requires { Points texts.now before × Points texts.now w × Slotting names.old × Roomy names.old (len_of w) 1 }
+    ensures noted { Noted (addressed_here ((token_of texts.now before, token_of texts.now w) ∷ [])) (len_of w) 1 names.old names.new }
+    ensures lent { SameSlots names.old names.new }
 {
     let s = words::text(texts, w);
-    if !ends_ampersand(words::text(texts, before)) || !begins_slot(s) {
-        return g;
-    }
-    let end = g.text + s.len();
-    slots[g.text..end].copy_from_slice(s);
-    slot_words[g.count] = words::token_word(words::PLAIN, words::IN_AREA, g.text, s.len());
-    SlotSize {
-        count: g.count + 1,
-        text: end,
+    if ends(words::text(texts, before), b"&") && starts(s, b"var_") {
+        names.push(s);
     }
 }
 
 // Adds the names that are addressed in a line.
-fn gather_line(
-    texts: &Texts<'_>,
-    line: &[u64],
-    slots: &mut [u8],
-    slot_words: &mut [u64],
-    g: SlotSize,
-) -> SlotSize
-    requires { Holds texts.now line.now × Slotting slots.old slot_words.old g
-        × Roomy slots.old slot_words.old g (text_in (tokens_of texts.now line.now)) (length line.now) }
-    ensures { Noted (addressed_here (windows (tokens_of texts.now line.now)))
-        (text_in (tokens_of texts.now line.now)) (length line.now) slots.old
-        slot_words.old g slots.new slot_words.new result }
+fn gather_line(texts: &Texts<'_>, line: &[u64], names: &mut SlotBuffer<'_>)
+    requires { Holds texts.now line.now × Slotting names.old
+        × Roomy names.old (text_in (tokens_of texts.now line.now)) (length line.now) }
+    ensures noted { Noted (addressed_here (windows (tokens_of texts.now line.now))) (text_in (tokens_of texts.now line.now))
+        (length line.now) names.old names.new }
+    ensures lent { SameSlots names.old names.new }
 {
-    let mut all = g;
     for pair in line.windows(2) {
-        all = gather_slot(texts, pair[0], pair[1], slots, slot_words, all);
+        gather_slot(texts, pair[0], pair[1], names);
     }
-    all
 }
 
 // Gathers the names that are addressed in a listing.
@@ -75,18 +75,26 @@ pub fn gather_slots<'a>(
     slots: &'a mut [u8],
     slot_words: &'a mut [u64],
 ) -> SlotNames<'a>
-    requires { Listed listing.now × Roomy slots.old slot_words.old
-        (record { count = 0; text = 0 }) (text-of-all (bare_listing listing.now))
-        (token_count (bare_listing listing.now)) }
+    requires listed { Listed listing.now }
+    requires slots_in_bounds { (text-of-all (bare_listing listing.now) ≤ length slots.old)
+        × (text-of-all (bare_listing listing.now) < 65536) }
+    requires slot_words_in_bounds { token_count (bare_listing listing.now) ≤ length slot_words.old }
     ensures { Gathers (addressed_in (bare_listing listing.now)) result.text.now result.words.now }
 {
-    let mut all = SlotSize { count: 0, text: 0 };
+    let mut names = SlotBuffer {
+        text: slots,
+        words: slot_words,
+        used: 0,
+        count: 0,
+    };
     for l in listing.lines {
         let line = words::line_of(listing.tokens, *l);
-        all = gather_line(&listing.texts, line, slots, slot_words, all);
+        gather_line(&listing.texts, line, &mut names);
     }
+    let used = names.used;
+    let count = names.count;
     SlotNames {
-        text: &slots[..all.text],
-        words: &slot_words[..all.count],
+        text: &slots[..used],
+        words: &slot_words[..count],
     }
 }

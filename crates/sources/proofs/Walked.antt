@@ -1,9 +1,9 @@
--- The walk over a cleaned tape, command by command: what is left of it is the bytes of the commands that are left, and the flags so far are those of the
--- marks so far. Assumes nothing.
+-- The walk over a cleaned tape, command by command: its commands are those that it was written of, and the flags so far are those of the marks so far.
+-- Assumes nothing.
 use Prim.Native.Nat.{ℕ, zero, suc, pred, ◌+◌, ◌-◌, ◌≤◌, ◌<◌}
 use native.Mathlib.Omega.{arith}
 use mathlib.Core.Path.{◌≡◌, refl, sym, ap, ◌∙◌}
-use mathlib.Core.Bool.{Bool, true, false, true≢false}
+use mathlib.Core.Bool.{Bool, true, false}
 use mathlib.Core.List.{List, [], ◌∷◌, ◌++◌, map, map-append, flat_map, append_assoc}
 use mathlib.Core.Option.{none, some}
 use lib.Dec.{eqb}
@@ -16,20 +16,14 @@ use Rattle.reference.specs.Spans.{Span, Marks}
 use Rattle.reference.specs.Tape as Tape
 use Rattle.reference.specs.Tape.{old, write_command, write_command_by, command_size}
 use Rattle.reference.specs.Questions.{is_end, add_marks, marks_from, marks_from_by, marks_in, marks_in_by}
-use Rattle.reference.proofs.Cases.{true-false}
 use Rattle.reference.proofs.Lines.{length-modify}
-use Rattle.reference.proofs.Commands.{Form, Writable, ReadBackBy, form_of, read_of-write}
+use Rattle.reference.proofs.Commands.{read_of-write}
 use Rattle.reference.proofs.Limits.{All}
 use Rattle.laws.proofs.Scans.{if-true, if-false}
 use Rattle.tape.specs.Bytes.{Puts}
-use Rattle.tape.specs.Commands.{command_in, size_of}
-use Rattle.tape.specs.declared.commands.Command.{Command}
-use Rattle.tape.specs.declared.commands.Command.TheVariants.{Addressed, Plain, Marked, Token, End}
 use Rattle.tape.proofs.little_endian.Bytes.{put_front, put_none, put_one, puts_append}
-use Rattle.tape.proofs.commands.Standing.{Stands}
-use Rattle.std.specs.Prelude.{Some, None}
-use Rattle.walk.specs.Walk.{Follows}
-use Rattle.walk.proofs.Standing.{Goes, goes_stands, end_stands}
+use Rattle.walk.specs.Held.{commands}
+use Rattle.walk.proofs.Reading.{read-on, read_end}
 use Rattle.sources.specs.Calls.{flag_of, begins, Inner, Walkable, marked_last, flags_after, lines_after, FlagFits, Flags}
 
 -- ---- the commands that are left
@@ -117,179 +111,81 @@ module _ {flags₀ flags : List ℕ} {n : ℕ} (ms : List Marks) (p : Puts flags
             ends = omega (arith, q.ends, length-set fs (pred (length all)) 1);
           })
 
-  pub command-put : (tape : List ℕ) (at : ℕ) (c : Command) → FlagFits c n flags
-      → Puts flags₀ 0 (map flag_of (add_marks (command_in tape at c) ms)) (flags_after c n flags) (lines_after c n)
+  pub command-put : (c : Tape.Command) → FlagFits c n flags
+      → Puts flags₀ 0 (map flag_of (add_marks c ms)) (flags_after c n flags) (lines_after c n)
   unfolding add_marks
-  command-put tape at (Addressed address indent) h = line_put h
-  command-put tape at (Plain indent) h = line_put h
-  command-put tape at (Marked low high) h = marks-put (record { lowest = low; highest = high })
-  command-put tape at (Token kind count) h = p
-  command-put tape at End h = p
+  command-put (Tape.new_line address indent) h = line_put h
+  command-put (Tape.marked s) h = marks-put s
+  command-put (Tape.new_token t) h = p
+  command-put Tape.end h = p
 
-after-length : (c : Command) (n : ℕ) (flags : List ℕ) → length (flags_after c n flags) ≡ length flags
+after-length : (c : Tape.Command) (n : ℕ) (flags : List ℕ) → length (flags_after c n flags) ≡ length flags
 unfolding marked_last when◌then◌else◌
-after-length (Addressed address indent) n flags = length-set flags n 0
-after-length (Plain indent) n flags = length-set flags n 0
-after-length (Marked low high) n flags = go (eqb n 0)
+after-length (Tape.new_line address indent) n flags = length-set flags n 0
+after-length (Tape.marked s) n flags = go (eqb n 0)
   where
     go : (b : Bool) → length (when b then flags else set flags (n - 1) 1) ≡ length flags
     go true = refl
     go false = length-set flags (n - 1) 1
-after-length (Token kind count) n flags = refl
-after-length End n flags = refl
+after-length (Tape.new_token t) n flags = refl
+after-length Tape.end n flags = refl
 
 -- ---- the walk
 
--- the walk stands at an offset, n lines having begun
-pub record Walking (tape flags₀ : List ℕ) (at n : ℕ) (flags : List ℕ) : Type 0 where
-  pub commands : List Tape.Command
-  pub behind : List ℕ
-  pub left : drop at tape ≡ rest commands behind
-  pub inner : All Inner commands
+-- the commands that a tape was written of are those that it is walked by
+walked : (cs : List Tape.Command) (behind : List ℕ) → All Inner cs → commands (rest cs behind) ≡ cs
+walked [] behind h = read_end Tape.end behind tt refl
+walked (c ∷ cs) behind h = read-on c (rest cs behind) h.0.0 h.0.1 ∙ ap (λ (ds : List Tape.Command). c ∷ ds) (walked cs behind h.1)
+
+-- n lines have begun, and these commands are to come
+pub record Walking (tape flags₀ : List ℕ) (coming : List Tape.Command) (n : ℕ) (flags : List ℕ) : Type 0 where
   pub marks : List Marks
-  pub told : final commands marks ≡ marks_in tape
+  pub told : final coming marks ≡ marks_in tape
   pub puts : Puts flags₀ 0 (map flag_of marks) flags n
   pub long : length flags ≡ length flags₀
-  pub room : length marks + count begins commands ≤ length flags₀
+  pub room : length marks + count begins coming ≤ length flags₀
 
-pub walk_begins : (tape flags : List ℕ) → Walkable tape (length flags) → Walking tape flags 0 0 flags
+pub walk_begins : (tape flags : List ℕ) → Walkable tape (length flags) → Walking tape flags (commands tape) 0 flags
 walk_begins tape flags w =
+    let are : commands tape ≡ w.commands = ap commands (w.tape_is ∙ rest_is w.commands w.behind) ∙ walked w.commands w.behind w.inner in
     record {
-      commands = w.commands;
-      behind = w.behind;
-      left = w.tape_is ∙ rest_is w.commands w.behind;
-      inner = w.inner;
       marks = [];
-      told = sym (walk-told tape w.commands w.behind w.tape_is w.inner);
+      told = ap (λ (cs : List Tape.Command). final cs []) are ∙ sym (walk-told tape w.commands w.behind w.tape_is w.inner);
       puts = record { holds = sym (put_none flags 0); ends = refl };
       long = refl;
-      room = omega (arith, w.enough);
+      room = rw are (omega (arith, w.enough));
     }
 
--- the first of the commands that are left, and the bytes behind it
-abbrev first_of : List Tape.Command → Tape.Command
-first_of [] = Tape.end
-first_of (c ∷ cs) = c
+pub walk_ends : {tape flags₀ : List ℕ} {n : ℕ} {flags : List ℕ} → Walking tape flags₀ [] n flags → Puts flags₀ 0 (map flag_of (marks_in tape)) flags n
+walk_ends w = rw (sym w.told) (unfold final in w.puts)
 
-abbrev post_of : List Tape.Command → List ℕ → List ℕ
-post_of [] behind = behind
-post_of (c ∷ cs) behind = rest cs behind
+flag_fits : (c : Tape.Command) (cs : List Tape.Command) (n : ℕ) (flags : List ℕ) → n + count begins (c ∷ cs) ≤ length flags → FlagFits c n flags
+unfolding when◌then◌else◌
+flag_fits (Tape.new_line address indent) cs n flags h = omega arith
+flag_fits (Tape.marked s) cs n flags h = omega arith
+flag_fits (Tape.new_token t) cs n flags h = tt
+flag_fits Tape.end cs n flags h = tt
 
-rest-first : (cs : List Tape.Command) (behind : List ℕ) → rest cs behind ≡ write_command (first_of cs) ++ post_of cs behind
-rest-first [] behind = refl
-rest-first (c ∷ cs) behind = refl
+lines_left : (c : Tape.Command) (cs : List Tape.Command) (ms : List Marks) → length (add_marks c ms) + count begins cs ≡ length ms + count begins (c ∷ cs)
+unfolding when◌then◌else◌ add_marks
+lines_left (Tape.new_line address indent) cs ms = omega (arith, length-append ms (none ∷ []))
+lines_left (Tape.marked s) cs ms = omega (arith, length-modify (λ (m : Marks). some s) (pred (length ms)) ms)
+lines_left (Tape.new_token t) cs ms = refl
+lines_left Tape.end cs ms = refl
 
-first_writable : (cs : List Tape.Command) → All Inner cs → Writable (first_of cs)
-first_writable [] h = tt
-first_writable (c ∷ cs) h = h.0.0
+module _ {tape flags₀ : List ℕ} {c : Tape.Command} {cs : List Tape.Command} {n : ℕ} {flags : List ℕ} (w : Walking tape flags₀ (c ∷ cs) n flags) where
+  pub walk-fits : FlagFits c n flags
+  walk-fits = flag_fits c cs n flags (omega (arith, w.room, count_is w.marks w.puts, w.long))
 
-module _ (tape : List ℕ) (at : ℕ) (cs : List Tape.Command) where
-  flag_fits : (c : Command) (n : ℕ) (flags : List ℕ) → n + count begins (command_in tape at c ∷ cs) ≤ length flags → FlagFits c n flags
-  unfolding when◌then◌else◌
-  flag_fits (Addressed address indent) n flags h = omega arith
-  flag_fits (Plain indent) n flags h = omega arith
-  flag_fits (Marked low high) n flags h = omega arith
-  flag_fits (Token kind size) n flags h = tt
-  flag_fits End n flags h = tt
-
-  lines_left : (c : Command) (ms : List Marks) → length (add_marks (command_in tape at c) ms) + count begins cs ≡ length ms + count begins (command_in tape at c ∷ cs)
-  unfolding when◌then◌else◌ add_marks
-  lines_left (Addressed address indent) ms = omega (arith, length-append ms (none ∷ []))
-  lines_left (Plain indent) ms = omega (arith, length-append ms (none ∷ []))
-  lines_left (Marked low high) ms = omega (arith, length-modify (λ (m : Marks). some (record { lowest = low; highest = high })) (pred (length ms)) ms)
-  lines_left (Token kind size) ms = refl
-  lines_left End ms = refl
-
-module _ {tape flags₀ : List ℕ} {at n : ℕ} {flags : List ℕ} (w : Walking tape flags₀ at n flags) where
-  abbrev now : Tape.Command
-  now = first_of w.commands
-
-  abbrev post : List ℕ
-  post = post_of w.commands w.behind
-
-  here : drop at tape ≡ write_command now ++ post
-  here = w.left ∙ rest-first w.commands w.behind
-
-  written : ReadBackBy old (write_command now ++ post) now
-  written = read_of-write now post (first_writable w.commands w.inner)
-
-  known : Form (drop at tape)
-  known = rw here (form_of (write_command now ++ post) written.known)
-
-  whole : command_size (drop at tape) ≤ length (drop at tape)
-  whole = rw here (omega (arith, written.size, length-append (write_command now) post))
-
-  -- what an answer of `next_at` says there
-  pub walk-goes : {c : Command} {next : ℕ} → Follows tape at (Some (c, next)) → Goes tape at c next
-  walk-goes f = goes_stands tape at known whole f
-
-  pub walk-over : Follows tape at None → Stands tape at End
-  walk-over f = end_stands tape at known whole f
-
-  module _ (c : Command) (e : Stands tape at c) where
-    command_is : command_in tape at c ≡ now
-    command_is = e.same ∙ rw here written.same
-
-    size_is : size_of c ≡ length (write_command now)
-    size_is = e.size ∙ rw here written.size
-
-    -- the end: no command is left
-    pub walk_ends : is_end (command_in tape at c) ≡ true → Puts flags₀ 0 (map flag_of (marks_in tape)) flags n
-    walk_ends h = go w.commands refl
-      where
-        go : (cs : List Tape.Command) → w.commands ≡ cs → Puts flags₀ 0 (map flag_of (marks_in tape)) flags n
-        go [] z = rw (sym w.told, z) (unfold final in w.puts)
-        go (x ∷ xs) z = absurd (true-false (rw (command_is, z) at h) (rw z at w.inner).0.1)
-
-    -- another command
-    record More : Type 0 where
-      others : List Tape.Command
-      commands_are : w.commands ≡ command_in tape at c ∷ others
-
-    more : is_end (command_in tape at c) ≡ false → More
-    more h = go w.commands refl
-      where
-        go : (cs : List Tape.Command) → w.commands ≡ cs → More
-        go [] z = absurd (true≢false (rw (command_is, z) at h))
-        go (x ∷ xs) z = let same : command_in tape at c ≡ x = command_is ∙ ap first_of z in record { others = xs; commands_are = z ∙ ap (λ (y : Tape.Command). y ∷ xs) (sym same) }
-
-    module _ (h : is_end (command_in tape at c) ≡ false) where
-      abbrev others : List Tape.Command
-      others = (more h).others
-
-      room_left : n + count begins (command_in tape at c ∷ others) ≤ length flags
-      room_left = omega (arith, rw (more h).commands_are at w.room, count_is w.marks w.puts, w.long)
-
-      pub walk-fits : FlagFits c n flags
-      walk-fits = flag_fits tape at others c n flags room_left
-
-      -- the next command stands behind this one
-      next_left : drop (at + size_of c) tape ≡ rest others w.behind
-      next_left =
-          let bytes : List ℕ = write_command (command_in tape at c) in
-          let size : size_of c ≡ length bytes = size_is ∙ ap (λ (k : Tape.Command). length (write_command k)) (sym command_is) in
-          sym (drop-drop (size_of c) at tape)
-          ∙ ap (drop (size_of c)) (w.left ∙ ap (λ (cs : List Tape.Command). rest cs w.behind) (more h).commands_are)
-          ∙ ap (λ (k : ℕ). drop k (bytes ++ rest others w.behind)) size
-          ∙ drop-append_seam bytes (rest others w.behind)
-
-      module _ {flags' : List ℕ} {n' : ℕ} (f : Flags c n flags flags' n') where
-        pub walk-long : length flags' ≡ length flags₀
-        walk-long = ap length f.flags_are ∙ after-length c n flags ∙ w.long
-
-        pub walk-on : Walking tape flags₀ (at + size_of c) n' flags'
-        walk-on =
-            record {
-              commands = others;
-              behind = w.behind;
-              left = next_left;
-              inner = (rw (more h).commands_are at w.inner).1;
-              marks = add_marks (command_in tape at c) w.marks;
-              told = unfold final in rw (more h).commands_are at w.told;
-              puts = rw (f.flags_are, f.lines_are) (command-put w.marks w.puts tape at c walk-fits);
-              long = walk-long;
-              room = omega (arith, lines_left tape at others c w.marks, rw (more h).commands_are at w.room);
-            }
+  pub walk-on : {flags' : List ℕ} {n' : ℕ} → Flags c n flags flags' n' → Walking tape flags₀ cs n' flags'
+  walk-on f =
+      record {
+        marks = add_marks c w.marks;
+        told = unfold final in w.told;
+        puts = rw (f.flags_are, f.lines_are) (command-put w.marks w.puts c walk-fits);
+        long = ap length f.flags_are ∙ after-length c n flags ∙ w.long;
+        room = omega (arith, lines_left c cs w.marks, w.room);
+      }
 
 -- ---- the flag of the last line
 

@@ -24,7 +24,6 @@ use Rattle.text.specs.declared.cursor.Cursor.{Cursor}
 use Rattle.tape.specs.Bytes.{Puts}
 use Rattle.tape.specs.Commands.{command_in}
 use Rattle.tape.specs.declared.commands.Command.{Command}
-use Rattle.tape.specs.declared.commands.Command.TheVariants.{Addressed, Plain, Marked, Token, End}
 use Rattle.sources.specs.Only.{only_tape, Lent, came_copy, came_cleaning, came_reply}
 
 -- ---- one command of the copy
@@ -80,29 +79,26 @@ unfoldable pub marked_last : ℕ → List ℕ → List ℕ
 marked_last n flags = when eqb n 0 then flags else set flags (n - 1) 1
 
 -- the flags with one command more, n lines having begun before it: a line begins without marks
-abbrev pub flags_after : Command → ℕ → List ℕ → List ℕ
-flags_after (Addressed address indent) n flags = set flags n 0
-flags_after (Plain indent) n flags = set flags n 0
-flags_after (Marked low high) n flags = marked_last n flags
-flags_after (Token kind count) n flags = flags
-flags_after End n flags = flags
+abbrev pub flags_after : Tape.Command → ℕ → List ℕ → List ℕ
+flags_after (Tape.new_line address indent) n flags = set flags n 0
+flags_after (Tape.marked s) n flags = marked_last n flags
+flags_after (Tape.new_token t) n flags = flags
+flags_after Tape.end n flags = flags
 
-abbrev pub lines_after : Command → ℕ → ℕ
-lines_after (Addressed address indent) n = n + 1
-lines_after (Plain indent) n = n + 1
-lines_after (Marked low high) n = n
-lines_after (Token kind count) n = n
-lines_after End n = n
+abbrev pub lines_after : Tape.Command → ℕ → ℕ
+lines_after (Tape.new_line address indent) n = n + 1
+lines_after (Tape.marked s) n = n
+lines_after (Tape.new_token t) n = n
+lines_after Tape.end n = n
 
 -- there is room for them
-abbrev pub FlagFits : Command → ℕ → List ℕ → Type 0
-FlagFits (Addressed address indent) n flags = n < length flags
-FlagFits (Plain indent) n flags = n < length flags
-FlagFits (Marked low high) n flags = n ≤ length flags
-FlagFits (Token kind count) n flags = Unit {0}
-FlagFits End n flags = Unit {0}
+abbrev pub FlagFits : Tape.Command → ℕ → List ℕ → Type 0
+FlagFits (Tape.new_line address indent) n flags = n < length flags
+FlagFits (Tape.marked s) n flags = n ≤ length flags
+FlagFits (Tape.new_token t) n flags = Unit {0}
+FlagFits Tape.end n flags = Unit {0}
 
-pub record Flags (c : Command) (n : ℕ) (flags flags' : List ℕ) (r : ℕ) : Type 0 where
+pub record Flags (c : Tape.Command) (n : ℕ) (flags flags' : List ℕ) (r : ℕ) : Type 0 where
   pub flags_are : flags' ≡ flags_after c n flags
   pub lines_are : r ≡ lines_after c n
 

@@ -1,5 +1,6 @@
 // The copy, and the call that cleans it and tells what its one line came into.
-// Kept: the lent slices as parameters: a struct of them would need in each contract, besides, that it still lends the same slices.
+// Kept: the lent slices are parameters of their own, as `clean` has three of these five. What the public `came_into` takes stays; a struct
+// would be made in it for `flags_of` alone, and taken apart there to call `clean`: no plainer.
 ghost use Rattle.std.specs.Prelude.{◌≤◌, length};
 ghost use Rattle.answers.specs.Answers.{answer_of, Writes};
 ghost use Rattle.lines.specs.Rules.{rules_of};
@@ -17,7 +18,7 @@ use tape::questions::{asked, check};
 // What the copy has at least: the bytes of the longest tape that is accepted.
 const COPY_BYTES: usize = 34561;
 
-// `only`, with the copy's length as the slice's.
+// The copy, as `only` has it; its length is answered as a `usize`.
 fn copy_only(k: usize, tape: &[u8], out: &mut [u8]) -> Result<usize, Refusal>
     ensures { Writes (only_reply k tape.now (length out.old)) out.old out.new (answer_of result) }
 {
@@ -29,7 +30,8 @@ fn copy_only(k: usize, tape: &[u8], out: &mut [u8]) -> Result<usize, Refusal>
 }
 
 // The copy of a tape in which line k alone has an address, and no 03 stands: it stands at the front of `out`, and its length is answered.
-// Where there is no line k, no line has an address. A refusal changes nothing.
+// Where there is no line k, no line has an address. A refusal changes nothing. (For a user of the library; here `came_into` makes the
+// copy.)
 pub fn only(k: usize, tape: &[u8], out: &mut [u8]) -> Answer
     ensures { Writes (only_reply k tape.now (length out.old)) out.old out.new (answer_of result) }
 {

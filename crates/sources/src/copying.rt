@@ -24,28 +24,25 @@ fn put_line(picked: bool, indent: u64, out: &mut Cursor)
     out.put_le(indent, 1);
 }
 
-// Puts the command at an offset of the tape, which ends at `next`.
-fn put_command(
-    tape: &[u8],
-    at: usize,
-    next: usize,
-    command: Command,
-    picked: bool,
-    out: &mut Cursor,
-)
-    requires { Copies picked tape.now at next command out.old }
-    ensures { Puts out.old (copied picked (command_in tape.now at command)) out.new }
+// Puts the command at an offset of the tape, which the step there answered.
+fn put_command(tape: &[u8], at: usize, step: Advance, picked: bool, out: &mut Cursor)
+    requires { Copies picked tape.now at step.next step.command out.old }
+    ensures { Puts out.old (copied picked (command_in tape.now at step.command)) out.new }
 {
-    match command {
+    match step.command {
         Command::Addressed { indent, .. } | Command::Plain { indent } => put_line(
             picked, indent, out,
         ),
         Command::Marked { .. } => {}
-        Command::Token { .. } | Command::End => out.put(&tape[at..next]),
+        Command::Token { .. } | Command::End => out.put(&tape[at..step.next]),
     }
 }
 
 // Writes the copy of an accepted tape to the front of `out`, and says where it ends.
+// Kept: a walk by offsets and totals. A command is copied from where it stands, and the lines so far tell which is picked; `Commands` of
+// crate walk yields neither. An iterator of the steps would yield all that a turn reads here (offset, `Advance`, totals before it): it
+// would take the last lines of a turn out of three loops, here and in crate offsets, for a struct, its `next` and a definition of what is
+// left. No plainer.
 pub fn put_commands(tape: &[u8], k: usize, out: &mut [u8]) -> usize
     requires { AcceptedTape tape.now × (34561 ≤ length out.old) }
     ensures { CopyOf k tape.now out.old out.new result }
@@ -53,21 +50,14 @@ pub fn put_commands(tape: &[u8], k: usize, out: &mut [u8]) -> usize
     let mut at = 0;
     let mut totals = NONE;
     let mut out = Cursor::new(out, 0);
-    while let Ok(
-        Advance {
-            command,
-            next,
-            totals: more,
-        },
-    ) = step::<false>(tape, at, totals)
-    {
+    while let Ok(step) = step::<false>(tape, at, totals) {
         let picked = totals.lines == k;
-        put_command(tape, at, next, command, picked, &mut out);
-        if command.is_end() {
+        put_command(tape, at, step, picked, &mut out);
+        if step.command.is_end() {
             break;
         }
-        at = next;
-        totals = more;
+        at = step.next;
+        totals = step.totals;
     }
     out.at
 }

@@ -1,12 +1,12 @@
 // The walk over a cleaned tape: which of its lines have marks. A cleaned tape may be longer than an accepted one, so no question is asked
-// of it but what stands at an offset.
+// of it: the walk goes by the commands that stand there.
 ghost use Rattle.std.specs.Prelude.{◌≡◌, map, ◌≤◌, length};
 ghost use Rattle.reference.specs.Questions.{marks_in};
 ghost use Rattle.tape.specs.Bytes.{Puts};
+ghost use Rattle.walk.specs.Walk.{shown};
 ghost use Rattle.sources.specs.Calls.{flag_of, Walkable, marked_last, FlagFits, Flags};
 
-use tape::commands::Command;
-use walk::next_at;
+use walk::{Commands, Event};
 
 // Sets the flag of the last of n lines.
 fn mark_last(flags: &mut [u8], n: usize)
@@ -19,20 +19,20 @@ fn mark_last(flags: &mut [u8], n: usize)
 }
 
 // The flags with one command more, n lines having begun before it.
-fn flag(command: Command, flags: &mut [u8], n: usize) -> usize
-    requires { FlagFits command n flags.old }
-    ensures { Flags command n flags.old flags.new result }
+fn flag(event: &Event<'_>, flags: &mut [u8], n: usize) -> usize
+    requires { FlagFits (shown event.now) n flags.old }
+    ensures { Flags (shown event.now) n flags.old flags.new result }
 {
-    match command {
-        Command::Addressed { .. } | Command::Plain { .. } => {
+    match event {
+        Event::Line { .. } => {
             flags[n] = 0;
             n + 1
         }
-        Command::Marked { .. } => {
+        Event::Marks { .. } => {
             mark_last(flags, n);
             n
         }
-        Command::Token { .. } | Command::End => n,
+        Event::Token { .. } => n,
     }
 }
 
@@ -41,11 +41,10 @@ pub fn walk(tape: &[u8], flags: &mut [u8]) -> usize
     requires { Walkable tape.now (length flags.old) }
     ensures { Puts flags.old 0 (map flag_of (marks_in tape.now)) flags.new result }
 {
-    let mut at = 0;
     let mut n = 0;
-    while let Some((command, next)) = next_at(tape, at) {
-        n = flag(command, flags, n);
-        at = next;
+    // Kept: lines are counted by hand: `enumerate` would count commands, and only some begin a line.
+    for event in Commands::new(tape) {
+        n = flag(&event, flags, n);
     }
     n
 }

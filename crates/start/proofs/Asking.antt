@@ -108,7 +108,7 @@ module _ (tape : List ℕ) (chosen : Text) (list : List ℕ) (wanted : ℕ) wher
 
 module _ (tape tokens lines addresses : List ℕ) (t : Totals) (l : Loaded tape tokens lines addresses t) (r : std.Option ℕ)
     (e : (reading : Reading) → option_of r ≡ breaks (listing_read tape tape (take t.tokens tokens) reading (take t.lines lines))) where
-  pub profiled : r ≡ None → Profiled tape (take t.tokens tokens) (take t.lines lines)
+  pub profiled : r ≡ None → Profiled tape tape (take t.tokens tokens) (take t.lines lines)
   profiled q =
       record { filled = filled tape tokens lines addresses t l; holds = pointing tape tokens lines addresses t l; in_profile = λ reading. sym (e reading) ∙ ap option_of q }
 

@@ -1,24 +1,24 @@
 -- The list of names, entry by entry: what the head of a list says of the whole. Assumes nothing.
 use Prim.Native.Nat.{ℕ, zero, suc, ◌+◌, ◌-◌, ◌≤◌, ◌<◌}
 use native.Mathlib.Omega.{arith}
-use mathlib.Core.Path.{◌≡◌, refl, sym, ap, ◌∙◌}
+use mathlib.Core.Path.{◌≡◌, refl, sym, ap, ◌∙◌, subst}
 use mathlib.Core.Bool.{Bool, true, false, not as flip}
 use mathlib.Core.List.{List, [], ◌∷◌}
-use mathlib.Core.Logic.{by_cases}
-use native.Mathlib.Decide.{dec_lt}
 use mathlib.Core.Option.{Option, none, some}
-use lib.Dec.{leb}
-use lib.ListN.{length, take, drop, get_or, length-drop, drop_of_length-le}
-use lib.Seq.{drop-drop, drop-cons}
-use borrow.Author.Tests.{le-leb, lt-leb, leb-true, not-true, not-false}
+use lib.Dec.{leb, eqb}
+use lib.ListN.{length, take, drop, get_or, length-drop}
+use borrow.Author.Tests.{ne_eqb, le-leb, lt-leb, not-true, not-false}
 use Rattle.reference.specs.Control.{not, ◌or◌, when◌then◌else◌, let_some◌else◌then◌}
 use Rattle.reference.specs.Lists.{any, is_some}
-use Rattle.reference.specs.Text.{Text, ◌≟◌}
+use Rattle.reference.specs.Text.{◌≟◌}
 use Rattle.reference.specs.Tape.{from_le_bytes}
 use Rattle.reference.proofs.Cases.{some_inj, none-some, bind-some}
 use Rattle.laws.proofs.Scans.{if-true, if-false, or_true, or_false}
 use Rattle.start.specs.Start.{Entry, entry_of, entries_from, entries, is_register, known_entries, listed}
-use Rattle.start.specs.Items.{entry_in}
+use Rattle.laws.proofs.Parts.{to_end}
+use mir.Syntax.{w8}
+use mir.Val.{Fits}
+use Rattle.start.specs.Items.{head_of}
 
 -- ---- further fuel changes nothing
 
@@ -47,71 +47,67 @@ entries-cons n rest =
     ap (λ (o : Option (List Entry)). when leb (n + 8) (length rest) then (let_some o else none then λ es. some (entry_of n rest ∷ es)) else none)
     (more_fuel (length rest) (length (drop (n + 8) rest)) (drop (n + 8) rest) (omega (arith, length-drop (n + 8) rest)) (omega arith))
 
--- what the code finds at an offset
-module _ (list : List ℕ) (at : ℕ) where
-  pub over_at : length list ≤ at → none ≡ entry_in (drop at list)
-  unfolding entry_in
-  over_at h = rw (drop_of_length-le list h) refl
+-- ---- the head of a list
 
-  module _ (l : at < length list) (n : ℕ) (e : n ≡ get_or list at 0) where
-    head : drop at list ≡ n ∷ drop (suc at) list
-    head = drop-cons list at 0 l ∙ ap (λ (b : ℕ). b ∷ drop (suc at) list) (sym e)
+pub no_head : (list : List ℕ) → length list ≡ 0 → none ≡ head_of list
+unfolding head_of
+no_head [] h = refl
+no_head (n ∷ rest) h = absurd (omega arith)
 
-    pub cut_at : length list < at + (n + 9) → none ≡ entry_in (drop at list)
-    cut_at h = sym (ap entry_in head ∙ cut (lt-leb (n + 8) (length (drop (suc at) list)) (omega (arith, length-drop (suc at) list))))
-      where
-        cut : leb (n + 8) (length (drop (suc at) list)) ≡ false → entry_in (n ∷ drop (suc at) list) ≡ none
-        cut q = unfold entry_in in if-false _ _ q
+-- of a list that has a byte n and the bytes `rest`
+module _ (n : ℕ) (rest : List ℕ) where
+  pub head-cut : length rest < n + 8 → none ≡ head_of (n ∷ rest)
+  unfolding head_of
+  head-cut h = sym (if-false _ _ (lt-leb (n + 8) (length rest) h))
 
-    pub entry_here : at + (n + 9) ≤ length list → some n ≡ entry_in (drop at list)
-    entry_here h = sym (ap entry_in head ∙ whole (le-leb (n + 8) (length (drop (suc at) list)) (omega (arith, length-drop (suc at) list))))
-      where
-        whole : leb (n + 8) (length (drop (suc at) list)) ≡ true → entry_in (n ∷ drop (suc at) list) ≡ some n
-        whole q = unfold entry_in in if-true _ _ q
+  pub head_is : n + 8 ≤ length rest → some (entry_of n rest, drop (n + 8) rest) ≡ head_of (n ∷ rest)
+  unfolding head_of
+  head_is h = sym (if-true _ _ (le-leb (n + 8) (length rest) h))
+
+-- ... as the code reads it
+module _ {list : List ℕ} (n : ℕ) (rest : List ℕ) (e : list ≡ n ∷ rest) where
+  pub byte-small : ((i : ℕ) → Fits w8 (get_or list i 0)) → n < 256
+  byte-small f = let g : Fits w8 n = rw e at (f 0) in omega (arith, g.fits)
+
+  module _ (m : ℕ) (em : m ≡ n) where
+    pub cut_read : length rest < m + 8 → none ≡ head_of list
+    cut_read h = rw e (head-cut n rest (rw em at h))
+
+    pub entry_read : m + 8 ≤ length rest → (v : ℕ) → v ≡ from_le_bytes (take 8 (drop m rest))
+        → ◌≡◌ {A = Option (Entry × List ℕ)} (some (record { name = take m rest; value = v }, take (length rest - (m + 8)) (drop (m + 8) rest))) (head_of list)
+    entry_read h v ev = rw (e, ev, to_end (m + 8) rest, em) (head_is n rest (rw em at h))
 
 -- ---- what it says of the entries
 
-record Here (rest : List ℕ) (n : ℕ) : Type 0 where
-  room : n + 9 ≤ length rest
-  are : entries rest ≡ (let_some (entries (drop (n + 9) rest)) else none then λ es. some (entry_of n (drop 1 rest) ∷ es))
+record Here (list : List ℕ) (e : Entry) (rest : List ℕ) : Type 0 where
+  shorter : length rest < length list
+  are : entries list ≡ (let_some (entries rest) else none then λ es. some (e ∷ es))
 
 -- bytes that are no whole entry
-cut-means : (rest : List ℕ) → entry_in rest ≡ none → 0 < length rest → entries rest ≡ none
-unfolding entry_in when◌then◌else◌
+cut-means : (list : List ℕ) → head_of list ≡ none → 0 < length list → entries list ≡ none
+unfolding head_of when◌then◌else◌
 cut-means [] e h = absurd (omega arith)
-cut-means (n ∷ rest) e h = entries-cons n rest ∙ go (leb (n + 8) (length rest)) e
+cut-means (n ∷ rest) e h = entries-cons n rest ∙ go (leb (n + 8) (length rest)) (entry_of n rest, drop (n + 8) rest) e
   where
-    go : (b : Bool) → (when b then some n else none) ≡ none
+    go : (b : Bool) (u : Entry × List ℕ) → (when b then some u else none) ≡ none
         → (when b then (let_some (entries (drop (n + 8) rest)) else none then λ es. some (entry_of n rest ∷ es)) else none) ≡ none
-    go true q = absurd (none-some (sym q))
-    go false q = refl
+    go true u q = absurd (none-some (sym q))
+    go false u q = refl
 
-entry-means : (rest : List ℕ) (n : ℕ) → entry_in rest ≡ some n → Here rest n
-unfolding entry_in when◌then◌else◌
-entry-means [] n e = absurd (none-some e)
-entry-means (m ∷ rest) n e = go (leb (m + 8) (length rest)) refl e
+head-means : (list : List ℕ) (e : Entry) (rest : List ℕ) → head_of list ≡ some (e, rest) → Here list e rest
+unfolding head_of when◌then◌else◌
+head-means [] e rest q = absurd (none-some q)
+head-means (n ∷ behind) e rest q = go (leb (n + 8) (length behind)) refl (entry_of n behind, drop (n + 8) behind) refl (e, rest) q
   where
-    next : (k : ℕ) → suc (k + 8) ≡ k + 9
-    next k = omega arith
+    go : (b : Bool) → leb (n + 8) (length behind) ≡ b → (u : Entry × List ℕ) → u ≡ (entry_of n behind, drop (n + 8) behind) → (v : Entry × List ℕ)
+        → (when b then some u else none) ≡ some v → Here (n ∷ behind) v.0 v.1
+    go true p u eu v q =
+        subst (λ (h : Entry × List ℕ). Here (n ∷ behind) h.0 h.1) (sym eu ∙ some_inj q)
+        (record { shorter = omega (arith, length-drop (n + 8) behind); are = entries-cons n behind ∙ if-true _ _ p })
+    go false p u eu v q = absurd (none-some q)
 
-    go : (b : Bool) → leb (m + 8) (length rest) ≡ b → (when b then some m else none) ≡ some n → Here (m ∷ rest) n
-    go true p q =
-        let same : m ≡ n = some_inj q in
-        rw (sym same)
-        (record {
-          room = omega (arith, leb-true (m + 8) (length rest) p);
-          are =
-              entries-cons m rest ∙ if-true _ _ p
-              ∙ ap (λ (i : ℕ). let_some (entries (drop i (m ∷ rest))) else none then λ es. some (entry_of m rest ∷ es)) (next m);
-        })
-    go false p q = absurd (none-some q)
-
--- the name, as the code takes it out
-name_of : (list : List ℕ) (at n : ℕ) → take (at + 1 + n - (at + 1)) (drop (at + 1) list) ≡ take n (drop 1 (drop at list))
-name_of list at n = ap (λ (k : ℕ). take k (drop (at + 1) list)) back ∙ sym (ap (take n) (drop-drop 1 at list))
-  where
-    back : at + 1 + n - (at + 1) ≡ n
-    back = omega arith
+pub head-shorter : (list : List ℕ) {o : Option (Entry × List ℕ)} → o ≡ head_of list → {e : Entry} {rest : List ℕ} → o ≡ some (e, rest) → length rest < length list
+head-shorter list eo {e} {rest} q = (head-means list e rest (sym eo ∙ q)).shorter
 
 -- ---- names that are known
 
@@ -147,126 +143,69 @@ known_is : (list : List ℕ) → known_entries list ≡ known (entries list)
 unfolding known_entries
 known_is list = refl
 
--- the scan of `are_known`: the rest of the list from an offset on decides
-pub record Knows (list : List ℕ) (at : ℕ) : Type 0 where
-  pub inside : at ≤ length list
-  pub same : is_some (known_entries list) ≡ is_some (known_entries (drop at list))
+-- the scan of `are_known`: the rest of the list decides
+pub record Knows (list rest : List ℕ) : Type 0 where
+  pub same : is_some (known_entries list) ≡ is_some (known_entries rest)
 
-pub knows_first : (list : List ℕ) → Knows list 0
-knows_first list = record { inside = omega arith; same = refl }
+pub knows_first : (list : List ℕ) → Knows list list
+knows_first list = record { same = refl }
 
-module _ (list : List ℕ) (at : ℕ) (k : Knows list at) {o : Option ℕ} (eo : o ≡ entry_in (drop at list)) where
+module _ (list rest : List ℕ) (k : Knows list rest) {o : Option (Entry × List ℕ)} (eo : o ≡ head_of rest) where
   -- no whole entry: the end, or one that is cut
-  pub knows_end : o ≡ none → leb (length list) at ≡ is_some (known_entries list)
-  knows_end e = by_cases (dec_lt at (length list)) cut over
+  pub knows_end : o ≡ none → {x : Bool} → x ≡ eqb (length rest) 0 → x ≡ is_some (known_entries list)
+  knows_end e ex = ex ∙ go rest (sym eo ∙ e) ∙ sym k.same
     where
-      nil : is_some (known_entries []) ≡ true
-      nil = ap is_some (known_is []) ∙ ap (λ (o : Option (List Entry)). is_some (known o)) entries-nil ∙ unfold let_some◌else◌then◌ when◌then◌else◌ in refl
-
-      over : (at < length list → ⊥) → leb (length list) at ≡ is_some (known_entries list)
-      over h =
-          let long : length list ≤ at = omega arith in
-          le-leb _ _ long ∙ sym (k.same ∙ ap (λ (l : List ℕ). is_some (known_entries l)) (drop_of_length-le list long) ∙ nil)
-
-      cut : at < length list → leb (length list) at ≡ is_some (known_entries list)
-      cut h =
-          let some_left : 0 < length (drop at list) = omega (arith, length-drop at list) in
-          lt-leb _ _ h
-          ∙ sym
-          (k.same ∙ ap is_some (known_is _) ∙ ap (λ (o : Option (List Entry)). is_some (known o)) (cut-means _ (sym eo ∙ e) some_left)
+      go : (ws : List ℕ) → head_of ws ≡ none → eqb (length ws) 0 ≡ is_some (known_entries ws)
+      go [] q = sym (ap is_some (known_is []) ∙ ap (λ (o : Option (List Entry)). is_some (known o)) entries-nil ∙ unfold let_some◌else◌then◌ when◌then◌else◌ in refl)
+      go (w ∷ ws) q =
+          ne_eqb (length (w ∷ ws)) 0 (λ h. omega arith)
+          ∙ sym (ap is_some (known_is (w ∷ ws)) ∙ ap (λ (o : Option (List Entry)). is_some (known o)) (cut-means (w ∷ ws) q (omega arith))
           ∙ unfold let_some◌else◌then◌ in refl)
 
-  module _ (n : ℕ) (e : o ≡ some n) where
-    here : Here (drop at list) n
-    here = entry-means _ n (sym eo ∙ e)
+  module _ (e : Entry) (more : List ℕ) (q : o ≡ some (e, more)) where
+    here : Here rest e more
+    here = head-means rest e more (sym eo ∙ q)
 
-    told : is_some (known_entries (drop at list))
-        ≡ is_some (known (let_some (entries (drop (n + 9) (drop at list))) else none then λ es. some (entry_of n (drop 1 (drop at list)) ∷ es)))
-    told = ap is_some (known_is _) ∙ ap (λ (o : Option (List Entry)). is_some (known o)) here.are
+    told : is_some (known_entries rest) ≡ is_some (known (let_some (entries more) else none then λ es. some (e ∷ es)))
+    told = ap is_some (known_is rest) ∙ ap (λ (o : Option (List Entry)). is_some (known o)) here.are
 
-    module _ {x : Bool} (ex : x ≡ is_register (take (at + 1 + n - (at + 1)) (drop (at + 1) list))) where
+    module _ {x : Bool} (ex : x ≡ is_register e.name) where
       pub knows_wrong : flip x ≡ true → false ≡ is_some (known_entries list)
-      knows_wrong h =
-          sym (k.same ∙ told ∙ known-wrong (entry_of n (drop 1 (drop at list))) (entries (drop (n + 9) (drop at list)))
-          (sym (ap is_register (name_of list at n)) ∙ sym ex ∙ not-true _ h))
+      knows_wrong h = sym (k.same ∙ told ∙ known-wrong e (entries more) (sym ex ∙ not-true _ h))
 
-      pub knows_next : flip x ≡ false → Knows list (at + 1 + n + 8)
-      knows_next h =
-          record {
-            inside = omega (arith, here.room, length-drop at list);
-            same =
-                k.same ∙ told
-                ∙ known_more (entry_of n (drop 1 (drop at list))) (entries (drop (n + 9) (drop at list)))
-                (sym (ap is_register (name_of list at n)) ∙ sym ex ∙ not-false _ h)
-                ∙ sym (ap is_some (known_is _))
-                ∙ ap (λ (l : List ℕ). is_some (known_entries l)) (drop-drop (n + 9) at list ∙ ap (λ (i : ℕ). drop i list) on);
-          }
-        where
-          on : at + (n + 9) ≡ at + 1 + n + 8
-          on = omega arith
+      pub knows_next : flip x ≡ false → Knows list more
+      knows_next h = record { same = k.same ∙ told ∙ known_more e (entries more) (sym ex ∙ not-false _ h) ∙ sym (ap is_some (known_is more)) }
 
 -- ---- the value of a name
 
--- the scan of `value_of`: what is listed from an offset on is what is listed
-pub record Seeks (list name : List ℕ) (at : ℕ) : Type 0 where
-  pub inside : at ≤ length list
-  pub same : (es : List Entry) → entries list ≡ some es → (rest : List Entry) × (entries (drop at list) ≡ some rest) × (listed es name ≡ listed rest name)
+-- the scan of `value_of`: what the rest of the list gives is what the list gives
+pub record Seeks (list name rest : List ℕ) : Type 0 where
+  pub same : (es : List Entry) → entries list ≡ some es → (more : List Entry) × (entries rest ≡ some more) × (listed es name ≡ listed more name)
 
-pub seeks_first : (list name : List ℕ) → Seeks list name 0
-seeks_first list name = record { inside = omega arith; same = λ es e. (es, e, refl) }
+pub seeks_first : (list name : List ℕ) → Seeks list name list
+seeks_first list name = record { same = λ es e. (es, e, refl) }
 
-module _ (list name : List ℕ) (at : ℕ) (k : Seeks list name at) {o : Option ℕ} (eo : o ≡ entry_in (drop at list)) where
+module _ (list name rest : List ℕ) (k : Seeks list name rest) {o : Option (Entry × List ℕ)} (eo : o ≡ head_of rest) where
   pub seeks_end : o ≡ none → (es : List Entry) → entries list ≡ some es → 0 ≡ listed es name
   unfolding listed
-  seeks_end e es q = by_cases (dec_lt at (length list)) cut over
+  seeks_end e es q = sym ((k.same es q).2 ∙ go rest (sym eo ∙ e) (k.same es q).0 (k.same es q).1)
     where
-      are : entries (drop at list) ≡ some (k.same es q).0
-      are = (k.same es q).1
+      go : (ws : List ℕ) → head_of ws ≡ none → (more : List Entry) → entries ws ≡ some more → listed more name ≡ 0
+      go [] p more r = let none_left : more ≡ [] = some_inj (sym r ∙ entries-nil) in ap (λ (l : List Entry). listed l name) none_left
+      go (w ∷ ws) p more r = absurd (none-some (sym (cut-means (w ∷ ws) p (omega arith)) ∙ r))
 
-      over : (at < length list → ⊥) → 0 ≡ listed es name
-      over h =
-          let long : length list ≤ at = omega arith in
-          let none_left : (k.same es q).0 ≡ [] = some_inj (sym are ∙ ap entries (drop_of_length-le list long) ∙ entries-nil) in
-          sym ((k.same es q).2 ∙ ap (λ (r : List Entry). listed r name) none_left)
+  module _ (e : Entry) (more : List ℕ) (q : o ≡ some (e, more)) {x : Bool} (ex : x ≡ (name ≟ e.name)) where
+    split : (es : List Entry) (p : entries list ≡ some es) → (others : List Entry) × (entries more ≡ some others) × ((k.same es p).0 ≡ e ∷ others)
+    split es p = let b = bind-some (sym (head-means rest e more (sym eo ∙ q)).are ∙ (k.same es p).1) in (b.0, b.1, sym (some_inj b.2))
 
-      cut : at < length list → 0 ≡ listed es name
-      cut h = let some_left : 0 < length (drop at list) = omega (arith, length-drop at list) in
-          absurd (none-some (sym (cut-means _ (sym eo ∙ e) some_left) ∙ are))
+    pub seeks_here : x ≡ true → (es : List Entry) → entries list ≡ some es → e.value ≡ listed es name
+    unfolding listed
+    seeks_here h es p = let s = split es p in sym ((k.same es p).2 ∙ ap (λ (r : List Entry). listed r name) s.2 ∙ if-true _ _ (sym ex ∙ h))
 
-pub entry_room : (list : List ℕ) (at : ℕ) {o : Option ℕ} → o ≡ entry_in (drop at list) → (n : ℕ) → o ≡ some n → at + (n + 9) ≤ length list
-entry_room list at eo n e = let h = entry-means _ n (sym eo ∙ e) in omega (arith, h.room, length-drop at list)
-
-module _ (list name : List ℕ) (at : ℕ) (k : Seeks list name at) {o : Option ℕ} (eo : o ≡ entry_in (drop at list)) (n : ℕ) (e : o ≡ some n) {x : Bool}
-    (ex : x ≡ (name ≟ take (at + 1 + n - (at + 1)) (drop (at + 1) list))) where
-  split : (es : List Entry) (q : entries list ≡ some es)
-      → (more : List Entry) × (entries (drop (n + 9) (drop at list)) ≡ some more) × ((k.same es q).0 ≡ entry_of n (drop 1 (drop at list)) ∷ more)
-  split es q =
-      let b = bind-some (sym (entry-means _ n (sym eo ∙ e)).are ∙ (k.same es q).1) in
-      (b.0, b.1, sym (some_inj b.2))
-
-  same_name : (name ≟ take n (drop 1 (drop at list))) ≡ x
-  same_name = ap (λ (t : Text). name ≟ t) (sym (name_of list at n)) ∙ sym ex
-
-  pub seeks_here : x ≡ true → (v : ℕ) → v ≡ from_le_bytes (take 8 (drop (at + 1 + n) list))
-      → (es : List Entry) → entries list ≡ some es → v ≡ listed es name
-  unfolding listed
-  seeks_here h v ev es q =
-      let s = split es q in
-      ev ∙ ap (λ (l : List ℕ). from_le_bytes (take 8 l)) (sym (drop-drop n (at + 1) list) ∙ ap (drop n) (sym (drop-drop 1 at list)))
-      ∙ sym ((k.same es q).2 ∙ ap (λ (r : List Entry). listed r name) s.2 ∙ if-true _ _ (same_name ∙ h))
-
-  pub seeks_next : x ≡ false → Seeks list name (at + 1 + n + 8)
-  unfolding listed
-  seeks_next h =
-      record {
-        inside = omega (arith, entry_room list at eo n e);
-        same = λ es q.
-            (let s = split es q in (
-              s.0,
-              sym (ap entries (drop-drop (n + 9) at list ∙ ap (λ (i : ℕ). drop i list) on)) ∙ s.1,
-              (k.same es q).2 ∙ ap (λ (r : List Entry). listed r name) s.2 ∙ if-false _ _ (same_name ∙ h),
-            ));
-      }
-    where
-      on : at + (n + 9) ≡ at + 1 + n + 8
-      on = omega arith
+    pub seeks_next : x ≡ false → Seeks list name more
+    unfolding listed
+    seeks_next h =
+        record {
+          same = λ es p.
+              (let s = split es p in (s.0, s.1, (k.same es p).2 ∙ ap (λ (r : List Entry). listed r name) s.2 ∙ if-false _ _ (sym ex ∙ h)));
+        }

@@ -1,5 +1,5 @@
 -- The table of pairs: what one entry says, how it is filled, and what an assignment does to it. Assumes nothing.
-use Prim.Native.Nat.{ℕ, zero, suc, ◌+◌, ◌-◌, ◌*◌, ◌%◌, ◌^◌, ◌≤◌, ◌<◌}
+use Prim.Native.Nat.{ℕ, zero, suc, ◌+◌, ◌-◌, ◌%◌, ◌^◌, ◌≤◌, ◌<◌}
 use native.Mathlib.Omega.{arith}
 use native.Mathlib.Decide.{ℕ_discrete}
 use mathlib.Core.Path.{◌≡◌, refl, sym, ap, ◌∙◌, subst⁻¹}
@@ -29,24 +29,24 @@ use Rattle.std.specs.Option.{unwrap_or}
 use Rattle.lines.specs.Words.{kind_of, text_of, token_of, tokens_of, Points, Holds}
 use Rattle.lines.specs.Lines.{first_of, count_of, part_of}
 use Rattle.formula.specs.Places.{Readable}
-use Rattle.formula.specs.Values.{Pair, pair_at, no_token, Worth, value_of, Evaluates}
-use Rattle.start.specs.declared.reckoning.Pair.{Pair as Numbers}
+use Rattle.formula.specs.Values.{Pair, numbers_of, zero_pair, pair_at, no_token, Worth, value_of, Evaluates}
+use Rattle.formula.specs.declared.evaluators.Pair.{Pair as Numbers}
 use Rattle.formula.proofs.Profiled.{readable_same, readable-rest}
 use Rattle.start.specs.Pairs.{affine}
-use Rattle.start.specs.Reckoning.{pair_of, worth_of, with_pair, number_pair, Prices, Priced, same_register, Overwritten, Begun, Assigned, Returned}
+use Rattle.start.specs.Reckoning.{worth_of, number_pair, Prices, Priced, same_register, Overwritten, Begun, Assigned, Returned}
 use Rattle.start.proofs.Registers.{wide_text}
 use Rattle.std.specs.Prelude.{Some, None}
 use Rattle.reference.specs.Options.{option_of}
 
 -- a token of a table of words
-pub at_token : (tape : Text) (tokens : List ℕ) (k : ℕ) → k < length tokens → get_or (tokens_of tape tape tokens) k no_token ≡ token_of tape tape (get_or tokens k 0)
-at_token tape [] k h = absurd (omega arith)
-at_token tape (w ∷ ws) zero h = refl
-at_token tape (w ∷ ws) (suc k) h = at_token tape ws k (omega arith)
+pub at_token : (tape area : Text) (tokens : List ℕ) (k : ℕ) → k < length tokens → get_or (tokens_of tape area tokens) k no_token ≡ token_of tape area (get_or tokens k 0)
+at_token tape area [] k h = absurd (omega arith)
+at_token tape area (w ∷ ws) zero h = refl
+at_token tape area (w ∷ ws) (suc k) h = at_token tape area ws k (omega arith)
 
-pub map-length : (tape : Text) (ws : List ℕ) → length (tokens_of tape tape ws) ≡ length ws
-map-length tape [] = refl
-map-length tape (w ∷ ws) = ap suc (map-length tape ws)
+pub map-length : (tape area : Text) (ws : List ℕ) → length (tokens_of tape area ws) ≡ length ws
+map-length tape area [] = refl
+map-length tape area (w ∷ ws) = ap suc (map-length tape area ws)
 
 pub length-take-most : (n : ℕ) (xs : List ℕ) → length (take n xs) ≤ n
 length-take-most zero [] = omega arith
@@ -68,30 +68,12 @@ number_read None m z e = absurd (none-some (m ∙ e))
 
 -- ---- pairs of the table
 
-module _ (values : List ℕ) (k : ℕ) (p : Pair) where
-  pub pair_same : 2 * k + 1 < length values → pair_at (with_pair values k p) k ≡ p
-  unfolding with_pair
-  pair_same h =
-      let first : get_or (set (set values (2 * k) p.0) (2 * k + 1) p.1) (2 * k) 0 ≡ p.0 =
-      get_or-set_other (set values (2 * k) p.0) (2 * k + 1) (2 * k) p.1 0 (λ e. omega arith) ∙ get_or-set_same values (2 * k) p.0 0 (omega arith) in
-      let second : get_or (set (set values (2 * k) p.0) (2 * k + 1) p.1) (2 * k + 1) 0 ≡ p.1 =
-      get_or-set_same (set values (2 * k) p.0) (2 * k + 1) p.1 0 (omega (arith, length-set values (2 * k) p.0)) in
-      rw (first, second) refl
+module _ (values : List Numbers) (k : ℕ) (u : Numbers) where
+  pub pair_same : k < length values → pair_at (set values k u) k ≡ numbers_of u
+  pair_same h = ap numbers_of (get_or-set_same values k u zero_pair h)
 
-  pub pair-other : (j : ℕ) → (j ≡ k → ⊥) → pair_at (with_pair values k p) j ≡ pair_at values j
-  unfolding with_pair
-  pair-other j h =
-      let first : get_or (set (set values (2 * k) p.0) (2 * k + 1) p.1) (2 * j) 0 ≡ get_or values (2 * j) 0 =
-      get_or-set_other (set values (2 * k) p.0) (2 * k + 1) (2 * j) p.1 0 (λ e. omega arith)
-      ∙ get_or-set_other values (2 * k) (2 * j) p.0 0 (λ e. h (omega arith)) in
-      let second : get_or (set (set values (2 * k) p.0) (2 * k + 1) p.1) (2 * j + 1) 0 ≡ get_or values (2 * j + 1) 0 =
-      get_or-set_other (set values (2 * k) p.0) (2 * k + 1) (2 * j + 1) p.1 0 (λ e. h (omega arith))
-      ∙ get_or-set_other values (2 * k) (2 * j + 1) p.0 0 (λ e. omega arith) in
-      rw (first, second) refl
-
-  pub length_with : length (with_pair values k p) ≡ length values
-  unfolding with_pair
-  length_with = length-set (set values (2 * k) p.0) (2 * k + 1) p.1 ∙ length-set values (2 * k) p.0
+  pub pair-other : (j : ℕ) → (j ≡ k → ⊥) → pair_at (set values k u) j ≡ pair_at values j
+  pair-other j h = ap numbers_of (get_or-set_other values k j u zero_pair (λ e. h e))
 
 -- ---- one token
 
@@ -108,47 +90,47 @@ number_reads : (t : Token) (z : ℤ) → number_of t ≡ some z → parse_c_numb
 unfolding number_of
 number_reads t z e = (if_some e).1
 
-module _ (σ : Text → Pair) (tape : Text) (w : ℕ) where
-  pub prices_number : kind_of w ≡ Number → (v : ℕ) → ((z : ℤ) → parse_c_number (text_of tape tape w) ≡ some z → v ≡ of_integer z)
-      → Prices σ (token_of tape tape w) (0, v)
+module _ (σ : Text → Pair) (tape area : Text) (w : ℕ) where
+  pub prices_number : kind_of w ≡ Number → (v : ℕ) → ((z : ℤ) → parse_c_number (text_of tape area w) ≡ some z → v ≡ of_integer z)
+      → Prices σ (token_of tape area w) (0, v)
   prices_number e v h =
       record {
-        register = λ x q. absurd (let z : kind_of w ≡ Register = kind_register (token_of tape tape w) x q in omega arith);
-        number = λ z q. ap (λ (n : ℕ). (0, n)) (h z (number_reads (token_of tape tape w) z q));
+        register = λ x q. absurd (let z : kind_of w ≡ Register = kind_register (token_of tape area w) x q in omega arith);
+        number = λ z q. ap (λ (n : ℕ). (0, n)) (h z (number_reads (token_of tape area w) z q));
       }
 
-  pub prices_other : (kind_of w ≡ Number → ⊥) → (p : Pair) → p ≡ σ (text_of tape tape w) → Prices σ (token_of tape tape w) p
+  pub prices_other : (kind_of w ≡ Number → ⊥) → (p : Pair) → p ≡ σ (text_of tape area w) → Prices σ (token_of tape area w) p
   prices_other e p h =
       record {
-        register = λ x q. h ∙ ap σ (sym (wide_text (token_of tape tape w) x q));
-        number = λ z q. absurd (e (kind_number (token_of tape tape w) z q));
+        register = λ x q. h ∙ ap σ (sym (wide_text (token_of tape area w) x q));
+        number = λ z q. absurd (e (kind_number (token_of tape area w) z q));
       }
 
 -- ---- filling
 
-pub record FilledTo (σ : Text → Pair) (ts : List Token) (k : ℕ) (values : List ℕ) : Type 0 where
+pub record FilledTo (σ : Text → Pair) (ts : List Token) (k : ℕ) (values : List Numbers) : Type 0 where
   pub priced : (j : ℕ) → j < k → j < length ts → Prices σ (get_or ts j no_token) (pair_at values j)
 
-pub filled-first : (σ : Text → Pair) (ts : List Token) (values : List ℕ) → FilledTo σ ts 0 values
+pub filled-first : (σ : Text → Pair) (ts : List Token) (values : List Numbers) → FilledTo σ ts 0 values
 filled-first σ ts values = record { priced = λ j l m. absurd (omega arith) }
 
-pub filled_next : (σ : Text → Pair) (tape : Text) (tokens : List ℕ) (k : ℕ) (values : List ℕ) → FilledTo σ (tokens_of tape tape tokens) k values
-    → k < length tokens → 2 * length tokens ≤ length values → (p : Pair) → Prices σ (token_of tape tape (get_or tokens k 0)) p
-    → (values' : List ℕ) → values' ≡ with_pair values k p → FilledTo σ (tokens_of tape tape tokens) (k + 1) values'
-filled_next σ tape tokens k values f l room p q values' e =
+pub filled_next : (σ : Text → Pair) (tape area : Text) (tokens : List ℕ) (k : ℕ) (values : List Numbers) → FilledTo σ (tokens_of tape area tokens) k values
+    → k < length tokens → length tokens ≤ length values → (u : Numbers) → Prices σ (token_of tape area (get_or tokens k 0)) (numbers_of u)
+    → (values' : List Numbers) → values' ≡ set values k u → FilledTo σ (tokens_of tape area tokens) (k + 1) values'
+filled_next σ tape area tokens k values f l room u q values' e =
     record {
       priced = λ j lj m.
           by_cases (ℕ_discrete j k)
           (λ s.
-          subst⁻¹ (λ (i : ℕ). Prices σ (get_or (tokens_of tape tape tokens) i no_token) (pair_at values' i)) s
-          (subst⁻¹ (λ (t : Token). Prices σ t (pair_at values' k)) (at_token tape tokens k l)
-          (subst⁻¹ (Prices σ (token_of tape tape (get_or tokens k 0))) (ap (λ (v : List ℕ). pair_at v k) e ∙ pair_same values k p (omega arith)) q)))
+          subst⁻¹ (λ (i : ℕ). Prices σ (get_or (tokens_of tape area tokens) i no_token) (pair_at values' i)) s
+          (subst⁻¹ (λ (t : Token). Prices σ t (pair_at values' k)) (at_token tape area tokens k l)
+          (subst⁻¹ (Prices σ (token_of tape area (get_or tokens k 0))) (ap (λ (v : List Numbers). pair_at v k) e ∙ pair_same values k u (omega arith)) q)))
           (λ s.
-          subst⁻¹ (Prices σ (get_or (tokens_of tape tape tokens) j no_token)) (ap (λ (v : List ℕ). pair_at v j) e ∙ pair-other values k p j s)
+          subst⁻¹ (Prices σ (get_or (tokens_of tape area tokens) j no_token)) (ap (λ (v : List Numbers). pair_at v j) e ∙ pair-other values k u j s)
           (f.priced j (omega arith) m));
     }
 
-pub filled-all : (σ : Text → Pair) (ts : List Token) (k : ℕ) (values : List ℕ) → FilledTo σ ts k values → length ts ≤ k → Priced σ ts values
+pub filled-all : (σ : Text → Pair) (ts : List Token) (k : ℕ) (values : List Numbers) → FilledTo σ ts k values → length ts ≤ k → Priced σ ts values
 filled-all σ ts k values f l =
     record {
       register = λ j x m e. (f.priced j (omega arith) m).register x e;
@@ -158,58 +140,58 @@ filled-all σ ts k values f l =
 -- ---- an assignment
 
 -- before the token k is asked: those before it are as they are to be, those from it on as they were
-pub record Overwriting (target : Token) (p : Pair) (tape : Text) (tokens values₀ : List ℕ) (k : ℕ) (values : List ℕ) : Type 0 where
+pub record Overwriting (target : Token) (u : Numbers) (tape area : Text) (tokens : List ℕ) (values₀ : List Numbers) (k : ℕ) (values : List Numbers) : Type 0 where
   pub done : (j : ℕ) → j < k → j < length tokens
-      → pair_at values j ≡ (when same_register target (get_or (tokens_of tape tape tokens) j no_token) then p else pair_at values₀ j)
+      → pair_at values j ≡ (when same_register target (get_or (tokens_of tape area tokens) j no_token) then numbers_of u else pair_at values₀ j)
   pub left : (j : ℕ) → k ≤ j → pair_at values j ≡ pair_at values₀ j
   pub long : length values ≡ length values₀
-  pub room : 2 * length tokens ≤ length values
+  pub room : length tokens ≤ length values
 
-pub over_first : (target : Token) (p : Pair) (tape : Text) (tokens values : List ℕ) → 2 * length tokens ≤ length values → Overwriting target p tape tokens values 0 values
-over_first target p tape tokens values h = record { done = λ j l m. absurd (omega arith); left = λ j l. refl; long = refl; room = h }
+pub over_first : (target : Token) (u : Numbers) (tape area : Text) (tokens : List ℕ) (values : List Numbers) → length tokens ≤ length values → Overwriting target u tape area tokens values 0 values
+over_first target u tape area tokens values h = record { done = λ j l m. absurd (omega arith); left = λ j l. refl; long = refl; room = h }
 
-module _ (target : Token) (p : Pair) (tape : Text) (tokens values₀ : List ℕ) (k : ℕ) (values : List ℕ)
-    (o : Overwriting target p tape tokens values₀ k values) (l : k < length tokens) {x : Bool}
-    (ex : x ≡ same_register target (token_of tape tape (get_or tokens k 0))) where
-  told : same_register target (get_or (tokens_of tape tape tokens) k no_token) ≡ x
-  told = ap (same_register target) (at_token tape tokens k l) ∙ sym ex
+module _ (target : Token) (u : Numbers) (tape area : Text) (tokens : List ℕ) (values₀ : List Numbers) (k : ℕ) (values : List Numbers)
+    (o : Overwriting target u tape area tokens values₀ k values) (l : k < length tokens) {x : Bool}
+    (ex : x ≡ same_register target (token_of tape area (get_or tokens k 0))) where
+  told : same_register target (get_or (tokens_of tape area tokens) k no_token) ≡ x
+  told = ap (same_register target) (at_token tape area tokens k l) ∙ sym ex
 
-  abbrev AsIs : List ℕ → ℕ → Type 0
-  AsIs values' i = pair_at values' i ≡ (when same_register target (get_or (tokens_of tape tape tokens) i no_token) then p else pair_at values₀ i)
+  abbrev AsIs : List Numbers → ℕ → Type 0
+  AsIs values' i = pair_at values' i ≡ (when same_register target (get_or (tokens_of tape area tokens) i no_token) then numbers_of u else pair_at values₀ i)
 
-  pub over_hit : x ≡ true → (values' : List ℕ) → values' ≡ with_pair values k p → Overwriting target p tape tokens values₀ (k + 1) values'
+  pub over_hit : x ≡ true → (values' : List Numbers) → values' ≡ set values k u → Overwriting target u tape area tokens values₀ (k + 1) values'
   over_hit h values' e =
       record {
         done = λ j lj m.
             by_cases (ℕ_discrete j k)
             (λ s.
             subst⁻¹ (AsIs values') s
-            (ap (λ (v : List ℕ). pair_at v k) e ∙ pair_same values k p (omega (arith, o.room)) ∙ sym (if-true p (pair_at values₀ k) (told ∙ h))))
-            (λ s. ap (λ (v : List ℕ). pair_at v j) e ∙ pair-other values k p j s ∙ o.done j (omega arith) m);
-        left = λ j lj. ap (λ (v : List ℕ). pair_at v j) e ∙ pair-other values k p j (λ s. omega arith) ∙ o.left j (omega arith);
-        long = ap length e ∙ length_with values k p ∙ o.long;
-        room = omega (arith, o.room, ap length e ∙ length_with values k p);
+            (ap (λ (v : List Numbers). pair_at v k) e ∙ pair_same values k u (omega (arith, o.room)) ∙ sym (if-true (numbers_of u) (pair_at values₀ k) (told ∙ h))))
+            (λ s. ap (λ (v : List Numbers). pair_at v j) e ∙ pair-other values k u j s ∙ o.done j (omega arith) m);
+        left = λ j lj. ap (λ (v : List Numbers). pair_at v j) e ∙ pair-other values k u j (λ s. omega arith) ∙ o.left j (omega arith);
+        long = ap length e ∙ length-set values k u ∙ o.long;
+        room = omega (arith, o.room, ap length e ∙ length-set values k u);
       }
 
-  pub over_miss : x ≡ false → (values' : List ℕ) → values' ≡ values → Overwriting target p tape tokens values₀ (k + 1) values'
+  pub over_miss : x ≡ false → (values' : List Numbers) → values' ≡ values → Overwriting target u tape area tokens values₀ (k + 1) values'
   over_miss h values' e =
-      subst⁻¹ (Overwriting target p tape tokens values₀ (k + 1)) e
+      subst⁻¹ (Overwriting target u tape area tokens values₀ (k + 1)) e
       (record {
         done = λ j lj m.
             by_cases (ℕ_discrete j k)
-            (λ s. subst⁻¹ (AsIs values) s (o.left k (omega arith) ∙ sym (if-false p (pair_at values₀ k) (told ∙ h))))
+            (λ s. subst⁻¹ (AsIs values) s (o.left k (omega arith) ∙ sym (if-false (numbers_of u) (pair_at values₀ k) (told ∙ h))))
             (λ s. o.done j (omega arith) m);
         left = λ j lj. o.left j (omega arith);
         long = o.long;
         room = o.room;
       })
 
-pub over-all : (target : Token) (p : Pair) (tape : Text) (tokens values₀ : List ℕ) (k : ℕ) (values : List ℕ) → Overwriting target p tape tokens values₀ k values
-    → length tokens ≤ k → Overwritten target p (tokens_of tape tape tokens) values₀ values
-over-all target p tape tokens values₀ k values o l = λ j m. (let n : length (tokens_of tape tape tokens) ≡ length tokens = map-length tape tokens in o.done j (omega arith) (omega arith))
+pub over-all : (target : Token) (u : Numbers) (tape area : Text) (tokens : List ℕ) (values₀ : List Numbers) (k : ℕ) (values : List Numbers) → Overwriting target u tape area tokens values₀ k values
+    → length tokens ≤ k → Overwritten target (numbers_of u) (tokens_of tape area tokens) values₀ values
+over-all target u tape area tokens values₀ k values o l = λ j m. (let n : length (tokens_of tape area tokens) ≡ length tokens = map-length tape area tokens in o.done j (omega arith) (omega arith))
 
 -- an assignment to the register x: all its tokens, and no other, have the new pair
-module _ (σ : Text → Pair) (target : Token) (x : Text) (v : Pair) (w : wide target ≡ some x) (ts : List Token) (values values' : List ℕ)
+module _ (σ : Text → Pair) (target : Token) (x : Text) (v : Pair) (w : wide target ≡ some x) (ts : List Token) (values values' : List Numbers)
     (o : Overwritten target v ts values values') (h : Priced σ ts values) where
   same_is : (t : Token) (y : Text) → wide t ≡ some y → same_register target t ≡ (y ≟ x)
   unfolding same_register is
@@ -231,25 +213,21 @@ module _ (σ : Text → Pair) (target : Token) (x : Text) (v : Pair) (w : wide t
 
 -- ---- what the code answers
 
-pub stored : (values : List ℕ) (k : ℕ) (p : Pair) → set (set values (2 * k) p.0) (2 * k + 1) p.1 ≡ with_pair values k p
-unfolding with_pair
-stored values k p = refl
-
-module _ (tape : Text) (w target : ℕ) where
-  pub other_kind : {k : ℕ} → k ≡ kind_of w → (k ≡ Register → ⊥) → false ≡ same_register (token_of tape tape target) (token_of tape tape w)
+module _ (tape area : Text) (w target : ℕ) where
+  pub other_kind : {k : ℕ} → k ≡ kind_of w → (k ≡ Register → ⊥) → false ≡ same_register (token_of tape area target) (token_of tape area w)
   unfolding same_register is
   other_kind e h = sym (and_false _ (ne_eqb (kind_of w) Register (λ q. h (e ∙ q))))
 
-  pub same_kind : {k : ℕ} → k ≡ kind_of w → k ≡ Register → {s t : Text} → s ≡ text_of tape tape w → t ≡ text_of tape tape target → {x : Bool} → x ≡ (s ≟ t)
-      → x ≡ same_register (token_of tape tape target) (token_of tape tape w)
+  pub same_kind : {k : ℕ} → k ≡ kind_of w → k ≡ Register → {s t : Text} → s ≡ text_of tape area w → t ≡ text_of tape area target → {x : Bool} → x ≡ (s ≟ t)
+      → x ≡ same_register (token_of tape area target) (token_of tape area w)
   unfolding same_register is
-  same_kind e h {s} {t} es et ex = ex ∙ ap (λ (u : Text). u ≟ t) es ∙ ap (λ (u : Text). text_of tape tape w ≟ u) et ∙ sym (and_true _ (eq-eqb (kind_of w) Register (sym e ∙ h)))
+  same_kind e h {s} {t} es et ex = ex ∙ ap (λ (u : Text). u ≟ t) es ∙ ap (λ (u : Text). text_of tape area w ≟ u) et ∙ sym (and_true _ (eq-eqb (kind_of w) Register (sym e ∙ h)))
 
 -- ---- a part of the table
 
-tokens-behind : (tape : Text) (ws : List ℕ) → tokens_of tape tape (drop 1 ws) ≡ drop 1 (tokens_of tape tape ws)
-tokens-behind tape [] = refl
-tokens-behind tape (w ∷ ws) = refl
+tokens-behind : (tape area : Text) (ws : List ℕ) → tokens_of tape area (drop 1 ws) ≡ drop 1 (tokens_of tape area ws)
+tokens-behind tape area [] = refl
+tokens-behind tape area (w ∷ ws) = refl
 
 -- the words behind the first one of a line, as the code takes them out
 module _ (tokens : List ℕ) (l : ℕ) where
@@ -261,83 +239,71 @@ module _ (tokens : List ℕ) (l : ℕ) where
       less : first_of l + count_of l - (first_of l + 1) ≡ count_of l - 1
       less = omega arith
 
-  pub readable-behind : (tape : Text) → Begun tape tokens l → Readable tape (take (first_of l + count_of l - (first_of l + 1)) (drop (first_of l + 1) tokens))
-  readable-behind tape b =
-      readable_same tape (behind_is b.some_token ∙ sym (to_end 1 (part_of tokens l))) (readable-rest tape (part_of tokens l) b.readable)
+  pub readable-behind : (tape area : Text) → Begun tape area tokens l → Readable tape area (take (first_of l + count_of l - (first_of l + 1)) (drop (first_of l + 1) tokens))
+  readable-behind tape area b =
+      readable_same tape area (behind_is b.some_token ∙ sym (to_end 1 (part_of tokens l))) (readable-rest tape area (part_of tokens l) b.readable)
 
-  pub tokens-behind-first : (tape : Text) → 1 ≤ count_of l
-      → tokens_of tape tape (take (first_of l + count_of l - (first_of l + 1)) (drop (first_of l + 1) tokens)) ≡ drop 1 (tokens_of tape tape (part_of tokens l))
-  tokens-behind-first tape h = ap (tokens_of tape tape) (behind_is h) ∙ tokens-behind tape (part_of tokens l)
+  pub tokens-behind-first : (tape area : Text) → 1 ≤ count_of l
+      → tokens_of tape area (take (first_of l + count_of l - (first_of l + 1)) (drop (first_of l + 1) tokens)) ≡ drop 1 (tokens_of tape area (part_of tokens l))
+  tokens-behind-first tape area h = ap (tokens_of tape area) (behind_is h) ∙ tokens-behind tape area (part_of tokens l)
 
-module _ (σ : Text → Pair) (tape : Text) (tokens values : List ℕ) (h : Priced σ (tokens_of tape tape tokens) values) (f n m : ℕ) (l : f + n ≤ length tokens)
-    (r : 2 * n ≤ m) where
+module _ (σ : Text → Pair) (tape area : Text) (tokens : List ℕ) (values : List Numbers) (h : Priced σ (tokens_of tape area tokens) values) (f n : ℕ) (l : f + n ≤ length tokens) where
   abbrev part : List ℕ
   part = take n (drop f tokens)
 
-  abbrev pairs-part : List ℕ
-  pairs-part = take m (drop (2 * f) values)
+  abbrev pairs-part : List Numbers
+  pairs-part = take n (drop f values)
 
-  same_token : (k : ℕ) → k < length (tokens_of tape tape part) → (k < n) × (get_or (tokens_of tape tape part) k no_token ≡ get_or (tokens_of tape tape tokens) (f + k) no_token)
+  same_token : (k : ℕ) → k < length (tokens_of tape area part) → (k < n) × (get_or (tokens_of tape area part) k no_token ≡ get_or (tokens_of tape area tokens) (f + k) no_token)
   same_token k q =
-      let few : k < length part = omega (arith, map-length tape part) in
+      let few : k < length part = omega (arith, map-length tape area part) in
       let small : k < n = omega (arith, length_part) in (
         small,
-        at_token tape part k few
-            ∙ ap (token_of tape tape) (get_or-take n (drop f tokens) k 0 small ∙ get_or-drop f tokens k 0)
-            ∙ sym (at_token tape tokens (f + k) (omega arith)),
+        at_token tape area part k few
+            ∙ ap (token_of tape area) (get_or-take n (drop f tokens) k 0 small ∙ get_or-drop f tokens k 0)
+            ∙ sym (at_token tape area tokens (f + k) (omega arith)),
       )
     where
       length_part : length part ≤ n
       length_part = length-take-most n (drop f tokens)
 
   same_pair : (k : ℕ) → k < n → pair_at pairs-part k ≡ pair_at values (f + k)
-  same_pair k q =
-      let first : get_or pairs-part (2 * k) 0 ≡ get_or values (2 * (f + k)) 0 =
-      get_or-take m (drop (2 * f) values) (2 * k) 0 (omega arith) ∙ get_or-drop (2 * f) values (2 * k) 0 ∙ ap (λ (i : ℕ). get_or values i 0) (even f k) in
-      let second : get_or pairs-part (2 * k + 1) 0 ≡ get_or values (2 * (f + k) + 1) 0 =
-      get_or-take m (drop (2 * f) values) (2 * k + 1) 0 (omega arith) ∙ get_or-drop (2 * f) values (2 * k + 1) 0 ∙ ap (λ (i : ℕ). get_or values i 0) (odd f k) in
-      rw (first, second) refl
-    where
-      even : (f k : ℕ) → 2 * f + 2 * k ≡ 2 * (f + k)
-      even f k = omega arith
+  same_pair k q = ap numbers_of (get_or-take n (drop f values) k zero_pair q ∙ get_or-drop f values k zero_pair)
 
-      odd : (f k : ℕ) → 2 * f + (2 * k + 1) ≡ 2 * (f + k) + 1
-      odd f k = omega arith
-
-  pub priced-part : Priced σ (tokens_of tape tape part) pairs-part
+  pub priced-part : Priced σ (tokens_of tape area part) pairs-part
   priced-part =
       record {
         register = λ k x q e.
             (let s = same_token k q in
-            same_pair k s.0 ∙ h.register (f + k) x (omega (arith, map-length tape tokens, s.0)) (ap wide (sym s.1) ∙ e));
+            same_pair k s.0 ∙ h.register (f + k) x (omega (arith, map-length tape area tokens, s.0)) (ap wide (sym s.1) ∙ e));
         number_is = λ k z q e.
             (let s = same_token k q in
-            same_pair k s.0 ∙ h.number_is (f + k) z (omega (arith, map-length tape tokens, s.0)) (ap number_of (sym s.1) ∙ e));
+            same_pair k s.0 ∙ h.number_is (f + k) z (omega (arith, map-length tape area tokens, s.0)) (ap number_of (sym s.1) ∙ e));
       }
 
 -- ---- what a line's tokens behind its first one are worth
 
-module _ (tape : Text) (tokens : List ℕ) (l f n : ℕ) (ef : f ≡ first_of l) (en : n ≡ count_of l) (b : Begun tape tokens l) where
-  pub line_readable : Readable tape (take (f + n - (f + 1)) (drop (f + 1) tokens))
-  line_readable = rw (ef, en) (readable-behind tokens l tape b)
+module _ (tape area : Text) (tokens : List ℕ) (l f n : ℕ) (ef : f ≡ first_of l) (en : n ≡ count_of l) (b : Begun tape area tokens l) where
+  pub line_readable : Readable tape area (take (f + n - (f + 1)) (drop (f + 1) tokens))
+  line_readable = rw (ef, en) (readable-behind tokens l tape area b)
 
-  pub line_value : (values before : List ℕ) (r : Worth)
-      → Evaluates tape (take (f + n - (f + 1)) (drop (f + 1) tokens)) (take (2 * (f + n) - 2 * (f + 1)) (drop (2 * (f + 1)) values)) before r
-      → (σ : Text → Pair) → Priced σ (tokens_of tape tape tokens) values
-      → value_of r ≡ evaluate affine σ before (lexemes (drop 1 (tokens_of tape tape (part_of tokens l))))
+  pub line_value : (values : List Numbers) (before : List ℕ) (r : Worth)
+      → Evaluates tape area (take (f + n - (f + 1)) (drop (f + 1) tokens)) (take (f + n - (f + 1)) (drop (f + 1) values)) before r
+      → (σ : Text → Pair) → Priced σ (tokens_of tape area tokens) values
+      → value_of r ≡ evaluate affine σ before (lexemes (drop 1 (tokens_of tape area (part_of tokens l))))
   line_value values before r e σ h =
-      e number_pair σ (priced-part σ tape tokens values h (f + 1) (f + n - (f + 1)) (2 * (f + n) - 2 * (f + 1)) inside (omega arith))
+      e number_pair σ (priced-part σ tape area tokens values h (f + 1) (f + n - (f + 1)) inside)
       ∙ ap (λ (ts : List Token). evaluate affine σ before (lexemes ts)) same
     where
       inside : f + 1 + (f + n - (f + 1)) ≤ length tokens
       inside = omega (arith, b.inside, b.some_token, ef, en)
 
-      same : tokens_of tape tape (take (f + n - (f + 1)) (drop (f + 1) tokens)) ≡ drop 1 (tokens_of tape tape (part_of tokens l))
-      same = rw (ef, en) (tokens-behind-first tokens l tape b.some_token)
+      same : tokens_of tape area (take (f + n - (f + 1)) (drop (f + 1) tokens)) ≡ drop 1 (tokens_of tape area (part_of tokens l))
+      same = rw (ef, en) (tokens-behind-first tokens l tape area b.some_token)
 
 -- the answer, and what the definition says of the line
 module _ {r : std.Option Numbers} {o : Option Pair} {v : Pair} (e : worth_of r ≡ o) (q : o ≡ some v) where
-  returned_is : {u : Numbers} → r ≡ Some u → v ≡ pair_of u
+  returned_is : {u : Numbers} → r ≡ Some u → v ≡ numbers_of u
   returned_is f = sym (some_inj (sym (ap worth_of f) ∙ e ∙ q))
 
   returned_none : r ≡ None → ⊥
@@ -345,17 +311,17 @@ module _ {r : std.Option Numbers} {o : Option Pair} {v : Pair} (e : worth_of r �
 
 -- ---- a line that assigns
 
-module _ (tape : Text) (tokens : List ℕ) (l f : ℕ) (ef : f ≡ first_of l) (b : Begun tape tokens l) where
+module _ (tape area : Text) (tokens : List ℕ) (l f : ℕ) (ef : f ≡ first_of l) (b : Begun tape area tokens l) where
   first-inside : f < length tokens
   first-inside = omega (arith, b.inside, b.some_token, ef)
 
-  pub target-points : Holds tape tape tokens → Points tape tape (get_or tokens f 0)
+  pub target-points : Holds tape area tokens → Points tape area (get_or tokens f 0)
   target-points h = h.at f first-inside
 
-  first_is : get_or (tokens_of tape tape (part_of tokens l)) 0 no_token ≡ token_of tape tape (get_or tokens f 0)
+  first_is : get_or (tokens_of tape area (part_of tokens l)) 0 no_token ≡ token_of tape area (get_or tokens f 0)
   first_is =
-      at_token tape (part_of tokens l) 0 (omega (arith, long, b.some_token))
-      ∙ ap (token_of tape tape) (get_or-take (count_of l) (drop (first_of l) tokens) 0 0 b.some_token ∙ get_or-drop (first_of l) tokens 0 0 ∙ ap (λ (i : ℕ). get_or tokens i 0) here)
+      at_token tape area (part_of tokens l) 0 (omega (arith, long, b.some_token))
+      ∙ ap (token_of tape area) (get_or-take (count_of l) (drop (first_of l) tokens) 0 0 b.some_token ∙ get_or-drop (first_of l) tokens 0 0 ∙ ap (λ (i : ℕ). get_or tokens i 0) here)
     where
       long : length (part_of tokens l) ≡ count_of l
       long = length-take-le (count_of l) (drop (first_of l) tokens) (omega (arith, b.inside, length-drop (first_of l) tokens))
@@ -363,18 +329,18 @@ module _ (tape : Text) (tokens : List ℕ) (l f : ℕ) (ef : f ≡ first_of l) (
       here : first_of l + 0 ≡ f
       here = omega (arith, ef)
 
-  module _ (values values' : List ℕ) {r : std.Option Numbers}
-      (e : (σ : Text → Pair) → Priced σ (tokens_of tape tape tokens) values
-      → worth_of r ≡ evaluate affine σ (bytes " = ") (lexemes (drop 1 (tokens_of tape tape (part_of tokens l))))) where
-    pub line_assigned : (u : Numbers) → r ≡ Some u → Overwritten (token_of tape tape (get_or tokens f 0)) (pair_of u) (tokens_of tape tape tokens) values values'
-        → Assigned (tokens_of tape tape (part_of tokens l)) (tokens_of tape tape tokens) values values'
+  module _ (values values' : List Numbers) {r : std.Option Numbers}
+      (e : (σ : Text → Pair) → Priced σ (tokens_of tape area tokens) values
+      → worth_of r ≡ evaluate affine σ (bytes " = ") (lexemes (drop 1 (tokens_of tape area (part_of tokens l))))) where
+    pub line_assigned : (u : Numbers) → r ≡ Some u → Overwritten (token_of tape area (get_or tokens f 0)) (numbers_of u) (tokens_of tape area tokens) values values'
+        → Assigned (tokens_of tape area (part_of tokens l)) (tokens_of tape area tokens) values values'
     unfolding assigned_value
     line_assigned u q o = λ σ x v h w a.
-        (let same : v ≡ pair_of u = returned_is (e σ h) a q in
-        subst⁻¹ (λ (p : Pair). Priced (assign x p σ) (tokens_of tape tape tokens) values') same
-        (assigned_prices σ (token_of tape tape (get_or tokens f 0)) x (pair_of u) (ap wide (sym first_is) ∙ w) (tokens_of tape tape tokens) values values' o h))
+        (let same : v ≡ numbers_of u = returned_is (e σ h) a q in
+        subst⁻¹ (λ (p : Pair). Priced (assign x p σ) (tokens_of tape area tokens) values') same
+        (assigned_prices σ (token_of tape area (get_or tokens f 0)) x (numbers_of u) (ap wide (sym first_is) ∙ w) (tokens_of tape area tokens) values values' o h))
 
-    pub line_unassigned : r ≡ None → Assigned (tokens_of tape tape (part_of tokens l)) (tokens_of tape tape tokens) values values'
+    pub line_unassigned : r ≡ None → Assigned (tokens_of tape area (part_of tokens l)) (tokens_of tape area tokens) values values'
     unfolding assigned_value
     line_unassigned q = λ σ x v h w a. absurd (returned_none (e σ h) a q)
 
@@ -384,20 +350,20 @@ broken None h = refl
 
 -- ---- a line that returns
 
-module _ (tape : Text) (tokens : List ℕ) (l : ℕ) (values : List ℕ) {r : std.Option Numbers}
-    (e : (σ : Text → Pair) → Priced σ (tokens_of tape tape tokens) values
-    → worth_of r ≡ evaluate affine σ (bytes " ") (lexemes (drop 1 (tokens_of tape tape (part_of tokens l))))) where
-  line_returned : (u : Numbers) → r ≡ Some u → Returned (tokens_of tape tape (part_of tokens l)) (tokens_of tape tape tokens) values (pair_of u)
+module _ (tape area : Text) (tokens : List ℕ) (l : ℕ) (values : List Numbers) {r : std.Option Numbers}
+    (e : (σ : Text → Pair) → Priced σ (tokens_of tape area tokens) values
+    → worth_of r ≡ evaluate affine σ (bytes " ") (lexemes (drop 1 (tokens_of tape area (part_of tokens l))))) where
+  line_returned : (u : Numbers) → r ≡ Some u → Returned (tokens_of tape area (part_of tokens l)) (tokens_of tape area tokens) values (numbers_of u)
   unfolding returned_value
   line_returned u q = λ σ v h a. returned_is (e σ h) a q
 
-  line_unreturned : (p : Pair) → r ≡ None → Returned (tokens_of tape tape (part_of tokens l)) (tokens_of tape tape tokens) values p
+  line_unreturned : (p : Pair) → r ≡ None → Returned (tokens_of tape area (part_of tokens l)) (tokens_of tape area tokens) values p
   unfolding returned_value
   line_unreturned p q = λ σ v h a. absurd (returned_none (e σ h) a q)
 
 -- the answer, or the pair p where there is none
-pub line_worth : (tape : Text) (tokens : List ℕ) (l : ℕ) (values : List ℕ) (r : std.Option Numbers)
-    → ((σ : Text → Pair) → Priced σ (tokens_of tape tape tokens) values → worth_of r ≡ evaluate affine σ (bytes " ") (lexemes (drop 1 (tokens_of tape tape (part_of tokens l)))))
-    → (p : Numbers) → Returned (tokens_of tape tape (part_of tokens l)) (tokens_of tape tape tokens) values (pair_of (unwrap_or r p))
-line_worth tape tokens l values (Some u) e p = line_returned tape tokens l values e u refl
-line_worth tape tokens l values None e p = line_unreturned tape tokens l values e (pair_of p) refl
+pub line_worth : (tape area : Text) (tokens : List ℕ) (l : ℕ) (values : List Numbers) (r : std.Option Numbers)
+    → ((σ : Text → Pair) → Priced σ (tokens_of tape area tokens) values → worth_of r ≡ evaluate affine σ (bytes " ") (lexemes (drop 1 (tokens_of tape area (part_of tokens l)))))
+    → (p : Numbers) → Returned (tokens_of tape area (part_of tokens l)) (tokens_of tape area tokens) values (numbers_of (unwrap_or r p))
+line_worth tape area tokens l values (Some u) e p = line_returned tape area tokens l values e u refl
+line_worth tape area tokens l values None e p = line_unreturned tape area tokens l values e (numbers_of p) refl

@@ -17,9 +17,11 @@ use Rattle.reference.specs.Evaluators.{wide}
 use Rattle.reference.proofs.Cases.{by-if, by-some, some_inj, none-some, if_some, bind-some, both, true-false, same_number}
 use Rattle.reference.proofs.Shapes.{same_text}
 use Rattle.laws.proofs.Scans.{if-true, if-false, and_true, and_false}
+use Rattle.std.specs.Prelude as std
+use Rattle.std.specs.Prelude.{Some, None}
 use Rattle.names.specs.Families.{spelled, Spells}
 use Rattle.names.specs.declared.families.Spelled.{Spelled}
-use Rattle.names.specs.declared.families.Spelled.TheVariants.{Row, Front, Nothing}
+use Rattle.names.specs.declared.families.Spelled.TheVariants.{Row, Front}
 use Rattle.start.specs.Start.{is_register}
 
 -- ---- `is_register`
@@ -55,18 +57,18 @@ module _ (name : Text) (x : Bool) (ex : x ≡ starts_with name (bytes "var_")) w
       go none = unfold let_some◌else◌then◌ in refl
       go (some f) = unfold let_some◌else◌then◌ in ap is_some (if-false (some f.name) none (both_false (eqb f.width 64)))
 
-  module _ (h : x ≡ false) (r : Spelled) (s : Spells name (family name) r) where
-    row_is : (i w l : ℕ) → r ≡ Row i w l → eqb w 64 ≡ is_register name
+  module _ (h : x ≡ false) (r : std.Option Spelled) (s : Spells name (family name) r) where
+    row_is : (i w l : ℕ) → r ≡ Some (Row i w l) → eqb w 64 ≡ is_register name
     row_is i w l e = sym (decided name _ (sym s.is ∙ ap (spelled name) e) x ex h)
 
-    front_is : (n w : ℕ) → r ≡ Front n w → eqb w 64 ≡ is_register name
+    front_is : (n w : ℕ) → r ≡ Some (Front n w) → eqb w 64 ≡ is_register name
     front_is n w e = sym (decided name _ (sym s.is ∙ ap (spelled name) e) x ex h)
 
-    pub width_is : (w : ℕ) → ((i : ℕ) × (l : ℕ) × (r ≡ Row i w l)) ⊎ ((n : ℕ) × (r ≡ Front n w)) → eqb w 64 ≡ is_register name
-    width_is w (inl (i, l, e)) = row_is i w l e
-    width_is w (inr (n, e)) = front_is n w e
+    pub width_is : (u : Spelled) → r ≡ Some u → (w : ℕ) → ((i : ℕ) × (l : ℕ) × (u ≡ Row i w l)) ⊎ ((n : ℕ) × (u ≡ Front n w)) → eqb w 64 ≡ is_register name
+    width_is u q w (inl (i, l, e)) = row_is i w l (q ∙ ap (λ (v : Spelled). Some v) e)
+    width_is u q w (inr (n, e)) = front_is n w (q ∙ ap (λ (v : Spelled). Some v) e)
 
-    pub nothing_is : r ≡ Nothing → false ≡ is_register name
+    pub nothing_is : r ≡ None → false ≡ is_register name
     nothing_is e = sym (by_family name ∙ rw (sym s.is ∙ ap (spelled name) e) (unfold let_some◌else◌then◌ in refl))
 
 -- ---- a 64-bit register is its own family

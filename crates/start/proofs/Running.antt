@@ -22,6 +22,7 @@ use Rattle.straight.proofs.Values.{read_alike}
 use Rattle.lines.specs.Words.{tokens_of}
 use Rattle.lines.specs.Lines.{part_of, first_of, count_of, Reading, numbered, line_read, listing_read}
 use Rattle.formula.specs.Values.{Pair, no_token}
+use Rattle.formula.specs.declared.evaluators.Pair.{Pair as Numbers}
 use Rattle.start.specs.Pairs.{affine}
 use Rattle.start.specs.Reckoning.{Priced, Begun, Assigned, Returned, Profiled}
 use Rattle.start.proofs.Pricing.{map-length, length-take-most, kind_register}
@@ -129,12 +130,12 @@ length-map : {A B : Type 0} (f : A → B) (xs : List A) → length (map f xs) �
 length-map f [] = refl
 length-map f (x ∷ xs) = ap suc (length-map f xs)
 
-module _ (tape : Text) (tokens : List ℕ) (reading : Reading) (lines : List ℕ) (i : ℕ) where
+module _ (tape area : Text) (tokens : List ℕ) (reading : Reading) (lines : List ℕ) (i : ℕ) where
   abbrev read_line : ℕ → Line
-  read_line = line_read tape tape tokens reading
+  read_line = line_read tape area tokens reading
 
   drop-read : i < length lines
-      → drop i (listing_read tape tape tokens reading lines) ≡ line_read tape tape tokens reading (get_or lines i 0) ∷ drop (i + 1) (listing_read tape tape tokens reading lines)
+      → drop i (listing_read tape area tokens reading lines) ≡ line_read tape area tokens reading (get_or lines i 0) ∷ drop (i + 1) (listing_read tape area tokens reading lines)
   drop-read h =
       drop-cons (map read_line lines) i (read_line 0) (omega (arith, length-map read_line lines))
       ∙ ap (λ (l : Line). l ∷ drop (suc i) (map read_line lines)) (get_or-map read_line lines i 0)
@@ -143,29 +144,29 @@ module _ (tape : Text) (tokens : List ℕ) (reading : Reading) (lines : List ℕ
       next : suc i ≡ i + 1
       next = omega arith
 
-  length-read : length (drop i (listing_read tape tape tokens reading lines)) ≡ length lines - i
+  length-read : length (drop i (listing_read tape area tokens reading lines)) ≡ length lines - i
   length-read = length-drop i (map read_line lines) ∙ ap (λ (n : ℕ). n - i) (length-map read_line lines)
 
 -- ---- the loop over the lines
 
-module _ (tape : Text) (tokens lines : List ℕ) where
+module _ (tape area : Text) (tokens lines : List ℕ) where
   abbrev listing : Reading → Listing
-  listing reading = listing_read tape tape tokens reading lines
+  listing reading = listing_read tape area tokens reading lines
 
   -- before the line i: what is left of the profile, and a store that the table has the pairs of, with which the rest returns what the whole
   -- does
-  pub record Running (values₀ : List ℕ) (i : ℕ) (values : List ℕ) : Type 0 where
+  pub record Running (values₀ : List Numbers) (i : ℕ) (values : List Numbers) : Type 0 where
     pub inside : i < length lines
     pub long : length values ≡ length values₀
     pub kept : (reading : Reading) → Kept (drop i (listing reading))
-    pub executes : (reading : Reading) (σ₀ : Text → Pair) → Priced σ₀ (tokens_of tape tape tokens) values₀
-        → (σ : Text → Pair) × Priced σ (tokens_of tape tape tokens) values × (execute affine σ₀ (listing reading) ≡ execute affine σ (drop i (listing reading)))
+    pub executes : (reading : Reading) (σ₀ : Text → Pair) → Priced σ₀ (tokens_of tape area tokens) values₀
+        → (σ : Text → Pair) × Priced σ (tokens_of tape area tokens) values × (execute affine σ₀ (listing reading) ≡ execute affine σ (drop i (listing reading)))
 
-  module _ (p : Profiled tape tokens lines) where
+  module _ (p : Profiled tape area tokens lines) where
     pub some_line : 1 ≤ length lines
-    some_line = omega (arith, (kept_first (listing numbered) (p.in_profile numbered)).1, length-read tape tokens numbered lines 0)
+    some_line = omega (arith, (kept_first (listing numbered) (p.in_profile numbered)).1, length-read tape area tokens numbered lines 0)
 
-    pub running_first : (values : List ℕ) → Running values 0 values
+    pub running_first : (values : List Numbers) → Running values 0 values
     running_first values =
         record {
           inside = some_line;
@@ -174,42 +175,42 @@ module _ (tape : Text) (tokens lines : List ℕ) where
           executes = λ reading σ h. (σ, h, refl);
         }
 
-    module _ (values₀ : List ℕ) (i : ℕ) (values : List ℕ) (r : Running values₀ i values) where
+    module _ (values₀ : List Numbers) (i : ℕ) (values : List Numbers) (r : Running values₀ i values) where
       abbrev line : List Token
-      line = tokens_of tape tape (part_of tokens (get_or lines i 0))
+      line = tokens_of tape area (part_of tokens (get_or lines i 0))
 
-      opened : (reading : Reading) → Kept (line_read tape tape tokens reading (get_or lines i 0) ∷ drop (i + 1) (listing reading))
-      opened reading = subst Kept (drop-read tape tokens reading lines i r.inside) (r.kept reading)
+      opened : (reading : Reading) → Kept (line_read tape area tokens reading (get_or lines i 0) ∷ drop (i + 1) (listing reading))
+      opened reading = subst Kept (drop-read tape area tokens reading lines i r.inside) (r.kept reading)
 
-      begun : 1 ≤ length line → Begun tape tokens (get_or lines i 0)
+      begun : 1 ≤ length line → Begun tape area tokens (get_or lines i 0)
       begun h =
           record {
             readable = p.filled.readable i r.inside;
-            some_token = omega (arith, map-length tape (part_of tokens (get_or lines i 0)), length-take-most (count_of (get_or lines i 0)) (drop (first_of (get_or lines i 0)) tokens));
+            some_token = omega (arith, map-length tape area (part_of tokens (get_or lines i 0)), length-take-most (count_of (get_or lines i 0)) (drop (first_of (get_or lines i 0)) tokens));
             inside = (p.filled.listed.at i r.inside).inside;
           }
 
       before : suc i < length lines → (reading : Reading) → (assigns_wide line ≡ true) × Kept (drop (i + 1) (listing reading))
       before h reading =
-          kept_next (line_read tape tape tokens reading (get_or lines i 0)) (drop (i + 1) (listing reading)) (opened reading)
-          (omega (arith, length-read tape tokens reading lines (i + 1)))
+          kept_next (line_read tape area tokens reading (get_or lines i 0)) (drop (i + 1) (listing reading)) (opened reading)
+          (omega (arith, length-read tape area tokens reading lines (i + 1)))
 
       at_end : length lines ≤ suc i → returns_value line ≡ true
       at_end h =
-          kept-last (line_read tape tape tokens numbered (get_or lines i 0)) (drop (i + 1) (listing numbered)) (opened numbered)
-          (omega (arith, length-read tape tokens numbered lines (i + 1)))
+          kept-last (line_read tape area tokens numbered (get_or lines i 0)) (drop (i + 1) (listing numbered)) (opened numbered)
+          (omega (arith, length-read tape area tokens numbered lines (i + 1)))
 
-      pub begun-before : suc i < length lines → Begun tape tokens (get_or lines i 0)
+      pub begun-before : suc i < length lines → Begun tape area tokens (get_or lines i 0)
       begun-before h = begun (assigning (λ x. (0, 0)) line (before h numbered).0).filled
 
-      pub begun-last : (j : ℕ) → j ≡ i → length lines ≤ suc i → Begun tape tokens (get_or lines j 0)
+      pub begun-last : (j : ℕ) → j ≡ i → length lines ≤ suc i → Begun tape area tokens (get_or lines j 0)
       begun-last j e h = rw e (begun (returning (λ x. (0, 0)) line (at_end h)).filled)
 
       one_line : (reading : Reading) (σ : Text → Pair)
           → execute affine σ (drop i (listing reading)) ≡ line_step affine σ line (λ τ. execute affine τ (drop (i + 1) (listing reading)))
-      one_line reading σ = ap (execute affine σ) (drop-read tape tokens reading lines i r.inside) ∙ unfold execute in refl
+      one_line reading σ = ap (execute affine σ) (drop-read tape area tokens reading lines i r.inside) ∙ unfold execute in refl
 
-      pub running_next : suc i < length lines → (values' : List ℕ) → length values' ≡ length values → Assigned line (tokens_of tape tape tokens) values values'
+      pub running_next : suc i < length lines → (values' : List Numbers) → length values' ≡ length values → Assigned line (tokens_of tape area tokens) values values'
           → Running values₀ (i + 1) values'
       running_next h values' e a =
           record {
@@ -226,11 +227,11 @@ module _ (tape : Text) (tokens lines : List ℕ) where
           }
 
       pub running_last : (j : ℕ) → j ≡ i → length lines ≤ suc i → (v : Pair)
-          → Returned (tokens_of tape tape (part_of tokens (get_or lines j 0))) (tokens_of tape tape tokens) values v
-          → (reading : Reading) (σ₀ : Text → Pair) → Priced σ₀ (tokens_of tape tape tokens) values₀ → execute affine σ₀ (listing reading) ≡ some v
+          → Returned (tokens_of tape area (part_of tokens (get_or lines j 0))) (tokens_of tape area tokens) values v
+          → (reading : Reading) (σ₀ : Text → Pair) → Priced σ₀ (tokens_of tape area tokens) values₀ → execute affine σ₀ (listing reading) ≡ some v
       running_last j same h v returned reading σ₀ q =
-          let a : Returned line (tokens_of tape tape tokens) values v =
-          subst (λ (k : ℕ). Returned (tokens_of tape tape (part_of tokens (get_or lines k 0))) (tokens_of tape tape tokens) values v) same returned in
+          let a : Returned line (tokens_of tape area tokens) values v =
+          subst (λ (k : ℕ). Returned (tokens_of tape area (part_of tokens (get_or lines k 0))) (tokens_of tape area tokens) values v) same returned in
           let s = r.executes reading σ₀ q in
           let g = returning s.0 line (at_end h) in
           s.2 ∙ one_line reading s.0 ∙ g.goes (λ τ. execute affine τ (drop (i + 1) (listing reading)))

@@ -1,5 +1,5 @@
 -- What the table of pairs means, and what the functions over it do. Assumes nothing.
-use Rattle.std.specs.Prelude.{ℕ, ◌+◌, ◌*◌, ◌≤◌, ◌<◌, ◌≡◌, Bool, List, ℤ, length, drop, get_or, set}
+use Rattle.std.specs.Prelude.{ℕ, ◌+◌, ◌≤◌, ◌<◌, ◌≡◌, Bool, List, ℤ, length, drop, get_or}
 use Rattle.std.specs.Prelude as std
 use Rattle.std.proofs.Math.Option.{Option, none, some}
 use Rattle.reference.specs.Control.{◌and◌, when◌then◌else◌}
@@ -10,26 +10,19 @@ use Rattle.reference.specs.Straight.{assign, assigned_value, returned_value, bre
 use Rattle.lines.specs.Lines.{part_of, first_of, count_of, Reading, listing_read}
 use Rattle.lines.specs.Words.{Holds}
 use Rattle.formula.specs.Places.{Readable}
-use Rattle.formula.specs.Profile.{Filled}
-use Rattle.formula.specs.Values.{Pair, pair_at, no_token, Valued}
+use Rattle.formula.specs.Profile.{FilledIn}
+use Rattle.formula.specs.Values.{Pair, numbers_of, pair_at, no_token, Valued}
 use Rattle.start.specs.Pairs.{affine}
-use Rattle.start.specs.declared.reckoning.Pair.{Pair as Numbers}
-
-abbrev pub pair_of : Numbers → Pair
-pair_of p = (p.multiplier, p.constant)
+use Rattle.formula.specs.declared.evaluators.Pair.{Pair as Numbers}
 
 -- a pair, or none
 abbrev pub worth_of : std.Option Numbers → Option Pair
-worth_of (std.Some p) = some (pair_of p)
+worth_of (std.Some p) = some (numbers_of p)
 worth_of std.None = none
 
 -- a number's pair
 abbrev pub number_pair : ℤ → Pair
 number_pair z = (0, of_integer z)
-
--- the table with the pair p for the token k
-unfoldable pub with_pair : List ℕ → ℕ → Pair → List ℕ
-with_pair values k p = set (set values (2 * k) p.0) (2 * k + 1) p.1
 
 -- the pair p is what a token is worth, the registers being worth σ
 pub record Prices (σ : Text → Pair) (t : Token) (p : Pair) : Type 0 where
@@ -37,7 +30,7 @@ pub record Prices (σ : Text → Pair) (t : Token) (p : Pair) : Type 0 where
   pub number : (z : ℤ) → number_of t ≡ some z → p ≡ number_pair z
 
 -- the table has what each token is worth
-abbrev pub Priced : (Text → Pair) → List Token → List ℕ → Type 0
+abbrev pub Priced : (Text → Pair) → List Token → List Numbers → Type 0
 Priced σ ts values = Valued number_pair σ ts values
 
 -- ---- an assignment
@@ -47,33 +40,33 @@ unfoldable pub same_register : Token → Token → Bool
 same_register target t = is Register t and (t.text ≟ target.text)
 
 -- the tokens of the register `target` have the pair p now, all others what they had
-abbrev pub Overwritten : Token → Pair → List Token → List ℕ → List ℕ → Type 0
+abbrev pub Overwritten : Token → Pair → List Token → List Numbers → List Numbers → Type 0
 Overwritten target p ts values values' =
     (k : ℕ) → k < length ts → pair_at values' k ≡ (when same_register target (get_or ts k no_token) then p else pair_at values k)
 
 -- ---- a line
 
 -- a line word whose line has a token at least, each with a text
-pub record Begun (tape : Text) (tokens : List ℕ) (l : ℕ) : Type 0 where
-  pub readable : Readable tape (part_of tokens l)
+pub record Begun (tape area : Text) (tokens : List ℕ) (l : ℕ) : Type 0 where
+  pub readable : Readable tape area (part_of tokens l)
   pub some_token : 1 ≤ count_of l
   pub inside : first_of l + count_of l ≤ length tokens
 
 -- a line of these tokens was read as an assignment: the table, of all tokens `all`, has the pairs behind it
-abbrev pub Assigned : List Token → List Token → List ℕ → List ℕ → Type 0
+abbrev pub Assigned : List Token → List Token → List Numbers → List Numbers → Type 0
 Assigned line all values values' =
     (σ : Text → Pair) (x : Text) (v : Pair) → Priced σ all values → wide (get_or line 0 no_token) ≡ some x
     → assigned_value affine σ (drop 1 line) ≡ some v → Priced (assign x v σ) all values'
 
 -- ... and as a return
-abbrev pub Returned : List Token → List Token → List ℕ → Pair → Type 0
+abbrev pub Returned : List Token → List Token → List Numbers → Pair → Type 0
 Returned line all values p =
     (σ : Text → Pair) (v : Pair) → Priced σ all values → returned_value affine σ (drop 1 line) ≡ some v → v ≡ p
 
 -- ---- a listing
 
--- loaded from a tape, with every text in it, and in the profile
-pub record Profiled (tape : Text) (tokens lines : List ℕ) : Type 0 where
-  pub filled : Filled tape tokens lines
-  pub holds : Holds tape tape tokens
-  pub in_profile : (reading : Reading) → breaks (listing_read tape tape tokens reading lines) ≡ none
+-- each line can be read, and in the profile
+pub record Profiled (tape area : Text) (tokens lines : List ℕ) : Type 0 where
+  pub filled : FilledIn tape area tokens lines
+  pub holds : Holds tape area tokens
+  pub in_profile : (reading : Reading) → breaks (listing_read tape area tokens reading lines) ≡ none

@@ -1,6 +1,6 @@
 // The call: the tape's questions, 14, 16, 15, and the answer. Nothing is lent to be written.
 ghost use Rattle.std.specs.Prelude.{◌≡◌, ◌≤◌, length};
-ghost use Rattle.reference.specs.Listing.{Listing};
+ghost use Rattle.reference.specs.Listing as L;
 ghost use Rattle.reference.specs.Questions.{Passed, read};
 ghost use Rattle.tape.specs.Questions.{AcceptedTape};
 ghost use Rattle.lines.specs.Lines.{Reading};
@@ -8,15 +8,16 @@ ghost use Rattle.answers.specs.Answers.{answer_of};
 ghost use Rattle.start.specs.Start.{ask_names, ask_formula, start_reply};
 ghost use Rattle.start.specs.Formulas.{listing_in, Profiled};
 
-use crate::formulas::{Formula, Starts};
 use crate::listed::{are_known, is_register};
 use crate::reckoning::reckon;
+use crate::starts::Starts;
 use answers::{Answer, Reason};
 use lines::marks::Marks;
+use lines::texts::{Listing, Texts};
 use solving::solve_sum;
 
 // 16 and 15, and the start value, of a listing in the profile.
-fn solved(formula: &Formula<'_>, starts: &Starts<'_>, wanted: u64) -> Answer
+fn solved(formula: &Listing<'_>, starts: &Starts<'_>, wanted: u64) -> Answer
     requires { Profiled formula.now × (length formula.now.tokens.now ≤ 1024) }
     ensures { (reading : Reading) → answer_of result ≡ ask_names (listing_in formula.now reading)
         starts.now.chosen.now starts.now.list.now wanted }
@@ -31,11 +32,11 @@ fn solved(formula: &Formula<'_>, starts: &Starts<'_>, wanted: u64) -> Answer
 // 14 and what follows, of a tape that passed its questions.
 fn asked(tape: &[u8], starts: &Starts<'_>, wanted: u64) -> Answer
     requires { AcceptedTape tape.now }
-    ensures { (input : Listing) → read tape.now ≡ Passed input
+    ensures { (input : L.Listing) → read tape.now ≡ Passed input
         → answer_of result ≡ ask_formula input starts.now.chosen.now starts.now.list.now wanted }
 {
-    // Kept: the arrays that crate clean has too, in its own sizes: with no heap they stand in the function that lends them, and one that
-    // made them for several callers would answer all four by value.
+    // Kept: the four arrays, which stand in this frame, since there is no heap. Crate clean has a struct that owns its four (`Tables`);
+    // this crate does not rest on clean, and for the one call here a struct of its own is no plainer.
     let mut tokens = [0u64; 1024];
     let mut lines = [0u64; 256];
     let mut addresses = [0u64; 256];
@@ -46,8 +47,8 @@ fn asked(tape: &[u8], starts: &Starts<'_>, wanted: u64) -> Answer
     match formula::breaks(tape, tokens, lines) {
         Some(line) => Err(Reason::OutsideProfile.at(line)),
         None => {
-            let formula = Formula {
-                tape,
+            let formula = Listing {
+                texts: Texts { tape, area: tape },
                 tokens,
                 lines,
             };

@@ -2,8 +2,8 @@
 #![tactic(auto)]
 
 mod call; // the questions, and the answer
-mod formulas; // a formula as it stands in the tables, and where its registers start
 mod listed; // the list of names with their start values
 mod reckoning; // a formula reckoned in pairs of a multiplier and a constant
+mod starts; // where the registers of a formula start
 
 pub use call::start_value;

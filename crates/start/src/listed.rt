@@ -1,70 +1,80 @@
 // The list of names with their start values. An entry is a length byte, the name, then the value in 8 bytes.
-ghost use Rattle.std.specs.Prelude.{◌≡◌, List, ◌≤◌, ◌<◌, length, drop};
+ghost use Rattle.std.specs.Prelude.{◌≡◌, List};
 ghost use Rattle.std.proofs.Math.Option.{some};
-ghost use Rattle.reference.specs.Options.{option_of};
 ghost use Rattle.reference.specs.Lists.{is_some};
-ghost use Rattle.start.specs.Start.{Entry, entries, is_register, known_entries, listed};
-ghost use Rattle.start.specs.Items.{entry_in};
+ghost use Rattle.start.specs.Start as Start;
+ghost use Rattle.start.specs.Start.{entries, is_register, known_entries, listed};
+ghost use Rattle.start.specs.Items.{head_of, shown};
 
 use names::Spelled;
 use tape::little_endian::number_at;
 
-// How many bytes the name has of the entry at an offset of a list; none at the list's end, and where the entry is cut.
-fn entry_at(list: &[u8], at: usize) -> Option<usize>
-    requires { at ≤ length list.now }
-    ensures { option_of result ≡ entry_in (drop at list.now) }
+// The entry at the head of a list, and the bytes behind it.
+#[derive(Clone, Copy)]
+pub struct Entry<'a> {
+    pub name: &'a [u8],
+    pub value: u64,
+    pub rest: &'a [u8],
+}
+
+// The first entry of a list; none of an empty list, and where the entry is cut.
+fn first_entry(list: &[u8]) -> Option<Entry<'_>>
+    ensures { shown result ≡ head_of list.now }
 {
-    if list.len() <= at {
+    let (&n, behind) = list.split_first()?;
+    let n = usize::from(n);
+    let end = n + 8;
+    if behind.len() < end {
         return None;
     }
-    let n = usize::from(list[at]);
-    if list.len() - at < n + 9 {
-        return None;
-    }
-    Some(n)
+    Some(Entry {
+        name: &behind[..n],
+        value: number_at(behind, n, 8),
+        rest: &behind[end..],
+    })
 }
 
 // Whether a name is a 64-bit register's and no stack slot's.
 pub fn is_register(name: &[u8]) -> bool
     ensures { result ≡ is_register name.now }
 {
-    if text::begins_slot(name) {
+    if text::starts(name, b"var_") {
         return false;
     }
-    match names::family(name) {
-        Spelled::Row(_, width, _) | Spelled::Front(_, width) => width == 64,
-        Spelled::Nothing => false,
+    let Some(spelled) = names::family(name) else {
+        return false;
+    };
+    match spelled {
+        Spelled::Row { width, .. } | Spelled::Front { width, .. } => width == 64,
     }
 }
 
 // Whether no entry of a list is cut and each name is a 64-bit register's.
+// Kept: this walk and that of `value_of` are `while let`s. An iterator of entries, with `all` here and `find` there, would be no plainer: a
+// struct, its `next` and a definition of what is left, for two loops of six lines, and here it is asked behind it whether anything is left.
 pub fn are_known(list: &[u8]) -> bool
     ensures { result ≡ is_some (known_entries list.now) }
 {
-    let mut at = 0;
-    while let Some(n) = entry_at(list, at) {
-        let from = at + 1;
-        let to = from + n;
-        if !is_register(&list[from..to]) {
+    let mut rest = list;
+    while let Some(entry) = first_entry(rest) {
+        if !is_register(entry.name) {
             return false;
         }
-        at = to + 8;
+        rest = entry.rest;
     }
-    list.len() <= at
+    rest.is_empty()
 }
 
 // The value that a list gives a name: that of its first entry; a name that is not listed has the value 0.
 pub fn value_of(list: &[u8], name: &[u8]) -> u64
-    ensures { (es : List Entry) → entries list.now ≡ some es → result ≡ listed es name.now }
+    ensures { (es : List Start.Entry) → entries list.now ≡ some es → result ≡ listed es name.now }
 {
-    let mut at = 0;
-    while let Some(n) = entry_at(list, at) {
-        let from = at + 1;
-        let to = from + n;
-        if text::same(name, &list[from..to]) {
-            return number_at(list, to, 8);
+    let mut rest = list;
+    while let Some(entry) = first_entry(rest) {
+        if text::same(name, entry.name) {
+            return entry.value;
         }
-        at = to + 8;
+        rest = entry.rest;
     }
     0
 }

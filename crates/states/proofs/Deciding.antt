@@ -2,19 +2,21 @@
 use Prim.Native.Nat.{ℕ, ◌≤◌, ◌<◌}
 use mathlib.Core.Path.{◌≡◌, refl, sym, ◌∙◌}
 use mathlib.Core.Bool.{Bool, true, false}
+use mathlib.Core.Logic.{◌⊎◌, inl, inr}
 use mathlib.Core.Option.{none, some}
-use lib.Dec.{ltb, leb}
+use lib.Dec.{ltb}
 use lib.ListN.{length, get_or}
-use borrow.Author.Tests.{lt-ltb, le-ltb, eq-eqb, ne_eqb}
-use Rattle.reference.specs.Control.{when◌then◌else◌, let_some◌else◌then◌}
+use borrow.Author.Tests.{lt-ltb, le-ltb, lt-leb, le-leb, eq-eqb, ne_eqb}
+use Rattle.reference.specs.Control.{◌and◌, when◌then◌else◌, let_some◌else◌then◌}
 use Rattle.reference.specs.Lists.{is_some}
 use Rattle.reference.specs.Listing.{Listing}
 use Rattle.reference.specs.Questions.{Refused, Passed, ask, let_passed◌then◌, read}
 use Rattle.laws.proofs.Scans.{or_true, or_false, and_true, and_false}
-use Rattle.states.specs.Store.{Store, Cell, Name, Tape, STORE, ROOM, cell}
+use Rattle.states.specs.Store.{Store, Cell, Name, Tape, ROOM, cell}
 use Rattle.states.specs.Store.{first_byte, name_of, length_of, named, free_cell, is_wrong, wrong_cell}
 use Rattle.states.specs.Calls.{opened, is_whole, held_cell, replaced, taken, spot_for, save_reply}
 use Rattle.states.specs.Answers.{cell_of}
+use Rattle.states.proofs.Contents.{store_is}
 use Rattle.std.specs.Prelude as Std
 use Rattle.std.specs.Prelude.{Some, None, Ok, Err}
 use Rattle.std.specs.Option.{ok_or}
@@ -88,10 +90,24 @@ module _ (store : Store) (n : Name) where
     unfolding held_cell let_passed◌then◌ let_some◌else◌then◌
     held_none e f = rw (e, f)
 
--- the code's test is the definition's
-pub whole_room : (store : Store) {z : ℕ} → z ≡ STORE → leb z (length store) ≡ is_whole store
-unfolding is_whole
-whole_room store e = rw e
+true-behind : (b : Bool) → (b and true) ≡ b
+unfolding ◌and◌
+true-behind true = refl
+true-behind false = refl
+
+-- where nothing else is lent, the store alone tells
+pub whole_room : (store : Store) → (is_whole store and true) ≡ is_whole store
+whole_room store = true-behind (is_whole store)
+
+module _ (store : Store) {enough : Bool} where
+  pub room-there : 524288 ≤ length store → enough ≡ true → (is_whole store and enough) ≡ true
+  unfolding is_whole ◌and◌
+  room-there h e = rw (e, le-leb _ _ (rw store_is at h)) refl
+
+  pub room-lacks : (length store < 524288) ⊎ ((524288 ≤ length store) × (enough ≡ false)) → (is_whole store and enough) ≡ false
+  unfolding is_whole ◌and◌
+  room-lacks (inl h) = rw (lt-leb _ _ (rw store_is at h)) refl
+  room-lacks (inr (h, e)) = rw (e, le-leb _ _ (rw store_is at h)) refl
 
 module _ (store : Store) (n : Name) (tape : Tape) {room : Bool} (r : room ≡ is_whole store) where
   pub save_unopened : {number place : ℕ} → opened store room ≡ Refused number place → save_reply store n tape ≡ Refused number place

@@ -6,14 +6,15 @@ use Rattle.states.specs.Store.{Store, Name, Tape, STORE}
 use Rattle.states.specs.Calls.{Spot, replaced, taken, save_reply, after_save, delete_reply, after_delete}
 use Rattle.answers.specs.declared.Refusal.{Refusal}
 use Rattle.answers.specs.Refusals.{answered}
+use Rattle.states.specs.declared.cells.Cells.{Cells}
 use Rattle.states.specs.declared.calls.Placed.{Placed}
 use Rattle.states.specs.declared.calls.Placed.TheVariants as P
 
 abbrev pub cell_of : Result ℕ Refusal → Answer ℕ
 cell_of = answered (λ i. i)
 
-abbrev pub opened_of : Result (Unit {0}) Refusal → Answer (Unit {0})
-opened_of = answered (λ u. u)
+abbrev pub opened_of : Result Cells Refusal → Answer (Unit {0})
+opened_of = answered (λ cells. tt)
 
 abbrev pub spot : Placed → Spot
 spot (P.Replaced i) = replaced i

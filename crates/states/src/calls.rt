@@ -1,17 +1,17 @@
 // The three calls.
-ghost use Rattle.std.specs.Prelude.{◌≡◌, true, ◌∷◌, ◌++◌, ◌+◌, ◌*◌, ◌≤◌, leb, length, drop, set};
+ghost use Rattle.std.specs.Prelude.{◌≡◌, ◌∷◌, ◌++◌, ◌+◌, ◌*◌, ◌<◌, ◌≤◌, length, drop, set, IfOk};
 ghost use Rattle.reference.specs.Control.{◌and◌};
 ghost use Rattle.text.specs.Cursor.{Fits, Puts};
 ghost use Rattle.tape.specs.Bytes.{put};
-ghost use Rattle.states.specs.Store.{CELL, STORE, ROOM, cell, length_of, tape_of};
-ghost use Rattle.states.specs.Calls.{opened, held_cell, spot_for, save_reply, restore_reply, body};
+ghost use Rattle.states.specs.Store.{CELL, ROOM, cell, length_of, tape_of};
+ghost use Rattle.states.specs.Calls.{is_whole, opened, held_cell, spot_for, save_reply, restore_reply, body};
 ghost use Rattle.answers.specs.Answers.{answer_of, Writes};
 ghost use Rattle.states.specs.Answers.{cell_of, spot_of, opened_of, Saves, Deletes, InStore};
 
-use crate::cells::{cell_start, free_cell, held_tape, named, wrong_cell};
+use crate::cells::{Cells, cell_start};
 use crate::sizes::{ROOM_BYTES, STORE_BYTES};
 use answers::{Answer, Reason, Refusal};
-use text::{Cursor, copy_bytes};
+use text::Cursor;
 
 // The cell that a tape is saved in: the one that is held under the name, or the first free one.
 #[derive(Clone, Copy, Debug, PartialEq, Eq)]
@@ -20,40 +20,40 @@ pub enum Placed {
     Taken(usize),
 }
 
-// Questions 2 and 22. `room` says whether what is lent is long enough.
-fn opened(store: &[u8], room: bool) -> Result<(), Refusal>
-    requires { room ≡ true → STORE ≤ length store.now }
-    ensures { opened_of result ≡ opened store.now room }
+// Questions 2 and 22: the cells of the store. `enough` says whether what is lent beside it is long enough.
+fn opened(store: &[u8], enough: bool) -> Result<Cells<'_>, Refusal>
+    ensures answer { opened_of result ≡ opened store.now (is_whole store.now and enough) }
+    ensures same { IfOk result (λ cells. cells.bytes.now ≡ store.now) }
 {
-    if !room {
+    if store.len() < STORE_BYTES || !enough {
         return Err(Reason::TooLittleRoom.at(0));
     }
-    match wrong_cell(store) {
+    let cells = Cells { bytes: store };
+    match cells.wrong_cell() {
         Some(i) => Err(Reason::BrokenCell.at(i)),
-        None => Ok(()),
+        None => Ok(cells),
     }
 }
 
 // ---- saving
 
 // The cell for a tape that passed the tape questions, in a store that passed its own.
-fn place_for(store: &[u8], name: &[u8]) -> Result<Placed, Refusal>
-    requires { STORE ≤ length store.now }
-    ensures { spot_of result ≡ spot_for store.now name.now }
+fn place_for(store: &Cells<'_>, name: &[u8]) -> Result<Placed, Refusal>
+    ensures { spot_of result ≡ spot_for store.now.bytes.now name.now }
 {
-    if let Some(i) = named(store, 8, name) {
+    if let Some(i) = store.named(8, name) {
         return Ok(Placed::Replaced(i));
     }
-    let i = free_cell(store).ok_or(Reason::StoreFull.at(0))?;
+    let i = store.free_cell().ok_or(Reason::StoreFull.at(0))?;
     Ok(Placed::Taken(i))
 }
 
 fn save_place(store: &[u8], name: &[u8], tape: &[u8]) -> Result<Placed, Refusal>
     ensures { spot_of result ≡ save_reply store.now name.now tape.now }
 {
-    opened(store, STORE_BYTES <= store.len())?;
+    let cells = opened(store, true)?;
     tape::check::<false>(tape)?;
-    place_for(store, name)
+    place_for(&cells, name)
 }
 
 // Puts the length and the bytes of a tape.
@@ -98,13 +98,12 @@ pub fn save(store: &mut [u8], name: &[u8; 8], tape: &[u8]) -> Answer
 
 // ---- deleting
 
-// The cell that is held under a name, as an answer: its number, or 2, 22 or 20 (the questions of `opened` first).
-fn held(store: &[u8], room: bool, name: &[u8]) -> Result<usize, Refusal>
-    requires { room ≡ true → STORE ≤ length store.now }
-    ensures { cell_of result ≡ held_cell store.now room name.now }
+// The number of the cell that is held under a name, or the refusal: 2, 22 (the questions of `opened`) or 20.
+fn held(store: &[u8], enough: bool, name: &[u8]) -> Result<usize, Refusal>
+    ensures { cell_of result ≡ held_cell store.now (is_whole store.now and enough) name.now }
 {
-    opened(store, room)?;
-    named(store, 8, name).ok_or(Reason::NotHeld.at(0))
+    let cells = opened(store, enough)?;
+    cells.named(8, name).ok_or(Reason::NotHeld.at(0))
 }
 
 // Gives up the cell that begins at `at`.
@@ -119,28 +118,21 @@ fn release(store: &mut [u8], at: usize)
 pub fn delete(store: &mut [u8], name: &[u8; 8]) -> Answer
     ensures { Deletes store.old name.now store.new (answer_of result) }
 {
-    let i = held(store, STORE_BYTES <= store.len(), name)?;
+    let i = held(store, true, name)?;
     release(store, cell_start(i));
     Ok(0)
 }
 
 // ---- coming back
 
-// Question 2 of coming back.
-fn has_room(store: usize, out: usize) -> bool
-    ensures { result ≡ (leb STORE store and leb ROOM out) }
-{
-    STORE_BYTES <= store && ROOM_BYTES <= out
-}
-
 // Copies the tape of the cell i, as it stands, to the front of the output.
-fn copy_out(store: &[u8], i: usize, out: &mut [u8]) -> usize
-    requires { InStore store.now i × (length_of (cell store.now i) ≤ ROOM) × (ROOM ≤ length out.old) }
-    ensures value { result ≡ length (tape_of (cell store.now i)) }
-    ensures out_after { out.new ≡ tape_of (cell store.now i) ++ drop result out.old }
+fn copy_out(store: &Cells<'_>, i: usize, out: &mut [u8]) -> usize
+    requires { (i < 8) × (length_of (cell store.now.bytes.now i) ≤ ROOM) × (ROOM ≤ length out.old) }
+    ensures value { result ≡ length (tape_of (cell store.now.bytes.now i)) }
+    ensures out_after { out.new ≡ tape_of (cell store.now.bytes.now i) ++ drop result out.old }
 {
-    let tape = held_tape(store, i);
-    copy_bytes(tape, out, 0);
+    let tape = store.held_tape(i);
+    out[..tape.len()].copy_from_slice(tape);
     tape.len()
 }
 
@@ -148,7 +140,8 @@ fn copy_out(store: &[u8], i: usize, out: &mut [u8]) -> usize
 pub fn restore(store: &[u8], name: &[u8; 8], out: &mut [u8]) -> Answer
     ensures { Writes (restore_reply store.now name.now (length out.old)) out.old out.new (answer_of result) }
 {
-    let i = held(store, has_room(store.len(), out.len()), name)?;
+    let i = held(store, ROOM_BYTES <= out.len(), name)?;
+    let cells = Cells { bytes: store };
     // Kept: there is no `From` from usize to u64, and `try_from` has a branch that no length takes.
-    Ok(copy_out(store, i, out) as u64)
+    Ok(copy_out(&cells, i, out) as u64)
 }

@@ -45,7 +45,7 @@ recorded tape area tokens records = map (marked_of tape area tokens) records
 abbrev pub marked_in : Text → Text → List ℕ → List ℕ → List ℕ → List ℕ → ℕ → MarkedLine
 marked_in tape area tokens addresses lows highs l = (line_in tape area tokens addresses l, marks_of (pair_at lows highs (origin_of l)))
 
--- the lines of a page of line words
+-- the lines of line words
 abbrev pub paged : Text → Text → List ℕ → List ℕ → List ℕ → List ℕ → List ℕ → List MarkedLine
 paged tape area tokens addresses lows highs lines = map (marked_in tape area tokens addresses lows highs) lines
 

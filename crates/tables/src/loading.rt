@@ -1,7 +1,9 @@
 // The listing of an accepted tape, in tables: a word for each token and each line, and by the number of the line its address and its marks.
 // All texts are parts of the tape. The lines are laid as records first; the line words are made of them.
-// Kept: the tables that are filled stay parameters of their own. A struct of lent slices would be no plainer: each contract would have to
-// say, besides, that it still lends the same slices.
+// Kept: the four tables stay parameters of their own, so that a caller may own them in any way: crate clean has a struct of the four, whose
+// `load` is this one, and lends its fields apart afterwards. A struct here would ask of callers that they have just that one.
+// Kept: addresses and marks are two tables, not one of pairs, which would be no plainer: the rounds join the marks and never see an
+// address. With one table they would have to promise besides that the addresses stand.
 ghost use Rattle.std.specs.Prelude.{◌≡◌, ◌≤◌, length};
 ghost use Rattle.lines.specs.Words.{Recodes};
 ghost use Rattle.tape.specs.Questions.{AcceptedTape};
@@ -35,6 +37,7 @@ pub struct LoadStep {
 
 // ---- one command
 
+// Before the first command.
 fn start() -> LoadState
     ensures { result ≡ start_of }
 {
@@ -69,10 +72,7 @@ fn record_after(command: Command, totals: Totals, line: LineRecord) -> LineRecor
             marks: NO_MARKS,
         },
         Command::Marked { low, high } => LineRecord {
-            marks: Marks {
-                low: line.marks.low.min(low),
-                high: line.marks.high.max(high),
-            },
+            marks: line.marks.joined(Marks { low, high }),
             ..line
         },
         Command::Token { .. } => LineRecord {
@@ -133,6 +133,7 @@ fn load_command(
 // ---- the whole tape
 
 // Loads the lines of a tape that passed the questions: a record for each line and a word for each token.
+// Kept: document 01 names the form, "line records are lent as a slice of records" to a few thin functions.
 pub fn fill(tape: &[u8], tokens: &mut [u64], lines: &mut [LineRecord]) -> Totals
     requires { AcceptedTape tape.now × (1024 ≤ length tokens.old) × (256 ≤ length lines.old) }
     ensures { Recorded tape.now tokens.new lines.new result }
@@ -146,6 +147,10 @@ pub fn fill(tape: &[u8], tokens: &mut [u64], lines: &mut [LineRecord]) -> Totals
 }
 
 // Writes the words, the addresses and the marks of the records into the tables.
+// Kept: whether a line has an address is a bit of its word, and 0 stands in the table where it has none. By a rule of the project
+// definitions keep their meaning, and so do those of crate lines (`address_in`, `Reading`), by which `load` and `write` promise what
+// listing stands in the tables: they read the bit, and the addresses as numbers. A table of `Option`s would say it a second time, beside
+// the bit.
 fn spread(records: &[LineRecord], lines: &mut [u64], addresses: &mut [u64], marks: &mut [Marks])
     requires { (length records.now ≤ 256) × Fitting records.now (length records.now) × (256 ≤ length lines.old)
         × (256 ≤ length addresses.old) × (256 ≤ length marks.old) }
@@ -180,17 +185,18 @@ fn tabled(
     totals
 }
 
-// Codes the first n words.
-fn code_first(tape: &[u8], tokens: &mut [u64], n: usize)
-    requires { n ≤ length tokens.old }
+// Codes the words.
+fn code_words(tape: &[u8], tokens: &mut [u64])
     ensures { Recodes tape.now tokens.old tokens.new }
 {
-    for w in &mut tokens[..n] {
+    for w in tokens {
         *w = coded(tape, *w);
     }
 }
 
 // Fills the tables so, each Register with the code of its family.
+// Kept: lengths as clauses, and no arrays of 1024 and 256. That would ask more of callers than this function ever did (no promise of a
+// public function is given up, nor does one ask more), and the cleaning lends 2,048 tokens.
 pub fn load(
     tape: &[u8],
     tokens: &mut [u64],
@@ -205,6 +211,6 @@ pub fn load(
         × LoadedMarks tape.now lines.new (lows_of marks.new) (highs_of marks.new) result }
 {
     let totals = tabled(tape, tokens, lines, addresses, marks);
-    code_first(tape, tokens, totals.tokens);
+    code_words(tape, &mut tokens[..totals.tokens]);
     totals
 }

@@ -1,11 +1,13 @@
 // The records of lines, lent as a slice of records: one is read, one is stored.
+// Kept: `line_at` and `store_line` are one index each, since document 01 names the form: "line records are lent as a slice of records" to a
+// few thin functions.
 ghost use Rattle.std.specs.Prelude.{◌≡◌, ◌<◌, length, get_or, set};
 ghost use Rattle.tables.specs.Records.{blank};
 
 use lines::marks::Marks;
 
 // The marks of a line that has none: a lowest above the highest.
-// Kept: an `Option` would be no plainer: marks join by minimum and maximum, here and in crate join, where it would take a match of the
+// Kept: no `Option`, which would be no plainer: `joined` of `Marks` takes a minimum and a maximum of any two, and would have to match the
 // cases.
 pub const NO_MARKS: Marks = Marks {
     low: u64::MAX,

@@ -1,6 +1,5 @@
-// The tape of a listing and of its lines' marks, put into a lent slice. The lines go through records, a page of at most 256 at a time.
-ghost use Rattle.std.specs.Prelude.{◌≡◌, ◌+◌, ◌≤◌, ◌<◌, length, get_or};
-ghost use Rattle.std.proofs.Math.Option.{none, some};
+// The tape of a listing and of its lines' marks, put into a lent slice. The lines, at most 256, go through an array of records.
+ghost use Rattle.std.specs.Prelude.{◌≡◌, ◌+◌, ◌≤◌, ◌<◌, length};
 ghost use Rattle.std.proofs.Math.Seq.{paste};
 ghost use Rattle.reference.specs.Listing.{token};
 ghost use Rattle.reference.specs.Tape as Tape;
@@ -42,7 +41,7 @@ fn put_marks(marks: Marks, out: &mut Cursor<'_>)
     requires { Fits out.old (length (Tape.write_marks (marks_of (marks.low, marks.high)))) }
     ensures { Puts out.old (Tape.write_marks (marks_of (marks.low, marks.high))) out.new }
 {
-    if marks.low <= marks.high {
+    if marks.is_some() {
         out.put_byte(3);
         out.put_le(marks.low, 8);
         out.put_le(marks.high, 8);
@@ -81,15 +80,14 @@ fn put_whole_line(texts: &Texts<'_>, tokens: &[u64], line: LineRecord, out: &mut
     put_tokens(texts, &tokens[line.first..line.first + line.count], out);
 }
 
-// ---- a page: the records of its lines, and their bytes
+// ---- all lines: their records, and the bytes of these
 
-// The record of the line word at an index.
+// The record of a line word: its address, if a bit of the word says that it has one, and its marks by the number of the input line.
 #[tactic(auto, using(lines::proofs::words::Lines::origin_below))]
-fn record_of(lines: &[u64], addresses: &[u64], marks: &[Marks], at: usize) -> LineRecord
-    requires { (at < length lines.now) × (256 ≤ length addresses.now) × (256 ≤ length marks.now) }
-    ensures { result ≡ record_of addresses.now (lows_of marks.now) (highs_of marks.now) (get_or lines.now at 0) }
+fn record_of(l: u64, addresses: &[u64], marks: &[Marks]) -> LineRecord
+    requires { (256 ≤ length addresses.now) × (256 ≤ length marks.now) }
+    ensures { result ≡ record_of addresses.now (lows_of marks.now) (highs_of marks.now) l }
 {
-    let l = lines[at];
     let k = origin(l);
     let address = addresses[k];
     LineRecord {
@@ -102,13 +100,15 @@ fn record_of(lines: &[u64], addresses: &[u64], marks: &[Marks], at: usize) -> Li
 }
 
 // Stores the records of the line words, from the first place on.
+// Kept: each by its index. `records.iter_mut().zip(lines)` was tried, and the proof did not close: once the borrow of `iter_mut` is over,
+// nothing is known there of the records but how many they are.
 fn gather(lines: &[u64], addresses: &[u64], marks: &[Marks], records: &mut [LineRecord])
     requires { (length lines.now ≤ length records.old) × (256 ≤ length addresses.now) × (256 ≤ length marks.now) }
     ensures { records.new ≡ paste records.old 0 (records_of addresses.now (lows_of marks.now) (highs_of marks.now) lines.now)
         (length lines.now) }
 {
-    for k in 0..lines.len() {
-        store_line(records, k, record_of(lines, addresses, marks, k));
+    for (k, l) in lines.iter().enumerate() {
+        store_line(records, k, record_of(*l, addresses, marks));
     }
 }
 
@@ -122,7 +122,7 @@ fn put_records(texts: &Texts<'_>, tokens: &[u64], records: &[LineRecord], out: &
     }
 }
 
-// Puts the lines. Their records are an array of the call's own, lent to `gather` and then to `put_records`.
+// Puts the lines. Their records are an array of the call's own, lent to `gather` and then to `put_records`, as document 01 has it.
 fn put_lines(listing: &Listing<'_>, addresses: &[u64], marks: &[Marks], out: &mut Cursor<'_>)
     requires { Listed listing.now × (length listing.now.lines.now ≤ 256) × (256 ≤ length addresses.now) × (256 ≤ length marks.now)
         × Fits out.old (length (lines_bytes (paged_in listing.now addresses.now marks.now))) }
@@ -141,6 +141,7 @@ fn put_lines(listing: &Listing<'_>, addresses: &[u64], marks: &[Marks], out: &mu
 // ---- the whole tape
 
 // Writes the listing's tape to the front of `out`, and says how long it is.
+// Kept: lengths as clauses, and no arrays of 256, which would ask more of callers than this function ever did (see `load`).
 pub fn write(listing: &Listing<'_>, addresses: &[u64], marks: &[Marks], out: &mut [u8]) -> usize
     requires listed { Listed listing.now × (length listing.now.lines.now ≤ 256) }
     requires in_bounds { (256 ≤ length addresses.now) × (256 ≤ length marks.now) }

@@ -7,9 +7,6 @@ use mathlib.Core.Bool.{true, false}
 use mathlib.Core.List.{List, [], ◌∷◌, ◌++◌, flat_map, append_assoc, append-nil}
 use mathlib.Core.Option.{none, some}
 use lib.ListN.{length, get_or, drop, length-append}
-use lib.Seq.{drop-append_seam}
-use borrow.Author.Tests.{le-leb}
-use Rattle.reference.specs.Control.{not}
 use Rattle.reference.specs.Listing.{Token, Line, Listing}
 use Rattle.reference.specs.Rules.{Rules}
 use Rattle.reference.specs.Spans.{Marks}
@@ -17,39 +14,16 @@ use Rattle.reference.specs.Claim.{text_in, text}
 use Rattle.reference.specs.Run.{finished}
 use Rattle.reference.specs.Marks.{finished_marks}
 use Rattle.reference.specs.Tape.{old, Command, new_line, marked, new_token, end, write_command, write_marks, write_marks_by, write_line, write_line_by, write_lines, write_lines_by, write, write_by}
-use Rattle.reference.specs.Questions.{ends_inside_by, is_end, Passed, read, marks_in}
-use Rattle.reference.proofs.Cases.{pair, fails, true-false}
+use Rattle.reference.specs.Questions.{Passed, read, marks_in}
 use Rattle.reference.proofs.LittleEndian.{Bytes}
-use Rattle.reference.proofs.Commands.{AddressFits, Writable, read_of-write}
+use Rattle.reference.proofs.Commands.{AddressFits}
 use Rattle.reference.proofs.Limits.{All, TokenFits, LineFits, MarksFit, TapeFits}
 use Rattle.reference.proofs.Tapes.{write_read, read_fits, read-marks_fit}
 use Rattle.reference.proofs.Marks.{finished-marks_fit}
 use Rattle.reference.proofs.Unmarked.{Holdable, HoldableMarks}
-use Rattle.walk.specs.Held.{goes_on, commands, tokens_of, lines_of, held}
-use Rattle.walk.proofs.Following.{goes, more, over}
+use Rattle.walk.specs.Held.{commands, tokens_of, lines_of, held}
+use Rattle.walk.proofs.Reading.{read-on, read_end}
 use Rattle.sources.proofs.Held.{Kind, Held, finished-held, finished_text}
-
--- ---- one command
-
-module _ (c : Command) (post : List ℕ) (w : Writable c) where
-  abbrev here : List ℕ
-  here = write_command c ++ post
-
-  on : is_end c ≡ false → goes_on here ≡ true
-  unfolding goes_on ends_inside_by not
-  on n =
-      let b = read_of-write {form = old} c post w in
-      let inside : length (write_command c) ≤ length here = omega (arith, length-append (write_command c) post) in
-      pair b.known (pair (rw b.size (le-leb (length (write_command c)) (length here) inside)) (rw (b.same, n)))
-
-  read-on : is_end c ≡ false → commands here ≡ c ∷ commands post
-  read-on n =
-      let b = read_of-write {form = old} c post w in
-      let m = more here (on n) in
-      rw (b.same, b.size, drop-append_seam (write_command c) post) at m
-
-  read_end : is_end c ≡ true → commands here ≡ []
-  read_end n = let b = read_of-write {form = old} c post w in over here (fails (λ y. true-false (rw b.same n) (goes here y).2))
 
 -- ---- a listing
 

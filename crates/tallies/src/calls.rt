@@ -8,7 +8,7 @@ ghost use Rattle.tallies.specs.Counting.{is_name, calls_with, with_commands};
 
 use crate::tally::{Tally, count};
 use lines::words::{PUNCT, SYMBOL};
-use text::begins_bracket;
+use text::starts;
 
 // So many so far, whether a line has begun, and whether its last token is the name.
 #[derive(Clone, Copy)]
@@ -29,7 +29,7 @@ fn is_name(kind: u64, text: &[u8], name: &[u8]) -> bool
 pub fn opens(kind: u64, text: &[u8]) -> bool
     ensures { result ≡ opens (token kind text.now ∷ []) }
 {
-    kind == PUNCT && begins_bracket(text)
+    kind == PUNCT && starts(text, b"(")
 }
 
 impl<'a> Tally for Calls<'a> {

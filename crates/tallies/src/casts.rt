@@ -8,7 +8,7 @@ ghost use Rattle.tallies.specs.Counting.{casts_with, with_commands};
 
 use crate::tally::{Tally, count};
 use lines::words::KEYWORD;
-use text::begins_void;
+use text::starts;
 
 // So many so far, and whether a line has begun.
 #[derive(Clone, Copy)]
@@ -20,7 +20,7 @@ struct Casts {
 fn is_cast(kind: u64, text: &[u8]) -> bool
     ensures { result ≡ is_call_mark none (token kind text.now) false }
 {
-    kind == KEYWORD && begins_void(text)
+    kind == KEYWORD && starts(text, b"((void")
 }
 
 impl Tally for Casts {

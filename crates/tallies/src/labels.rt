@@ -7,7 +7,7 @@ ghost use Rattle.tallies.specs.Counting.{Shaped, label_in, labels_with, with_com
 
 use crate::tally::{Tally, count};
 use lines::words::SYMBOL;
-use text::is_colon;
+use text::same;
 
 // What the last line is so far: nothing, a Symbol, a label, or what no label begins with (so too where no line has begun).
 #[derive(Clone, Copy)]
@@ -32,7 +32,7 @@ impl Shape {
     {
         match self {
             Shape::Empty if kind == SYMBOL => Shape::Name,
-            Shape::Name if is_colon(text) => Shape::Label,
+            Shape::Name if same(text, b":") => Shape::Label,
             _ => Shape::Other,
         }
     }

@@ -29,7 +29,7 @@ impl Command {
     }
 }
 
-// `count` bytes of the tape from `from` on.
+// `count` bytes of the tape from `from` on: a text, a whole command, or any other part.
 pub fn text_of(tape: &[u8], from: usize, count: usize) -> &[u8]
     requires { from + count ≤ length tape.now }
     ensures { result.now ≡ take count (drop from tape.now) }
@@ -125,7 +125,7 @@ fn marked_at<const BASED: bool>(tape: &[u8], at: usize) -> Result<Command, Refus
 {
     let w = width_of::<BASED>();
     if tape.len() - at < 1 + w + w {
-        return Err(Reason::CutOff.at(at)); // 4, not 5
+        return Err(Reason::CutOff.at(at)); // also where marks are out of place
     }
     let low = number_at(tape, at + 1, w);
     let high = number_at(tape, at + (1 + w), w);
@@ -143,7 +143,7 @@ fn token_at<const BASED: bool>(tape: &[u8], at: usize) -> Result<Command, Refusa
     }
     let count = usize::from(u16::from_le_bytes([tape[at + 1], tape[at + 2]]));
     if left - 3 < count {
-        return Err(Reason::CutOff.at(at)); // 4 also before any line
+        return Err(Reason::CutOff.at(at)); // also before any line
     }
     let kind = u64::from(tape[at]) - 16;
     Ok(Command::Token { kind, count })

@@ -38,7 +38,7 @@ pub struct Advance {
 
 // ---- one command
 
-// The question after 4 that refuses a line at an offset.
+// The question that refuses a line that stands whole at an offset, if there is one.
 fn ask_line(indent: u64, at: usize, totals: Totals) -> Result<(), Refusal>
     ensures { said result ≡ asking [] at (totals_of totals) (new_line none indent) }
 {
@@ -69,7 +69,7 @@ fn token_fits(kind: u64, text: &[u8]) -> bool
 fn offends(byte: u8) -> bool
     ensures { result ≡ is_offending byte }
 {
-    !matches!(byte, 0x20..=0x7E)
+    !(0x20..=0x7E).contains(&byte)
 }
 
 // Where the first byte of a text that is not 20 to 7E stands.
@@ -87,7 +87,7 @@ fn text_fits(sum: usize, count: usize) -> bool
     sum <= 24576 && count <= 24576 - sum
 }
 
-// The question after 4 that refuses a token at an offset.
+// The question that refuses a token that stands whole at an offset, if there is one.
 fn ask_token(kind: u64, text: &[u8], at: usize, totals: Totals) -> Result<(), Refusal>
     requires { at + 3 + length text.now < 2 ^ 64 }
     ensures { said result ≡ asking [] at (totals_of totals) (new_token (token kind text.now)) }
@@ -99,10 +99,10 @@ fn ask_token(kind: u64, text: &[u8], at: usize, totals: Totals) -> Result<(), Re
         return Err(Reason::OutOfBounds.at(at));
     }
     if 1024 <= totals.tokens {
-        return Err(Reason::TooMany.at(at)); // before 11
+        return Err(Reason::TooMany.at(at)); // asked before TooMuchText
     }
     if !text_fits(totals.text, text.len()) {
-        return Err(Reason::TooMuchText.at(at)); // before 7
+        return Err(Reason::TooMuchText.at(at)); // asked before Unprintable
     }
     match first_offending(text) {
         Some(i) => Err(Reason::Unprintable.at(at + 3 + i)), // the byte's place
@@ -110,7 +110,7 @@ fn ask_token(kind: u64, text: &[u8], at: usize, totals: Totals) -> Result<(), Re
     }
 }
 
-// The question after 4 that refuses a command at an offset.
+// The question that refuses a command that stands whole at an offset, if there is one.
 fn ask(tape: &[u8], at: usize, command: Command, totals: Totals) -> Result<(), Refusal>
     requires { at + looked_at command ≤ length tape.now }
     ensures { said result ≡ asking (drop at tape.now) at (totals_of totals) (command_in tape.now at command) }
@@ -168,7 +168,7 @@ pub fn step<const BASED: bool>(tape: &[u8], at: usize, totals: Totals) -> Result
     ensures result_value { stepped tape.now at result ≡ read_command_by (form_of BASED) tape.now at (totals_of totals) }
     ensures from_here { FromHereBy (form_of BASED) tape.now at (totals_of totals) (stepped tape.now at result) }
 {
-    let command = command_at::<BASED>(tape, at)?; // 3 and 4 before 5
+    let command = command_at::<BASED>(tape, at)?; // first NoCommand and CutOff
     ask(tape, at, command, totals)?;
     Ok(Advance {
         command,
@@ -179,7 +179,9 @@ pub fn step<const BASED: bool>(tape: &[u8], at: usize, totals: Totals) -> Result
 
 // ---- the whole tape
 
-// Nothing is read yet.
+// The totals before the first command: nothing is read yet.
+// Kept: a constant, no `#[derive(Default)]`, which would be no plainer: five crates name it, and where a proof has the constant's
+// fields at once, `Totals::default()` would be one more call there, known by what it promises.
 pub const NONE: Totals = Totals {
     lines: 0,
     tokens: 0,
@@ -187,7 +189,7 @@ pub const NONE: Totals = Totals {
     fresh: false,
 };
 
-// Reads the command at an offset so; at FF there is none more.
+// Reads the command at an offset as `step` does; at FF there is none more.
 fn step_on<const BASED: bool>(
     tape: &[u8],
     at: usize,
@@ -204,6 +206,10 @@ fn step_on<const BASED: bool>(
 }
 
 // Asks the questions of every command of a tape of either form.
+// Kept: it answers the totals, and no struct that only `check` makes and whose type says that its bytes are an accepted tape. The fact
+// (`AcceptedTape`) is asked in eleven contracts of the crates above; each would name the struct's bytes in place of the tape, in all that
+// it asks and promises, and no clause but this one would go. The public calls take any bytes and `load` of crate tables, which is public,
+// would ask more of its callers. And crate sources goes on with an accepted tape that no `check` saw: the copy that it wrote (`came_into`).
 pub fn check<const BASED: bool>(tape: &[u8]) -> Result<Totals, Refusal>
     ensures { checked result ≡ (let_passed (read_by (form_of BASED) tape.now) then λ lines. Passed (sizes_in lines)) }
 {

@@ -1,6 +1,7 @@
-// A tape reader holds the tape and its offset. Its methods are few and thin: each hands its parts to a function on a plain slice and
-// numbers. The questions, and the loading in crate tables, read a tape through `command_at`, `known_command` and `token_text`, which make a
-// reader.
+// A tape reader holds the tape and its offset. Commands and texts are read through it, here and in the crates above: `command_at`,
+// `known_command` and `token_text` make one.
+// Kept: document 01 names the form, "A tape reader holds the tape and its offset": a small struct, and few thin functions over those on a
+// plain slice and numbers. So `next` and `token` promise what `found_at` and `text_at` do.
 ghost use Rattle.std.specs.Prelude.{◌≡◌, ◌+◌, ◌≤◌, length, take, drop, Ok};
 ghost use Rattle.tape.specs.Commands.{form_of, found_in_by, found_in, standing_by, standing, Stood};
 

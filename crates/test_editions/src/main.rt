@@ -7,17 +7,12 @@
 // wanted refusal, place and length of the new tape.
 #![tactic(auto)]
 
-ghost use Rattle.std.specs.Prelude.{◌+◌, ◌≤◌, length};
-ghost use Rattle.std.specs.Option.{IfSome};
+ghost use Rattle.std.specs.Prelude.{◌≤◌, length};
 
-use answers::{Told, tell};
+use answers::Told;
 use editions::{to_2018, to_2024};
+use replays::{Counts, MARK, STDIN, STDOUT, is_output, size_at};
 use tape::little_endian::number_at;
-
-// The numbers of standard input and output.
-const STDIN: i32 = 0;
-
-const STDOUT: i32 = 1;
 
 // The longest list that is read.
 const LONGEST: usize = 150000;
@@ -25,149 +20,79 @@ const LONGEST: usize = 150000;
 // The longest output that is lent.
 const ROOM: usize = 36000;
 
-// Every byte of it before the call.
-const BEFORE: u8 = 170;
-
-const HEADER: usize = 28;
-
-// The numbers of a frame but for its length.
-#[derive(Clone, Copy, Debug, PartialEq, Eq)]
-struct Frame {
-    up: bool,
-    output: usize,
-    tape: usize,
-    refusal: u64,
-    place: u64,
-    value: u64,
-}
-
-#[derive(Clone, Copy, Debug, PartialEq, Eq)]
-struct Counts {
-    calls: u64,
-    differ: u64,
-}
-
 // ---- the list
 
-// A number that is a length.
-fn size_at(list: &[u8], at: usize) -> usize
-    requires { at + 4 ≤ length list.now }
-{
-    // Kept: a cast: a `usize` holds four bytes wherever this is built, and `usize::try_from` is no plainer, since it asks what to do where
-    // it does not.
-    number_at(list, at, 4) as usize
+#[derive(Clone, Copy, Debug, PartialEq, Eq)]
+struct Frame<'a> {
+    up: bool,
+    output: usize,
+    told: Told,
+    tape: &'a [u8],
+    new: &'a [u8],
 }
 
-// How many bytes the frame at the list's front has, where there is a whole one.
-fn size(list: &[u8]) -> Option<usize>
-    ensures { IfSome result (λ n. (28 ≤ n) × (n ≤ length list.now)) }
-{
-    if list.len() < HEADER {
-        return None;
-    }
-    let n = size_at(list, 0);
-    if n < HEADER || list.len() < n {
-        return None;
-    }
-    Some(n)
-}
-
-fn numbers_of(list: &[u8]) -> Frame
-    requires { 28 ≤ length list.now }
-{
-    Frame {
-        up: number_at(list, 4, 4) == 1,
-        output: size_at(list, 8),
-        tape: size_at(list, 12),
-        refusal: number_at(list, 16, 4),
-        place: number_at(list, 20, 4),
-        value: number_at(list, 24, 4),
-    }
+// What a frame of the list says; none where it is shorter than its numbers and the two tapes.
+fn read(frame: &[u8]) -> Option<Frame<'_>> {
+    let (numbers, rest) = frame.split_first_chunk::<28>()?;
+    let (tape, rest) = rest.split_at_checked(size_at(numbers, 12, 4))?;
+    let (new, _) = rest.split_at_checked(size_at(numbers, 24, 4))?;
+    Some(Frame {
+        up: number_at(numbers, 4, 4) == 1,
+        output: size_at(numbers, 8, 4),
+        told: Told {
+            refusal: number_at(numbers, 16, 4),
+            place: number_at(numbers, 20, 4),
+            value: number_at(numbers, 24, 4),
+        },
+        tape,
+        new,
+    })
 }
 
 // ---- a call
 
 fn call(up: bool, tape: &[u8], out: &mut [u8]) -> Told {
-    tell(if up {
+    Told::from(if up {
         to_2024(tape, out)
     } else {
         to_2018(tape, out)
     })
 }
 
-fn is_told(r: Told, f: Frame) -> bool {
-    r.refusal == f.refusal && r.place == f.place && r.value == f.value
-}
-
-// Whether the output is the new tape, and past that as before.
-fn is_output(out: &[u8], new: &[u8]) -> bool {
-    match out.strip_prefix(new) {
-        Some(behind) => behind.iter().all(|&byte| byte == BEFORE),
-        None => false,
-    }
-}
-
 // Makes a call, and says whether it did what is wanted.
-fn does(f: Frame, tape: &[u8], new: &[u8], out: &mut [u8]) -> bool {
+fn does(f: Frame<'_>, out: &mut [u8]) -> bool {
     let n = f.output;
     if out.len() < n {
         return false;
     }
-    let told = call(f.up, tape, &mut out[..n]);
-    is_told(told, f) && is_output(out, new)
+    let told = call(f.up, f.tape, &mut out[..n]);
+    told == f.told && is_output(out, f.new)
 }
 
 // Whether the call of a frame does what the frame wants.
-fn agrees(frame: &[u8], f: Frame) -> bool
-    requires { 28 ≤ length frame.now }
-{
-    let Some((tape, rest)) = frame[HEADER..].split_at_checked(f.tape) else {
-        return false;
-    };
-    let Some((new, _)) = rest.split_at_checked(size_at(frame, 24)) else {
-        return false;
-    };
-    does(f, tape, new, &mut [BEFORE; ROOM])
+fn agrees(f: Frame<'_>) -> bool {
+    does(f, &mut [MARK; ROOM])
 }
 
 // ---- all calls
 
-// The counts with a frame, if it goes this way.
-fn counted(frame: &[u8], up: bool, counts: Counts) -> Counts
-    requires { (28 ≤ length frame.now) × (counts.calls ≤ 150000) × (counts.differ ≤ counts.calls) }
-    ensures { (result.differ ≤ result.calls) × (result.calls ≤ counts.calls + 1) }
-{
-    let f = numbers_of(frame);
-    if f.up != up {
-        return counts;
-    }
-    let calls = counts.calls + 1;
-    if agrees(frame, f) {
-        Counts { calls, ..counts }
-    } else {
-        Counts {
-            calls,
-            differ: counts.differ + 1,
-        }
-    }
+// Whether the call of a frame does what the frame wants; none where it goes the other way. A frame that cannot be read differs, each way.
+fn does_way(frame: &[u8], up: bool) -> Option<bool> {
+    let Some(f) = read(frame) else {
+        return Some(false);
+    };
+    (f.up == up).then(|| agrees(f))
 }
 
 // Replays the calls that go one way.
 fn replayed(list: &[u8], up: bool) -> Counts
     requires { length list.now ≤ 150000 }
 {
-    let mut left = list;
-    let mut counts = Counts {
-        calls: 0,
-        differ: 0,
-    };
-    while let Some(n) = size(left) {
-        counts = counted(&left[..n], up, counts);
-        left = &left[n..];
-    }
-    counts
+    replays::replayed(list, 4, |frame| does_way(frame, up))
 }
 
+// Kept: in each test program, this and `print_counts`: no clause can say what is printed, and every public function of this repository
+// promises something.
 fn print(s: &[u8]) {
     io::write_all(STDOUT, s);
 }

@@ -9,12 +9,12 @@ use answers::{Answer, Refusal};
 use clean::Told;
 use laborious::laborious;
 use lines::rules::Rules;
-
-// The number of standard output.
-const STDOUT: i32 = 1;
+use replays::{MARK, STDOUT, sum};
 
 const OUT: usize = 59200;
 
+// Kept: in each test program, this and `print_number`: no clause can say what is printed, and every public function of this repository
+// promises something.
 fn print(s: &[u8]) {
     io::write_all(STDOUT, s);
 }
@@ -22,22 +22,6 @@ fn print(s: &[u8]) {
 fn print_number(n: u64) {
     print(b" ");
     io::print_decimal(STDOUT, n);
-}
-
-// One byte more in a sum, which depends on every byte and its place: modulo the largest prime below 2^32.
-fn added(h: u64, byte: u8) -> u64
-    requires { h < 4294967296 }
-    ensures { result < 4294967296 }
-{
-    (h * 65599 + u64::from(byte)) % 4294967291
-}
-
-fn sum(bytes: &[u8]) -> u64 {
-    let mut h = 1;
-    for &byte in bytes {
-        h = added(h, byte);
-    }
-    h
 }
 
 // ---- the first round
@@ -48,7 +32,7 @@ fn print_refusal(refusal: Refusal) {
     print_number(refusal.place);
 }
 
-fn attempts(convention: u8, tape: &[u8]) {
+fn print_attempts(convention: u8, tape: &[u8]) {
     let mut work_a = [0u8; 49152];
     let mut work_b = [0u8; 49152];
     let mut out = [0u8; 59137];
@@ -68,14 +52,19 @@ fn attempts(convention: u8, tape: &[u8]) {
     }
 }
 
-fn rounds(tape: &[u8]) {
+fn print_rounds(tape: &[u8]) {
     print(b", attempts");
     for convention in 0..3 {
-        attempts(convention, tape);
+        print_attempts(convention, tape);
     }
 }
 
 // ---- the call
+
+// The tape of a call that was not refused.
+fn written(answer: Answer, out: &[u8]) -> Option<&[u8]> {
+    out.get(..usize::try_from(answer.ok()?).ok()?)
+}
 
 fn print_answer(answer: Answer, out: &[u8]) {
     match answer {
@@ -87,12 +76,8 @@ fn print_answer(answer: Answer, out: &[u8]) {
     }
     print(b", bytes");
     print_number(sum(out));
-    if let Ok(n) = answer {
-        // Kept: a cast: a `usize` holds 64 bits wherever this is built, and `usize::try_from` is no plainer, since it asks what to
-        // do where it does not.
-        if let Some(tape) = out.get(..n as usize) {
-            rounds(tape);
-        }
+    if let Some(tape) = written(answer, out) {
+        print_rounds(tape);
     }
 }
 
@@ -107,33 +92,33 @@ fn call(n: u64, out: &mut [u8], k: usize)
     print(b"\n");
 }
 
-fn listing(n: u64, k: usize)
+fn print_listing(n: u64, k: usize)
     requires { k ≤ 59200 }
 {
-    let mut out = [170u8; OUT];
+    let mut out = [MARK; OUT];
     call(n, &mut out, k);
 }
 
-fn listings() {
+fn print_listings() {
     for n in 0..300 {
-        listing(n, 59137);
+        print_listing(n, 59137);
     }
 }
 
 fn main() {
-    listings();
-    listing(512, 59137);
-    listing(65536, 59137);
-    listing(4294967295, 59137);
-    listing(4294967296, 59137);
-    listing(4294967552, 59137);
-    listing(18446744073709551615, 59137);
-    listing(0, 59136);
-    listing(0, 0);
-    listing(1, 1);
-    listing(256, 59136);
-    listing(257, 59136);
-    listing(257, 0);
-    listing(0, 59200);
-    listing(256, 59200);
+    print_listings();
+    print_listing(512, 59137);
+    print_listing(65536, 59137);
+    print_listing(4294967295, 59137);
+    print_listing(4294967296, 59137);
+    print_listing(4294967552, 59137);
+    print_listing(18446744073709551615, 59137);
+    print_listing(0, 59136);
+    print_listing(0, 0);
+    print_listing(1, 1);
+    print_listing(256, 59136);
+    print_listing(257, 59136);
+    print_listing(257, 0);
+    print_listing(0, 59200);
+    print_listing(256, 59200);
 }

@@ -3,11 +3,11 @@ use Prim.Native.Nat.{ℕ, ◌+◌, ◌≤◌, ◌<◌}
 use native.Mathlib.Omega.{arith}
 use mathlib.Core.Path.{◌≡◌, refl, sym, ap, ◌∙◌}
 use mathlib.Core.Bool.{Bool, true, false}
-use mathlib.Core.List.{[], ◌∷◌, ◌++◌, append_assoc}
+use mathlib.Core.List.{[], ◌∷◌, append_assoc}
 use mathlib.Core.Option.{Option, none, some}
 use lib.Dec.{eqb}
 use lib.IntN.{ℤ, ◌+ℤ◌, ◌-ℤ◌}
-use lib.ListN.{length, take, length-append, length-take}
+use lib.ListN.{length, take, length-take}
 use lib.Seq.{take-length, take-append_seam}
 use Rattle.reference.specs.Control.{not, ◌and◌, ◌or◌, when◌then◌else◌, let_some◌else◌then◌}
 use Rattle.reference.specs.Text.{Text, bytes, ◌≟◌, has}
@@ -19,9 +19,10 @@ use Rattle.laws.proofs.Scans.{if-true, if-false}
 use Rattle.names.specs.Families.{row_name, Spells}
 use Rattle.names.specs.Volatile.{name_numbered, number_of}
 use Rattle.names.specs.declared.families.Spelled.{Spelled}
-use Rattle.names.specs.declared.families.Spelled.TheVariants.{Row, Front, Nothing}
+use Rattle.names.specs.declared.families.Spelled.TheVariants.{Row, Front}
 use Rattle.names.proofs.Searches.{all-below, below_at}
-use Rattle.names.proofs.Volatiles.{row_overwritten, text_overwritten}
+use Rattle.names.proofs.Texts.{same_true}
+use Rattle.names.proofs.Volatiles.{row_overwritten, number_in, text_overwritten}
 use Rattle.std.specs.Prelude as std
 use Rattle.text.specs.declared.cursor.Cursor.{Cursor}
 use Rattle.text.specs.Cursor.{Written, Fits, Puts}
@@ -29,8 +30,11 @@ use Rattle.text.proofs.Cursors.{puts_as, then_puts, room_left}
 use Rattle.printing.specs.Decimals.{decimal}
 use Rattle.test_leaves.specs.Fields.{before, behind, behind_words, lines}
 use Rattle.test_leaves.specs.Answers.{register, family_answer, value, combined, fold_answer, convention, overwrites, yes_no, answer_to, answer, expected, differing}
+use Rattle.test_leaves.specs.Questions.{word_of, one_operand, Asks}
+use Rattle.test_leaves.specs.declared.asking.Question.{Question}
+use Rattle.test_leaves.specs.declared.asking.Question.TheVariants as question
+use Rattle.replays.specs.declared.Counts.{Counts}
 use Rattle.test_leaves.proofs.Separators.{before-length, behind-length, next_line}
-use Rattle.printing.proofs.Decimals.{decimal-length}
 use Rattle.std.specs.Prelude.{Some, None}
 use Rattle.reference.specs.Options.{option_of}
 
@@ -57,35 +61,45 @@ pub row-length : (row : ℕ) → row < 8 → length (row_name row) ≡ 3
 unfolding three-bytes all-below ◌and◌
 row-length row h = same_number (below_at 8 three-bytes row refl h)
 
-module _ (s : Text) {r : Spelled} (h : Spells s (family s) r) where
-  pub row_in : {row width lowest : ℕ} → r ≡ Row row width lowest → row < 8
+module _ (s : Text) {r : std.Option Spelled} (h : Spells s (family s) r) where
+  pub row_in : {row width lowest : ℕ} → r ≡ Some (Row row width lowest) → row < 8
   row_in e = rw e at h.sound
 
-  pub front_in : {n width : ℕ} → r ≡ Front n width → n ≤ length s
+  pub front_in : {n width : ℕ} → r ≡ Some (Front n width) → n ≤ length s
   front_in e = (rw e at h.sound).0
 
-  pub answers-row : {row width lowest : ℕ} → r ≡ Row row width lowest → family_answer s ≡ register (row_name row) width
+  pub answers-row : {row width lowest : ℕ} → r ≡ Some (Row row width lowest) → family_answer s ≡ register (row_name row) width
   unfolding family_answer let_some◌else◌then◌
   answers-row e = rw (← h.is, e)
 
-  pub answers-front : {n width : ℕ} → r ≡ Front n width → family_answer s ≡ register (take n s) width
+  pub answers-front : {n width : ℕ} → r ≡ Some (Front n width) → family_answer s ≡ register (take n s) width
   unfolding family_answer let_some◌else◌then◌
   answers-front e = rw (← h.is, e)
 
-  pub answers_none : r ≡ Nothing → family_answer s ≡ bytes "none"
+  pub answers_none : r ≡ None → family_answer s ≡ bytes "none"
   unfolding family_answer let_some◌else◌then◌
   answers_none e = rw (← h.is, e)
 
   module _ (c : ℕ) where
-    pub overwrites-row : {row width lowest : ℕ} → r ≡ Row row width lowest → has (volatile_of c) (name_numbered row) ≡ overwrites c s
+    pub overwrites-row : {row width lowest : ℕ} → r ≡ Some (Row row width lowest) → has (volatile_of c) (name_numbered row) ≡ overwrites c s
     unfolding overwrites let_some◌else◌then◌
     overwrites-row {row} e = row_overwritten c row (row_in e) ∙ rw (← h.is, e)
 
-    pub overwrites-front : {n width : ℕ} → r ≡ Front n width → has (volatile_of c) (name_numbered (number_of (take n s))) ≡ overwrites c s
-    unfolding overwrites let_some◌else◌then◌
-    overwrites-front {n} e = text_overwritten c (take n s) (rw e at h.sound).1 ∙ rw (← h.is, e)
+    -- a front, whose name has a number or none
+    module _ {n width : ℕ} (e : r ≡ Some (Front n width)) where
+      front_overwritten : number_in (volatile_of c) (take n s) ≡ overwrites c s
+      unfolding overwrites let_some◌else◌then◌
+      front_overwritten = text_overwritten c (take n s) (rw e at h.sound).1 ∙ rw (← h.is, e)
 
-    pub overwrites_none : r ≡ Nothing → false ≡ overwrites c s
+      pub overwrites-numbered : {k : ℕ} → some k ≡ number_of (take n s) → has (volatile_of c) (name_numbered k) ≡ overwrites c s
+      unfolding let_some◌else◌then◌
+      overwrites-numbered f = rw (← f) at front_overwritten
+
+      pub overwrites_unnumbered : none ≡ number_of (take n s) → false ≡ overwrites c s
+      unfolding let_some◌else◌then◌
+      overwrites_unnumbered f = rw (← f) at front_overwritten
+
+    pub overwrites_none : r ≡ None → false ≡ overwrites c s
     unfolding overwrites let_some◌else◌then◌
     overwrites_none e = rw (← h.is, e)
 
@@ -161,41 +175,56 @@ pub says_no : {b : Bool} → b ≡ false → bytes "no" ≡ yes_no b
 unfolding yes_no
 says_no e = sym (if-false _ _ e)
 
--- ---- which question a line asks
+-- ---- which question a word asks
 
-module _ (q a b : Text) where
-  pub asks_family : (q ≟ bytes "family") ≡ true → family_answer a ≡ answer_to q a b
-  unfolding answer_to
-  asks_family e = sym (if-true _ _ e)
+-- the answer that a question has
+abbrev pub answer_of : Question → Text → Text → Text
+answer_of question.Family a b = family_answer a
+answer_of question.Number a b = value (parse_c_number a)
+answer_of question.Sum a b = value (combined false a b)
+answer_of question.Difference a b = value (combined true a b)
+answer_of question.Volatile a b = yes_no (overwrites (convention a) b)
+answer_of question.Constant a b = value (read_number 1 a)
 
-  module _ (n₁ : (q ≟ bytes "family") ≡ false) where
-    pub asks_number : (q ≟ bytes "number") ≡ true → value (parse_c_number a) ≡ answer_to q a b
-    unfolding answer_to
-    asks_number e = sym (if-false _ _ n₁ ∙ if-true _ _ e)
+module _ (word : Text) where
+  module _ (a b : Text) where
+    answers_by : (q : Question) → (word ≟ word_of q) ≡ true → answer_of q a b ≡ answer_to word a b
+    unfolding answer_to when◌then◌else◌ ◌and◌
+    answers_by question.Family e = rw (same_true word _ e)
+    answers_by question.Number e = rw (same_true word _ e)
+    answers_by question.Sum e = rw (same_true word _ e) (sum_folds a b)
+    answers_by question.Difference e = rw (same_true word _ e) (difference_folds a b)
+    answers_by question.Volatile e = rw (same_true word _ e)
+    answers_by question.Constant e = rw (same_true word _ e)
 
-    module _ (n₂ : (q ≟ bytes "number") ≡ false) where
-      pub asks_sum : (q ≟ bytes "sum") ≡ true → value (combined false a b) ≡ answer_to q a b
-      unfolding answer_to
-      asks_sum e = sum_folds a b ∙ sym (if-false _ _ n₁ ∙ if-false _ _ n₂ ∙ if-true _ _ e)
+  operands_by : (q : Question) → (word ≟ word_of q) ≡ true → one_operand q ≡ ((word ≟ bytes "family") or (word ≟ bytes "number") or (word ≟ bytes "constant"))
+  unfolding ◌or◌ ◌and◌
+  operands_by question.Family e = rw (same_true word _ e)
+  operands_by question.Number e = rw (same_true word _ e)
+  operands_by question.Sum e = rw (same_true word _ e)
+  operands_by question.Difference e = rw (same_true word _ e)
+  operands_by question.Volatile e = rw (same_true word _ e)
+  operands_by question.Constant e = rw (same_true word _ e)
 
-      module _ (n₃ : (q ≟ bytes "sum") ≡ false) where
-        pub asks_difference : (q ≟ bytes "difference") ≡ true → value (combined true a b) ≡ answer_to q a b
-        unfolding answer_to
-        asks_difference e = difference_folds a b ∙ sym (if-false _ _ n₁ ∙ if-false _ _ n₂ ∙ if-false _ _ n₃ ∙ if-true _ _ e)
+  module _ {r : std.Option Question} (h : Asks word r) where
+    module _ (a b : Text) where
+      pub answers_word : {q : Question} → r ≡ Some q → answer_of q a b ≡ answer_to word a b
+      answers_word {q} e = answers_by a b q (rw e at h)
 
-        module _ (n₄ : (q ≟ bytes "difference") ≡ false) where
-          pub asks_volatile : (q ≟ bytes "volatile") ≡ true → yes_no (overwrites (convention a) b) ≡ answer_to q a b
-          unfolding answer_to
-          asks_volatile e = sym (if-false _ _ n₁ ∙ if-false _ _ n₂ ∙ if-false _ _ n₃ ∙ if-false _ _ n₄ ∙ if-true _ _ e)
+      pub answers_no_word : r ≡ None → bytes "no such question" ≡ answer_to word a b
+      unfolding answer_to when◌then◌else◌
+      answers_no_word e =
+          let n : (q : Question) → (word ≟ word_of q) ≡ false = rw e at h in
+          rw (n question.Family, n question.Number, n question.Sum, n question.Difference, n question.Volatile, n question.Constant)
 
-          module _ (n₅ : (q ≟ bytes "volatile") ≡ false) where
-            pub asks_constant : (q ≟ bytes "constant") ≡ true → value (read_number 1 a) ≡ answer_to q a b
-            unfolding answer_to
-            asks_constant e = sym (if-false _ _ n₁ ∙ if-false _ _ n₂ ∙ if-false _ _ n₃ ∙ if-false _ _ n₄ ∙ if-false _ _ n₅ ∙ if-true _ _ e)
+    pub operands_word : {q : Question} → r ≡ Some q → one_operand q ≡ ((word ≟ bytes "family") or (word ≟ bytes "number") or (word ≟ bytes "constant"))
+    operands_word {q} e = operands_by q (rw e at h)
 
-            pub asks_nothing : (q ≟ bytes "constant") ≡ false → bytes "no such question" ≡ answer_to q a b
-            unfolding answer_to
-            asks_nothing e = sym (if-false _ _ n₁ ∙ if-false _ _ n₂ ∙ if-false _ _ n₃ ∙ if-false _ _ n₄ ∙ if-false _ _ n₅ ∙ if-false _ _ e)
+    pub operands_no_word : r ≡ None → false ≡ ((word ≟ bytes "family") or (word ≟ bytes "number") or (word ≟ bytes "constant"))
+    unfolding ◌or◌
+    operands_no_word e =
+        let n : (q : Question) → (word ≟ word_of q) ≡ false = rw e at h in
+        rw (n question.Family, n question.Number, n question.Constant)
 
 -- ---- the answer on a line: q, w and v are its question, and what stands behind the first word and the second
 
@@ -253,10 +282,18 @@ module _ (s : Text) (h : 0 < length s) {line rest : Text} (e : line ≡ before s
   one_line = ap length split ∙ omega arith
 
   module _ {b : Bool} (g : b ≡ (expected line ≟ answer line)) where
-    pub line_agrees : b ≡ true → differing s ≡ differing rest
+    line_agrees : b ≡ true → differing s ≡ differing rest
     unfolding differing not when◌then◌else◌
     line_agrees k = rw (split, sym g ∙ k)
 
-    pub line_differs : b ≡ false → differing s ≡ 1 + differing rest
+    line_differs : b ≡ false → differing s ≡ 1 + differing rest
     unfolding differing not when◌then◌else◌
     line_differs k = rw (split, sym g ∙ k) (omega arith)
+
+  -- the line in the counts
+  pub line_counted : (b : Bool) → b ≡ (expected line ≟ answer line) → (n : Counts) → {m : Counts}
+      → m ≡ (when b then record { calls = n.calls + 1; differ = n.differ } else record { calls = n.calls + 1; differ = n.differ + 1 })
+      → m.differ + differing rest ≡ n.differ + differing s
+  unfolding when◌then◌else◌
+  line_counted true g n w = rw (ap (λ (m : Counts). m.differ) w, line_agrees g refl)
+  line_counted false g n w = rw (ap (λ (m : Counts). m.differ) w, line_differs g refl) (omega arith)

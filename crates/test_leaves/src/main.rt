@@ -3,7 +3,7 @@
 // differ. Input past 65,536 bytes is not read.
 #![tactic(auto)]
 
-mod answers; // the questions, and what this repository answers
+mod asking; // the questions, and what this repository answers
 mod fields; // parts of a text between separators
 
 ghost use Rattle.std.specs.Prelude.{◌≡◌, ◌+◌, ◌≤◌, length};
@@ -11,14 +11,11 @@ ghost use Rattle.reference.specs.Text.{◌≟◌};
 ghost use Rattle.test_leaves.specs.Fields.{lines};
 ghost use Rattle.test_leaves.specs.Answers.{answer, expected, differing};
 
-use answers::{expected, put_answer};
-use fields::{before, behind};
+use asking::{expected, put_answer};
+use fields::before;
+use replays::{Counts, STDIN, STDOUT};
 
-// The numbers of standard input and output.
-const STDIN: i32 = 0;
-
-const STDOUT: i32 = 1;
-
+// Kept: in each test program: no clause can say what is printed, and every public function of this repository promises something.
 fn print(s: &[u8]) {
     io::write_all(STDOUT, s);
 }
@@ -40,35 +37,25 @@ fn agrees(line: &[u8], out: &mut [u8]) -> bool
 }
 
 // How many lines there are, and how many of them differ.
-#[derive(Clone, Copy)]
-struct Tally {
-    lines: u64,
-    differing: u64,
-}
-
-fn compared(input: &[u8], out: &mut [u8]) -> Tally
-    requires { length input.now + 24 ≤ length out.old }
-    ensures { (result.lines ≡ length (lines input.now)) × (result.differing ≡ differing input.now) }
+fn compared(input: &[u8], out: &mut [u8]) -> Counts
+    requires has_room { length input.now + 24 ≤ length out.old }
+    requires bound { length input.now ≤ 65536 }
+    ensures { (result.calls ≡ length (lines input.now)) × (result.differ ≡ differing input.now) }
 {
-    let mut left = input;
-    let mut lines = 0;
-    let mut differing = 0;
-    // Kept: a loop while something is left: `split` gives an empty line more behind a last line feed, and a `while let` is no plainer,
-    // since it takes a function more, which answers the first line and the rest as a pair.
-    while !left.is_empty() {
-        if !agrees(before(left, b'\n'), out) {
-            differing += 1;
-        }
-        lines += 1;
-        left = behind(left, b'\n');
+    let mut counts = Counts {
+        calls: 0,
+        differ: 0,
+    };
+    for line in input.split_inclusive(|&byte| byte == b'\n') {
+        counts = counts.with(agrees(before(line, b'\n'), out));
     }
-    Tally { lines, differing }
+    counts
 }
 
-fn report(tally: Tally) {
-    io::print_decimal(STDOUT, tally.lines);
+fn report(counts: Counts) {
+    io::print_decimal(STDOUT, counts.calls);
     print(b" vectors, ");
-    io::print_decimal(STDOUT, tally.differing);
+    io::print_decimal(STDOUT, counts.differ);
     print(b" differ\n");
 }
 

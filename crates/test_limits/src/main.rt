@@ -3,8 +3,13 @@
 // the answers of the Rust behind the same questions.
 #![tactic(auto)]
 
-// The number of standard output.
-const STDOUT: i32 = 1;
+use replays::STDOUT;
+
+// The command of a line of indent 0.
+const LINE: [u8; 2] = [0x02, 0x00];
+
+// A token `f`.
+const TOKEN: [u8; 4] = [0x10, 0x01, 0x00, 0x66];
 
 // The example of document 01: `rax = f();` `return;`.
 const EXAMPLE: [u8; 40] = [
@@ -33,6 +38,8 @@ const TOKEN_24: [u8; 27] = [
 
 // ---- answers
 
+// Kept: in each test program, this and `write_number`: no clause can say what is printed, and every public function of this repository
+// promises something.
 fn write(s: &[u8]) {
     io::write_all(STDOUT, s);
 }
@@ -43,6 +50,8 @@ fn write_number(n: usize) {
 }
 
 // Writes the answer to a tape.
+// Kept: the refusal in its two numbers: to print it by its `Display` takes the runtime and gives a `Result`, which every function here
+// would be passed and would pass on.
 fn answer(tape: &[u8]) {
     match tape::check::<false>(tape) {
         Ok(_) => write(b": accepted\n"),
@@ -56,54 +65,78 @@ fn answer(tape: &[u8]) {
     }
 }
 
-// Writes the answer to the first n bytes.
-fn answer_first(tape: &[u8], n: usize) {
-    if n <= tape.len() {
-        answer(&tape[..n]);
-    }
-}
-
 // ---- tapes
 
-// Puts bytes behind the first `at`, if there is room, and says where they end.
-fn append(buffer: &mut [u8], at: usize, part: &[u8]) -> usize {
-    if buffer.len() < at || buffer.len() - at < part.len() {
-        return at;
+// The longest tape that is built.
+const LONGEST: usize = 65536;
+
+// A tape that is built command by command.
+#[derive(Drop)]
+struct Tape {
+    bytes: [u8; LONGEST],
+    length: usize, // how many of the bytes are written
+}
+
+impl Tape {
+    // Begins a tape.
+    fn with(first: &[u8]) -> Tape {
+        let mut tape = Tape {
+            bytes: [0; LONGEST],
+            length: 0,
+        };
+        tape.put(first);
+        tape
     }
-    let end = at + part.len();
-    buffer[at..end].copy_from_slice(part);
-    end
-}
 
-fn append_times(buffer: &mut [u8], at: usize, part: &[u8], times: usize) -> usize {
-    let mut to = at;
-    for _ in 0..times {
-        to = append(buffer, to, part);
+    // Puts bytes behind those that are written; none where there is no room.
+    // Kept: beside `put` of text's `Cursor`: that one asks its caller for the room that is looked for here, so that each function below
+    // would ask for a bound on its numbers.
+    fn put(&mut self, part: &[u8]) {
+        let Some(behind) = self.bytes.get_mut(self.length..) else {
+            return;
+        };
+        let Some(room) = behind.get_mut(..part.len()) else {
+            return;
+        };
+        room.copy_from_slice(part);
+        self.length += part.len();
     }
-    to
-}
 
-// A line with one token, of a command's kind, whose text is a byte many times.
-fn append_token(buffer: &mut [u8], command: u8, byte: u8, times: usize) -> usize {
-    let [low, high, ..] = times.to_le_bytes();
-    let n = append(buffer, 0, &[0x02, 0x00, command, low, high]);
-    append_times(buffer, n, &[byte], times)
-}
+    fn put_times(&mut self, part: &[u8], times: usize) {
+        for _ in 0..times {
+            self.put(part);
+        }
+    }
 
-fn answer_token(buffer: &mut [u8], command: u8, byte: u8, times: usize) {
-    let n = append_token(buffer, command, byte, times);
-    let n = append(buffer, n, &[0xFF]);
-    answer_first(buffer, n);
+    // Puts a token, of a command's kind, whose text is a byte many times.
+    fn put_token(&mut self, command: u8, byte: u8, times: usize) {
+        let [low, high, ..] = times.to_le_bytes();
+        self.put(&[command, low, high]);
+        self.put_times(&[byte], times);
+    }
+
+    // Writes the answer to the tape as it is.
+    fn answer(&self) {
+        if let Some(tape) = self.bytes.get(..self.length) {
+            answer(tape);
+        }
+    }
+
+    // Ends the tape, and writes the answer to it.
+    fn finish(&mut self) {
+        self.put(&[0xFF]);
+        self.answer();
+    }
 }
 
 // ---- limits
 
-fn lines(buffer: &mut [u8], count: usize) {
+fn lines(count: usize) {
     write_number(count);
     write(b" lines");
-    let n = append_times(buffer, 0, &[0x02, 0x00], count);
-    let n = append(buffer, n, &[0xFF]);
-    answer_first(buffer, n);
+    let mut tape = Tape::with(&[]);
+    tape.put_times(&LINE, count);
+    tape.finish();
 }
 
 fn indent(depth: u8) {
@@ -112,34 +145,38 @@ fn indent(depth: u8) {
     answer(&[0x02, depth, 0xFF]);
 }
 
-fn tokens(buffer: &mut [u8], count: usize) {
+fn tokens(count: usize) {
     write_number(count);
     write(b" tokens");
-    let n = append(buffer, 0, &[0x02, 0x00]);
-    let n = append_times(buffer, n, &[0x10, 0x01, 0x00, 0x66], count);
-    let n = append(buffer, n, &[0xFF]);
-    answer_first(buffer, n);
+    let mut tape = Tape::with(&LINE);
+    tape.put_times(&TOKEN, count);
+    tape.finish();
 }
 
-fn text_bytes(buffer: &mut [u8], count: usize) {
+fn text_bytes(count: usize) {
     write_number(count);
     write(b" bytes of text");
-    answer_token(buffer, 0x10, b'a', count);
+    let mut tape = Tape::with(&LINE);
+    tape.put_token(0x10, b'a', count);
+    tape.finish();
 }
 
 // The bytes of all texts count, not those of each.
-fn text_in_two(buffer: &mut [u8], count: usize) {
+fn text_in_two(count: usize) {
     write_number(count);
     write(b" bytes of text and 1 more");
-    let n = append_token(buffer, 0x10, b'a', count);
-    let n = append(buffer, n, &[0x10, 0x01, 0x00, 0x66, 0xFF]);
-    answer_first(buffer, n);
+    let mut tape = Tape::with(&LINE);
+    tape.put_token(0x10, b'a', count);
+    tape.put(&TOKEN);
+    tape.finish();
 }
 
-fn number(buffer: &mut [u8], count: usize) {
+fn number(count: usize) {
     write(b"Number of ");
     write_number(count);
-    answer_token(buffer, 0x12, b'5', count);
+    let mut tape = Tape::with(&LINE);
+    tape.put_token(0x12, b'5', count);
+    tape.finish();
 }
 
 fn byte(b: u8) {
@@ -174,101 +211,95 @@ fn refusals() {
 // ---- marks
 
 // A line with a 03 from `low` to `high`.
-fn span(buffer: &mut [u8], low: u8, high: u8) {
+fn span(low: u8, high: u8) {
     write(b"03 from ");
     write_number(usize::from(low));
     write(b" to ");
     write_number(usize::from(high));
-    let n = append(buffer, 0, &[0x02, 0x00, 0x03, low]);
-    let n = append_times(buffer, n, &[0x00], 7);
-    let n = append(buffer, n, &[high]);
-    let n = append_times(buffer, n, &[0x00], 7);
-    let n = append(buffer, n, &[0xFF]);
-    answer_first(buffer, n);
+    let mut tape = Tape::with(&LINE);
+    tape.put(&[0x03]);
+    tape.put(&u64::from(low).to_le_bytes());
+    tape.put(&u64::from(high).to_le_bytes());
+    tape.finish();
 }
 
 // So many 03s after a line's command.
-fn marks(buffer: &mut [u8], count: usize) {
+fn marks(count: usize) {
     write_number(count);
     write(b" times 03");
-    let n = append(buffer, 0, &[0x02, 0x00]);
-    let n = append_times(buffer, n, &MARKS, count);
-    let n = append(buffer, n, &[0xFF]);
-    answer_first(buffer, n);
+    let mut tape = Tape::with(&LINE);
+    tape.put_times(&MARKS, count);
+    tape.finish();
 }
 
 // A tape with a 03 put in after its first n bytes.
-fn marks_after(buffer: &mut [u8], tape: &[u8], n: usize) {
-    if tape.len() < n {
+fn marks_after(tape: &[u8], n: usize) {
+    let Some((front, behind)) = tape.split_at_checked(n) else {
         return;
-    }
+    };
     write(b"example, 03 after ");
     write_number(n);
     write(b" bytes");
-    let to = append(buffer, 0, &tape[..n]);
-    let to = append(buffer, to, &MARKS);
-    let to = append(buffer, to, &tape[n..]);
-    answer_first(buffer, to);
+    let mut tape = Tape::with(front);
+    tape.put(&MARKS);
+    tape.put(behind);
+    tape.answer();
 }
 
 // A tape with a 03 put in, at every offset in turn.
-fn marks_everywhere(buffer: &mut [u8], tape: &[u8]) {
+fn marks_everywhere(tape: &[u8]) {
     for n in 0..=tape.len() {
-        marks_after(buffer, tape, n);
+        marks_after(tape, n);
     }
 }
 
 // ---- two limits passed by one command, and the place of 7
 
-// Ends the tape behind the first n bytes with one command more.
-fn answer_last(buffer: &mut [u8], n: usize, last: &[u8]) {
-    let n = append(buffer, n, last);
-    let n = append(buffer, n, &[0xFF]);
-    answer_first(buffer, n);
-}
-
-fn line_257(buffer: &mut [u8], indent: u8) {
+fn line_257(indent: u8) {
     write(b"line 257, indent ");
     write_number(usize::from(indent));
-    let n = append_times(buffer, 0, &[0x02, 0x00], 256);
-    answer_last(buffer, n, &[0x02, indent]);
+    let mut tape = Tape::with(&[]);
+    tape.put_times(&LINE, 256);
+    tape.put(&[0x02, indent]);
+    tape.finish();
 }
 
 // A line with 1,024 tokens, all alike, then one more.
-fn token_1025(buffer: &mut [u8], token: &[u8], last: &[u8]) {
-    let n = append(buffer, 0, &[0x02, 0x00]);
-    let n = append_times(buffer, n, token, 1024);
-    answer_last(buffer, n, last);
+fn token_1025(token: &[u8], last: &[u8]) {
+    let mut tape = Tape::with(&LINE);
+    tape.put_times(token, 1024);
+    tape.put(last);
+    tape.finish();
 }
 
 // A line with a text of 24,576 bytes, then a token of a command's kind whose text is a byte many times.
-fn past_text(buffer: &mut [u8], command: u8, byte: u8, times: u8) {
-    let n = append_token(buffer, 0x10, b'a', 24576);
-    let n = append(buffer, n, &[command, times, 0x00]);
-    let n = append_times(buffer, n, &[byte], usize::from(times));
-    answer_last(buffer, n, &[]);
+fn past_text(command: u8, byte: u8, times: usize) {
+    let mut tape = Tape::with(&LINE);
+    tape.put_token(0x10, b'a', 24576);
+    tape.put_token(command, byte, times);
+    tape.finish();
 }
 
-fn last_tokens(buffer: &mut [u8]) {
+fn last_tokens() {
     write(b"token 1025, empty");
-    token_1025(buffer, &[0x10, 0x01, 0x00, 0x66], &[0x10, 0x00, 0x00]);
+    token_1025(&TOKEN, &[0x10, 0x00, 0x00]);
     write(b"token 1025, not printable");
-    token_1025(buffer, &[0x10, 0x01, 0x00, 0x66], &[0x10, 0x01, 0x00, 0x07]);
+    token_1025(&TOKEN, &[0x10, 0x01, 0x00, 0x07]);
     write(b"token 1025, past the text");
-    token_1025(buffer, &TOKEN_24, &[0x10, 0x01, 0x00, 0x66]);
+    token_1025(&TOKEN_24, &TOKEN);
     write(b"token 1025, past the text, a Number of 25");
-    token_1025(buffer, &TOKEN_24, b"\x12\x19\x005555555555555555555555555");
+    token_1025(&TOKEN_24, b"\x12\x19\x005555555555555555555555555");
 }
 
-fn last_texts(buffer: &mut [u8]) {
+fn last_texts() {
     write(b"past the text, a Number of 24");
-    past_text(buffer, 0x12, b'5', 24);
+    past_text(0x12, b'5', 24);
     write(b"past the text, a Number of 25");
-    past_text(buffer, 0x12, b'5', 25);
+    past_text(0x12, b'5', 25);
     write(b"past the text, not printable");
-    past_text(buffer, 0x10, 0x07, 1);
+    past_text(0x10, 0x07, 1);
     write(b"past the text, empty");
-    past_text(buffer, 0x10, 0x07, 0);
+    past_text(0x10, 0x07, 0);
 }
 
 fn first_offending() {
@@ -287,11 +318,14 @@ fn first_offending() {
 // ---- truncations
 
 fn truncation(what: &[u8], tape: &[u8], n: usize) {
+    let Some(front) = tape.get(..n) else {
+        return;
+    };
     write(what);
     write(b", ");
     write_number(n);
     write(b" bytes");
-    answer_first(tape, n);
+    answer(front);
 }
 
 // Every truncation of a tape, and the whole.
@@ -302,35 +336,34 @@ fn truncations(what: &[u8], tape: &[u8]) {
 }
 
 fn main() {
-    let mut buffer = [0u8; 65536];
-    lines(&mut buffer, 256);
-    lines(&mut buffer, 257);
+    lines(256);
+    lines(257);
     indent(63);
     indent(64);
-    tokens(&mut buffer, 1024);
-    tokens(&mut buffer, 1025);
-    text_bytes(&mut buffer, 24576);
-    text_bytes(&mut buffer, 24577);
-    text_in_two(&mut buffer, 24575);
-    text_in_two(&mut buffer, 24576);
-    number(&mut buffer, 24);
-    number(&mut buffer, 25);
+    tokens(1024);
+    tokens(1025);
+    text_bytes(24576);
+    text_bytes(24577);
+    text_in_two(24575);
+    text_in_two(24576);
+    number(24);
+    number(25);
     byte(0x1F);
     byte(0x20);
     byte(0x7E);
     byte(0x7F);
     refusals();
-    line_257(&mut buffer, 63);
-    line_257(&mut buffer, 64);
-    last_tokens(&mut buffer);
-    last_texts(&mut buffer);
+    line_257(63);
+    line_257(64);
+    last_tokens();
+    last_texts();
     first_offending();
     truncations(b"example", &EXAMPLE);
-    span(&mut buffer, 0, 0);
-    span(&mut buffer, 16, 32);
-    span(&mut buffer, 32, 16);
-    marks(&mut buffer, 1);
-    marks(&mut buffer, 2);
-    marks_everywhere(&mut buffer, &EXAMPLE);
+    span(0, 0);
+    span(16, 32);
+    span(32, 16);
+    marks(1);
+    marks(2);
+    marks_everywhere(&EXAMPLE);
     truncations(b"marked", &MARKED);
 }

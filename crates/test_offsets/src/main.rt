@@ -9,32 +9,25 @@
 ghost use Rattle.std.specs.Prelude.{◌+◌, ◌≤◌, ◌<◌, length};
 ghost use Rattle.std.specs.Option.{IfSome};
 
-use answers::{Told, tell};
+use answers::Told;
+use replays::{Counts, MARK, STDIN, STDOUT, is_output, size_at};
 use tape::little_endian::number_at;
-
-// The numbers of standard input and output.
-const STDIN: i32 = 0;
-
-const STDOUT: i32 = 1;
 
 // The longest list that is read.
 const LONGEST: usize = 150000;
 
-// What is lent is a part of this many bytes, and every byte of it has the mark's value before the call.
+// What is lent is a part of this many bytes, and every byte of it is the mark before the call.
 const LONG_OUT: usize = 59200;
 
-const MARK: u8 = 170;
-
-const HEADER: usize = 64;
-
-// How many calls there were each way, and how many differ.
+// The calls there, and the calls back.
 #[derive(Clone, Copy, Debug, PartialEq, Eq)]
-struct Counts {
-    there: u64,
-    back: u64,
-    differ: u64,
+struct Ways {
+    there: Counts,
+    back: Counts,
 }
 
+// Kept: in each test program, this and `print_number`: no clause can say what is printed, and every public function of this repository
+// promises something.
 fn print(s: &[u8]) {
     io::write_all(STDOUT, s);
 }
@@ -45,86 +38,54 @@ fn print_number(n: u64) {
 
 // ---- a frame
 
-// The numbers of a frame.
 #[derive(Clone, Copy, Debug, PartialEq, Eq)]
-struct Frame {
+struct Frame<'a> {
     there: bool,
     base: u64,
     output: usize,
-    refusal: u64,
-    place: u64,
-    value: u64,
-    tape: usize,
-    wanted: usize,
+    told: Told,
+    tape: &'a [u8],
+    wanted: &'a [u8],
 }
 
-// A number that is a length.
-fn size_at(list: &[u8], at: usize) -> usize
-    requires { at + 8 ≤ length list.now }
+// The frame at the list's front, where there is a whole one, and what lies behind it.
+fn first(list: &[u8]) -> Option<(Frame<'_>, &[u8])>
+    ensures { IfSome result (λ r. length r.1.now < length list.now) }
 {
-    // Kept: a cast: a `usize` holds 64 bits wherever this is built, and `usize::try_from` is no plainer, since it asks what to do where it
-    // does not.
-    number_at(list, at, 8) as usize
-}
-
-fn numbers_of(list: &[u8]) -> Frame
-    requires { 64 ≤ length list.now }
-{
-    Frame {
-        there: number_at(list, 0, 8) == 0,
-        base: number_at(list, 8, 8),
-        output: size_at(list, 16),
-        refusal: number_at(list, 24, 8),
-        place: number_at(list, 32, 8),
-        value: number_at(list, 40, 8),
-        tape: size_at(list, 48),
-        wanted: size_at(list, 56),
-    }
-}
-
-// How many bytes the frame at the list's front has, where there is a whole one.
-fn size(list: &[u8]) -> Option<usize>
-    ensures { IfSome result (λ n. (64 ≤ n) × (n ≤ length list.now)) }
-{
-    if list.len() < HEADER {
-        return None;
-    }
-    let f = numbers_of(list);
-    let left = list.len() - HEADER;
-    if left < f.tape || left - f.tape < f.wanted {
-        return None;
-    }
-    Some(HEADER + f.tape + f.wanted)
+    let (header, rest) = list.split_first_chunk::<64>()?;
+    let (tape, rest) = rest.split_at_checked(size_at(header, 48, 8))?;
+    let (wanted, behind) = rest.split_at_checked(size_at(header, 56, 8))?;
+    let frame = Frame {
+        there: number_at(header, 0, 8) == 0,
+        base: number_at(header, 8, 8),
+        output: size_at(header, 16, 8),
+        told: Told {
+            refusal: number_at(header, 24, 8),
+            place: number_at(header, 32, 8),
+            value: number_at(header, 40, 8),
+        },
+        tape,
+        wanted,
+    };
+    Some((frame, behind))
 }
 
 // ---- one call
 
-fn call(f: Frame, tape: &[u8], out: &mut [u8]) -> Told {
-    tell(if f.there {
-        offsets::to_offsets(f.base, tape, out)
+fn call(f: Frame<'_>, out: &mut [u8]) -> Told {
+    Told::from(if f.there {
+        offsets::to_offsets(f.base, f.tape, out)
     } else {
-        offsets::from_offsets(tape, out)
+        offsets::from_offsets(f.tape, out)
     })
 }
 
-fn is_wanted(told: Told, f: Frame) -> bool {
-    told.refusal == f.refusal && told.place == f.place && told.value == f.value
-}
-
-// Whether the output is the wanted tape, and past that as before.
-fn is_output(out: &[u8], wanted: &[u8]) -> bool {
-    match out.strip_prefix(wanted) {
-        Some(behind) => behind.iter().all(|&byte| byte == MARK),
-        None => false,
-    }
-}
-
-fn is_right(f: Frame, told: Told, out: &[u8], wanted: &[u8]) -> bool {
-    if !is_wanted(told, f) {
+fn is_right(f: Frame<'_>, told: Told, out: &[u8]) -> bool {
+    if told != f.told {
         print(b"another reply\n");
         return false;
     }
-    if !is_output(out, wanted) {
+    if !is_output(out, f.wanted) {
         print(b"another output\n");
         return false;
     }
@@ -132,74 +93,74 @@ fn is_right(f: Frame, told: Told, out: &[u8], wanted: &[u8]) -> bool {
 }
 
 // Makes a call, and says whether it did what is wanted.
-fn does(f: Frame, tape: &[u8], wanted: &[u8], out: &mut [u8]) -> bool {
+fn does(f: Frame<'_>, out: &mut [u8]) -> bool {
     let n = f.output;
     if out.len() < n {
         return false;
     }
-    let told = call(f, tape, &mut out[..n]);
-    is_right(f, told, out, wanted)
+    let told = call(f, &mut out[..n]);
+    is_right(f, told, out)
 }
 
-fn agrees(frame: &[u8], f: Frame) -> bool
-    requires { 64 ≤ length frame.now }
-{
-    let Some((tape, wanted)) = frame[HEADER..].split_at_checked(f.tape) else {
-        return false;
-    };
-    does(f, tape, wanted, &mut [MARK; LONG_OUT])
+fn agrees(f: Frame<'_>) -> bool {
+    does(f, &mut [MARK; LONG_OUT])
 }
 
 // ---- the list
 
-// 1 where the condition holds.
-fn one_if(b: bool) -> u64
-    ensures { result ≤ 1 }
-{
-    if b { 1 } else { 0 }
-}
-
 // The counts with a frame.
-fn counted(frame: &[u8], counts: Counts) -> Counts
-    requires { (64 ≤ length frame.now) × (counts.there < 150000) × (counts.back < 150000) × (counts.differ < 150000) }
-    ensures { (result.there ≤ counts.there + 1) × (result.back ≤ counts.back + 1) × (result.differ ≤ counts.differ + 1) }
+fn counted(f: Frame<'_>, ways: Ways) -> Ways
+    requires there { (ways.there.calls ≤ 150000) × (ways.there.differ ≤ ways.there.calls) }
+    requires back { (ways.back.calls ≤ 150000) × (ways.back.differ ≤ ways.back.calls) }
+    ensures there { (result.there.calls ≤ ways.there.calls + 1) × (result.there.differ ≤ result.there.calls) }
+    ensures back { (result.back.calls ≤ ways.back.calls + 1) × (result.back.differ ≤ result.back.calls) }
 {
-    let f = numbers_of(frame);
-    let right = agrees(frame, f);
-    Counts {
-        there: counts.there + one_if(f.there),
-        back: counts.back + one_if(!f.there),
-        differ: counts.differ + one_if(!right),
+    let right = agrees(f);
+    if f.there {
+        Ways {
+            there: ways.there.with(right),
+            back: ways.back,
+        }
+    } else {
+        Ways {
+            there: ways.there,
+            back: ways.back.with(right),
+        }
     }
 }
 
-fn replayed(list: &[u8]) -> Counts
+// Kept: a loop of its own beside that of crate replays, which is for frames that begin with their length: those of this list do not.
+fn replayed(list: &[u8]) -> Ways
     requires { length list.now ≤ 150000 }
+    ensures there { (result.there.calls ≤ 150000) × (result.there.differ ≤ result.there.calls) }
+    ensures back { (result.back.calls ≤ 150000) × (result.back.differ ≤ result.back.calls) }
 {
-    let mut left = list;
-    let mut counts = Counts {
-        there: 0,
-        back: 0,
+    let none = Counts {
+        calls: 0,
         differ: 0,
     };
-    while let Some(n) = size(left) {
-        counts = counted(&left[..n], counts);
-        left = &left[n..];
+    let mut left = list;
+    let mut ways = Ways {
+        there: none,
+        back: none,
+    };
+    while let Some((frame, behind)) = first(left) {
+        ways = counted(frame, ways);
+        left = behind;
     }
-    counts
+    ways
 }
 
-fn run(list: &[u8]) {
-    if LONGEST < list.len() {
-        return;
-    }
-    let counts = replayed(list);
+fn run(list: &[u8])
+    requires { length list.now ≤ 150000 }
+{
+    let Ways { there, back } = replayed(list);
     print(b"to offsets: ");
-    print_number(counts.there);
+    print_number(there.calls);
     print(b" calls\nfrom offsets: ");
-    print_number(counts.back);
+    print_number(back.calls);
     print(b" calls\n");
-    print_number(counts.differ);
+    print_number(there.differ + back.differ);
     print(b" differ\n");
 }
 

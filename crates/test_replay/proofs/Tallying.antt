@@ -12,7 +12,7 @@ use Rattle.laws.proofs.Parts.{to_end}
 use Rattle.laws.proofs.Scans.{if-true, if-false}
 use Rattle.test_replay.specs.Frames.{number_in, frame_size}
 use Rattle.test_replay.specs.Tallies.{agrees_marked, counted, tally}
-use Rattle.test_replay.specs.declared.Counts.{Counts}
+use Rattle.replays.specs.declared.Counts.{Counts}
 use Rattle.test_replay.proofs.Framing.{cut_off}
 
 -- ---- one frame
@@ -22,14 +22,15 @@ module _ (list : List ℕ) (class : ℕ) (n : Counts) where
   unfolding counted
   other_class h = sym (if-false _ _ (ne_eqb _ _ h))
 
-  module _ (same : number_in list 0 ≡ class) {b : Bool} (e : b ≡ agrees_marked list) where
-    pub agreeing : b ≡ true → record { tapes = n.tapes + 1; differ = n.differ } ≡ counted list class n
-    unfolding counted
-    agreeing t = sym (if-true _ _ (eq-eqb _ _ same) ∙ if-true _ _ (sym e ∙ t))
+  in_class : number_in list 0 ≡ class → (when agrees_marked list then record { calls = n.calls + 1; differ = n.differ } else record
+      { calls = n.calls + 1; differ = n.differ + 1 }) ≡ counted list class n
+  unfolding counted
+  in_class same = sym (if-true _ _ (eq-eqb _ _ same))
 
-    pub differing : b ≡ false → record { tapes = n.tapes + 1; differ = n.differ + 1 } ≡ counted list class n
-    unfolding counted
-    differing f = sym (if-true _ _ (eq-eqb _ _ same) ∙ if-false _ _ (sym e ∙ f))
+  pub one_more : number_in list 0 ≡ class → {b : Bool} → b ≡ agrees_marked list → {m : Counts}
+      → m ≡ (when b then record { calls = n.calls + 1; differ = n.differ } else record { calls = n.calls + 1; differ = n.differ + 1 })
+      → m ≡ counted list class n
+  one_more same e h = (rw e at h) ∙ in_class same
 
 -- ---- all frames
 

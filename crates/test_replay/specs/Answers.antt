@@ -5,6 +5,7 @@ use Rattle.reference.specs.Control.{◌and◌, when◌then◌else◌}
 use Rattle.reference.specs.Text.{◌≟◌}
 use Rattle.reference.specs.Rules.{Rules}
 use Rattle.reference.specs.Reply.{Reply, Told, Report, reply, report, output_after, work_after}
+use Rattle.puchkewa.specs.declared.export.Report.{Report as Wanted}
 use Rattle.test_replay.specs.Frames.{number_in, tape_in, output_in}
 
 -- a number of the frame is this one
@@ -24,6 +25,22 @@ are_rounds list rounds attempts = is_number list 14 rounds and is_number list 15
 
 abbrev pub are_told : List ℕ → Told → ℕ → Bool
 are_told list t removed = are_counts list t.first t.second t.third removed and are_rounds list t.rounds t.attempts
+
+-- the report that the frame wants, as the C interface has it
+abbrev pub wanted_in : List ℕ → Wanted
+wanted_in list =
+    record {
+      refusal = number_in list 6;
+      place = number_in list 7;
+      length = number_in list 8;
+      attempts_1 = number_in list 9;
+      attempts_2 = number_in list 10;
+      attempts_3 = number_in list 11;
+      removed = number_in list 12;
+      cut = number_in list 13;
+      rounds = number_in list 14;
+      attempts = number_in list 15;
+    }
 
 -- the report is the one that the frame wants
 abbrev pub is_wanted : List ℕ → Report → Bool

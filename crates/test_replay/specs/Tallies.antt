@@ -3,7 +3,7 @@ use Rattle.std.specs.Prelude.{ℕ, zero, suc, ◌+◌, Bool, List, eqb, length, 
 use Rattle.reference.specs.Control.{when◌then◌else◌}
 use Rattle.test_replay.specs.Frames.{number_in, frame_size}
 use Rattle.test_replay.specs.Answers.{agrees}
-use Rattle.test_replay.specs.declared.Counts.{Counts}
+use Rattle.replays.specs.declared.Counts.{Counts}
 
 -- the call of the frame at the list's front does what the frame wants, every lent byte having been 170
 abbrev pub agrees_marked : List ℕ → Bool
@@ -13,8 +13,8 @@ agrees_marked list = agrees list (replicate 65600 170) (replicate 65600 170) (re
 unfoldable pub counted : List ℕ → ℕ → Counts → Counts
 counted list class n =
     when eqb (number_in list 0) class then
-    (when agrees_marked list then record { tapes = n.tapes + 1; differ = n.differ } else record
-    { tapes = n.tapes + 1; differ = n.differ + 1 })
+    (when agrees_marked list then record { calls = n.calls + 1; differ = n.differ } else record
+    { calls = n.calls + 1; differ = n.differ + 1 })
     else n
 
 -- the counts with all frames of the list. `fuel` bounds them: a frame has a byte or more.
@@ -25,4 +25,4 @@ tally (suc fuel) list class n =
     when eqb (frame_size list) 0 then n else more
 
 abbrev pub replayed : List ℕ → ℕ → Counts
-replayed list class = tally (length list) list class (record { tapes = 0; differ = 0 })
+replayed list class = tally (length list) list class (record { calls = 0; differ = 0 })

@@ -1,28 +1,25 @@
 // One call, and whether it did what its frame wants: the report, and every byte that was lent.
-ghost use Rattle.std.specs.Prelude.{◌≡◌, ◌+◌, ◌*◌, ◌≤◌, length, replicate};
+ghost use Rattle.std.specs.Prelude.{◌≡◌, ◌≤◌, length, replicate};
 ghost use Rattle.reference.specs.Text.{◌≟◌};
 ghost use Rattle.lines.specs.Rules.{rules_of};
-ghost use Rattle.clean.specs.Replies.{told_of, report_of};
-ghost use Rattle.test_replay.specs.Frames.{Whole};
-ghost use Rattle.test_replay.specs.Answers.{is_number, is_report, are_counts, are_rounds, are_told, is_wanted};
+ghost use Rattle.clean.specs.Replies.{report_of};
+ghost use Rattle.test_replay.specs.Answers.{is_wanted, wanted_in};
 ghost use Rattle.test_replay.specs.Answers.{work_wanted, out_wanted};
 ghost use Rattle.test_replay.specs.Answers.{all_right, is_right, rules_in, agrees};
 
 use crate::frames::{
-    ATTEMPTS, CUT, FIRST, LENGTH, OUT, PLACE, REFUSAL, REMOVED, ROUNDS, SECOND, SETTINGS, THIRD,
-    WORK_A, WORK_B, number, output_of, size_at, tape_of,
+    ATTEMPTS, CUT, FIRST, Frame, LENGTH, OUT, PLACE, REFUSAL, REMOVED, ROUNDS, SECOND, SETTINGS,
+    THIRD, WORK_A, WORK_B, number, output_of, size_at, tape_of,
 };
+use crate::print;
 use answers::Refusal;
-use clean::{Finished, Tally, Told};
+use clean::Finished;
 use lines::rules::Rules;
-use text::{copy_bytes, same, wipe};
+use puchkewa::Report;
+use replays::MARK;
+use text::same;
 
-// The number of standard output.
-const STDOUT: i32 = 1;
-
-// What is lent is longer than a call asks for, and every byte of it has this value before the call.
-const MARK: u8 = 170;
-
+// What is lent is longer than a call asks for, and every byte of it is the mark before the call.
 const LONG_WORK: usize = 65600;
 
 const LONG_OUT: usize = 59200;
@@ -30,108 +27,62 @@ const LONG_OUT: usize = 59200;
 // How many bytes of a work area a finished call leaves zero.
 const WORK: usize = 49152;
 
-fn print(s: &[u8]) {
-    io::write_all(STDOUT, s);
-}
-
 // ---- the report
 
-// Whether a number of the frame is n.
-fn is_number(list: &[u8], k: usize, n: u64) -> bool
-    requires { 4 * k + 4 ≤ length list.now }
-    ensures { result ≡ is_number list.now k n }
+// The report that the frame wants.
+fn wanted(frame: &Frame<'_>) -> Report
+    ensures { result ≡ wanted_in frame.now.list.now }
 {
-    number(list, k) == n
-}
-
-fn is_report(list: &[u8], refusal: u64, place: u64, length: u64, cut: u64) -> bool
-    requires { Whole list.now }
-    ensures { result ≡ is_report list.now refusal place length cut }
-{
-    is_number(list, REFUSAL, refusal)
-        && (is_number(list, PLACE, place)
-            && (is_number(list, LENGTH, length) && is_number(list, CUT, cut)))
-}
-
-fn are_counts(list: &[u8], first: u64, second: u64, third: u64, removed: u64) -> bool
-    requires { Whole list.now }
-    ensures { result ≡ are_counts list.now first second third removed }
-{
-    is_number(list, FIRST, first)
-        && (is_number(list, SECOND, second)
-            && (is_number(list, THIRD, third) && is_number(list, REMOVED, removed)))
-}
-
-fn are_rounds(list: &[u8], rounds: u64, attempts: u64) -> bool
-    requires { Whole list.now }
-    ensures { result ≡ are_rounds list.now rounds attempts }
-{
-    is_number(list, ROUNDS, rounds) && is_number(list, ATTEMPTS, attempts)
-}
-
-// Whether the counts of a finished call are those that the frame wants.
-fn are_told(list: &[u8], t: Told, removed: u64) -> bool
-    requires { Whole list.now }
-    ensures { result ≡ are_told list.now (told_of t) removed }
-{
-    are_counts(list, t.first, t.second, t.third, removed) && are_rounds(list, t.rounds, t.attempts)
+    Report {
+        refusal: number(frame.list, REFUSAL),
+        place: number(frame.list, PLACE),
+        length: number(frame.list, LENGTH),
+        attempts_1: number(frame.list, FIRST),
+        attempts_2: number(frame.list, SECOND),
+        attempts_3: number(frame.list, THIRD),
+        removed: number(frame.list, REMOVED),
+        cut: number(frame.list, CUT),
+        rounds: number(frame.list, ROUNDS),
+        attempts: number(frame.list, ATTEMPTS),
+    }
 }
 
 // Whether a reply is the one that the frame wants.
-fn is_wanted(list: &[u8], r: Result<Finished, Refusal>) -> bool
-    requires { Whole list.now }
-    ensures { result ≡ is_wanted list.now (report_of r) }
+fn is_wanted(frame: &Frame<'_>, r: Result<Finished, Refusal>) -> bool
+    ensures { result ≡ is_wanted frame.now.list.now (report_of r) }
 {
-    match r {
-        Err(refusal) => {
-            let none = Tally::Three {
-                first: 0,
-                second: 0,
-                third: 0,
-            };
-            is_report(list, refusal.reason.number(), refusal.place, 0, 0)
-                && are_told(list, Told::from(none), 0)
-        }
-        Ok(f) => {
-            // Kept: a cast: 64 bits hold every `usize`, and `u64::try_from` is no plainer, since it asks what to do where they do not.
-            is_report(list, 0, 0, f.length as u64, f.cut)
-                && are_told(list, Told::from(f.tally), f.removed)
-        }
-    }
+    wanted(frame) == Report::from(r)
 }
 
 // ---- the lent bytes
 
 // Puts what a work area holds afterwards in the place of what it held.
-fn want_work(list: &[u8], area: &mut [u8])
-    requires whole { Whole list.now }
-    requires in_bounds { 49152 ≤ length area.old }
-    ensures { area.new ≡ work_wanted list.now area.old }
+fn want_work(frame: &Frame<'_>, area: &mut [u8])
+    requires { 49152 ≤ length area.old }
+    ensures { area.new ≡ work_wanted frame.now.list.now area.old }
 {
-    if is_number(list, REFUSAL, 0) {
-        wipe(area, WORK);
+    if number(frame.list, REFUSAL) == 0 {
+        area[..WORK].fill(0);
     }
 }
 
 // Puts what the output holds afterwards in the place of what it held.
-fn want_out(list: &[u8], out: &mut [u8])
-    requires { Whole list.now }
-    ensures { out.new ≡ out_wanted list.now out.old }
+fn want_out(frame: &Frame<'_>, out: &mut [u8])
+    ensures { out.new ≡ out_wanted frame.now.list.now out.old }
 {
-    let wanted = output_of(list);
+    let wanted = output_of(frame);
     if wanted.len() <= out.len() {
-        copy_bytes(wanted, out, 0);
+        out[..wanted.len()].copy_from_slice(wanted);
     }
 }
 
 // ---- the call
 
 // Whether the reply is right; says so where it is not.
-fn reply_right(list: &[u8], r: Result<Finished, Refusal>) -> bool
-    requires { Whole list.now }
-    ensures { result ≡ is_wanted list.now (report_of r) }
+fn reply_right(frame: &Frame<'_>, r: Result<Finished, Refusal>) -> bool
+    ensures { result ≡ is_wanted frame.now.list.now (report_of r) }
 {
-    let right = is_wanted(list, r);
+    let right = is_wanted(frame, r);
     if !right {
         print(b"another reply\n");
     }
@@ -150,8 +101,10 @@ fn part_right(part: &[u8], wanted: &[u8], what: &[u8]) -> bool
 }
 
 // Whether the reply is right and each part is as wanted.
+// Kept: here and below the lent parts stand side by side, as in `clean`, which has the C interface's order: with a struct of them each
+// contract would name the same parts as its fields, and the call would take it apart again: no plainer.
 fn all_right<'a>(
-    list: &'a [u8],
+    frame: &'a Frame<'a>,
     r: Result<Finished, Refusal>,
     work_a: &'a [u8],
     work_b: &'a [u8],
@@ -159,10 +112,9 @@ fn all_right<'a>(
     work: &'a [u8],
     written: &'a [u8],
 ) -> bool
-    requires { Whole list.now }
-    ensures { result ≡ all_right list.now (report_of r) work_a.now work_b.now out.now work.now written.now }
+    ensures { result ≡ all_right frame.now.list.now (report_of r) work_a.now work_b.now out.now work.now written.now }
 {
-    reply_right(list, r)
+    reply_right(frame, r)
         && (part_right(work_a, work, b"another first work area\n")
             && (part_right(work_b, work, b"another second work area\n")
                 && part_right(out, written, b"another output\n")))
@@ -170,46 +122,43 @@ fn all_right<'a>(
 
 // Whether a reply and the lent parts are as wanted, what is wanted being made from parts that hold the mark everywhere.
 fn is_right<'a>(
-    list: &'a [u8],
+    frame: &'a Frame<'a>,
     r: Result<Finished, Refusal>,
     work_a: &'a [u8],
     work_b: &'a [u8],
     out: &'a [u8],
 ) -> bool
-    requires { Whole list.now }
-    ensures { result ≡ is_right list.now (report_of r) work_a.now work_b.now out.now }
+    ensures { result ≡ is_right frame.now.list.now (report_of r) work_a.now work_b.now out.now }
 {
     let mut work = [MARK; LONG_WORK];
     let mut written = [MARK; LONG_OUT];
-    want_work(list, &mut work);
-    want_out(list, &mut written);
-    all_right(list, r, work_a, work_b, out, &work, &written)
+    want_work(frame, &mut work);
+    want_out(frame, &mut written);
+    all_right(frame, r, work_a, work_b, out, &work, &written)
 }
 
 // The settings of the call.
-fn settings(list: &[u8]) -> Rules
-    requires { Whole list.now }
-    ensures { rules_of result ≡ rules_in list.now }
+fn settings(frame: &Frame<'_>) -> Rules
+    ensures { rules_of result ≡ rules_in frame.now.list.now }
 {
-    let n = number(list, SETTINGS);
-    // Kept: casts: a remainder of 256 fits in a byte, and `u8::try_from` is no plainer, since it asks what to do where it does not.
+    let n = number(frame.list, SETTINGS);
+    let [convention, _, edition, ..] = n.to_le_bytes();
     Rules {
-        convention: (n % 256) as u8,
+        convention,
         settle: n / 256 % 2 == 1,
-        edition: (n / 65536 % 256) as u8,
+        edition,
         parts: n / 512 % 2 == 1,
         profile: n / 1024 % 2 == 1,
     }
 }
 
 // Makes the call in lent bytes that all have the mark's value, and says whether all is as wanted.
-fn agrees_in(list: &[u8], work_a: &mut [u8], work_b: &mut [u8], out: &mut [u8]) -> bool
-    requires { Whole list.now }
-    ensures { result ≡ agrees list.now work_a.old work_b.old out.old }
+fn agrees_in(frame: &Frame<'_>, work_a: &mut [u8], work_b: &mut [u8], out: &mut [u8]) -> bool
+    ensures { result ≡ agrees frame.now.list.now work_a.old work_b.old out.old }
 {
-    let a = size_at(list, WORK_A);
-    let b = size_at(list, WORK_B);
-    let o = size_at(list, OUT);
+    let a = size_at(frame.list, WORK_A);
+    let b = size_at(frame.list, WORK_B);
+    let o = size_at(frame.list, OUT);
     if work_a.len() < a {
         return false;
     }
@@ -219,24 +168,23 @@ fn agrees_in(list: &[u8], work_a: &mut [u8], work_b: &mut [u8], out: &mut [u8]) 
     if out.len() < o {
         return false;
     }
-    let rules = settings(list);
+    let rules = settings(frame);
     let r = clean::clean(
         rules,
-        tape_of(list),
+        tape_of(frame),
         &mut work_a[..a],
         &mut work_b[..b],
         &mut out[..o],
     );
-    is_right(list, r, work_a, work_b, out)
+    is_right(frame, r, work_a, work_b, out)
 }
 
 // Makes the call of the frame at the list's front.
-pub fn agrees_marked(list: &[u8]) -> bool
-    requires { Whole list.now }
-    ensures { result ≡ agrees list.now (replicate 65600 170) (replicate 65600 170) (replicate 59200 170) }
+pub fn agrees_marked(frame: &Frame<'_>) -> bool
+    ensures { result ≡ agrees frame.now.list.now (replicate 65600 170) (replicate 65600 170) (replicate 59200 170) }
 {
     let mut work_a = [MARK; LONG_WORK];
     let mut work_b = [MARK; LONG_WORK];
     let mut out = [MARK; LONG_OUT];
-    agrees_in(list, &mut work_a, &mut work_b, &mut out)
+    agrees_in(frame, &mut work_a, &mut work_b, &mut out)
 }

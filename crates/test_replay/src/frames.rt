@@ -19,7 +19,7 @@ pub const WORK_B: usize = 3;
 
 pub const OUT: usize = 4;
 
-pub const TAPE: usize = 5;
+const TAPE: usize = 5;
 
 pub const REFUSAL: usize = 6;
 
@@ -43,6 +43,13 @@ pub const ATTEMPTS: usize = 15;
 
 const HEADER: usize = 64;
 
+// A list whose frame at the front is whole.
+#[derive(Clone, Copy)]
+pub struct Frame<'a> {
+    pub list: &'a [u8],
+    pub ghost whole: { Whole list.now },
+}
+
 // A number of the frame at the list's front.
 pub fn number(list: &[u8], k: usize) -> u64
     requires { 4 * k + 4 ≤ length list.now }
@@ -56,9 +63,7 @@ pub fn size_at(list: &[u8], k: usize) -> usize
     requires { 4 * k + 4 ≤ length list.now }
     ensures { result ≡ number_in list.now k }
 {
-    // Kept: a cast: a `usize` holds four bytes wherever this is built, and `usize::try_from` is no plainer, since it asks what to do where
-    // it does not.
-    number(list, k) as usize
+    replays::size_at(list, 4 * k, 4)
 }
 
 // How many bytes the frame at the list's front has, where there is a whole one.
@@ -80,19 +85,17 @@ pub fn size(list: &[u8]) -> Option<usize>
     Some(HEADER + tape + out)
 }
 
-// The tape of the frame at the list's front.
-pub fn tape_of(list: &[u8]) -> &[u8]
-    requires { Whole list.now }
-    ensures { result.now ≡ tape_in list.now }
+// The frame's tape.
+pub fn tape_of<'a>(frame: &Frame<'a>) -> &'a [u8]
+    ensures { result.now ≡ tape_in frame.now.list.now }
 {
-    text_of(list, HEADER, size_at(list, TAPE))
+    text_of(frame.list, HEADER, size_at(frame.list, TAPE))
 }
 
 // The output that it wants.
-pub fn output_of(list: &[u8]) -> &[u8]
-    requires { Whole list.now }
-    ensures { result.now ≡ output_in list.now }
+pub fn output_of<'a>(frame: &Frame<'a>) -> &'a [u8]
+    ensures { result.now ≡ output_in frame.now.list.now }
 {
-    let tape = size_at(list, TAPE);
-    text_of(list, HEADER + tape, size_at(list, LENGTH))
+    let tape = size_at(frame.list, TAPE);
+    text_of(frame.list, HEADER + tape, size_at(frame.list, LENGTH))
 }

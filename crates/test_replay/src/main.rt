@@ -7,42 +7,33 @@ mod calls; // one call
 mod frames; // the list
 
 ghost use Rattle.std.specs.Prelude.{◌≡◌, ◌+◌, ◌≤◌, length};
-ghost use Rattle.test_replay.specs.Frames.{Whole};
 ghost use Rattle.test_replay.specs.Tallies.{counted, replayed};
 
 use calls::agrees_marked;
-use frames::{CLASS, number, size};
-
-// The numbers of standard input and output.
-const STDIN: i32 = 0;
-
-const STDOUT: i32 = 1;
+use frames::{CLASS, Frame, number, size};
+use replays::{Counts, STDIN, STDOUT};
 
 // The longest list that is read.
 const LONGEST: usize = 650000;
 
-// The classes of calls, by number.
-const CLASSES: [&[u8]; 12] = [
-    b"realistic: ",
-    b"one detail of the Rust: ",
-    b"unusual tokens: ",
-    b"much text in the areas: ",
-    b"at the limits: ",
-    b"damaged: ",
-    b"refused before the tape: ",
-    b"settling: ",
-    b"marks: ",
-    b"editions: ",
-    b"parts: ",
-    b"straight pieces: ",
+// The classes of calls: number and name.
+const CLASSES: [(u64, &[u8]); 12] = [
+    (0, b"realistic: "),
+    (1, b"one detail of the Rust: "),
+    (2, b"unusual tokens: "),
+    (3, b"much text in the areas: "),
+    (4, b"at the limits: "),
+    (5, b"damaged: "),
+    (6, b"refused before the tape: "),
+    (7, b"settling: "),
+    (8, b"marks: "),
+    (9, b"editions: "),
+    (10, b"parts: "),
+    (11, b"straight pieces: "),
 ];
 
-#[derive(Clone, Copy, Debug, PartialEq, Eq)]
-struct Counts {
-    tapes: u64,
-    differ: u64,
-}
-
+// Kept: in each test program, this, `print_number` and `print_counts`: no clause can say what is printed, and every public function of
+// this repository promises something.
 fn print(s: &[u8]) {
     io::write_all(STDOUT, s);
 }
@@ -52,47 +43,39 @@ fn print_number(n: u64) {
 }
 
 fn print_counts(counts: Counts) {
-    print_number(counts.tapes);
+    print_number(counts.calls);
     print(b" tapes, ");
     print_number(counts.differ);
     print(b" differ\n");
 }
 
-// The counts with the frame at the list's front, if it is of the class.
-fn counted(list: &[u8], class: u64, counts: Counts) -> Counts
-    requires whole { Whole list.now }
-    requires tapes_bound { (counts.tapes ≤ 650000) × (counts.differ ≤ counts.tapes) }
-    ensures value { result ≡ counted list.now class counts }
-    ensures differ_le_tapes { (result.differ ≤ result.tapes) × (result.tapes ≤ counts.tapes + 1) }
+// The counts with a frame, if it is of the class.
+fn counted(frame: &Frame<'_>, class: u64, counts: Counts) -> Counts
+    requires { (counts.calls ≤ 650000) × (counts.differ ≤ counts.calls) }
+    ensures value { result ≡ counted frame.now.list.now class counts }
+    ensures differ_le_calls { (result.differ ≤ result.calls) × (result.calls ≤ counts.calls + 1) }
 {
-    if number(list, CLASS) != class {
+    if number(frame.list, CLASS) != class {
         return counts;
     }
-    if agrees_marked(list) {
-        return Counts {
-            tapes: counts.tapes + 1,
-            differ: counts.differ,
-        };
-    }
-    Counts {
-        tapes: counts.tapes + 1,
-        differ: counts.differ + 1,
-    }
+    counts.with(agrees_marked(frame))
 }
 
 // Replays the frames of a class.
+// Kept: a loop of its own beside that of crate replays, which is for frames that begin with their length and promises no value: those of
+// this list do not, and the value is promised here.
 fn replayed(list: &[u8], class: u64) -> Counts
     requires { length list.now ≤ 650000 }
     ensures value { result ≡ replayed list.now class }
-    ensures differ_le_tapes { (result.differ ≤ result.tapes) × (result.tapes ≤ length list.now) }
+    ensures differ_le_calls { (result.differ ≤ result.calls) × (result.calls ≤ length list.now) }
 {
     let mut left = list;
     let mut counts = Counts {
-        tapes: 0,
+        calls: 0,
         differ: 0,
     };
     while let Some(n) = size(left) {
-        counts = counted(left, class, counts);
+        counts = counted(&Frame { list: left }, class, counts);
         left = &left[n..];
     }
     counts
@@ -104,17 +87,15 @@ fn run(list: &[u8]) {
         return;
     }
     let mut sum = Counts {
-        tapes: 0,
+        calls: 0,
         differ: 0,
     };
-    for (class, name) in CLASSES.iter().enumerate() {
-        // Kept: a cast: `enumerate` counts in `usize`, and 64 bits hold it; `u64::try_from` is no plainer, since it asks what to do where
-        // they do not.
-        let counts = replayed(list, class as u64);
+    for &(class, name) in &CLASSES {
+        let counts = replayed(list, class);
         print(name);
         print_counts(counts);
         sum = Counts {
-            tapes: sum.tapes + counts.tapes,
+            calls: sum.calls + counts.calls,
             differ: sum.differ + counts.differ,
         };
     }

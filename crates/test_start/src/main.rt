@@ -7,171 +7,119 @@
 // refusal, place and value; and the lengths of tape, chosen name and list.
 #![tactic(auto)]
 
-ghost use Rattle.std.specs.Prelude.{◌+◌, ◌≤◌, length};
-ghost use Rattle.std.specs.Option.{IfSome};
+ghost use Rattle.std.specs.Prelude.{◌≤◌, length};
 
-use answers::{Told, tell};
+use answers::{Reason, Told};
+use replays::{Counts, STDIN, STDOUT, size_at};
 use start::start_value;
 use tape::little_endian::number_at;
-
-// The numbers of standard input and output.
-const STDIN: i32 = 0;
-
-const STDOUT: i32 = 1;
 
 // The longest list that is read.
 const LONGEST: usize = 150000;
 
-const HEADER: usize = 64;
-
-// Answers are sorted by their refusal, 0 being none; those of the tape's questions are one sort.
-const OTHERS: u64 = 3;
-
-// The numbers of a frame but for its length.
-#[derive(Clone, Copy, Debug, PartialEq, Eq)]
-struct Frame {
-    returned: u64,
-    refusal: u64,
-    place: u64,
-    value: u64,
-    tape: usize,
-    chosen: usize,
-    values: usize,
-}
-
-#[derive(Clone, Copy, Debug, PartialEq, Eq)]
-struct Counts {
-    calls: u64,
-    differ: u64,
-}
-
 // ---- the list
 
-// A number that is a length.
-fn size_at(list: &[u8], at: usize) -> usize
-    requires { at + 8 ≤ length list.now }
-{
-    // Kept: a cast: a `usize` holds 64 bits wherever this is built, and `usize::try_from` is no plainer, since it asks what to do where it
-    // does not.
-    number_at(list, at, 8) as usize
+#[derive(Clone, Copy, Debug, PartialEq, Eq)]
+struct Frame<'a> {
+    returned: u64,
+    told: Told,
+    tape: &'a [u8],
+    chosen: &'a [u8],
+    values: &'a [u8],
 }
 
-// How many bytes the frame at the list's front has, where there is a whole one.
-fn size(list: &[u8]) -> Option<usize>
-    ensures { IfSome result (λ n. (64 ≤ n) × (n ≤ length list.now)) }
-{
-    if list.len() < HEADER {
-        return None;
-    }
-    let n = size_at(list, 0);
-    if n < HEADER || list.len() < n {
-        return None;
-    }
-    Some(n)
-}
-
-fn numbers_of(list: &[u8]) -> Frame
-    requires { 64 ≤ length list.now }
-{
-    Frame {
-        returned: number_at(list, 8, 8),
-        refusal: number_at(list, 16, 8),
-        place: number_at(list, 24, 8),
-        value: number_at(list, 32, 8),
-        tape: size_at(list, 40),
-        chosen: size_at(list, 48),
-        values: size_at(list, 56),
-    }
+// What a frame of the list says; none where it is shorter than its numbers and the three parts behind them.
+fn read(frame: &[u8]) -> Option<Frame<'_>> {
+    let (numbers, rest) = frame.split_first_chunk::<64>()?;
+    let (tape, rest) = rest.split_at_checked(size_at(numbers, 40, 8))?;
+    let (chosen, rest) = rest.split_at_checked(size_at(numbers, 48, 8))?;
+    let (values, _) = rest.split_at_checked(size_at(numbers, 56, 8))?;
+    Some(Frame {
+        returned: number_at(numbers, 8, 8),
+        told: Told {
+            refusal: number_at(numbers, 16, 8),
+            place: number_at(numbers, 24, 8),
+            value: number_at(numbers, 32, 8),
+        },
+        tape,
+        chosen,
+        values,
+    })
 }
 
 // ---- a call
 
-fn is_told(r: Told, f: Frame) -> bool {
-    r.refusal == f.refusal && r.place == f.place && r.value == f.value
-}
-
 // Whether the call of a frame answers what the frame wants.
-fn agrees(frame: &[u8], f: Frame) -> bool
-    requires { 64 ≤ length frame.now }
-{
-    let Some((tape, rest)) = frame[HEADER..].split_at_checked(f.tape) else {
-        return false;
-    };
-    let Some((chosen, rest)) = rest.split_at_checked(f.chosen) else {
-        return false;
-    };
-    let Some((values, _)) = rest.split_at_checked(f.values) else {
-        return false;
-    };
-    is_told(tell(start_value(tape, chosen, values, f.returned)), f)
+fn agrees(f: Frame<'_>) -> bool {
+    Told::from(start_value(f.tape, f.chosen, f.values, f.returned)) == f.told
 }
 
 // ---- all calls
 
-fn sort_of(refusal: u64) -> u64 {
-    match refusal {
-        0 | 14 | 15 | 16 => refusal,
-        _ => OTHERS,
+// Answers by their refusal; those of the tape's questions are one sort.
+#[derive(Clone, Copy, Debug, PartialEq, Eq)]
+enum Sort {
+    StartValue,
+    NoneWorks,
+    Names,
+    NoStraightPiece,
+    Others,
+}
+
+// The sort of the answers with a refusal of this number, 0 being none.
+fn sort_of(refusal: u64) -> Sort {
+    if refusal == 0 {
+        return Sort::StartValue;
+    }
+    match Reason::try_from(refusal) {
+        Ok(Reason::OutsideProfile) => Sort::NoStraightPiece,
+        Ok(Reason::NoStartValue) => Sort::NoneWorks,
+        Ok(Reason::NoRegister) => Sort::Names,
+        _ => Sort::Others,
     }
 }
 
-// The counts with a frame, if its answer is of the sort.
-fn counted(frame: &[u8], sort: u64, counts: Counts) -> Counts
-    requires { (64 ≤ length frame.now) × (counts.calls ≤ 150000) × (counts.differ ≤ counts.calls) }
-    ensures { (result.differ ≤ result.calls) × (result.calls ≤ counts.calls + 1) }
-{
-    let f = numbers_of(frame);
-    if sort_of(f.refusal) != sort {
-        return counts;
-    }
-    let calls = counts.calls + 1;
-    if agrees(frame, f) {
-        Counts { calls, ..counts }
-    } else {
-        Counts {
-            calls,
-            differ: counts.differ + 1,
-        }
-    }
+// Whether the call of a frame answers what the frame wants; none where the wanted answer is of another sort. A frame that cannot be read
+// differs, in each sort.
+fn does_sort(frame: &[u8], sort: Sort) -> Option<bool> {
+    let Some(f) = read(frame) else {
+        return Some(false);
+    };
+    (sort_of(f.told.refusal) == sort).then(|| agrees(f))
 }
 
-// Replays the calls whose answer is of a sort.
-fn replayed(list: &[u8], sort: u64) -> Counts
+// Replays the calls whose wanted answer is of a sort.
+fn replayed(list: &[u8], sort: Sort) -> Counts
     requires { length list.now ≤ 150000 }
 {
-    let mut left = list;
-    let mut counts = Counts {
-        calls: 0,
-        differ: 0,
-    };
-    while let Some(n) = size(left) {
-        counts = counted(&left[..n], sort, counts);
-        left = &left[n..];
-    }
-    counts
+    replays::replayed(list, 8, |frame| does_sort(frame, sort))
 }
 
+// Kept: in each test program, this and `print_counts`: no clause can say what is printed, and every public function of this repository
+// promises something.
 fn print(s: &[u8]) {
     io::write_all(STDOUT, s);
 }
 
-fn print_counts(sort: &[u8], counts: Counts) {
-    print(sort);
+fn print_counts(what: &[u8], counts: Counts) {
+    print(what);
     io::print_decimal(STDOUT, counts.calls);
     print(b" calls, ");
     io::print_decimal(STDOUT, counts.differ);
     print(b" differ\n");
 }
 
-fn run(list: &[u8]) {
-    if LONGEST < list.len() {
-        return;
-    }
-    print_counts(b"a start value: ", replayed(list, 0));
-    print_counts(b"none works, 15: ", replayed(list, 15));
-    print_counts(b"names, 16: ", replayed(list, 16));
-    print_counts(b"no straight piece, 14: ", replayed(list, 14));
-    print_counts(b"the tape's questions: ", replayed(list, OTHERS));
+fn run(list: &[u8])
+    requires { length list.now ≤ 150000 }
+{
+    print_counts(b"a start value: ", replayed(list, Sort::StartValue));
+    print_counts(b"none works, 15: ", replayed(list, Sort::NoneWorks));
+    print_counts(b"names, 16: ", replayed(list, Sort::Names));
+    print_counts(
+        b"no straight piece, 14: ",
+        replayed(list, Sort::NoStraightPiece),
+    );
+    print_counts(b"the tape's questions: ", replayed(list, Sort::Others));
 }
 
 fn main() {

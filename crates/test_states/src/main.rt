@@ -16,13 +16,9 @@
 ghost use Rattle.std.specs.Prelude.{◌+◌, ◌≤◌, ◌<◌, length};
 ghost use Rattle.std.specs.Option.{IfSome};
 
-use answers::{Answer, tell};
+use answers::{Answer, Told};
+use replays::{MARK, STDIN, STDOUT, size_at, sum};
 use tape::little_endian::number_at;
-
-// The numbers of standard input and output.
-const STDIN: i32 = 0;
-
-const STDOUT: i32 = 1;
 
 // The longest list that is read.
 const LONGEST: usize = 150000;
@@ -32,10 +28,10 @@ const STORE: usize = 524352;
 
 const OUT: usize = 65600;
 
-const HEADER: usize = 20;
-
 // ---- printing
 
+// Kept: in each test program, this and `print_number`: no clause can say what is printed, and every public function of this repository
+// promises something.
 fn print(s: &[u8]) {
     io::write_all(STDOUT, s);
 }
@@ -45,29 +41,13 @@ fn print_number(n: u64) {
     io::print_decimal(STDOUT, n);
 }
 
-// One byte more in a sum, which depends on every byte and its place: modulo the largest prime below 2^32.
-fn added(h: u64, byte: u8) -> u64
-    requires { h < 4294967296 }
-    ensures { result < 4294967296 }
-{
-    (h * 65599 + u64::from(byte)) % 4294967291
-}
-
-fn sum(bytes: &[u8]) -> u64 {
-    let mut h = 1;
-    for &byte in bytes {
-        h = added(h, byte);
-    }
-    h
-}
-
 fn print_size(n: usize) {
     // Kept: a cast: 64 bits hold every `usize`, and `u64::try_from` is no plainer, since it asks what to do where they do not.
     print_number(n as u64);
 }
 
 fn print_answer(what: &[u8], answer: Answer, bytes: &[u8]) {
-    let t = tell(answer);
+    let t = Told::from(answer);
     print(what);
     print_number(t.refusal);
     print_number(t.place);
@@ -86,161 +66,122 @@ enum Kind {
     Save,
     Restore,
     Delete,
-    Nothing,
 }
 
-impl From<u64> for Kind {
-    fn from(number: u64) -> Kind {
-        match number {
-            0 => Kind::Begin,
-            1 => Kind::Damage,
-            2 => Kind::Save,
-            3 => Kind::Restore,
-            4 => Kind::Delete,
-            _ => Kind::Nothing,
-        }
+fn kind_of(number: u64) -> Option<Kind> {
+    match number {
+        0 => Some(Kind::Begin),
+        1 => Some(Kind::Damage),
+        2 => Some(Kind::Save),
+        3 => Some(Kind::Restore),
+        4 => Some(Kind::Delete),
+        _ => None,
     }
 }
 
-fn kind_of(frame: &[u8]) -> Kind
-    requires { 20 ≤ length frame.now }
-{
-    Kind::from(number_at(frame, 0, 4))
+#[derive(Clone, Copy, Debug, PartialEq, Eq)]
+struct Frame<'a> {
+    kind: Option<Kind>,
+    size: usize, // a length or a place
+    name: &'a [u8; 8],
+    bytes: &'a [u8],
 }
 
-// A number that is a length or a place.
-fn size_at(frame: &[u8], at: usize) -> usize
-    requires { at + 4 ≤ length frame.now }
+// The frame at the list's front, where there is a whole one, and what lies behind it.
+fn first(list: &[u8]) -> Option<(Frame<'_>, &[u8])>
+    ensures { IfSome result (λ r. length r.1.now < length list.now) }
 {
-    // Kept: a cast: a `usize` holds four bytes wherever this is built, and `usize::try_from` is no plainer, since it asks what to do where
-    // it does not.
-    number_at(frame, at, 4) as usize
-}
-
-// How many bytes the frame at the list's front has, where the list has a whole frame.
-fn size(list: &[u8]) -> Option<usize>
-    ensures { IfSome result (λ n. (20 ≤ n) × (n ≤ length list.now)) }
-{
-    if list.len() < HEADER {
-        return None;
-    }
-    let n = size_at(list, 8);
-    if list.len() - HEADER < n {
-        return None;
-    }
-    Some(HEADER + n)
-}
-
-fn name_of(frame: &[u8]) -> [u8; 8]
-    requires { 20 ≤ length frame.now }
-{
-    [
-        frame[12], frame[13], frame[14], frame[15], frame[16], frame[17], frame[18], frame[19],
-    ]
-}
-
-fn bytes_of(frame: &[u8]) -> &[u8]
-    requires { 20 ≤ length frame.now }
-{
-    &frame[20..]
+    let (numbers, rest) = list.split_first_chunk::<12>()?;
+    let (name, rest) = rest.split_first_chunk::<8>()?;
+    let (bytes, behind) = rest.split_at_checked(size_at(numbers, 8, 4))?;
+    let frame = Frame {
+        kind: kind_of(number_at(numbers, 0, 4)),
+        size: size_at(numbers, 4, 4),
+        name,
+        bytes,
+    };
+    Some((frame, behind))
 }
 
 // ---- what a frame asks for
 
-fn begin(frame: &[u8], store: &mut [u8], lent: usize)
-    requires { 20 ≤ length frame.now }
-{
-    store.fill(frame[12]);
-    print(b"begin");
-    print_size(lent);
-    print(b"\n");
+// The store, and how many of its bytes a call is lent.
+#[derive(Drop)]
+struct Store<'a> {
+    bytes: &'a mut [u8],
+    lent: usize,
 }
 
-fn damage(frame: &[u8], store: &mut [u8], at: usize)
-    requires { 20 ≤ length frame.now }
-{
-    let bytes = bytes_of(frame);
-    if store.len() < at || store.len() - at < bytes.len() {
-        return;
+impl Store<'_> {
+    fn begin(&mut self, f: Frame<'_>) {
+        self.bytes.fill(f.name[0]);
+        self.lent = f.size;
+        print(b"begin");
+        print_size(f.size);
+        print(b"\n");
     }
-    store[at..at + bytes.len()].copy_from_slice(bytes);
-    print(b"damage");
-    print_size(at);
-    print(b"\n");
-}
 
-fn save(frame: &[u8], store: &mut [u8], lent: usize)
-    requires { (20 ≤ length frame.now) × (lent ≤ length store.old) }
-{
-    let name = name_of(frame);
-    let answer = states::save(&mut store[..lent], &name, bytes_of(frame));
-    print_answer(b"save", answer, store);
-}
-
-// Restores into the first n bytes of the output.
-fn restore(frame: &[u8], store: &[u8], lent: usize, out: &mut [u8], n: usize)
-    requires { (20 ≤ length frame.now) × (lent ≤ length store.now) × (n ≤ length out.old) }
-{
-    let name = name_of(frame);
-    let answer = states::restore(&store[..lent], &name, &mut out[..n]);
-    print_answer(b"restore", answer, out);
-}
-
-fn restore_marked(frame: &[u8], store: &[u8], lent: usize, n: usize)
-    requires { (20 ≤ length frame.now) × (lent ≤ length store.now) }
-{
-    let mut out = [170u8; OUT];
-    if n <= OUT {
-        restore(frame, store, lent, &mut out, n);
+    fn damage(&mut self, f: Frame<'_>) {
+        let at = f.size;
+        let Some(behind) = self.bytes.get_mut(at..) else {
+            return;
+        };
+        let Some(part) = behind.get_mut(..f.bytes.len()) else {
+            return;
+        };
+        part.copy_from_slice(f.bytes);
+        print(b"damage");
+        print_size(at);
+        print(b"\n");
     }
-}
 
-fn delete(frame: &[u8], store: &mut [u8], lent: usize)
-    requires { (20 ≤ length frame.now) × (lent ≤ length store.old) }
-{
-    let name = name_of(frame);
-    let answer = states::delete(&mut store[..lent], &name);
-    print_answer(b"delete", answer, store);
-}
-
-// Makes the call of a frame that asks for one.
-fn call(kind: Kind, frame: &[u8], store: &mut [u8], lent: usize)
-    requires { (20 ≤ length frame.now) × (lent ≤ length store.old) }
-{
-    match kind {
-        Kind::Save => save(frame, store, lent),
-        Kind::Restore => restore_marked(frame, store, lent, size_at(frame, 4)),
-        Kind::Delete => delete(frame, store, lent),
-        Kind::Begin | Kind::Damage | Kind::Nothing => {}
+    fn save(&mut self, f: Frame<'_>) {
+        let Some(part) = self.bytes.get_mut(..self.lent) else {
+            return;
+        };
+        let answer = states::save(part, f.name, f.bytes);
+        print_answer(b"save", answer, self.bytes);
     }
-}
 
-// Does what a frame asks for, so many bytes of the store being lent; says how many are lent from then on.
-fn step(frame: &[u8], store: &mut [u8], lent: usize) -> usize
-    requires { 20 ≤ length frame.now }
-{
-    let n = size_at(frame, 4);
-    match kind_of(frame) {
-        Kind::Begin => {
-            begin(frame, store, n);
-            return n;
-        }
-        Kind::Damage => damage(frame, store, n),
-        kind => {
-            if lent <= store.len() {
-                call(kind, frame, store, lent);
-            }
+    fn restore(&self, f: Frame<'_>) {
+        let mut out = [MARK; OUT];
+        let Some(part) = self.bytes.get(..self.lent) else {
+            return;
+        };
+        let Some(room) = out.get_mut(..f.size) else {
+            return;
+        };
+        let answer = states::restore(part, f.name, room);
+        print_answer(b"restore", answer, &out);
+    }
+
+    fn delete(&mut self, f: Frame<'_>) {
+        let Some(part) = self.bytes.get_mut(..self.lent) else {
+            return;
+        };
+        let answer = states::delete(part, f.name);
+        print_answer(b"delete", answer, self.bytes);
+    }
+
+    // Does what a frame asks for.
+    fn step(&mut self, f: Frame<'_>) {
+        match f.kind {
+            Some(Kind::Begin) => self.begin(f),
+            Some(Kind::Damage) => self.damage(f),
+            Some(Kind::Save) => self.save(f),
+            Some(Kind::Restore) => self.restore(f),
+            Some(Kind::Delete) => self.delete(f),
+            None => {}
         }
     }
-    lent
 }
 
-fn run(list: &[u8], store: &mut [u8]) {
+fn run(list: &[u8], bytes: &mut [u8]) {
     let mut left = list;
-    let mut lent = 0;
-    while let Some(n) = size(left) {
-        lent = step(&left[..n], store, lent);
-        left = &left[n..];
+    let mut store = Store { bytes, lent: 0 };
+    while let Some((frame, behind)) = first(left) {
+        store.step(frame);
+        left = behind;
     }
 }
 

@@ -38,6 +38,7 @@ impl<'a> Cursor<'a> {
     }
 
     // Puts the lowest n bytes of a number, the lowest first.
+    // Kept: a loop: the promise is of any n, and `v.to_le_bytes()[..n]` has no more than eight bytes; a promise is not given up.
     pub fn put_le(&mut self, v: u64, n: usize)
         requires { Fits self.old n }
         ensures { Puts self.old (to_le_bytes n v) self.new }

@@ -1,6 +1,4 @@
-// One function for each literal, or row of literals, that the Rust looks for in a text.
-// Kept: a function for each literal, which calls `same`, `starts`, `ends` or `has_byte` with it: `same(s, b":")` at each place that asks is
-// no plainer, since a byte string in a function with a loop is one variable more in that loop's invariant.
+// Whether one of a row of literals is a text, begins it, ends it or stands in it: the rows that the Rust asks for.
 #![tactic(auto, using(laws::proofs::Std::tests_of_std, crate::proofs::Operators::first_byte))]
 
 ghost use Rattle.std.specs.Prelude.{◌≡◌};
@@ -15,36 +13,6 @@ use crate::trimming::trim_start;
 
 // ---- whole texts
 
-pub fn is_colon(s: &[u8]) -> bool
-    ensures { result ≡ (s.now ≟ bytes ":") }
-{
-    same(s, b":")
-}
-
-pub fn is_comma(s: &[u8]) -> bool
-    ensures { result ≡ (s.now ≟ bytes ",") }
-{
-    same(s, b",")
-}
-
-pub fn is_assign(s: &[u8]) -> bool
-    ensures { result ≡ (s.now ≟ bytes " = ") }
-{
-    same(s, b" = ")
-}
-
-pub fn is_plus(s: &[u8]) -> bool
-    ensures { result ≡ (s.now ≟ bytes " + ") }
-{
-    same(s, b" + ")
-}
-
-pub fn is_minus(s: &[u8]) -> bool
-    ensures { result ≡ (s.now ≟ bytes " - ") }
-{
-    same(s, b" - ")
-}
-
 // The names of a call's result.
 pub fn is_result_name(s: &[u8]) -> bool
     ensures { result ≡ ((s.now ≟ bytes "rax") or (s.now ≟ bytes "eax")) }
@@ -53,63 +21,6 @@ pub fn is_result_name(s: &[u8]) -> bool
 }
 
 // ---- how a text begins
-
-pub fn begins_assign(s: &[u8]) -> bool
-    ensures { result ≡ starts_with s.now (bytes " = ") }
-{
-    starts(s, b" = ")
-}
-
-pub fn begins_equal(s: &[u8]) -> bool
-    ensures { result ≡ starts_with s.now (bytes " ==") }
-{
-    starts(s, b" ==")
-}
-
-pub fn begins_bracket(s: &[u8]) -> bool
-    ensures { result ≡ starts_with s.now (bytes "(") }
-{
-    starts(s, b"(")
-}
-
-// A call through a cast pointer.
-pub fn begins_void(s: &[u8]) -> bool
-    ensures { result ≡ starts_with s.now (bytes "((void") }
-{
-    starts(s, b"((void")
-}
-
-// A read of memory.
-pub fn begins_read(s: &[u8]) -> bool
-    ensures { result ≡ starts_with s.now (bytes "*(") }
-{
-    starts(s, b"*(")
-}
-
-// A stack slot.
-pub fn begins_slot(s: &[u8]) -> bool
-    ensures { result ≡ starts_with s.now (bytes "var_") }
-{
-    starts(s, b"var_")
-}
-
-pub fn begins_hex(s: &[u8]) -> bool
-    ensures { result ≡ starts_with s.now (bytes "0x") }
-{
-    starts(s, b"0x")
-}
-
-pub fn begins_minus(s: &[u8]) -> bool
-    ensures { result ≡ starts_with s.now (bytes "-") }
-{
-    starts(s, b"-")
-}
-
-pub fn begins_plus(s: &[u8]) -> bool
-    ensures { result ≡ starts_with s.now (bytes "+") }
-{
-    starts(s, b"+")
-}
 
 // The operators that write what stands before them, but ` = `.
 pub fn begins_update(s: &[u8]) -> bool
@@ -153,18 +64,6 @@ pub fn delimits_after(s: &[u8]) -> bool
 }
 
 // ---- how a text ends
-
-pub fn ends_semicolon(s: &[u8]) -> bool
-    ensures { result ≡ ends_with s.now (bytes ";") }
-{
-    ends(s, b";")
-}
-
-pub fn ends_ampersand(s: &[u8]) -> bool
-    ensures { result ≡ ends_with s.now (bytes "&") }
-{
-    ends(s, b"&")
-}
 
 // Whether a value that stands after this text has a delimiter before it.
 pub fn delimits_before(s: &[u8]) -> bool

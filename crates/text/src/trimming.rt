@@ -1,4 +1,6 @@
-// A text without the spaces at its edges, as a part of it: `trim_start` and `trim` of Rust's `str`. (A text has no other white space.)
+// A text without the spaces at its edges, as a part of it: `trim_start` and `trim` of Rust's `str`, which drop other white space too. (An
+// accepted tape's texts have none: their bytes are 20 to 7E.)
+// Kept: by hand: std's `trim_ascii` also drops tabs and line feeds, and the definition, which is of any bytes, drops spaces alone.
 #![tactic(auto, using(crate::proofs::Trims::edges))]
 
 ghost use Rattle.std.specs.Prelude.{◌≡◌, reverse, eqb};

@@ -1,5 +1,6 @@
 // The commands of any bytes, one after the other: up to the end, or to the first place where none stands whole; and the listing that they
-// hold (`held`). Crates tallies, page and render go by it: what they count or put of a tape is of the commands that this walk comes to.
+// hold (`held`). Crates tallies, page, render and sources go by `Commands`, and editions by `next_at`: what they ask, count or put of a
+// tape is of the commands that this walk comes to.
 #![tactic(auto)]
 
 ghost use Rattle.std.specs.Prelude.{◌≡◌, true, false, ◌≤◌, length, MatchOption};

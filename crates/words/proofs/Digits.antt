@@ -1,20 +1,17 @@
 -- Digits, and a number read digit by digit: each turn of the loop. Assumes nothing.
-use Rattle.std.proofs.Common.{◌≡◌, ℕ, suc, ◌+◌, ◌-◌, ◌*◌, ◌%◌, ◌^◌, ◌≤◌, ◌<◌, Bool, true, false, eqb, leb, List, [], ◌∷◌, length, take, drop, get_or, refl, sym, ap, ◌∙◌, arith, add-one, pow-suc}
+use Rattle.std.proofs.Common.{◌≡◌, ℕ, suc, ◌+◌, ◌-◌, ◌*◌, ◌%◌, ◌^◌, ◌≤◌, ◌<◌, Bool, true, false, eqb, leb, List, [], ◌∷◌, length, drop, get_or, refl, sym, ap, ◌∙◌, arith, add-one, pow-suc}
 use native.Mathlib.Nat.{pow-le-pow_right, mul-le-mul_left}
 use native.Mathlib.Decide.{dec_le, dec_lt, ℕ_discrete}
 use mathlib.Core.Option.{Option, none, some}
 use mathlib.Core.Logic.{by_cases, ◌⊎◌, inl, inr}
 use lib.ListN.{drop_of_length-le}
-use lib.Pointwise.{pointwise}
-use Rattle.std.proofs.lemmas.List.{length-take}
 use lib.Seq.{drop-cons}
 use borrow.Author.Tests.{le-leb, lt-leb, lt-ltb, le-ltb, eq-eqb, ne_eqb}
 use Rattle.std.specs.Char.{digit_value}
 use Rattle.reference.specs.Control.{when◌then◌else◌, let_some◌else◌then◌}
-use Rattle.reference.specs.Text.{Text, starts_with}
+use Rattle.reference.specs.Text.{Text}
 use Rattle.reference.proofs.Cases.{by-if, some_inj, none-some}
-use Rattle.laws.proofs.Scans.{if-true, if-false, starts_take, starts_short, same_lengths}
-use Rattle.laws.proofs.Std.{same-std}
+use Rattle.laws.proofs.Scans.{if-true, if-false}
 use Rattle.words.specs.Numerals.{digit, digit_in, digits_from, within_64, number_in, unsigned_in, magnitude_in, negated, negative_in}
 
 pub grown : (base v d i : ℕ) → v < 16 ^ i → base ≤ 16 → d < base → v * base + d < 16 ^ (i + 1)
@@ -146,13 +143,6 @@ module _ (base v : ℕ) (w : List ℕ) (i : ℕ) (h : i < length w) where
 pub digit_end : (base v : ℕ) (w : List ℕ) (i : ℕ) → length w ≤ i → digits_from base v (drop i w) ≡ some v
 unfolding digits_from
 digit_end base v w i h = rw (drop_of_length-le w h)
-
--- a word that begins 0x has two bytes
--- what `strip_prefix` asks
-pub prefix-std : (s t : Text) → pointwise eqb (take (length t) s) t ≡ starts_with s t
-prefix-std s t = same-std (take (length t) s) t
-    ∙ by_cases (dec_le (length t) (length s)) (λ k. sym (starts_take s t k))
-    (λ k. same_lengths (take (length t) s) t (λ e. omega (arith, length-take (length t) s)) ∙ sym (starts_short s t (omega arith)))
 
 -- ---- numbers below 2^64
 

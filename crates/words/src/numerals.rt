@@ -9,6 +9,8 @@ fn digit(b: u8, base: u64) -> Option<u64>
     requires { base ≤ 16 }
     ensures { option_of result ≡ digit_in base b }
 {
+    // Kept: 16, and a test behind it: `to_digit` takes its base as a `u32` from 2 on, and `number_in`, which is public, promises an answer
+    // for every `u64` up to 16.
     let d = u64::from(char::from(b).to_digit(16)?);
     if d < base { Some(d) } else { None }
 }
@@ -36,6 +38,8 @@ pub fn base_in(word: &[u8]) -> Option<u64>
 }
 
 // The number below 2^64 that a word of digits stands for.
+// Kept: digit by digit: std's `from_str_radix` takes a + in front, which the definition does not, a `str` for the digits and a `u32` for
+// the base: with a test, a conversion and a cast beside it, it is no plainer.
 fn unsigned_in(word: &[u8], base: u64) -> Option<u64>
     requires { base ≤ 16 }
     ensures { option_of result ≡ unsigned_in base word.now }

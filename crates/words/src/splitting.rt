@@ -4,6 +4,8 @@ ghost use Rattle.std.specs.List.{prefix_len};
 ghost use Rattle.words.specs.Splitting.{split, EndsAt};
 
 // How many bytes stand before the first 0.
+// Kept: beside `count_before` of crate test_leaves, which rests on the leaves that it tests and on no words: for one line it would rest on
+// this crate too.
 fn before_zero(s: &[u8]) -> usize
     ensures { result ≡ prefix_len (λ b. not (eqb b 0)) s.now }
 {

@@ -207,10 +207,10 @@ same_by tape area v w es et e = rw (← es, ← et) e
 
 -- ---- the codes that are made
 
-pub spelled-wide : {s : Text} {q : Spelled} {n w : ℕ} → Spells s (family s) q → q ≡ Front n w → w ≡ 64 → Spells s (family s) (Front n 64)
+pub spelled-wide : {s : Text} {q : std.Option Spelled} {n w : ℕ} → Spells s (family s) q → q ≡ Some (Front n w) → w ≡ 64 → Spells s (family s) (Some (Front n 64))
 spelled-wide h e f = rw (e, f) at h
 
-pub spelled-low : {s : Text} {q : Spelled} {r w l : ℕ} → Spells s (family s) q → q ≡ InRow r w l → l ≡ 0 → Spells s (family s) (InRow r w 0)
+pub spelled-low : {s : Text} {q : std.Option Spelled} {r w l : ℕ} → Spells s (family s) q → q ≡ Some (InRow r w l) → l ≡ 0 → Spells s (family s) (Some (InRow r w 0))
 spelled-low h e f = rw (e, f) at h
 
 -- what `place_of` tells of a place
@@ -226,7 +226,7 @@ some_code : {s : Text} {x : ℕ} → x < 64 → Says x s → Codes s (Some x)
 some_code {s} {x} h q = record { small = λ c e. let i : x ≡ c = cc in omega arith; true = λ c e. let i : x ≡ c = cc in rw i at q }
 
 module _ {s : Text} where
-  pub code_row : {r w x : ℕ} (k : ℕ) → Spells s (family s) (InRow r w 0) → (length s ≡ 0 → ⊥) → k < 4 → w ≡ get_or WIDTHS k 0 → x ≡ 4 + 4 * r + k → Codes s (Some x)
+  pub code_row : {r w x : ℕ} (k : ℕ) → Spells s (family s) (Some (InRow r w 0)) → (length s ≡ 0 → ⊥) → k < 4 → w ≡ get_or WIDTHS k 0 → x ≡ 4 + 4 * r + k → Codes s (Some x)
   unfolding coded_width
   code_row {r} {w} k h n b e ex = rw ex (
       let i : r < 8 = h.sound in
@@ -235,7 +235,7 @@ module _ {s : Text} where
       let t : coded_name (4 + 4 * r + k) s ≡ row_name r = name-row (4 + 4 * r + k) s (omega arith) ∙ ap row_name q in
       some_code (omega arith) (record { least = omega arith; some_byte = omega (arith, n); family_is = sym h.is ∙ rw (t, m, e); number_is = q ∙ sym (ap family_number t ∙ row-numbered r i) }))
 
-  pub code-whole : {n x : ℕ} → Spells s (family s) (Front n 64) → (n ≡ 0 → ⊥) → n ≡ length s → x ≡ bucket s → Codes s (Some (36 + 4 * x))
+  pub code-whole : {n x : ℕ} → Spells s (family s) (Some (Front n 64)) → (n ≡ 0 → ⊥) → n ≡ length s → x ≡ bucket s → Codes s (Some (36 + 4 * x))
   unfolding coded_width
   code-whole {n} h z e ex = rw ex (
       let b = bucket-below s in
@@ -250,7 +250,8 @@ module _ {s : Text} where
         number_is = let q : (36 + 4 * bucket s) / 4 - 1 ≡ 8 + bucket s = omega arith in q ∙ sym (ap family_number t ∙ text_numbered s (ap is_row (sym u) ∙ h.sound.1));
       }))
 
-  pub code-front : {n w x y : ℕ} (k : ℕ) → Spells s (family s) (Front n w) → n + 1 ≡ length s → x ≡ bucket (take n s) → 1 ≤ k → k < 4 → w ≡ get_or WIDTHS k 0 → y ≡ 36 + 4 * x + k → Codes s (Some y)
+  pub code-front : {n w x y : ℕ} (k : ℕ) → Spells s (family s) (Some (Front n w))
+      → n + 1 ≡ length s → x ≡ bucket (take n s) → 1 ≤ k → k < 4 → w ≡ get_or WIDTHS k 0 → y ≡ 36 + 4 * x + k → Codes s (Some y)
   unfolding coded_width
   code-front {n} {w} {x} {y} k h z ex l b e ey = rw ey (
       let below : x < 7 = rw ex (bucket-below (take n s)) in

@@ -44,11 +44,11 @@ module _ (tape area : Text) {f : Fam} where
   unfolding fam_text
   fam-name h = if-false _ _ (le-ltb f 8 h)
 
-  pub number_row : f < 8 → f ≡ fam_number tape area f
+  pub number_row : f < 8 → some f ≡ fam_number tape area f
   unfolding fam_number
   number_row h = sym (if-true _ _ (lt-ltb f 8 h))
 
-  pub number_name : {x : ℕ} {s : Text} → 8 ≤ f → s ≡ text_of tape area f → x ≡ number_of s → x ≡ fam_number tape area f
+  pub number_name : {x : Option ℕ} {s : Text} → 8 ≤ f → s ≡ text_of tape area f → x ≡ number_of s → x ≡ fam_number tape area f
   unfolding fam_number
   number_name h es e = e ∙ ap number_of es ∙ sym (if-false _ _ (le-ltb f 8 h))
 
@@ -81,10 +81,21 @@ module _ (tape area : Text) {f g : Fam} (kf : Known tape area f) (kg : Known tap
   same_as_name h i e = rw (fam-name tape area {f = f} h, fam-name tape area {f = g} i) e
 
 pub fam_overwritten : (tape area : Text) (c : ℕ) (f : Fam) → Known tape area f
-    → has (volatile_of c) (name_numbered (fam_number tape area f)) ≡ has (volatile_of c) (fam_text tape area f)
+    → (let_some (fam_number tape area f) else false then λ n. has (volatile_of c) (name_numbered n)) ≡ has (volatile_of c) (fam_text tape area f)
+unfolding let_some◌else◌then◌
 fam_overwritten tape area c f k = row_or-name f
     (λ h. rw (← number_row tape area {f = f} h, fam-row tape area {f = f} h) (row_overwritten c f h))
     (λ h. rw (← number_name tape area {f = f} h refl refl, fam-name tape area {f = f} h) (text_overwritten c (text_of tape area f) (k.no_row h)))
+
+-- what `is_volatile` answers: of a family that no list can name, and of one with a number
+module _ (tape area : Text) (c : ℕ) (f : Fam) (k : Known tape area f) where
+  pub not_listed : none ≡ fam_number tape area f → false ≡ has (volatile_of c) (fam_text tape area f)
+  unfolding let_some◌else◌then◌
+  not_listed e = rw (← fam_overwritten tape area c f k, ← e) refl
+
+  pub listed_as : {n : ℕ} {x : Bool} → some n ≡ fam_number tape area f → x ≡ has (volatile_of c) (name_numbered n) → x ≡ has (volatile_of c) (fam_text tape area f)
+  unfolding let_some◌else◌then◌
+  listed_as e ex = rw (← fam_overwritten tape area c f k, ← e) ex
 
 -- ---- names
 
@@ -120,12 +131,12 @@ module _ (tape area : Text) where
       record { is = rw (fam-name tape area {f = w} h) e; known = λ m i. rw (← ap (λ (x : Named). x.family) (same_as i)) (record { points = λ _. p; no_row = λ _. n }) }
 
 -- s is the token's text, q what its bytes say
-module _ (tape area : Text) (w : ℕ) {s : Text} (es : s ≡ text_of tape area w) {q : Spelled} (h : Spells s (family s) q) where
-  pub named-row : {r k l : ℕ} → q ≡ InRow r k l → Names tape area (family (text_of tape area w)) (Some (record { family = r; width = k; lowest = l }))
+module _ (tape area : Text) (w : ℕ) {s : Text} (es : s ≡ text_of tape area w) {q : std.Option Spelled} (h : Spells s (family s) q) where
+  pub named-row : {r k l : ℕ} → q ≡ Some (InRow r k l) → Names tape area (family (text_of tape area w)) (Some (record { family = r; width = k; lowest = l }))
   named-row e = let g = rw e at h in row-names tape area g.sound (g.is ∙ ap family es)
 
-  module _ (p : Points tape area w) {n k : ℕ} (e : q ≡ Front n k) where
-    front : Spells s (family s) (Front n k)
+  module _ (p : Points tape area w) {n k : ℕ} (e : q ≡ Some (Front n k)) where
+    front : Spells s (family s) (Some (Front n k))
     front = rw e at h
 
     pub front-inside : n ≤ len_of w

@@ -121,7 +121,7 @@ twos_at (a ∷ b ∷ rest) (suc k) d h =
     let e : suc k + 1 ≡ suc (k + 1) = omega arith in
     (omega (arith, i.0), i.1 ∙ rw e refl)
 
-YieldsList-from_pairs : {s : Windows ℕ} (ws : List ℕ) → windows_size s ≡ 2 → windows_rest s ≡ ws → YieldsList windows_steps (λ x. x.now) s (twos ws)
+pub YieldsList-from_pairs : {s : Windows ℕ} (ws : List ℕ) → windows_size s ≡ 2 → windows_rest s ≡ ws → YieldsList windows_steps (λ x. x.now) s (twos ws)
 YieldsList-from_pairs {s} ws two e =
     rw (sym e) (YieldsList-from_shown_while windows_steps (λ x. x.now) (λ s. twos (windows_rest s)) (λ s. windows_size s ≡ 2)
     (λ s t i h. twos-short (windows_rest s) (omega (arith, h.1.0)))

@@ -3,9 +3,9 @@
 use Prim.Native.Nat.{ℕ, suc, ◌+◌, ◌≤◌, ◌<◌}
 use native.Mathlib.Omega.{arith}
 use mathlib.Core.Path.{◌≡◌, sym, ap, ◌∙◌}
-use mathlib.Core.List.{List, [], ◌∷◌, map}
-use lib.ListN.{length, take, get_or, length-map}
-use lib.Seq.{get_or-take, length-take-le}
+use mathlib.Core.List.{List, [], ◌∷◌, ◌++◌, map}
+use lib.ListN.{length, take, drop, get_or, length-map}
+use lib.Seq.{get_or-take, length-take-le, take_at}
 use Rattle.reference.specs.Text.{Text}
 use Rattle.reference.specs.Questions.{Passed}
 use Rattle.reference.proofs.Reading.{passed_inj, let_is}
@@ -14,7 +14,7 @@ use Rattle.joining.specs.Carried.{Rising}
 use Rattle.lines.specs.Lines.{origin_of, listing_of}
 use Rattle.lines.specs.Words.{Holds, Recodes}
 use Rattle.lines.proofs.words.Each.{map_at}
-use Rattle.lines.proofs.codes.Recoding.{recodes_take, listed_recoded, listing_recoded}
+use Rattle.lines.proofs.codes.Recoding.{listed_recoded, listing_recoded}
 use Rattle.tape.specs.Questions.{Sizes, sizes_of, sizes_in}
 use Rattle.tables.specs.Tables.{Loaded, LoadedMarks}
 use Rattle.tape.specs.declared.questions.Totals.{Totals}
@@ -32,14 +32,18 @@ module _ {tape tokens lines addresses : List ℕ} {r : Totals} (l : Loaded tape 
 holds_recoded : {tape ws us : List ℕ} → Recodes tape ws us → (area : Text) → Holds tape area ws → Holds tape area us
 holds_recoded c area h = record { at = λ k b. (let e = c.long in (c.at k (omega arith)).points area (h.at k (omega arith))) }
 
--- words that were coded are the same listing
-pub loaded_recoded : {tape tokens coded lines addresses : List ℕ} {r : Totals} → Loaded tape tokens lines addresses r → Recodes tape tokens coded → Loaded tape coded lines addresses r
-loaded_recoded {lines = lines} {addresses = addresses} {r = r} l c = record {
-  listing = λ area. l.listing area ∙ ap Passed (sym (listing_recoded (recodes_take c r.tokens) area addresses (take r.lines lines)));
-  listed = λ area. listed_recoded (recodes_take c r.tokens) (l.listed area);
-  holds = λ area. holds_recoded (recodes_take c r.tokens) area (l.holds area);
-  totals = l.totals;
-}
+-- the same listing, where the words in front were coded
+pub loaded_recoded : {tape tokens coded lines addresses : List ℕ} {r : Totals} → r.tokens ≤ length tokens → Loaded tape tokens lines addresses r
+    → Recodes tape (take r.tokens tokens) coded → Loaded tape (coded ++ drop r.tokens tokens) lines addresses r
+loaded_recoded {tokens = tokens} {coded = coded} {lines = lines} {addresses = addresses} {r = r} long l c =
+    let front : take r.tokens (coded ++ drop r.tokens tokens) ≡ coded =
+    take_at coded (drop r.tokens tokens) r.tokens (c.long ∙ length-take-le r.tokens tokens long) in
+    record {
+      listing = λ area. rw front (l.listing area ∙ ap Passed (sym (listing_recoded c area addresses (take r.lines lines))));
+      listed = λ area. rw front (listed_recoded c (l.listed area));
+      holds = λ area. rw front (holds_recoded c area (l.holds area));
+      totals = l.totals;
+    }
 
 -- ---- the numbers of the input lines rise: no two lines have the same
 

@@ -1,4 +1,4 @@
--- The records of a page's lines: how they come into the array, and what they mean there. Assumes nothing.
+-- The records of line words: how they come into the array, and what they mean there. Assumes nothing.
 use Prim.Native.Nat.{ℕ, ◌+◌, ◌≤◌, ◌<◌}
 use native.Mathlib.Nat.{zero-add}
 use native.Mathlib.Numerals.{add-one}

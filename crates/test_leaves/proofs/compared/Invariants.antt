@@ -1,4 +1,4 @@
--- What the loops of `test_leaves::compared` keep true, and what falls at each turn.
+-- What the loop of `test_leaves::compared` keeps true: what is counted so far, and what the rest has, make the whole.
 use Prim.Native.Nat.{◌≤◌, ◌+◌}
 use mathlib.Core.Path.{◌≡◌}
 use lib.ListN.{length}
@@ -6,10 +6,8 @@ use Rattle.test_leaves.specs.Fields.{lines}
 use Rattle.test_leaves.specs.Answers.{differing}
 use Rattle.test_leaves.proofs.compared.Given as goal
 
-abbrev pub invariant-loop-left : goal.invariant-loop-left
-invariant-loop-left l =
-    (l.lines + length l.left ≤ length l.input) × (l.differing ≤ l.lines) × (length l.out ≡ length l.initial.out)
-    × (l.lines + length (lines l.left) ≡ length (lines l.input)) × (l.differing + differing l.left ≡ differing l.input)
-
-abbrev pub decreases-loop-left : goal.decreases-loop-left
-decreases-loop-left l = length l.left
+abbrev pub invariant-loop-line : goal.invariant-loop-line
+invariant-loop-line l =
+    let left = l.line-iterator.rest.now in
+    (l.counts.calls + length left ≤ length l.input) × (l.counts.differ ≤ l.counts.calls) × (length l.out ≡ length l.initial.out)
+    × (l.counts.calls + length (lines left) ≡ length (lines l.input)) × (l.counts.differ + differing left ≡ differing l.input)

@@ -3,9 +3,10 @@ use Prim.Native.Nat.{◌+◌, ◌≤◌}
 use lib.ListN.{length}
 use Rattle.test_offsets.proofs.replayed.Given as goal
 
-abbrev pub invariant-loop-n : goal.invariant-loop-n
-invariant-loop-n l =
-    (l.counts.there + length l.left ≤ length l.list) × (l.counts.back + length l.left ≤ length l.list) × (l.counts.differ + length l.left ≤ length l.list)
+abbrev pub invariant-loop-frame : goal.invariant-loop-frame
+invariant-loop-frame l =
+    (l.ways.there.calls + length l.left ≤ length l.list) × (l.ways.there.differ ≤ l.ways.there.calls)
+    × (l.ways.back.calls + length l.left ≤ length l.list) × (l.ways.back.differ ≤ l.ways.back.calls)
 
-abbrev pub decreases-loop-n : goal.decreases-loop-n
-decreases-loop-n l = length l.left
+abbrev pub decreases-loop-frame : goal.decreases-loop-frame
+decreases-loop-frame l = length l.left

@@ -1,15 +1,11 @@
 -- `test_replay::counted` meets its contract. Assumes nothing.
 use mathlib.Core.Path.{sym, ◌∙◌}
-use Rattle.test_replay.proofs.Tallying.{other_class, agreeing, differing}
+use Rattle.test_replay.proofs.Tallying.{other_class, one_more}
 use Rattle.test_replay.proofs.counted.Goals as goal
 
 pub returns-then-number-class-clause-value : goal.returns-then-number-class-clause-value
 returns-then-number-class-clause-value c = other_class _ _ _ (λ e. c.if-number-class.true (c.number.ensures ∙ e))
 
-pub returns-then-agrees_marked-clause-value : goal.returns-then-agrees_marked-clause-value
-returns-then-agrees_marked-clause-value c =
-    agreeing _ _ _ (sym c.number.ensures ∙ c.if-number-class.false) c.agrees_marked.ensures c.if-agrees_marked.true
-
 pub returns-clause-value : goal.returns-clause-value
 returns-clause-value c =
-    differing _ _ _ (sym c.number.ensures ∙ c.if-number-class.false) c.agrees_marked.ensures c.if-agrees_marked.false
+    one_more _ _ _ (sym c.number.ensures ∙ c.if-number-class.false) c.agrees_marked.ensures c.with.ensures.value

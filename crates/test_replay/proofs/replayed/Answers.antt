@@ -28,8 +28,8 @@ loop-n-preserved c =
     let l = c.loop-n in
     let e = c.in-Some.ensures in (
       l.invariant.0 ∙ turned _ l.left.now _ (is_own l.left.now e) (some l.left.now e) c.counted-counts.ensures.value,
-      omega (arith, c.counted-counts.ensures.differ_le_tapes, e.0, e.1, left_behind l.left.now c.in-Some.n),
-      c.counted-counts.ensures.differ_le_tapes.0,
+      omega (arith, c.counted-counts.ensures.differ_le_calls, e.0, e.1, left_behind l.left.now c.in-Some.n),
+      c.counted-counts.ensures.differ_le_calls.0,
     )
 
 pub returns-clause-value : goal.returns-clause-value

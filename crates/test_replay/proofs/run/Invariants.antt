@@ -3,4 +3,4 @@ use Prim.Native.Nat.{◌*◌, ◌≤◌}
 use Rattle.test_replay.proofs.run.Given as goal
 
 abbrev pub invariant-loop-class : goal.invariant-loop-class
-invariant-loop-class l = (l.sum.tapes ≤ l.class * 650000) × (l.sum.differ ≤ l.sum.tapes)
+invariant-loop-class l = (l.sum.calls ≤ l.class-index * 650000) × (l.sum.differ ≤ l.sum.calls)

@@ -2,5 +2,5 @@
 use lib.ListN.{length}
 use Rattle.test_states.proofs.run.Given as goal
 
-abbrev pub decreases-loop-n : goal.decreases-loop-n
-decreases-loop-n l = length l.left
+abbrev pub decreases-loop-frame : goal.decreases-loop-frame
+decreases-loop-frame l = length l.left

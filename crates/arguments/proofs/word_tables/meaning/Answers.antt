@@ -1,13 +1,19 @@
 -- `arguments::word_tables::meaning` meets its contract. Assumes nothing.
-use Rattle.std.proofs.Common.{sym, ◌∙◌}
-use Rattle.arguments.proofs.Rows.{row_here, row_next, no_row}
+use Rattle.std.proofs.Common.{rules, Some, None, ◌∙◌}
+use Rattle.std.proofs.lemmas.Iterator.{YieldsList-from_slice}
+use Rattle.std.proofs.lemmas.Iterator.Search.{find_from_yields_List}
+use Rattle.arguments.proofs.Rows.{is_row, meaning_found}
 use Rattle.arguments.proofs.word_tables.meaning.Goals as goal
 
-pub returns-then-eq : goal.returns-then-eq
-returns-then-eq g c = sym (c.loop-row.invariant ∙ row_here _ c.loop-row.row-index _ c.loop-row-test.true _ c.row-item.is (sym c.eq.ensures ∙ c.if-eq.true))
-
-pub loop-row-preserved : goal.loop-row-preserved
-loop-row-preserved g c = c.loop-row.invariant ∙ row_next _ c.loop-row.row-index _ c.loop-row-test.true _ c.row-item.is (sym c.eq.ensures ∙ c.if-eq.false)
+pub returns-in_err-row : goal.returns-in_err-row
+returns-in_err-row g c =
+    let w = c.args.word.now in
+    c.from_residual.ensures
+    ∙ meaning_found w c.args.rows.now None
+    (find_from_yields_List (is_row w) c.find.new.self _ None c.in_err-row.ensures.ran (YieldsList-from_slice _ (search rules)) (λ x b q k. search rules))
 
 pub returns : goal.returns
-returns g c = sym (c.loop-row.invariant ∙ no_row _ c.loop-row.row-index _ c.loop-row-test.false)
+returns g c =
+    let w = c.args.word.now in
+    meaning_found w c.args.rows.now (Some c.in_ok-row.row)
+    (find_from_yields_List (is_row w) c.find.new.self _ (Some c.in_ok-row.row) c.in_ok-row.ensures.ran (YieldsList-from_slice _ (search rules)) (λ x b q k. search rules))

@@ -1,16 +1,13 @@
 -- `editions::questions::is_binary` meets its contract. Assumes nothing.
-use Rattle.editions.proofs.Asking.{binary-plain, binary-minus, minus-first}
+use Rattle.reference.specs.Text.{bytes}
+use Rattle.laws.proofs.Std.{prefix-std}
+use Rattle.editions.proofs.Asking.{binary-plain, binary-minus}
 use Rattle.editions.proofs.questions.is_binary.Goals as goal
 
-pub slice_bounds-begins_binary-count : goal.slice_bounds-begins_binary-count
-slice_bounds-begins_binary-count c = minus-first c.args.s.now c.begins_minus.ensures c.if-begins_minus.true
+pub returns-in-Some : goal.returns-in-Some
+returns-in-Some c =
+    let e = c.in-Some.ensures.cases in
+    binary-minus c.args.s.now (prefix-std c.args.s.now (bytes "-")) e.0 e.1 c.begins_binary.ensures
 
-pub slice_bounds-begins_binary-start : goal.slice_bounds-begins_binary-start
-slice_bounds-begins_binary-start c = slice_bounds-begins_binary-count c
-
-pub returns-then-begins_minus : goal.returns-then-begins_minus
-returns-then-begins_minus c = binary-minus c.args.s.now c.begins_minus.ensures c.if-begins_minus.true c.begins_binary.ensures
-
-pub returns-else-begins_minus : goal.returns-else-begins_minus
-returns-else-begins_minus c =
-    binary-plain c.args.s.now c.begins_minus.ensures c.if-begins_minus.false c.begins_binary-else-begins_minus.ensures
+pub returns-in-None : goal.returns-in-None
+returns-in-None c = binary-plain c.args.s.now (prefix-std c.args.s.now (bytes "-")) c.in-None.ensures.cases c.begins_binary-in-None.ensures

@@ -10,7 +10,7 @@ pub returns-then-has_junk : goal.returns-then-has_junk
 returns-then-has_junk c = search (rules, whole-junk)
 
 pub behind-requires : goal.behind-requires
-behind-requires c = (search rules, begin_placed _ _ c.requires)
+behind-requires c = (search rules, begin_placed _ _ _ c.requires)
 
 pub returns-in_err-start : goal.returns-in_err-start
 returns-in_err-start c = rw c.from_residual.ensures (search (rules, whole_unbegun))
@@ -18,21 +18,23 @@ returns-in_err-start c = rw c.from_residual.ensures (search (rules, whole_unbegu
 pub expression-requires : goal.expression-requires
 expression-requires c = (search rules, search (rules, no_junk), search (rules, leads_placed))
 
-pub returns-then-not-expression : goal.returns-then-not-expression
-returns-then-not-expression c = search (rules, whole-broken)
+pub returns-in_err-value : goal.returns-in_err-value
+returns-in_err-value c = rw c.from_residual-in_err-value.ensures (search (rules, whole-broken))
 
 pub behind-requires-2 : goal.behind-requires-2
-behind-requires-2 c = (search rules, worth-placed _ _ _ _ c.expression.ensures c.if-not-expression.false)
+behind-requires-2 c = (search rules, worth-placed _ _ _ _ c.expression.ensures _ c.in_ok-value.was)
 
 pub returns-in_err-end : goal.returns-in_err-end
 returns-in_err-end c = rw c.from_residual-in_err-end.ensures (search (rules, whole_unended))
 
 pub returns-then-end-line : goal.returns-then-end-line
 returns-then-end-line c = let start = c.in_ok-start in
+    let value = c.in_ok-value in
     let end = c.in_ok-end in
-    whole_more _ _ _ _ c.requires c.behind.ensures start.start start.was _ c.expression.ensures c.if-not-expression.false c.behind-2.ensures end.end end.was c.if-end-line.true
+    whole_more _ _ _ _ _ c.requires c.behind.ensures start.start start.was c.expression.ensures value.value value.was c.behind-2.ensures end.end end.was c.if-end-line.true
 
 pub returns : goal.returns
 returns c = let start = c.in_ok-start in
+    let value = c.in_ok-value in
     let end = c.in_ok-end in
-    whole-ended _ _ _ _ c.requires c.behind.ensures start.start start.was _ c.expression.ensures c.if-not-expression.false c.behind-2.ensures end.end end.was c.if-end-line.false
+    whole-ended _ _ _ _ _ c.requires c.behind.ensures start.start start.was c.expression.ensures value.value value.was c.behind-2.ensures end.end end.was c.if-end-line.false

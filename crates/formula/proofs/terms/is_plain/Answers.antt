@@ -4,9 +4,9 @@ use Rattle.formula.specs.Terms.{is_plain}
 use Rattle.std.proofs.Common.{rules}
 use Rattle.formula.proofs.terms.is_plain.Goals as goal
 
-pub returns-then-begins_hex : goal.returns-then-begins_hex
+pub returns-then-starts : goal.returns-then-starts
 unfolding is_plain
-returns-then-begins_hex c = search (rules, tests)
+returns-then-starts c = search (rules, tests)
 
 pub returns-then-not-starts : goal.returns-then-not-starts
 unfolding is_plain

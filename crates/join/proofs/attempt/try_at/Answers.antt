@@ -1,17 +1,27 @@
 -- `join::attempt::try_at` meets its contract. Assumes nothing.
-use lib.ListN.{length-map}
 use Rattle.lines.specs.Rules.{rules_of}
+use Rattle.join.proofs.Lending.{lent_behind, marks_for}
 use Rattle.join.proofs.Trying.{nothing-done, plannable, joined-done}
 use Rattle.join.proofs.attempt.try_at.Goals as goal
 
-pub returns-in_err-j : goal.returns-in_err-j
-returns-in_err-j c = rw c.from_residual.ensures (nothing-done (rules_of c.args.rules) c.requires c.decide.ensures c.in_err-j.was)
+pub returns-in_err-j-clause-attempted : goal.returns-in_err-j-clause-attempted
+returns-in_err-j-clause-attempted c = rw c.from_residual.ensures (nothing-done (rules_of c.args.rules) c.requires c.plan_at.ensures c.in_err-j.was)
 
 pub carry_marks-requires : goal.carry_marks-requires
-carry_marks-requires c = (plannable (rules_of c.args.rules) c.requires c.decide.ensures c.in_ok-j.was, rw length-map at c.requires.for_lows)
+carry_marks-requires c = (plannable (rules_of c.args.rules) c.requires c.plan_at.ensures c.in_ok-j.was, c.requires.current, marks_for c.args.room.now c.requires)
 
 pub apply-requires : goal.apply-requires
-apply-requires c = (plannable (rules_of c.args.rules) c.requires c.decide.ensures c.in_ok-j.was, c.requires.current, c.requires.lent)
+apply-requires c =
+    let s = c.carry_marks.ensures.rest in
+    rw (s.area_is, s.tokens_are, s.lines_are, s.area2_is, s.tokens2_are)
+    (plannable (rules_of c.args.rules) c.requires c.plan_at.ensures c.in_ok-j.was, c.requires.current, c.requires.lent)
 
-pub returns : goal.returns
-returns c = joined-done (rules_of c.args.rules) c.requires c.decide.ensures c.in_ok-j.was c.carry_marks.ensures c.apply.ensures
+pub returns-clause-attempted : goal.returns-clause-attempted
+returns-clause-attempted c =
+    let e = c.apply.ensures in
+    let s = c.carry_marks.ensures.rest in
+    let acted = rw (s.area_is, s.tokens_are, s.lines_are) at e.acted in
+    rw e.marks (joined-done (rules_of c.args.rules) c.requires c.plan_at.ensures c.in_ok-j.was c.carry_marks.ensures.carried acted)
+
+pub returns-clause-lent : goal.returns-clause-lent
+returns-clause-lent c = lent_behind c.carry_marks.ensures.rest c.apply.ensures.lent

@@ -4,9 +4,10 @@ use Rattle.join.proofs.Sparing.{spare_as}
 use Rattle.join.proofs.Bringing.{settled}
 use Rattle.join.proofs.patch.patch.Goals as goal
 
-pub returns : goal.returns
-returns c =
+pub returns-clause-acted : goal.returns-clause-acted
+returns-clause-acted c =
     let a = c.args in
-    let lines = c.patch_lines-after in
-    settled a.area.now a.tokens.now lines.ensures c.requires.2 (spare_as c.requires.3 lines.auto.area2 lines.auto.tokens2) (drop a.size.lines a.lines.now)
+    let r = a.room.now in
+    let e = c.patch_lines.ensures in
+    settled r.area.now r.tokens.now e.patched c.requires.2 (spare_as c.requires.3 e.lent.area_length e.lent.tokens_length) (drop a.size.lines r.lines.now)
     c.copy_from_slice.ensures.after c.copy_from_slice-2.ensures.after

@@ -5,8 +5,8 @@ use Rattle.lines.specs.Lines.{part_of}
 use Rattle.join.proofs.Sparing.{part-short, text_most, room_is}
 use Rattle.join.proofs.spare.line_room.Goals as goal
 
-pub text_of-requires : goal.text_of-requires
-text_of-requires c =
+pub text_length-requires : goal.text_length-requires
+text_length-requires c =
     let part = part_of c.args.tokens.now c.args.l in
     rw c.line_of-line.ensures (omega (arith, text_most part, part-short c.args.tokens.now c.args.l))
 
@@ -16,7 +16,7 @@ overflow_mul-result c = rw c.line_of-line.ensures (omega (arith, part-short c.ar
 pub overflow_add-result : goal.overflow_add-result
 overflow_add-result c =
     let part = part_of c.args.tokens.now c.args.l in
-    rw (c.text_of.ensures, c.line_of-line.ensures) (omega (arith, text_most part, part-short c.args.tokens.now c.args.l))
+    rw (c.text_length.ensures, c.line_of-line.ensures) (omega (arith, text_most part, part-short c.args.tokens.now c.args.l))
 
 pub returns : goal.returns
-returns c = rw (c.text_of.ensures, c.line_of-line.ensures) (sym (room_is (part_of c.args.tokens.now c.args.l)))
+returns c = rw (c.text_length.ensures, c.line_of-line.ensures) (sym (room_is (part_of c.args.tokens.now c.args.l)))

@@ -4,7 +4,7 @@ use Rattle.life.proofs.Scanning.{dead_begin, dead-dead, dead-live, dead_open, de
 use Rattle.life.proofs.dead.dead_after.Goals as goal
 
 pub loop-w-init : goal.loop-w-init
-loop-w-init c = dead_begin _ _ _ c.args.listing.now.lines.now _ _ _ _ _ c.args.from
+loop-w-init c = dead_begin _ _ _ c.args.scope.now.listing.lines.now _ _ _ _ _ c.args.from
 
 pub returns-in-Dead : goal.returns-in-Dead
 returns-in-Dead c = search (rules, dead-dead)

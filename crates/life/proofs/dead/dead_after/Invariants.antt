@@ -10,8 +10,8 @@ use Rattle.life.proofs.dead.dead_after.Given as goal
 
 abbrev pub invariant-loop-w : goal.invariant-loop-w
 invariant-loop-w l =
-    let g = l.listing in
+    let g = l.scope.listing in
     let fam = fam_text g.texts l.v.family in
-    let labels = labels_at (bare_listing g) l.labels in
+    let labels = labels_at (bare_listing g) l.scope.labels.now in
     dead_after (bare_listing g) l.from fam l.v.indent labels l.v.start (volatile (rules_of l.v.rules))
     ≡ dead-rest g.texts.tape.now g.texts.area.now g.tokens.now g.lines.now fam l.v.indent labels l.v.start (volatile (rules_of l.v.rules)) l.w

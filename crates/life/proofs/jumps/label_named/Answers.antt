@@ -1,30 +1,19 @@
 -- `life::jumps::label_named` meets its contract. Assumes nothing.
-use mathlib.Core.Path.{refl}
-use Prim.Native.Nat.{◌-◌}
-use borrow.Author.Rules.{rules}
-use Rattle.life.proofs.Jumping.{place_inside, place_long, named_hit, named_miss, named_end}
+use Rattle.std.proofs.Common.{rules}
+use Rattle.lines.specs.Texts.{text_of}
+use Rattle.life.proofs.Backwards.{serves_labels, label_found}
 use Rattle.life.proofs.jumps.label_named.Goals as goal
 
-pub offset_bounds-listing-at : goal.offset_bounds-listing-at
-offset_bounds-listing-at c = let h = place_inside _ _ _ _ _ c.requires.1 (c.loop-n.n - 1) (search rules) refl in search rules
-
-pub bounds-listing-at : goal.bounds-listing-at
-bounds-listing-at c = place_inside _ _ _ _ _ c.requires.1 (c.loop-n.n - 1) (search rules) refl
-
-pub is_named-requires : goal.is_named-requires
-is_named-requires c = (
-  c.requires.0.at _ (place_inside _ _ _ _ _ c.requires.1 (c.loop-n.n - 1) (search rules) refl),
-  c.requires.2,
-  place_long _ _ _ _ _ c.requires.1 (c.loop-n.n - 1) (search rules) refl,
-)
-
-pub returns-then-is_named : goal.returns-then-is_named
-returns-then-is_named c =
-    named_hit _ _ _ _ _ c.requires.1 _ c.loop-n.n c.loop-n.invariant (search rules) (search rules) refl c.is_named.ensures c.if-is_named.true
-
-pub loop-n-preserved : goal.loop-n-preserved
-loop-n-preserved c =
-    named_miss _ _ _ _ _ c.requires.1 _ c.loop-n.n c.loop-n.invariant (search rules) (search rules) refl c.is_named.ensures c.if-is_named.false
+pub find-requires-clause-callable : goal.find-requires-clause-callable
+find-requires-clause-callable c =
+    let a = c.args.scope.now in
+    let g = a.listing in
+    serves_labels g.texts.tape.now g.texts.area.now g.tokens.now g.lines.now a.labels.now c.requires.0.1 (search rules) (λ x q k. search rules)
+    (λ x b l. search rules)
 
 pub returns : goal.returns
-returns c = named_end _ _ _ _ _ c.requires.1 _ c.loop-n.n c.loop-n.invariant (search rules)
+returns c =
+    let a = c.args.scope.now in
+    let g = a.listing in
+    label_found g.texts.tape.now g.texts.area.now g.tokens.now g.lines.now a.labels.now c.requires.0.1 (text_of g.texts c.args.w) _ _ _
+    c.find.ensures.ran (search rules) (λ x b q k. search rules)

@@ -16,7 +16,7 @@ loop-k-preserved c =
     elim c.if-is_label.branch [
       | then-is_label w ↦ (
         search rules,
-        rw (w.labels-is, w.n-is, w.place_of.ensures)
+        rw (w.labels-is, w.n-is)
             (gathered_hit _ _ _ _ _ l.k kept (search rules) line label w.if-is_label.true (search rules)),
       )
       | else-is_label w ↦ (

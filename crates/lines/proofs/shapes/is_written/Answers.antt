@@ -11,14 +11,14 @@ returns-in_default c = let a = c.args in written_past _ _ a.line.now a.pos (c.in
 pub returns-then-kind-ne-PUNCT : goal.returns-then-kind-ne-PUNCT
 returns-then-kind-ne-PUNCT c = let a = c.args in rw (written_is _ _ a.line.now a.pos c.in-Some.ensures.lookup.3.0, ← c.in-Some.ensures.lookup.3.1 0) (search (rules, kinds))
 
-pub returns-then-begins_assign : goal.returns-then-begins_assign
-returns-then-begins_assign c =
+pub returns-then-starts : goal.returns-then-starts
+returns-then-starts c =
     let a = c.args in
     rw (written_is _ _ a.line.now a.pos c.in-Some.ensures.lookup.3.0, ← c.in-Some.ensures.lookup.3.1 0)
     (search (rules, tests, kinds, ← c.text-s.ensures))
 
-pub returns-else-begins_assign : goal.returns-else-begins_assign
-returns-else-begins_assign c =
+pub returns-else-starts : goal.returns-else-starts
+returns-else-starts c =
     let a = c.args in
     rw (written_is _ _ a.line.now a.pos c.in-Some.ensures.lookup.3.0, ← c.in-Some.ensures.lookup.3.1 0, ← c.text-s.ensures)
-    (kind_holds _ _ c.kind.ensures c.if-kind-ne-PUNCT.false (or_second c.begins_assign.ensures c.if-begins_assign.false c.begins_update.ensures))
+    (kind_holds _ _ c.kind.ensures c.if-kind-ne-PUNCT.false (or_second c.starts.ensures c.if-starts.false c.begins_update.ensures))

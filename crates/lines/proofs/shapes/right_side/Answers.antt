@@ -9,8 +9,8 @@ returns-then-n-first c = search (rules, sides)
 pub text-requires : goal.text-requires
 text-requires c = search (rules, sides)
 
-pub returns-then-not-ends_semicolon : goal.returns-then-not-ends_semicolon
-returns-then-not-ends_semicolon c = search (rules, sides)
+pub returns-then-not-ends : goal.returns-then-not-ends
+returns-then-not-ends c = search (rules, sides)
 
 pub returns-then-len-ne1 : goal.returns-then-len-ne1
 returns-then-len-ne1 c = search (rules, sides)

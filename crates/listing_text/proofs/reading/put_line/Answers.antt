@@ -10,14 +10,17 @@ use Rattle.listing_text.proofs.Fielding.{lies_wrong, no_fields, head_wrong, head
 use Rattle.listing_text.proofs.Parts.{parts_of, first_part, two_parts}
 use Rattle.listing_text.proofs.reading.put_line.Goals as goal
 
-pub returns-in_default : goal.returns-in_default
-returns-in_default c =
+pub returns-in_err-ok_or : goal.returns-in_err-ok_or
+returns-in_err-ok_or c =
     let s = c.split_once in
     let g = page c.args.out.now in
     let one : apart 9 c.args.line.now ≡ s.result.0.now ∷ []
-    = first_part 9 c.args.line.now s.result.0.now s.result.1 s.ensures.without s.ensures.whole ∙ ap (λ o. s.result.0.now ∷ parts_of 9 o) c.in_default.is in
+    = first_part 9 c.args.line.now s.result.0.now s.result.1 s.ensures.without s.ensures.whole ∙ ap (λ o. s.result.0.now ∷ parts_of 9 o) c.in_err-ok_or.ensures.ok_part in
     record {
-      lays = record { same = no_fields g (s.result.0.now ∷ []) (omega arith) ∙ ap (λ (fs : List Text). onto_page g (line_read fs)) (sym one) };
+      lays = record {
+        same = lies_wrong c.args.out.now c.from_residual.result c.from_residual.ensures.0
+            ∙ no_fields g (s.result.0.now ∷ []) (omega arith) ∙ ap (λ (fs : List Text). onto_page g (line_read fs)) (sym one);
+      };
       lent = refl;
     }
 
@@ -26,10 +29,10 @@ returns-in_err-put_head c =
     let s = c.split_once in
     let t = c.split_once-2 in
     let g = page c.args.out.now in
-    let two = two_parts 9 c.args.line.now s.result.0.now s.result.1 c.in-Some.rest t.result.0.now t.result.1 s.ensures.without s.ensures.whole c.in-Some.is t.ensures.without t.ensures.whole in
+    let two = two_parts 9 c.args.line.now s.result.0.now s.result.1 _ t.result.0.now t.result.1 s.ensures.without s.ensures.whole c.in_ok-ok_or.ensures.ok_part t.ensures.without t.ensures.whole in
     record {
       lays = record {
-        same = lies_wrong c.put_head.new.out c.from_residual.result c.from_residual.ensures.0
+        same = lies_wrong c.put_head.new.out c.from_residual-in_err-put_head.result c.from_residual-in_err-put_head.ensures.0
             ∙ head_wrong g s.result.0.now t.result.0.now c.in_err-put_head.ensures.lays (parts_of 9 t.result.1) refl
             ∙ ap (λ (fs : List Text). onto_page g (line_read fs)) (sym two);
       };
@@ -41,7 +44,7 @@ loop-left-init c =
     let s = c.split_once in
     let t = c.split_once-2 in
     let g = page c.args.out.now in
-    let two = two_parts 9 c.args.line.now s.result.0.now s.result.1 c.in-Some.rest t.result.0.now t.result.1 s.ensures.without s.ensures.whole c.in-Some.is t.ensures.without t.ensures.whole in
+    let two = two_parts 9 c.args.line.now s.result.0.now s.result.1 _ t.result.0.now t.result.1 s.ensures.without s.ensures.whole c.in_ok-ok_or.ensures.ok_part t.ensures.without t.ensures.whole in
     record {
       told = head_right g s.result.0.now t.result.0.now c.in_ok-put_head.ensures.lays (parts_of 9 t.result.1) refl ∙ ap (λ (fs : List Text). onto_page g (line_read fs)) (sym two);
       lent = c.in_ok-put_head.ensures.lent;
@@ -49,10 +52,10 @@ loop-left-init c =
 
 pub returns-in_err-put_field : goal.returns-in_err-put_field
 returns-in_err-put_field c =
-    let s = c.split_once-in-Some-left in
+    let s = c.split_once-in-Some in
     let g = page c.loop-left.out in
     let parts : parts_of 9 c.loop-left.left ≡ s.result.0.now ∷ parts_of 9 s.result.1
-    = ap (parts_of 9) c.in-Some-left.is ∙ first_part 9 c.in-Some-left.fields.now s.result.0.now s.result.1 s.ensures.without s.ensures.whole in
+    = ap (parts_of 9) c.in-Some.is ∙ first_part 9 c.in-Some.fields.now s.result.0.now s.result.1 s.ensures.without s.ensures.whole in
     record {
       lays = record {
         same = lies_wrong c.put_field.new.out c.from_residual-in_err-put_field.result c.from_residual-in_err-put_field.ensures.0
@@ -64,10 +67,10 @@ returns-in_err-put_field c =
 
 pub loop-left-preserved : goal.loop-left-preserved
 loop-left-preserved c =
-    let s = c.split_once-in-Some-left in
+    let s = c.split_once-in-Some in
     let g = page c.loop-left.out in
     let parts : parts_of 9 c.loop-left.left ≡ s.result.0.now ∷ parts_of 9 s.result.1
-    = ap (parts_of 9) c.in-Some-left.is ∙ first_part 9 c.in-Some-left.fields.now s.result.0.now s.result.1 s.ensures.without s.ensures.whole in
+    = ap (parts_of 9) c.in-Some.is ∙ first_part 9 c.in-Some.fields.now s.result.0.now s.result.1 s.ensures.without s.ensures.whole in
     record {
       told = field-right g s.result.0.now c.in_ok-put_field.ensures.lays (parts_of 9 s.result.1) refl ∙ ap (λ (fs : List Text). onto_page g (fields_read fs)) (sym parts)
           ∙ c.loop-left.invariant.told;
@@ -78,6 +81,6 @@ pub returns : goal.returns
 returns c =
     let g = page c.loop-left.out in
     record {
-      lays = record { same = fields_done g ∙ ap (λ o. onto_page g (fields_read (parts_of 9 o))) (sym c.in_default-left.is) ∙ c.loop-left.invariant.told };
+      lays = record { same = fields_done g ∙ ap (λ o. onto_page g (fields_read (parts_of 9 o))) (sym c.in_default.is) ∙ c.loop-left.invariant.told };
       lent = c.loop-left.invariant.lent;
     }

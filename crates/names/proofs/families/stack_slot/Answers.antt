@@ -3,8 +3,8 @@ use Rattle.std.proofs.Common.{sym, ◌∙◌}
 use Rattle.names.proofs.Spelling.{slot, no_slot}
 use Rattle.names.proofs.families.stack_slot.Goals as goal
 
-pub returns-then-begins_slot : goal.returns-then-begins_slot
-returns-then-begins_slot c = slot c.args.s.now (sym c.begins_slot.ensures ∙ c.if-begins_slot.true)
+pub returns-then-not-starts : goal.returns-then-not-starts
+returns-then-not-starts c = no_slot c.args.s.now (sym c.starts.ensures ∙ c.if-not-starts.true)
 
-pub returns-else-begins_slot : goal.returns-else-begins_slot
-returns-else-begins_slot c = no_slot c.args.s.now (sym c.begins_slot.ensures ∙ c.if-begins_slot.false)
+pub returns : goal.returns
+returns c = slot c.args.s.now (sym c.starts.ensures ∙ c.if-not-starts.false)

@@ -1,18 +1,13 @@
 -- `numbers::parse::decimal` meets its contract. Assumes nothing.
 use Rattle.std.proofs.Common.{ap, ◌∙◌}
-use Rattle.reference.specs.Text.{bytes}
-use Rattle.numbers.specs.Reading.{positive}
-use Rattle.numbers.proofs.Parsing.{prefix-fits, decimal-minus, decimal-plain}
+use Rattle.reference.specs.Options.{option_of}
+use Rattle.numbers.proofs.Parses.{same_text, no_text, read_10, no_10}
 use Rattle.numbers.proofs.parse.decimal.Goals as goal
 
-pub slice_bounds-negative-count : goal.slice_bounds-negative-count
-slice_bounds-negative-count c = prefix-fits (bytes "-") c.args.s.now c.begins_minus.ensures c.if-begins_minus.true
+pub returns-in_err-text : goal.returns-in_err-text
+returns-in_err-text c = ap option_of c.from_residual.ensures ∙ no_10 c.args.s.now (no_text _ _ _ c.in_err-text.ensures.value c.from_utf8.ensures.cases)
 
-pub slice_bounds-negative-start : goal.slice_bounds-negative-start
-slice_bounds-negative-start c = slice_bounds-negative-count c
-
-pub returns-then-begins_minus : goal.returns-then-begins_minus
-returns-then-begins_minus c = c.negative.ensures ∙ decimal-minus _ c.begins_minus.ensures c.if-begins_minus.true
-
-pub returns-else-begins_minus : goal.returns-else-begins_minus
-returns-else-begins_minus c = c.positive.ensures ∙ ap positive c.without_plus.ensures ∙ decimal-plain _ c.begins_minus.ensures c.if-begins_minus.false
+pub returns : goal.returns
+returns c =
+    let text = same_text _ _ _ c.in_ok-text.ensures.value c.from_utf8.ensures.cases in
+    ap option_of c.ok-2.ensures.value ∙ read_10 c.args.s.now c.from_str_radix.result (rw text at c.from_str_radix.ensures.value)

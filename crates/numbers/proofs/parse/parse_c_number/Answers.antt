@@ -4,24 +4,22 @@ use mathlib.Core.Option.{some}
 use Rattle.reference.specs.Options.{option_of}
 use Rattle.reference.specs.Numbers.{wrap}
 use Rattle.reference.specs.Text.{bytes}
+use Rattle.laws.proofs.Std.{prefix-std}
 use Rattle.numbers.proofs.Signed.{read_back}
-use Rattle.numbers.proofs.Parsing.{prefix-fits, parse_plain, parse_read, parse_unread}
+use Rattle.numbers.proofs.Parsing.{parse_plain, parse_read, parse_unread}
 use Rattle.numbers.proofs.parse.parse_c_number.Goals as goal
 
-pub returns-then-not-begins_minus : goal.returns-then-not-begins_minus
-returns-then-not-begins_minus c = c.unnegated.ensures ∙ parse_plain _ c.begins_minus.ensures c.if-not-begins_minus.true
+pub returns-in_err-unnegated-in-Some : goal.returns-in_err-unnegated-in-Some
+returns-in_err-unnegated-in-Some c =
+    let e = c.in-Some.ensures.cases in
+    ap option_of c.from_residual.ensures ∙ parse_unread _ (prefix-std c.args.s.now (bytes "-")) e.0 e.1 c.in_err-unnegated-in-Some.ensures
 
-pub slice_bounds-unnegated-count : goal.slice_bounds-unnegated-count
-slice_bounds-unnegated-count c = prefix-fits (bytes "-") c.args.s.now c.begins_minus.ensures c.if-not-begins_minus.false
-
-pub slice_bounds-unnegated-start : goal.slice_bounds-unnegated-start
-slice_bounds-unnegated-start c = slice_bounds-unnegated-count c
-
-pub returns-in_err-unnegated : goal.returns-in_err-unnegated
-returns-in_err-unnegated c = ap option_of c.from_residual.ensures ∙ parse_unread _ c.begins_minus.ensures c.if-not-begins_minus.false c.in_err-unnegated.ensures
-
-pub returns : goal.returns
-returns c =
+pub returns-in_ok-unnegated-in-Some : goal.returns-in_ok-unnegated-in-Some
+returns-in_ok-unnegated-in-Some c =
+    let e = c.in-Some.ensures.cases in
     ap some (read_back _ c.wrapping_neg.type_inv ∙ c.wrapping_neg.ensures)
-    ∙ ap (λ (z : ℤ). some (wrap (neg_ℤ z))) (read_back c.in_ok-unnegated.field-0 (search rules))
-    ∙ parse_read _ c.begins_minus.ensures c.if-not-begins_minus.false c.in_ok-unnegated.ensures
+    ∙ ap (λ (z : ℤ). some (wrap (neg_ℤ z))) (read_back c.in_ok-unnegated-in-Some.field-0 (search rules))
+    ∙ parse_read _ (prefix-std c.args.s.now (bytes "-")) e.0 e.1 c.in_ok-unnegated-in-Some.ensures
+
+pub returns-in-None : goal.returns-in-None
+returns-in-None c = c.unnegated-in-None.ensures ∙ parse_plain _ (prefix-std c.args.s.now (bytes "-")) c.in-None.ensures.cases

@@ -10,8 +10,8 @@ use denote.Param.{number}
 use Rattle.offsets.proofs.reach.first_refused.Given as goal
 
 -- the first such command is still to come
-abbrev pub invariant-loop-command : goal.invariant-loop-command
-invariant-loop-command g l = Searching (form_of (code.BASED-type (number g.row.BASED))) (bad_for (code.BASED-type (number g.row.BASED)) l.base) l.tape l.at (totals_of l.totals)
+abbrev pub invariant-loop-step : goal.invariant-loop-step
+invariant-loop-step g l = Searching (form_of (code.BASED-type (number g.row.BASED))) (bad_for (code.BASED-type (number g.row.BASED)) l.base) l.tape l.at (totals_of l.totals)
 
-abbrev pub decreases-loop-command : goal.decreases-loop-command
-decreases-loop-command g l = length l.tape - l.at
+abbrev pub decreases-loop-step : goal.decreases-loop-step
+decreases-loop-step g l = length l.tape - l.at

@@ -8,8 +8,8 @@ use denote.Param.{number}
 use Rattle.offsets.proofs.writing.put_commands.Given as goal
 
 -- what was read so far stands in the output, moved
-abbrev pub invariant-loop-command : goal.invariant-loop-command
-invariant-loop-command g l = Writing (code.BASED-type (number g.row.BASED)) l.base l.tape l.initial.out l.at (totals_of l.totals) l.out
+abbrev pub invariant-loop-step : goal.invariant-loop-step
+invariant-loop-step g l = Writing (code.BASED-type (number g.row.BASED)) l.base l.tape l.initial.out l.at (totals_of l.totals) l.out
 
-abbrev pub decreases-loop-command : goal.decreases-loop-command
-decreases-loop-command g l = length l.tape - l.at
+abbrev pub decreases-loop-step : goal.decreases-loop-step
+decreases-loop-step g l = length l.tape - l.at

@@ -1,17 +1,19 @@
 -- `plan::definitions::reads_memory` meets its contract. Assumes nothing.
-use borrow.Author.Rules.{rules}
-use Rattle.lines.proofs.shapes.Right.{expr-below, expr_past}
-use Rattle.plan.proofs.Defining.{reads}
+use Rattle.std.proofs.Common.{rules, arith, ◌∙◌, length, get_or}
+use Rattle.std.proofs.lemmas.Iterator.{YieldsList-from_range}
+use Rattle.std.proofs.lemmas.Iterator.Search.{any_from_yields_List}
+use Rattle.reference.specs.Join.{reads_here}
+use Rattle.lines.specs.Shapes.{expr_words}
+use Rattle.lines.specs.Texts.{token_of, tokens_of}
+use Rattle.lines.proofs.shapes.Right.{expr-length}
+use Rattle.plan.specs.Definitions.{before_at}
+use Rattle.plan.proofs.Defining.{reads_any}
 use Rattle.plan.proofs.definitions.reads_memory.Goals as goal
 
-pub loop-k-init : goal.loop-k-init
-loop-k-init c = search (rules, reads)
-
-pub returns-then-reads_at : goal.returns-then-reads_at
-returns-then-reads_at c = search (rules, reads, expr-below)
-
-pub loop-k-preserved : goal.loop-k-preserved
-loop-k-preserved c = search (rules, reads, expr-below)
-
 pub returns : goal.returns
-returns c = search (rules, reads, expr_past)
+returns c =
+    let a = c.args in
+    let side = expr_words a.line.now a.x in
+    any_from_yields_List (λ k. reads_here (before_at (tokens_of a.texts.now side) k) (token_of a.texts.now (get_or side k 0))) _ _ _ c.any.ensures.ran
+    (YieldsList-from_range 0 a.x.count (length side) (cc) (omega (arith, expr-length c.requires.1))) (λ x b q k. search rules)
+    ∙ reads_any _ _ side

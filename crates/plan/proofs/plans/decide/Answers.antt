@@ -8,7 +8,7 @@ returns-in_err-d c = search (rules, refl, deciding)
 
 pub returns-then-is_addressed : goal.returns-then-is_addressed
 returns-then-is_addressed c =
-    decide-addressed _ _ _ _ _ _ _ _ c.requires.3 c.line_of.ensures c.definition_of.ensures c.in_ok-d.was c.is_addressed.ensures c.if-is_addressed.true refl
+    decide-addressed _ _ _ _ _ _ _ _ c.requires.2 c.line_of.ensures c.definition_of.ensures c.in_ok-d.was c.is_addressed.ensures c.if-is_addressed.true refl
 
 pub returns : goal.returns
 returns c = search (rules, refl, deciding)

@@ -1,13 +1,20 @@
 -- `plan::reaches::all_take` meets its contract. Assumes nothing.
 use Rattle.std.proofs.Common.{rules}
-use Rattle.plan.proofs.Reaching.{taking}
+use Rattle.reference.specs.Rules.{volatile}
+use Rattle.lines.specs.Rules.{rules_of}
+use Rattle.lines.specs.Texts.{fam_text}
+use Rattle.plan.proofs.Reaching.{serves_after, all_after}
 use Rattle.plan.proofs.reaches.all_take.Goals as goal
 
-pub returns-then-refuses_constant : goal.returns-then-refuses_constant
-returns-then-refuses_constant c = search (rules, taking)
-
-pub loop-l-preserved : goal.loop-l-preserved
-loop-l-preserved c = search (rules, taking)
+pub all-requires-clause-callable : goal.all-requires-clause-callable
+all-requires-clause-callable c =
+    let a = c.args in
+    let g = a.listing.now in
+    serves_after g.texts.tape.now g.texts.area.now g.tokens.now g.lines.now a.v.start a.last c.requires.0 c.requires.3 (search rules) (search rules) (λ x q k. search rules) (λ x h. search rules)
 
 pub returns : goal.returns
-returns c = search (rules, taking)
+returns c =
+    let a = c.args in
+    let g = a.listing.now in
+    all_after g.texts.tape.now g.texts.area.now g.tokens.now g.lines.now a.v.start a.last (fam_text g.texts a.v.family) (volatile (rules_of a.v.rules)) _ _ _
+    c.all.ensures.ran (search rules) (search rules) (λ x b q k. search rules)

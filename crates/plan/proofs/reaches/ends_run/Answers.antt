@@ -6,10 +6,10 @@ use Rattle.reference.specs.Control.{not, ◌or◌}
 use Rattle.reference.specs.Join.{ends_run}
 use Rattle.plan.proofs.reaches.ends_run.Goals as goal
 
-pub returns-then-has_while : goal.returns-then-has_while
+pub returns-then-has_kw : goal.returns-then-has_kw
 unfolding ends_run not ◌or◌
-returns-then-has_while c = grind (arith, common_steps)
+returns-then-has_kw c = grind (arith, common_steps)
 
-pub returns-else-has_while : goal.returns-else-has_while
+pub returns-else-has_kw : goal.returns-else-has_kw
 unfolding ends_run not ◌or◌
-returns-else-has_while c = grind (arith, nat_tests)
+returns-else-has_kw c = grind (arith, nat_tests)

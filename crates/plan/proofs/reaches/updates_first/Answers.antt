@@ -6,13 +6,13 @@ use Rattle.lines.specs.Fams.{fam_text}
 use Rattle.plan.proofs.Reaching.{updates_is}
 use Rattle.plan.proofs.reaches.updates_first.Goals as goal
 
-pub returns-then-not-begins_assign : goal.returns-then-not-begins_assign
+pub returns-then-not-starts : goal.returns-then-not-starts
 unfolding not ◌and◌
-returns-then-not-begins_assign c = grind (arith, nat_tests, updates_is)
+returns-then-not-starts c = grind (arith, nat_tests, updates_is)
 
-pub returns-else-not-begins_assign : goal.returns-else-not-begins_assign
+pub returns-else-not-starts : goal.returns-else-not-starts
 unfolding not ◌and◌
-returns-else-not-begins_assign c = grind (arith, nat_tests, updates_is)
+returns-else-not-starts c = grind (arith, nat_tests, updates_is)
 
 pub returns-else-kind-eq-PUNCT : goal.returns-else-kind-eq-PUNCT
 unfolding not ◌and◌

@@ -1,15 +1,24 @@
 -- `rounds::rounds::turns` meets its contract. Assumes nothing.
-use Rattle.rounds.proofs.Turning.{rounding_begin, rounding_next, rounding_less, rounding_end}
+use Rattle.rounds.proofs.Lending.{lent_same, lent_then, attempt_again}
+use Rattle.rounds.proofs.Turning.{rounding_begin, rounding_counts, rounding_next, rounding_less, rounding_end}
 use Rattle.rounds.proofs.rounds.turns.Goals as goal
 
 pub loop-r-init : goal.loop-r-init
-loop-r-init c = rounding_begin c.requires
+loop-r-init c = (rounding_begin c.requires, lent_same c.args.room.now)
+
+pub turn-r-requires : goal.turn-r-requires
+turn-r-requires c =
+    let i = c.loop-r.invariant in
+    (attempt_again i.1 c.requires i.0.current i.0.limits i.0.labelled c.loop-r-test.true, rounding_counts i.0)
 
 pub loop-r-smaller : goal.loop-r-smaller
-loop-r-smaller c = rounding_less c.loop-r.invariant c.loop-r-test.true c.turn-r.ensures
+loop-r-smaller c = rounding_less c.loop-r.invariant.0 c.loop-r-test.true c.turn-r.ensures.turned
 
 pub loop-r-preserved : goal.loop-r-preserved
-loop-r-preserved c = rounding_next c.loop-r.invariant c.loop-r-test.true c.turn-r.ensures
+loop-r-preserved c =
+    let i = c.loop-r.invariant in
+    let t = c.turn-r.ensures in
+    (rounding_next i.0 c.loop-r-test.true t.turned, lent_then i.1 t.lent)
 
 pub returns : goal.returns
-returns c = rounding_end c.loop-r.invariant c.loop-r-test.false
+returns c = let i = c.loop-r.invariant in record { made = rounding_end i.0 c.loop-r-test.false; lent = i.1 }

@@ -1,22 +1,41 @@
 -- `rounds::run::make_rounds` meets its contract. Assumes nothing.
-use Rattle.std.proofs.Common.{◌≡◌, ◌+◌, ◌-◌, arith, refl}
+use Rattle.std.proofs.Common.{rules, ◌≡◌, ◌+◌, ◌-◌, arith, refl}
+use Rattle.rounds.proofs.Lending.{lent_same, lent_then, runnable_again, gatherable_again}
 use Rattle.rounds.proofs.Running.{going_begin, going_next, going_last, going_end}
 use Rattle.rounds.proofs.run.make_rounds.Goals as goal
 
-pub loop-k-init : goal.loop-k-init
-loop-k-init c =
-    let e : c.most_rounds-most.result - 0 ≡ c.most_rounds-most.result = omega arith in rw e (going_begin c.requires c.most_rounds-most.ensures)
+pub loop-init : goal.loop-init
+loop-init c =
+    let e : c.most_rounds-most.result - 0 ≡ c.most_rounds-most.result = omega arith in
+    (rw e (going_begin c.requires.0.current c.requires.0.limits c.most_rounds-most.ensures), lent_same c.args.room.now)
 
-pub loop-k-preserved : goal.loop-k-preserved
-loop-k-preserved c =
+pub propagate_once-r-requires : goal.propagate_once-r-requires
+propagate_once-r-requires c =
+    let i = c.loop.invariant in
+    (runnable_again i.1 c.requires.0 i.0.current i.0.limits, gatherable_again c.requires.1 (search rules) (search rules) (search rules))
+
+pub loop-preserved : goal.loop-preserved
+loop-preserved c =
+    let i = c.loop.invariant in
+    let p = c.propagate_once-r.ensures in
     let m = c.most_rounds-most.result in
-    let e : m - (c.loop-k._k + 1) ≡ m - c.loop-k._k - 1 = omega arith in
-    rw (e, c.after_round-s.ensures) (going_next c.loop-k.invariant (omega (arith, c.loop-k-test.true)) c.propagate_once-r.ensures c.if-r-eq0.false)
+    let e : m - (c.loop.counter + 1) ≡ m - c.loop.counter - 1 = omega arith in (
+      rw (e, c.after_round-s.ensures) (going_next i.0 (omega (arith, c.loop-test.true)) p.made c.if-r-eq0.false),
+      lent_then i.1 p.lent,
+    )
 
-pub returns-after-loop-k : goal.returns-after-loop-k
-returns-after-loop-k c = going_end c.loop-k.invariant c.requires c.most_rounds-most.ensures (omega (arith, c.loop-k-test.false))
+pub returns-after-loop : goal.returns-after-loop
+returns-after-loop c =
+    let i = c.loop.invariant in
+    record { rounded = going_end i.0 c.requires.0.current c.most_rounds-most.ensures (omega (arith, c.loop-test.false)); lent = i.1 }
 
 pub returns-then-r-eq0 : goal.returns-then-r-eq0
 returns-then-r-eq0 c =
-    rw c.after_round-s.ensures
-    (going_end (going_last c.loop-k.invariant (omega (arith, c.loop-k-test.true)) c.propagate_once-r.ensures c.if-r-eq0.true) c.requires c.most_rounds-most.ensures refl)
+    let i = c.loop.invariant in
+    let p = c.propagate_once-r.ensures in
+    record {
+      rounded =
+          rw c.after_round-s.ensures
+          (going_end (going_last i.0 (omega (arith, c.loop-test.true)) p.made c.if-r-eq0.true) c.requires.0.current c.most_rounds-most.ensures refl);
+      lent = lent_then i.1 p.lent;
+    }

@@ -2,10 +2,14 @@
 use Rattle.std.proofs.Common.{◌-◌}
 use Rattle.lines.specs.Rules.{rules_of}
 use Rattle.lines.specs.Marks.{lows_of, highs_of}
+use Rattle.join.specs.Workspaces.{SameLent}
 use Rattle.rounds.proofs.Running.{Going}
 use Rattle.rounds.proofs.run.make_rounds.Given as goal
 
-abbrev pub invariant-loop-k : goal.invariant-loop-k
-invariant-loop-k l =
-    Going (rules_of l.rules) l.tape l.initial.area l.initial.tokens l.initial.lines (lows_of l.initial.marks) (highs_of l.initial.marks) l.initial.s.size l.most (l.most - l._k)
-    l.area l.tokens l.lines (lows_of l.marks) (highs_of l.marks) l.s
+abbrev pub invariant-loop : goal.invariant-loop
+invariant-loop l =
+    let room = l.room in
+    let first = l.initial.room in
+    Going (rules_of l.rules) l.tape first.area.now first.tokens.now first.lines.now (lows_of first.marks.now) (highs_of first.marks.now) l.initial.s.size
+    l.most (l.most - l.counter) room.area.now room.tokens.now room.lines.now (lows_of room.marks.now) (highs_of room.marks.now) l.s
+    × SameLent first room

@@ -6,8 +6,8 @@ use Rattle.sources.proofs.Putting.{Writing}
 use Rattle.sources.proofs.copying.put_commands.Given as goal
 
 -- the copy of what was read so far stands in the output
-abbrev pub invariant-loop-command : goal.invariant-loop-command
-invariant-loop-command l = Writing l.k l.tape l.initial.out l.at (totals_of l.totals) l.out
+abbrev pub invariant-loop-step : goal.invariant-loop-step
+invariant-loop-step l = Writing l.k l.tape l.initial.out l.at (totals_of l.totals) l.out
 
-abbrev pub decreases-loop-command : goal.decreases-loop-command
-decreases-loop-command l = length l.tape - l.at
+abbrev pub decreases-loop-step : goal.decreases-loop-step
+decreases-loop-step l = length l.tape - l.at

@@ -13,10 +13,10 @@ pub slice_bounds-tokens-end-2 : goal.slice_bounds-tokens-end-2
 slice_bounds-tokens-end-2 c = let l = c.load-loaded in sym (length-take-le _ _ (words_fit _ _ _ _ _ l.ensures.0 (sym l.auto.tokens)))
 
 pub slice_bounds-lines-end : goal.slice_bounds-lines-end
-slice_bounds-lines-end c = let l = c.load-loaded in lines_fit _ _ _ _ _ l.ensures.0 (sym l.auto.lines)
+slice_bounds-lines-end c = let l = c.load-loaded in lines_fit _ _ _ _ _ l.ensures.0 (search rules)
 
 pub slice_bounds-lines-end-2 : goal.slice_bounds-lines-end-2
-slice_bounds-lines-end-2 c = let l = c.load-loaded in sym (length-take-le _ _ (lines_fit _ _ _ _ _ l.ensures.0 (sym l.auto.lines)))
+slice_bounds-lines-end-2 c = let l = c.load-loaded in sym (length-take-le _ _ (lines_fit _ _ _ _ _ l.ensures.0 (search rules)))
 
 pub breaks-requires : goal.breaks-requires
 breaks-requires c = search (rules, filled)

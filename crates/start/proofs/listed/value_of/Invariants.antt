@@ -1,11 +1,10 @@
--- What the loops of `start::listed::value_of` keep true, and what falls at each turn.
-use Prim.Native.Nat.{◌-◌}
+-- What the loop of `start::listed::value_of` keeps true, and what falls at each turn.
 use lib.ListN.{length}
 use Rattle.start.proofs.Entries.{Seeks}
 use Rattle.start.proofs.listed.value_of.Given as goal
 
-abbrev pub invariant-loop-n : goal.invariant-loop-n
-invariant-loop-n l = Seeks l.list l.name l.at
+abbrev pub invariant-loop-entry : goal.invariant-loop-entry
+invariant-loop-entry l = Seeks l.list l.name l.rest
 
-abbrev pub decreases-loop-n : goal.decreases-loop-n
-decreases-loop-n l = length l.list - l.at
+abbrev pub decreases-loop-entry : goal.decreases-loop-entry
+decreases-loop-entry l = length l.rest

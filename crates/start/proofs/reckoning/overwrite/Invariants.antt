@@ -1,9 +1,8 @@
 -- What the loops of `start::reckoning::overwrite` keep true.
-use Rattle.lines.specs.Words.{token_of}
-use Rattle.start.specs.Reckoning.{pair_of}
+use Rattle.start.specs.Formulas.{token_in}
 use Rattle.start.proofs.Pricing.{Overwriting}
 use Rattle.start.proofs.reckoning.overwrite.Given as goal
 
 abbrev pub invariant-loop-k : goal.invariant-loop-k
 invariant-loop-k l =
-    Overwriting (token_of l.formula.tape.now l.formula.tape.now l.target) (pair_of l.p) l.formula.tape.now l.formula.tokens.now l.initial.values l.k l.values
+    Overwriting (token_in l.formula l.target) l.p l.formula.texts.tape.now l.formula.texts.area.now l.formula.tokens.now l.initial.values l.k l.values

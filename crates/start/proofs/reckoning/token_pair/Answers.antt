@@ -7,10 +7,10 @@ use Rattle.start.proofs.reckoning.token_pair.Goals as goal
 
 pub returns-then-kind-eq-NUMBER : goal.returns-then-kind-eq-NUMBER
 returns-then-kind-eq-NUMBER c = λ es q.
-    prices_number _ _ _ (sym c.kind.ensures ∙ c.if-kind-eq-NUMBER.true) _
-    (λ z e. c.number_value.ensures z (ap parse_c_number c.text_of-s.ensures ∙ e))
+    prices_number _ _ _ _ (sym c.kind.ensures ∙ c.if-kind-eq-NUMBER.true) _
+    (λ z e. c.number_value.ensures z (ap parse_c_number c.text-s.ensures ∙ e))
 
 pub returns : goal.returns
 returns c = λ es q.
-    prices_other _ _ _ (λ e. c.if-kind-eq-NUMBER.false (c.kind.ensures ∙ e)) _
-    (c.start_pair.ensures es q ∙ ap (start_pairs _ es) c.text_of-s.ensures)
+    prices_other _ _ _ _ (λ e. c.if-kind-eq-NUMBER.false (c.kind.ensures ∙ e)) _
+    (c.start_pair.ensures es q ∙ ap (start_pairs _ es) c.text-s.ensures)

@@ -6,7 +6,7 @@ use Rattle.tallies.proofs.calls.opens.Goals as goal
 
 pub returns-then-kind-eq-PUNCT : goal.returns-then-kind-eq-PUNCT
 unfolding opens
-returns-then-kind-eq-PUNCT c = kind_yes Punct c.args.kind c.args.text.now c.if-kind-eq-PUNCT.true c.begins_bracket.ensures
+returns-then-kind-eq-PUNCT c = kind_yes Punct c.args.kind c.args.text.now c.if-kind-eq-PUNCT.true c.starts.ensures
 
 pub returns-else-kind-eq-PUNCT : goal.returns-else-kind-eq-PUNCT
 unfolding opens

@@ -6,7 +6,7 @@ use Rattle.tallies.proofs.casts.is_cast.Goals as goal
 
 pub returns-then-kind-eq-KEYWORD : goal.returns-then-kind-eq-KEYWORD
 unfolding is_call_mark
-returns-then-kind-eq-KEYWORD c = kind_yes Keyword c.args.kind c.args.text.now c.if-kind-eq-KEYWORD.true c.begins_void.ensures
+returns-then-kind-eq-KEYWORD c = kind_yes Keyword c.args.kind c.args.text.now c.if-kind-eq-KEYWORD.true c.starts.ensures
 
 pub returns-else-kind-eq-KEYWORD : goal.returns-else-kind-eq-KEYWORD
 unfolding is_call_mark

@@ -2,7 +2,7 @@
 use Rattle.std.proofs.Common.{sym, ◌∙◌}
 use Rattle.reference.specs.Text.{bytes}
 use Rattle.words.proofs.Branches.{if_here, if-there}
-use Rattle.words.proofs.Digits.{prefix-std}
+use Rattle.laws.proofs.Std.{prefix-std}
 use Rattle.words.specs.Numerals.{base_in}
 use Rattle.words.proofs.numerals.base_in.Goals as goal
 

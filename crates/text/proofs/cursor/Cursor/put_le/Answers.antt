@@ -1,8 +1,7 @@
 -- `text::cursor::Cursor::put_le` meets its contract. Assumes nothing.
-use Rattle.std.proofs.Common.{ℕ, ◌≡◌, [], ◌∷◌, ◌+◌, ◌-◌, ◌%◌, ap, sym, arith}
+use Rattle.std.proofs.Common.{[], ◌∷◌, ◌+◌, ◌-◌, ◌%◌, ap, sym, arith}
 use lib.ListN.{take}
 use Rattle.text.specs.Cursor.{Puts}
-use Rattle.text.specs.declared.cursor.Cursor.{Cursor}
 use Rattle.text.proofs.Cursors.{puts_none, then_puts, puts_as, room_left, le_next, le_none}
 use Rattle.text.proofs.cursor.Cursor.put_le.Goals as goal
 

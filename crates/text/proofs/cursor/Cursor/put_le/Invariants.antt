@@ -1,5 +1,5 @@
 -- What the loop of `text::cursor::Cursor::put_le` keeps true: with what is left of the number put behind, the whole number is put.
-use Rattle.std.proofs.Common.{ℕ, ◌-◌}
+use Rattle.std.proofs.Common.{◌-◌}
 use Rattle.reference.specs.Tape.{to_le_bytes}
 use Rattle.text.specs.Cursor.{Fits, Puts}
 use Rattle.text.specs.declared.cursor.Cursor.{Cursor}

@@ -1,0 +1,7 @@
+-- `formula::profile::is_read` meets its contract. Assumes nothing.
+use Rattle.std.proofs.Common.{rules}
+use Rattle.formula.proofs.Whole.{read_so}
+use Rattle.formula.proofs.profile.is_read.Goals as goal
+
+pub returns : goal.returns
+returns c = search (rules, read_so)

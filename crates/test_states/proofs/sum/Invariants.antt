@@ -1,6 +1,0 @@
--- What the loop of `test_states::sum` keeps true.
-use Prim.Native.Nat.{◌<◌}
-use Rattle.test_states.proofs.sum.Given as goal
-
-abbrev pub invariant-loop-byte : goal.invariant-loop-byte
-invariant-loop-byte l = l.h < 4294967296
