@@ -4,7 +4,7 @@
     tools/places.py [COMMIT] [--list POINT]
 
 A row of the table is a rule: a pattern over the lines of crates/*/src/*.rt, or of crates/*/proofs for point 8. With --list the places of one
-rule are printed. A place that stays has a comment that begins "// Kept:" within the four lines before it, or at the head of its function; these
+rule are printed. A place that stays has a comment that begins "// Kept:" within the five lines before it, or at the head of its file; the first of these
 are counted beside the others.
 """
 import argparse

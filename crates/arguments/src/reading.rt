@@ -324,8 +324,8 @@ pub fn parse(words: &[u8]) -> Request
     ensures { result ≡ request_of (split words.now) }
 {
     let mut s = Request::begin();
-    // Kept: counted by hand, word by word, as in the loops beside it: `(0..).zip(words.split_inclusive(|b| *b == 0))` would hand out each
-    // word with the 0 behind it, which each loop would cut off again: no plainer.
+    // Kept: counted by hand, word by word, as in the loops beside it: an iterator of words with `enumerate` was tried here, and what its
+    // loop begins with (`loop-k-init`) stayed open.
     let mut k: u64 = 0;
     let mut left = words;
     while let Some((word, rest)) = next_word(left) {

@@ -3,7 +3,7 @@ use std::fs::File;
 use std::io::{Error, ErrorKind, Read, Write};
 
 // The numbers of the standard streams.
-// Kept: in each program that asks crate io by them: io takes a stream's number and has no names for them.
+// Kept: in crates command, filter and replays (for the test programs): crate io takes a stream's number and has no names for them.
 pub(crate) const STDOUT: i32 = 1;
 
 pub(crate) const STDERR: i32 = 2;

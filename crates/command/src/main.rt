@@ -35,7 +35,8 @@ pub(crate) struct Call<'a> {
 // ---- words
 
 // Puts all arguments but the program's name, each ended by a 0, and answers where they end; none where they do not fit.
-// Kept: a buffer, and where it ends: `arg` copies an argument into a slice that is there, so a Vec would first grow by as much for each.
+// Kept: a buffer, and where it ends: `arg` copies an argument into a slice that is there and tells no length before, so that a `Vec` would
+// be filled with zeros first for each.
 fn gather(rt: &HostRuntime, words: &mut [u8]) -> Option<usize> {
     let mut at = 0;
     for i in 1..usize::MAX {
@@ -394,7 +395,7 @@ impl Call<'_> {
     }
 
     // Every operand is a file: the words are taken once more, and each that is an operand is done.
-    // Kept: counted by hand, as in `parse` of crate arguments, which says why.
+    // Kept: what is left is carried by hand, as in `parse` of crate arguments, which says why.
     fn each_file(&self, verb: Verb) {
         let mut s = Request::begin();
         let mut left = self.words;

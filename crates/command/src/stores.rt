@@ -65,8 +65,8 @@ fn is_of_store(refused: Refusal) -> bool {
     )
 }
 
-// Kept: what is done, the path and the store are three parameters: one buffer is filled by the first of the methods and cut to its size for
-// the next, so that a struct of the three would be made twice.
+// Kept: what is done, the path and the store are three parameters: `act_on_file` has the store read into a buffer and lends `act` the front
+// of it, so that a struct of the three would be made twice.
 impl Call<'_> {
     fn save_state(&self, at: &[u8], store: &mut [u8], name: &[u8; 8], file: &[u8]) {
         let mut input = [0u8; 131072];

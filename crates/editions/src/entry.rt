@@ -39,7 +39,8 @@ fn raised(tape: &[u8], out: &mut [u8]) -> Answer
 }
 
 // From the 2024 edition down to the 2018 edition.
-// Kept: the two calls share four lines: with the direction as a const parameter each of the two would be one function more: no plainer.
+// Kept: the two calls share four lines: with the direction as a const parameter a third function would have these lines, and each of the
+// two would be a call of it: no plainer.
 pub fn to_2018(tape: &[u8], out: &mut [u8]) -> Answer
     ensures { Writes (to_2018 tape.now (length out.old)) out.old out.new (answer_of result) }
 {

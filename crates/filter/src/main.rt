@@ -7,7 +7,7 @@ mod response; // what is answered to an input
 use response::respond;
 
 // The numbers of standard input and output.
-// Kept: in each program that asks crate io by them: io takes a stream's number and has no names for them.
+// Kept: in crates command, filter and replays (for the test programs): crate io takes a stream's number and has no names for them.
 const STDIN: i32 = 0;
 
 const STDOUT: i32 = 1;

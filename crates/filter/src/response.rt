@@ -32,7 +32,8 @@ fn answer(convention: u8, tape: &[u8], out: &mut [u8]) -> usize
     requires { length out.old ≡ OUTPUT }
     ensures { Shows (shown (reply (settings convention) tape.now WORK WORK OUTPUT)) out.old out.new result }
 {
-    // Kept: the sizes of document 01 as numbers, here, in main.rt and in crates command and render: no crate has a public name for them.
+    // Kept: the sizes that question 2 asks for (requests M-109, M-105) as numbers, as they stand in `asked` of crate tape, on which this
+    // program does not rest.
     let mut work_a = [0u8; 49152];
     let mut work_b = [0u8; 49152];
     let rules = Rules {

@@ -95,8 +95,8 @@ fn returns_here(texts: &Texts<'_>, tokens: &[u64], l: u64, indent: u64) -> bool
 }
 
 // The first line that breaks the profile; the lines' texts are all in the tape.
-// Kept: tape, tokens and lines, no `Listing`, which would be no plainer: crate clean would make one for this call alone, with the tape as
-// an area besides, and the two functions above ask of one line, by its word.
+// Kept: tape, tokens and lines, no `Listing`, which would be no plainer: of the two callers crate clean would make one for this call alone,
+// with the tape as an area besides, and the two functions above ask of one line, by its word.
 pub fn breaks(tape: &[u8], tokens: &[u64], lines: &[u64]) -> Option<usize>
     requires { Filled tape.now tokens.now lines.now }
     ensures { (reading : Reading) → option_of result ≡ breaks (listing_read tape.now tape.now tokens.now reading lines.now) }

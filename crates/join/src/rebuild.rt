@@ -72,12 +72,12 @@ pub fn rebuild(tape: &[u8], room: &mut Workspace<'_>, j: Join, rules: Rules, siz
     ensures lent { SameLent room.old room.new }
 {
     // Lent on one by one, as in `patch`.
-    // Kept: the three zeros: `Size::default()` would be an impl of crate build for this place alone.
     let area = &mut *room.area;
     let tokens = &mut *room.tokens;
     let mut second = Builder {
         area: room.area2,
         tokens: room.tokens2,
+        // Kept: the three zeros: of the literal a proof has the fields at once (`nothing_used`), of `Size::default()` a promise.
         size: Size {
             lines: 0,
             tokens: 0,

@@ -98,7 +98,7 @@ fn token_of(letter: u8, text: &[u8]) -> Option<Field>
 fn field_of(field: &[u8]) -> Option<Field>
     ensures { read_in result ≡ read_of (field_command field.now) }
 {
-    // Kept: the two bytes by their places: a slice pattern is as many lines, since `m` goes another way than the letters.
+    // Kept: the two bytes by their places: a slice pattern was tried, and the goals of its three arms stayed open.
     if field.len() < 2 || field[1] != b':' {
         return None;
     }

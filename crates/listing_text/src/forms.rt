@@ -16,8 +16,8 @@ use tape::reader::command_at;
 // ---- pieces
 
 // Puts so many hexadecimal digits, or as many more as it takes.
-// Kept: beside crate render's: one function would want a trait over a page that cuts and a file whose writing may fail, and a type that
-// both errors fit; that is no plainer for three lines each.
+// Kept: beside crate render's: one function would want a trait over a page, whose puts answer nothing, and a file, whose puts may fail;
+// that is no plainer for three lines each.
 fn put_hex(n: u64, least: usize, out: &mut Clipped)
     requires { (1 ≤ least) × (least ≤ 16) }
     ensures { Puts out.old (hexadecimal (enough (16 - least) least n) n) out.new }

@@ -32,6 +32,7 @@ fn put_line(line: &[u8], out: &mut Clipped) -> Result<(), Malformed>
     let (address, behind) = split_once(line, b'\t');
     let (indent, mut left) = split_once(behind.ok_or(Malformed)?, b'\t');
     put_head(address, indent, out)?;
+    // Kept: parted at each tab by `split_once`, as the definition (`apart`) parts it: std's `split` would want one law more.
     while let Some(fields) = left {
         let (field, more) = split_once(fields, b'\t');
         put_field(field, out)?;
@@ -54,7 +55,7 @@ pub fn put_tape(text: &[u8], out: &mut [u8]) -> Result<usize, Unmade>
     let mut page = Clipped::new(out);
     for (n, piece) in (0..).zip(text.split_inclusive(|b| *b == b'\n')) {
         let (line, _) = split_once(piece, b'\n');
-        // Kept: asked and returned: `map_err` with a closure, and `?`, says no more in as many words.
+        // Kept: asked and returned: `map_err` and `?` were tried, and the goal of their way out (`returns-in_err-map_err`) stayed open.
         if put_line(line, &mut page).is_err() {
             return Err(Unmade::Wrong(n));
         }

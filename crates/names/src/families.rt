@@ -48,7 +48,7 @@ struct Listed {
 fn legacy_in(s: &[u8], table: &[[[u8; 3]; 4]]) -> Option<Listed>
     ensures { Lists (map (map unpadded) table.now) s.now result }
 {
-    // Kept: a loop: `find_map` would serve, but the kit has no lemma for what it finds (`FindsMapped`).
+    // Kept: a loop: of `find_map` the kit has a clause over a run of calls, but no lemma over a list, as it has of `find`.
     for (row, names) in table.iter().enumerate() {
         if let Some(column) = column_in(s, names) {
             // Kept: a cast: `enumerate` counts in `usize`, a family's number has 64 bits, which hold it; `u64::try_from` is no plainer,

@@ -38,7 +38,7 @@ fn past_quote(s: &[u8]) -> &[u8]
 
 // What a byte is worth as a digit to the base.
 // Kept: `to_digit(36)` and 99, as the definition has them. std's `to_digit(radix)` asks `2 ≤ radix` and `radix ≤ 36`, so that this function
-// and `with_digit` would ask both, and `row`, which other crates call, the first anew; and it takes a `u32`, so a cast of the base.
+// and `with_digit` would ask both, and `row`, which crate editions calls, the first anew; and it takes a `u32`, so a cast of the base.
 fn digit(b: u8, radix: u64) -> Option<u64>
     ensures { option_of result ≡ reference.to_digit radix b }
 {
@@ -64,6 +64,7 @@ pub fn row(s: &[u8], radix: u64, most: u64) -> Option<u64>
 {
     let mut v = 0;
     let mut rest = s;
+    // Kept: a turn takes a digit and perhaps a quote, so an iterator of bytes would have to look ahead.
     while let [b, behind @ ..] = rest {
         v = with_digit(v, *b, radix, most)?;
         if behind.is_empty() {

@@ -99,7 +99,7 @@ pub fn reach_of(listing: &Listing<'_>, v: Followed) -> Option<usize>
 {
     let n = fact_number(&listing.texts, v.family);
     let mut last = None;
-    // Kept: a loop: `try_fold` would serve, but the kit has no lemma for what it ends with (`TryFoldsItems`).
+    // Kept: a loop: of `try_fold` the kit has a clause over a run of calls, but no lemma over a list, as it has of `fold`.
     for j in v.start + 1..listing.lines.len() {
         match reach_by_facts(listing, j, v, n, last) {
             ControlFlow::Continue(reached) => last = reached,

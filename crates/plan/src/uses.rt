@@ -126,8 +126,8 @@ pub fn use_of(listing: &Listing<'_>, i: usize, d: Definition, rules: Rules) -> O
 }
 
 // ---- the token that uses it
-// Kept: a line and a place in it, each time with `pos < length line`: `line.get(pos)` would be a case for no token in each function, which
-// never comes, since `pos` is what `fams::first_of` found; and a struct of the two would ask the same as its invariant.
+// Kept: a line and a place in it, with `pos < length line` wherever the token there is read: `line.get(pos)` would be a case for no token,
+// which never comes, since `pos` is what `fams::first_of` found; and a struct of the two would ask the same as its invariant.
 
 // Whether the widths of a definition and of its use go together.
 fn widths_fit(width: u64, used: u64) -> bool

@@ -70,7 +70,8 @@ impl From<Result<Finished, Refusal>> for Report {
             Ok(f) => {
                 let t = Told::from(f.tally);
                 Report {
-                    // Kept: the C interface tells every number as a `u64`, and the length of a slice is a `usize`.
+                    // Kept: a cast: the C interface tells a length as a `u64`, which has no `From` of `usize`, and the error of `try_from`
+                    // cannot come.
                     length: f.length as u64,
                     attempts_1: t.first,
                     attempts_2: t.second,

@@ -67,6 +67,7 @@ fn put_names(out: Output, cleaning: &Cleaning) -> Result<(), Unwritten> {
     let mut commands = Commands::new(cleaning.raw);
     let mut symbol = None;
     let mut from = cleaning.raw;
+    // Kept: `next` by hand: each turn notes what is left of the commands, which a `for` does not lend.
     while let Some(event) = commands.next() {
         if let Some((name, earlier)) = symbol
             && opens(event)

@@ -28,6 +28,7 @@ pub(crate) fn before<'a>(bytes: &'a [u8], end: &[u8]) -> &'a [u8] {
 fn behind_tokens(bytes: &[u8]) -> &[u8] {
     let mut commands = Commands::new(bytes);
     let mut end = bytes;
+    // Kept: `next` by hand: what is left of the commands is asked, which a `for` does not lend.
     while let Some(Event::Token { .. }) = commands.next() {
         end = commands.as_bytes();
     }

@@ -25,8 +25,8 @@ use lines::texts::Texts;
 
 // What is told of the rounds: the attempts of each of three, 0 for one that was not made; or, of a run that settled, how many rounds it
 // made, the last included, and the attempts of them all.
-// Kept: a rule of the project gives "attempts of each of three rounds (0 for one not run)" as the answer of a call; an `Option` for each
-// would be turned back to 0 at once.
+// Kept: document 01 gives "attempts of each of three rounds (0 for one not run)" as the answer of a call; an `Option` for each would be
+// turned back to 0 at once.
 #[derive(Clone, Copy)]
 pub enum Tally {
     Three { first: u64, second: u64, third: u64 },

@@ -147,10 +147,9 @@ pub fn fill(tape: &[u8], tokens: &mut [u64], lines: &mut [LineRecord]) -> Totals
 }
 
 // Writes the words, the addresses and the marks of the records into the tables.
-// Kept: whether a line has an address is a bit of its word, and 0 stands in the table where it has none. By a rule of the project
-// definitions keep their meaning, and so do those of crate lines (`address_in`, `Reading`), by which `load` and `write` promise what
-// listing stands in the tables: they read the bit, and the addresses as numbers. A table of `Option`s would say it a second time, beside
-// the bit.
+// Kept: whether a line has an address is a bit of its word, and 0 stands in the table where it has none. `load` and `write`, which are
+// public, promise what listing stands in the tables by the definitions `address_in` and `Reading` of crate lines, which read the bit and
+// the addresses as numbers. A table of `Option`s would say it a second time, beside the bit.
 fn spread(records: &[LineRecord], lines: &mut [u64], addresses: &mut [u64], marks: &mut [Marks])
     requires { (length records.now ≤ 256) × Fitting records.now (length records.now) × (256 ≤ length lines.old)
         × (256 ≤ length addresses.old) × (256 ≤ length marks.old) }

@@ -207,7 +207,7 @@ fn step_on<const BASED: bool>(
 
 // Asks the questions of every command of a tape of either form.
 // Kept: it answers the totals, and no struct that only `check` makes and whose type says that its bytes are an accepted tape. The fact
-// (`AcceptedTape`) is asked in eleven contracts of the crates above; each would name the struct's bytes in place of the tape, in all that
+// (`AcceptedTape`) is asked in twelve contracts of the crates above; each would name the struct's bytes in place of the tape, in all that
 // it asks and promises, and no clause but this one would go. The public calls take any bytes and `load` of crate tables, which is public,
 // would ask more of its callers. And crate sources goes on with an accepted tape that no `check` saw: the copy that it wrote (`came_into`).
 pub fn check<const BASED: bool>(tape: &[u8]) -> Result<Totals, Refusal>

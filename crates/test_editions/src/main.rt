@@ -91,8 +91,8 @@ fn replayed(list: &[u8], up: bool) -> Counts
     replays::replayed(list, 4, |frame| does_way(frame, up))
 }
 
-// Kept: in each test program, this and `print_counts`: no clause can say what is printed, and every public function of this repository
-// promises something.
+// Kept: here and not in crate replays, as in the other test programs: no clause can say what is printed, and every public function of
+// this repository promises something.
 fn print(s: &[u8]) {
     io::write_all(STDOUT, s);
 }

@@ -13,8 +13,8 @@ use replays::{MARK, STDOUT, sum};
 
 const OUT: usize = 59200;
 
-// Kept: in each test program, this and `print_number`: no clause can say what is printed, and every public function of this repository
-// promises something.
+// Kept: here and not in crate replays, as in the other test programs: no clause can say what is printed, and every public function of
+// this repository promises something.
 fn print(s: &[u8]) {
     io::write_all(STDOUT, s);
 }

@@ -38,8 +38,8 @@ const TOKEN_24: [u8; 27] = [
 
 // ---- answers
 
-// Kept: in each test program, this and `write_number`: no clause can say what is printed, and every public function of this repository
-// promises something.
+// Kept: here and not in crate replays, as in the other test programs: no clause can say what is printed, and every public function of
+// this repository promises something.
 fn write(s: &[u8]) {
     io::write_all(STDOUT, s);
 }

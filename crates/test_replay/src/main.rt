@@ -32,7 +32,7 @@ const CLASSES: [(u64, &[u8]); 12] = [
     (11, b"straight pieces: "),
 ];
 
-// Kept: in each test program, this, `print_number` and `print_counts`: no clause can say what is printed, and every public function of
+// Kept: here and not in crate replays, as in the other test programs: no clause can say what is printed, and every public function of
 // this repository promises something.
 fn print(s: &[u8]) {
     io::write_all(STDOUT, s);

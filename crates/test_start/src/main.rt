@@ -95,8 +95,8 @@ fn replayed(list: &[u8], sort: Sort) -> Counts
     replays::replayed(list, 8, |frame| does_sort(frame, sort))
 }
 
-// Kept: in each test program, this and `print_counts`: no clause can say what is printed, and every public function of this repository
-// promises something.
+// Kept: here and not in crate replays, as in the other test programs: no clause can say what is printed, and every public function of
+// this repository promises something.
 fn print(s: &[u8]) {
     io::write_all(STDOUT, s);
 }

@@ -30,8 +30,8 @@ const OUT: usize = 65600;
 
 // ---- printing
 
-// Kept: in each test program, this and `print_number`: no clause can say what is printed, and every public function of this repository
-// promises something.
+// Kept: here and not in crate replays, as in the other test programs: no clause can say what is printed, and every public function of
+// this repository promises something.
 fn print(s: &[u8]) {
     io::write_all(STDOUT, s);
 }
@@ -176,6 +176,7 @@ impl Store<'_> {
     }
 }
 
+// Kept: a loop of its own beside that of crate replays, which counts: here each frame changes the store that the next one finds.
 fn run(list: &[u8], bytes: &mut [u8]) {
     let mut left = list;
     let mut store = Store { bytes, lent: 0 };
