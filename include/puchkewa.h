@@ -1,10 +1,11 @@
 /* Puchkewa: cleans a listing of pseudocode, a tape in, the cleaned tape out; brings one from one edition of C to the other; keeps named states
- * of one; writes the most laborious one; tells which start value makes a formula return a wanted value. What a tape is: docs/TAPE.md.
+ * of one; brings a tape to the form by offset from a load address, and back; writes the most laborious listing; tells which start value makes a
+ * formula return a wanted value. What a tape is: docs/TAPE.md.
  *
  * Each function is proved to meet what is said here, for every input (crates/puchkewa/src; the promise of the cleaning is `Cleans` in
  * crates/clean/specs/Replies.antt, that of a call that writes a tape is `WritesTold` in crates/answers/specs/Answers.antt). They keep no state,
- * allocate nothing and call nothing of C but memset, memcpy and memmove. Not proved, but measured: the cleaning takes about 117,000 bytes of stack, without the profile. Calls in several
- * threads are safe where they share no memory that one of them writes.
+ * allocate nothing and call nothing of C but memset, memcpy and memmove. Not proved, but measured: the cleaning takes about 116,000 bytes of stack,
+ * without the profile (docs/TIMES.md). Calls in several threads are safe where they share no memory that one of them writes.
  *
  * Link with target/staticlib/libpuchkewa.a, which `bin/archive` makes (x86-64 Linux). */
 #ifndef PUCHKEWA_H
@@ -56,16 +57,31 @@ struct puchkewa_settings {
                            (docs/TIMES.md) */
 };
 
-/* Why a call was refused: the first question that was answered "no". They are asked in the order 1, 9, 2; those from 3 on are asked of each command
- * of the tape from the left, in the order 3, 4, 5, 6, 10, 11, 7, 8; and 14 once the tape is read, where the profile is asked for. docs/TAPE.md has the table,
- * and the questions of the calls beside the cleaning. */
+/* Why a call was refused: the first question that was answered "no". Of the cleaning they are asked in the order 1, 9, 2; then of each command of the
+ * tape from the left, in the order 3, 4, 5, 6, 10, 11, 7, 8; and 14 once the tape is read, where the profile is asked for. The questions of the other
+ * calls stand at each of them, and docs/TAPE.md has all in tables.
+ *
+ * The place of a refusal, by its number:
+ *
+ *   1, 2, 9, 15, 16, 17, 19, 20, 21   0
+ *   3                                 the offset in the tape where a command must begin: the tape's length, if it stops without FF
+ *   4, 5, 6, 8, 10, 11                the offset of the command
+ *   7                                 the offset of the first byte that is not printable
+ *   12, 13, 18                        the offset of the first command that earns it, once the whole tape has passed
+ *   14                                the number of the first line that breaks the profile, from 0; 0 of a listing without lines
+ *   22                                the number of the first cell that earns it, from 0
+ *
+ * Offsets count from the tape's first byte, which is 0. */
 enum puchkewa_refusal {
     PUCHKEWA_FINISHED = 0,           /* nothing was refused */
     PUCHKEWA_BAD_CONVENTION = 1,     /* the convention is not 0, 1 or 2 */
-    PUCHKEWA_TOO_LITTLE_ROOM = 2,    /* a work area has fewer than 49,152 bytes, or the output fewer than 59,137 */
-    PUCHKEWA_NO_COMMAND = 3,         /* the tape ends where a command must begin, or the byte there is no command */
+    PUCHKEWA_TOO_LITTLE_ROOM = 2,    /* a work area has fewer than 49,152 bytes, or the output fewer than 59,137. puchkewa_laborious: the output
+                                        has fewer than 59,137; puchkewa_to_2018, puchkewa_to_2024: fewer than the tape;
+                                        puchkewa_to_offsets, puchkewa_from_offsets: fewer than 59,146; named states: the store has fewer
+                                        than 524,288, or the output of puchkewa_restore fewer than 65,523 */
+    PUCHKEWA_NO_COMMAND = 3,         /* the tape ends where a command must begin, or the byte there begins no command of the tape's form */
     PUCHKEWA_CUT_OFF = 4,            /* the command's operand or text runs past the end of the tape */
-    PUCHKEWA_TOKEN_BEFORE_LINE = 5,  /* a token before any line; an 03 that does not stand directly after a line's command, or
+    PUCHKEWA_TOKEN_BEFORE_LINE = 5,  /* a token before any line; an 03 (by offset 05) that does not stand directly after a line's command, or
                                         has its lowest address above its highest */
     PUCHKEWA_BEYOND_LIMITS = 6,      /* indent above 63; a text that is empty; a Number of more than 24 bytes */
     PUCHKEWA_NOT_PRINTABLE = 7,      /* a text byte outside 20 to 7E (hexadecimal) */
@@ -73,28 +89,28 @@ enum puchkewa_refusal {
     PUCHKEWA_BAD_EDITION = 9,        /* the edition is not 0 or 1 */
     PUCHKEWA_TOO_MANY = 10,          /* more than 256 lines or 1,024 tokens */
     PUCHKEWA_TOO_MUCH_TEXT = 11,     /* more than 24,576 bytes of text */
-    PUCHKEWA_NEW_KEYWORD = 12,       /* puchkewa_to_2024: a Symbol that is a keyword of C's edition of 2024 and was none in 2018 */
+    PUCHKEWA_NEW_KEYWORD = 12,       /* puchkewa_to_2024: a Symbol that is one of the eleven keywords in small letters that C's edition of 2024 has
+                                        and that of 2018 has not (docs/TAPE.md) */
     PUCHKEWA_NEW_NUMBER = 13,        /* puchkewa_to_2018: a Number that begins 0b or 0B after at most one minus, or holds a ', and is not read by
                                         the 2024 edition */
-    PUCHKEWA_NOT_STRAIGHT = 14,      /* the profile was asked for, or a start value, and a line breaks the profile: `place` is the number of the first
-                                        such line, from 0 */
+    PUCHKEWA_NOT_STRAIGHT = 14,      /* the profile was asked for, or a start value, and a line breaks the profile, or there is no line */
     PUCHKEWA_NO_START_VALUE = 15,    /* puchkewa_start_value: no start value makes the formula return the wanted value */
     PUCHKEWA_BAD_NAMES = 16,         /* puchkewa_start_value: the chosen or a listed name is no 64-bit register or is a var_ name, or the list ends
                                         inside an entry */
-    PUCHKEWA_TOO_MANY_LINES = 17,    /* the most laborious listing: more than 256 lines were asked for */
+    PUCHKEWA_TOO_MANY_LINES = 17,    /* puchkewa_laborious: more than 256 lines were asked for */
     PUCHKEWA_OUT_OF_REACH = 18,      /* puchkewa_to_offsets: an address below the base, or 2^32 or more above it;
                                         puchkewa_from_offsets: base and offset together are above 2^64 - 1 */
     PUCHKEWA_NO_BASE = 19,           /* puchkewa_from_offsets: the tape does not begin with 06 */
-    PUCHKEWA_NOT_HELD = 20,          /* named states: no state is held under the name */
-    PUCHKEWA_STORE_FULL = 21,        /* named states: the name is new, and eight states are held */
-    PUCHKEWA_STORE_DAMAGED = 22      /* named states: a cell that no call leaves so; the place is its number from 0 */
+    PUCHKEWA_NOT_HELD = 20,          /* puchkewa_restore, puchkewa_delete: no state is held under the name */
+    PUCHKEWA_STORE_FULL = 21,        /* puchkewa_save: the name is new, and eight states are held */
+    PUCHKEWA_STORE_DAMAGED = 22      /* named states: a cell's first byte is above 1, or it is held with a length above 65,523 or under the name
+                                        of an earlier held cell */
 };
 
 /* What a call did. */
 struct puchkewa_report {
     uint64_t refusal;    /* 0 when finished, else the number of the question that refused: enum puchkewa_refusal */
-    uint64_t place;      /* of a refusal by 3 or more: the offset in the tape of the command that was refused, by 7 of the first byte
-                            that is not printable; by 14 the number of the line, from 0; otherwise 0 */
+    uint64_t place;      /* of a refusal: where, as enum puchkewa_refusal says for each number; 0 when finished */
     uint64_t length;     /* the length of the new tape, at the front of the output */
     uint64_t attempts_1; /* attempts to join a line into a later one, in the first round; 0 where `settle` was set .. */
     uint64_t attempts_2; /* .. in the second, 0 if it was not run .. */
@@ -126,7 +142,7 @@ struct puchkewa_report puchkewa_clean(struct puchkewa_settings settings,
 /* What a call beside the cleaning answers. */
 struct puchkewa_answer {
     uint64_t refusal; /* 0, or the number of the question that refused: enum puchkewa_refusal */
-    uint64_t place;   /* of a refusal: where, as in puchkewa_report; 0 for 2, 15 and 16 */
+    uint64_t place;   /* of a refusal: where, as enum puchkewa_refusal says for each number; 0 when not refused */
     uint64_t value;   /* where nothing refused: what the call says of its answer; otherwise 0 */
 };
 
@@ -134,7 +150,7 @@ struct puchkewa_answer {
  *
  * puchkewa_to_2018: Numbers that the 2024 edition reads lose their quotes, and binary ones become hexadecimal in small letters without leading
  * zeros, behind their minus if they have one: 0b1010 is 0xa. Their values by the 2024 edition stay the same, and no text grows.
- * puchkewa_to_2024: nothing changes; a listing that uses a new keyword as a name is refused.
+ * puchkewa_to_2024: nothing changes; a listing that has one of the new keywords as a Symbol is refused.
  * Kinds, lines, marks (03) and all other texts are kept.
  *
  * tape          the tape: tape_length bytes, only read.
@@ -196,7 +212,7 @@ struct puchkewa_answer puchkewa_start_value(const uint8_t *tape, size_t tape_len
                                             const uint8_t *values, size_t values_length,
                                             uint64_t wanted);
 
-/* The least that the output of the two conversions must have, in bytes. */
+/* The least that the output of puchkewa_to_offsets and puchkewa_from_offsets must have, in bytes. */
 #define PUCHKEWA_OFFSETS_OUTPUT 59146
 
 /* A tape brought to the form by offset from the load address `base`, and back (docs/TAPE.md). There and back at the same base gives the identical tape.

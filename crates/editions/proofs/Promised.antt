@@ -2,9 +2,9 @@
 use Prim.Native.Nat.{ℕ, ◌≤◌}
 use native.Mathlib.Omega.{arith}
 use mathlib.Core.Path.{◌≡◌, refl, sym, ap, ◌∙◌}
-use mathlib.Core.Bool.{Bool, false}
+use mathlib.Core.Bool.{Bool, true, false}
 use mathlib.Core.List.{List}
-use mathlib.Core.Option.{none, some}
+use mathlib.Core.Option.{Option, none, some}
 use lib.ListN.{length}
 use borrow.Author.Tests.{le-leb, leb-true}
 use Rattle.reference.specs.Control.{let_some◌else◌then◌}
@@ -12,7 +12,7 @@ use Rattle.reference.specs.Listing.{Token, Listing}
 use Rattle.reference.specs.Tape.{write}
 use Rattle.reference.specs.Questions.{Answer, Refused, Passed, read, marks_in}
 use Rattle.reference.proofs.Opened.{opened}
-use Rattle.reference.proofs.Cases.{by-some}
+use Rattle.reference.proofs.Cases.{by-some, true-false}
 use Rattle.reference.proofs.LittleEndian.{Bytes}
 use Rattle.reference.proofs.Reading.{refused_passed, passed_inj, ask-yes, ask_passed, by_passed, let_is}
 use Rattle.reference.proofs.Tapes.{write_read, read_fits, read-marks_fit}
@@ -79,6 +79,19 @@ module _ (number : ℕ) (refused : Token → Bool) (f : Token → Token) (tape :
   unfolding converted let_some◌else◌then◌
   passes lines h r c = ask-yes _ _ _ (le-leb _ _ h, tt) ∙ let_is _ r ∙ rw (no_place refused tape lines r c) refl
 
+  accepted_none : (new : List ℕ) (lines : Listing) → converted number refused f tape output ≡ Passed new → read tape ≡ Passed lines → holds refused lines ≡ false
+  accepted_none new lines e r = clean refused tape lines r (passing new e).nowhere
+
+  refuses : (lines : Listing) → read tape ≡ Passed lines → length tape ≤ output → holds refused lines ≡ true
+      → (place : ℕ) × (converted number refused f tape output ≡ Refused number place)
+  unfolding converted let_some◌else◌then◌
+  refuses lines r h held = found (first_place (of_command refused) (length tape) tape 0) refl
+    where
+      found : (o : Option ℕ) → first_place (of_command refused) (length tape) tape 0 ≡ o
+          → (place : ℕ) × (converted number refused f tape output ≡ Refused number place)
+      found none e = absurd (true-false held (clean refused tape lines r e))
+      found (some at) e = (at, ask-yes _ _ _ (le-leb _ _ h, tt) ∙ let_is _ r ∙ rw e refl)
+
   refused_at : (lines : Listing) {n place : ℕ} → length tape ≤ output → read tape ≡ Passed lines
       → converted number refused f tape output ≡ Refused n place → (n ≡ number) × Leftmost refused tape place
   unfolding converted
@@ -112,6 +125,12 @@ up_identity tape output new b e =
     (change_same up_token earns_12 up_kept p.lines (clean earns_12 tape p.lines p.reads p.nowhere))
     ∙ write_read tape p.lines b p.reads
 
+up-accepted : (tape : List ℕ) (output : ℕ) (lines : Listing) → Bytes tape → read tape ≡ Passed lines → length tape ≤ output → holds earns_12 lines ≡ false
+    → to_2024 tape output ≡ Passed tape
+up-accepted tape output lines b r h k =
+    passes 12 earns_12 up_token tape output lines h r k
+    ∙ ap Passed (ap (λ (l : Listing). write l (marks_in tape)) (change_same up_token earns_12 up_kept lines k) ∙ write_read tape lines b r)
+
 lowering : (tape : List ℕ) (output : ℕ) (new : List ℕ) → Bytes tape → to_2018 tape output ≡ Passed new → Lowered tape new
 lowering tape output new b e =
     let p = passing 13 earns_13 down_token tape output new e in
@@ -140,6 +159,12 @@ on_tapes =
           λ tape output output' lines new b e r h k.
           (let w : new ≡ tape = up_identity tape output new b e in
           rw w (down_identity tape output' lines b r h (rw w at k)));
+      raised = λ tape output new lines e r. accepted_none 12 earns_12 up_token tape output new lines e r;
+      up_refuses = λ tape output lines r h held. refuses 12 earns_12 up_token tape output lines r h held;
+      up_accepts = up-accepted;
+      no_13 = λ tape output new lines e r. accepted_none 13 earns_13 down_token tape output new lines e r;
+      down_refuses = λ tape output lines r h held. refuses 13 earns_13 down_token tape output lines r h held;
+      down_accepts = λ tape output lines r h no_13. passes 13 earns_13 down_token tape output lines h r no_13;
       down_refused = λ tape output number place lines r h e. refused_at 13 earns_13 down_token tape output lines h r e;
       up_refused = λ tape output number place lines r h e. refused_at 12 earns_12 up_token tape output lines h r e;
     }

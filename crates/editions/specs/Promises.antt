@@ -97,6 +97,25 @@ pub record OnTapes : Type 0 where
   -- "Down after an accepted up gives the tape itself when no Number begins `0b` or `0B` after at most one minus, or holds a quote."
   pub down_after_up : (tape : List ℕ) (output output' : ℕ) (lines : Listing) (new : List ℕ) → Bytes tape → to_2024 tape output ≡ Passed new
       → read tape ≡ Passed lines → holds is_newer_number lines ≡ false → length new ≤ output' → to_2018 new output' ≡ Passed tape
+  -- going up refuses an accepted tape for which there is room exactly if it holds a Symbol that is a new keyword: an accepted up holds none,
+  -- and one that holds none is accepted
+  pub raised : (tape : List ℕ) (output : ℕ) (new : List ℕ) (lines : Listing) → to_2024 tape output ≡ Passed new → read tape ≡ Passed lines
+      → holds earns_12 lines ≡ false
+  pub up_refuses : (tape : List ℕ) (output : ℕ) (lines : Listing) → read tape ≡ Passed lines → length tape ≤ output
+      → holds earns_12 lines ≡ true
+      → (place : ℕ) × (to_2024 tape output ≡ Refused 12 place)
+  pub up_accepts : (tape : List ℕ) (output : ℕ) (lines : Listing) → Bytes tape → read tape ≡ Passed lines → length tape ≤ output
+      → holds earns_12 lines ≡ false
+      → to_2024 tape output ≡ Passed tape
+  -- and going down exactly if a Number earns 13
+  pub no_13 : (tape : List ℕ) (output : ℕ) (new : List ℕ) (lines : Listing) → to_2018 tape output ≡ Passed new → read tape ≡ Passed lines
+      → holds earns_13 lines ≡ false
+  pub down_refuses : (tape : List ℕ) (output : ℕ) (lines : Listing) → read tape ≡ Passed lines → length tape ≤ output
+      → holds earns_13 lines ≡ true
+      → (place : ℕ) × (to_2018 tape output ≡ Refused 13 place)
+  pub down_accepts : (tape : List ℕ) (output : ℕ) (lines : Listing) → read tape ≡ Passed lines → length tape ≤ output
+      → holds earns_13 lines ≡ false
+      → to_2018 tape output ≡ Passed (write (change down_token lines) (marks_in tape))
   -- an accepted tape for which there is room is refused with 13, or going up with 12, at the leftmost command that earns it, and only so
   pub down_refused : (tape : List ℕ) (output number place : ℕ) (lines : Listing) → read tape ≡ Passed lines → length tape ≤ output
       → to_2018 tape output ≡ Refused number place → (number ≡ 13) × Leftmost earns_13 tape place

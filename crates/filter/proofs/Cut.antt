@@ -29,7 +29,7 @@ past_the_tape front h =
     simp (line, text)
 
 -- A token that says of itself that it has 65,535 bytes, behind a line without address, never ends inside 65,536 bytes of tape: refused 4 at 2, whatever
--- follows. Where 65,535 bytes of text and FF follow, a filter that did not cut would say 6 at 2.
+-- follows. Where 65,535 bytes of text and FF follow, a filter that did not cut would say 11 at 2.
 pub long_text : (rest : List ℕ) → response (0x01 ∷ 0x02 ∷ 0x00 ∷ 0x10 ∷ 0xFF ∷ 0xFF ∷ rest) ≡ refusal 4 2
 unfolding response LONGEST shown
 long_text rest = rw (past_the_tape (take 65531 rest) (simp length-take (omega arith)))

@@ -8,19 +8,20 @@ use Rattle.reference.specs.Control.{◌or◌, when◌then◌else◌, let_some◌
 use Rattle.reference.specs.Lists.{any}
 use Rattle.reference.specs.Text.{Text, bytes}
 use Rattle.reference.specs.Listing.{Token, Punct}
-use Rattle.reference.specs.Evaluators.{Arithmetic, wide, number_of, Lexeme, sign, lexemes_of, behind, operator, fuel_for, combine}
-use Rattle.straight.proofs.Enough.{behind-length, operator-shorter, expression_of, term_of, further_of, expression_is, term_none, term-register, term_number, term-sign, further_is}
+use Rattle.reference.specs.Evaluators.{Arithmetic, wide, number_of, Lexeme, sign, lexemes_of, behind, operator, Operator, fuel_for, combine}
+use Rattle.straight.proofs.Enough.{behind-length, operator-shorter, term-shorter, expression_of, term_of, further_of, expression_is, term_none, term-register, term_number, term-sign, further_is}
 use Rattle.lines.specs.Words.{kind_of, token_of, tokens_of, Points}
-use Rattle.formula.specs.Places.{left, Placed, Readable, Leads, operator_of, operated_of, Operates}
+use Rattle.formula.specs.Places.{left, Placed, InLine, Readable, Leads, operator_of, operated_of, Operates}
 use Rattle.formula.specs.Terms.{is_junk, has_junk}
-use Rattle.formula.specs.Values.{Pair, pairs, joined, pair_at, no_token, Valued, Worth, numbers_of, pair_of, worth_of, Worths, Term, Expression}
+use Rattle.formula.specs.Values.{Pair, pairs, joined, pair_at, no_token, Valued, Consistent, Worth, numbers_of, pair_of, worth_of, Worths, Term, Expression}
 use Rattle.formula.specs.declared.places.Place.{Place}
 use Rattle.formula.specs.declared.places.Sign.{Sign}
 use Rattle.formula.specs.declared.places.Sign.TheVariants.{Plus, Minus}
 use Rattle.formula.specs.declared.places.Operation.{Operation}
 use Rattle.formula.specs.declared.evaluators.Pair.{Pair as Held}
 use Rattle.formula.specs.declared.evaluators.Value.{Value}
-use Rattle.formula.proofs.Left.{left_end, left_sign, size_punct, left_other, no_punct, token_at, One, a_register, a_number, a_junk, one_of, placed-whole}
+use Rattle.formula.proofs.Left.{left_end, left_sign, size_punct, left_other, no_punct, token_at, One, a_register, a_number, a_junk, one_of, placed, whole-token}
+use Rattle.formula.proofs.Bytes.{bytes_left, bytes-fall}
 use Rattle.formula.proofs.Ahead.{leads_some, leads_none}
 use Rattle.formula.proofs.Junk.{no_junk_at}
 
@@ -62,23 +63,15 @@ module _ (tape area : Text) (line : List ℕ) (values : List Held) where
 
   module _ {xs : List Lexeme} {f : Arithmetic Pair → (Text → Pair) → ℕ → List Lexeme → Option (Pair × List Lexeme)} where
     breaks_by : ((number : ℤ → Pair) (σ : Text → Pair) → Valued number σ ts values → f (pairs number) σ (fuel_for xs) xs ≡ none) → Worths tape area line values xs f std.None
-    breaks_by h =
-        record {
-          is = λ number σ v. sym (h number σ v);
-          placed = λ u e. cc;
-          shorter = λ u e. cc;
-        }
+    breaks_by h = record { is = λ number σ v. sym (h number σ v); in_line = λ u e. cc }
 
     worth_by : (v : Value)
         → ((number : ℤ → Pair) (σ : Text → Pair) → Valued number σ ts values → f (pairs number) σ (fuel_for xs) xs ≡ some (pair_of v, left ts v.place.token v.place.byte))
-        → Placed line v.place.token v.place.byte → length (left ts v.place.token v.place.byte) < length xs → Worths tape area line values xs f (std.Some v)
-    worth_by v h p l = record { is = λ number σ w. sym (h number σ w); placed = same; shorter = less }
+        → InLine line v.place.token v.place.byte → Worths tape area line values xs f (std.Some v)
+    worth_by v h p = record { is = λ number σ w. sym (h number σ w); in_line = same }
       where
-        same : (u : Value) → std.Some v ≡ std.Some u → Placed line u.place.token u.place.byte
+        same : (u : Value) → std.Some v ≡ std.Some u → InLine line u.place.token u.place.byte
         same u f = let x : v ≡ u = cc in rw (← x) p
-
-        less : (u : Value) → std.Some v ≡ std.Some u → length (left ts u.place.token u.place.byte) < length xs
-        less u f = let x : v ≡ u = cc in rw (← x) l
 
     module _ {y : Worth} (q : Worths tape area line values xs f y) where
       pub worth_none : y ≡ std.None → (number : ℤ → Pair) (σ : Text → Pair) → Valued number σ ts values → f (pairs number) σ (fuel_for xs) xs ≡ none
@@ -89,11 +82,8 @@ module _ (tape area : Text) (line : List ℕ) (values : List Held) where
             → f (pairs number) σ (fuel_for xs) xs ≡ some ((out.pair.multiplier, out.pair.constant), left ts out.place.token out.place.byte)
         worth_some number σ v = sym (q.is number σ v) ∙ ap (worth_of ts) e
 
-        pub worth-placed : Placed line out.place.token out.place.byte
-        worth-placed = q.placed out e
-
-        worth-shorter : length (left ts out.place.token out.place.byte) < length xs
-        worth-shorter = q.shorter out e
+        pub worth-in-line : InLine line out.place.token out.place.byte
+        worth-in-line = q.in_line out e
 
   -- ---- a term
 
@@ -106,7 +96,7 @@ module _ (tape area : Text) (line : List ℕ) (values : List Held) where
       pub term-worth : (x ≡ Punct → ⊥) → has_junk tape area line ≡ false → {u : Held} → numbers_of u ≡ pair_at values k
           → Term tape area line values k b (std.Some (before_token u (k + 1)))
       term-worth n free {u} eu =
-          worth_by (before_token u (k + 1)) (λ number σ v. ap (term_of (pairs number) σ) whole ∙ go number σ v one) (placed-whole tape area line h (k + 1)) fewer
+          worth_by (before_token u (k + 1)) (λ number σ v. ap (term_of (pairs number) σ) whole ∙ go number σ v one) (whole-token tape area line h (k + 1) (omega arith))
         where
           other : kind_of (get_or line k 0) ≡ Punct → ⊥
           other e = n (ex ∙ e)
@@ -116,14 +106,6 @@ module _ (tape area : Text) (line : List ℕ) (values : List Held) where
 
           one : One (token_of tape area (get_or line k 0))
           one = one_of (token_of tape area (get_or line k 0)) (no_punct tape area line k l other)
-
-          fewer : length (left ts (k + 1) 0) < length (left ts k b)
-          fewer = rw whole (size one)
-            where
-              size : One (token_of tape area (get_or line k 0)) → length (left ts (k + 1) 0) < length (lexemes_of (token_of tape area (get_or line k 0)) ++ left ts (k + 1) 0)
-              size (a_register z w e) = rw e (omega arith)
-              size (a_number z w n e) = rw e (omega arith)
-              size (a_junk w n e) = rw e (omega arith)
 
           long : k < length ts
           long = omega (arith, length-map line (token_of tape area))
@@ -182,13 +164,7 @@ module _ (tape area : Text) (line : List ℕ) (values : List Held) where
             unfolding let_some◌else◌then◌ bracket
             term_closed i' g =
                 worth_by (record out { place = i' })
-                (λ number σ v. inner i e number σ ∙ rw (worth_some w out f number σ v, leads_some i' z g) refl) (z.placed i' g)
-                (omega (
-                  arith,
-                  behind-length (bytes "(") (left ts k b) (left ts i.token i.byte) (leads_some i q e),
-                  worth-shorter w out f,
-                  behind-length (bytes ")") (left ts out.place.token out.place.byte) (left ts i'.token i'.byte) (leads_some i' z g),
-                ))
+                (λ number σ v. inner i e number σ ∙ rw (worth_some w out f number σ v, leads_some i' z g) refl) (z.in_line i' g)
 
   -- ---- an expression
 
@@ -212,11 +188,10 @@ module _ (tape area : Text) (line : List ℕ) (values : List Held) where
           inv.is number σ v ∙ rw (worth_some w out e number σ v, ← em, ← ec) refl
           ∙ further_is (pairs number) σ (m', c') (left ts out.place.token out.place.byte) ∙ rw (← q.is) refl
 
-      pub expression-over : length (left ts k b) ≤ length (left ts k₀ b₀) → o ≡ std.None
+      pub expression-over : o ≡ std.None
           → Expression tape area line values k₀ b₀ (std.Some (record out { pair = record { multiplier = m'; constant = c' } }))
       unfolding let_some◌else◌then◌
-      expression-over l f =
-          worth_by (record out { pair = record { multiplier = m'; constant = c' } }) (λ number σ v. summed number σ v ∙ rw f refl) (worth-placed w out e) (omega (arith, worth-shorter w out e))
+      expression-over f = worth_by (record out { pair = record { multiplier = m'; constant = c' } }) (λ number σ v. summed number σ v ∙ rw f refl) (worth-in-line w out e)
 
       pub joining_goes : (i : Operation) → o ≡ std.Some i → Joining tape area line values k₀ b₀ (std.Some i.sign) m' c' i.place.token i.place.byte
       unfolding let_some◌else◌then◌
@@ -230,29 +205,33 @@ module _ (tape area : Text) (line : List ℕ) (values : List Held) where
           by number σ Plus = unfold combine in refl
           by number σ Minus = unfold combine in refl
 
-  -- ---- what is left falls
+  pub next_placed : {x : Option (Operator × List Lexeme)} {o : std.Option Operation} (i : Operation) → Operates tape area line x o → o ≡ std.Some i → Placed line i.place.token i.place.byte
+  next_placed i q f = placed _ _ _ (q.in_line i f)
 
-  pub opens-shorter : (k b : ℕ) {r : std.Option Place} (i : Place) → Leads tape area line (behind (bytes "(") (left ts k b)) r → r ≡ std.Some i
-      → length (left ts i.token i.byte) < length (left ts k b)
-  opens-shorter k b i q e = omega (arith, behind-length (bytes "(") (left ts k b) (left ts i.token i.byte) (leads_some i q e))
+  -- ---- the text bytes that are left fall
 
-  -- behind a term and the operator that follows it
-  module _ (k b : ℕ) {y : Worth} (w : Term tape area line values k b y) (out : Value) (e : y ≡ std.Some out) {o : std.Option Operation}
-      (q : Operates tape area line (operator (left ts out.place.token out.place.byte)) o) (i : Operation) (f : o ≡ std.Some i) where
-    pub next_placed : Placed line i.place.token i.place.byte
-    next_placed = q.placed i f
+  module _ (h : Readable tape area line) (k b : ℕ) (p : Placed line k b) where
+    pub opens-shorter : {r : std.Option Place} (i : Place) → Leads tape area line (behind (bytes "(") (left ts k b)) r → r ≡ std.Some i
+        → bytes_left line i.token i.byte < bytes_left line k b
+    opens-shorter i q e =
+        bytes-fall tape area line h k b i.token i.byte p (placed _ _ _ (q.in_line i e))
+        (omega (arith, behind-length (bytes "(") (left ts k b) (left ts i.token i.byte) (leads_some i q e)))
 
-    pub next-less : length (left ts i.place.token i.place.byte) < length (left ts k b)
-    next-less =
-        omega (
-          arith,
-          worth-shorter w out e,
-          operator-shorter (left ts out.place.token out.place.byte) (operator_of i.sign, left ts i.place.token i.place.byte) (sym q.is ∙ ap (operated_of ts) f),
-        )
+    -- behind a term and the operator that follows it
+    module _ (s : Consistent ts values) {y : Worth} (w : Term tape area line values k b y) (out : Value) (e : y ≡ std.Some out) {o : std.Option Operation}
+        (q : Operates tape area line (operator (left ts out.place.token out.place.byte)) o) (i : Operation) (f : o ≡ std.Some i) where
+      pub next-less : bytes_left line i.place.token i.place.byte < bytes_left line k b
+      next-less =
+          bytes-fall tape area line h k b i.place.token i.place.byte p (next_placed i q f)
+          (omega (
+            arith,
+            term-shorter (pairs s.number) s.register (fuel_for (left ts k b)) (left ts k b) _ (worth_some w out e s.number s.register s.valued),
+            operator-shorter (left ts out.place.token out.place.byte) (operator_of i.sign, left ts i.place.token i.place.byte) (sym q.is ∙ ap (operated_of ts) f),
+          ))
 
-    -- and not above what was left at the beginning
-    pub next-within : (k₀ b₀ : ℕ) → length (left ts k b) ≤ length (left ts k₀ b₀) → length (left ts i.place.token i.place.byte) ≤ length (left ts k₀ b₀)
-    next-within k₀ b₀ l = omega (arith, next-less)
+      -- and not above what was left at the beginning
+      pub next-within : (n : ℕ) → bytes_left line k b ≤ n → bytes_left line i.place.token i.place.byte ≤ n
+      next-within n l = omega (arith, next-less)
 
 -- ---- the measure of a call
 

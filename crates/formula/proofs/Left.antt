@@ -9,7 +9,7 @@ use Rattle.reference.specs.Evaluators.{wide, number_of, Lexeme, sign, reg, num, 
 use Rattle.laws.proofs.Scans.{if-true, if-false}
 use Rattle.lines.specs.Words.{kind_of, len_of, text_of, token_of, tokens_of, Points}
 use Rattle.lines.proofs.words.Tokens.{text_length}
-use Rattle.formula.specs.Places.{left_of, left, size_of, Placed, Readable}
+use Rattle.formula.specs.Places.{left_of, left, size_of, Placed, InLine, Readable}
 
 -- ---- parts of lists
 
@@ -130,6 +130,15 @@ module _ (tape area : Text) (line : List ℕ) where
           let z : b ≡ 0 = omega (arith, size_other) in
           ap (λ (n : ℕ). left ts k n) z ∙ left_at 0
 
+pub placed : (line : List ℕ) (k b : ℕ) → InLine line k b → Placed line k b
+unfolding InLine
+placed line k b i = i.0
+
+-- a lexeme of a token of the line is in it
+pub inside : (line : List ℕ) (k b : ℕ) → k < length line → Placed line k b → InLine line k b
+unfolding InLine
+inside line k b l p = (p, λ e. absurd (omega arith))
+
 -- every place at the beginning of a token is one
 pub placed-whole : (tape area : Text) (line : List ℕ) → Readable tape area line → (k : ℕ) → Placed line k 0
 unfolding size_of when◌then◌else◌
@@ -138,3 +147,8 @@ placed-whole tape area line h k l = go (eqb (kind_of (get_or line k 0)) Punct)
     go : (b : Bool) → 0 < (when b then len_of (get_or line k 0) else 1)
     go true = h.filled k l
     go false = omega arith
+
+-- and in the line, where the token is, and at its end
+pub whole-token : (tape area : Text) (line : List ℕ) → Readable tape area line → (k : ℕ) → k ≤ length line → InLine line k 0
+unfolding InLine
+whole-token tape area line h k l = (placed-whole tape area line h k, λ e. (omega arith, refl))

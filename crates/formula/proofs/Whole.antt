@@ -14,12 +14,12 @@ use Rattle.reference.specs.Straight.{zeros}
 use Rattle.laws.proofs.Scans.{if-true, if-false}
 use Rattle.straight.proofs.Values.{read_alike}
 use Rattle.lines.specs.Words.{kind_of, token_of, tokens_of}
-use Rattle.formula.specs.Places.{left, Placed, Readable, Leads}
-use Rattle.formula.specs.Values.{Pair, pairs, Valued, Worth, pair_of, Expression, value_of, Evaluates}
+use Rattle.formula.specs.Places.{left, Placed, InLine, Readable, Leads}
+use Rattle.formula.specs.Values.{Pair, pairs, Valued, Consistent, Worth, pair_of, Expression, value_of, Evaluates}
 use Rattle.formula.specs.declared.places.Place.{Place}
 use Rattle.formula.specs.declared.evaluators.Pair.{Pair as Held}
 use Rattle.formula.specs.declared.evaluators.Value.{Value}
-use Rattle.formula.proofs.Left.{left_end, left_whole, left_sign, size_punct, left_other, no_punct, One, a_register, a_number, a_junk, one_of, placed-whole}
+use Rattle.formula.proofs.Left.{left_end, left_whole, left_sign, size_punct, left_other, no_punct, One, a_register, a_number, a_junk, one_of, placed, whole-token}
 use Rattle.formula.proofs.Ahead.{leads_some, leads_none}
 use Rattle.formula.proofs.Evaluating.{worth_none, worth_some}
 
@@ -42,8 +42,8 @@ left_some tape area line h k b p l = by_cases (ℕ_discrete (kind_of (get_or lin
     other : (kind_of (get_or line k 0) ≡ Punct → ⊥) → is_empty (left (tokens_of tape area line) k b) ≡ false
     other e = ap is_empty (left_other tape area line k l e b (p l)) ∙ one (one_of _ (no_punct tape area line k l e))
 
-pub begin_placed : (tape area : Text) (line : List ℕ) → Readable tape area line → Placed line 0 0
-begin_placed tape area line h = placed-whole tape area line h 0
+pub begin-in-line : {tape area : Text} {line : List ℕ} → Readable tape area line → InLine line 0 0
+begin-in-line {tape} {area} {line} h = whole-token tape area line h 0 (omega arith)
 
 module _ (tape area : Text) (line : List ℕ) (values : List Held) (before : List ℕ) (h : Readable tape area line) {r : std.Option Place}
     (q : Leads tape area line (behind before (left (tokens_of tape area line) 0 0)) r) where
@@ -79,22 +79,24 @@ module _ (tape area : Text) (line : List ℕ) (values : List Held) (before : Lis
         ended number σ v = begun number σ ∙ rw (leads_some i q e, worth_some tape area line values w out f number σ v, leads_some i' z g) refl
 
         pub whole_more : i'.token < length line → Evaluates tape area line values before std.None
-        whole_more l number σ v = sym (ended number σ v ∙ if-false _ _ (left_some tape area line h i'.token i'.byte (z.placed i' g) l))
+        whole_more l number σ v = sym (ended number σ v ∙ if-false _ _ (left_some tape area line h i'.token i'.byte (placed _ _ _ (z.in_line i' g)) l))
 
-        pub whole-ended : length line ≤ i'.token → Evaluates tape area line values before (std.Some (record out { place = i' }))
+        pub whole-ended : length line ≤ i'.token → Evaluates tape area line values before (std.Some out.pair)
         whole-ended l number σ v = sym (ended number σ v ∙ if-true _ _ (ap is_empty (left_end tape area line i'.token i'.byte l)))
 
 -- ---- whether a line is worth anything
 
-nothing-valued : (ts : List Token) → Valued (λ z. (0, 0)) (λ x. (0, 0)) ts []
-nothing-valued _ = record { register = λ k x l e. refl; number_is = λ k z l e. refl }
+-- the empty table gives all the same pair
+pub nothing-consistent : (ts : List Token) → Consistent ts []
+nothing-consistent _ =
+    record { number = λ z. (0, 0); register = λ x. (0, 0); valued = record { register = λ k x l e. refl; number_is = λ k z l e. refl } }
 
-module _ (tape area : Text) (line before : List ℕ) (w : Worth) (q : Evaluates tape area line [] before w) {x : Bool} (e : x ≡ Option.is_some w) where
-  same_some : (w : Worth) → Option.is_some w ≡ is_some (value_of w)
+module _ (tape area : Text) (line before : List ℕ) (w : std.Option Held) (q : Evaluates tape area line [] before w) {x : Bool} (e : x ≡ Option.is_some w) where
+  same_some : (w : std.Option Held) → Option.is_some w ≡ is_some (value_of w)
   same_some (std.Some v) = refl
   same_some std.None = refl
 
   pub read_so : x ≡ is_some (evaluate modulo zeros before (lexemes (tokens_of tape area line)))
   read_so =
-      e ∙ same_some w ∙ ap is_some (q (λ z. (0, 0)) (λ x. (0, 0)) (nothing-valued (tokens_of tape area line)))
-      ∙ read_alike (pairs (λ z. (0, 0))) modulo (λ x. (0, 0)) zeros before (lexemes (tokens_of tape area line))
+      let s = nothing-consistent (tokens_of tape area line) in
+      e ∙ same_some w ∙ ap is_some (q s.number s.register s.valued) ∙ read_alike (pairs s.number) modulo s.register zeros before (lexemes (tokens_of tape area line))

@@ -39,6 +39,9 @@ has_junk l = Terms.has_junk l.texts.tape.now l.texts.area.now l.words.now
 abbrev pub Placed : Line → Place → Type 0
 Placed l p = Places.Placed l.words.now p.token p.byte
 
+abbrev pub InLine : Line → Place → Type 0
+InLine l p = Places.InLine l.words.now p.token p.byte
+
 abbrev pub left : Line → Place → List Lexeme
 left l p = Places.left (tokens_of l) p.token p.byte
 
@@ -50,11 +53,14 @@ Operates l = Places.Operates l.texts.tape.now l.texts.area.now l.words.now
 
 -- ---- what stands at a place is worth
 
+abbrev pub Consistent : Line → List Pair → Type 0
+Consistent l = Values.Consistent (tokens_of l)
+
 abbrev pub Term : Line → List Pair → Place → Values.Worth → Type 0
 Term l values p = Values.Term l.texts.tape.now l.texts.area.now l.words.now values p.token p.byte
 
 abbrev pub Expression : Line → List Pair → Place → Values.Worth → Type 0
 Expression l values p = Values.Expression l.texts.tape.now l.texts.area.now l.words.now values p.token p.byte
 
-abbrev pub Evaluates : Line → List Pair → Text → Values.Worth → Type 0
+abbrev pub Evaluates : Line → List Pair → Text → std.Option Pair → Type 0
 Evaluates l = Values.Evaluates l.texts.tape.now l.texts.area.now l.words.now

@@ -26,9 +26,14 @@ left ts k b = left_of b (drop k ts)
 unfoldable pub size_of : ℕ → ℕ
 size_of w = when kind_of w == Punct then len_of w else 1
 
--- the end of the line, or a lexeme of a token
+-- a lexeme of a token, or a place past the last token
 abbrev pub Placed : List ℕ → ℕ → ℕ → Type 0
 Placed line k b = k < length line → b < size_of (slice_index line k)
+
+-- the end of the line, or a lexeme of a token. In a line that can be read, such a place is known by the lexemes that are left there
+-- (`known_by_left`, proofs/Bytes.antt).
+unfoldable pub InLine : List ℕ → ℕ → ℕ → Type 0
+InLine line k b = Placed line k b × (length line ≤ k → (k ≡ length line) × (b ≡ 0))
 
 -- every word points into its text, and no text is empty
 pub record Readable (tape area : Text) (line : List ℕ) : Type 0 where
@@ -39,10 +44,10 @@ abbrev pub ahead_of : List Token → std.Option Place → Option (List Lexeme)
 ahead_of ts (std.Some p) = some (left ts p.token p.byte)
 ahead_of ts std.None = none
 
--- the answer r leads to what the definition o leaves
+-- the answer r leads to what the definition o leaves, and stands in the line
 pub record Leads (tape area : Text) (line : List ℕ) (o : Option (List Lexeme)) (r : std.Option Place) : Type 0 where
   pub is : ahead_of (tokens_of tape area line) r ≡ o
-  pub placed : (p : Place) → r ≡ std.Some p → Placed line p.token p.byte
+  pub in_line : (p : Place) → r ≡ std.Some p → InLine line p.token p.byte
 
 abbrev pub operator_of : Sign → E.Operator
 operator_of Plus = adds
@@ -54,4 +59,4 @@ operated_of ts std.None = none
 
 pub record Operates (tape area : Text) (line : List ℕ) (o : Option (E.Operator × List Lexeme)) (r : std.Option Operation) : Type 0 where
   pub is : operated_of (tokens_of tape area line) r ≡ o
-  pub placed : (p : Operation) → r ≡ std.Some p → Placed line p.place.token p.place.byte
+  pub in_line : (p : Operation) → r ≡ std.Some p → InLine line p.place.token p.place.byte

@@ -6,7 +6,7 @@ use Rattle.reference.specs.Text.{Text}
 use Rattle.reference.specs.Listing.{Token, token}
 use Rattle.reference.specs.Evaluators.{Arithmetic, plus, minus, wide, number_of, Lexeme, lexemes, fuel_for, expression, term, evaluate}
 use Rattle.lines.specs.Words.{tokens_of}
-use Rattle.formula.specs.Places.{left, Placed}
+use Rattle.formula.specs.Places.{left, InLine}
 use Rattle.formula.specs.declared.places.Sign.{Sign}
 use Rattle.formula.specs.declared.places.Sign.TheVariants.{Plus, Minus}
 use Rattle.formula.specs.declared.evaluators.Pair as held
@@ -53,6 +53,12 @@ pub record Valued (number : ℤ → Pair) (σ : Text → Pair) (ts : List Token)
   pub register : (k : ℕ) (x : Text) → k < length ts → wide (slice_index_or ts k no_token) ≡ some x → pair_at values k ≡ σ x
   pub number_is : (k : ℕ) (z : ℤ) → k < length ts → number_of (slice_index_or ts k no_token) ≡ some z → pair_at values k ≡ number z
 
+-- no register has two pairs in the table, and no number
+pub record Consistent (ts : List Token) (values : List held.Pair) : Type 0 where
+  pub number : ℤ → Pair
+  pub register : Text → Pair
+  pub valued : Valued number register ts values
+
 abbrev pub pair_of : Value → Pair
 pair_of v = numbers_of v.pair
 
@@ -60,13 +66,13 @@ abbrev pub worth_of : List Token → Worth → Option (Pair × List Lexeme)
 worth_of ts (std.Some v) = some (pair_of v, left ts v.place.token v.place.byte)
 worth_of ts std.None = none
 
--- the answer r is what an evaluator answers of the lexemes xs, whichever pairs the table has; and what is left is less
+-- the answer r is what an evaluator answers of the lexemes xs, whichever pairs the table has; and its place stands in the line. Of a table
+-- that is consistent one answer alone is that (proofs/Determined.antt): pair, token and byte, none is free.
 pub record Worths (tape area : Text) (line : List ℕ) (values : List held.Pair) (xs : List Lexeme)
     (evaluator : Arithmetic Pair → (Text → Pair) → ℕ → List Lexeme → Option (Pair × List Lexeme)) (r : Worth) : Type 0 where
   pub is : (number : ℤ → Pair) (σ : Text → Pair) → Valued number σ (tokens_of tape area line) values
       → worth_of (tokens_of tape area line) r ≡ evaluator (pairs number) σ (fuel_for xs) xs
-  pub placed : (v : Value) → r ≡ std.Some v → Placed line v.place.token v.place.byte
-  pub shorter : (v : Value) → r ≡ std.Some v → length (left (tokens_of tape area line) v.place.token v.place.byte) < length xs
+  pub in_line : (v : Value) → r ≡ std.Some v → InLine line v.place.token v.place.byte
 
 abbrev pub Term : Text → Text → List ℕ → List held.Pair → ℕ → ℕ → Worth → Type 0
 Term tape area line values k b = Worths tape area line values (left (tokens_of tape area line) k b) term
@@ -74,12 +80,12 @@ Term tape area line values k b = Worths tape area line values (left (tokens_of t
 abbrev pub Expression : Text → Text → List ℕ → List held.Pair → ℕ → ℕ → Worth → Type 0
 Expression tape area line values k b = Worths tape area line values (left (tokens_of tape area line) k b) expression
 
-abbrev pub value_of : Worth → Option Pair
-value_of (std.Some v) = some (pair_of v)
+abbrev pub value_of : std.Option held.Pair → Option Pair
+value_of (std.Some p) = some (numbers_of p)
 value_of std.None = none
 
--- the answer r is what a whole line is worth
-abbrev pub Evaluates : Text → Text → List ℕ → List held.Pair → Text → Worth → Type 0
+-- the answer r is what a whole line is worth, whichever pairs the table has; of a table that is consistent one answer alone
+abbrev pub Evaluates : Text → Text → List ℕ → List held.Pair → Text → std.Option held.Pair → Type 0
 Evaluates tape area line values before r =
     (number : ℤ → Pair) (σ : Text → Pair) → Valued number σ (tokens_of tape area line) values
     → value_of r ≡ evaluate (pairs number) σ before (lexemes (tokens_of tape area line))

@@ -1,15 +1,16 @@
-// The evaluators of expressions and terms, which call each other; at each call the text that is left is shorter, or it is a term's where
-// it was an expression's. A value is a pair of numbers modulo 2^64: of a register that is chosen it has a multiple, and a constant beside
+// The evaluators of expressions and terms, which call each other; at each call the text bytes left are fewer, or it is a term's where it
+// was an expression's. A value is a pair of numbers modulo 2^64: of a register that is chosen it has a multiple, and a constant beside
 // it.
 //
 // `values` has a pair for each token of the line: what a register is worth there, or a number. Past its end all are 0, so an empty table
-// serves to ask whether a line is read at all.
+// serves to ask whether a line is read at all. A table that gives a register two values is excluded (`Consistent`); of any other the
+// contracts determine each result (proofs/Determined.antt).
 //
 // Brackets nest as deep as a tape has bytes, so a level is kept small on the stack (the project's bar is 4,194,304 bytes for the deepest):
 // `term` is called at one place, so that the compiler lays both in one frame; and whether the tokens are registers and numbers of the
 // profile is asked before (`has_junk`), not on the way down.
 ghost use Rattle.std.specs.Prelude.{◌≡◌, false};
-ghost use Rattle.formula.specs.Line.{Readable, Placed, has_junk, Term, Expression, Evaluates};
+ghost use Rattle.formula.specs.Line.{Readable, Placed, has_junk, Consistent, Term, Expression, Evaluates};
 ghost use Rattle.formula.specs.Values.{joined, numbers_of, pair_at};
 
 use crate::line::Line;
@@ -64,7 +65,7 @@ fn joined(sign: Option<Sign>, v: u64, w: u64) -> u64
 // A term from a place on; none where the profile is broken.
 #[cycle(expression_term)]
 pub fn term(line: &Line<'_>, values: &[Pair], place: Place) -> Worth
-    requires { Readable line.now × (has_junk line.now ≡ false) × Placed line.now place }
+    requires { Readable line.now × (has_junk line.now ≡ false) × Consistent line.now values.now × Placed line.now place }
     ensures { Term line.now values.now place result }
 {
     if line.words.len() <= place.token {
@@ -91,7 +92,7 @@ pub fn term(line: &Line<'_>, values: &[Pair], place: Place) -> Worth
 // Terms joined by ` + ` and ` - `, from a place on; none where the profile is broken.
 #[cycle(expression_term)]
 pub fn expression(line: &Line<'_>, values: &[Pair], start: Place) -> Worth
-    requires { Readable line.now × (has_junk line.now ≡ false) × Placed line.now start }
+    requires { Readable line.now × (has_junk line.now ≡ false) × Consistent line.now values.now × Placed line.now start }
     ensures { Expression line.now values.now start result }
 {
     let mut sign = None;
@@ -118,10 +119,9 @@ pub fn expression(line: &Line<'_>, values: &[Pair], start: Place) -> Worth
     }
 }
 
-// What a line's tokens behind its first one are worth: `before`, an expression, `;`, and nothing more. The place in the answer is their
-// end.
-pub fn evaluate(line: &Line<'_>, values: &[Pair], before: &[u8]) -> Worth
-    requires { Readable line.now }
+// What a line's tokens behind its first one are worth: `before`, an expression, `;`, and nothing more.
+pub fn evaluate(line: &Line<'_>, values: &[Pair], before: &[u8]) -> Option<Pair>
+    requires { Readable line.now × Consistent line.now values.now }
     ensures { Evaluates line.now values.now before.now result }
 {
     if has_junk(line) {
@@ -133,8 +133,5 @@ pub fn evaluate(line: &Line<'_>, values: &[Pair], before: &[u8]) -> Worth
     if end.token < line.words.len() {
         return None;
     }
-    Some(Value {
-        place: end,
-        ..value
-    })
+    Some(value.pair)
 }

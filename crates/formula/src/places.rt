@@ -1,7 +1,7 @@
 // Places in a line: a token's number and a byte of its text, which is 0 in a token that is no Punct.
 ghost use Rattle.std.specs.Prelude.{[], ◌∷◌};
 ghost use Rattle.reference.specs.Evaluators.{behind, operator};
-ghost use Rattle.formula.specs.Line.{left, Placed, Readable, Leads, Operates};
+ghost use Rattle.formula.specs.Line.{left, Placed, InLine, Readable, Leads, Operates};
 
 use crate::line::Line;
 use lines::words;
@@ -53,9 +53,10 @@ fn behind_byte(line: &Line<'_>, place: Place, c: u8) -> Option<Place>
     })
 }
 
-// The place behind a text of Puncts, if it stands here.
+// The place behind a text of Puncts, if it stands here. Behind an empty text is the place that was given, so that one is asked to stand in
+// the line (`InLine`).
 pub fn behind(line: &Line<'_>, start: Place, t: &[u8]) -> Option<Place>
-    requires { Readable line.now × Placed line.now start }
+    requires { Readable line.now × InLine line.now start }
     ensures { Leads line.now (behind t.now (left line.now start)) result }
 {
     let mut place = start;
@@ -67,7 +68,7 @@ pub fn behind(line: &Line<'_>, start: Place, t: &[u8]) -> Option<Place>
 
 // The operator at a place, if one stands here.
 pub fn operator(line: &Line<'_>, place: Place) -> Option<Operation>
-    requires { Readable line.now × Placed line.now place }
+    requires { Readable line.now × InLine line.now place }
     ensures { Operates line.now (operator (left line.now place)) result }
 {
     if let Some(next) = behind(line, place, b" + ") {

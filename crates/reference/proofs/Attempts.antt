@@ -6,9 +6,11 @@ use mathlib.Core.Path.{◌≡◌, refl, sym, ap, ◌∙◌, subst}
 use mathlib.Core.Bool.{Bool, true, false}
 use mathlib.Core.List.{List, [], ◌∷◌}
 use mathlib.Core.Option.{Option, none, some}
+use lib.Dec.{eqb}
 use lib.ListN.{length, drop}
-use Rattle.reference.specs.Control.{◌and◌, let_some◌else◌then◌}
-use Rattle.reference.specs.Lists.{is_some, is_empty, modify}
+use borrow.Author.Tests.{eqb-false}
+use Rattle.reference.specs.Control.{◌and◌, when◌then◌else◌, let_some◌else◌then◌}
+use Rattle.reference.specs.Lists.{any, is_some, is_empty, modify}
 use Rattle.reference.specs.Text.{Text}
 use Rattle.reference.specs.Listing.{Token, Listing, ◌at◌}
 use Rattle.reference.specs.Names.{Fam, family}
@@ -24,6 +26,20 @@ use Rattle.reference.proofs.Calls.{fold-merge_keeps, replaced_keeps, substitute_
 use Rattle.reference.proofs.Lines.{at_modify, length-modify, drop-step}
 use Rattle.reference.proofs.Changes.{Changes, unchanged, changes_trans, changes_line, Assigns, Removed}
 use Rattle.reference.proofs.Limits.{All}
+
+-- the lines that `targets` names
+abbrev pub all_uses : Listing → ℕ → Fam → List Text → List ℕ
+all_uses lines i f volatile = (gather (lines at i).indent f.name volatile (suc i) (drop (suc i) lines) i).uses
+
+abbrev pub one_use : Listing → ℕ → Fam → List Token → List Text → List ℕ
+one_use lines i f expr volatile =
+    let_some (use_from (lines at i).indent f.name expr (is_some (call_at (lines at i))) volatile (suc i) (drop (suc i) lines)) else [] then λ j. j ∷ []
+
+one_use_is : (lines : Listing) (i : ℕ) (f : Fam) (expr : List Token) (volatile : List Text) {j : ℕ}
+    → use_from (lines at i).indent f.name expr (is_some (call_at (lines at i))) volatile (suc i) (drop (suc i) lines) ≡ some j
+    → one_use lines i f expr volatile ≡ j ∷ []
+unfolding let_some◌else◌then◌
+one_use_is lines i f expr volatile e = rw e
 
 -- ---- a lone number, to several uses
 
@@ -74,6 +90,14 @@ module _ (edition : ℕ) (fam : Text) (expr : List Token) (lone : lone_number ex
       (λ w light. omega (arith, fold-merge_le w edition (substitute fam expr ts), substitute_le w fam expr (light lone) ts))
       (λ c. omega (arith, (fold-merge_keeps edition (substitute fam expr ts)).called c, (substitute_keeps fam expr ts).called c))
 
+  -- the other lines stand
+  uses_others : (js : List ℕ) (lines : Listing) (i : ℕ) → any (eqb i) js ≡ false → rewrite_uses edition fam expr js lines at i ≡ lines at i
+  unfolding rewrite_uses
+  uses_others [] lines i h = refl
+  uses_others (j ∷ js) lines i h =
+      uses_others js (modify j (rewrite_use edition fam expr) lines) i (neither h).1
+      ∙ at_modify (rewrite_use edition fam expr) i j lines (eqb-false i j (neither h).0)
+
   uses_change : (k : ℕ) (js : List ℕ) (lines : Listing) → UsedFrom lines k js
       → Changes expr [] [] lines (rewrite_uses edition fam expr js lines) × ((i : ℕ) → i < k → rewrite_uses edition fam expr js lines at i ≡ lines at i)
   unfolding rewrite_uses
@@ -103,10 +127,24 @@ module _ (lines : Listing) (base-indent : ℕ) (fam : Text) (expr : List Token) 
 
 -- ---- the attempt
 
+pub is_some_some : {A : Type 0} (o : Option A) → is_some o ≡ true → (a : A) × (o ≡ some a)
+is_some_some none e = absurd (true-false e refl)
+is_some_some (some a) e = (a, refl)
+
+module _ (rules : Rules) (lines : Listing) (i : ℕ) (labels : Labels) where
+  -- a goal over `targets`, by whether the constant goes to all its uses
+  pub by_targets : (P : List ℕ → Type 0) (a : Assignment) (f : Fam) → assignment (lines at i) ≡ some a → family a.lhs.text ≡ some f
+      → let many = lone_number a.expr and is_some (propagate_constant rules.edition lines i f.name a.expr labels (volatile rules)) in
+      (many ≡ true → P (all_uses lines i f (volatile rules))) → (many ≡ false → P (one_use lines i f a.expr (volatile rules)))
+      → P (targets rules lines i labels)
+  unfolding targets let_some◌else◌then◌
+  by_targets P a f ea ef all one = rw (ea, ef) (by-if P all one)
+
 module _ {lines : Listing} {i : ℕ} (s : Assigns lines i) (rules : Rules) (labels : Labels) (volatile : List Text) {lines' : Listing} where
   open s use {to, fam, assignment_is, family_is}
 
-  constant-removed : lone_number to.expr ≡ true → propagate_constant rules.edition lines i fam.name to.expr labels volatile ≡ some lines' → Removed lines i lines'
+  constant-removed : lone_number to.expr ≡ true → propagate_constant rules.edition lines i fam.name to.expr labels volatile ≡ some lines'
+      → Removed lines i (all_uses lines i fam volatile) lines'
   unfolding propagate_constant calls_in
   constant-removed lone e =
       let u = unless-some (unless-some e).1 in
@@ -123,10 +161,12 @@ module _ {lines : Listing} {i : ℕ} (s : Assigns lines i) (rules : Rules) (labe
               calls_ge = λ c. omega (arith, r.0.calls_ge c, number_silent c to.expr lone);
             };
         line_same = r.1 i (le_refl _);
+        others_same = λ j h. uses_others rules.edition fam.name to.expr lone found.uses lines j h;
         left = sym (some_inj u.1);
       }
 
-  join-removed : join_one rules lines i fam to.expr labels volatile ≡ some lines' → Removed lines i lines'
+  join-removed : join_one rules lines i fam to.expr labels volatile ≡ some lines'
+      → Removed lines i (one_use lines i fam to.expr volatile) lines'
   unfolding join_one join_at rewrite_one
   join-removed e =
       let u = bind-some e in
@@ -144,19 +184,32 @@ module _ {lines : Listing} {i : ℕ} (s : Assigns lines i) (rules : Rules) (labe
             (λ w h. omega (arith, fold-merge_le w rules.edition new, replaced_le w rules fam.name ts pos (assigns (lines at i).tokens to assignment_is) p.1))
             (λ c. omega (arith, (fold-merge_keeps rules.edition new).called c, (replaced_keeps rules fam.name ts to.expr pos p.1).called c));
         line_same = at_modify (rewrite_one rules pos to.expr) i j lines (λ e. omega (arith, place.0));
+        others_same = λ k h. at_modify (rewrite_one rules pos to.expr) k j lines (eqb-false k j (neither (rw (one_use_is lines i fam to.expr volatile u.1) at h)).0);
         left = sym (some_inj (if_some p.2).1);
       }
 
+not_found : {A : Type 0} (b : Bool) (o : Option A) → (when b then o else none) ≡ none → (b and is_some o) ≡ false
+unfolding when◌then◌else◌ ◌and◌
+not_found true none e = refl
+not_found true (some a) e = absurd (none-some (sym e))
+not_found false o e = refl
+
 pub attempt_removed : (rules : Rules) (lines : Listing) (i : ℕ) (labels : Labels) (addressed : List Text) {lines' : Listing}
-    → try_at rules lines i labels addressed ≡ some lines' → Removed lines i lines'
+    → try_at rules lines i labels addressed ≡ some lines' → Removed lines i (targets rules lines i labels) lines'
 unfolding try_at
 attempt_removed rules lines i labels addressed {lines'} e =
     let a = bind-some e in
     let f = bind-some a.2 in
     let s : Assigns lines i = record { to = a.0; fam = f.0; assignment_is = a.1; family_is = f.1 } in
-    by-some (λ (o : Option Listing). o ≡ some lines' → Removed lines i lines')
-    (λ n u. join-removed s rules labels (volatile rules) u)
-    (λ l h u. (let c = if_some (h ∙ u) in constant-removed s rules labels (volatile rules) c.0 c.1))
+    let constant : Option Listing = propagate_constant rules.edition lines i f.0.name a.0.expr labels (volatile rules) in
+    by-some (λ (o : Option Listing). o ≡ some lines' → Removed lines i (targets rules lines i labels) lines')
+    (λ n u. by_targets rules lines i labels (λ js. Removed lines i js lines') a.0 f.0 a.1 f.1
+    (λ t. absurd (true-false t (not_found (lone_number a.0.expr) constant n)))
+    (λ t. join-removed s rules labels (volatile rules) u))
+    (λ l h u. (let c = if_some (h ∙ u) in
+    by_targets rules lines i labels (λ js. Removed lines i js lines') a.0 f.0 a.1 f.1
+    (λ t. constant-removed s rules labels (volatile rules) c.0 c.1)
+    (λ t. absurd (true-false (pair c.0 (ap is_some c.1)) t))))
     (unless-some f.2).1
 
 -- ---- the lines that it is joined into
@@ -173,18 +226,6 @@ found_all lines i k (j ∷ js) h o = ((omega (arith, o.0), o.1), found_all lines
 not-empty : {A : Type 0} (xs : List A) → is_empty xs ≡ false → 1 ≤ length xs
 not-empty [] e = absurd (true-false refl e)
 not-empty (x ∷ xs) e = omega arith
-
-pub is_some_some : {A : Type 0} (o : Option A) → is_some o ≡ true → (a : A) × (o ≡ some a)
-is_some_some none e = absurd (true-false e refl)
-is_some_some (some a) e = (a, refl)
-
--- the lines that `targets` names
-abbrev pub all_uses : Listing → ℕ → Fam → List Text → List ℕ
-all_uses lines i f volatile = (gather (lines at i).indent f.name volatile (suc i) (drop (suc i) lines) i).uses
-
-abbrev pub one_use : Listing → ℕ → Fam → List Token → List Text → List ℕ
-one_use lines i f expr volatile =
-    let_some (use_from (lines at i).indent f.name expr (is_some (call_at (lines at i))) volatile (suc i) (drop (suc i) lines)) else [] then λ j. j ∷ []
 
 module _ (rules : Rules) (lines : Listing) (i : ℕ) (f : Fam) (expr : List Token) (labels : Labels) (volatile : List Text) {lines' : Listing} where
   constant-joined : propagate_constant rules.edition lines i f.name expr labels volatile ≡ some lines'
@@ -206,14 +247,6 @@ module _ (rules : Rules) (lines : Listing) (i : ℕ) (f : Fam) (expr : List Toke
       rw u.1 (record { some_line = omega arith; each = ((place.0, place.1), tt) })
 
 module _ (rules : Rules) (lines : Listing) (i : ℕ) (labels : Labels) where
-  -- a goal over `targets`, by whether the constant goes to all its uses
-  pub by_targets : (P : List ℕ → Type 0) (a : Assignment) (f : Fam) → assignment (lines at i) ≡ some a → family a.lhs.text ≡ some f
-      → let many = lone_number a.expr and is_some (propagate_constant rules.edition lines i f.name a.expr labels (volatile rules)) in
-      (many ≡ true → P (all_uses lines i f (volatile rules))) → (many ≡ false → P (one_use lines i f a.expr (volatile rules)))
-      → P (targets rules lines i labels)
-  unfolding targets let_some◌else◌then◌
-  by_targets P a f ea ef all one = rw (ea, ef) (by-if P all one)
-
   -- A LINE THAT IS REMOVED IS JOINED INTO ONE LINE AT LEAST
   pub attempt_joined : (addressed : List Text) {lines' : Listing} → try_at rules lines i labels addressed ≡ some lines'
       → Joined i (length lines) (targets rules lines i labels)
@@ -223,7 +256,7 @@ module _ (rules : Rules) (lines : Listing) (i : ℕ) (labels : Labels) where
       let f = bind-some a.2 in
       let expr : List Token = a.0.expr in
       let constant : Option Listing = propagate_constant rules.edition lines i f.0.name expr labels (volatile rules) in
-      by_targets (λ js. Joined i (length lines) js) a.0 f.0 a.1 f.1
+      by_targets rules lines i labels (λ js. Joined i (length lines) js) a.0 f.0 a.1 f.1
       (λ t. constant-joined rules lines i f.0 expr labels (volatile rules) (is_some_some constant (both t).1).1)
       (λ t. by-some (λ (o : Option Listing). o ≡ some lines' → Joined i (length lines) (one_use lines i f.0 expr (volatile rules)))
       (λ n u. one_joined rules lines i f.0 expr labels (volatile rules) u)

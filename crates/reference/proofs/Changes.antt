@@ -7,13 +7,14 @@ use mathlib.Core.Bool.{false}
 use mathlib.Core.List.Sublistᴰ
 use mathlib.Core.List.{List, [], Sublistᴰ}
 use mathlib.Core.Option.{Option, some}
+use lib.Dec.{eqb}
 use lib.ListN.{length, length-map}
-use Rattle.reference.specs.Lists.{remove, modify}
+use Rattle.reference.specs.Lists.{any, remove, modify}
 use Rattle.reference.specs.Listing.{Token, Line, Listing, ◌at◌}
 use Rattle.reference.specs.Names.{Fam, family, fam_of}
 use Rattle.reference.specs.Shapes.{Assignment, assignment, is_label}
 use Rattle.reference.specs.Claim.{Callee, calls_in, calls, pair_of, pairs_of, label_lines}
-use Rattle.reference.specs.Demand.{nothing, line, Step}
+use Rattle.reference.specs.Demand.{Removes, Step}
 use Rattle.reference.proofs.Cases.{by-if, true-false}
 use Rattle.reference.proofs.Shapes.{assigns, assigning-register, assigning-plain, inside}
 use Rattle.reference.proofs.Weights.{Weight, weight, total, Light, count, count_is, light, light_nothing}
@@ -62,7 +63,6 @@ pub changes-step : {lines lines' : Listing} → Changes [] [] [] lines lines' �
 unfolding calls_in
 changes-step {lines} {lines'} h =
     record {
-      gone = nothing h.places_same;
       calls_stay = λ c. omega (arith, h.calls_ge c);
       tokens_stay = omega (arith, h.weight_le count (light_nothing count), count_is lines, count_is lines');
     }
@@ -76,19 +76,20 @@ pub record Assigns (lines : Listing) (i : ℕ) : Type 0 where
   pub assignment_is : assignment (lines at i) ≡ some to
   pub family_is : family to.lhs.text ≡ some fam
 
--- its expression is joined into other lines, and it goes
-pub record Removed (lines : Listing) (i : ℕ) (lines' : Listing) : Type 0 where
+-- its expression is joined into other lines, those at `into`, and it goes
+pub record Removed (lines : Listing) (i : ℕ) (into : List ℕ) (lines' : Listing) : Type 0 where
   pub assigned : Assigns lines i
   pub between : Listing
   pub changes : Changes assigned.to.expr (lines at i).tokens assigned.to.expr lines between
   pub line_same : between at i ≡ lines at i
+  pub others_same : (j : ℕ) → any (eqb j) into ≡ false → between at j ≡ lines at j
   pub left : lines' ≡ remove i between
 
 same_length : (lines lines' : Listing) → pairs_of lines' ≡ pairs_of lines → length lines' ≡ length lines
 same_length lines lines' e = sym (length-map lines' pair_of) ∙ ap length e ∙ length-map lines pair_of
 
-module _ {lines : Listing} {i : ℕ} {lines' : Listing} (r : Removed lines i lines') where
-  open r use {assigned, between, changes, line_same, left}
+module _ {lines : Listing} {i : ℕ} {into : List ℕ} {lines' : Listing} (r : Removed lines i into lines') where
+  open r use {assigned, between, changes, line_same, others_same, left}
   open assigned use {to, fam, assignment_is, family_is}
 
   in_range : i < length lines
@@ -130,12 +131,20 @@ module _ {lines : Listing} {i : ℕ} {lines' : Listing} (r : Removed lines i lin
       by-if (λ (o : Option Fam). o ≡ some fam) (λ u. family_is)
       (λ u. absurd (true-false (assigning-register (assigns (lines at i).tokens to assignment_is)) u))
 
+  pub removed-gone : Removes lines i into lines'
+  removed-gone =
+      record {
+        in_range = in_range;
+        assigned = record { to = to; name = fam; is_assignment = assignment_is; is_register = register_is };
+        joined = between;
+        pairs_stand = changes.places_same;
+        others_stand = others_same;
+        left = left;
+      }
+
   pub removed-step : Step lines lines'
   removed-step =
       record {
-        gone =
-            line i in_range (record { to = to; name = fam; is_assignment = assignment_is; is_register = register_is })
-            between changes.places_same line_same left;
         calls_stay = removed-calls;
         tokens_stay = omega (arith, removed_le count (light count (λ m n. omega arith) to.expr), count_is lines, count_is lines');
       }

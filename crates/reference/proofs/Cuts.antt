@@ -101,6 +101,12 @@ cut_weight (dead n s h) w = omega arith
 
 -- ---- the step
 
+dead_two : {ts : List Token} → Dead ts → 2 ≤ length ts
+dead_two (dead n s h) = omega arith
+
+pub cut_two : (rules : Rules) (labels : Labels) (lines : Listing) (i : ℕ) → dead_result rules labels lines i ≡ true → 2 ≤ length (lines at i).tokens
+cut_two rules labels lines i e = dead_two (dead_line rules labels lines i e)
+
 pub cut-changes : (rules : Rules) (labels : Labels) (lines : Listing) (i : ℕ) → i < length lines → dead_result rules labels lines i ≡ true
     → Changes [] [] [] lines (modify i (λ l. with_tokens (drop 2 l.tokens) l) lines)
 unfolding calls_in

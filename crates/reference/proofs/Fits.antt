@@ -55,7 +55,7 @@ changes_fit h f =
       small = omega (arith, h.weight_le excess (light_nothing excess), f.small);
     }
 
-pub removed_fit : {lines : Listing} {i : ℕ} {lines' : Listing} → Removed lines i lines' → Fits lines → Fits lines'
+pub removed_fit : {lines : Listing} {i : ℕ} {into : List ℕ} {lines' : Listing} → Removed lines i into lines' → Fits lines → Fits lines'
 removed_fit {lines} {i} r f =
     let to = r.assigned.to in
     let none_here : weight excess (lines at i).tokens ≡ 0 = omega (arith, sum-remove (λ l. weight excess l.tokens) refl i lines, f.small) in

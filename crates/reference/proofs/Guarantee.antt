@@ -1,9 +1,10 @@
 -- DEMAND 3, undivided, for every accepted tape and all settings: `demand3-tape`. In plain words: if no question refuses the tape, and `input` is the
 -- listing that it holds, then in the run of `input`, over every attempt of every round and every cut, each step takes the listing that the step
--- before left, and the last one left is the finished one; a line is gone only if it was an assignment to a register or a stack slot; addresses
--- and indents keep their order; label lines stand unchanged; no callee is called less often; there are never more tokens than before, nor more
--- than 49,152 bytes of text; and a round that begins with m lines and removes s makes at most m + s attempts. So the output has room for the
--- finished listing's tape (`output-length`), and what a call lends keeps its length (`same_lengths`). Assumes nothing.
+-- before left, and the last one left is the finished one; an attempt that succeeds takes out its own line alone, an assignment to a register or a stack
+-- slot, and leaves the lines unchanged that it is not joined into; a cut takes two tokens from one line; addresses and indents keep their order;
+-- label lines stand unchanged; no callee is called less often; there are never more tokens than before, nor more than 49,152 bytes of text; and a
+-- round that begins with m lines and removes s makes at most m + s attempts. So the output has room for the finished listing's tape
+-- (`output-length`), and what a call lends keeps its length (`same_lengths`). Assumes nothing.
 use Prim.Native.Nat.{ℕ, ◌≤◌}
 use native.Mathlib.Omega.{arith}
 use native.Mathlib.Nat.{le_refl, le_trans}

@@ -1,24 +1,27 @@
--- M-104: without the parts setting nothing changes (`without_parts`), with it one test is added (`adds-lowest`), and under it every attempt that
--- succeeds keeps to the parts (`parts-kept`), and so does every attempt of every run (`run_keeps-parts`). Assumes nothing.
+-- M-104: without the parts setting nothing changes (`without_parts`), with it one test is added (`adds-lowest`), so that an attempt fails exactly
+-- where it fails without it or its single use is another part (`parts_exactly`), and under it every attempt that succeeds keeps to the parts
+-- (`parts-kept`), and so does every attempt of every run (`run_keeps-parts`). Assumes nothing.
 use Prim.Native.Nat.{ℕ, zero, suc, ◌≤◌, ◌<◌}
-use mathlib.Core.Path.{◌≡◌, refl, sym, ◌∙◌, subst}
+use mathlib.Core.Path.{◌≡◌, refl, sym, ◌∙◌, subst, ap}
 use mathlib.Core.Bool.{Bool, true, false, false≢true}
 use mathlib.Core.List.{List, [], ◌∷◌, ◌++◌, flatten}
-use mathlib.Core.Option.{Option, some}
+use mathlib.Core.Option.{Option, none, some}
 use lib.Dec.{eqb, ltb}
 use lib.ListN.{drop}
 use borrow.Author.Tests.{eq-eqb, lt-ltb, ltb-false}
-use Rattle.reference.specs.Control.{not, ◌and◌, ◌or◌, let_some◌else◌then◌}
-use Rattle.reference.specs.Lists.{any, position, get}
+use Rattle.reference.specs.Control.{not, ◌and◌, ◌or◌, when◌then◌else◌, let_some◌else◌then◌}
+use Rattle.reference.specs.Lists.{any, position, get, is_some, remove, modify}
 use Rattle.reference.specs.Text.{Text, ◌≟◌}
-use Rattle.reference.specs.Listing.{Token, Listing, ◌at◌}
+use Rattle.reference.specs.Listing.{Token, Line, Listing, ◌at◌}
 use Rattle.reference.specs.Names.{Fam, family, fam_of, of_family}
 use Rattle.reference.specs.Rules.{Rules, volatile}
-use Rattle.reference.specs.Life.{Labels}
-use Rattle.reference.specs.Join.{Uses, gather, is_narrow, bad_use, written_from, propagate_constant, use_width, use_lowest, other_part, is_compound, replaceable, join_at, join_one, try_at}
-use Rattle.reference.specs.Run.{Attempt, limit, after_attempts, run, attempts_of}
+use Rattle.reference.specs.Shapes.{has_kw, call_at, assignment}
+use Rattle.reference.specs.Life.{Labels, dead_after}
+use Rattle.reference.specs.Join.{Uses, gather, is_narrow, bad_use, written_from, propagate_constant, use_width, use_lowest, other_part, is_compound}
+use Rattle.reference.specs.Join.{replaceable, is_bracketed, replacement, replace_at, rewrite_one, use_from, join_at, join_one, lone_number, try_at}
+use Rattle.reference.specs.Run.{Attempt, rounds_from, limit, after_attempts, run, attempts_of}
 use Rattle.reference.specs.Demand.{Attempts, over, failed, succeeded, Rounds, enough, ended, again}
-use Rattle.reference.specs.Parts.{SamePart, Joins, to_several, to_one, PartsKept, EachKept}
+use Rattle.reference.specs.Parts.{SamePart, Joins, to_several, to_one, PartsKept, EachKept, with_parts, is_other_use, goes_to_all, joins_other_part}
 use Rattle.reference.proofs.Cases.{by-if, by-some, both, neither, not-true, not-false, same_number, some_inj, none-some, if_some, unless-some, bind-some}
 use Rattle.reference.proofs.Rounds.{rounds-taken}
 
@@ -96,6 +99,95 @@ module _ (f : Fam) (toks : List Token) (pos : ℕ) {t : Token} (e : get toks pos
 same_part : (f : Fam) (toks : List Token) (pos : ℕ) {t : Token} → get toks pos ≡ some t → replaceable true f toks pos ≡ true → SamePart f t
 same_part f toks pos e r =
     record { width = λ g eg h. same_width f toks pos e (no_other f toks pos r) g eg h; lowest = λ g eg h. same_lowest f toks pos e (no_other f toks pos r) g eg h }
+
+-- ---- which attempts fail
+
+module _ {A B : Type 0} where
+  -- a search that goes on only where p fails
+  bind_unless : (o : Option A) (k k' : A → Option B) (p : A → Bool) → ((a : A) → k a ≡ (when p a then none else k' a))
+      → (let_some o else none then k) ≡ (when (let_some o else false then p) then none else (let_some o else none then k'))
+  unfolding let_some◌else◌then◌ when◌then◌else◌
+  bind_unless none k k' p h = refl
+  bind_unless (some a) k k' p h = h a
+
+module _ {B : Type 0} where
+  swap : (g q : Bool) (o : Option B) → (when g then none else (when q then none else o)) ≡ (when q then none else (when g then none else o))
+  unfolding when◌then◌else◌
+  swap true true o = refl
+  swap true false o = refl
+  swap false true o = refl
+  swap false false o = refl
+
+  unless_test : (q b : Bool) (o : Option B) → (when (when q then false else b) then o else none) ≡ (when q then none else (when b then o else none))
+  unfolding when◌then◌else◌
+  unless_test true b o = refl
+  unless_test false b o = refl
+
+parts_test : (f : Fam) (toks : List Token) (pos : ℕ) → replaceable true f toks pos ≡ (when other_part f toks pos then false else replaceable false f toks pos)
+unfolding replaceable not ◌and◌ when◌then◌else◌
+parts_test f toks pos =
+    go (not ((ltb (use_width toks pos) 32 or ltb f.width 32) and not (eqb (use_width toks pos) f.width))) (other_part f toks pos)
+    (not (is_compound toks pos) and not (written_from f.name toks))
+  where
+    go : (a o c : Bool) → (a and not (true and o) and c) ≡ (when o then false else (a and not (false and o) and c))
+    go true true c = refl
+    go true false c = refl
+    go false true c = refl
+    go false false c = refl
+
+module _ (rules : Rules) where
+  abbrev with_it : Rules
+  with_it = with_parts true rules
+
+  abbrev without : Rules
+  without = with_parts false rules
+
+  same_rewrite : (pos : ℕ) (expr : List Token) (l : Line) → rewrite_one with_it pos expr l ≡ rewrite_one without pos expr l
+  unfolding rewrite_one replace_at replacement is_bracketed
+  same_rewrite pos expr l = refl
+
+  module _ (lines : Listing) (i : ℕ) (f : Fam) (expr : List Token) (labels : Labels) (vs : List Text) where
+    join_at-parts : (j : ℕ) → join_at with_it lines i f expr labels vs j ≡ (when is_other_use lines f j then none else join_at without lines i f expr labels vs j)
+    unfolding join_at is_other_use
+    join_at-parts j =
+        let toks = (lines at j).tokens in
+        let asked : ℕ → Bool → (Line → Line) → Option Listing = λ pos b g. when b then some (remove i (modify j g lines)) else none in
+        ap (λ (o : Option Listing). when has_kw (lines at j) "while" or not (dead_after lines j f.name (lines at i).indent labels i vs) then none else o)
+        (bind_unless (position (of_family f.name) toks)
+        (λ pos. asked pos (replaceable true f toks pos) (rewrite_one with_it pos expr))
+        (λ pos. asked pos (replaceable false f toks pos) (rewrite_one without pos expr))
+        (λ pos. other_part f toks pos)
+        (λ pos.
+        (λ k. asked pos (parts_test f toks pos k) (λ l. same_rewrite pos expr l k))
+        ∙ unless_test (other_part f toks pos) (replaceable false f toks pos) (some (remove i (modify j (rewrite_one without pos expr) lines)))))
+        ∙ swap _ (is_other_use lines f j) _
+
+    join_one-parts : join_one with_it lines i f expr labels vs
+        ≡ (when (let_some (use_from (lines at i).indent f.name expr (is_some (call_at (lines at i))) vs (suc i) (drop (suc i) lines)) else false then λ j.
+        is_other_use lines f j)
+        then none
+        else join_one without lines i f expr labels vs)
+    unfolding join_one
+    join_one-parts = bind_unless _ _ _ _ join_at-parts
+
+  -- a lone number that goes to all its uses, or the single use
+  tried : (g lone : Bool) (c : Option Listing) (q : Bool) (j j' : Option Listing) → j ≡ (when q then none else j')
+      → (when g then none else (let_some (when lone then c else none) else j then λ l. some l))
+      ≡ (when not (lone and is_some c) and q then none else (when g then none else (let_some (when lone then c else none) else j' then λ l. some l)))
+  unfolding let_some◌else◌then◌ when◌then◌else◌ not ◌and◌
+  tried g true none q j j' h = ap (λ (o : Option Listing). when g then none else o) h ∙ swap g q j'
+  tried g true (some l) q j j' h = refl
+  tried g false c q j j' h = ap (λ (o : Option Listing). when g then none else o) h ∙ swap g q j'
+
+  -- WITH THE SETTING an attempt fails exactly where it fails without it or its single use is another part, "changing nothing"; "all else goes as without it"
+  pub parts_exactly : (lines : Listing) (i : ℕ) (labels : Labels) (addressed : List Text)
+      → try_at with_it lines i labels addressed
+      ≡ (when joins_other_part rules lines i labels then none else try_at without lines i labels addressed)
+  unfolding try_at joins_other_part goes_to_all
+  parts_exactly lines i labels addressed =
+      bind_unless (assignment (lines at i)) _ _ _
+      (λ a. bind_unless (family a.lhs.text) _ _ _
+      (λ f. tried _ (lone_number a.expr) _ _ _ _ (join_one-parts lines i f a.expr labels (volatile rules))))
 
 -- ---- uses of a lone number
 

@@ -16,14 +16,14 @@ use Rattle.reference.specs.Life.{Labels}
 use Rattle.reference.specs.Run.{labels_from, addressed_in, Attempt, attempts_from, propagate_once, after_attempts, removals, changed, rounds_from, limit, after_rounds, cuts_from, drop_dead_results}
 use Rattle.reference.specs.Run.{last_of, run, attempts_of, steps, listings, finished}
 use Rattle.reference.specs.Claim.{pairs_of, label_lines}
-use Rattle.reference.specs.Demand.{Accepted, Attempts, over, failed, succeeded, Round, Rounds, enough, ended, again, Settled, Cuts, done, kept, dropped, Taken, Within, Each, Step, Steps, Bounded}
-use Rattle.reference.specs.Demand.{EachRound, Demand3}
+use Rattle.reference.specs.Demand.{Accepted, Attempts, over, failed, succeeded, Round, Rounds, enough, ended, again, Settled, Cuts, done, kept, dropped}
+use Rattle.reference.specs.Demand.{Taken, Within, Each, nothing, line, EachCut, Gone, Step, Steps, Bounded, EachRound, Demand3}
 use Rattle.reference.proofs.Cases.{by-if, by-some, true-false}
 use Rattle.reference.proofs.Lines.{length-modify, labels_sublist}
-use Rattle.reference.proofs.Changes.{Changes, unchanged, changes-step, Removed, removed-length, removed_places, removed_labels, removed-step}
+use Rattle.reference.proofs.Changes.{Changes, unchanged, changes-step, Removed, removed-length, removed_places, removed_labels, removed-gone, removed-step}
 use Rattle.reference.proofs.Fits.{Fits, fits_text, accepted-fits, changes_fit, removed_fit}
 use Rattle.reference.proofs.Attempts.{attempt_removed}
-use Rattle.reference.proofs.Cuts.{cut-changes}
+use Rattle.reference.proofs.Cuts.{cut_two, cut-changes}
 
 -- ---- the rounds and the cuts, without fuel
 
@@ -71,7 +71,7 @@ cuts-taken rules labels (suc n) i lines e =
 
 data Next (before after : Listing) : Type 0 where
   changes : Changes [] [] [] before after → Next before after
-  removes : (i : ℕ) → Removed before i after → Next before after
+  removes : (i : ℕ) {into : List ℕ} → Removed before i into after → Next before after
 
 next-step : {before after : Listing} → Next before after → Step before after
 next-step (changes h) = changes-step h
@@ -159,7 +159,31 @@ round_sound h =
     let b = attempts-bounded h zero-le in
     record { chain = attempts-chain h; bounded = record { removes = b.0; attempts = omega (arith, b.1) } }
 
--- all rounds together
+-- ---- what is gone
+
+attempts-gone : {rules : Rules} {addressed : List Text} {i : ℕ} {lines : Listing} {labels : Labels} {round : List Attempt}
+    → Attempts rules addressed i lines labels round → (more : List Attempt) (cuts : List Listing) → Gone (after_attempts lines round) more cuts → Gone lines (round ++ more) cuts
+unfolding after_attempts
+attempts-gone (over h) after cuts g = g
+attempts-gone (failed h e rest) after cuts g = (nothing, attempts-gone rest after cuts g)
+attempts-gone {rules = rules} {addressed = addressed} (succeeded {i = i} {lines = lines} {labels = labels} h e rest) after cuts g =
+    (line (removed-gone (attempt_removed rules lines i labels addressed e)), attempts-gone rest after cuts g)
+
+rounds-gone : {rules : Rules} {limit : ℕ} {lines : Listing} {rounds : List (List Attempt)} → Rounds rules limit lines rounds
+    → (cuts : List Listing) → EachCut (after_rounds lines rounds) cuts → Gone lines (flatten rounds) cuts
+unfolding after_rounds flatten
+rounds-gone enough cuts g = g
+rounds-gone (ended h e) cuts g = attempts-gone h [] cuts g
+rounds-gone (again {more = later} h e more) cuts g = attempts-gone h (flatten later) cuts (rounds-gone more cuts g)
+
+cuts-gone : {rules : Rules} {labels : Labels} {i : ℕ} {lines : Listing} {cuts : List Listing} → Cuts rules labels i lines cuts → EachCut lines cuts
+cuts-gone (done h) = tt
+cuts-gone (kept h e more) = cuts-gone more
+cuts-gone {rules = rules} {labels = labels} (dropped {i = i} {lines = lines} h e same more) =
+    (record { place = i; in_range = h; two_stood = cut_two rules labels lines i e; left = same }, cuts-gone more)
+
+-- ---- all rounds together
+
 record AllSound (lines : Listing) (rounds : List (List Attempt)) : Type 0 where
   chain : Chain lines (map (λ a. a.left) (flatten rounds)) (after_rounds lines rounds)
   bounded : EachRound Bounded lines rounds
@@ -240,6 +264,7 @@ demand3 rules input ok =
     record {
       taken = taken;
       each = chain-each (record { in_order = Sublistᴰ.refl _; labelled = Sublistᴰ.refl _; fits = accepted-fits ok }) chain;
+      gone = rounds-gone taken.rounds _ (cuts-gone taken.cuts);
       step = chain_steps chain;
       last = last-stands input _;
       bounded = rounds.bounded;

@@ -1,5 +1,5 @@
 -- A run that is to settle (M-112): with n lines it makes at most n + 1 rounds, the last of which changed nothing, so that one further round before the
--- cuts would change no byte; a higher limit gives the same run. And the three-round setting is what it was: the listing and the counts of the
+-- cuts would change no byte, marks included; a higher limit gives the same run. And the three-round setting is what it was: the listing and the counts of the
 -- definitions before M-112, which stand here word for word. Assumes nothing.
 use Prim.Native.Nat.{ℕ, zero, suc, ◌+◌, ◌≤◌}
 use native.Mathlib.Omega.{arith}
@@ -12,8 +12,10 @@ use Rattle.reference.specs.Text.{Text}
 use Rattle.reference.specs.Listing.{Listing}
 use Rattle.reference.specs.Rules.{Rules}
 use Rattle.reference.specs.Life.{Labels}
-use Rattle.reference.specs.Run.{Attempt, propagate_once, after_attempts, removals, changed, rounds_from, limit, after_rounds, drop_dead_results, last_of, run, attempts_of, steps, finished, Tally}
-use Rattle.reference.specs.Run.{three, settled, Counts, attempts_in, counts}
+use Rattle.reference.specs.Run.{Attempt, propagate_once, after_attempts, removals, changed, rounds_from, limit, after_rounds, drop_dead_results, last_of, run}
+use Rattle.reference.specs.Run.{attempts_of, steps, finished, Tally, three, settled, Counts, attempts_in, counts}
+use Rattle.reference.specs.Spans.{Marks}
+use Rattle.reference.specs.Marks.{carry}
 use Rattle.reference.specs.Tape.{write}
 use Rattle.reference.specs.Demand.{Attempts, over, failed, succeeded, Round, Rounds, enough, ended, again, Settled, Bounded, EachRound, Demand3}
 use Rattle.reference.proofs.Cases.{by-if, neither, true-false}
@@ -103,9 +105,19 @@ pub nothing_left : (rules : Rules) (input : Listing) → rules.settle ≡ true �
 unfolding run
 nothing_left rules input e = settled_idle rules (limit rules input) input ((run-taken rules input).settles e)
 
-pub no_byte : (rules : Rules) (input : Listing) → rules.settle ≡ true
-    → let lines = after_rounds input (run rules input).rounds in write (after_attempts lines (propagate_once rules lines)) ≡ write lines
-no_byte rules input e = ap write (nothing_left rules input e).left
+idle_carries : (round : List Attempt) → changed round ≡ false → (marks : List Marks) → carry round marks ≡ marks
+unfolding changed carry when◌then◌else◌
+idle_carries [] e marks = refl
+idle_carries (a ∷ more) e marks = rw (neither e).0 (idle_carries more (neither e).1 marks)
+
+-- ... whatever marks its lines have, which that round would carry on
+pub no_byte : (rules : Rules) (input : Listing) → rules.settle ≡ true → (marks : List Marks)
+    → let lines = after_rounds input (run rules input).rounds in
+    let round = propagate_once rules lines in
+    write (after_attempts lines round) (carry round marks) ≡ write lines marks
+no_byte rules input e marks =
+    let idle = nothing_left rules input e in
+    λ i. write (idle.left i) (idle_carries _ idle.changes_nothing marks i)
 
 -- ---- the three-round setting, beside the definitions before M-112
 

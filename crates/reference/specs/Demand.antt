@@ -10,7 +10,7 @@
 --   (8) the last listing left is the finished one; and
 --   (9) every round that begins with m lines and removes s makes at most m + s attempts."
 -- Words in quotes elsewhere are document 01's, at the definition of the term that they fix. Proved in proofs/Rounds.antt. Assumes nothing.
-use Rattle.std.specs.Prelude.{ℕ, suc, pred, ◌+◌, ◌≤◌, ◌<◌, ◌≡◌, true, false, ltb, length, drop}
+use Rattle.std.specs.Prelude.{ℕ, suc, pred, ◌+◌, ◌≤◌, ◌<◌, ◌≡◌, true, false, ltb, eqb, length, drop}
 use mathlib.Core.List.{List, [], ◌∷◌, ◌++◌, Sublistᴰ}
 use Rattle.std.proofs.Math.Option.{none, some}
 use Rattle.reference.specs.Control.{◌and◌}
@@ -23,7 +23,7 @@ use Rattle.reference.specs.Shapes.{Assignment, assignment}
 use Rattle.reference.specs.Life.{Labels}
 use Rattle.reference.specs.Join.{try_at, targets}
 use Rattle.reference.specs.Run.{labels_from, addressed_in, shift, Attempt, failure, success, after_attempts, removals, changed, limit}
-use Rattle.reference.specs.Run.{after_rounds, dead_result, Run, run, steps, listings, finished}
+use Rattle.reference.specs.Run.{after_rounds, dead_result, Run, run, attempts_of, steps, listings, finished}
 use Rattle.reference.specs.Claim.{size, Callee, calls, token_count, text, pairs_of, label_lines}
 
 -- "An accepted listing is one whose tape no question below refuses": those questions bound lines, indents and bytes too. The claim needs
@@ -37,7 +37,7 @@ pub record Accepted (lines : Listing) : Type 0 where
 -- cut". The definitions make it (`run`, `listings`); here it is said of what they make, with no bound on the attempts.
 
 -- The attempts of a round that stands at line i, up to its end. "An attempt is one call of `try_at` at line i. Success removes line i and
--- steps back one, not below 0; failure steps on"; "label pairs_of shift with removals".
+-- steps back one, not below 0; failure steps on"; "label places shift with removals".
 pub data Attempts (rules : Rules) (addressed : List Text) : ℕ → Listing → Labels → List Attempt → Type 0 where
   over : {i : ℕ} {lines : Listing} {labels : Labels} → length lines ≤ i → Attempts rules addressed i lines labels []
   failed : {i : ℕ} {lines : Listing} {labels : Labels} {more : List Attempt} → i < length lines
@@ -112,15 +112,39 @@ pub record Assigned (lines : Listing) (i : ℕ) : Type 0 where
   pub is_assignment : assignment (lines at i) ≡ some to
   pub is_register : fam_of to.lhs ≡ some name
 
--- which line is gone, if any: other lines change in place, and then the line i, which did not change, is taken out
-pub data Gone (before after : Listing) : Type 0 where
-  nothing : pairs_of after ≡ pairs_of before → Gone before after
-  line : (i : ℕ) → i < length before → Assigned before i
-      → (between : Listing) → pairs_of between ≡ pairs_of before → between at i ≡ before at i → after ≡ remove i between → Gone before after
+-- "Success removes line i", an assignment, and no other: of the lines that it is joined into, their places `into`, only tokens change,
+-- and every other line stands unchanged.
+pub record Removes (before : Listing) (i : ℕ) (into : List ℕ) (after : Listing) : Type 0 where
+  pub in_range : i < length before
+  pub assigned : Assigned before i
+  -- the listing with its expression joined in, and line i still there
+  pub joined : Listing
+  pub pairs_stand : pairs_of joined ≡ pairs_of before
+  pub others_stand : (j : ℕ) → any (eqb j) into ≡ false → joined at j ≡ before at j
+  pub left : after ≡ remove i joined
+
+-- an attempt that fails leaves the listing as it is
+pub data Tried (before : Listing) : Attempt → Type 0 where
+  nothing : {i : ℕ} → Tried before (failure i before)
+  line : {i : ℕ} {into : List ℕ} {after : Listing} → Removes before i into after → Tried before (success i into after)
+
+-- a cut takes no line away: one line loses its first two tokens, and all else stands
+pub record Drops (before after : Listing) : Type 0 where
+  pub place : ℕ
+  pub in_range : place < length before
+  pub two_stood : 2 ≤ length (before at place).tokens
+  pub left : after ≡ modify place (λ l. with_tokens (drop 2 l.tokens) l) before
+
+-- of every attempt in turn, then of every cut
+abbrev pub EachCut : Listing → List Listing → Type 0
+EachCut before [] = Unit {0}
+EachCut before (after ∷ more) = Drops before after × EachCut after more
+
+abbrev pub Gone : Listing → List Attempt → List Listing → Type 0
+Gone before [] cuts = EachCut before cuts
+Gone before (a ∷ more) cuts = Tried before a × Gone a.left more cuts
 
 pub record Step (before after : Listing) : Type 0 where
-  -- (4)
-  pub gone : Gone before after
   -- (5)
   pub calls_stay : (c : Callee) → calls c before ≤ calls c after
   -- (6)
@@ -149,7 +173,9 @@ pub record Demand3 (rules : Rules) (input : Listing) : Type 0 where
   pub taken : Taken rules input (run rules input)
   -- (2), (3), (7): of the input, and after every step
   pub each : Each (Within input) (listings rules input)
-  -- (4), (5), (6): of every step, against the listing before it
+  -- (4): of every step, against the listing before it
+  pub gone : Gone input (attempts_of (run rules input)) (run rules input).cuts
+  -- (5), (6): of every step, against the listing before it
   pub step : Steps input (steps (run rules input))
   -- (8) "the input itself, where there was no step"
   pub last : (before : List Listing) × (listings rules input ≡ before ++ (finished rules input ∷ []))

@@ -10,8 +10,8 @@ use Rattle.reference.specs.Spans.{Marks}
 use Rattle.reference.specs.Tape.{TapeForm, old, line_byte, marks_byte, header}
 use Rattle.reference.specs.Tape.{Command, new_line, marked, new_token, end, command_size_by, command_by}
 
--- The numbers that a call can give, in the order in which they are asked: document 01's eight, and those of the requests after it.
--- "Demand 1's eight and their order take in this number and each one below."
+-- The numbers by which a cleaning can be refused, in the order in which they are asked: document 01's eight and, of the requests' numbers,
+-- 9 to 11 and 14. "Demand 1's eight and their order take in this number and each one below." (12, 13 and 15 to 22 are of other calls.)
 abbrev pub numbers : List ℕ
 numbers = 1 ∷ 9 ∷ 2 ∷ 3 ∷ 4 ∷ 5 ∷ 6 ∷ 10 ∷ 11 ∷ 7 ∷ 8 ∷ 14 ∷ []
 

@@ -10,15 +10,13 @@ use Rattle.reference.specs.Questions.{WORK, OUTPUT, is_convention, is_edition, h
 use Rattle.reference.specs.Rules.{Rules}
 use Rattle.reference.specs.Reply.{reply_by}
 use Rattle.reference.proofs.Cases.{by-if, by-some}
-use Rattle.reference.proofs.Attempts.{is_some_some}
 use Rattle.reference.proofs.Reading.{refused_passed, by_passed, let_is, let_refused, ask-yes}
 use Rattle.reference.proofs.Refusals.{refused_number}
 use Rattle.laws.proofs.Scans.{if-true}
 use Rattle.solving.specs.Solutions.{Smallest}
 use Rattle.start.specs.Start.{solution, ask_names, ask_formula, start_reply}
-use Rattle.start.specs.Pairs.{returned_pair}
 use Rattle.start.specs.Smallest.{Asked, Gives, NoneGives, StartValue}
-use Rattle.start.proofs.Formula.{formula_is, in_profile-returns}
+use Rattle.start.proofs.Formula.{formula_multiplier}
 use Rattle.start.proofs.Solved.{solution_by, passed_smallest, refused_none}
 use Rattle.std.specs.Prelude.{Some, None}
 
@@ -80,8 +78,5 @@ module _ (tape : List ℕ) (chosen : Text) (list : List ℕ) (wanted : ℕ) wher
             (λ e. absurd (omega (arith, refused_as e)))
             (λ q e. (q, refused_none q.lines chosen q.known wanted 15 place e));
         refuses = λ q h. asked_reply q ∙ solution_by q.lines chosen q.known wanted None h;
-        multiplier = λ q.
-            (let p =
-            is_some_some (returned_pair chosen q.known q.lines) (in_profile-returns q.lines q.in_profile chosen q.known) in
-            (p.0.0, p.0.1, formula_is chosen q.known q.lines p.0.0 p.0.1 p.1));
+        multiplier = λ lines r fits. formula_multiplier chosen lines fits;
       }

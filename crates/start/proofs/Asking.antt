@@ -67,6 +67,9 @@ module _ (chosen : Text) (list : List ℕ) (wanted : ℕ) {x : Bool} (ex : x ≡
             let b = bind-some e in
             (es, e, b.1 ∙ ap {B = Option (List Entry)} (λ (r : List Entry). some r) (some_inj (unless-some b.2).1))
 
+    pub uncut : flip y ≡ false → is_some (entries list) ≡ true
+    uncut q = ap is_some (known q).2
+
     pub asked_names : flip y ≡ false → (lines : Listing) (m c : ℕ) → ((es : List Entry) → entries list ≡ some es → returned_pair chosen es lines ≡ some (m, c))
         → (s : std.Option ℕ) → Answers (λ v. (m * v + c) % 2 ^ 64 ≡ wanted) s → answered s ≡ ask_names lines chosen list wanted
     asked_names q lines m c e s a =

@@ -1,6 +1,6 @@
 -- A formula reckoned in pairs and in numbers: what keeps sums, differences and numbers keeps what a listing returns. So a formula returns
 -- m · v + c, modulo 2^64, for every start value v of the chosen register, (m, c) being what it returns in pairs; and in the profile it
--- returns a pair. Assumes nothing.
+-- returns a pair, whose m is the same for all lists. Assumes nothing.
 use Prim.Native.Nat.{ℕ, ◌+◌, ◌*◌, ◌%◌, ◌^◌}
 use native.Mathlib.Omega.{arith}
 use native.Mathlib.Nat.{mod-mod, mod-eq_of_lt}
@@ -14,13 +14,14 @@ use Rattle.reference.specs.Lists.{is_some}
 use Rattle.reference.specs.Text.{Text, bytes, ◌≟◌}
 use Rattle.reference.specs.Listing.{Token, Listing}
 use Rattle.reference.specs.Shapes.{is_kw}
-use Rattle.reference.specs.Evaluators.{Arithmetic, plus, minus, of_integer, modulo, Store, wide, lexemes, evaluate}
+use Rattle.reference.specs.Evaluators.{Arithmetic, plus, minus, of_integer, modulo, wide, lexemes, evaluate}
 use Rattle.reference.specs.Straight.{assign, assigned_value, returned_value, line_step, execute, returned, breaks}
 use Rattle.reference.proofs.Cases.{some_inj, none-some}
+use Rattle.reference.proofs.Attempts.{is_some_some}
 use Rattle.formula.specs.Values.{Pair}
 use Rattle.straight.proofs.Values.{image, is_some_image, image_then, then_image, evaluate_image}
 use Rattle.straight.proofs.Shown.{of_below}
-use Rattle.straight.proofs.Flow.{Assigns, assigns, Returns, returns, Straight, last, next, executes, ends}
+use Rattle.straight.proofs.Flow.{straight_returns}
 use Rattle.straight.proofs.Profile.{straight_of}
 use Rattle.solving.proofs.Affine.{affine_variable, affine-constant, affine-sum, affine-difference}
 use Rattle.start.specs.Start.{Entry, listed, start_values}
@@ -145,20 +146,6 @@ formula_is chosen es lines m c e v =
 
 -- ---- in the profile
 
-straight_returns : {indent : ℕ} {ls : Listing} → Straight indent ls → (σ : Store) → is_some (execute modulo σ ls) ≡ true
-unfolding execute
-straight_returns (last {l = l} i r) σ = go l.tokens r
-  where
-    go : (ts : List Token) → Returns ts → is_some (line_step modulo σ ts (λ τ. execute modulo τ [])) ≡ true
-    go [] x'' = elim x'' [ ]
-    go (t ∷ ts) (returns w r p) = ap is_some (ends σ t ts (r σ).0 _ w (r σ).1)
-straight_returns (next {l = l} {ls = ls} y i a more) σ = go l.tokens a (straight_returns more)
-  where
-    go : (ts : List Token) → Assigns ts y → ((τ : Store) → is_some (execute modulo τ ls) ≡ true)
-        → is_some (line_step modulo σ ts (λ τ. execute modulo τ ls)) ≡ true
-    go [] x3 k = elim x3 [ ]
-    go (t ∷ ts) (assigns w r p) k = ap is_some (executes σ t ts y (r σ).0 _ w (r σ).1) ∙ k (assign y (r σ).0 σ)
-
 -- A LISTING IN THE PROFILE RETURNS A PAIR
 pub in_profile-returns : (lines : Listing) → breaks lines ≡ none → (chosen : Text) (es : List Entry)
     → is_some (returned_pair chosen es lines) ≡ true
@@ -167,3 +154,39 @@ in_profile-returns lines e chosen es =
     ∙ ap is_some (returned_at 0 chosen es lines)
     ∙ is_some_image (λ n. n % 2 ^ 64) (execute modulo (start_values chosen es 0) lines)
     ∙ straight_returns (straight_of lines e).1 (start_values chosen es 0)
+
+-- ---- the multiplier
+
+-- multipliers alone: the chosen register has 1, any other and every number 0
+abbrev multipliers : Arithmetic ℕ
+multipliers = record { sum = plus; difference = minus; number = λ z. 0 }
+
+abbrev first : Pair → ℕ
+first p = p.0
+
+module _ (chosen : Text) (lines : Listing) where
+  -- they do not depend on the list
+  multiplier_is : (es : List Entry) → execute multipliers (assign chosen 1 (λ x. 0)) lines ≡ image first (returned_pair chosen es lines)
+  multiplier_is es =
+      execute_image affine multipliers first (λ p q. refl) (λ p q. refl) (λ z. refl) lines (start_pairs chosen es) (assign chosen 1 (λ x. 0))
+      (assign_image affine multipliers first (λ p q. refl) (λ p q. refl) (λ z. refl) (λ x. (0, listed es x)) (λ x. 0) (λ x. refl) chosen (1, 0))
+
+  same_multiplier : (es fs : List Entry) (p q : Pair) → returned_pair chosen es lines ≡ some p → returned_pair chosen fs lines ≡ some q → q.0 ≡ p.0
+  same_multiplier es fs p q e f = some_inj (sym (ap (image first) f) ∙ sym (multiplier_is fs) ∙ multiplier_is es ∙ ap (image first) e)
+
+  -- A FORMULA IN THE PROFILE HAS A MULTIPLIER FOR THE REGISTER, whatever the list
+  pub formula_multiplier : breaks lines ≡ none
+      → (m : ℕ) × ((es : List Entry) → (c : ℕ) × ((v : ℕ) → returned (start_values chosen es v) lines ≡ (m * v + c) % 2 ^ 64))
+  formula_multiplier fits =
+      let in_pairs : (es : List Entry) → (p : Pair) × (returned_pair chosen es lines ≡ some p) =
+      λ es. is_some_some (returned_pair chosen es lines) (in_profile-returns lines fits chosen es) in
+      let p = in_pairs [] in (
+        p.0.0,
+        λ es.
+            (let q = in_pairs es in (
+              q.0.1,
+              λ v.
+                  formula_is chosen es lines q.0.0 q.0.1 q.1 v
+                  ∙ ap (λ (m : ℕ). (m * v + q.0.1) % 2 ^ 64) (same_multiplier [] es p.0 q.0 p.1 q.1),
+            )),
+      )

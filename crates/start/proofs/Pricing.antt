@@ -29,11 +29,11 @@ use Rattle.std.specs.Option.{unwrap_or}
 use Rattle.lines.specs.Words.{kind_of, text_of, token_of, tokens_of, Points, Holds}
 use Rattle.lines.specs.Lines.{first_of, count_of, part_of}
 use Rattle.formula.specs.Places.{Readable}
-use Rattle.formula.specs.Values.{Pair, numbers_of, zero_pair, pair_at, no_token, Worth, value_of, Evaluates}
+use Rattle.formula.specs.Values.{Pair, numbers_of, zero_pair, pair_at, no_token, Consistent, value_of, Evaluates}
 use Rattle.formula.specs.declared.evaluators.Pair.{Pair as Numbers}
 use Rattle.formula.proofs.Profiled.{readable_same, readable-rest}
 use Rattle.start.specs.Pairs.{affine}
-use Rattle.start.specs.Reckoning.{worth_of, number_pair, Prices, Priced, same_register, Overwritten, Begun, Assigned, Returned}
+use Rattle.start.specs.Reckoning.{number_pair, Prices, Priced, IsPriced, same_register, Overwritten, Begun, Assigned, Returned}
 use Rattle.start.proofs.Registers.{wide_text}
 use Rattle.std.specs.Prelude.{Some, None}
 use Rattle.reference.specs.Options.{option_of}
@@ -287,7 +287,15 @@ module _ (tape area : Text) (tokens : List ℕ) (l f n : ℕ) (ef : f ≡ first_
   pub line_readable : Readable tape area (take (f + n - (f + 1)) (drop (f + 1) tokens))
   line_readable = rw (ef, en) (readable-behind tokens l tape area b)
 
-  pub line_value : (values : List Numbers) (before : List ℕ) (r : Worth)
+  inside : f + 1 + (f + n - (f + 1)) ≤ length tokens
+  inside = omega (arith, b.inside, b.some_token, ef, en)
+
+  pub line-consistent : (values : List Numbers) → IsPriced (tokens_of tape area tokens) values
+      → Consistent (tokens_of tape area (take (f + n - (f + 1)) (drop (f + 1) tokens))) (take (f + n - (f + 1)) (drop (f + 1) values))
+  line-consistent values p =
+      record { number = number_pair; register = p.store; valued = priced-part p.store tape area tokens values p.priced (f + 1) (f + n - (f + 1)) inside }
+
+  pub line_value : (values : List Numbers) (before : List ℕ) (r : std.Option Numbers)
       → Evaluates tape area (take (f + n - (f + 1)) (drop (f + 1) tokens)) (take (f + n - (f + 1)) (drop (f + 1) values)) before r
       → (σ : Text → Pair) → Priced σ (tokens_of tape area tokens) values
       → value_of r ≡ evaluate affine σ before (lexemes (drop 1 (tokens_of tape area (part_of tokens l))))
@@ -295,19 +303,16 @@ module _ (tape area : Text) (tokens : List ℕ) (l f n : ℕ) (ef : f ≡ first_
       e number_pair σ (priced-part σ tape area tokens values h (f + 1) (f + n - (f + 1)) inside)
       ∙ ap (λ (ts : List Token). evaluate affine σ before (lexemes ts)) same
     where
-      inside : f + 1 + (f + n - (f + 1)) ≤ length tokens
-      inside = omega (arith, b.inside, b.some_token, ef, en)
-
       same : tokens_of tape area (take (f + n - (f + 1)) (drop (f + 1) tokens)) ≡ drop 1 (tokens_of tape area (part_of tokens l))
       same = rw (ef, en) (tokens-behind-first tokens l tape area b.some_token)
 
 -- the answer, and what the definition says of the line
-module _ {r : std.Option Numbers} {o : Option Pair} {v : Pair} (e : worth_of r ≡ o) (q : o ≡ some v) where
+module _ {r : std.Option Numbers} {o : Option Pair} {v : Pair} (e : value_of r ≡ o) (q : o ≡ some v) where
   returned_is : {u : Numbers} → r ≡ Some u → v ≡ numbers_of u
-  returned_is f = sym (some_inj (sym (ap worth_of f) ∙ e ∙ q))
+  returned_is f = sym (some_inj (sym (ap value_of f) ∙ e ∙ q))
 
   returned_none : r ≡ None → ⊥
-  returned_none f = none-some (sym (ap worth_of f) ∙ e ∙ q)
+  returned_none f = none-some (sym (ap value_of f) ∙ e ∙ q)
 
 -- ---- a line that assigns
 
@@ -331,7 +336,7 @@ module _ (tape area : Text) (tokens : List ℕ) (l f : ℕ) (ef : f ≡ first_of
 
   module _ (values values' : List Numbers) {r : std.Option Numbers}
       (e : (σ : Text → Pair) → Priced σ (tokens_of tape area tokens) values
-      → worth_of r ≡ evaluate affine σ (bytes " = ") (lexemes (drop 1 (tokens_of tape area (part_of tokens l))))) where
+      → value_of r ≡ evaluate affine σ (bytes " = ") (lexemes (drop 1 (tokens_of tape area (part_of tokens l))))) where
     pub line_assigned : (u : Numbers) → r ≡ Some u → Overwritten (token_of tape area (get_or tokens f 0)) (numbers_of u) (tokens_of tape area tokens) values values'
         → Assigned (tokens_of tape area (part_of tokens l)) (tokens_of tape area tokens) values values'
     unfolding assigned_value
@@ -352,7 +357,7 @@ broken None h = refl
 
 module _ (tape area : Text) (tokens : List ℕ) (l : ℕ) (values : List Numbers) {r : std.Option Numbers}
     (e : (σ : Text → Pair) → Priced σ (tokens_of tape area tokens) values
-    → worth_of r ≡ evaluate affine σ (bytes " ") (lexemes (drop 1 (tokens_of tape area (part_of tokens l))))) where
+    → value_of r ≡ evaluate affine σ (bytes " ") (lexemes (drop 1 (tokens_of tape area (part_of tokens l))))) where
   line_returned : (u : Numbers) → r ≡ Some u → Returned (tokens_of tape area (part_of tokens l)) (tokens_of tape area tokens) values (numbers_of u)
   unfolding returned_value
   line_returned u q = λ σ v h a. returned_is (e σ h) a q
@@ -363,7 +368,7 @@ module _ (tape area : Text) (tokens : List ℕ) (l : ℕ) (values : List Numbers
 
 -- the answer, or the pair p where there is none
 pub line_worth : (tape area : Text) (tokens : List ℕ) (l : ℕ) (values : List Numbers) (r : std.Option Numbers)
-    → ((σ : Text → Pair) → Priced σ (tokens_of tape area tokens) values → worth_of r ≡ evaluate affine σ (bytes " ") (lexemes (drop 1 (tokens_of tape area (part_of tokens l)))))
+    → ((σ : Text → Pair) → Priced σ (tokens_of tape area tokens) values → value_of r ≡ evaluate affine σ (bytes " ") (lexemes (drop 1 (tokens_of tape area (part_of tokens l)))))
     → (p : Numbers) → Returned (tokens_of tape area (part_of tokens l)) (tokens_of tape area tokens) values (numbers_of (unwrap_or r p))
 line_worth tape area tokens l values (Some u) e p = line_returned tape area tokens l values e u refl
 line_worth tape area tokens l values None e p = line_unreturned tape area tokens l values e (numbers_of p) refl

@@ -24,7 +24,7 @@ use Rattle.lines.specs.Lines.{part_of, first_of, count_of, Reading, numbered, li
 use Rattle.formula.specs.Values.{Pair, no_token}
 use Rattle.formula.specs.declared.evaluators.Pair.{Pair as Numbers}
 use Rattle.start.specs.Pairs.{affine}
-use Rattle.start.specs.Reckoning.{Priced, Begun, Assigned, Returned, Profiled}
+use Rattle.start.specs.Reckoning.{Priced, IsPriced, Begun, Assigned, Returned, Profiled}
 use Rattle.start.proofs.Pricing.{map-length, length-take-most, kind_register}
 
 -- ---- one line
@@ -33,7 +33,7 @@ no_return : (t : Token) (x : Text) → wide t ≡ some x → is_kw (bytes "retur
 unfolding is_kw is
 no_return t x e = and_false _ (ne_eqb t.kind Keyword (λ q. (let r : t.kind ≡ Register = kind_register t x e in omega (arith, q))))
 
-some_of : {X : Type 0} (o : Option X) → is_some o ≡ true → (v : X) × (o ≡ some v)
+pub some_of : {X : Type 0} (o : Option X) → is_some o ≡ true → (v : X) × (o ≡ some v)
 some_of none e = absurd (false≢true e)
 some_of (some v) e = (v, refl)
 
@@ -209,6 +209,9 @@ module _ (tape area : Text) (tokens lines : List ℕ) where
       one_line : (reading : Reading) (σ : Text → Pair)
           → execute affine σ (drop i (listing reading)) ≡ line_step affine σ line (λ τ. execute affine τ (drop (i + 1) (listing reading)))
       one_line reading σ = ap (execute affine σ) (drop-read tape area tokens reading lines i r.inside) ∙ unfold execute in refl
+
+      pub running-priced : IsPriced (tokens_of tape area tokens) values₀ → IsPriced (tokens_of tape area tokens) values
+      running-priced p = let s = r.executes numbered p.store p.priced in record { store = s.0; priced = s.1 }
 
       pub running_next : suc i < length lines → (values' : List Numbers) → length values' ≡ length values → Assigned line (tokens_of tape area tokens) values values'
           → Running values₀ (i + 1) values'

@@ -34,6 +34,9 @@ Begun f l = Reckoning.Begun f.texts.tape.now f.texts.area.now f.tokens.now l
 abbrev pub Profiled : Listing → Type 0
 Profiled f = Reckoning.Profiled f.texts.tape.now f.texts.area.now f.tokens.now f.lines.now
 
+abbrev pub IsPriced : Listing → List Pair → Type 0
+IsPriced f = Reckoning.IsPriced (tokens_in f)
+
 -- the table has room for a pair of each token
 abbrev pub HasRoom : Listing → List Pair → Type 0
 HasRoom f values = length f.tokens.now ≤ length values

@@ -1,7 +1,6 @@
 -- What the table of pairs means, and what the functions over it do. Assumes nothing.
 use Rattle.std.specs.Prelude.{ℕ, ◌+◌, ◌≤◌, ◌<◌, ◌≡◌, Bool, List, ℤ, length, drop, get_or}
-use Rattle.std.specs.Prelude as std
-use Rattle.std.proofs.Math.Option.{Option, none, some}
+use Rattle.std.proofs.Math.Option.{none, some}
 use Rattle.reference.specs.Control.{◌and◌, when◌then◌else◌}
 use Rattle.reference.specs.Text.{Text, ◌≟◌}
 use Rattle.reference.specs.Listing.{Token, is, Register}
@@ -11,14 +10,9 @@ use Rattle.lines.specs.Lines.{part_of, first_of, count_of, Reading, listing_read
 use Rattle.lines.specs.Words.{Holds}
 use Rattle.formula.specs.Places.{Readable}
 use Rattle.formula.specs.Profile.{FilledIn}
-use Rattle.formula.specs.Values.{Pair, numbers_of, pair_at, no_token, Valued}
+use Rattle.formula.specs.Values.{Pair, pair_at, no_token, Valued}
 use Rattle.start.specs.Pairs.{affine}
 use Rattle.formula.specs.declared.evaluators.Pair.{Pair as Numbers}
-
--- a pair, or none
-abbrev pub worth_of : std.Option Numbers → Option Pair
-worth_of (std.Some p) = some (numbers_of p)
-worth_of std.None = none
 
 -- a number's pair
 abbrev pub number_pair : ℤ → Pair
@@ -32,6 +26,11 @@ pub record Prices (σ : Text → Pair) (t : Token) (p : Pair) : Type 0 where
 -- the table has what each token is worth
 abbrev pub Priced : (Text → Pair) → List Token → List Numbers → Type 0
 Priced σ ts values = Valued number_pair σ ts values
+
+-- ... the registers being worth something: no register has two pairs in the table
+pub record IsPriced (ts : List Token) (values : List Numbers) : Type 0 where
+  pub store : Text → Pair
+  pub priced : Priced store ts values
 
 -- ---- an assignment
 

@@ -35,6 +35,6 @@ pub record StartValue (tape : List ℕ) (chosen : Text) (list : List ℕ) (wante
   pub none_works : (place : ℕ) → start_reply tape chosen list wanted ≡ Refused 15 place
       → (q : Asked tape chosen list) × NoneGives q wanted
   pub refuses : (q : Asked tape chosen list) → NoneGives q wanted → start_reply tape chosen list wanted ≡ Refused 15 0
-  -- "Each formula has a multiplier for that register": what is returned is m · v + c, modulo 2^64
-  pub multiplier : (q : Asked tape chosen list)
-      → (m : ℕ) × (c : ℕ) × ((v : ℕ) → returned (start_values chosen q.known v) q.lines ≡ (m * v + c) % 2 ^ 64)
+  -- "Each formula has a multiplier for that register", one for all lists: what is returned is m · v + c, modulo 2^64, where c is the list's
+  pub multiplier : (lines : Listing) → read tape ≡ Passed lines → breaks lines ≡ none
+      → (m : ℕ) × ((known : List Entry) → (c : ℕ) × ((v : ℕ) → returned (start_values chosen known v) lines ≡ (m * v + c) % 2 ^ 64))

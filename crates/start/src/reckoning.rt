@@ -5,8 +5,9 @@
 // besides that the formula in it is as before.
 // Kept: `Holds`, `Begun` and `Profiled` are asked in contracts, as crate lines has it of its own (texts.rt): `Holds` and `Profiled` are
 // facts of a `Listing`'s words, and `Begun` of a line word and its listing; a struct of the two would be made anew at each turn of `run`.
-ghost use Rattle.std.specs.Prelude.{◌≡◌, List, ◌≤◌, length, drop, ℤ};
+ghost use Rattle.std.specs.Prelude.{◌≡◌, List, ◌≤◌, length, drop, ℤ, true};
 ghost use Rattle.std.proofs.Math.Option.{some};
+ghost use Rattle.reference.specs.Lists.{is_some};
 ghost use Rattle.reference.specs.Text.{Text};
 ghost use Rattle.reference.specs.Numbers.{parse_c_number};
 ghost use Rattle.reference.specs.Evaluators.{of_integer, lexemes, evaluate};
@@ -15,12 +16,12 @@ ghost use Rattle.lines.specs.Lines.{Reading};
 ghost use Rattle.lines.specs.Texts as Lent;
 ghost use Rattle.lines.specs.Texts.{token_of};
 ghost use Rattle.formula.specs.Values as Values;
-ghost use Rattle.formula.specs.Values.{numbers_of};
+ghost use Rattle.formula.specs.Values.{numbers_of, value_of};
 ghost use Rattle.start.specs.Start.{Entry, entries};
 ghost use Rattle.start.specs.Pairs.{affine, start_pairs, returned_pair};
-ghost use Rattle.start.specs.Reckoning.{worth_of, Prices, Priced, same_register, Overwritten};
+ghost use Rattle.start.specs.Reckoning.{Prices, Priced, same_register, Overwritten};
 ghost use Rattle.start.specs.Reckoning.{Assigned, Returned};
-ghost use Rattle.start.specs.Formulas.{token_in, tokens_in, line_in, listing_in, Points, Holds, Begun, Profiled, HasRoom};
+ghost use Rattle.start.specs.Formulas.{token_in, tokens_in, line_in, listing_in, Points, Holds, Begun, Profiled, IsPriced, HasRoom};
 
 use crate::listed::value_of;
 use crate::starts::Starts;
@@ -112,8 +113,8 @@ fn overwrite(formula: &Listing<'_>, target: u64, p: Pair, values: &mut [Pair])
 
 // What the tokens behind the first one of a line are worth.
 fn behind_first(formula: &Listing<'_>, values: &[Pair], l: u64, before: &[u8]) -> Option<Pair>
-    requires { Begun formula.now l × HasRoom formula.now values.now }
-    ensures { (σ : Text → Values.Pair) → Priced σ (tokens_in formula.now) values.now → worth_of result
+    requires { Begun formula.now l × HasRoom formula.now values.now × IsPriced formula.now values.now }
+    ensures { (σ : Text → Values.Pair) → Priced σ (tokens_in formula.now) values.now → value_of result
         ≡ evaluate affine σ before.now (lexemes (drop 1 (line_in formula.now l))) }
 {
     let first = words::first(l);
@@ -123,13 +124,12 @@ fn behind_first(formula: &Listing<'_>, values: &[Pair], l: u64, before: &[u8]) -
         texts: formula.texts,
         words: &formula.tokens[from..to],
     };
-    let v = evaluate(&line, &values[from..to], before)?;
-    Some(v.pair)
+    evaluate(&line, &values[from..to], before)
 }
 
 // Reads a line that assigns, and changes the pairs of its register.
 fn assign_line(formula: &Listing<'_>, l: u64, values: &mut [Pair])
-    requires { Holds formula.now × Begun formula.now l × HasRoom formula.now values.old }
+    requires { Holds formula.now × Begun formula.now l × HasRoom formula.now values.old × IsPriced formula.now values.old }
     ensures { Assigned (line_in formula.now l) (tokens_in formula.now) values.old values.new }
 {
     if let Some(p) = behind_first(formula, values, l, b" = ") {
@@ -139,7 +139,7 @@ fn assign_line(formula: &Listing<'_>, l: u64, values: &mut [Pair])
 
 // What a line that returns is worth.
 fn returned(formula: &Listing<'_>, values: &[Pair], l: u64) -> Pair
-    requires { Begun formula.now l × HasRoom formula.now values.now }
+    requires { Begun formula.now l × HasRoom formula.now values.now × IsPriced formula.now values.now }
     ensures { Returned (line_in formula.now l) (tokens_in formula.now) values.now (numbers_of result) }
 {
     behind_first(formula, values, l, b" ").unwrap_or(Pair::ZERO)
@@ -149,7 +149,7 @@ fn returned(formula: &Listing<'_>, values: &[Pair], l: u64) -> Pair
 
 // What a listing in the profile returns, the table having what each token is worth at the start.
 fn run(formula: &Listing<'_>, values: &mut [Pair]) -> Pair
-    requires { Profiled formula.now × HasRoom formula.now values.old }
+    requires { Profiled formula.now × HasRoom formula.now values.old × IsPriced formula.now values.old }
     ensures { (reading : Reading) (σ : Text → Values.Pair) → Priced σ (tokens_in formula.now) values.old
         → execute affine σ (listing_in formula.now reading) ≡ some (numbers_of result) }
 {
@@ -162,7 +162,7 @@ fn run(formula: &Listing<'_>, values: &mut [Pair]) -> Pair
 
 // The pair of a formula: what it returns where the chosen register starts with v, for every v.
 pub fn reckon(formula: &Listing<'_>, starts: &Starts<'_>) -> Pair
-    requires { Profiled formula.now × (length formula.now.tokens.now ≤ 1024) }
+    requires { Profiled formula.now × (length formula.now.tokens.now ≤ 1024) × (is_some (entries starts.now.list.now) ≡ true) }
     ensures { (reading : Reading) (es : List Entry) → entries starts.now.list.now ≡ some es
         → returned_pair starts.now.chosen.now es (listing_in formula.now reading) ≡ some (numbers_of result) }
 {

@@ -22,7 +22,7 @@ use Rattle.reference.proofs.Cases.{true-false}
 use Rattle.reference.proofs.Rounds.{run-taken}
 use Rattle.reference.proofs.Guarantee.{answered}
 use Rattle.straight.specs.Meaning.{Means, Meaning}
-use Rattle.straight.proofs.Flow.{Straight, last, next}
+use Rattle.straight.proofs.Flow.{Straight, last, next, straight_returns}
 use Rattle.straight.proofs.Life.{assigns-no_call, returns-no_call}
 use Rattle.straight.proofs.Attempt.{Keeps, attempt_keeps}
 use Rattle.straight.proofs.Profile.{straight_of, of_straight}
@@ -134,9 +134,9 @@ cleaning_means rules on input h =
     let s = straight_of input h in
     let indent = s.0 in
     let k = run_keeps indent rules on input s.1 in
-    let means : (l : Listing) → Keeps indent input l → Means input l = λ l q. record { in_profile = of_straight q.0; same_value = λ σ. same l q.1 σ } in
+    let means : (l : Listing) → Keeps indent input l → Means input l = λ l q. record { in_profile = of_straight q.0; returns = straight_returns q.0; same_value = λ σ. same l q.1 σ } in
     let all = each_map (Keeps indent input) (Means input) means (steps (run rules input)) k in
-    let self : Means input input = record { in_profile = h; same_value = λ σ. refl } in
+    let self : Means input input = record { in_profile = h; returns = straight_returns s.1; same_value = λ σ. refl } in
     record { each = (self, all); finished_means = each_last (Means input) input (steps (run rules input)) self all }
   where
     same : (l : Listing) → ((σ : Store) → execute modulo σ l ≡ execute modulo σ input) → (σ : Store) → returned σ l ≡ returned σ input

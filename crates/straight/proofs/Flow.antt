@@ -4,8 +4,8 @@ use mathlib.Core.Path.{◌≡◌, refl, sym, ap, ◌∙◌}
 use mathlib.Core.Bool.{Bool, true, false}
 use mathlib.Core.List.{List, [], ◌∷◌}
 use mathlib.Core.Option.{Option, none, some}
-use Rattle.reference.specs.Control.{let_some◌else◌then◌}
-use Rattle.reference.specs.Lists.{any}
+use Rattle.reference.specs.Control.{◌and◌, ◌or◌, when◌then◌else◌, let_some◌else◌then◌}
+use Rattle.reference.specs.Lists.{any, is_some}
 use Rattle.reference.specs.Text.{Text, bytes, ◌≟◌}
 use Rattle.reference.specs.Listing.{Token, Register, Keyword, Line, Listing}
 use Rattle.reference.specs.Names.{of_family}
@@ -52,6 +52,21 @@ pub ends : (σ : Store) (t : Token) (ts : List Token) (v : ℕ) (k : Store → O
     → line_step modulo σ (t ∷ ts) k ≡ some v
 unfolding line_step value_of
 ends σ t ts v k w h = if-true _ _ w ∙ returned_evaluates σ ts ∙ rw h
+
+-- A STRAIGHT LISTING RETURNS A VALUE, whatever the registers hold
+pub straight_returns : {indent : ℕ} {ls : Listing} → Straight indent ls → (σ : Store) → is_some (execute modulo σ ls) ≡ true
+unfolding execute
+straight_returns (last {l = l} i r) σ = go l.tokens r
+  where
+    go : (ts : List Token) → Returns ts → is_some (line_step modulo σ ts (λ τ. execute modulo τ [])) ≡ true
+    go [] x'' = elim x'' [ ]
+    go (t ∷ ts) (returns w r p) = ap is_some (ends σ t ts (r σ).0 _ w (r σ).1)
+straight_returns (next {l = l} {ls = ls} y i a more) σ = go l.tokens a (straight_returns more)
+  where
+    go : (ts : List Token) → Assigns ts y → ((τ : Store) → is_some (execute modulo τ ls) ≡ true)
+        → is_some (line_step modulo σ ts (λ τ. execute modulo τ ls)) ≡ true
+    go [] x3 k = elim x3 [ ]
+    go (t ∷ ts) (assigns w r p) k = ap is_some (executes σ t ts y (r σ).0 _ w (r σ).1) ∙ k (assign y (r σ).0 σ)
 
 -- ---- stores
 

@@ -10,20 +10,18 @@ use lib.ListN.{length, get_or, drop, length-append}
 use Rattle.reference.specs.Listing.{Token, Line, Listing}
 use Rattle.reference.specs.Rules.{Rules}
 use Rattle.reference.specs.Spans.{Marks}
-use Rattle.reference.specs.Claim.{text_in, text}
 use Rattle.reference.specs.Run.{finished}
 use Rattle.reference.specs.Marks.{finished_marks}
 use Rattle.reference.specs.Tape.{old, Command, new_line, marked, new_token, end, write_command, write_marks, write_marks_by, write_line, write_line_by, write_lines, write_lines_by, write, write_by}
 use Rattle.reference.specs.Questions.{Passed, read, marks_in}
 use Rattle.reference.proofs.LittleEndian.{Bytes}
 use Rattle.reference.proofs.Commands.{AddressFits}
-use Rattle.reference.proofs.Limits.{All, TokenFits, LineFits, MarksFit, TapeFits}
-use Rattle.reference.proofs.Tapes.{write_read, read_fits, read-marks_fit}
-use Rattle.reference.proofs.Marks.{finished-marks_fit}
+use Rattle.reference.proofs.Limits.{All}
+use Rattle.reference.proofs.Tapes.{write_read, read-marks_fit}
 use Rattle.reference.proofs.Unmarked.{Holdable, HoldableMarks}
 use Rattle.walk.specs.Held.{commands, tokens_of, lines_of, held}
 use Rattle.walk.proofs.Reading.{read-on, read_end}
-use Rattle.sources.proofs.Held.{Kind, Held, finished-held, finished_text}
+use Rattle.sources.proofs.Unmarked.{holdable_marks, holdable_read, holdable_cleaned, holdable_cleaned_marks}
 
 -- ---- a listing
 
@@ -97,42 +95,14 @@ pub held-write : (lines : Listing) (marks : List Marks) (behind : List ℕ) → 
 unfolding write_by
 held-write lines marks behind h k = ap held (append_assoc (write_lines lines marks) (write_command end) behind) ∙ (whole lines marks behind h k).lines
 
--- ---- what bytes can hold
-
-small-tokens : (ts : List Token) → All Kind ts → text_in ts ≤ 49152 → All Writes ts
-small-tokens [] k h = tt
-small-tokens (t ∷ ts) k h = ((k.0, omega arith), small-tokens ts k.1 (omega arith))
-
-holdable : (lines : Listing) → All Held lines → text lines ≤ 49152 → All Holdable lines
-holdable [] h t = tt
-holdable (l ∷ ls) h t =
-    (record { address = h.0.address; tokens = small-tokens l.tokens h.0.tokens (omega arith) }, holdable ls h.1 (omega arith))
-
-holdable_marks : (marks : List Marks) → All MarksFit marks → All HoldableMarks marks
-holdable_marks [] f = tt
-holdable_marks (none ∷ ms) f = (tt, holdable_marks ms f.1)
-holdable_marks (some s ∷ ms) f = (f.0.0, holdable_marks ms f.1)
-
-kinds : (ts : List Token) → All TokenFits ts → All Kind ts
-kinds [] h = tt
-kinds (t ∷ ts) h = (h.0.kind, kinds ts h.1)
-
-input-held : (lines : Listing) → All LineFits lines → All (λ l. AddressFits l.address) lines → All Held lines
-input-held [] f a = tt
-input-held (l ∷ ls) f a = (record { address = a.0; tokens = kinds l.tokens f.0.tokens }, input-held ls f.1 a.1)
+-- ---- accepted tapes and cleaned ones
 
 module _ (tape : List ℕ) (input : Listing) (bytes : Bytes tape) (reads : read tape ≡ Passed input) where
-  fits : TapeFits input
-  fits = read_fits tape input bytes reads
-
-  inputs : All Held input
-  inputs = input-held input fits.limits.each fits.addresses
-
   -- AN ACCEPTED TAPE HOLDS THE LISTING THAT IS READ FROM IT
   pub held-read : held tape ≡ input
   held-read =
       ap held (sym (write_read tape input bytes reads) ∙ sym (append-nil (write input (marks_in tape))))
-      ∙ held-write input (marks_in tape) [] (holdable input inputs (omega (arith, fits.limits.short_text)))
+      ∙ held-write input (marks_in tape) [] (holdable_read tape input bytes reads)
       (holdable_marks (marks_in tape) (read-marks_fit tape input bytes reads).0)
 
   -- AND A CLEANED TAPE THE FINISHED LISTING, whatever stands behind it
@@ -140,6 +110,4 @@ module _ (tape : List ℕ) (input : Listing) (bytes : Bytes tape) (reads : read 
       → held (write (finished rules input) (finished_marks rules input (marks_in tape)) ++ behind) ≡ finished rules input
   held-cleaned rules behind =
       held-write (finished rules input) (finished_marks rules input (marks_in tape)) behind
-      (holdable (finished rules input) (finished-held rules input inputs) (finished_text rules tape input reads))
-      (holdable_marks (finished_marks rules input (marks_in tape))
-      (finished-marks_fit rules input (marks_in tape) fits.addresses (read-marks_fit tape input bytes reads).0))
+      (holdable_cleaned tape input bytes reads rules) (holdable_cleaned_marks tape input bytes reads rules)

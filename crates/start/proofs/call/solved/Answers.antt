@@ -2,7 +2,7 @@
 use mathlib.Core.Path.{ap, ◌∙◌}
 use mathlib.Core.Bool.{not as flip}
 use Rattle.answers.specs.Answers.{answer_of}
-use Rattle.start.proofs.Asking.{unknown_chosen, unknown_list, asked_names, solved_as}
+use Rattle.start.proofs.Asking.{unknown_chosen, unknown_list, uncut, asked_names, solved_as}
 use Rattle.start.proofs.call.solved.Goals as goal
 use Rattle.start.proofs.call.solved.Goals.{then-not-is_register-via-then-not-is_register, then-not-is_register-via-else-not-is_register+then-not-are_known}
 
@@ -14,6 +14,10 @@ returns-then-not-is_register c = λ reading. rw c.at.ensures (
       | then-not-is_register-via-else-not-is_register+then-not-are_known w ↦
           unknown_list _ _ _ c.is_register.ensures (ap flip w.if-not-is_register.false) w.are_known.ensures (ap flip w.if-not-are_known.true) _
     ])
+
+pub reckon-p-requires : goal.reckon-p-requires
+reckon-p-requires c =
+    (c.requires.0, c.requires.1, uncut _ _ 0 c.is_register.ensures (ap flip c.if-not-is_register.false) c.are_known.ensures (ap flip c.if-not-are_known.false))
 
 pub returns : goal.returns
 returns c = λ reading.
