@@ -1,5 +1,5 @@
 -- Signed numbers of 64 bits: what the code computes is what the definitions `as_i64` and `wrap` say. Assumes nothing.
-use Rattle.std.proofs.Common.{◌≡◌, ℕ, suc, ◌-◌, ◌%◌, ◌^◌, ◌<◌, ◌≤◌, ℤ, pos, negsuc, ◌+ℤ◌, ◌-ℤ◌, neg_ℤ, sym, ap}
+use Rattle.std.proofs.Common.{◌≡◌, ℕ, suc, ◌-◌, ◌%◌, ◌^◌, ◌<◌, ◌≤◌, ℤ, pos, negsuc, ◌+ℤ◌, ◌-ℤ◌, neg_ℤ, sym, refl, ap}
 use Rattle.std.proofs.Common.{◌∙◌, mod-lt, mod-eq_of_lt, arith, w64, SFits, to_z, of_z, le-ltb}
 use Rattle.std.proofs.Common.{lt-ltb}
 use native.Mathlib.Nat.{mod-mod}
@@ -9,6 +9,7 @@ use lib.Signed.{mag}
 use mir.ValLaws.{to_z-of_z, to_z_pos}
 use Rattle.reference.specs.Numbers.{as_i64, wrap}
 use Rattle.laws.proofs.Scans.{if-true, if-false}
+use Rattle.numbers.specs.Bits.{bits_of}
 use Rattle.std.specs.Int.{cast_signed, int_wrap, int_wrapping_add, int_wrapping_sub, int_wrapping_neg}
 use Rattle.std.proofs.lemmas.Int.{wrapping_add_is, wrapping_sub_is, wrapping_neg_is}
 
@@ -25,6 +26,18 @@ unfolding as_i64
 as_high n l h =
     let e : n % 2 ^ 64 ≡ n = mod-eq_of_lt h in
     rw e (if-false _ _ (le-ltb n (2 ^ 63) l))
+
+pub as_bits : (z : ℤ) → SFits w64 z → as_i64 (bits_of 64 z) ≡ z
+unfolding bits_of
+as_bits (pos n) f = let e : n % 2 ^ 64 ≡ n = mod-eq_of_lt (omega arith) in rw e (as_low n f.sfits)
+as_bits (negsuc n) f =
+    let e : n % 2 ^ 64 ≡ n = mod-eq_of_lt (omega arith) in
+    rw e (as_high (2 ^ 64 - suc n) (omega arith) (omega arith) ∙ ap negsuc (omega arith))
+
+pub wrap_bits : (z : ℤ) → wrap z ≡ as_i64 (bits_of 64 z)
+unfolding wrap as_i64 bits_of
+wrap_bits (pos n) = rw (mod-mod n (2 ^ 64))
+wrap_bits (negsuc n) = refl
 
 -- ---- what the code computes with
 
