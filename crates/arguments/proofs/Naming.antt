@@ -40,11 +40,6 @@ equals_is (b ∷ bs) = either (eqb b 61) (equals_is bs)
     either true e = refl
     either false e = omega arith
 
-pub equals-within : (w : List ℕ) → equals_at w ≤ length w
-unfolding equals_at
-equals-within [] = omega arith
-equals-within (b ∷ bs) = by-if (λ (n : ℕ). n ≤ suc (length bs)) (λ e. omega arith) (λ e. omega (arith, equals-within bs))
-
 -- the place of the first =
 abbrev place : List ℕ → std.Option ℕ
 place w = position (λ b. eqb b 61) w

@@ -103,9 +103,6 @@ pub clash_begin : (words : List ℕ) {s : Request} → s ≡ none_yet → clash_
 unfolding clash_of
 clash_begin words e = ap (λ (r : Request). clash_from r 0 (split words)) (sym e)
 
-pub steps_begin : (words : List ℕ) {s : Request} → s ≡ none_yet → steps_from none_yet 0 (split words) ≡ steps_from s 0 (split words)
-steps_begin words e = ap (λ (r : Request). steps_from r 0 (split words)) (sym e)
-
 pub steps_end : (left : List ℕ) (s : Request) (k : ℕ) → split left ≡ [] → steps_from s k (split left) ≡ s
 unfolding steps_from
 steps_end left s k e = ap (steps_from s k) e

@@ -32,33 +32,7 @@ use Rattle.std.specs.Prelude as std
 use Rattle.std.specs.Result.{MatchResult, IsErrAnd}
 use Rattle.std.specs.Prelude.{Some, None, Ok, Err, Result}
 use Rattle.reference.specs.Options.{option_of}
-
--- no reason has the number 0
-number_above : (r : Reason) → number_of r ≡ 0 → ⊥
-number_above r = elim r as (λ x. number_of x ≡ 0 → ⊥) [
-  | reason.UnknownConvention ↦ λ e. omega arith
-  | reason.UnknownEdition ↦ λ e. omega arith
-  | reason.TooLittleRoom ↦ λ e. omega arith
-  | reason.NoCommand ↦ λ e. omega arith
-  | reason.CutOff ↦ λ e. omega arith
-  | reason.OutOfPlace ↦ λ e. omega arith
-  | reason.OutOfBounds ↦ λ e. omega arith
-  | reason.TooMany ↦ λ e. omega arith
-  | reason.TooMuchText ↦ λ e. omega arith
-  | reason.Unprintable ↦ λ e. omega arith
-  | reason.BytesAfterEnd ↦ λ e. omega arith
-  | reason.NewKeyword ↦ λ e. omega arith
-  | reason.UnreadNumber ↦ λ e. omega arith
-  | reason.OutsideProfile ↦ λ e. omega arith
-  | reason.NoStartValue ↦ λ e. omega arith
-  | reason.NoRegister ↦ λ e. omega arith
-  | reason.TooLong ↦ λ e. omega arith
-  | reason.OutOfReach ↦ λ e. omega arith
-  | reason.NoBase ↦ λ e. omega arith
-  | reason.NotHeld ↦ λ e. omega arith
-  | reason.StoreFull ↦ λ e. omega arith
-  | reason.BrokenCell ↦ λ e. omega arith
-]
+use Rattle.answers.proofs.Numbers.{numbered}
 
 -- the report of a summary
 abbrev report_with : Summary → Report
@@ -111,7 +85,7 @@ module _ (rules : Rules) (tape work_a work_b out : List ℕ) where
   unfolding reply_by
   refused_at_door r e =
       refused (record { reason = r; place = 0 })
-      (ask_number (λ number. 0) (door rules (length work_a) (length work_b) (length out)) _ (number_above r) (sym e))
+      (ask_number (λ number. 0) (door rules (length work_a) (length work_b) (length out)) _ (numbered r) (sym e))
 
   -- of what `map_err` and `?` make of its answer
   pub refused_early : {A : Type 0} (o : Result A Reason) → refusing o ≡ first_no (door rules (length work_a) (length work_b) (length out)) → {m : Result A Refusal}

@@ -1,14 +1,14 @@
 -- The loop that writes the changed lines behind the used marks: where it begins, a line that stays, a line written, and the end. What is read is
 -- the old set with what was written behind its marks. Assumes nothing.
-use Prim.Native.Nat.{ℕ, zero, suc, ◌+◌, ◌-◌, ◌*◌, ◌≤◌, ◌<◌}
+use Prim.Native.Nat.{ℕ, suc, ◌+◌, ◌-◌, ◌*◌, ◌≤◌, ◌<◌}
 use native.Mathlib.Omega.{arith}
 use native.Mathlib.Nat.{le_refl, zero-add}
 use native.Mathlib.Numerals.{add-one}
 use mathlib.Core.Path.{◌≡◌, refl, sym, ap, ◌∙◌}
 use mathlib.Core.Bool.{Bool, false}
-use mathlib.Core.List.{List, [], ◌∷◌, ◌++◌, map, append-nil, append_assoc}
+use mathlib.Core.List.{List, [], ◌∷◌, ◌++◌, append-nil, append_assoc}
 use lib.ListN.{length, get_or, set, take, drop, length-append, length-take, length-map, length-set, take-append-drop}
-use lib.Seq.{slice, slice_empty, slice-cons, take-suc, take_all, drop-cons, drop-drop, drop-append-le, drop-append-add, drop-set-lt, append_snoc, set_at, length-take-le, length-slice}
+use lib.Seq.{slice, slice_empty, slice-cons, take-suc, take_all, drop-cons, drop-drop, drop-append-le, drop-append-add, drop-set-lt, append_snoc, set_at, length-take-le, length-slice, map-set}
 use Rattle.reference.specs.Lists.{remove}
 use Rattle.reference.specs.Text.{Text}
 use Rattle.reference.specs.Listing.{Token, Line, Listing, blank}
@@ -62,11 +62,6 @@ module _ (f : ℕ → Line → Line) (ls : Listing) (k : ℕ) where
       let rest : map_from f (0 + length (take k ls)) (drop k ls) ≡ drop k ls =
       rw (size, zero-add k) (map-from_id f k (drop k ls) (λ m x lo hi. h m x lo)) in
       sym (ap (map_from f 0) (sym (take-append-drop k ls)) ∙ map-from_append f 0 (take k ls) (drop k ls) ∙ ap (λ (r : Listing). map_from f 0 (take k ls) ++ r) rest)
-
-map-set {ℓ} : {B : Type ℓ} (f : ℕ → B) (xs : List ℕ) (k y : ℕ) → map f (set xs k y) ≡ set (map f xs) k (f y)
-map-set f [] k y = refl
-map-set f (x ∷ xs) zero y = refl
-map-set {B = B} f (x ∷ xs) (suc k) y = ap {B = List B} (λ r. f x ∷ r) (map-set f xs k y)
 
 -- ---- a list, and what another has behind it
 

@@ -17,12 +17,13 @@ use Rattle.reference.specs.Join.{ends_run, harmless, use_from, rewrite_use, text
 use Rattle.reference.specs.Run.{labels_from, addressed_in, dead_result}
 use Rattle.reference.proofs.Cases.{by-if}
 use Rattle.laws.proofs.Scans.{any-map}
+use Rattle.std.proofs.lemmas.List.{drop-map}
 use Rattle.joining.specs.Bare.{bare, bare_lines}
 use Rattle.joining.specs.Places.{labels_at}
 use Rattle.joining.specs.Rounds.{cut_at}
 use Rattle.joining.specs.Plan.{Definition, Plan, Reach, reach_at, reach_from, reach_of, refuses, all_take, ends_at, plan_reach, plan_constant, use_of, plan_use, plan_single, plan_for, decide}
 use Rattle.joining.specs.Plan.{map_from, right_side_of, changes, where_used, acted_line, act}
-use Rattle.joining.proofs.BareLife.{at_bare, drop-map, slice-map, dead-after-bare}
+use Rattle.joining.proofs.BareLife.{at_bare, slice-map, dead-after-bare}
 use Rattle.joining.proofs.Uses.{uses_upto}
 use Rattle.joining.proofs.Deciding.{try_at_is, tried, targets-are}
 

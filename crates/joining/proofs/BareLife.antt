@@ -1,5 +1,5 @@
 -- No reader of a value's life looks at an address: `killed_first` and `dead_after` say the same of the lines without theirs. Assumes nothing.
-use Prim.Native.Nat.{ℕ, zero, suc, ◌+◌}
+use Prim.Native.Nat.{ℕ, suc, ◌+◌}
 use mathlib.Core.Path.{◌≡◌, refl, ap, ◌∙◌}
 use mathlib.Core.Bool.{Bool}
 use mathlib.Core.List.{List, [], ◌∷◌, map}
@@ -9,21 +9,12 @@ use Rattle.reference.specs.Lists.{last_position}
 use Rattle.reference.specs.Text.{Text}
 use Rattle.reference.specs.Listing.{Line, Listing, blank, ◌at◌}
 use Rattle.reference.specs.Life.{Labels, killed_first, is_do, rerun_kills, while_passes, goto_passes, scan, dead_from, dead_after}
+use Rattle.std.proofs.lemmas.List.{take-map, drop-map}
 use Rattle.joining.specs.Bare.{bare, bare_lines}
 
-module _ {ℓ κ} {A : Type ℓ} {B : Type κ} (f : A → B) where
-  pub take-map : (n : ℕ) (xs : List A) → take n (map f xs) ≡ map f (take n xs)
-  take-map zero xs = refl
-  take-map (suc n) [] = refl
-  take-map (suc n) (x ∷ xs) = ap {B = List B} (λ r. f x ∷ r) (take-map n xs)
-
-  pub drop-map : (n : ℕ) (xs : List A) → drop n (map f xs) ≡ map f (drop n xs)
-  drop-map zero xs = refl
-  drop-map (suc n) [] = refl
-  drop-map (suc n) (x ∷ xs) = drop-map n xs
-
+module _ {A B : Type 0} (f : A → B) where
   pub slice-map : (a b : ℕ) (xs : List A) → slice a b (map f xs) ≡ map f (slice a b xs)
-  slice-map a b xs = ap (drop a) (take-map b xs) ∙ drop-map a (take b xs)
+  slice-map a b xs = ap (drop a) (take-map f b xs) ∙ drop-map f a (take b xs)
 
   last-position-map : (p : B → Bool) (xs : List A) → last_position p (map f xs) ≡ last_position (λ x. p (f x)) xs
   last-position-map p [] = refl

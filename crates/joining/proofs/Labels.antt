@@ -10,7 +10,7 @@ use mathlib.Core.Bool.{Bool, true, false, false≢true}
 use mathlib.Core.List.{List, [], ◌∷◌, ◌++◌, map-append}
 use mathlib.Core.Option.{Option, none, some}
 use lib.ListN.{length, get_or, take, drop, get_or-eq_default}
-use lib.Seq.{take-suc, take-length, length-take-le}
+use lib.Seq.{take-suc, length-take-le}
 use Rattle.reference.specs.Control.{when◌then◌else◌, let_some◌else◌then◌}
 use Rattle.reference.specs.Lists.{get}
 use Rattle.reference.specs.Text.{Text, ◌≟◌}
@@ -103,9 +103,6 @@ lookup-last (x ∷ xs) l name = rw (lookup-last xs l name) (go (l.name ≟ name)
     go false = refl
 
 module _ (lines : Listing) (places : List ℕ) (name : Text) where
-  pub lookup_begin : lookup (labels_at lines places) name ≡ lookup (labels_at lines (take (length places) places)) name
-  lookup_begin = rw (take-length places)
-
   lookup_turn : (k : ℕ) → k < length places → lookup (labels_at lines (take (suc k) places)) name
       ≡ (when (label_at lines (get_or places k 0)).name ≟ name then some (get_or places k 0) else lookup (labels_at lines (take k places)) name)
   lookup_turn k h = rw (take-suc places k 0 h, map-append (label_at lines) (take k places) (get_or places k 0 ∷ []))

@@ -1,4 +1,4 @@
--- The search for a single use, line by line, as the code's loop goes; and the scans of the right side that it wants. Assumes nothing.
+-- The search for a single use, line by line, as the code's loop goes. Assumes nothing.
 use Prim.Native.Nat.{ℕ, zero, suc, ◌+◌, ◌≤◌, ◌<◌}
 use native.Mathlib.Nat.{not-suc-le-zero, le_of_suc-le-suc}
 use native.Mathlib.Numerals.{add-one}
@@ -16,8 +16,8 @@ use Rattle.reference.specs.Listing.{Token, Line, Listing, blank, ◌at◌}
 use Rattle.reference.specs.Names.{Fam, fam_of, of_family}
 use Rattle.reference.specs.Shapes.{is_label}
 use Rattle.reference.specs.Life.{Touch, None, Kill, Use, touch, match_touch}
-use Rattle.reference.specs.Join.{reads_here, reads_after, reads_memory, expr_fams, harmless, use_from, text_or_empty}
-use Rattle.laws.proofs.Scans.{or_true, or_false}
+use Rattle.reference.specs.Join.{expr_fams, harmless, use_from, text_or_empty}
+use Rattle.laws.proofs.Scans.{or_false}
 use Rattle.joining.specs.Plan.{Definition, Look, found, passes, stops, look}
 
 -- ---- tokens by their places
@@ -53,32 +53,6 @@ mentions (t ∷ ts) name = go (fam_of t) (mentions ts name)
         → has (let_some o else expr_fams ts then λ f. f.name ∷ expr_fams ts) name ≡ ((let_some o else false then λ f. f.name ≟ name) or any (of_family name) ts)
     go none ih = ih ∙ sym (or_false _ refl)
     go (some f) ih = ap (λ (b : Bool). (f.name ≟ name) or b) ih
-
--- the token behind which the token k stands
-abbrev pub before_of : List Token → ℕ → Option Token
-before_of expr zero = none
-before_of expr (suc k) = get expr k
-
-module _ (expr : List Token) (k : ℕ) (d : Token) where
-  reads-cons : k < length expr → reads_after (before_of expr k) (drop k expr)
-      ≡ (reads_here (before_of expr k) (get_or expr k d) or reads_after (before_of expr (k + 1)) (drop (k + 1) expr))
-  unfolding reads_after
-  reads-cons h = rw (add-one k, drop-cons expr k d h, get_at expr k d h)
-
-  pub reads_hit : k < length expr → reads_here (before_of expr k) (get_or expr k d) ≡ true → reads_after (before_of expr k) (drop k expr) ≡ true
-  reads_hit h e = reads-cons h ∙ or_true _ e
-
-  pub reads_miss : k < length expr → reads_here (before_of expr k) (get_or expr k d) ≡ false
-      → reads_after (before_of expr k) (drop k expr) ≡ reads_after (before_of expr (k + 1)) (drop (k + 1) expr)
-  reads_miss h e = reads-cons h ∙ or_false _ e
-
-  pub reads_end : length expr ≤ k → reads_after (before_of expr k) (drop k expr) ≡ false
-  unfolding reads_after
-  reads_end h = rw (drop_of_length-le expr h)
-
-pub reads_begin : (expr : List Token) → reads_memory expr ≡ reads_after (before_of expr 0) (drop 0 expr)
-unfolding reads_memory
-reads_begin expr = refl
 
 -- ---- the lines
 

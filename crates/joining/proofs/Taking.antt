@@ -1,24 +1,23 @@
 -- To test the lines that use a family, by their places, is one scan over the lines. Assumes nothing.
-use Prim.Native.Nat.{ℕ, suc, ◌+◌, ◌-◌, ◌≤◌, ◌<◌, suc-le-suc}
+use Prim.Native.Nat.{ℕ, suc, ◌-◌}
 use native.Mathlib.Omega.{arith}
 use native.Mathlib.Decide.{dec_le}
 use mathlib.Core.Path.{◌≡◌, refl, ap}
 use mathlib.Core.Logic.{by_cases}
 use mathlib.Core.Bool.{Bool, true, false}
 use mathlib.Core.List.{List, [], ◌∷◌}
-use lib.ListN.{length, take, drop}
-use lib.Seq.{slice, take-nil, length-take-le, get_or-take}
+use lib.ListN.{take, drop}
+use lib.Seq.{slice, take-nil}
 use borrow.Author.Tests.{le-leb}
-use Rattle.reference.specs.Control.{not, ◌and◌, ◌or◌, when◌then◌else◌}
+use Rattle.reference.specs.Control.{◌and◌, ◌or◌, when◌then◌else◌}
 use Rattle.reference.specs.Lists.{any}
 use Rattle.reference.specs.Text.{Text}
-use Rattle.reference.specs.Listing.{Line, Listing, blank, ◌at◌}
+use Rattle.reference.specs.Listing.{Line, Listing, ◌at◌}
 use Rattle.reference.specs.Life.{touch, is_use}
 use Rattle.reference.specs.Join.{bad_use}
 use Rattle.reference.proofs.Lines.{drop-step}
 use Rattle.laws.proofs.Parts.{drop-take}
-use Rattle.laws.proofs.Scans.{any_hit, any_miss, any_end}
-use Rattle.joining.specs.Plan.{refuses, all_take}
+use Rattle.joining.specs.Plan.{refuses}
 use Rattle.joining.proofs.Uses.{uses_upto, uses_past}
 
 module _ (fam : Text) (volatile : List Text) (q : Line → Bool) (lines : Listing) (last : ℕ) where
@@ -53,26 +52,3 @@ unfolding refuses
 refused fam volatile lines i last =
     rw (drop-take (suc i) (suc last) lines)
     (any_uses fam volatile (λ l. bad_use fam l.tokens) lines last (suc i) (drop (suc i) lines) refl)
-
--- ---- the scan, line by line, as the code's loop goes
-
-module _ (fam : Text) (volatile : List Text) (lines : Listing) (last : ℕ) (inside : last < length lines) (j : ℕ) where
-  front : length (take (suc last) lines) ≡ suc last
-  front = length-take-le (suc last) lines inside
-
-  pub take_hit : j ≤ last → refuses fam volatile (lines at j) ≡ true → all_take fam volatile (slice j (suc last) lines) ≡ false
-  unfolding all_take not
-  take_hit h e =
-      let lt : j < length (take (suc last) lines) = rw front (suc-le-suc h) in
-      rw (any_hit (refuses fam volatile) (take (suc last) lines) j blank lt (rw (get_or-take (suc last) lines j blank (suc-le-suc h)) e))
-
-  pub take_miss : j ≤ last → refuses fam volatile (lines at j) ≡ false
-      → all_take fam volatile (slice j (suc last) lines) ≡ all_take fam volatile (slice (j + 1) (suc last) lines)
-  unfolding all_take
-  take_miss h e =
-      let lt : j < length (take (suc last) lines) = rw front (suc-le-suc h) in
-      ap not (any_miss (refuses fam volatile) (take (suc last) lines) j blank lt (rw (get_or-take (suc last) lines j blank (suc-le-suc h)) e))
-
-  pub take_end : last < j → all_take fam volatile (slice j (suc last) lines) ≡ true
-  unfolding all_take not
-  take_end h = rw (any_end (refuses fam volatile) (take (suc last) lines) j (rw front h))

@@ -1,21 +1,18 @@
--- Scans by index: what a definition says of `drop i s`, at an element that passes the test, at one that fails it, and past the end.
--- A loop's invariant is "the definition at the whole is the definition at `drop i`", and these make each turn. Assumes nothing.
+-- Tests: the definitions' `and`, `or`, `not` and `when` where a part is known, and as a caller has them; any, count and position over
+-- joined and mapped lists; where a text starts and ends. Assumes nothing.
 use Prim.Native.Nat.{ℕ, suc, ◌+◌, ◌-◌, ◌≤◌, ◌<◌}
 use native.Mathlib.Omega.{arith}
-use native.Mathlib.Nat.{add-zero}
-use native.Mathlib.Numerals.{add-one}
 use mathlib.Core.Path.{◌≡◌, refl, sym, ap, ◌∙◌}
 use mathlib.Core.Logic.{by_cases}
-use native.Mathlib.Decide.{dec_le}
-use mathlib.Core.Bool.{Bool, true, false, not as flip}
+use native.Mathlib.Decide.{dec_le, dec_lt}
+use mathlib.Core.Bool.{Bool, true, false, false≢true, not as flip}
 use mathlib.Core.List.{List, [], ◌∷◌, ◌++◌, map}
 use mathlib.Core.Option.{Option, none, some}
-use lib.Dec.{eqb}
-use lib.ListN.{length, take, drop, get_or, drop_of_length-le}
-use lib.Seq.{drop-cons}
-use borrow.Author.Tests.{eq-eqb, ne_eqb, not-true, not-false}
+use lib.Dec.{eqb, ltb}
+use lib.ListN.{length, take, drop}
+use borrow.Author.Tests.{lt-ltb, le-ltb, not-true, not-false}
 use Rattle.reference.specs.Control.{not, ◌and◌, ◌or◌, when◌then◌else◌, let_some◌else◌then◌}
-use Rattle.reference.specs.Lists.{any, count, position}
+use Rattle.reference.specs.Lists.{any, count, position, is_empty}
 use Rattle.reference.specs.Text.{◌≟◌, starts_with, ends_with}
 
 -- ---- the tests, at a known value
@@ -36,12 +33,17 @@ pub and_false : {a : Bool} (b : Bool) → a ≡ false → (a and b) ≡ false
 unfolding ◌and◌
 and_false b e = rw e
 
-and_last : (a : Bool) → (a and false) ≡ false
+pub and_last : (a : Bool) → (a and false) ≡ false
 unfolding ◌and◌
 and_last true = refl
 and_last false = refl
 
-or_last : (a : Bool) → (a or false) ≡ a
+pub and_kept : (a : Bool) → (a and true) ≡ a
+unfolding ◌and◌
+and_kept true = refl
+and_kept false = refl
+
+pub or_last : (a : Bool) → (a or false) ≡ a
 unfolding ◌or◌
 or_last true = refl
 or_last false = refl
@@ -54,7 +56,14 @@ pub if-false {ℓ} : {A : Type ℓ} {a : Bool} (x y : A) → a ≡ false → (wh
 unfolding when◌then◌else◌
 if-false x y e = rw e
 
--- the same as a caller has it: x is what a call answered of a
+-- the same for what a function returns that tests in the definition's order
+pub if_here {ℓ} : {A : Type ℓ} {a : Bool} {x r : A} (y : A) → a ≡ true → r ≡ x → r ≡ (when a then x else y)
+if_here y e f = f ∙ sym (if-true _ y e)
+
+pub if-there {ℓ} : {A : Type ℓ} {a : Bool} {y r : A} (x : A) → a ≡ false → r ≡ y → r ≡ (when a then x else y)
+if-there x e f = f ∙ sym (if-false x _ e)
+
+-- the tests as a caller has them: x is what a call answered of a
 pub or_first : {x a : Bool} (b : Bool) → x ≡ a → x ≡ true → x ≡ (a or b)
 unfolding ◌or◌
 or_first b e f = rw (sym e ∙ f) f
@@ -104,63 +113,25 @@ pub and_not_second : {x y a b : Bool} → x ≡ a → x ≡ false → y ≡ b �
 unfolding not ◌and◌
 and_not_second e f g = rw (sym e ∙ f) g
 
--- `search (needs, tests) depth 8` proves what a function returns that tests in the definition's order and returns at each test (`if is_a(s) { return true; }`):
+-- `search (rules, tests) depth 8` proves what a function returns that tests in the definition's order and returns at each test (`if is_a(s) { return true; }`):
 -- four tests or fewer. In one expression it finds two (`a(s) || b(s)`).
 pub ruleset tests = (not-true, not-false, or_first, or_here, or_second, or_only, and_first, and_here, and_second, not_same, or_not_here, or_not_second, and_not_here, and_not_second)
+
+-- by what a test says
+pub by_test : {X : Type 0} (b : Bool) → (b ≡ true → X) → (b ≡ false → X) → X
+by_test true f g = f refl
+by_test false f g = g refl
+
+pub ltb-suc : (m n : ℕ) → ltb m n ≡ ltb (suc m) (suc n)
+ltb-suc m n =
+    by_cases (dec_lt m n) (λ h. lt-ltb m n h ∙ sym (lt-ltb (suc m) (suc n) (omega arith)))
+    (λ h. le-ltb m n (omega arith) ∙ sym (le-ltb (suc m) (suc n) (omega arith)))
 
 -- ---- any, count, position
 
 -- what a search from i on finds, counted from the beginning
 unfoldable pub from : ℕ → Option ℕ → Option ℕ
 from i o = let_some o else none then λ k. some (i + k)
-
-module _ {ℓ} {A : Type ℓ} (p : A → Bool) (s : List A) (i : ℕ) where
-  any_at : (d : A) → i < length s → any p (drop i s) ≡ (p (get_or s i d) or any p (drop (i + 1) s))
-  any_at d h = rw (add-one, drop-cons s i d)
-
-  pub any_hit : (d : A) → i < length s → p (get_or s i d) ≡ true → any p (drop i s) ≡ true
-  any_hit d h e = any_at d h ∙ or_true _ e
-
-  pub any_miss : (d : A) → i < length s → p (get_or s i d) ≡ false → any p (drop i s) ≡ any p (drop (i + 1) s)
-  any_miss d h e = any_at d h ∙ or_false _ e
-
-  pub any_end : length s ≤ i → any p (drop i s) ≡ false
-  any_end h = rw (drop_of_length-le s h)
-
-  pub count_hit : (d : A) → i < length s → p (get_or s i d) ≡ true → count p (drop i s) ≡ 1 + count p (drop (i + 1) s)
-  unfolding when◌then◌else◌
-  count_hit d h e = rw (add-one, drop-cons s i d, e) (omega arith)
-
-  pub count_miss : (d : A) → i < length s → p (get_or s i d) ≡ false → count p (drop i s) ≡ count p (drop (i + 1) s)
-  unfolding when◌then◌else◌
-  count_miss d h e = rw (add-one, drop-cons s i d, e)
-
-  pub count_end : length s ≤ i → count p (drop i s) ≡ 0
-  count_end h = rw (drop_of_length-le s h)
-
-  pub position_hit : (d : A) → i < length s → p (get_or s i d) ≡ true → from i (position p (drop i s)) ≡ some i
-  unfolding from when◌then◌else◌ let_some◌else◌then◌
-  position_hit d h e = rw (drop-cons s i d, e, add-zero)
-
-  pub position_miss : (d : A) → i < length s → p (get_or s i d) ≡ false → from i (position p (drop i s)) ≡ from (i + 1) (position p (drop (i + 1) s))
-  unfolding from when◌then◌else◌ let_some◌else◌then◌
-  position_miss d h e = rw (add-one, drop-cons s i d, e) (shifted (position p (drop (suc i) s)))
-    where
-      shifted : (o : Option ℕ) → (let_some (let_some o else none then λ k. some (suc k)) else none then λ k. some (i + k)) ≡ (let_some o else none then λ k. some (suc i + k))
-      shifted none = refl
-      shifted (some k) = ap some (omega arith)
-
-  pub position_end : length s ≤ i → from i (position p (drop i s)) ≡ none
-  unfolding from let_some◌else◌then◌
-  position_end h = rw (drop_of_length-le s h)
-
-pub position-begin {ℓ} : {A : Type ℓ} (p : A → Bool) (s : List A) → position p s ≡ from 0 (position p (drop 0 s))
-unfolding from let_some◌else◌then◌
-position-begin p s = begun (position p s)
-  where
-    begun : (o : Option ℕ) → o ≡ (let_some o else none then λ k. some (0 + k))
-    begun none = refl
-    begun (some k) = ap some (omega arith)
 
 module _ {ℓ} {A : Type ℓ} (p : A → Bool) where
   pub any_append : (s t : List A) → any p (s ++ t) ≡ (any p s or any p t)
@@ -188,18 +159,9 @@ module _ {ℓ} {A : Type ℓ} (p : A → Bool) where
 
 -- ---- texts
 
-module _ (a b : List ℕ) where
-  same_at : (i : ℕ) → i < length a → i < length b → (drop i a ≟ drop i b) ≡ (eqb (get_or a i 0) (get_or b i 0) and (drop (i + 1) a ≟ drop (i + 1) b))
-  same_at i h k = rw (add-one, drop-cons a i 0, drop-cons b i 0)
-
-  pub same_differs : (i : ℕ) → i < length a → i < length b → (get_or a i 0 ≡ get_or b i 0 → ⊥) → (drop i a ≟ drop i b) ≡ false
-  same_differs i h k e = same_at i h k ∙ and_false _ (ne_eqb _ _ e)
-
-  pub same_agrees : (i : ℕ) → i < length a → i < length b → get_or a i 0 ≡ get_or b i 0 → (drop i a ≟ drop i b) ≡ (drop (i + 1) a ≟ drop (i + 1) b)
-  same_agrees i h k e = same_at i h k ∙ and_true _ (eq-eqb _ _ e)
-
-  pub same_end : (i : ℕ) → length a ≤ i → length b ≤ i → (drop i a ≟ drop i b) ≡ true
-  same_end i h k = rw (drop_of_length-le a h, drop_of_length-le b k)
+pub empty_is : (s : List ℕ) → is_empty s ≡ true → s ≡ []
+empty_is [] e = refl
+empty_is (x ∷ xs) e = absurd (false≢true e)
 
 pub same_lengths : (a b : List ℕ) → (length a ≡ length b → ⊥) → (a ≟ b) ≡ false
 unfolding ◌and◌

@@ -2,15 +2,14 @@
 use Rattle.std.proofs.Common.{◌≡◌, ◌+◌, ◌-◌, ◌≤◌, ◌<◌, ◌&&◌, ◌||◌, ◌∷◌, ◌∙◌, ℕ, zero, suc, Bool, true, false, cond, eqb, List, [], length, take}
 use Rattle.std.proofs.Common.{drop, slice_get, refl, sym, ap, arith, MatchOption, option_map, position, find, count_by, eqb-true, eq-eqb, ne_eqb}
 use Rattle.std.proofs.Common as std
-use Rattle.std.specs.List.{FoldsTo, list_any, list_all, prefix_len}
+use Rattle.std.specs.List.{list_any, prefix_len}
 use Rattle.std.specs.List as words
 use lib.Pointwise.{pointwise}
-use denote.Ref.{Bor}
 use denote.Param.Members.{Mut}
-use Rattle.std.specs.Iterator.{CallsWhile, YieldsThen}
-use Rattle.std.specs.Fn.{Called, CalledAt}
+use Rattle.std.specs.Iterator.{CallsWhile}
+use Rattle.std.specs.Fn.{Called}
 use Rattle.std.proofs.lemmas.Iterator.{YieldsList}
-use Rattle.std.proofs.lemmas.Iterator.Search.{any_from_yields_List, all_from_yields_List, position_from_yields_List, find_from_yields_List}
+use Rattle.std.proofs.lemmas.Iterator.Search.{any_from_yields_List, position_from_yields_List}
 use lib.ListN.{length-drop}
 use native.Mathlib.Decide.{dec_le}
 use mathlib.Core.Logic.{by_cases}
@@ -72,16 +71,6 @@ module _ {A : Type 0} where
   -- `contains`, `iter().any(p)`
   pub any-std : (p : A → Bool) (xs : List A) → list_any p xs ≡ lists.any p xs
   any-std p = list_any_of p p (λ x. refl)
-
-  -- `iter().all(p)`
-  pub all-std : (p : A → Bool) (xs : List A) → list_all p xs ≡ not (lists.any (λ x. not (p x)) xs)
-  unfolding not ◌or◌
-  all-std p [] = refl
-  all-std p (x ∷ xs) = ap (λ b. p x && b) (all-std p xs) ∙ either (p x) (lists.any (λ x. not (p x)) xs)
-    where
-      either : (a b : Bool) → (a && not b) ≡ not (not a or b)
-      either true b = refl
-      either false b = refl
 
   -- `iter().filter(p).count()`
   pub count-std : (p : A → Bool) (xs : List A) → count_by p xs ≡ lists.count p xs
@@ -191,19 +180,9 @@ module _ {S A B F : Type 0} {steps : S → std.Option A → S → Type 0} {v : A
         → YieldsList steps v s xs → ((x : A) (b : Bool) (q : F) → Called g f (x, tt) b q → (q ≡ f) × (b ≡ test (v x))) → r ≡ lists.any test xs
     any_by {r} d e k = any_from_yields_List test u f r d e k ∙ any-std test xs
 
-    pub all_by : {r : Bool} → CallsWhile steps g true s f u (r ≡ true) (λ _ f' x. (r ≡ false) × ((h : F) × Called g f' (x, tt) false h))
-        → YieldsList steps v s xs → ((x : A) (b : Bool) (q : F) → Called g f (x, tt) b q → (q ≡ f) × (b ≡ test (v x))) → r ≡ not (lists.any (λ x. not (test x)) xs)
-    all_by {r} d e k = all_from_yields_List test u f r d e k ∙ all-std test xs
-
     pub position_by : {r : std.Option ℕ} → CallsWhile steps g false s f u (r ≡ std.None) (λ xs f' x. (r ≡ std.Some (length xs)) × ((h : F) × Called g f' (x, tt) true h))
         → YieldsList steps v s xs → ((x : A) (b : Bool) (q : F) → Called g f (x, tt) b q → (q ≡ f) × (b ≡ test (v x))) → option_of r ≡ lists.position test xs
     position_by {r} d e k = ap option_of (position_from_yields_List test u f r d e k) ∙ position-std test xs
-
-  module _ {g : Mut F (Bor A × Unit {0}) Bool} where
-    pub find_by : (r : std.Option A) → (xs : List A) × (j : F) × YieldsThen steps s xs r u × FoldsTo (λ p x q. CalledAt g p x false q) f xs j
-        × MatchOption r (Unit {0}) (λ x. (h : F) × CalledAt g j x true h)
-        → YieldsList steps v s xs → ((x : A) (b : Bool) (q : F) → CalledAt g f x b q → (q ≡ f) × (b ≡ test (v x))) → option_of (option_map v r) ≡ lists.find test xs
-    find_by r d e k = ap option_of (find_from_yields_List test u f r d e k) ∙ find-std test xs
 
 -- ---- the same from the definitions' side: `grind` meets the definitions' word in the goal, and gets std's, which the call ensures
 

@@ -2,18 +2,16 @@
 use Prim.Native.Nat.{ℕ, suc, ◌+◌, ◌≤◌, ◌<◌}
 use native.Mathlib.Omega.{arith}
 use native.Mathlib.Nat.{add-zero, zero-add}
-use native.Mathlib.Decide.{dec_lt}
 use native.Mathlib.Numerals.{add-one}
 use mathlib.Core.Path.{◌≡◌, refl, sym, ap, ◌∙◌}
 use mathlib.Core.Bool.{true, false}
-use mathlib.Core.Logic.{by_cases}
 use mathlib.Core.List.{List, [], ◌∷◌, ◌++◌, append-nil}
 use lib.Dec.{ltb}
 use lib.ListN.{length, take, drop, set, get_or, length-append, drop_of_length-le}
 use lib.Seq.{drop-cons, drop-nil, append_snoc}
 use borrow.Author.Tests.{lt-ltb, le-ltb}
 use Rattle.reference.specs.Text.{Text}
-use Rattle.laws.proofs.Scans.{if-true, if-false}
+use Rattle.laws.proofs.Scans.{if-true, if-false, ltb-suc}
 use Rattle.listing_text.specs.Room.{laid, Page, put_one, puts, Adds, Puts, empty}
 use Rattle.listing_text.specs.declared.room.Clipped.{Clipped}
 
@@ -49,10 +47,6 @@ adds_none = record { same = refl }
 
 pub then_adds : {g g₁ g₂ : Page} {s t : Text} → Adds g s g₁ → Adds g₁ t g₂ → Adds g (s ++ t) g₂
 then_adds {g} {s = s} {t} e f = record { same = f.same ∙ ap (λ (h : Page). puts h t) e.same ∙ sym (puts_append g s t) }
-
--- the same text in other words
-pub adds_as : {g g₁ : Page} {s t : Text} → s ≡ t → Adds g s g₁ → Adds g t g₁
-adds_as e a = rw e at a
 
 -- the same into a clipped slice
 pub puts_none : {p : Clipped} → Puts p [] p
@@ -96,11 +90,6 @@ stays out at (b ∷ t) h = ap (λ (g : Page). puts g t) (sym (put-cut (record { 
 abbrev filled : List ℕ → List ℕ → Text → Page
 filled pre rest t =
     record { bytes = pre ++ laid rest t; at = length pre + length (take (length rest) t); cut = ltb (length rest) (length t) }
-
-ltb-suc : (m n : ℕ) → ltb m n ≡ ltb (suc m) (suc n)
-ltb-suc m n =
-    by_cases (dec_lt m n) (λ h. lt-ltb m n h ∙ sym (lt-ltb (suc m) (suc n) (omega arith)))
-    (λ h. le-ltb m n (omega arith) ∙ sym (le-ltb (suc m) (suc n) (omega arith)))
 
 fill : (pre rest : List ℕ) (t : Text) → puts (record { bytes = pre ++ rest; at = length pre; cut = false }) t ≡ filled pre rest t
 unfolding puts laid

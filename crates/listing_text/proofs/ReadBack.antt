@@ -12,7 +12,6 @@ use lib.ListN.{length, drop, take-append-drop}
 use lib.Seq.{drop-drop}
 use borrow.Author.Tests.{ne_eqb, le-leb, leb-true}
 use Rattle.reference.specs.Control.{when◌then◌else◌, ◌and◌}
-use Rattle.reference.specs.Lists.{is_empty}
 use Rattle.reference.specs.Text.{Text}
 use Rattle.reference.specs.Listing.{Listing}
 use Rattle.reference.specs.Tape.{old, Command, new_line, marked, new_token, end, write_command, command_of, command_size}
@@ -22,6 +21,7 @@ use Rattle.reference.proofs.Cases.{by-if, not-true}
 use Rattle.reference.proofs.LittleEndian.{Bytes, bytes_drop}
 use Rattle.reference.proofs.Commands.{Sized, sized, WritableBy, writable, write_of-read}
 use Rattle.reference.proofs.Reading.{Passes, command_passed, pass_command, advances, by_passed, refused_passed}
+use Rattle.laws.proofs.Scans.{by_test, empty_is}
 use Rattle.tape.proofs.questions.Asking.{Numbered}
 use Rattle.listing_text.specs.Forms.{line_end, exact_command}
 use Rattle.listing_text.specs.Showing.{Shown, in_front, begun, shown_at, shown_from, shown}
@@ -73,17 +73,13 @@ fits_of : (a : Option ℕ) → WritableBy old (new_line a 0) → Fits a
 fits_of none w = tt
 fits_of (some n) w = w
 
-empty-rest : (s : List ℕ) → is_empty s ≡ true → s ≡ []
-empty-rest [] e = refl
-empty-rest (x ∷ s) e = absurd (false≢true e)
-
 good_of : (rest : List ℕ) (c : Command) (n : ℕ) → WritableBy old c → Sized c n → is_within c ≡ true → is_printable c ≡ true → is_over rest c ≡ true
     → Good (drop n rest) c
 unfolding is_within is_printable is_over
 good_of rest (new_line a indent) n w z within printable over = (fits_of a w, leb-true indent 63 within)
 good_of rest (marked s) n w z within printable over = w
 good_of rest (new_token t) n w z within printable over = (w.0, w.1, printable-above t.text (not-true printable))
-good_of rest end n w z within printable over = ap (λ (k : ℕ). drop k rest) z ∙ empty-rest (drop 1 rest) over
+good_of rest end n w z within printable over = ap (λ (k : ℕ). drop k rest) z ∙ empty_is (drop 1 rest) over
 
 module _ (tape : List ℕ) (bytes : Bytes tape) where
   -- what a step gives: the command, its bytes, and the tape behind it
@@ -258,10 +254,6 @@ module _ (at : ℕ) (t : Totals) (fresh : Bool) (first : at ≡ 0 → t.lines �
         printable = p.printable;
         over = p.over;
       }
-
-by_test : {X : Type 0} (b : Bool) → (b ≡ true → X) → (b ≡ false → X) → X
-by_test true f g = f refl
-by_test false f g = g refl
 
 module _ (tape : List ℕ) where
   shows : (exact : Bool) (fuel at : ℕ) (t : Totals) (lines result : Listing) (fresh : Bool) → (at ≡ 0 → t.lines ≡ 0) → t.fresh ≡ fresh

@@ -16,6 +16,7 @@ use Rattle.reference.specs.Text.{Text, bytes, ◌≟◌}
 use Rattle.reference.specs.Tape.{Command, new_line, marked, new_token, write_command}
 use Rattle.reference.specs.Questions.{is_offending}
 use Rattle.reference.proofs.Cases.{neither}
+use Rattle.laws.proofs.Scans.{by_test}
 use Rattle.words.specs.Splitting.{onto}
 use Rattle.printing.specs.Decimals.{decimal}
 use Rattle.listing_text.specs.Forms.{hexadecimal, letters, exact_address}
@@ -143,10 +144,6 @@ module _ (a : Option ℕ) (indent : ℕ) (f : Fits a) (h : indent ≤ 63) where
       (λ e. omega arith, above_avoids 10 (decimal indent) (omega arith) (indent-above indent (omega arith)))
 
 -- ---- a field more, behind a tab
-
-by_test : {X : Type 0} (b : Bool) → (b ≡ true → X) → (b ≡ false → X) → X
-by_test true f g = f refl
-by_test false f g = g refl
 
 apart_some : (t : Text) → (p : Text) × (ps : List Text) × (apart 9 t ≡ p ∷ ps)
 unfolding apart onto when◌then◌else◌

@@ -19,6 +19,7 @@ use Rattle.reference.specs.Text.{Text, bytes, starts_with, strip_prefix}
 use Rattle.reference.specs.Numbers.{to_digit, digits_value, unsigned, read_u64, read_i64}
 use Rattle.reference.proofs.Cases.{some_inj, none-some}
 use Rattle.laws.proofs.Scans.{if-true, if-false}
+use Rattle.std.proofs.lemmas.Str.Ascii.{IsAscii-cons}
 use Rattle.numbers.proofs.Reading.{value, agrees, no_digit, a_digit}
 
 -- ---- what `from_utf8` answered, where its `ok` is taken
@@ -89,13 +90,9 @@ letter_ascii c h = by_cases (dec_lt c 128) (λ l. l) (λ l. absurd (omega (arith
           le-ltb c 123 (omega arith),
         ) refl
 
-ascii_next : (c : ℕ) (cs : Text) → c < 128 → IsAscii cs → IsAscii (c ∷ cs)
-ascii_next c cs h f zero = h
-ascii_next c cs h f (suc i) = f i
-
 ascii : (radix : ℕ) → radix ≤ 36 → (ds : Text) → AllDigits radix ds → IsAscii ds
 ascii radix b [] a = λ i. omega arith
-ascii radix b (c ∷ cs) a = ascii_next c cs (letter_ascii c (omega (arith, a.0))) (ascii radix b cs a.1)
+ascii radix b (c ∷ cs) a = IsAscii-cons c cs (letter_ascii c (omega (arith, a.0))) (ascii radix b cs a.1)
 
 -- ---- a sign in front
 
@@ -195,7 +192,7 @@ read_10 {E} s r p = rw (plus-cut s, first-std s 45 refl) (by (starts_with_minus 
 module _ (radix : ℕ) (b : radix ≤ 36) where
   signed_utf8 : (s : Text) (sign : ℕ) → eqb (slice_index s 0) sign ≡ true → sign < 128 → AllDigits radix (drop 1 s) → IsUtf8 s
   signed_utf8 [] sign e h a = IsUtf8-from_ascii [] (λ i. omega arith)
-  signed_utf8 (c ∷ s) sign e h a = IsUtf8-from_ascii (c ∷ s) (ascii_next c s (omega (arith, eqb-true c sign e)) (ascii radix b s a))
+  signed_utf8 (c ∷ s) sign e h a = IsUtf8-from_ascii (c ∷ s) (IsAscii-cons c s (omega (arith, eqb-true c sign e)) (ascii radix b s a))
 
   plus_utf8 : (s : Text) → AllDigits radix (without_leading_plus s) → IsUtf8 s
   plus_utf8 s a = by (eqb (slice_index s 0) 43) refl a

@@ -13,9 +13,9 @@ use Rattle.reference.specs.Tape.{old, offsets, header, write_by}
 use Rattle.reference.specs.Questions.{Answer, Refused, Passed, let_passed◌then◌, read_by, marks_in_by}
 use Rattle.reference.proofs.Cases.{by-some}
 use Rattle.reference.proofs.Reading.{ask-yes, ask_no, refused_passed, by_passed, let_refused, let_is}
+use Rattle.answers.proofs.Numbers.{numbered}
 use Rattle.answers.specs.Answers.{Writes}
 use Rattle.answers.specs.declared.Reason.{Reason}
-use Rattle.answers.specs.declared.Reason.TheVariants as reason
 use Rattle.answers.specs.declared.Refusal.{Refusal}
 use Rattle.answers.specs.Refusals.{number_of, refusing}
 use Rattle.std.specs.Prelude.{Result, Ok, Err}
@@ -45,31 +45,6 @@ module _ {answer : Answer (List ℕ)} where
   pub written-call : {bytes out out' : List ℕ} {end : ℕ} → answer ≡ Passed bytes → Lists.Puts out 0 bytes out' end → Writes answer out out' (Passed end)
   written-call {bytes} {out} e p =
       rw e (record { reply_is = ap Passed (omega (arith, p.ends)); output_is = p.holds ∙ put_front out bytes })
-
--- a reason has a number, and 0 is none
-pub numbered : (r : Reason) → number_of r ≡ 0 → ⊥
-numbered reason.UnknownConvention e = omega arith
-numbered reason.UnknownEdition e = omega arith
-numbered reason.TooLittleRoom e = omega arith
-numbered reason.NoCommand e = omega arith
-numbered reason.CutOff e = omega arith
-numbered reason.OutOfPlace e = omega arith
-numbered reason.OutOfBounds e = omega arith
-numbered reason.TooMany e = omega arith
-numbered reason.TooMuchText e = omega arith
-numbered reason.Unprintable e = omega arith
-numbered reason.BytesAfterEnd e = omega arith
-numbered reason.NewKeyword e = omega arith
-numbered reason.UnreadNumber e = omega arith
-numbered reason.OutsideProfile e = omega arith
-numbered reason.NoStartValue e = omega arith
-numbered reason.NoRegister e = omega arith
-numbered reason.TooLong e = omega arith
-numbered reason.OutOfReach e = omega arith
-numbered reason.NoBase e = omega arith
-numbered reason.NotHeld e = omega arith
-numbered reason.StoreFull e = omega arith
-numbered reason.BrokenCell e = omega arith
 
 -- ---- the tape's questions, and 18
 

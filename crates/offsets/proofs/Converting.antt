@@ -73,10 +73,6 @@ module _ (form other : TapeForm) (bad : ℕ → Bool) (f : ℕ → ℕ) where
         (moved_ordered Passing f c.rising marks passing_marks (short-marks form marks m.0).1))
         (omega (arith, moved_length f lines, moved-marks-length f marks, m.1))
 
-    converted : convert form other bad f begin tape lines ≡ Passed written
-    unfolding convert let_some◌else◌then◌
-    converted = rw none_bad
-
     -- THERE AND BACK: g takes f back, and what f gives is not refused
     pub and_back : Carries → (bad' : ℕ → Bool) (g : ℕ → ℕ) (begin' : List ℕ) → ((a : ℕ) → Passing a → bad' (f a) ≡ false) → ((a : ℕ) → Passing a → g (f a) ≡ a)
         → convert other form bad' g begin' written (move_lines f lines) ≡ Passed (begin' ++ drop (header form) tape)

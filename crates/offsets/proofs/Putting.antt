@@ -23,6 +23,7 @@ use Rattle.reference.proofs.Reading.{PassesBy, command_passed_by, passed_inj, ad
 use Rattle.reference.proofs.Writing.{write-length_by}
 use Rattle.reference.proofs.Limits.{Limits}
 use Rattle.reference.proofs.Tapes.{kept}
+use Rattle.tape.proofs.questions.Asking.{is_end_end}
 use Rattle.text.specs.Cursor.{Fits, Puts}
 use Rattle.text.specs.declared.cursor.Cursor.{Cursor}
 use Rattle.text.proofs.Cursors.{puts_none, then_puts, puts_as, room_left}
@@ -202,12 +203,6 @@ module _ {based : Bool} {base : ℕ} {tape : List ℕ} {at next : ℕ} {out : Cu
     marks_room m = rw f (marks_fit m)
 
 -- ---- the loop
-
-is_end_end : (c : Tape.Command) → is_end c ≡ true → c ≡ Tape.end
-is_end_end (Tape.new_line address indent) e = absurd (false≢true e)
-is_end_end (Tape.marked s) e = absurd (false≢true e)
-is_end_end (Tape.new_token t) e = absurd (false≢true e)
-is_end_end Tape.end e = refl
 
 module _ (based : Bool) (base : ℕ) (tape : List ℕ) where
   abbrev f : ℕ → ℕ

@@ -15,7 +15,6 @@ use Rattle.answers.specs.declared.Refusal.{Refusal}
 use Rattle.tape.specs.declared.questions.Advance as Code
 use Rattle.tape.specs.Questions.{stepped}
 use Rattle.std.specs.Option.{SomeIff, is_some}
-use Rattle.reference.specs.Control.{◌or◌}
 use Rattle.reference.specs.Lists.{any}
 use Rattle.reference.specs.Tape.{TapeForm, header, command_size_by, command_by}
 use Rattle.reference.specs.Listing.{Listing}
@@ -52,12 +51,6 @@ sum_over base offset None true h e = sym (le-leb (2 ^ 64) (base + offset) (omega
 sum_over base offset None false h e = cc
 sum_over base offset (Some v) true h e = cc
 sum_over base offset (Some v) false h e = sym (lt-leb (2 ^ 64) (base + offset) (omega (arith, h)))
-
--- one test more that is never met
-pub or_none : (a : Bool) → (a or false) ≡ a
-unfolding ◌or◌
-or_none true = refl
-or_none false = refl
 
 -- ---- the addresses of a command
 

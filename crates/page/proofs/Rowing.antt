@@ -11,14 +11,11 @@ use lib.Seq.{take_all, take-append_seam, drop-append_seam}
 use borrow.Author.Tests.{leb-true, leb-false}
 use Rattle.reference.specs.Text.{Text}
 use Rattle.reference.specs.Listing.{Token}
-use Rattle.reference.specs.Tape as Tape
 use Rattle.laws.proofs.Scans.{if-true, if-false}
 use Rattle.text.specs.Cursor.{Puts}
 use Rattle.text.specs.declared.cursor.Cursor.{Cursor}
 use Rattle.text.proofs.Cursors.{puts_none, then_puts, puts_as}
 use Rattle.printing.proofs.Decimals.{decimal-length}
-use Rattle.walk.specs.Held.{tokens_of}
-use Rattle.walk.proofs.Spending.{bytes_of}
 use Rattle.page.specs.Cells.{cell, cells_by, cells, line_cells}
 use Rattle.page.proofs.Escaped.{escaped-length}
 
@@ -147,13 +144,3 @@ no_tokens = refl
 pub next_token : (t : Token) (ts : List Token) → line_cells (t ∷ ts) ≡ cells t.kind t.text ++ line_cells ts
 unfolding line_cells flat_map
 next_token t ts = refl
-
--- a line's cells have room in twelve times the bytes of its commands
-pub line-length : (cs : List Tape.Command) → length (line_cells (tokens_of cs)) ≤ 12 * bytes_of cs
-unfolding line_cells flat_map
-line-length [] = omega arith
-line-length (Tape.new_line address indent ∷ more) = omega arith
-line-length (Tape.marked s ∷ more) = line-length more
-line-length (Tape.new_token t ∷ more) =
-    omega (arith, length-append (cells t.kind t.text) (line_cells (tokens_of more)), cells-length t.kind t.text, line-length more)
-line-length (Tape.end ∷ more) = line-length more

@@ -37,11 +37,9 @@ use Rattle.plan.proofs.Reaching.{line_at}
 use Rattle.std.specs.Prelude as std
 use Rattle.std.specs.Prelude.{Some, None}
 use Rattle.reference.specs.Options.{option_of}
+use Rattle.reference.proofs.Cases.{some_inj}
 
 -- ---- plans
-
-some_inj : {j k : ℕ} → some j ≡ some k → j ≡ k
-some_inj e = cc
 
 found_never : {k : ℕ} {X : Type 0} → none ≡ some k → X
 found_never e = absurd (let z : ◌≡◌ {A = ℕ} 0 1 = cc in omega arith)

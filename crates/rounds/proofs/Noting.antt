@@ -151,10 +151,6 @@ module _ (tape area : Text) (before w : ℕ) {g : SlotBuffer}
         ap (λ (x : Text). x ∷ []) eb ∙ sym (here_slot (token_of tape area before) (token_of tape area w) (rw ea at (sym ex ∙ t)) (rw eb at (sym ey ∙ f))) in
         noted_as names (ap length eb ∙ text_length p) o
 
--- the same slices are lent after one call, and after one call after the other
-pub slots_same : (g : SlotBuffer) → SameSlots g g
-slots_same g = record { text_is = refl; words_are = refl; text_length = refl; words_length = refl }
-
 pub slots_then : {a b c : SlotBuffer} → SameSlots a b → SameSlots b c → SameSlots a c
 slots_then p q = record {
   text_is = q.text_is ∙ p.text_is;

@@ -4,7 +4,7 @@ use native.Mathlib.Omega.{arith}
 use mathlib.Core.Path.{◌≡◌, refl, sym, ap, ◌∙◌}
 use mathlib.Core.Logic.{◌⊎◌, ⊎_elim, inl, inr}
 use mathlib.Core.Bool.{Bool, true, false}
-use mathlib.Core.List.{List, [], ◌∷◌, ◌++◌, map, map-append, flatten, append-nil, append_assoc}
+use mathlib.Core.List.{List, [], ◌∷◌, ◌++◌, map, flatten, append-nil, append_assoc}
 use lib.Dec.{eqb}
 use lib.ListN.{length, set, length-append}
 use lib.Seq.{append_snoc}
@@ -14,9 +14,10 @@ use Rattle.reference.specs.Text.{Text}
 use Rattle.reference.specs.Listing.{Listing}
 use Rattle.reference.specs.Rules.{Rules}
 use Rattle.reference.specs.Run.{Attempt, propagate_once, after_attempts, removals, changed, rounds_from, limit, after_rounds, drop_dead_results}
-use Rattle.reference.specs.Run.{last_of, run, attempts_of, steps, finished, attempts_in, counts}
+use Rattle.reference.specs.Run.{run, attempts_of, attempts_in, counts}
 use Rattle.joining.specs.Limits.{RunLimits}
 use Rattle.laws.proofs.Scans.{if-true, if-false}
+use Rattle.reference.proofs.Marks.{finished_is}
 use Rattle.lines.specs.Lines.{Reading, numbered, origin_of}
 use Rattle.build.specs.declared.used.Size.{Size}
 use Rattle.build.specs.State.{used}
@@ -31,7 +32,6 @@ use Rattle.cuts.specs.Cuts.{Cut}
 use Rattle.rounds.specs.Rounds.{Made}
 use Rattle.rounds.specs.Runs.{most_rounds, after_round, Few, Counted, Rounded, tally_of, told_of, counts_of, Ran}
 use Rattle.rounds.proofs.Carrying.{carries_none, carries_then, carries_same, numbers_same, cuts-addresses}
-use Rattle.cuts.proofs.Cutting.{last_append}
 use Rattle.rounds.proofs.Turning.{removals_append, now-length, now-few}
 
 -- ---- the rounds from a listing on: one, and those after it
@@ -241,28 +241,6 @@ module _ {rules : Rules} {tape area₀ : Text} {tokens₀ lines₀ lows₀ highs
         }
 
 -- ---- the cuts
-
-last_left : (lines : Listing) (round : List Attempt) → last_of lines (map (λ a. a.left) round) ≡ after_attempts lines round
-unfolding last_of after_attempts
-last_left lines [] = refl
-last_left lines (a ∷ rest) = last_left a.left rest
-
-last_round : (lines : Listing) (rounds : List (List Attempt)) → last_of lines (map (λ a. a.left) (flatten rounds)) ≡ after_rounds lines rounds
-unfolding last_of after_rounds flatten
-last_round lines [] = refl
-last_round lines (round ∷ more) =
-    ap (last_of lines) (map-append (λ (a : Attempt). a.left) round (flatten more))
-    ∙ last_append lines (map (λ a. a.left) round) (map (λ a. a.left) (flatten more))
-    ∙ ap (λ (l : Listing). last_of l (map (λ a. a.left) (flatten more))) (last_left lines round)
-    ∙ last_round (after_attempts lines round) more
-
--- the finished listing is the last of the cuts that follow the rounds
-finished_is : (rules : Rules) (lines : Listing) → finished rules lines ≡ last_of (after_rounds lines (run rules lines).rounds) (run rules lines).cuts
-unfolding finished steps attempts_of
-finished_is rules lines =
-    let t = run rules lines in
-    last_append lines (map (λ a. a.left) (flatten t.rounds)) t.cuts
-    ∙ ap (λ (l : Listing). last_of l t.cuts) (last_round lines t.rounds)
 
 cuts_are : (rules : Rules) (lines : Listing) → (run rules lines).cuts ≡ drop_dead_results rules (after_rounds lines (run rules lines).rounds)
 unfolding run

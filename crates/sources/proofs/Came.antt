@@ -4,7 +4,7 @@ use Rattle.answers.specs.declared.Reason.{Reason}
 use Rattle.std.specs.Result.{MatchResult, IsErrAnd}
 use Rattle.answers.specs.declared.Refusal.{Refusal}
 use Rattle.answers.specs.Refusals.{number_of, refusing}
-use Rattle.offsets.proofs.Answering.{numbered}
+use Rattle.answers.proofs.Numbers.{numbered}
 use Prim.Native.Nat.{ℕ, zero, suc, ◌≤◌, ◌<◌}
 use native.Mathlib.Omega.{arith}
 use mathlib.Core.Path.{◌≡◌, refl, sym, ap, ◌∙◌}

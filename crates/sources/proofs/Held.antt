@@ -185,7 +185,7 @@ finished-held rules input h =
 
 -- ---- how much it can be
 
-each_last : (P : Listing → Type 0) (l : Listing) (ls : List Listing) → Each P (l ∷ ls) → P (last_of l ls)
+pub each_last : (P : Listing → Type 0) (l : Listing) (ls : List Listing) → Each P (l ∷ ls) → P (last_of l ls)
 unfolding last_of
 each_last P l [] h = h.0
 each_last P l (m ∷ ls) h = each_last P m ls h.1

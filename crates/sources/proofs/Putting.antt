@@ -7,7 +7,7 @@ use mathlib.Core.Logic.{◌⊎◌, inl, inr}
 use Prim.Native.Nat.{ℕ, ◌+◌, ◌-◌, ◌≤◌, ◌<◌}
 use native.Mathlib.Omega.{arith}
 use mathlib.Core.Path.{◌≡◌, refl, sym, ap, ◌∙◌}
-use mathlib.Core.Bool.{Bool, true, false, false≢true}
+use mathlib.Core.Bool.{Bool, true, false}
 use mathlib.Core.List.{List, [], ◌∷◌, ◌++◌}
 use mathlib.Core.Option.{none, some}
 use lib.Dec.{eqb}
@@ -24,6 +24,7 @@ use Rattle.reference.proofs.Reading.{PassesBy, command_passed_by, passed_inj, re
 use Rattle.reference.proofs.Limits.{Limits}
 use Rattle.reference.proofs.Tapes.{kept}
 use Rattle.laws.proofs.Scans.{if-true, if-false}
+use Rattle.tape.proofs.questions.Asking.{is_end_end}
 use Rattle.text.specs.Cursor.{Fits, Puts}
 use Rattle.text.specs.declared.cursor.Cursor.{Cursor}
 use Rattle.text.proofs.Cursors.{puts_none, then_puts, puts_as, room_left}
@@ -162,12 +163,6 @@ module _ {picked : Bool} {tape : List ℕ} {at next : ℕ} {out : Cursor} where
   line_fits indent (inr e) m = plain_fits (rw e at m)
 
 -- ---- the loop
-
-is_end_end : (c : Tape.Command) → is_end c ≡ true → c ≡ Tape.end
-is_end_end (Tape.new_line address indent) e = absurd (false≢true e)
-is_end_end (Tape.marked s) e = absurd (false≢true e)
-is_end_end (Tape.new_token t) e = absurd (false≢true e)
-is_end_end Tape.end e = refl
 
 module _ (k : ℕ) (tape : List ℕ) where
   -- the copy of what was read so far stands in the output

@@ -3,12 +3,12 @@
 use Prim.Native.Nat.{ℕ, zero, suc, pred, ◌≤◌}
 use native.Mathlib.Omega.{arith}
 use mathlib.Core.Path.{◌≡◌, refl, sym, ap, ◌∙◌}
-use mathlib.Core.Bool.{Bool, true, false, true≢false}
+use mathlib.Core.Bool.{true, false, true≢false}
 use mathlib.Core.List.{List, [], ◌∷◌, ◌++◌, map-append, append-nil}
 use mathlib.Core.Option.{Option, none}
-use lib.Dec.{eqb}
+use lib.Dec.{eqb, eqb-suc-suc}
 use lib.ListN.{length, length-map}
-use borrow.Author.Tests.{eq-eqb, ne_eqb, eqb-true, eqb-false, leb-true}
+use borrow.Author.Tests.{ne_eqb, leb-true}
 use Rattle.reference.specs.Control.{when◌then◌else◌}
 use Rattle.reference.specs.Lists.{modify}
 use Rattle.reference.specs.Listing.{Token, Line, Listing}
@@ -25,13 +25,6 @@ use Rattle.sources.proofs.Copied.{nones, lines_none, only-length}
 
 -- ---- a line more, a token more
 
-same_suc : (m n : ℕ) → eqb (suc m) (suc n) ≡ eqb m n
-same_suc m n = go (eqb m n) refl
-  where
-    go : (b : Bool) → eqb m n ≡ b → eqb (suc m) (suc n) ≡ b
-    go true e = eq-eqb (suc m) (suc n) (ap suc (eqb-true m n e))
-    go false e = ne_eqb (suc m) (suc n) (λ z. eqb-false m n e (omega arith))
-
 -- a new line of the copy
 abbrev fresh_line : Option ℕ → ℕ → Line
 fresh_line address indent = record { address = address; indent = indent; tokens = [] }
@@ -43,7 +36,7 @@ only_line zero [] address indent = refl
 only_line (suc k) [] address indent = rw (ne_eqb 0 (suc k) (λ z. omega arith))
 only_line zero (l ∷ ls) address indent =
     rw (ne_eqb (suc (length ls)) 0 (λ z. omega arith)) (ap {B = Listing} (λ r. with_address 0 l ∷ r) (map-append bare ls (fresh_line address indent ∷ [])))
-only_line (suc k) (l ∷ ls) address indent = rw (same_suc (length ls) k) (ap {B = Listing} (λ r. bare l ∷ r) (only_line k ls address indent))
+only_line (suc k) (l ∷ ls) address indent = rw (eqb-suc-suc (length ls) k) (ap {B = Listing} (λ r. bare l ∷ r) (only_line k ls address indent))
 
 bare-token : (t : Token) (i : ℕ) (lines : Listing) → bare_lines (modify i (with_token t) lines) ≡ modify i (with_token t) (bare_lines lines)
 bare-token t i [] = refl

@@ -2,13 +2,13 @@
 -- into. With it `same_attempts` and so on: the run of the copy is the run of the listing, but for addresses. Assumes nothing.
 use Prim.Native.Nat.{ℕ, zero, suc, ◌<◌}
 use native.Mathlib.Omega.{arith}
-use mathlib.Core.Path.{◌≡◌, refl, sym, ap, ◌∙◌}
+use mathlib.Core.Path.{◌≡◌, refl, ap, ◌∙◌}
 use mathlib.Core.Bool.{Bool, true, false}
 use mathlib.Core.List.{List, [], ◌∷◌, ◌++◌, map}
 use mathlib.Core.Option.{none}
 use lib.Dec.{ltb}
 use lib.ListN.{length, get_or}
-use borrow.Author.Tests.{ltb-true, ltb-false, lt-ltb, le-ltb}
+use borrow.Author.Tests.{lt-ltb, le-ltb}
 use Rattle.reference.specs.Control.{◌and◌, when◌then◌else◌, let_some◌else◌then◌}
 use Rattle.reference.specs.Lists.{is_some}
 use Rattle.reference.specs.Listing.{Listing}
@@ -17,7 +17,7 @@ use Rattle.reference.specs.Spans.{Marks, span_of, hull}
 use Rattle.reference.specs.Straight.{breaks}
 use Rattle.reference.specs.Run.{run, attempts_of, finished, counts}
 use Rattle.reference.specs.Marks.{comes_to, adds, added, of_each, finished_marks}
-use Rattle.laws.proofs.Scans.{and_true, and_false}
+use Rattle.laws.proofs.Scans.{and_true, and_false, ltb-suc}
 use Rattle.joining.specs.Bare.{bare, bare_lines}
 use Rattle.sources.specs.Only.{only, came}
 use Rattle.sources.proofs.Bared.{did, attempts_same, counts_same, finished_same, finished-length, comes_same, breaks_same}
@@ -35,13 +35,6 @@ only-bare zero (l ∷ ls) = ap {B = Listing} (λ r. bare l ∷ r) (bare_twice ls
 only-bare (suc k) (l ∷ ls) = ap {B = Listing} (λ r. bare l ∷ r) (only-bare k ls)
 
 -- ---- what the copy's lines add
-
-below : (m n : ℕ) → ltb m n ≡ ltb (suc m) (suc n)
-below m n = go (ltb m n) refl
-  where
-    go : (b : Bool) → ltb m n ≡ b → b ≡ ltb (suc m) (suc n)
-    go true e = sym (lt-ltb (suc m) (suc n) (omega (arith, ltb-true m n e)))
-    go false e = sym (le-ltb (suc m) (suc n) (omega (arith, ltb-false m n e)))
 
 nothing-added : (b : Bool) (xs : List ℕ) → (when b then [] else []) ++ xs ≡ xs
 unfolding when◌then◌else◌
@@ -62,7 +55,7 @@ only-adds P zero (l ∷ ls) = rw (and_true (P 0) (lt-ltb 0 (length (l ∷ ls)) (
     go : (b : Bool) → ◌++◌ {A = ℕ} (when b then 0 ∷ [] else []) [] ≡ (when b then 0 ∷ [] else [])
     go true = refl
     go false = refl
-only-adds P (suc k) (l ∷ ls) = nothing-added (P 0) _ ∙ only-adds (λ p. P (suc p)) k ls ∙ ap (λ (b : Bool). when b and P (suc k) then 0 ∷ [] else []) (below k (length ls))
+only-adds P (suc k) (l ∷ ls) = nothing-added (P 0) _ ∙ only-adds (λ p. P (suc p)) k ls ∙ ap (λ (b : Bool). when b and P (suc k) then 0 ∷ [] else []) (ltb-suc k (length ls))
 
 is_some_span : (b : Bool) → is_some (span_of (when b then 0 ∷ [] else [])) ≡ b
 unfolding when◌then◌else◌ span_of hull

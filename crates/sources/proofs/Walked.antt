@@ -8,14 +8,14 @@ use mathlib.Core.List.{List, [], ◌∷◌, ◌++◌, map, map-append, flat_map,
 use mathlib.Core.Option.{none, some}
 use lib.Dec.{eqb}
 use lib.ListN.{length, drop, set, length-append, length-map, length-set}
-use lib.Seq.{drop-drop, drop-append_seam, set-append_left}
+use lib.Seq.{drop-append_seam, set-append_left}
 use borrow.Author.Tests.{eq-eqb, ne_eqb}
 use Rattle.reference.specs.Control.{when◌then◌else◌}
 use Rattle.reference.specs.Lists.{count, modify}
 use Rattle.reference.specs.Spans.{Span, Marks}
 use Rattle.reference.specs.Tape as Tape
 use Rattle.reference.specs.Tape.{old, write_command, write_command_by, command_size}
-use Rattle.reference.specs.Questions.{is_end, add_marks, marks_from, marks_from_by, marks_in, marks_in_by}
+use Rattle.reference.specs.Questions.{add_marks, marks_from, marks_from_by, marks_in, marks_in_by}
 use Rattle.reference.proofs.Lines.{length-modify}
 use Rattle.reference.proofs.Commands.{read_of-write}
 use Rattle.reference.proofs.Limits.{All}

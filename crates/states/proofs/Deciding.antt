@@ -11,7 +11,7 @@ use Rattle.reference.specs.Control.{◌and◌, when◌then◌else◌, let_some�
 use Rattle.reference.specs.Lists.{is_some}
 use Rattle.reference.specs.Listing.{Listing}
 use Rattle.reference.specs.Questions.{Refused, Passed, ask, let_passed◌then◌, read}
-use Rattle.laws.proofs.Scans.{or_true, or_false, and_true, and_false}
+use Rattle.laws.proofs.Scans.{or_true, or_false, and_true, and_false, and_kept}
 use Rattle.states.specs.Store.{Store, Cell, Name, Tape, ROOM, cell}
 use Rattle.states.specs.Store.{first_byte, name_of, length_of, named, free_cell, is_wrong, wrong_cell}
 use Rattle.states.specs.Calls.{opened, is_whole, held_cell, replaced, taken, spot_for, save_reply}
@@ -90,14 +90,9 @@ module _ (store : Store) (n : Name) where
     unfolding held_cell let_passed◌then◌ let_some◌else◌then◌
     held_none e f = rw (e, f)
 
-true-behind : (b : Bool) → (b and true) ≡ b
-unfolding ◌and◌
-true-behind true = refl
-true-behind false = refl
-
 -- where nothing else is lent, the store alone tells
 pub whole_room : (store : Store) → (is_whole store and true) ≡ is_whole store
-whole_room store = true-behind (is_whole store)
+whole_room store = and_kept (is_whole store)
 
 module _ (store : Store) {enough : Bool} where
   pub room-there : 524288 ≤ length store → enough ≡ true → (is_whole store and enough) ≡ true

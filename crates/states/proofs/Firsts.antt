@@ -1,9 +1,6 @@
--- The first number that passes a test: by index, as a loop looks for it, and what is known of every number that was passed. Assumes
--- nothing.
-use Prim.Native.Nat.{ℕ, zero, suc, ◌+◌, ◌-◌, ◌≤◌, ◌<◌}
+-- The first number that passes a test, and what is known of every number that was passed. Assumes nothing.
+use Prim.Native.Nat.{ℕ, zero, suc, ◌+◌, ◌≤◌, ◌<◌}
 use native.Mathlib.Omega.{arith}
-use native.Mathlib.Nat.{sub-zero}
-use native.Mathlib.Numerals.{add-one}
 use native.Mathlib.Decide.{dec_le}
 use mathlib.Core.Path.{◌≡◌, refl, sym}
 use mathlib.Core.Logic.{by_cases}
@@ -25,23 +22,6 @@ pub record Hit (p : ℕ → Bool) (k i j : ℕ) : Type 0 where
   pub before : (l : ℕ) → i ≤ l → l < j → p l ≡ false
 
 module _ (p : ℕ → Bool) where
-  -- ---- a loop that stands at i, and goes to n
-
-  pub first_begin : (n : ℕ) → first n 0 p ≡ first (n - 0) 0 p
-  first_begin n = rw sub-zero
-
-  pub first_hit : (n i : ℕ) → i < n → p i ≡ true → first (n - i) i p ≡ some i
-  unfolding first when◌then◌else◌
-  first_hit n i h e = let k : n - i ≡ suc (n - suc i) = omega arith in rw (k, e)
-
-  pub first_miss : (n i : ℕ) → i < n → p i ≡ false → first (n - i) i p ≡ first (n - (i + 1)) (i + 1) p
-  unfolding first when◌then◌else◌
-  first_miss n i h e = let k : n - i ≡ suc (n - suc i) = omega arith in rw (add-one, k, e)
-
-  pub first_end : (n i : ℕ) → n ≤ i → first (n - i) i p ≡ none
-  unfolding first
-  first_end n i h = let k : n - i ≡ 0 = omega arith in rw k
-
   -- ---- what was found
 
   pub first_some : (k i : ℕ) {j : ℕ} → first k i p ≡ some j → Hit p k i j

@@ -1,15 +1,14 @@
 -- What the functions that write a cell leave, one after the other. Assumes nothing.
-use Prim.Native.Nat.{ℕ, zero, suc, ◌+◌, ◌≤◌}
+use Prim.Native.Nat.{ℕ, ◌+◌, ◌≤◌}
 use native.Mathlib.Omega.{arith}
-use mathlib.Core.Path.{◌≡◌, ◌∙◌}
+use mathlib.Core.Path.{◌≡◌}
 use mathlib.Core.List.{List, [], ◌∷◌, ◌++◌}
-use lib.ListN.{length, take, drop}
-use lib.Seq.{paste}
+use lib.ListN.{length, drop, length-take}
 use Rattle.text.specs.Cursor.{Fits, Puts}
 use Rattle.text.specs.declared.cursor.Cursor.{Cursor}
 use Rattle.text.proofs.Cursors.{then_puts, room_left}
 use Rattle.tape.specs.Bytes.{put}
-use Rattle.tape.proofs.little_endian.Bytes.{put_front, put_pasted, puts_written}
+use Rattle.tape.proofs.little_endian.Bytes.{puts_written}
 use Rattle.states.specs.Store.{Cell, length_of, tape_of}
 use Rattle.states.specs.Calls.{body}
 
@@ -30,15 +29,6 @@ module _ (name tape : List ℕ) {p p₁ : Cursor} (n : length name ≡ 8) (room 
     pub cell_puts : {q : Cursor} → Puts p₂ (body tape) q → Puts p (1 ∷ name ++ body tape) q
     cell_puts c = then_puts a (omega (arith, room)) (then_puts b (omega (arith, name-room)) c)
 
--- a tape copied to the front of the output
-pub copied : (out tape : List ℕ) → paste out 0 tape (length tape) ≡ tape ++ drop (length tape) out
-copied out tape = put_pasted out 0 tape ∙ put_front out tape
-
-pub take_short : (n : ℕ) (l : List ℕ) → length (take n l) ≤ n
-take_short zero l = omega arith
-take_short (suc n) [] = omega arith
-take_short (suc n) (x ∷ l) = omega (arith, take_short n l)
-
 pub tape-short : (c : Cell) → length (tape_of c) ≤ length_of c
 unfolding tape_of
-tape-short c = take_short (length_of c) (drop 13 c)
+tape-short c = omega (arith, length-take (length_of c) (drop 13 c))

@@ -2,12 +2,12 @@
 use Prim.Native.Nat.{ℕ, suc, ◌≤◌, ◌^◌}
 use native.Mathlib.Omega.{arith}
 use mathlib.Core.Path.{◌≡◌, refl, sym, ap, ◌∙◌}
-use mathlib.Core.Bool.{Bool, true, false, false≢true}
+use mathlib.Core.Bool.{Bool, true, false}
 use mathlib.Core.List.{[], ◌∷◌, ◌++◌}
 use mathlib.Core.Option.{Option, none, some}
 use lib.Dec.{eqb, leb, ltb}
 use lib.IntN.{ℤ, pos}
-use lib.ListN.{length, drop}
+use lib.ListN.{drop}
 use borrow.Author.Tests.{leb-true, ne_eqb, eq-eqb}
 use Rattle.reference.specs.Control.{not, ◌and◌, ◌or◌, when◌then◌else◌, let_some◌else◌then◌}
 use Rattle.reference.specs.Lists.{count}
@@ -15,21 +15,16 @@ use Rattle.reference.specs.Text.{Text, bytes, ◌≟◌, starts_with, strip_pref
 use Rattle.reference.specs.Numbers.{to_digit, digits_value, unsigned, read_u64, read_i64, as_i64, parse_c_number, read_constant, parse_2024, read_number}
 use Rattle.reference.specs.Evaluators.{is_tidy}
 use Rattle.reference.proofs.Opened.{opened}
-use Rattle.reference.proofs.Cases.{by-if, both, either, neither, not-true, same_number, some_inj, unless-some, bind-some}
+use Rattle.reference.proofs.Cases.{by-if, both, either, neither, not-true, some_inj, unless-some, bind-some}
 use Rattle.reference.proofs.Shapes.{same_text}
 use Rattle.laws.proofs.Scans.{if-true, or_false, and_false}
 use Rattle.reference.proofs.Numerals.{no_prefix, digits_without, minus_0, minus_1, plain_1, negated}
+use Rattle.books.proofs.Grammar2024.{begins}
 use Rattle.straight.proofs.Shown.{no_plus-front}
 use Rattle.books.proofs.Alike.{otherwise_alike, behind_0x_alike}
 
 no_quote : (radix : ℕ) → to_digit radix 39 ≡ none → (s : Text) {n : ℕ} → digits_value radix 0 s ≡ some n → contains s 39 ≡ false
 no_quote radix z s e = digits_without radix 0 39 s z e
-
--- a text that begins so
-pub begins_with : (s p : Text) → starts_with s p ≡ true → s ≡ p ++ drop (length p) s
-begins_with s [] e = refl
-begins_with [] (y ∷ ys) e = absurd (false≢true e)
-begins_with (x ∷ xs) (y ∷ ys) e = λ i. same_number {m = x} {n = y} (both e).0 i ∷ begins_with xs ys (both e).1 i
 
 -- ---- without a minus in front
 
@@ -86,7 +81,7 @@ plain_same s {z} m plain h e = go (starts_with s (bytes "0x")) refl
   where
     go : (b : Bool) → starts_with s (bytes "0x") ≡ b → read_constant s ≡ some z
     go true x =
-        let q = begins_with s (bytes "0x") x in
+        let q = begins s (bytes "0x") x in
         let r : Text = drop 2 s in
         ap read_constant q ∙ hex_same r (neither (neither (sym (ap (λ (t : Text). contains t 43) q) ∙ plain)).1).1 (sym (ap parse_c_number q) ∙ e)
     go false x =
@@ -137,7 +132,7 @@ tidy_same s {z} h e = go (starts_with s (bytes "-")) refl
 
     go : (b : Bool) → starts_with s (bytes "-") ≡ b → parse_2024 s ≡ some z
     go true m =
-        let q = begins_with s (bytes "-") m in
+        let q = begins s (bytes "-") m in
         ap parse_2024 q ∙ behind (drop 1 s) (sym (ap is_tidy q) ∙ h) (sym (ap parse_c_number q) ∙ e)
     go false m = let c = plain_tidy s m h in plain_1 s m ∙ plain_same s m c.0 c.1 e
 

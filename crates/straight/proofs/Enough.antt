@@ -151,11 +151,6 @@ module _ {X : Type 0} (a : Arithmetic X) (σ : Text → X) where
       let n : ℕ = length xs + length xs + 2 in
       term-enough (fuel_for (num z ∷ xs)) (suc n) (num z ∷ xs) (omega arith) (omega arith) ∙ (unfold expression in refl)
 
-  pub term-junk : (xs : List Lexeme) → term_of (junk ∷ xs) ≡ none
-  term-junk xs =
-      let n : ℕ = length xs + length xs + 2 in
-      term-enough (fuel_for (junk ∷ xs)) (suc n) (junk ∷ xs) (omega arith) (omega arith) ∙ (unfold expression in refl)
-
   pub term-sign : (c : ℕ) (xs : List Lexeme)
       → term_of (sign c ∷ xs)
       ≡ (when eqb c 40 then (let_some (expression_of xs) else none then λ r. let_some (behind (bytes ")") r.1) else none then λ rest. some (r.0, rest)) else none)

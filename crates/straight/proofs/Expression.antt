@@ -15,7 +15,7 @@ use Rattle.reference.specs.Evaluators.{Store, of_integer}
 use Rattle.straight.proofs.Reader.{Pending, first, apply, State, fresh, spaced, equals, wants, holds, gap, signed, done, broken, byte, text_step, term, token-step, run-tokens}
 use Rattle.reference.proofs.Cases.{by-if, same_number}
 use Rattle.reference.proofs.Shapes.{Cut, gone, short, later, Assigning, assigning}
-use Rattle.straight.proofs.Alike.{begins_with}
+use Rattle.books.proofs.Grammar2024.{begins}
 use Rattle.straight.proofs.Machine.{broken-done, text_append, run_append, text_broken, step-punct, step-register, step_number, Step, punct, register, number, breaks, step_of}
 use Rattle.straight.proofs.Folding.{ends-split}
 
@@ -348,6 +348,6 @@ module _ (σ : Store) (v : ℕ) where
   unfolding run-tokens
   assigned-worth (assigning {eq = eq} {rest = rest} r p s c) h =
       let begun : token-step σ eq fresh ≡ text_step (drop 3 eq.text) (wants first []) =
-      step-punct σ eq fresh p ∙ ap (λ (x : Text). text_step x fresh) (begins_with eq.text (bytes " = ") s)
+      step-punct σ eq fresh p ∙ ap (λ (x : Text). text_step x fresh) (begins eq.text (bytes " = ") s)
       ∙ text_append (bytes " = ") (drop 3 eq.text) fresh ∙ ap (text_step (drop 3 eq.text)) equals_text in
       cut-run c (wants first []) (head_run eq rest (wants first []) ∙ sym (ap (run-tokens σ rest) begun) ∙ h)

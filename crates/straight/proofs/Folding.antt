@@ -1,13 +1,12 @@
 -- Merging and folding a line's tokens leave what they are read as. Assumes nothing.
 use Prim.Native.Nat.{ℕ}
 use mathlib.Core.Path.{◌≡◌, refl, sym, ap, ◌∙◌, subst, subst⁻¹}
-use mathlib.Core.Bool.{Bool, true, false, false≢true}
+use mathlib.Core.Bool.{Bool, true, false}
 use mathlib.Core.List.{List, [], ◌∷◌, ◌++◌}
 use mathlib.Core.Option.{Option, none, some}
 use lib.Dec.{eqb}
 use lib.IntN.{ℤ, ◌+ℤ◌, ◌-ℤ◌}
 use Rattle.reference.specs.Control.{◌and◌, ◌or◌, when◌then◌else◌, let_some◌else◌then◌}
-use Rattle.reference.specs.Lists.{is_empty}
 use Rattle.reference.specs.Text.{Text, bytes, ◌≟◌, ends_with}
 use Rattle.reference.specs.Listing.{Token, token, is, Register, Number, Punct, Plain}
 use Rattle.reference.specs.Names.{fam_of, family}
@@ -17,7 +16,7 @@ use Rattle.straight.proofs.Reader.{Pending, first, adds, takes, apply, State, fr
 use Rattle.reference.proofs.Opened.{opened}
 use Rattle.reference.proofs.Cases.{by-if, by-some, some_inj, none-some, if_some, bind-some, both, either, true-false, same_number}
 use Rattle.reference.proofs.Shapes.{other_kind, same_text}
-use Rattle.laws.proofs.Scans.{if-true, if-false}
+use Rattle.laws.proofs.Scans.{if-true, if-false, empty_is}
 use Rattle.straight.proofs.Shown.{shown, wrap-plus, wrap-minus}
 use Rattle.straight.proofs.Alike.{either_edition}
 use Rattle.straight.proofs.Machine.{broken-done, text_append, run-broken, step-punct, step-register, step_number, Step, punct, register, number, breaks, step_of}
@@ -118,10 +117,6 @@ after-equals (gap v k) = tt
 after-equals (signed p k) = tt
 after-equals (done v) = tt
 after-equals broken = tt
-
-empty_is : (s : Text) → is_empty s ≡ true → s ≡ []
-empty_is [] e = refl
-empty_is (x ∷ xs) e = absurd (false≢true e)
 
 pub ends-split : (s t : Text) → ends_with s t ≡ true → (p : Text) × (s ≡ p ++ t)
 ends-split [] t e = ([], sym (empty_is t e))

@@ -10,13 +10,12 @@ use lib.ListN.{length}
 use borrow.Author.Tests.{eq-eqb, ne_eqb}
 use Rattle.reference.specs.Control.{◌and◌, when◌then◌else◌}
 use Rattle.reference.specs.Text.{Text, bytes, ◌≟◌}
-use Rattle.reference.specs.Lists.{is_empty}
 use Rattle.reference.specs.Listing.{Token, token, is, Symbol, Listing}
 use Rattle.reference.specs.Shapes.{label_tokens}
 use Rattle.reference.specs.Claim.{sum, one_if, opens, is_call_mark, calls_in, label_lines}
 use Rattle.reference.specs.Tape as Tape
 use Rattle.reference.proofs.Cases.{by-if, zero_if}
-use Rattle.laws.proofs.Scans.{if-true, if-false, and_true, and_false}
+use Rattle.laws.proofs.Scans.{if-true, if-false, and_true, and_false, and_last}
 use lib.Dec.{eqb}
 use mir.Val.{bool_byte}
 use Rattle.walk.specs.Held.{tokens_of}
@@ -129,11 +128,6 @@ unfolding ◌and◌
 and_assoc true b c = refl
 and_assoc false b c = refl
 
-and_never : (a : Bool) → (a and false) ≡ false
-unfolding ◌and◌
-and_never true = refl
-and_never false = refl
-
 module _ (name : Text) (t : Token) (s : Calls) where
   pub calls-before : s.begun ≡ false → Counts (calls_total name) (Tape.new_token t) s s
   calls-before e = counts_token (calls_with name) (calls_in (some name)) t (λ ts. calls_shut name s ts e ∙ sym (calls_shut name s (t ∷ ts) e))
@@ -162,7 +156,7 @@ calls-zero name s e c ts = calls_shut name s ts e ∙ c
 pub calls_none : (name : Text) (s : Calls) → calls_with name s [] ≡ s.count
 unfolding calls_with calls_in opens
 calls_none name s =
-    let none : one_if (s.named and false) ≡ 0 = zero_if (and_never s.named) in
+    let none : one_if (s.named and false) ≡ 0 = zero_if (and_last s.named) in
     by-if (λ (m : ℕ). s.count + m ≡ s.count) (λ e. omega arith) (λ e. omega arith)
 
 pub calls_line : (name : Text) (s : Calls) {r : Calls} → r.count ≡ s.count → r.begun ≡ true → r.named ≡ false
@@ -247,20 +241,6 @@ first-name kind s e = record { goes_on = name-goes kind e s }
 
 pub first-other : (kind : ℕ) (s : Text) → (kind ≡ Symbol → ⊥) → Shaped Empty (token kind s) Other
 first-other kind s n = record { goes_on = other_goes kind n s }
-
-pub second_colon : (kind : ℕ) (s : Text) → (s ≟ bytes ":") ≡ true → Shaped Name (token kind s) Label
-second_colon kind s e = record { goes_on = goes }
-  where
-    goes : (ts : List Token) → is_empty ts ≡ is_label_with Name (token kind s ∷ ts)
-    goes [] = sym e
-    goes (u ∷ more) = refl
-
-pub second-other : (kind : ℕ) (s : Text) → (s ≟ bytes ":") ≡ false → Shaped Name (token kind s) Other
-second-other kind s e = record { goes_on = goes }
-  where
-    goes : (ts : List Token) → false ≡ is_label_with Name (token kind s ∷ ts)
-    goes [] = sym e
-    goes (u ∷ more) = refl
 
 -- a label's shape is that of the whole line
 pub label-sum : (lines : Listing) → sum (λ l. label_in l.tokens) lines ≡ length (label_lines lines)

@@ -16,21 +16,17 @@ use Rattle.reference.specs.Marks.{finished_marks}
 use Rattle.reference.specs.Tape.{write}
 use Rattle.reference.specs.Questions.{Passed, marks_in}
 use Rattle.reference.specs.Reply.{Cleaned, reply}
-use Rattle.reference.specs.Demand.{Cuts, done, kept, dropped, Within, Each, Steps, Bounded, EachRound, Demand3}
+use Rattle.reference.specs.Demand.{Cuts, done, kept, dropped, Within, Steps, Bounded, EachRound, Demand3}
 use Rattle.reference.proofs.Lines.{length-modify}
 use Rattle.reference.proofs.LittleEndian.{Bytes}
 use Rattle.reference.proofs.Marks.{finished_is}
 use Rattle.reference.proofs.Guarantee.{demand3-tape, answered}
+use Rattle.sources.proofs.Held.{each_last}
 use Rattle.walk.specs.Held.{held}
 use Rattle.tallies.specs.Ticks.{Ticks}
 use Rattle.tallies.proofs.Holding.{held-read, held-cleaned}
 
 -- ---- over all steps
-
-each_last : (P : Listing → Type 0) (l : Listing) (ls : List Listing) → Each P (l ∷ ls) → P (last_of l ls)
-unfolding last_of
-each_last P l [] h = h.0
-each_last P l (m ∷ ls) h = each_last P m ls h.1
 
 calls_last : (c : Callee) (l : Listing) (ls : List Listing) → Steps l ls → calls c l ≤ calls c (last_of l ls)
 unfolding last_of

@@ -1,6 +1,4 @@
--- Laws that the functions' proofs cite: branches (Branches), the first word (FirstWord), the pieces of a row (Pieces), numbers read digit
--- by digit (Digits).
-pub mod Branches
+-- Laws that the functions' proofs cite: the first word (FirstWord), the pieces of a row (Pieces), numbers read digit by digit (Digits).
 pub mod FirstWord
 pub mod Pieces
 pub mod Digits

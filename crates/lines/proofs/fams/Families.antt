@@ -4,18 +4,18 @@ use native.Mathlib.Omega.{arith}
 use native.Mathlib.Decide.{dec_lt}
 use mathlib.Core.Logic.{◌⊎◌, inl, inr, by_cases}
 use mathlib.Core.Path.{◌≡◌, refl, sym, ap, ◌∙◌}
-use mathlib.Core.Bool.{Bool, true, false}
+use mathlib.Core.Bool.{Bool, false}
 use mathlib.Core.Option.{Option, none, some}
 use lib.Dec.{eqb}
 use lib.ListN.{length, take}
 use borrow.Author.Tests.{eq-eqb, ne_eqb, lt-ltb, le-ltb}
-use Rattle.reference.specs.Control.{◌and◌, let_some◌else◌then◌}
+use Rattle.reference.specs.Control.{let_some◌else◌then◌}
 use Rattle.reference.specs.Text.{Text, ◌≟◌, has}
 use Rattle.reference.specs.Listing.{Token, is, Register}
 use Rattle.reference.specs.Names.{family, fam_of, of_family, volatile_of}
 use Rattle.reference.specs.Names as N
 use Rattle.reference.specs.Join.{is_narrow}
-use Rattle.laws.proofs.Scans.{if-true, if-false}
+use Rattle.laws.proofs.Scans.{if-true, if-false, and_kept, and_last}
 use Rattle.names.specs.Families.{row_name, is_row, Spells}
 use Rattle.names.specs.Volatile.{name_numbered, number_of}
 use Rattle.names.specs.declared.families.Spelled.{Spelled}
@@ -54,9 +54,6 @@ module _ (tape area : Text) {f : Fam} where
 
   pub row-known : f < 8 → Known tape area f
   row-known h = record { points = λ n. absurd (omega arith); no_row = λ n. absurd (omega arith) }
-
-  pub name-points : Known tape area f → 8 ≤ f → Points tape area f
-  name-points k h = k.points h
 
 -- a word of a text that is not empty is no row
 pub name-least : (w : ℕ) → 1 ≤ len_of w → 8 ≤ w
@@ -159,16 +156,6 @@ module _ (tape area : Text) (w : ℕ) {k : ℕ} (ek : k ≡ kind_of w) where
 
 -- ---- a token of the family
 
-and_true : (a : Bool) → (a and true) ≡ a
-unfolding ◌and◌
-and_true true = refl
-and_true false = refl
-
-and_false : (a : Bool) → (a and false) ≡ false
-unfolding ◌and◌
-and_false true = refl
-and_false false = refl
-
 module _ (tape area : Text) (w : ℕ) {r : std.Option Named} (h : Names tape area (fam_of (token_of tape area w)) r) (fam : Text) where
   pub of_none : r ≡ None → false ≡ of_family fam (token_of tape area w)
   unfolding of_family let_some◌else◌then◌
@@ -181,7 +168,7 @@ module _ (tape area : Text) (w : ℕ) {r : std.Option Named} (h : Names tape are
   module _ {n : Named} (e : r ≡ Some n) where
     pub narrow_wide : 32 ≤ n.width → false ≡ is_narrow fam (token_of tape area w)
     unfolding is_narrow let_some◌else◌then◌
-    narrow_wide l = rw (← h.is, e, le-ltb n.width 32 l) (sym (and_false (fam_text tape area n.family ≟ fam)))
+    narrow_wide l = rw (← h.is, e, le-ltb n.width 32 l) (sym (and_last (fam_text tape area n.family ≟ fam)))
 
     -- x is whether the token's family is this one
     module _ {x : Bool} (ex : x ≡ (fam_text tape area n.family ≟ fam)) where
@@ -191,7 +178,7 @@ module _ (tape area : Text) (w : ℕ) {r : std.Option Named} (h : Names tape are
 
       pub narrow_as : n.width < 32 → x ≡ is_narrow fam (token_of tape area w)
       unfolding is_narrow let_some◌else◌then◌
-      narrow_as l = rw (← h.is, e, lt-ltb n.width 32 l) (ex ∙ sym (and_true (fam_text tape area n.family ≟ fam)))
+      narrow_as l = rw (← h.is, e, lt-ltb n.width 32 l) (ex ∙ sym (and_kept (fam_text tape area n.family ≟ fam)))
 
 pub of_other : (tape area : Text) (w : ℕ) (fam : Text) {k : ℕ} → k ≡ kind_of w → (k ≡ Register → ⊥) → false ≡ of_family fam (token_of tape area w)
 of_other tape area w fam ek n = of_none tape area w (fam-other tape area w ek n) fam refl

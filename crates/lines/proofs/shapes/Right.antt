@@ -83,9 +83,6 @@ module _ {ws : List ℕ} {x : Expr} (h : Expression ws x) where
   pub expr-below : {k : ℕ} → k < x.count → k < length (expr_words ws x)
   expr-below b = rw expr-length b
 
-  pub expr_past : {k : ℕ} → x.count ≤ k → length (expr_words ws x) ≤ k
-  expr_past b = rw expr-length b
-
   module _ (k : ℕ) where
     pub at_cut : x.cut ≡ true → k + 1 ≡ x.count → without_last (get_or (opened ws) (x.first + k) 0) ≡ get_or (expr_words ws x) k 0
     at_cut c e =

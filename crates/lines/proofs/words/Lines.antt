@@ -18,7 +18,7 @@ use Rattle.lines.specs.Words.{tokens_of, Holds}
 use Rattle.lines.specs.Facts.{bit, Tells}
 use Rattle.lines.specs.Lines.{first_of, count_of, indent_of, addressed_of, origin_of, facts_of, with_facts, flag, line_word, with_part, part_of}
 use Rattle.lines.specs.Lines.{address_in, Reading, own, numbered, read_as, line_read, listing_read, line_in, bare, bare_in, bare_listing, Lined, Listed}
-use Rattle.lines.proofs.words.Each.{each_none, each_one, each_take, each-drop, each_append, each_set, each-remove, map_at, map_same}
+use Rattle.lines.proofs.words.Each.{each_none, each_one, each_append, each_set, each-remove, map_at, map_same}
 use Rattle.lines.proofs.words.Tokens.{holds-take, holds-drop, holds-prefix, tokens-prefix}
 
 pub first_below : (l : ℕ) → first_of l < 65536
@@ -193,19 +193,10 @@ module _ (tape area : Text) (tokens addresses lines : List ℕ) where
 
 -- ---- lists of lines
 
-pub listed_at : {tape area : Text} {tokens lines : List ℕ} (k : ℕ) → Listed tape area tokens lines → k < length lines → Lined tape area tokens (get_or lines k 0)
-listed_at k h = h.at k
-
 pub listed_none : (tape area : Text) (tokens : List ℕ) → Listed tape area tokens []
 listed_none tape area tokens = record { at = each_none (Lined tape area tokens) }
 
 module _ {tape area : Text} {tokens lines : List ℕ} (h : Listed tape area tokens lines) where
-  pub listed-take : (n : ℕ) → Listed tape area tokens (take n lines)
-  listed-take n = record { at = each_take (Lined tape area tokens) lines h.at n }
-
-  pub listed-drop : (n : ℕ) → Listed tape area tokens (drop n lines)
-  listed-drop n = record { at = each-drop (Lined tape area tokens) lines h.at n }
-
   pub listed_snoc : {l : ℕ} → Lined tape area tokens l → Listed tape area tokens (lines ++ (l ∷ []))
   listed_snoc p = record { at = each_append (Lined tape area tokens) lines h.at _ (each_one (Lined tape area tokens) p) }
 

@@ -9,7 +9,7 @@ use mathlib.Core.Bool.{Bool, true, false}
 use mathlib.Core.Option.{none, some}
 use lib.Dec.{eqb}
 use lib.ListN.{length, take, drop, set, get_or, length-map}
-use lib.Seq.{length-take-le, take_all, take_at, paste, paste-suc, length-paste}
+use lib.Seq.{length-take-le, take_all, take_at, paste, paste-suc}
 use Rattle.std.specs.Bool.{then_some}
 use Rattle.reference.specs.Control.{when◌then◌else◌}
 use Rattle.reference.specs.Options.{option_of}
@@ -30,9 +30,6 @@ gathered addresses lows highs lines before k = paste before 0 (records_of addres
 module _ (addresses lows highs lines : List ℕ) (before : List LineRecord) (few : length lines ≤ length before) (k : ℕ) where
   many : length (records_of addresses lows highs lines) ≡ length lines
   many = length-map lines (record_of addresses lows highs)
-
-  pub gathered_length : k ≤ length lines → length (gathered addresses lows highs lines before k) ≡ length before
-  gathered_length h = let m = many in length-paste before 0 (records_of addresses lows highs lines) k (omega arith) (omega arith)
 
   pub gathered_more : {r : LineRecord} → k < length lines → r ≡ record_of addresses lows highs (get_or lines k 0)
       → set (gathered addresses lows highs lines before k) k r ≡ gathered addresses lows highs lines before (k + 1)

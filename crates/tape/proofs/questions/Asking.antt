@@ -2,7 +2,7 @@
 use Prim.Native.Nat.{ℕ, suc, ◌+◌, ◌-◌, ◌≤◌, ◌<◌}
 use native.Mathlib.Omega.{arith}
 use mathlib.Core.Path.{◌≡◌, refl, sym, ap, ◌∙◌}
-use mathlib.Core.Bool.{Bool, true, false}
+use mathlib.Core.Bool.{Bool, true, false, false≢true}
 use mathlib.Core.List.{List, [], ◌∷◌, ◌++◌}
 use mathlib.Core.Option.{Option, none, some}
 use lib.ListN.{length, take, drop, length-drop, drop_of_length-le}
@@ -13,6 +13,7 @@ use Rattle.reference.specs.Lists.{is_some, any, position, is_empty}
 use Rattle.reference.specs.Listing.{Token, token}
 use Rattle.reference.specs.Spans.{Span}
 use Rattle.reference.specs.Tape.{TapeForm, new_line, marked, new_token, end, command_by}
+use Rattle.reference.specs.Tape as Tape
 use Rattle.reference.specs.Questions as Q
 use Rattle.reference.specs.Questions.{is_command_by, ends_inside_by, has_line, is_within, is_few, is_short, is_printable, is_over, first_offending, place_at, is_end, Answer, Refused}
 use Rattle.reference.specs.Questions.{Passed, ask, count_in, Advance, read_command_by}
@@ -21,12 +22,21 @@ use Rattle.reference.proofs.Cases.{by-if}
 use Rattle.reference.proofs.Commands.{is_form}
 use Rattle.reference.proofs.Reading.{Yes, ask-yes, ask_passed, refused_passed, advance_by}
 use Rattle.reference.proofs.Steps.{step-from_here_by}
+use Rattle.laws.proofs.Scans.{by_test}
 use Rattle.tape.specs.Commands.{command_in, size_of_by, looked_at, ends, standing_by}
 use Rattle.tape.specs.Questions.{first_no, totals_of, questions, asking, counted, Counts}
 use Rattle.tape.specs.declared.commands.Command.{Command}
 use Rattle.tape.specs.declared.commands.Command.TheVariants.{Addressed, Plain, Marked, Token as NewToken, End}
 use Rattle.tape.specs.declared.questions.Totals.{Totals}
 use Rattle.tape.proofs.commands.Standing.{StandsBy, stands-inside}
+
+-- ---- the end
+
+pub is_end_end : (c : Tape.Command) → is_end c ≡ true → c ≡ end
+is_end_end (new_line address indent) e = absurd (false≢true e)
+is_end_end (marked s) e = absurd (false≢true e)
+is_end_end (new_token t) e = absurd (false≢true e)
+is_end_end end e = refl
 
 -- ---- the first "no"
 
@@ -40,10 +50,6 @@ unfolding first_no
 none_no [] n = λ e. tt
 none_no (q ∷ more) n =
     by-if (λ (r : ℕ). r ≡ 0 → Yes (q ∷ more)) (λ yes e. (yes, none_no more n.1 e)) (λ no e. absurd (omega (arith, n.0)))
-
-by_test : {X : Type 0} (b : Bool) → (b ≡ true → X) → (b ≡ false → X) → X
-by_test true f g = f refl
-by_test false f g = g refl
 
 module _ {A : Type 0} (place : ℕ → ℕ) where
   pub ask_number : (qs : List (ℕ × Bool)) (a : Answer A) {n : ℕ} → (n ≡ 0 → ⊥) → first_no qs ≡ n → ask place qs a ≡ Refused n (place n)

@@ -4,7 +4,7 @@ use Rattle.std.specs.Option.{is_some}
 use Rattle.arguments.proofs.Naming.{is_found}
 use Rattle.reference.specs.Text.{bytes}
 use Rattle.laws.proofs.Std.{starts-std}
-use Rattle.words.proofs.Branches.{if_here, if-there}
+use Rattle.laws.proofs.Scans.{if_here, if-there}
 use Rattle.arguments.specs.Entries.{is_entry}
 use Rattle.arguments.proofs.entries.is_entry.Goals.{then-starts_with-via-then-starts_with, then-starts_with-via-else-starts_with+then-starts_with-2}
 use Rattle.arguments.proofs.entries.is_entry.Goals as goal

@@ -1,7 +1,7 @@
 -- `words::numerals::magnitude_in` meets its contract. Assumes nothing.
 use Rattle.std.proofs.Common.{sym, ◌∙◌}
 use Rattle.reference.specs.Text.{bytes}
-use Rattle.words.proofs.Branches.{if_here, if-there}
+use Rattle.laws.proofs.Scans.{if_here, if-there}
 use Rattle.laws.proofs.Std.{prefix-std}
 use Rattle.words.specs.Numerals.{magnitude_in}
 use Rattle.words.proofs.numerals.magnitude_in.Goals as goal
