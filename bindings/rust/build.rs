@@ -48,7 +48,7 @@ fn holds(folder: PathBuf) -> Option<PathBuf> {
 /// Whether the header in this tree is of the version of this package.
 fn is_this_version(top: &Path) -> bool {
     let line = format!("#define PUCHKEWA_VERSION \"{}\"", env!("CARGO_PKG_VERSION"));
-    std::fs::read_to_string(top.join("include/puchkewa.h")).map_or(false, |header| header.lines().any(|l| l == line))
+    std::fs::read_to_string(top.join("include/puchkewa.h")).is_ok_and(|header| header.lines().any(|l| l == line))
 }
 
 /// What pkg-config says.

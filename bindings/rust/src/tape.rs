@@ -8,6 +8,10 @@ const LINE_AT: u8 = 0x01;
 const LINE: u8 = 0x02;
 const MARKS: u8 = 0x03;
 const TOKEN: u8 = 0x10;
+// the form by offset: a line, marks, the base
+const LINE_OFFSET: u8 = 0x04;
+const MARKS_OFFSET: u8 = 0x05;
+const BASE: u8 = 0x06;
 const END: u8 = 0xFF;
 
 /// The tape of a listing.
@@ -64,8 +68,8 @@ fn length_of(text: &str) -> Result<u16, Fault> {
 ///
 /// # Errors
 ///
-/// The first of questions 3 to 8 that is answered "no", with its place. 10 and 11, the limits of a whole listing, are not asked here: a cleaned listing may have more text
-/// than a call takes.
+/// The first of questions 3 to 8 that is answered "no", with its place. 10 and 11, the limits of a whole listing, are not asked here: a cleaned
+/// listing may have more text than a call takes.
 pub fn read(tape: &[u8]) -> Result<Listing, Refusal> {
     let mut listing = Listing::default();
     let mut at = 0;
@@ -124,9 +128,8 @@ fn width(rest: &[u8]) -> Option<usize> {
         LINE_AT => 10,
         LINE => 2,
         MARKS => 17,
-        // the form by offset: a line, marks, the base
-        0x04 => 6,
-        0x05 | 0x06 => 9,
+        LINE_OFFSET => 6,
+        MARKS_OFFSET | BASE => 9,
         TOKEN..=0x17 => 3 + usize::from(u16::from_le_bytes([*rest.get(1)?, *rest.get(2)?])),
         END => 1,
         _ => return None,
@@ -135,14 +138,16 @@ fn width(rest: &[u8]) -> Option<usize> {
 
 /// The numbers of the line and of the token that an offset of a tape lies in.
 pub(crate) fn locate(tape: &[u8], place: usize) -> (Option<usize>, Option<usize>) {
+    let is_based = tape.first() == Some(&BASE);
     let (mut line, mut token) = (None, None);
     let mut at = 0;
     while at <= place && at < tape.len() {
-        match tape[at] {
-            LINE_AT | LINE | 0x04 => (line, token) = (Some(line.map_or(0, |n| n + 1)), None),
-            TOKEN..=0x17 => token = line.and(Some(token.map_or(0, |n: usize| n + 1))),
-            MARKS | 0x05 | 0x06 => {}
-            END => return (None, None),
+        match (tape[at], is_based) {
+            (LINE, _) | (LINE_AT, false) | (LINE_OFFSET, true) => (line, token) = (Some(line.map_or(0, |n| n + 1)), None),
+            (TOKEN..=0x17, _) => token = line.and(Some(token.map_or(0, |n: usize| n + 1))),
+            (MARKS, false) | (MARKS_OFFSET, true) => {}
+            (BASE, true) if at == 0 => {}
+            (END, _) => return (None, None),
             // no command: its place is no token's
             _ => return (line, None),
         }
