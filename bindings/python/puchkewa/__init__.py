@@ -25,7 +25,7 @@ of nested brackets: up to 3.7 million. The main thread and the threads that Pyth
 threading.stack_size is less, use with_stack.
 """
 from .calls import from_offsets, laborious, start_value, to_2018, to_2024, to_offsets
-from .cleaning import Cleaned, Counts, clean
+from .cleaning import Cleaned, Counts, clean, clean_tape
 from .listing import Kind, Line, Listing, Token
 from .refusals import MEANINGS, LongName, Refusal, Unwritable
 from .settings import Convention, Edition, Settings
@@ -36,5 +36,5 @@ from . import tape
 
 __all__ = [
     "Cleaned", "Convention", "Counts", "Edition", "Kind", "Line", "Listing", "LongName", "MEANINGS", "Refusal", "STACK", "Settings", "Store", "Token", "Unwritable",
-    "__version__", "clean", "from_offsets", "laborious", "start_value", "tape", "to_2018", "to_2024", "to_offsets", "with_stack",
+    "__version__", "clean", "clean_tape", "from_offsets", "laborious", "start_value", "tape", "to_2018", "to_2024", "to_offsets", "with_stack",
 ]

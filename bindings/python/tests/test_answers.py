@@ -1,8 +1,7 @@
 """The real Rust's answers: the sample and random tapes, from tape to tape and from listing to listing."""
 import unittest
 
-from puchkewa import Cleaned, Refusal, clean, tape
-from puchkewa.cleaning import clean_tape
+from puchkewa import Cleaned, Refusal, clean, clean_tape, tape
 
 from . import common
 

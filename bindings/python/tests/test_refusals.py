@@ -3,8 +3,7 @@ import pickle
 import unittest
 
 import puchkewa
-from puchkewa import MEANINGS, Kind, Line, Listing, LongName, Refusal, Settings, Store, Token, Unwritable, clean, tape
-from puchkewa.cleaning import clean_tape
+from puchkewa import MEANINGS, Kind, Line, Listing, LongName, Refusal, Settings, Store, Token, Unwritable, clean, clean_tape, tape
 
 from . import common
 

@@ -2,8 +2,7 @@
 import threading
 import unittest
 
-from puchkewa import Kind, Line, Listing, Refusal, Settings, Token, clean, start_value, tape, with_stack
-from puchkewa.cleaning import clean_tape
+from puchkewa import Kind, Line, Listing, Refusal, Settings, Token, clean, clean_tape, start_value, tape, with_stack
 
 from . import common
 
