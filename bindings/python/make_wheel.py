@@ -1,5 +1,5 @@
-"""Makes the wheel that `pip install` installs: the package's files and a copy of the shared library (puchkewa/place.py says where it is found). Nothing is compiled, and
-nothing is needed but Python. The functions are those that pip calls (PEP 517)."""
+"""Makes the wheel that `pip install` installs: the package's files and a copy of the shared library (puchkewa/place.py says where it is
+found). Nothing is compiled, and nothing is needed but Python. The functions are those that pip calls (PEP 517)."""
 import base64
 import hashlib
 import runpy
@@ -31,14 +31,15 @@ def library() -> Path:
     file = PLACE["find"](VERSION)
     if file is None or not file.is_file():
         sys.exit(
-            f"puchkewa: {PLACE['name_of'](VERSION)} was not found: `bin/archive && bin/shared` in Puchkewa's repository makes it, `bin/install PREFIX` installs it; "
-            "PUCHKEWA_LIBRARY may name the file"
+            f"puchkewa: {PLACE['name_of'](VERSION)} was not found: `bin/archive && bin/shared` in Puchkewa's repository makes it, "
+            "`bin/install PREFIX` installs it; PUCHKEWA_LIBRARY may name the file"
         )
     return file
 
 
 def build_wheel(wheel_directory, config_settings=None, metadata_directory=None):
-    files = {f"puchkewa/{f.name}": f.read_bytes() for f in sorted((HERE / "puchkewa").iterdir()) if f.suffix == ".py" or f.name == "py.typed"}
+    sources = [f for f in sorted((HERE / "puchkewa").iterdir()) if f.suffix == ".py" or f.name == "py.typed"]
+    files = {f"puchkewa/{f.name}": f.read_bytes() for f in sources}
     files[f"puchkewa/{PLACE['name_of'](VERSION)}"] = library().read_bytes()
     files[f"{INFO}/METADATA"] = METADATA.encode()
     files[f"{INFO}/WHEEL"] = WHEEL.encode()

@@ -1,5 +1,5 @@
-// Cleans the scope paper's filter example, `rax = f();` `return;`, and prints the counts and the new listing. From the repository's root, after
-// `bin/archive`:
+// Cleans the scope paper's filter example, `rax = f();` `return;`, and prints the counts and the new listing. From the repository's root,
+// after `bin/archive`:
 //
 //     c++ -Iinclude examples/cpp/clean.cpp target/staticlib/libpuchkewa.a -o target/clean-cpp && target/clean-cpp
 #include <cstddef>
@@ -75,7 +75,8 @@ int main()
     std::vector<std::uint8_t> work_a(PUCHKEWA_WORK), work_b(PUCHKEWA_WORK), out(PUCHKEWA_OUTPUT);
     puchkewa_settings settings{};
     settings.convention = PUCHKEWA_SYSV_64;
-    const puchkewa_report r = puchkewa_clean(settings, tape.data(), tape.size(), work_a.data(), work_a.size(), work_b.data(), work_b.size(), out.data(), out.size());
+    const puchkewa_report r = puchkewa_clean(settings, tape.data(), tape.size(), work_a.data(), work_a.size(), work_b.data(), work_b.size(),
+                                             out.data(), out.size());
     if (r.refusal != PUCHKEWA_FINISHED) {
         std::cout << "refused " << r.refusal << " at " << r.place << '\n';
         return 1;

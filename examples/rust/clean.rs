@@ -1,5 +1,5 @@
-//! Cleans the scope paper's filter example, `rax = f();` `return;`, and prints the counts and the new listing. From the repository's root, after
-//! `bin/archive`:
+//! Cleans the scope paper's filter example, `rax = f();` `return;`, and prints the counts and the new listing. From the repository's root,
+//! after `bin/archive`:
 //!
 //!     cargo run -q --manifest-path examples/rust/Cargo.toml
 use puchkewa::{clean, Kind, Line, Listing, Refusal, Settings};

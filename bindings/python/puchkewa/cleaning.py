@@ -14,7 +14,7 @@ from .settings import Settings
 class Counts:
     """What a cleaning did.
 
-    attempts  the attempts to join a line into a later one: of each of at most three rounds; where it was to settle, one number, of all rounds
+    attempts  the attempts to join a line into a later one: of each of at most three rounds; where it was to settle, one number, of all
     rounds    the rounds that were made, where it was to settle; otherwise None
     removed   lines removed: the attempts that succeeded
     cut       results of calls that were cut because nothing reads them
@@ -28,7 +28,8 @@ class Counts:
 
 @dataclass(frozen=True)
 class Cleaned:
-    """A cleaned listing and what was done to it. Each of its lines has marks where any of the lines that came into it has an address or marks."""
+    """A cleaned listing and what was done to it. Each of its lines has marks where any of the lines that came into it has an address or
+    marks."""
 
     listing: Listing
     counts: Counts

@@ -58,8 +58,8 @@ def load() -> ctypes.CDLL:
         library = ctypes.CDLL(str(file))
     except OSError as error:
         raise ImportError(
-            f"{file} is not loaded ({error}). `bin/archive && bin/shared` in Puchkewa's repository makes it, `bin/install PREFIX` installs it; "
-            "the environment variable PUCHKEWA_LIBRARY may name the file."
+            f"{file} is not loaded ({error}). `bin/archive && bin/shared` in Puchkewa's repository makes it, `bin/install PREFIX` "
+            "installs it; the environment variable PUCHKEWA_LIBRARY may name the file."
         ) from error
     for name, (answer, arguments) in FUNCTIONS.items():
         function = getattr(library, name)

@@ -32,8 +32,8 @@ class Token:
 
 @dataclass
 class Line:
-    """A line: the address of its code or None, an indent of at most 63, marks (the lowest and the highest address of the code that came into it, which
-    cleaning fills in) or None, and tokens."""
+    """A line: the address of its code or None, an indent of at most 63, marks (the lowest and the highest address of the code that came
+    into it, which cleaning fills in) or None, and tokens."""
 
     address: Optional[int] = None
     indent: int = 0

@@ -1,4 +1,5 @@
-"""Why a call gave nothing: a question of the library that was answered "no", or something that no tape takes. Either names the line and the token."""
+"""Why a call gave nothing: a question of the library that was answered "no", or something that no tape takes. Either names the line and the
+token."""
 from __future__ import annotations
 
 from typing import Dict, Optional
@@ -8,7 +9,7 @@ MEANINGS: Dict[int, str] = {
     2: "what was lent to write to is too short",
     3: "the tape ends where a command must begin, or the byte there begins none",
     4: "the command runs past the end of the tape",
-    5: "a token before any line, or marks that do not stand directly after a line's command or have the lowest address above the highest",
+    5: "a token before any line, or marks not directly after a line's command or with their lowest above their highest",
     6: "an indent above 63, an empty text, or a Number of more than 24 bytes",
     7: "a byte of a text is outside 20 to 7E (hexadecimal)",
     8: "bytes follow the end of the tape",
@@ -34,12 +35,15 @@ class Refusal(Exception):
     """Why a call gave nothing. Nothing has changed then.
 
     number  the number of the library's question; None where the library was not called (the classes below)
-    place   an offset in the tape; of 14 the number of a line, of 22 that of a cell, all from 0; 0 where the question has no place; None as above
+    place   an offset in the tape; of 14 the number of a line, of 22 that of a cell, all from 0; 0 where the question has no place; None as
+            above
     line    the number of the line that the place is in, from 0, where there is one
     token   the number of the token that the place is in, from 0 in its line, where there is one
     """
 
-    def __init__(self, number: Optional[int], place: Optional[int], line: Optional[int], token: Optional[int], said: Optional[str] = None) -> None:
+    def __init__(
+        self, number: Optional[int], place: Optional[int], line: Optional[int], token: Optional[int], said: Optional[str] = None
+    ) -> None:
         self.number = number
         self.place = place
         self.line = line
@@ -48,13 +52,15 @@ class Refusal(Exception):
         super().__init__(number, place, line, token, said)
 
     def __str__(self) -> str:
-        where = "" if self.line is None else f" (lines[{self.line}])" if self.token is None else f" (lines[{self.line}].tokens[{self.token}])"
-        return f"{self.said}{where}"
+        if self.line is None:
+            return str(self.said)
+        token = "" if self.token is None else f".tokens[{self.token}]"
+        return f"{self.said} (lines[{self.line}]{token})"
 
 
 class Unwritable(Refusal):
-    """Something that no tape takes: a text that is empty, has a character outside 20 to 7E or more than 65,535 bytes; an address, an indent or marks that the tape has
-    no room for. The library was not called."""
+    """Something that no tape takes: a text that is empty, has a character outside 20 to 7E or more than 65,535 bytes; an address, an indent
+    or marks that the tape has no room for. The library was not called."""
 
     def __init__(self, said: str, line: int, token: Optional[int] = None) -> None:
         super().__init__(None, None, line, token, said)

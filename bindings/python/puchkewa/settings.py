@@ -32,9 +32,10 @@ class Settings:
     convention  the calling convention
     settle      whether rounds are made until one changes nothing; otherwise at most three
     edition     how numbers are read
-    parts       whether a value assigned to a part of a register is joined into a use below 32 bits only if that is the same part: ah is not al
-    profile     whether the listing must be a straight piece (assignments of sums and differences to 64-bit registers, and a return), whose returned value is
-                kept. Such a cleaning can take much stack: see the package's own text
+    parts       whether a value assigned to a part of a register is joined into a use below 32 bits only if that is the same part: ah is
+                not al
+    profile     whether the listing must be a straight piece (assignments of sums and differences to 64-bit registers, and a return), whose
+                returned value is kept. Such a cleaning can take much stack: see the package's own text
 
     A number for convention or edition that is none of theirs is refused by the library (1, 9).
     """

@@ -7,15 +7,15 @@ from typing import Any, Callable, List, TypeVar
 T = TypeVar("T")
 
 STACK = 8 << 20
-"""The stack of the threads that this package makes, in bytes: more than twice what the deepest brackets that a tape can hold were measured to take. The system gives
-memory only for what is used of it."""
+"""The stack of the threads that this package makes, in bytes: more than twice what the deepest brackets that a tape can hold were measured
+to take. The system gives memory only for what is used of it."""
 
 _making = threading.Lock()
 
 
 def with_stack(call: Callable[..., T], *words: Any) -> T:
-    """Makes a call on a thread of its own with STACK bytes of stack, and waits for it: with_stack(clean, listing, settings). Needed where less may be left than a
-    call takes: about 116,000 bytes, and with the profile or in a search for a start value up to 3.7 million."""
+    """Makes a call on a thread of its own with STACK bytes of stack, and waits for it: with_stack(clean, listing, settings). Needed where
+    less may be left than a call takes: about 116,000 bytes, and with the profile or in a search for a start value up to 3.7 million."""
     answers: List[T] = []
     errors: List[BaseException] = []
 

@@ -11,8 +11,9 @@ from .listing import Listing
 
 
 class Store:
-    """A store of named states. Its bytes can be kept in a file; docs/TAPE.md says what they are. Whether bytes are a store is asked by each call: 2 of fewer than 524,288
-    bytes, 22 of damaged ones. A name is 8 bytes of any kind, otherwise it is a ValueError. Calls on one store wait for each other."""
+    """A store of named states. Its bytes can be kept in a file; docs/TAPE.md says what they are. Whether bytes are a store is asked by each
+    call: 2 of fewer than 524,288 bytes, 22 of damaged ones. A name is 8 bytes of any kind, otherwise it is a ValueError. Calls on one store
+    wait for each other."""
 
     def __init__(self, held: Optional[bytes] = None) -> None:
         self._bytes = bytearray(STORE) if held is None else bytearray(held)
@@ -22,8 +23,8 @@ class Store:
         return bytes(self._bytes)
 
     def save(self, name: bytes, listing: Listing) -> None:
-        """Saves a listing under a name, in the place of what is held under it. Refusal: 2, 22; the tape's questions; 21, the name is new, and eight states are
-        held."""
+        """Saves a listing under a name, in the place of what is held under it. Refusal: 2, 22; the tape's questions; 21, the name is new,
+        and eight states are held."""
         self.save_tape(name, tape.write(listing))
 
     def save_tape(self, name: bytes, held: bytes) -> None:
@@ -33,7 +34,8 @@ class Store:
         tape.value(answer, held)
 
     def restore(self, name: bytes) -> Listing:
-        """The listing that is held under a name. Refusal: 2, 22; 20, none is held. Of a store that other programs wrote also 3 to 8: what is held is no tape."""
+        """The listing that is held under a name. Refusal: 2, 22; 20, none is held. Of a store that other programs wrote also 3 to 8: what
+        is held is no tape."""
         return tape.read(self.restore_tape(name))
 
     def restore_tape(self, name: bytes) -> bytes:

@@ -61,8 +61,8 @@ def _fault(token: Token) -> Optional[str]:
 
 
 def read(tape: bytes) -> Listing:
-    """The listing of a tape. Refusal where one of questions 3 to 8 is answered "no"; 10 and 11, the limits of a whole listing, are not asked here: a cleaned
-    listing may have more text than a call takes."""
+    """The listing of a tape. Refusal where one of questions 3 to 8 is answered "no"; 10 and 11, the limits of a whole listing, are not
+    asked here: a cleaned listing may have more text than a call takes."""
 
     def refuse(number: int, place: int) -> Refusal:
         return refusal(number, place, tape)
@@ -107,7 +107,8 @@ def read(tape: bytes) -> Listing:
 
 
 def _width(tape: bytes, at: int) -> Optional[int]:
-    """How many bytes the command has that begins here, in either form of the tape; None where no command begins or its length is cut off."""
+    """How many bytes the command has that begins here, in either form of the tape; None where no command begins or its length is cut
+    off."""
     if not TOKEN <= tape[at] <= TOKEN + 7:
         return WIDTHS.get(tape[at])
     return 3 + int.from_bytes(tape[at + 1:at + 3], "little") if at + 3 <= len(tape) else None
@@ -193,7 +194,8 @@ def laborious(lines: int) -> bytes:
 
 
 def start_value(tape: bytes, chosen: str, values: Values, wanted: int) -> int:
-    """The smallest start value of a register with which a formula returns the wanted value. Refusal: the tape's questions, 14, 16, 15; LongName."""
+    """The smallest start value of a register with which a formula returns the wanted value. Refusal: the tape's questions, 14, 16, 15;
+    LongName."""
     entries: List[bytes] = []
     for name, start in values.items() if isinstance(values, Mapping) else values:
         text = name.encode()

@@ -30,7 +30,8 @@ def unmarked(it: Listing) -> Listing:
 
 
 def answers():
-    """The lines of the file of answers: settings, tape, and the rest as numbers and, of a cleaned one, the tape without marks. PUCHKEWA_ANSWERS may name another file."""
+    """The lines of the file of answers: settings, tape, and the rest as numbers and, of a cleaned one, the tape without marks.
+    PUCHKEWA_ANSWERS may name another file."""
     file = os.environ.get("PUCHKEWA_ANSWERS", TOP / "bindings" / "answers.txt")
     for row in Path(file).read_text().splitlines():
         if row.startswith("#"):

@@ -1,5 +1,6 @@
-"""10,000 random listings through the package and through the command, where that is built (`bin/program command`) or named by PUCHKEWA_COMMAND. Without it the test
-says that it is left out; the fixed answers of the real Rust are tested in any case (test_answers.py)."""
+"""10,000 random listings through the package and through the command, where that is built (`bin/program command`) or named by
+PUCHKEWA_COMMAND. Without it the test says that it is left out; the fixed answers of the real Rust are tested in any case
+(test_answers.py)."""
 import os
 import random
 import re

@@ -22,8 +22,8 @@ class Refusals(unittest.TestCase):
         want = self.said(clean_tape, raw)
         # every other call that takes a tape says the same
         for call, words in [
-            (tape.to_2018, (raw,)), (tape.to_2024, (raw,)), (tape.to_offsets, (raw, 0)), (tape.start_value, (raw, "rax", {}, 0)), (Store().save_tape, (NAME, raw)),
-            (tape.read, (raw,)),
+            (tape.to_2018, (raw,)), (tape.to_2024, (raw,)), (tape.to_offsets, (raw, 0)), (tape.start_value, (raw, "rax", {}, 0)),
+            (Store().save_tape, (NAME, raw)), (tape.read, (raw,)),
         ]:
             self.assertEqual(self.said(call, *words), want)
         return want

@@ -51,12 +51,13 @@ pub fn laborious(lines: u64) -> Result<Listing, Refusal> {
 
 /// The smallest value that the chosen register can start with so that a formula returns the wanted value, modulo 2^64.
 ///
-/// `formula` is a straight piece, as for the profile. `values` says what other registers start with: one that is not named starts with 0, of equal names the first
-/// decides, and one for the chosen register is ignored. It runs on a thread of its own that has enough stack.
+/// `formula` is a straight piece, as for the profile. `values` says what other registers start with: one that is not named starts with 0,
+/// of equal names the first decides, and one for the chosen register is ignored. It runs on a thread of its own that has enough stack.
 ///
 /// # Errors
 ///
-/// The tape's questions; 14: no straight piece; 16: a name that is no 64-bit register; 15: no start value does it. [`Refusal::LongName`] before the call.
+/// The tape's questions; 14: no straight piece; 16: a name that is no 64-bit register; 15: no start value does it. [`Refusal::LongName`]
+/// before the call.
 ///
 /// # Panics
 ///

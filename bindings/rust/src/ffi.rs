@@ -1,7 +1,7 @@
 //! The library's functions, as include/puchkewa.h declares them, and a safe function around each. All unsafe code of the package is here.
 //!
-//! What each needs of its caller: pointers that are not null, each with so many bytes behind it as its length says, and no overlap of what is written with
-//! anything else that is lent. Slices give all of that.
+//! What each needs of its caller: pointers that are not null, each with so many bytes behind it as its length says, and no overlap of what
+//! is written with anything else that is lent. Slices give all of that.
 
 /// `struct puchkewa_settings`.
 #[repr(C)]
@@ -79,8 +79,8 @@ extern "C" {
     fn puchkewa_from_offsets(tape: *const u8, tape_length: usize, out: *mut u8, out_length: usize) -> Answer;
 }
 
-// SAFETY, of each call below: every pointer is a slice's or an array's and comes with its length; what is written is behind a `&mut`, so that it
-// overlaps nothing else.
+// SAFETY, of each call below: every pointer is a slice's or an array's and comes with its length; what is written is behind a `&mut`, so
+// that it overlaps nothing else.
 
 pub fn clean(settings: Settings, tape: &[u8], work_a: &mut [u8], work_b: &mut [u8], out: &mut [u8]) -> Report {
     let (a, b) = (work_a.as_mut_ptr(), work_b.as_mut_ptr());

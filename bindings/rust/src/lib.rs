@@ -1,5 +1,5 @@
-//! Cleans listings of pseudocode (C-like lines lifted from machine code) with Puchkewa's static library, every function of which is proved to meet
-//! its contract. This package is not proved: it puts listings on tapes, calls the library and reads its answers.
+//! Cleans listings of pseudocode (C-like lines lifted from machine code) with Puchkewa's static library, every function of which is proved
+//! to meet its contract. This package is not proved: it puts listings on tapes, calls the library and reads its answers.
 //!
 //! ```
 //! use puchkewa::{clean, Kind, Line, Listing, Settings};
@@ -19,16 +19,18 @@
 //!
 //! # What to do with a refusal
 //!
-//! The library takes at most 256 lines, 1,024 tokens, 24,576 bytes of text, and texts of the bytes 20 to 7E (hexadecimal). A refused listing is
-//! left as it was: show it, or go on with it, uncleaned. [`Refusal`] says why, and which line and token earned it. Never clean a listing in pieces:
-//! whether a value is read again is told by all lines to the listing's end, and the end of a piece would count as the end of every value.
+//! The library takes at most 256 lines, 1,024 tokens, 24,576 bytes of text, and texts of the bytes 20 to 7E (hexadecimal). A refused
+//! listing is left as it was: show it, or go on with it, uncleaned. [`Refusal`] says why, and which line and token earned it. Never clean a
+//! listing in pieces: whether a value is read again is told by all lines to the listing's end, and the end of a piece would count as the
+//! end of every value.
 //!
 //! # Stack
 //!
-//! A cleaning takes about 116,000 bytes of stack (measured). With [`Settings::profile`], and in a search for a start value, it takes 144 bytes more
-//! for each level of nested brackets: up to 3.7 million. [`clean`] and [`start_value`] run on a thread of their own that has enough ([`STACK`]).
-//! The calls of [`Cleaner`] and of [`tape`] run on the caller's stack. The main thread has enough as a rule (8 MiB), a thread that
-//! Rust makes (2 MiB) has enough without the profile. Where less may be left, use [`Cleaner::clean_on_thread`] or [`with_stack`].
+//! A cleaning takes about 116,000 bytes of stack (measured). With [`Settings::profile`], and in a search for a start value, it takes 144
+//! bytes more for each level of nested brackets: up to 3.7 million. [`clean`] and [`start_value`] run on a thread of their own that has
+//! enough ([`STACK`]). The calls of [`Cleaner`] and of [`tape`] run on the caller's stack. The main thread has enough as a rule (8 MiB), a
+//! thread that Rust makes (2 MiB) has enough without the profile. Where less may be left, use [`Cleaner::clean_on_thread`] or
+//! [`with_stack`].
 //!
 //! # Threads
 //!

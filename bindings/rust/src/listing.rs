@@ -26,7 +26,8 @@ pub struct Line {
 pub struct Token {
     /// What it is.
     pub kind: Kind,
-    /// Its text: at least one byte, all of them 20 to 7E (hexadecimal); of a Number at most 24. All texts of a listing have at most 24,576 bytes.
+    /// Its text: at least one byte, all of them 20 to 7E (hexadecimal); of a Number at most 24. All texts of a listing have at most 24,576
+    /// bytes.
     pub text: String,
 }
 

@@ -27,7 +27,7 @@ questions! {
     TooLittleRoom = 2, "what was lent to write to is too short";
     NoCommand = 3, "the tape ends where a command must begin, or the byte there begins none";
     CutOff = 4, "the command runs past the end of the tape";
-    TokenBeforeLine = 5, "a token before any line, or marks that do not stand directly after a line's command or have the lowest address above the highest";
+    TokenBeforeLine = 5, "a token before any line, or marks not directly after a line's command or with their lowest above their highest";
     BeyondLimits = 6, "an indent above 63, an empty text, or a Number of more than 24 bytes";
     NotPrintable = 7, "a byte of a text is outside 20 to 7E (hexadecimal)";
     AfterEnd = 8, "bytes follow the end of the tape";

@@ -1,4 +1,5 @@
-//! Why a call gave nothing: a question of the library that was answered "no", or a text that no tape takes. Either names the line and the token.
+//! Why a call gave nothing: a question of the library that was answered "no", or a text that no tape takes. Either names the line and the
+//! token.
 use crate::question::Question;
 use crate::tape::locate;
 use std::fmt;
@@ -11,8 +12,8 @@ pub enum Refusal {
     Asked {
         /// The first question that was answered so.
         question: Question,
-        /// Where: an offset in the tape, of [`Question::NotStraight`] the number of a line, of [`Question::StoreDamaged`] that of a cell, all from 0. It is 0 where
-        /// the question has no place.
+        /// Where: an offset in the tape, of [`Question::NotStraight`] the number of a line, of [`Question::StoreDamaged`] that of a cell,
+        /// all from 0. It is 0 where the question has no place.
         place: u64,
         /// The number of the line that the place is in, from 0.
         line: Option<usize>,

@@ -25,7 +25,8 @@ pub enum Edition {
 
 /// The settings of a cleaning. Name those that you set and add `..Settings::default()`: a later version may have more.
 ///
-/// By default: System V, at most three rounds, numbers by the edition of 2018, parts not told apart, no profile. These are the command's, too.
+/// By default: System V, at most three rounds, numbers by the edition of 2018, parts not told apart, no profile. These are the command's,
+/// too.
 #[derive(Debug, Clone, Copy, PartialEq, Eq, Hash, Default)]
 pub struct Settings {
     /// The calling convention.
@@ -36,8 +37,8 @@ pub struct Settings {
     pub edition: Edition,
     /// Whether a value assigned to a part of a register is joined into a use below 32 bits only if that is the same part: ah is not al.
     pub parts: bool,
-    /// Whether the listing must be a straight piece (assignments of sums and differences to 64-bit registers, and a return), whose returned value is kept. Such
-    /// a cleaning can take much stack: see the package's page.
+    /// Whether the listing must be a straight piece (assignments of sums and differences to 64-bit registers, and a return), whose returned
+    /// value is kept. Such a cleaning can take much stack: see the package's page.
     pub profile: bool,
 }
 

@@ -18,7 +18,8 @@ const END: u8 = 0xFF;
 ///
 /// # Errors
 ///
-/// [`Refusal::Text`] where a text is empty, has a character outside 20 to 7E or more than 65,535 bytes. All other limits are asked by the calls.
+/// [`Refusal::Text`] where a text is empty, has a character outside 20 to 7E or more than 65,535 bytes. All other limits are asked by the
+/// calls.
 pub fn write(listing: &Listing) -> Result<Vec<u8>, Refusal> {
     let mut tape = Vec::new();
     write_to(listing, &mut tape)?;
@@ -68,8 +69,8 @@ fn length_of(text: &str) -> Result<u16, Fault> {
 ///
 /// # Errors
 ///
-/// The first of questions 3 to 8 that is answered "no", with its place. 10 and 11, the limits of a whole listing, are not asked here: a cleaned
-/// listing may have more text than a call takes.
+/// The first of questions 3 to 8 that is answered "no", with its place. 10 and 11, the limits of a whole listing, are not asked here: a
+/// cleaned listing may have more text than a call takes.
 pub fn read(tape: &[u8]) -> Result<Listing, Refusal> {
     let mut listing = Listing::default();
     let mut at = 0;

@@ -1,5 +1,5 @@
-//! 10,000 random listings through the package and through the command, where that is built (`bin/program command`) or named by PUCHKEWA_COMMAND. Without
-//! it this says so; the fixed answers of the real Rust are tested in any case (answers.rs).
+//! 10,000 random listings through the package and through the command, where that is built (`bin/program command`) or named by
+//! PUCHKEWA_COMMAND. Without it this says so; the fixed answers of the real Rust are tested in any case (answers.rs).
 mod common;
 
 use common::{random_listing, random_settings, Random};

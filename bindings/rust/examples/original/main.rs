@@ -1,5 +1,5 @@
-//! The cleaner in the place of the original's own module: types of the same names and fields as the original repository's, and `proved::optimize`,
-//! which is called as its `optimize` is. From the repository's root:
+//! The cleaner in the place of the original's own module: types of the same names and fields as the original repository's, and
+//! `proved::optimize`, which is called as its `optimize` is. From the repository's root:
 //!
 //!     cargo run --manifest-path bindings/rust/Cargo.toml --example original
 //!

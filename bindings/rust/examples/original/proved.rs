@@ -1,5 +1,5 @@
-//! The cleaning of the original, without its last call `symbolize_args`, done by the proved library. It is called as the original's `optimize` is, and
-//! needs of the crate that it stands in only `model::{Token, TokenKind}` and `pseudo::PseudoLine`.
+//! The cleaning of the original, without its last call `symbolize_args`, done by the proved library. It is called as the original's
+//! `optimize` is, and needs of the crate that it stands in only `model::{Token, TokenKind}` and `pseudo::PseudoLine`.
 use crate::model::{Token, TokenKind};
 use crate::pseudo::PseudoLine;
 use puchkewa::{Convention, Kind, Line, Listing, Refusal, Settings};
