@@ -38,13 +38,16 @@ class Threads(unittest.TestCase):
     def test_a_small_stack_is_enough_behind_with_stack(self):
         raw = tape.read(common.sample())
         answers = []
-        before = threading.stack_size(128 << 10)
+        small = 128 << 10
+        before = threading.stack_size(small)
         try:
             thread = threading.Thread(target=lambda: answers.append(with_stack(clean, raw)))
             thread.start()
+            thread.join()
+            # what other threads get is as it was
+            self.assertEqual(threading.stack_size(), small)
         finally:
             threading.stack_size(before)
-        thread.join()
         self.assertEqual(answers, [clean(raw)])
 
     def test_the_deepest_brackets_have_room(self):
