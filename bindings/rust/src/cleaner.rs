@@ -62,7 +62,8 @@ impl Counts {
     }
 }
 
-/// Cleans a listing, on a thread of its own that has enough stack. Whoever cleans many makes one [`Cleaner`].
+/// Cleans a listing, with buffers and on a thread of its own, which has enough stack. To make these takes longer than to clean a short listing:
+/// whoever cleans many makes one [`Cleaner`] on a thread that has enough.
 ///
 /// # Errors
 ///
