@@ -52,9 +52,9 @@ def _fault(token: Token) -> Optional[str]:
         return f"kind: {token.kind}"
     if not token.text:
         return "text: it is empty"
-    for offset, character in enumerate(token.text):
-        if not " " <= character <= "~":
-            return f"text: {character!r} at offset {offset} is outside 20 to 7E"
+    if not (token.text.isascii() and token.text.isprintable()):
+        offset, character = next((i, c) for i, c in enumerate(token.text) if not " " <= c <= "~")
+        return f"text: {character!r} at offset {offset} is outside 20 to 7E"
     if len(token.text) > 65_535:
         return f"text: it has {len(token.text)} bytes, more than 65,535"
     return None
@@ -98,9 +98,8 @@ def read(tape: bytes) -> Listing:
                 raise refuse(5, at)
             if not text or kind == Kind.NUMBER and len(text) > 24:
                 raise refuse(6, at)
-            bad = next((i for i, b in enumerate(text) if not 0x20 <= b <= 0x7E), None)
-            if bad is not None:
-                raise refuse(7, at + 3 + bad)
+            if not (text.isascii() and text.decode("ascii").isprintable()):
+                raise refuse(7, at + 3 + next(i for i, b in enumerate(text) if not 0x20 <= b <= 0x7E))
             listing.lines[-1].tokens.append(Token(kind, text.decode("ascii")))
         fresh = byte in (LINE_AT, LINE)
         at += width
