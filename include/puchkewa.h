@@ -4,10 +4,18 @@
  *
  * Each function is proved to meet what is said here, for every input (crates/puchkewa/src; the promise of the cleaning is `Cleans` in
  * crates/clean/specs/Replies.antt, that of a call that writes a tape is `WritesTold` in crates/answers/specs/Answers.antt). They keep no state,
- * allocate nothing and call nothing of C but memset, memcpy and memmove. Not proved, but measured: the cleaning takes about 116,000 bytes of stack,
- * without the profile (docs/TIMES.md). Calls in several threads are safe where they share no memory that one of them writes.
+ * allocate nothing and call nothing of C but memset, memcpy and memmove. Calls in several threads are safe where they share no memory that one of them
+ * writes.
  *
- * Link with target/staticlib/libpuchkewa.a, which `bin/archive` makes (x86-64 Linux). */
+ * What no call can ask, and its caller must see to:
+ *   Overlap. Memory that a call writes must not overlap any other memory that it is lent.
+ *   Pointers. None may be null, and each has as many bytes behind it as its length says.
+ *   Stack. Not proved, but measured: the cleaning takes about 116,000 bytes, puchkewa_start_value about 48,000, each other call less than 4,000. With the
+ *   profile, and in puchkewa_start_value, each level of nested brackets takes 144 more: up to 3.7 million (docs/TIMES.md). On a thread that has
+ *   less the program crashes; 8 MiB are enough for every call.
+ *
+ * Link with target/staticlib/libpuchkewa.a, which `bin/archive` makes (x86-64 Linux), or with the shared library that `bin/shared` makes of it. Packages for
+ * Rust and Python: bindings. */
 #ifndef PUCHKEWA_H
 #define PUCHKEWA_H
 
