@@ -1,0 +1,2 @@
+-- Laws of the walk over a tape's commands.
+pub mod Following
