@@ -5,8 +5,8 @@ use Rattle.std.specs.Prelude.{ℕ, zero, suc, ◌+◌, Bool, List, [], ◌∷◌
 use Rattle.std.proofs.Math.Option.{Option, none, some}
 use Rattle.reference.specs.Control.{not, ◌and◌, when◌then◌else◌}
 use Rattle.reference.specs.Listing.{Token, Line, Listing}
-use Rattle.reference.specs.Spans.{Marks}
-use Rattle.reference.specs.Tape.{TapeForm, old, header, Command, new_line, marked, new_token, end, command_size_by, command_by}
+use Rattle.reference.specs.Spans.{Span, Marks}
+use Rattle.reference.specs.Tape.{TapeForm, old, header, Command, new_line, marked, new_token, end, write_command_by, command_size_by, command_by}
 use Rattle.reference.specs.Questions.{is_command_by, ends_inside_by, is_end}
 
 -- ---- the commands of some bytes
@@ -57,6 +57,11 @@ unfoldable pub first_where : (Command → Bool) → List Place → Option ℕ
 first_where test [] = none
 first_where test (p ∷ more) = let later : Option ℕ = first_where test more in when test p.1 then some p.0 else later
 
+-- commands that are written one after the other, from a place on
+unfoldable pub placed : TapeForm → ℕ → List Command → List Place
+placed form at [] = []
+placed form at (c ∷ cs) = (at, c) ∷ placed form (at + length (write_command_by form c)) cs
+
 -- ---- the listing that commands hold
 
 -- the tokens up to the next line
@@ -79,6 +84,22 @@ lines_of (end ∷ more) = lines_of more
 abbrev pub held : List ℕ → Listing
 held tape = lines_of (commands tape)
 
+-- the marks up to the next line, m being those so far: the last of them
+abbrev pub mark_of : Marks → List Command → Marks
+mark_of m [] = m
+mark_of m (new_line address indent ∷ more) = m
+mark_of m (marked s ∷ more) = mark_of (some s) more
+mark_of m (new_token t ∷ more) = mark_of m more
+mark_of m (end ∷ more) = mark_of m more
+
+-- the marks of each line; those before any line are in none
+abbrev pub marks_of : List Command → List Marks
+marks_of [] = []
+marks_of (new_line address indent ∷ more) = mark_of none more ∷ marks_of more
+marks_of (marked s ∷ more) = marks_of more
+marks_of (new_token t ∷ more) = marks_of more
+marks_of (end ∷ more) = marks_of more
+
 -- ---- the commands that a listing with marks is written as
 
 abbrev pub marks_put : Marks → List Command
@@ -92,3 +113,19 @@ line_put l m = new_line l.address l.indent ∷ (marks_put m ++ map new_token l.t
 unfoldable pub lines_put : Listing → List Marks → List Command
 lines_put [] marks = []
 lines_put (l ∷ ls) marks = line_put l (get_or marks 0 none) ++ lines_put ls (drop 1 marks)
+
+-- ---- commands, a listing and marks with their parts changed
+
+module _ (on_address : Option ℕ → Option ℕ) (on_span : Span → Span) (on_token : Token → Token) where
+  abbrev pub command_with : Command → Command
+  command_with (new_line address indent) = new_line (on_address address) indent
+  command_with (marked s) = marked (on_span s)
+  command_with (new_token t) = new_token (on_token t)
+  command_with end = end
+
+  abbrev pub line_with : Line → Line
+  line_with l = record { address = on_address l.address; indent = l.indent; tokens = map on_token l.tokens }
+
+  abbrev pub marks_with : Marks → Marks
+  marks_with none = none
+  marks_with (some s) = some (on_span s)

@@ -1,10 +1,6 @@
 -- `tape::writing::put_command` meets its contract. Assumes nothing.
-use lib.ListN.{length}
 use Rattle.reference.specs.Listing.{token}
-use Rattle.text.specs.Cursor.{Fits}
 use Rattle.tape.specs.Commands.{form_of}
-use Rattle.tape.specs.Walk.{event_shown, ByteFits}
-use Rattle.reference.specs.Tape.{write_command_by}
 use Rattle.tape.proofs.writing.Putting.{token_same}
 use Rattle.tape.specs.contracts.writing.put_command as code
 use denote.Param.{number}

@@ -1,7 +1,6 @@
 -- `tape::walk::Commands::next` gives the commands in order, with their places. Assumes nothing.
 use native.Mathlib.Omega.{arith}
 use mathlib.Core.Path.{sym, ◌∙◌}
-use Rattle.std.proofs.Common.{rules}
 use Rattle.std.proofs.lemmas.Grind.{common_steps}
 use Rattle.tape.specs.Commands.{form_of}
 use Rattle.tape.specs.contracts.walk.CommandsIterator.TheImpl as code
