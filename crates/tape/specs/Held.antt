@@ -6,7 +6,8 @@ use Rattle.std.proofs.Math.Option.{Option, none, some}
 use Rattle.reference.specs.Control.{not, ◌and◌, when◌then◌else◌}
 use Rattle.reference.specs.Listing.{Token, Line, Listing}
 use Rattle.reference.specs.Spans.{Span, Marks}
-use Rattle.reference.specs.Tape.{TapeForm, old, header, Command, new_line, marked, new_token, end, write_command_by, command_size_by, command_by}
+use Rattle.reference.specs.Tape.{TapeForm, old, header, Command, new_line, marked, new_token, end}
+use Rattle.reference.specs.Tape.{write_command_by, command_size_by, command_by}
 use Rattle.reference.specs.Questions.{is_command_by, ends_inside_by, is_end}
 
 -- ---- the commands of some bytes
