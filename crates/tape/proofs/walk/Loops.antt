@@ -5,9 +5,12 @@ use native.Mathlib.Omega.{arith}
 use mathlib.Core.Path.{◌≡◌, refl, sym, ap, ◌∙◌}
 use mathlib.Core.List.{List, [], ◌∷◌, ◌++◌, flat_map, append_assoc, append-nil}
 use lib.ListN.{length, length-append}
+use Rattle.reference.specs.Tape.{Command}
+use Rattle.reference.proofs.Limits.{All}
 use Rattle.text.specs.Cursor.{Fits, Puts}
 use Rattle.text.specs.declared.cursor.Cursor.{Cursor}
 use Rattle.text.proofs.Cursors.{puts_none, then_puts, puts_as, room_left}
+use Rattle.tape.specs.Held.{Place, unplaced}
 
 -- ---- bytes put for each
 
@@ -53,6 +56,22 @@ module _ {A : Type 0} (g : A → List ℕ) where
   pub flat_none : {xs : List A} → xs ≡ [] → flat_map g xs ≡ []
   unfolding flat_map
   flat_none e = ap (flat_map g) e
+
+-- of commands, their places being left out
+module _ (g : Command → List ℕ) where
+  pub flat_unplaced : (ps : List Place) → flat_map (λ p. g p.1) ps ≡ flat_map g (unplaced ps)
+  unfolding flat_map
+  flat_unplaced [] = refl
+  flat_unplaced (p ∷ ps) = ap (λ (r : List ℕ). g p.1 ++ r) (flat_unplaced ps)
+
+module _ (P : Command → Type 0) where
+  pub each_place : (ps : List Place) → All P (unplaced ps) → All (λ p. P p.1) ps
+  each_place [] h = tt
+  each_place (p ∷ ps) h = (h.0, each_place ps h.1)
+
+  pub each_command : (ps : List Place) → All (λ p. P p.1) ps → All P (unplaced ps)
+  each_command [] h = tt
+  each_command (p ∷ ps) h = (h.0, each_command ps h.1)
 
 -- A LOOP THAT PUTS g OF EACH, with the list of those to come as an iterator gives it: room for one, one turn, behind the last
 module _ {A : Type 0} (g : A → List ℕ) (all : List A) where
