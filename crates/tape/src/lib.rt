@@ -1,4 +1,5 @@
-// The tape of document 01: what stands at an offset, and which tapes are accepted.
+// The tape of document 01, and its form by offset: what stands at an offset, which tapes are accepted, the walk over a tape's commands, and
+// the writing of commands.
 #![tactic(auto)]
 
 pub mod commands; // one command, at an offset of the tape

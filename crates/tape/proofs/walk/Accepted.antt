@@ -8,15 +8,15 @@ use mathlib.Core.Option.{none, some}
 use lib.ListN.{length, drop}
 use Rattle.reference.specs.Listing.{Token, Listing}
 use Rattle.reference.specs.Spans.{Marks}
-use Rattle.reference.specs.Tape.{TapeForm, old, header, Command, new_line, marked, new_token, end, write_command_by, write_lines_by, write_by}
-use Rattle.reference.specs.Questions.{Passed, read_by, marks_in_by}
+use Rattle.reference.specs.Tape.{TapeForm, old, header, Command, new_line, marked, new_token, end, write_command_by, write_lines_by, write_by, write}
+use Rattle.reference.specs.Questions.{Passed, read_by, marks_in_by, read}
 use Rattle.reference.specs.Claim.{text_in, text}
 use Rattle.reference.proofs.LittleEndian.{Bytes}
 use Rattle.reference.proofs.Commands.{AddressFitsBy}
 use Rattle.reference.proofs.Limits.{All, TokenFits, LineFits, MarksFitBy}
 use Rattle.reference.proofs.Tapes.{write-read_by, read-fits_by, read-marks_fit_by}
 use Rattle.reference.proofs.Unmarked.{Holdable, HoldableMarks}
-use Rattle.tape.specs.Held.{places_at, places_by, placed, unplaced, commands_by, lines_of, marks_of, lines_put}
+use Rattle.tape.specs.Held.{Place, places_at, places_by, placed, unplaced, commands_by, lines_of, marks_of, lines_put, held}
 use Rattle.tape.specs.Walk.{ByteFits}
 use Rattle.tape.proofs.walk.Reading.{InnerBy, read-all, unplaced-placed}
 use Rattle.tape.proofs.walk.Written.{OfLine, OfMarks, all_put, lines_written, lines_back, marks_back}
@@ -73,6 +73,13 @@ holdable-marks (some s ∷ ms) h = ((h.0, refl), holdable-marks ms h.1)
 -- what of a listing its bytes can hold, command by command
 pub holdable_inner : (lines : Listing) (marks : List Marks) → All Holdable lines → All HoldableMarks marks → All (InnerBy old) (lines_put lines marks)
 holdable_inner lines marks h k = all_put (InnerBy old) lines marks (holdable-line lines h) (holdable-marks marks k)
+
+-- THE TAPE OF A LISTING HOLDS THAT LISTING, whatever stands behind it
+pub held-write : (lines : Listing) (marks : List Marks) (behind : List ℕ) → All Holdable lines → All HoldableMarks marks → held (write lines marks ++ behind) ≡ lines
+held-write lines marks behind h k =
+    ap (λ (ps : List Place). lines_of (unplaced ps)) (written-places old 0 lines marks behind (holdable_inner lines marks h k))
+    ∙ ap lines_of (unplaced-placed old 0 (lines_put lines marks))
+    ∙ lines_back lines marks
 
 -- ---- an accepted tape
 
@@ -137,3 +144,8 @@ module _ (form : TapeForm) (tape : List ℕ) (lines : Listing) (bytes : Bytes ta
 
   pub marks-held_by : marks_of (commands_by form tape) ≡ marks_in_by form tape
   marks-held_by = ap marks_of accepted-commands ∙ marks_back lines its_marks (read-marks_fit_by form tape lines bytes reads).1
+
+-- of the old form
+module _ (tape : List ℕ) (lines : Listing) (bytes : Bytes tape) (reads : read tape ≡ Passed lines) where
+  pub held-read : held tape ≡ lines
+  held-read = held-read_by old tape lines bytes reads
