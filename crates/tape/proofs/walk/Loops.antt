@@ -1,6 +1,6 @@
 -- Loops over a tape's commands: one that puts bytes for each leaves the bytes of all, one after the other; one that folds leaves the fold. Of the commands
 -- that are still to come, what holds of each is kept turn by turn as it stands (`All P (x ∷ more)` is `P x × All P more`). Assumes nothing.
-use Prim.Native.Nat.{ℕ}
+use Prim.Native.Nat.{ℕ, ◌≤◌}
 use native.Mathlib.Omega.{arith}
 use mathlib.Core.Path.{◌≡◌, refl, sym, ap, ◌∙◌}
 use mathlib.Core.List.{List, [], ◌∷◌, ◌++◌, flat_map, append_assoc, append-nil}
@@ -56,6 +56,13 @@ module _ {A : Type 0} (g : A → List ℕ) where
   pub flat_none : {xs : List A} → xs ≡ [] → flat_map g xs ≡ []
   unfolding flat_map
   flat_none e = ap (flat_map g) e
+
+-- where no piece is longer, all of them are not
+module _ {A : Type 0} (g h : A → List ℕ) (no_longer : (x : A) → length (g x) ≤ length (h x)) where
+  pub flat_no-longer : (xs : List A) → length (flat_map g xs) ≤ length (flat_map h xs)
+  unfolding flat_map
+  flat_no-longer [] = omega arith
+  flat_no-longer (x ∷ xs) = rw (length-append, length-append) (omega (arith, no_longer x, flat_no-longer xs))
 
 -- of commands, their places being left out
 module _ (g : Command → List ℕ) where
