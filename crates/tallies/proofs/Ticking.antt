@@ -21,9 +21,10 @@ use Rattle.reference.proofs.Lines.{length-modify}
 use Rattle.reference.proofs.LittleEndian.{Bytes}
 use Rattle.reference.proofs.Marks.{finished_is}
 use Rattle.reference.proofs.Guarantee.{demand3-tape, answered}
-use Rattle.walk.specs.Held.{held}
+use Rattle.tape.specs.Held.{held}
+use Rattle.tape.proofs.walk.Accepted.{held-write, held-read}
+use Rattle.sources.proofs.Unmarked.{holdable_cleaned, holdable_cleaned_marks}
 use Rattle.tallies.specs.Ticks.{Ticks}
-use Rattle.tallies.proofs.Holding.{held-read, held-cleaned}
 
 -- ---- over all steps
 
@@ -98,6 +99,9 @@ unfolding counts
 ticks rules tape work_a work_b output c bytes e =
     let a = answered rules tape work_a work_b output c e in
     let out : List ℕ = write (finished rules a.input) (finished_marks rules a.input (marks_in tape)) in
-    let left : held out ≡ finished rules a.input = ap held (sym (append-nil out)) ∙ held-cleaned tape a.input bytes a.reads rules [] in
+    let left : held out ≡ finished rules a.input =
+    ap held (sym (append-nil out))
+    ∙ held-write (finished rules a.input) (finished_marks rules a.input (marks_in tape)) []
+    (holdable_cleaned tape a.input bytes a.reads rules) (holdable_cleaned_marks tape a.input bytes a.reads rules) in
     rw a.cleaned
     (listing_ticks rules a.input (demand3-tape rules tape a.input a.reads) tape out (held-read tape a.input bytes a.reads) left)
