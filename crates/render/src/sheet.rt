@@ -115,10 +115,14 @@ fn calls_stay(cleaning: &Cleaning) -> bool {
 
 // ---- labels
 
-// Whether a line stands as the finished line of that number, with the same tokens.
+// Whether a line stands as the finished line of that number: unchanged, with its address and indent.
 fn stands(line: Line, cleaned: &[u8], place: Option<usize>) -> bool {
     match place.and_then(|q| Lines::new(cleaned).nth(q)) {
-        Some(finished) => finished.tokens == line.tokens,
+        Some(finished) => {
+            finished.tokens == line.tokens
+                && finished.address == line.address
+                && finished.indent == line.indent
+        }
         None => false,
     }
 }
