@@ -4,10 +4,10 @@ use native.Mathlib.Omega.{arith}
 use mathlib.Core.Path.{◌≡◌, refl, sym, ap, ◌∙◌}
 use mathlib.Core.Bool.{Bool, true, false, false≢true}
 use mathlib.Core.List.{List, [], ◌∷◌, ◌++◌}
-use mathlib.Core.Option.{Option, none, some}
+use mathlib.Core.Option.{none, some}
 use lib.ListN.{length, drop, length-append}
 use borrow.Author.Tests.{leb-true}
-use Rattle.reference.specs.Control.{◌or◌, when◌then◌else◌}
+use Rattle.reference.specs.Control.{◌or◌}
 use Rattle.reference.specs.Lists.{any, modify}
 use Rattle.reference.specs.Listing.{Token, Listing}
 use Rattle.reference.specs.Tape.{Command, new_line, marked, new_token, end, command_size, command_of}
@@ -19,11 +19,6 @@ use Rattle.reference.proofs.Writing.{with_token}
 use Rattle.laws.proofs.Scans.{any_append, if-true, if-false}
 use Rattle.editions.specs.Conversion.{holds, of_command, first_place}
 use Rattle.editions.proofs.Listings.{or_both}
-
-pub if_none {ℓ} : {A : Type ℓ} (x : A) {b : Bool} {o : Option A} → (when b then some x else o) ≡ none → (b ≡ false) × (o ≡ none)
-unfolding when◌then◌else◌
-if_none x {b = true} e = absurd (none-some (sym e))
-if_none x {b = false} e = (refl, e)
 
 -- ---- the first place, by the command at the offset
 

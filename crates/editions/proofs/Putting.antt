@@ -6,7 +6,7 @@ use mathlib.Core.Path.{◌≡◌, refl, sym, ap, ◌∙◌}
 use mathlib.Core.Bool.{Bool, true, false}
 use mathlib.Core.List.{[], ◌∷◌, ◌++◌}
 use mathlib.Core.Option.{none, some}
-use lib.ListN.{length, take, drop, get_or, length-drop}
+use lib.ListN.{length, take, drop, get_or}
 use lib.Seq.{take-suc, take_all, length-take-le}
 use borrow.Author.Tests.{ne_eqb}
 use Rattle.reference.specs.Control.{◌or◌, when◌then◌else◌}

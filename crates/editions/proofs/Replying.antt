@@ -6,7 +6,6 @@ use mathlib.Core.Bool.{Bool}
 use mathlib.Core.List.{List, [], ◌++◌}
 use mathlib.Core.Option.{none, some}
 use lib.ListN.{length, drop}
-use lib.Seq.{paste}
 use borrow.Author.Tests.{le-leb, lt-leb}
 use Rattle.reference.specs.Control.{let_some◌else◌then◌}
 use Rattle.reference.specs.Listing.{Token, Listing}

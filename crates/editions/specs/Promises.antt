@@ -97,8 +97,8 @@ pub record OnTapes : Type 0 where
   -- "Down after an accepted up gives the tape itself when no Number begins `0b` or `0B` after at most one minus, or holds a quote."
   pub down_after_up : (tape : List ℕ) (output output' : ℕ) (lines : Listing) (new : List ℕ) → Bytes tape → to_2024 tape output ≡ Passed new
       → read tape ≡ Passed lines → holds is_newer_number lines ≡ false → length new ≤ output' → to_2018 new output' ≡ Passed tape
-  -- going up refuses an accepted tape for which there is room exactly if it holds a Symbol that is a new keyword: an accepted up holds none,
-  -- and one that holds none is accepted
+  -- going up refuses an accepted tape for which there is room exactly if it holds a Symbol that is a new keyword: an accepted up holds
+  -- none, and one that holds none is accepted
   pub raised : (tape : List ℕ) (output : ℕ) (new : List ℕ) (lines : Listing) → to_2024 tape output ≡ Passed new → read tape ≡ Passed lines
       → holds earns_12 lines ≡ false
   pub up_refuses : (tape : List ℕ) (output : ℕ) (lines : Listing) → read tape ≡ Passed lines → length tape ≤ output

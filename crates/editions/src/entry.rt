@@ -10,9 +10,9 @@ use crate::writing::lower;
 use answers::{Answer, Reason};
 
 // Once the tape is read.
-// Kept: that the tape is accepted stands as a clause, here and of the walks, as in the other crates that go on with an accepted tape
-// (clean, sources, start, tables): a struct that says it would be crate tape's, made by `check` beside the totals, and is no plainer for
-// this crate alone.
+// Kept: that the tape is accepted stands as a clause, here and of `first_place` and `lower`, as in the other crates that go on with an
+// accepted tape (clean, sources, start, tables): a struct that says it would be crate tape's, made by `check` beside the totals, and is no
+// plainer for this crate alone.
 fn lowered(tape: &[u8], out: &mut [u8]) -> Answer
     requires { AcceptedTape tape.now × (length tape.now ≤ length out.old) }
     ensures { Writes (to_2018 tape.now (length out.old)) out.old out.new (answer_of result) }

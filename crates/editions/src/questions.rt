@@ -1,20 +1,18 @@
 // 12 and 13, asked of each command from the left once the tape is read. Nothing is written.
-ghost use Rattle.std.specs.Prelude.{◌≡◌, ◌+◌, ◌≤◌, length};
+ghost use Rattle.std.specs.Prelude.{◌≡◌};
 ghost use Rattle.reference.specs.Options.{option_of};
 ghost use Rattle.reference.specs.Lists.{any};
 ghost use Rattle.reference.specs.Text.{◌≟◌, has};
 ghost use Rattle.reference.specs.Listing.{token};
-ghost use Rattle.tape.specs.Commands.{size_of, command_in};
 ghost use Rattle.tape.specs.Questions.{AcceptedTape};
+ghost use Rattle.tape.specs.Walk.{event_shown};
 ghost use Rattle.editions.specs.Numbers.{begins_binary, is_newer, has_no_older, new_keywords};
 ghost use Rattle.editions.specs.Conversion.{of_command};
 ghost use Rattle.editions.specs.Asking.{keywords_1, keywords_2, keywords_3, earns, leftmost};
 
 use lines::words::{NUMBER, SYMBOL};
 use numbers::{begins_binary, read_number};
-use tape::commands::{Command, size_of};
-use tape::reader::token_text;
-use walk::next_at;
+use tape::walk::{Commands, Event};
 
 // ---- one text
 
@@ -80,12 +78,11 @@ fn token_earns<const UP: bool>(kind: u64, s: &[u8]) -> bool
     }
 }
 
-fn command_earns<const UP: bool>(tape: &[u8], at: usize, command: Command) -> bool
-    requires { at + size_of command ≤ length tape.now }
-    ensures { result ≡ of_command (earns UP) (command_in tape.now at command) }
+fn command_earns<const UP: bool>(event: &Event<'_>) -> bool
+    ensures { result ≡ of_command (earns UP) (event_shown event.now) }
 {
-    match command {
-        Command::Token { kind, count } => token_earns::<UP>(kind, token_text(tape, at, count)),
+    match *event {
+        Event::Token { kind, text } => token_earns::<UP>(kind, text),
         _ => false,
     }
 }
@@ -93,18 +90,14 @@ fn command_earns<const UP: bool>(tape: &[u8], at: usize, command: Command) -> bo
 // ---- the whole tape
 
 // The leftmost command that earns 12 going up, or 13 going down.
-// Kept: a walk by offsets, since the place of a command is asked: over `Commands` of crate walk it would be counted from how much is left
-// (`as_bytes`) before each turn: no plainer.
 pub fn first_place<const UP: bool>(tape: &[u8]) -> Option<usize>
     requires { AcceptedTape tape.now }
     ensures { option_of result ≡ leftmost UP tape.now }
 {
-    let mut at = 0;
-    while let Some((command, next)) = next_at(tape, at) {
-        if command_earns::<UP>(tape, at, command) {
-            return Some(at);
+    for c in Commands::<false>::new(tape) {
+        if command_earns::<UP>(&c.event) {
+            return Some(c.at);
         }
-        at = next;
     }
     None
 }

@@ -4,7 +4,6 @@
 pub mod Moving
 pub mod Firsts
 pub mod Converting
-pub mod Stepwise
 pub mod Guarantee
 pub mod Searching
 pub mod Putting

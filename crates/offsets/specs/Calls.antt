@@ -1,8 +1,7 @@
 -- What the code's values mean, for either direction: `based` says that the tape that is read is by offset. Assumes nothing.
-use Rattle.std.specs.Prelude.{ℕ, ◌+◌, ◌-◌, ◌≤◌, ◌≡◌, Bool, true, false, List, [], ◌∷◌, length, Result}
+use Rattle.std.specs.Prelude.{ℕ, ◌+◌, ◌-◌, ◌≤◌, ◌≡◌, Bool, true, false, List, length, Result}
 use Rattle.std.proofs.Math.Option.{none, some}
 use Rattle.reference.specs.Control.{let_some◌else◌then◌}
-use Rattle.reference.specs.Lists.{any}
 use Rattle.reference.specs.Listing.{Listing}
 use Rattle.reference.specs.Tape as Tape
 use Rattle.reference.specs.Tape.{TapeForm, old, offsets, header, write_command_by, write_by}
@@ -10,11 +9,9 @@ use Rattle.reference.specs.Questions as Q
 use Rattle.reference.specs.Questions.{let_passed◌then◌, read_command_by, read_by, marks_in_by}
 use Rattle.answers.specs.declared.Refusal.{Refusal}
 use Rattle.answers.specs.Refusals.{answered}
-use Rattle.text.specs.Cursor.{Fits, Puts}
+use Rattle.text.specs.Cursor.{Puts}
 use Rattle.text.specs.declared.cursor.Cursor.{Cursor}
-use Rattle.tape.specs.Commands.{form_of, command_in}
-use Rattle.tape.specs.declared.commands.Command.{Command}
-use Rattle.tape.specs.declared.commands.Command.TheVariants.{Addressed, Plain, Marked, Token, End}
+use Rattle.tape.specs.Commands.{form_of}
 use Rattle.offsets.specs.Offsets.{out_of_reach, wraps, move_lines, move_all_marks, first_with, begins_with_06}
 
 -- ---- answers
@@ -41,14 +38,6 @@ moved_by false base address = address - base
 
 -- ---- one command
 
--- its addresses
-abbrev pub held : Command → List ℕ
-held (Addressed address indent) = address ∷ []
-held (Plain indent) = []
-held (Marked low high) = low ∷ high ∷ []
-held (Token kind count) = []
-held End = []
-
 -- a command with its addresses moved
 unfoldable pub move_command : (ℕ → ℕ) → Tape.Command → Tape.Command
 move_command f (Tape.new_line address indent) = Tape.new_line (let_some address else none then λ a. some (f a)) indent
@@ -56,18 +45,9 @@ move_command f (Tape.marked s) = Tape.marked (record { lowest = f s.lowest; high
 move_command f (Tape.new_token t) = Tape.new_token t
 move_command f Tape.end = Tape.end
 
--- the bytes of the command at an offset of a tape, in the other form
-abbrev pub moved_bytes : Bool → ℕ → List ℕ → ℕ → Command → List ℕ
-moved_bytes based base tape at c = write_command_by (other_form based) (move_command (moved_by based base) (command_in tape at c))
-
--- the command stands there and ends at `next`, the questions passed it, 18 too, and there is room for its bytes
-pub record Moves (based : Bool) (base : ℕ) (tape : List ℕ) (at next : ℕ) (c : Command) (out : Cursor) : Type 0 where
-  pub before : Q.Totals
-  pub after : Q.Totals
-  pub passes : Q.Passed (record { command = command_in tape at c; next = next; totals = after })
-      ≡ read_command_by (form_of based) tape at before
-  pub reaches : any (bad_for based base) (held c) ≡ false
-  pub room : Fits out (length (moved_bytes based base tape at c))
+-- the bytes of a command in the other form
+abbrev pub moved_bytes : Bool → ℕ → Tape.Command → List ℕ
+moved_bytes based base c = write_command_by (other_form based) (move_command (moved_by based base) c)
 
 -- ---- the whole tape
 

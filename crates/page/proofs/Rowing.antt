@@ -4,18 +4,18 @@ use native.Mathlib.Omega.{arith}
 use native.Mathlib.Nat.{le_refl}
 use mathlib.Core.Path.{◌≡◌, refl, sym, ap, ◌∙◌}
 use mathlib.Core.Bool.{Bool, true, false}
-use mathlib.Core.List.{List, [], ◌∷◌, ◌++◌, append_assoc, append-nil, flat_map}
+use mathlib.Core.List.{List, [], ◌∷◌, ◌++◌, append-nil, flat_map}
 use lib.Dec.{leb}
 use lib.ListN.{length, take, drop, length-append, length-take, length-drop, drop_of_length-le}
 use lib.Seq.{take_all, take-append_seam, drop-append_seam}
 use borrow.Author.Tests.{leb-true, leb-false}
 use Rattle.reference.specs.Text.{Text}
 use Rattle.reference.specs.Listing.{Token}
+use Rattle.reference.specs.Tape as Tape
 use Rattle.laws.proofs.Scans.{if-true, if-false}
-use Rattle.text.specs.Cursor.{Puts}
-use Rattle.text.specs.declared.cursor.Cursor.{Cursor}
-use Rattle.text.proofs.Cursors.{puts_none, then_puts, puts_as}
 use Rattle.printing.proofs.Decimals.{decimal-length}
+use Rattle.tape.specs.Held.{tokens_of}
+use Rattle.tape.proofs.walk.Spending.{bytes_of}
 use Rattle.page.specs.Cells.{cell, cells_by, cells, line_cells}
 use Rattle.page.proofs.Escaped.{escaped-length}
 
@@ -83,33 +83,6 @@ first_cell kind (x ∷ t) h = (unfold cells in
     ∙ ap (λ (r : Text). cell kind (take 512 (x ∷ t)) ++ r)
     (enough (length t) (length (drop 512 (x ∷ t))) kind (drop 512 (x ∷ t)) (omega (arith, length-drop 512 (x ∷ t))) (le_refl _)))
 
--- ---- texts put one behind the other
-
--- so far a part of a text is put, and the rest is to come
-pub record Coming (p₀ : Cursor) (all : Text) (p : Cursor) (rest : Text) : Type 0 where
-  pub done : Text
-  pub put : Puts p₀ done p
-  pub whole : done ++ rest ≡ all
-  pub begins : p₀.at ≤ length p₀.out.now
-
-pub coming_begins : {p : Cursor} (all : Text) → p.at ≤ length p.out.now → Coming p all p all
-coming_begins all h = record { done = []; put = puts_none; whole = refl; begins = h }
-
-module _ {p₀ p : Cursor} {all rest : Text} (w : Coming p₀ all p rest) where
-  pub coming_ends : rest ≡ [] → Puts p₀ all p
-  coming_ends e = puts_as w.put (sym (append-nil w.done) ∙ ap (λ (r : Text). w.done ++ r) (sym e) ∙ w.whole)
-
-  pub coming_on : (one : Text) {rest₁ : Text} {p₁ : Cursor} → rest ≡ one ++ rest₁ → Puts p one p₁ → Coming p₀ all p₁ rest₁
-  coming_on one {rest₁} e x =
-      record {
-        done = w.done ++ one;
-        put = then_puts w.put w.begins x;
-        whole = append_assoc w.done one rest₁ ∙ ap (λ (r : Text). w.done ++ r) (sym e) ∙ w.whole;
-        begins = w.begins;
-      }
-
--- ---- a text, piece by piece
-
 none_there : (s : Text) → length s ≤ 0 → s ≡ []
 none_there [] k = refl
 none_there (y ∷ s) k = absurd (omega arith)
@@ -144,3 +117,13 @@ no_tokens = refl
 pub next_token : (t : Token) (ts : List Token) → line_cells (t ∷ ts) ≡ cells t.kind t.text ++ line_cells ts
 unfolding line_cells flat_map
 next_token t ts = refl
+
+-- a line's cells have room in twelve times the bytes of its commands
+pub line-length : (cs : List Tape.Command) → length (line_cells (tokens_of cs)) ≤ 12 * bytes_of cs
+unfolding line_cells flat_map
+line-length [] = omega arith
+line-length (Tape.new_line address indent ∷ more) = omega arith
+line-length (Tape.marked s ∷ more) = line-length more
+line-length (Tape.new_token t ∷ more) =
+    omega (arith, length-append (cells t.kind t.text) (line_cells (tokens_of more)), cells-length t.kind t.text, line-length more)
+line-length (Tape.end ∷ more) = line-length more

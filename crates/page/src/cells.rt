@@ -1,12 +1,12 @@
 // The cells of a line, side by side: what is put for its tokens is theirs, and nothing else.
 ghost use Rattle.std.specs.Prelude.{◌+◌, ◌*◌, ◌≤◌, length};
 ghost use Rattle.text.specs.Cursor.{Fits, Puts, Written};
-ghost use Rattle.walk.specs.Held.{commands, tokens_of};
+ghost use Rattle.tape.specs.Held.{commands, tokens_of};
 ghost use Rattle.page.specs.Cells.{cells, line_cells};
 
 use crate::put_cell;
+use tape::walk::{Commands, Event};
 use text::Cursor;
-use walk::{Commands, Event};
 
 // Puts a text in its cell; a longer one than 512 bytes in several.
 pub fn put_cells(kind: u64, text: &[u8], out: &mut Cursor)
@@ -26,8 +26,8 @@ pub fn put_line(tape: &[u8], out: &mut [u8]) -> usize
     ensures { Written out.old 0 (line_cells (tokens_of (commands tape.now))) out.new result }
 {
     let mut line = Cursor::new(out, 0);
-    for event in Commands::new(tape) {
-        match event {
+    for c in Commands::<false>::new(tape) {
+        match c.event {
             Event::Line { .. } => break,
             Event::Marks { .. } => {}
             Event::Token { kind, text } => put_cells(kind, text, &mut line),

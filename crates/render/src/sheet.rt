@@ -4,13 +4,13 @@
 // promise.
 use crate::Cleaning;
 use crate::sink::{Output, Unwritten, count_of, put, put_number, put_text};
-use crate::walking::{Line, Lines, before, label_of, opens, symbol_of};
+use crate::walking::{Line, Lines, label_of, opens, symbol_of};
 use clean::{Finished, Tally};
 use lines::marks::Marks;
 use lines::rules::Rules;
 use lines::words::SYMBOL;
 use tallies::{Sizes, count_calls, count_casts, count_labels, count_sizes};
-use walk::{Commands, Event};
+use tape::walk::{Commands, Event};
 
 // A tick, or a cross: the latter is never seen unless the counting or the theorem is wrong.
 fn put_tick(out: Output, holds: bool) -> Result<(), Unwritten> {
@@ -64,19 +64,18 @@ fn put_callee(out: Output, cleaning: &Cleaning, callee: Option<&[u8]>) -> Result
 
 // A row for each name that is called, in the order of the first calls: no bracket opened behind the name in what stands before it.
 fn put_names(out: Output, cleaning: &Cleaning) -> Result<(), Unwritten> {
-    let mut commands = Commands::new(cleaning.raw);
     let mut symbol = None;
-    let mut from = cleaning.raw;
-    // Kept: `next` by hand: each turn notes what is left of the commands, which a `for` does not lend.
-    while let Some(event) = commands.next() {
+    for c in Commands::<false>::new(cleaning.raw) {
         if let Some((name, earlier)) = symbol
-            && opens(event)
+            && opens(c.event)
             && count_calls(earlier, name) == 0
         {
             put_callee(out, cleaning, Some(name))?;
         }
-        symbol = symbol_of(event).map(|name| (name, before(cleaning.raw, from)));
-        from = commands.as_bytes();
+        symbol = symbol_of(c.event).map(|name| (
+            name,
+            cleaning.raw.get(..c.at).unwrap_or_default(),
+        ));
     }
     Ok(())
 }
@@ -102,24 +101,28 @@ fn stays(cleaning: &Cleaning, callee: Option<&[u8]>) -> bool {
 // Kept: beside the loop of `put_names`, which holds what stands before each name besides: the two share how the last Symbol is held.
 fn calls_stay(cleaning: &Cleaning) -> bool {
     let mut symbol = None;
-    for event in Commands::new(cleaning.raw) {
+    for c in Commands::<false>::new(cleaning.raw) {
         if let Some(name) = symbol
-            && opens(event)
+            && opens(c.event)
             && !stays(cleaning, Some(name))
         {
             return false;
         }
-        symbol = symbol_of(event);
+        symbol = symbol_of(c.event);
     }
     stays(cleaning, None)
 }
 
 // ---- labels
 
-// Whether a line stands as the finished line of that number, with the same tokens.
+// Whether a line stands as the finished line of that number: unchanged, with its address and indent.
 fn stands(line: Line, cleaned: &[u8], place: Option<usize>) -> bool {
     match place.and_then(|q| Lines::new(cleaned).nth(q)) {
-        Some(finished) => finished.tokens == line.tokens,
+        Some(finished) => {
+            finished.tokens == line.tokens
+                && finished.address == line.address
+                && finished.indent == line.indent
+        }
         None => false,
     }
 }
@@ -189,8 +192,8 @@ fn is_held(cleaned: &[u8], s: Marks) -> bool {
 fn count_marks(cleaning: &Cleaning) -> (usize, usize) {
     let mut all = 0usize;
     let mut held = 0usize;
-    for event in Commands::new(cleaning.raw) {
-        if let Some(marks) = marks_of(event) {
+    for c in Commands::<false>::new(cleaning.raw) {
+        if let Some(marks) = marks_of(c.event) {
             all = all.saturating_add(1);
             held = held.saturating_add(usize::from(is_held(cleaning.cleaned, marks)));
         }

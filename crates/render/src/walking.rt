@@ -1,12 +1,12 @@
 // The lines of a tape that was accepted, or that a cleaning wrote, and what is called in it. (Read without promises: what the commands of
-// a tape are is crate walk's.)
+// a tape are is crate tape's.)
 ghost use Rattle.std.specs.Prelude.{length};
 ghost use Rattle.std.specs.Iterator.{at_most};
 
 use lines::marks::Marks;
 use lines::words::SYMBOL;
+use tape::walk::{Commands, Event};
 use text::same;
-use walk::{Commands, Event};
 
 // A line: its address and indent, its marks, and the bytes of its tokens.
 #[derive(Clone, Copy, Debug)]
@@ -18,7 +18,7 @@ pub(crate) struct Line<'a> {
 }
 
 // The first bytes of a text, up to what it ends with.
-pub(crate) fn before<'a>(bytes: &'a [u8], end: &[u8]) -> &'a [u8] {
+fn before<'a>(bytes: &'a [u8], end: &[u8]) -> &'a [u8] {
     &bytes[..bytes.len().saturating_sub(end.len())]
 }
 
@@ -26,10 +26,10 @@ pub(crate) fn before<'a>(bytes: &'a [u8], end: &[u8]) -> &'a [u8] {
 
 // What stands behind the tokens that some bytes begin with.
 fn behind_tokens(bytes: &[u8]) -> &[u8] {
-    let mut commands = Commands::new(bytes);
+    let mut commands = Commands::<false>::new(bytes);
     let mut end = bytes;
     // Kept: `next` by hand: what is left of the commands is asked, which a `for` does not lend.
-    while let Some(Event::Token { .. }) = commands.next() {
+    while let Some(Event::Token { .. }) = commands.next().map(|c| c.event) {
         end = commands.as_bytes();
     }
     end
@@ -53,13 +53,13 @@ impl<'a> Iterator for Lines<'a> {
     ghost remaining = { λ s. at_most (length s.rest.now) };
 
     fn next(&mut self) -> Option<Line<'a>> {
-        let mut commands = Commands::new(self.rest);
-        let Some(Event::Line { address, indent }) = commands.next() else {
+        let mut commands = Commands::<false>::new(self.rest);
+        let Event::Line { address, indent } = commands.next()?.event else {
             return None;
         };
         let mut body = commands.as_bytes();
         let mut marks = None;
-        if let Some(Event::Marks { low, high }) = commands.next() {
+        if let Some(Event::Marks { low, high }) = commands.next().map(|c| c.event) {
             marks = Some(Marks { low, high });
             body = commands.as_bytes();
         }
@@ -79,7 +79,7 @@ impl<'a> Iterator for Lines<'a> {
 
 // The token with the number n of a line, if there is one: its kind and its text.
 fn token(tokens: &[u8], n: usize) -> Option<(u64, &[u8])> {
-    match Commands::new(tokens).nth(n)? {
+    match Commands::<false>::new(tokens).nth(n)?.event {
         Event::Token { kind, text } => Some((kind, text)),
         _ => None,
     }

@@ -1,5 +1,6 @@
 -- The calls: what each question's answer, and what was written, say of the call. Assumes nothing.
 use Prim.Native.Nat.{ℕ, ◌≤◌, ◌<◌}
+use native.Mathlib.Omega.{arith}
 use mathlib.Core.Path.{◌≡◌, refl, sym, ap, ◌∙◌}
 use mathlib.Core.List.{List, [], ◌++◌, map}
 use lib.ListN.{length, drop}
@@ -17,12 +18,13 @@ use Rattle.reference.proofs.Reading.{ask-yes, ask_no, let_refused, let_is, refus
 use Rattle.reference.proofs.Guarantee.{Answered, answered}
 use Rattle.answers.specs.Answers.{Writes}
 use Rattle.tape.specs.Bytes.{Puts}
+use Rattle.tape.specs.Held.{commands, held, marks_of}
 use Rattle.tape.specs.Questions.{AcceptedTape}
 use Rattle.clean.specs.Replies.{Summary, summary, Leaves}
 use Rattle.offsets.proofs.Answering.{refused_call, written-call}
 use Rattle.sources.specs.Only.{COPY, only_tape, only_reply}
-use Rattle.sources.specs.Calls.{CopyOf, flag_of, Walkable, in_place_of, FlagsCleaned}
-use Rattle.sources.proofs.Cleaned.{cleaned_walkable, cleaned-marks}
+use Rattle.sources.specs.Calls.{CopyOf, flag_of, in_place_of, FlagsCleaned}
+use Rattle.sources.proofs.Cleaned.{cleaned-few, cleaned-marks}
 
 -- ---- the copy
 
@@ -91,10 +93,10 @@ module _ (rules : Rules) (tape work_a work_b out : List ℕ) where
       unfolding R.output_after behind
       out_is = l.output_is ∙ ap (λ (r : R.Reply). R.output_after r out) (finished-reply e).1 ∙ ap (λ (c : R.Cleaned). c.tape ++ drop (length cleaned.tape) out) known.cleaned
 
-      pub flags_walkable : 256 ≤ length flags → Walkable out' (length flags)
-      flags_walkable h = rw out_is (cleaned_walkable rules tape known.input bytes known.reads behind (length flags) h)
+      pub flags_fit : 256 ≤ length flags → length (held out') ≤ length flags
+      flags_fit h = rw out_is (omega (arith, cleaned-few rules tape known.input bytes known.reads behind))
 
-      pub flags-written : {flags' : List ℕ} {n : ℕ} → Puts flags 0 (map flag_of (marks_in out')) flags' n
+      pub flags-written : {flags' : List ℕ} {n : ℕ} → Puts flags 0 (map flag_of (marks_of (commands out'))) flags' n
           → FlagsCleaned rules tape work_a work_b out flags work-a' work-b' out' flags' (Passed n)
       flags-written p =
           record {
@@ -105,7 +107,7 @@ module _ (rules : Rules) (tape work_a work_b out : List ℕ) where
                 λ lines reads.
                 (let same : known.input ≡ lines = passed_inj (sym known.reads ∙ reads) in
                 let fs : List ℕ = map flag_of (finished_marks rules lines (marks_in tape)) in
-                let found : marks_in out' ≡ finished_marks rules lines (marks_in tape) =
-                ap marks_in out_is ∙ cleaned-marks rules tape known.input bytes known.reads behind ∙ ap (λ (i : Listing). finished_marks rules i (marks_in tape)) same in
+                let found : marks_of (commands out') ≡ finished_marks rules lines (marks_in tape) =
+                ap (λ (t : List ℕ). marks_of (commands t)) out_is ∙ cleaned-marks rules tape known.input bytes known.reads behind ∙ ap (λ (i : Listing). finished_marks rules i (marks_in tape)) same in
                 written-call (ap (λ (r : R.Reply). in_place_of r fs) (finished-reply e).1) (rw found at p));
           }

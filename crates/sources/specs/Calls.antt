@@ -1,9 +1,9 @@
 -- What the code's values mean. Assumes nothing.
-use Rattle.std.specs.Prelude.{ℕ, ◌+◌, ◌-◌, ◌≤◌, ◌<◌, ◌≡◌, Bool, true, false, eqb, length, get_or, set}
-use mathlib.Core.List.{List, [], ◌++◌, map, flat_map}
+use Rattle.std.specs.Prelude.{ℕ, ◌+◌, ◌-◌, ◌≤◌, ◌<◌, ◌≡◌, Bool, eqb, length, get_or, set}
+use mathlib.Core.List.{List, [], map}
 use Rattle.std.proofs.Math.Option.{Option, none, some}
 use Rattle.reference.specs.Control.{when◌then◌else◌}
-use Rattle.reference.specs.Lists.{is_some, count}
+use Rattle.reference.specs.Lists.{is_some}
 use Rattle.reference.specs.Listing.{Listing}
 use Rattle.reference.specs.Rules.{Rules}
 use Rattle.reference.specs.Spans.{Marks}
@@ -13,18 +13,21 @@ use Rattle.reference.specs.Marks.{comes_to, finished_marks}
 use Rattle.reference.specs.Tape as Tape
 use Rattle.reference.specs.Tape.{write_command}
 use Rattle.reference.specs.Questions as Q
-use Rattle.reference.specs.Questions.{read_command, is_end, read, marks_in}
+use Rattle.reference.specs.Questions.{read, marks_in}
 use Rattle.reference.specs.Reply as R
 use Rattle.reference.specs.Reply.{reply}
-use Rattle.reference.proofs.Commands.{Writable}
-use Rattle.reference.proofs.Limits.{All}
 use Rattle.answers.specs.Answers.{measured, output_after, Writes}
-use Rattle.text.specs.Cursor.{Fits}
-use Rattle.text.specs.declared.cursor.Cursor.{Cursor}
 use Rattle.tape.specs.Bytes.{Puts}
-use Rattle.tape.specs.Commands.{command_in}
-use Rattle.tape.specs.declared.commands.Command.{Command}
 use Rattle.sources.specs.Only.{only_tape, Lent, came_copy, came_cleaning, came_reply}
+
+-- ---- lines
+
+-- how many lines have begun with a command, n before it
+abbrev pub lines_after : Tape.Command → ℕ → ℕ
+lines_after (Tape.new_line address indent) n = n + 1
+lines_after (Tape.marked s) n = n
+lines_after (Tape.new_token t) n = n
+lines_after Tape.end n = n
 
 -- ---- one command of the copy
 
@@ -39,13 +42,6 @@ copied picked (Tape.marked s) = []
 copied picked (Tape.new_token t) = write_command (Tape.new_token t)
 copied picked Tape.end = write_command Tape.end
 
--- the command stands there and ends at `next`, the questions passed it, and there is room for its bytes in the copy
-pub record Copies (picked : Bool) (tape : List ℕ) (at next : ℕ) (c : Command) (out : Cursor) : Type 0 where
-  pub before : Q.Totals
-  pub after : Q.Totals
-  pub passes : Q.Passed (record { command = command_in tape at c; next = next; totals = after }) ≡ read_command tape at before
-  pub room : Fits out (length (copied picked (command_in tape at c)))
-
 -- what is written of an accepted tape
 abbrev pub CopyOf : ℕ → List ℕ → List ℕ → List ℕ → ℕ → Type 0
 CopyOf k tape out out' end = (lines : Listing) → read tape ≡ Q.Passed lines → Puts out 0 (only_tape k lines) out' end
@@ -55,24 +51,6 @@ CopyOf k tape out out' end = (lines : Listing) → read tape ≡ Q.Passed lines 
 -- 1 where a line has marks, else 0
 unfoldable pub flag_of : Marks → ℕ
 flag_of m = when is_some m then 1 else 0
-
-abbrev pub begins : Tape.Command → Bool
-begins (Tape.new_line address indent) = true
-begins (Tape.marked s) = false
-begins (Tape.new_token t) = false
-begins Tape.end = false
-
--- a command that is read back from its bytes, and is not the last
-abbrev pub Inner : Tape.Command → Type 0
-Inner c = Writable c × (is_end c ≡ false)
-
--- the bytes of some commands, FF, and anything behind it; there is room for a flag of each line
-pub record Walkable (tape : List ℕ) (room : ℕ) : Type 0 where
-  pub commands : List Tape.Command
-  pub behind : List ℕ
-  pub tape_is : tape ≡ flat_map write_command commands ++ (write_command Tape.end ++ behind)
-  pub inner : All Inner commands
-  pub enough : count begins commands ≤ room
 
 -- the flag of the last of n lines set
 unfoldable pub marked_last : ℕ → List ℕ → List ℕ
@@ -84,12 +62,6 @@ flags_after (Tape.new_line address indent) n flags = set flags n 0
 flags_after (Tape.marked s) n flags = marked_last n flags
 flags_after (Tape.new_token t) n flags = flags
 flags_after Tape.end n flags = flags
-
-abbrev pub lines_after : Tape.Command → ℕ → ℕ
-lines_after (Tape.new_line address indent) n = n + 1
-lines_after (Tape.marked s) n = n
-lines_after (Tape.new_token t) n = n
-lines_after Tape.end n = n
 
 -- there is room for them
 abbrev pub FlagFits : Tape.Command → ℕ → List ℕ → Type 0

@@ -1,12 +1,12 @@
 // The walk over a cleaned tape: which of its lines have marks. A cleaned tape may be longer than an accepted one, so no question is asked
 // of it: the walk goes by the commands that stand there.
 ghost use Rattle.std.specs.Prelude.{◌≡◌, map, ◌≤◌, length};
-ghost use Rattle.reference.specs.Questions.{marks_in};
 ghost use Rattle.tape.specs.Bytes.{Puts};
-ghost use Rattle.walk.specs.Walk.{shown};
-ghost use Rattle.sources.specs.Calls.{flag_of, Walkable, marked_last, FlagFits, Flags};
+ghost use Rattle.tape.specs.Held.{commands, held, marks_of};
+ghost use Rattle.tape.specs.Walk.{event_shown};
+ghost use Rattle.sources.specs.Calls.{flag_of, marked_last, FlagFits, Flags};
 
-use walk::{Commands, Event};
+use tape::walk::{Commands, Event};
 
 // Sets the flag of the last of n lines.
 fn mark_last(flags: &mut [u8], n: usize)
@@ -20,8 +20,8 @@ fn mark_last(flags: &mut [u8], n: usize)
 
 // The flags with one command more, n lines having begun before it.
 fn flag(event: &Event<'_>, flags: &mut [u8], n: usize) -> usize
-    requires { FlagFits (shown event.now) n flags.old }
-    ensures { Flags (shown event.now) n flags.old flags.new result }
+    requires { FlagFits (event_shown event.now) n flags.old }
+    ensures { Flags (event_shown event.now) n flags.old flags.new result }
 {
     match event {
         Event::Line { .. } => {
@@ -36,15 +36,15 @@ fn flag(event: &Event<'_>, flags: &mut [u8], n: usize) -> usize
     }
 }
 
-// Writes a flag for each line of the tape to the front of `flags`, 1 where it has marks, else 0, and says how many lines there are.
+// Writes a flag for each line that the tape holds to the front of `flags`, 1 where it has marks, else 0, and says how many lines there are.
 pub fn walk(tape: &[u8], flags: &mut [u8]) -> usize
-    requires { Walkable tape.now (length flags.old) }
-    ensures { Puts flags.old 0 (map flag_of (marks_in tape.now)) flags.new result }
+    requires { length (held tape.now) ≤ length flags.old }
+    ensures { Puts flags.old 0 (map flag_of (marks_of (commands tape.now))) flags.new result }
 {
     let mut n = 0;
     // Kept: lines are counted by hand: `enumerate` would count commands, and only some begin a line.
-    for event in Commands::new(tape) {
-        n = flag(&event, flags, n);
+    for c in Commands::<false>::new(tape) {
+        n = flag(&c.event, flags, n);
     }
     n
 }

@@ -4,12 +4,12 @@ use mathlib.Core.List.{List, ◌++◌, map, flat_map}
 use Rattle.reference.specs.Text.{Text}
 use Rattle.reference.specs.Listing.{Token, Line}
 use Rattle.reference.specs.Spans as Spans
-use Rattle.reference.specs.Tape.{new_line, new_token, write_command, write_line}
+use Rattle.reference.specs.Tape.{new_token, write_command, write_line}
 use Rattle.joining.specs.Carried.{marks_of, pair_at}
 use Rattle.text.specs.Cursor.{Fits}
 use Rattle.lines.specs.Lines.{origin_of, line_in}
 use Rattle.lines.specs.Marks.{highs_of, lows_of}
-use Rattle.tables.specs.Records.{blank, address_of, pair_of, line_of, Sound}
+use Rattle.tables.specs.Records.{blank, pair_of, line_of, Sound}
 use Rattle.text.specs.declared.cursor.Cursor.{Cursor}
 use Rattle.lines.specs.declared.marks.Marks.{Marks}
 use Rattle.lines.specs.declared.texts.Listing.{Listing}
@@ -17,10 +17,6 @@ use Rattle.tables.specs.declared.records.LineRecord.{LineRecord}
 
 abbrev pub token_bytes : Token → List ℕ
 token_bytes t = write_command (new_token t)
-
--- a line's own command
-abbrev pub line_bytes : LineRecord → List ℕ
-line_bytes r = write_command (new_line (address_of r) r.indent)
 
 abbrev pub tokens_bytes : List Token → List ℕ
 tokens_bytes ts = flat_map token_bytes ts

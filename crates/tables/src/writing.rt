@@ -1,14 +1,13 @@
-// The tape of a listing and of its lines' marks, put into a lent slice. The lines, at most 256, go through an array of records.
+// The tape of a listing and of its lines' marks, put into a lent slice, command by command (crate tape's `writing`). The lines, at most
+// 256, go through an array of records.
 ghost use Rattle.std.specs.Prelude.{◌≡◌, ◌+◌, ◌≤◌, ◌<◌, length};
 ghost use Rattle.std.proofs.Math.Seq.{paste};
-ghost use Rattle.reference.specs.Listing.{token};
 ghost use Rattle.reference.specs.Tape as Tape;
-ghost use Rattle.joining.specs.Carried.{marks_of};
 ghost use Rattle.lines.specs.Lines.{listing_of};
 ghost use Rattle.text.specs.Cursor.{Fits, Puts};
 ghost use Rattle.tables.specs.Tables.{marks_for};
 ghost use Rattle.tables.specs.Records.{record_of, records_of, Sound};
-ghost use Rattle.tables.specs.Writing.{token_bytes, line_bytes, tokens_bytes, lines_bytes, whole_line, marked_of};
+ghost use Rattle.tables.specs.Writing.{tokens_bytes, lines_bytes, whole_line, marked_of};
 ghost use Rattle.tables.specs.Writing.{recorded, paged_in, Writes, Wrote};
 ghost use Rattle.lines.specs.Texts.{Holds, Listed, tokens_of};
 ghost use Rattle.lines.specs.Marks.{highs_of, lows_of};
@@ -17,46 +16,10 @@ use crate::records::{BLANK, LineRecord, store_line};
 use lines::marks::Marks;
 use lines::texts::{Listing, Texts};
 use lines::words::{addressed, count, first, indent, kind, origin, text};
+use tape::writing;
 use text::Cursor;
 
 // ---- one line
-
-// Puts a line's command.
-fn put_line(line: LineRecord, out: &mut Cursor<'_>)
-    requires { (line.indent < 256) × Fits out.old (length (line_bytes line)) }
-    ensures { Puts out.old (line_bytes line) out.new }
-{
-    match line.address {
-        Some(address) => {
-            out.put_byte(1);
-            out.put_le(address, 8);
-        }
-        None => out.put_byte(2),
-    }
-    out.put_le(line.indent, 1);
-}
-
-// Puts the command of marks, if there are any.
-fn put_marks(marks: Marks, out: &mut Cursor<'_>)
-    requires { Fits out.old (length (Tape.write_marks (marks_of (marks.low, marks.high)))) }
-    ensures { Puts out.old (Tape.write_marks (marks_of (marks.low, marks.high))) out.new }
-{
-    if marks.is_some() {
-        out.put_byte(3);
-        out.put_le(marks.low, 8);
-        out.put_le(marks.high, 8);
-    }
-}
-
-// Puts a token's command.
-fn put_token(kind: u64, s: &[u8], out: &mut Cursor<'_>)
-    requires { (kind < 8) × Fits out.old (3 + length s.now) }
-    ensures { Puts out.old (token_bytes (token kind s.now)) out.new }
-{
-    out.put_le(16 + kind, 1);
-    out.put(&s.len().to_le_bytes()[..2]);
-    out.put(s);
-}
 
 // Puts the commands of a line's tokens.
 fn put_tokens(texts: &Texts<'_>, ws: &[u64], out: &mut Cursor<'_>)
@@ -65,7 +28,7 @@ fn put_tokens(texts: &Texts<'_>, ws: &[u64], out: &mut Cursor<'_>)
     ensures { Puts out.old (tokens_bytes (tokens_of texts.now ws.now)) out.new }
 {
     for w in ws {
-        put_token(kind(*w), text(texts, *w), out);
+        writing::put_token(kind(*w), text(texts, *w), out);
     }
 }
 
@@ -75,8 +38,11 @@ fn put_whole_line(texts: &Texts<'_>, tokens: &[u64], line: LineRecord, out: &mut
         × Fits out.old (length (whole_line (marked_of texts.now.tape.now texts.now.area.now tokens.now line))) }
     ensures { Puts out.old (whole_line (marked_of texts.now.tape.now texts.now.area.now tokens.now line)) out.new }
 {
-    put_line(line, out);
-    put_marks(line.marks, out);
+    let marks = line.marks;
+    writing::put_line::<false>(line.address, line.indent, out);
+    if marks.is_some() {
+        writing::put_marks::<false>(marks.low, marks.high, out);
+    }
     put_tokens(texts, &tokens[line.first..line.first + line.count], out);
 }
 
@@ -154,6 +120,6 @@ pub fn write(listing: &Listing<'_>, addresses: &[u64], marks: &[Marks], out: &mu
 {
     let mut out = Cursor::new(out, 0);
     put_lines(listing, addresses, marks, &mut out);
-    out.put_byte(255);
+    writing::put_end(&mut out);
     out.at
 }

@@ -18,7 +18,7 @@ use Rattle.reference.proofs.Cases.{by-if, zero_if}
 use Rattle.laws.proofs.Scans.{if-true, if-false, and_true, and_false, and_last}
 use lib.Dec.{eqb}
 use mir.Val.{bool_byte}
-use Rattle.walk.specs.Held.{tokens_of}
+use Rattle.tape.specs.Held.{tokens_of}
 use Rattle.tallies.specs.declared.casts.Casts.{Casts}
 use Rattle.tallies.specs.declared.calls.Calls.{Calls}
 use Rattle.tallies.specs.declared.labels.Shape.{Shape}

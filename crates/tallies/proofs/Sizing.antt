@@ -13,7 +13,7 @@ use Rattle.reference.specs.Tape as Tape
 use Rattle.laws.proofs.Scans.{if-true, if-false}
 use Rattle.tape.specs.Questions.{sizes_in}
 use Rattle.reference.specs.Control.{when◌then◌else◌}
-use Rattle.walk.specs.Held.{tokens_of, lines_of}
+use Rattle.tape.specs.Held.{tokens_of, lines_of}
 use Rattle.tallies.specs.declared.sizes.Sizes.{Sizes}
 use Rattle.tallies.specs.Counting.{Counts, CountsLine, first_tokens, sizes_of, sizes_with}
 use Rattle.tallies.proofs.Adding.{if-same}

@@ -16,17 +16,22 @@ use Rattle.reference.specs.Marks.{finished_marks}
 use Rattle.reference.specs.Tape.{write}
 use Rattle.reference.specs.Questions.{Passed, marks_in}
 use Rattle.reference.specs.Reply.{Cleaned, reply}
-use Rattle.reference.specs.Demand.{Cuts, done, kept, dropped, Within, Steps, Bounded, EachRound, Demand3}
+use Rattle.reference.specs.Demand.{Cuts, done, kept, dropped, Within, Each, Steps, Bounded, EachRound, Demand3}
 use Rattle.reference.proofs.Lines.{length-modify}
 use Rattle.reference.proofs.LittleEndian.{Bytes}
 use Rattle.reference.proofs.Marks.{finished_is}
 use Rattle.reference.proofs.Guarantee.{demand3-tape, answered}
-use Rattle.sources.proofs.Held.{each_last}
-use Rattle.walk.specs.Held.{held}
+use Rattle.tape.specs.Held.{held}
+use Rattle.tape.proofs.walk.Accepted.{held-write, held-read}
+use Rattle.sources.proofs.Unmarked.{holdable_cleaned, holdable_cleaned_marks}
 use Rattle.tallies.specs.Ticks.{Ticks}
-use Rattle.tallies.proofs.Holding.{held-read, held-cleaned}
 
 -- ---- over all steps
+
+each_last : (P : Listing → Type 0) (l : Listing) (ls : List Listing) → Each P (l ∷ ls) → P (last_of l ls)
+unfolding last_of
+each_last P l [] h = h.0
+each_last P l (m ∷ ls) h = each_last P m ls h.1
 
 calls_last : (c : Callee) (l : Listing) (ls : List Listing) → Steps l ls → calls c l ≤ calls c (last_of l ls)
 unfolding last_of
@@ -94,6 +99,9 @@ unfolding counts
 ticks rules tape work_a work_b output c bytes e =
     let a = answered rules tape work_a work_b output c e in
     let out : List ℕ = write (finished rules a.input) (finished_marks rules a.input (marks_in tape)) in
-    let left : held out ≡ finished rules a.input = ap held (sym (append-nil out)) ∙ held-cleaned tape a.input bytes a.reads rules [] in
+    let left : held out ≡ finished rules a.input =
+    ap held (sym (append-nil out))
+    ∙ held-write (finished rules a.input) (finished_marks rules a.input (marks_in tape)) []
+    (holdable_cleaned tape a.input bytes a.reads rules) (holdable_cleaned_marks tape a.input bytes a.reads rules) in
     rw a.cleaned
     (listing_ticks rules a.input (demand3-tape rules tape a.input a.reads) tape out (held-read tape a.input bytes a.reads) left)

@@ -9,7 +9,7 @@ use Rattle.reference.specs.Listing.{Token, is, Symbol}
 use Rattle.reference.specs.Shapes.{label_tokens}
 use Rattle.reference.specs.Claim.{sum, one_if, opens, calls_in, token_count, text_in, text}
 use Rattle.tape.specs.Questions as Totals
-use Rattle.walk.specs.Held.{tokens_of, lines_of}
+use Rattle.tape.specs.Held.{tokens_of, lines_of}
 use Rattle.tallies.specs.declared.sizes.Sizes.{Sizes}
 use Rattle.tallies.specs.declared.casts.Casts.{Casts}
 use Rattle.tallies.specs.declared.calls.Calls.{Calls}

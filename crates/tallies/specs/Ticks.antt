@@ -3,7 +3,7 @@
 use Rattle.std.specs.Prelude.{ℕ, ◌+◌, ◌≤◌, ◌≡◌, length}
 use mathlib.Core.List.{List, Sublistᴰ}
 use Rattle.reference.specs.Claim.{Callee, calls, label_lines, token_count, text}
-use Rattle.walk.specs.Held.{held}
+use Rattle.tape.specs.Held.{held}
 
 pub record Ticks (tape cleaned : List ℕ) (removed : ℕ) : Type 0 where
   pub calls_stay : (c : Callee) → calls c (held tape) ≤ calls c (held cleaned)

@@ -3,7 +3,7 @@ ghost use Rattle.std.specs.Prelude.{◌≡◌, [], ◌∷◌, refl};
 ghost use Rattle.std.proofs.Math.Option.{some};
 ghost use Rattle.reference.specs.Listing.{token};
 ghost use Rattle.reference.specs.Claim.{opens, calls, calls_in};
-ghost use Rattle.walk.specs.Held.{held};
+ghost use Rattle.tape.specs.Held.{held};
 ghost use Rattle.tallies.specs.Counting.{is_name, calls_with, with_commands};
 
 use crate::tally::{Tally, count};

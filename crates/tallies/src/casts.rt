@@ -3,7 +3,7 @@ ghost use Rattle.std.specs.Prelude.{◌≡◌, false, refl};
 ghost use Rattle.std.proofs.Math.Option.{none};
 ghost use Rattle.reference.specs.Listing.{token};
 ghost use Rattle.reference.specs.Claim.{is_call_mark, calls, calls_in};
-ghost use Rattle.walk.specs.Held.{held};
+ghost use Rattle.tape.specs.Held.{held};
 ghost use Rattle.tallies.specs.Counting.{casts_with, with_commands};
 
 use crate::tally::{Tally, count};

@@ -2,7 +2,7 @@
 ghost use Rattle.std.specs.Prelude.{◌≡◌, ◌+◌, length, refl};
 ghost use Rattle.reference.specs.Listing.{token};
 ghost use Rattle.reference.specs.Claim.{label_lines};
-ghost use Rattle.walk.specs.Held.{held};
+ghost use Rattle.tape.specs.Held.{held};
 ghost use Rattle.tallies.specs.Counting.{Shaped, label_in, labels_with, with_commands};
 
 use crate::tally::{Tally, count};

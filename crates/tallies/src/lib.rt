@@ -1,5 +1,5 @@
 // What a listing holds, counted from its tape: lines, tokens, bytes of text, calls, labels. The tape may be any bytes (`held` of crate
-// walk says which listing they hold); of an accepted tape, and of a cleaned one, the numbers are those of its listing, as the reference
+// tape says which listing they hold); of an accepted tape, and of a cleaned one, the numbers are those of its listing, as the reference
 // counts them.
 #![tactic(auto)]
 

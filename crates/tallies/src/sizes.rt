@@ -1,7 +1,7 @@
 // Lines, tokens and bytes of text.
 ghost use Rattle.std.specs.Prelude.{◌≡◌, ◌+◌, refl};
 ghost use Rattle.tape.specs.Questions.{sizes_in};
-ghost use Rattle.walk.specs.Held.{held};
+ghost use Rattle.tape.specs.Held.{held};
 ghost use Rattle.tallies.specs.Counting.{sizes_of, sizes_with};
 
 use crate::tally::{Tally, count};

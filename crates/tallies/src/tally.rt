@@ -3,10 +3,10 @@ ghost use Rattle.std.specs.Prelude.{◌≡◌, ℕ, List, [], ◌∷◌, ◌+◌
 ghost use Rattle.reference.specs.Listing.{token};
 ghost use Rattle.reference.specs.Spans.{Span};
 ghost use Rattle.reference.specs.Tape.{Command, new_token, marked};
-ghost use Rattle.walk.specs.Held.{commands};
+ghost use Rattle.tape.specs.Held.{commands};
 ghost use Rattle.tallies.specs.Counting.{Counts, CountsLine};
 
-use walk::{Commands, Event};
+use tape::walk::{Commands, Event};
 
 // What is counted so far.
 pub(crate) trait Tally: Copy {
@@ -45,8 +45,8 @@ pub(crate) fn count<T: Tally>(start: T, tape: &[u8]) -> T::Total
     ensures { result ≡ T.total start (commands tape.now) }
 {
     let mut so_far = start;
-    for event in Commands::new(tape) {
-        so_far = match event {
+    for c in Commands::<false>::new(tape) {
+        so_far = match c.event {
             Event::Line { .. } => so_far.line(),
             Event::Marks { .. } => so_far,
             Event::Token { kind, text } => so_far.token(kind, text),

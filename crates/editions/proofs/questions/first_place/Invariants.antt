@@ -1,13 +1,17 @@
--- What the loops of `editions::questions::first_place` keep true, and what falls at each turn.
-use Prim.Native.Nat.{◌-◌}
-use lib.ListN.{length}
-use Rattle.editions.proofs.Asking.{Unearned}
+-- What the loop of `editions::questions::first_place` keeps true.
+use Rattle.std.proofs.Common.{◌≡◌}
+use Rattle.reference.specs.Tape.{old}
+use Rattle.tape.specs.Held.{places, first_where}
+use Rattle.tape.specs.Walk.{left}
+use Rattle.editions.proofs.Asking.{earning}
 use Rattle.editions.specs.contracts.questions.first_place as code
 use denote.Param.{number}
 use Rattle.editions.proofs.questions.first_place.Given as goal
 
-abbrev pub invariant-loop-command : goal.invariant-loop-command
-invariant-loop-command g l = Unearned (code.UP-type (number g.row.UP)) l.tape l.at
-
-abbrev pub decreases-loop-command : goal.decreases-loop-command
-decreases-loop-command g l = length l.tape - l.at
+-- the leftmost is still to come
+abbrev pub invariant-loop-c : goal.invariant-loop-c
+invariant-loop-c g l =
+    record {
+      same : first_where (earning (code.UP-type (number g.row.UP))) (left old l.c-iterator)
+          ≡ first_where (earning (code.UP-type (number g.row.UP))) (places l.tape);
+    }

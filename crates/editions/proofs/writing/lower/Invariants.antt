@@ -1,11 +1,16 @@
--- What the loop of `editions::writing::lower` keeps true, and what falls at each turn.
-use Prim.Native.Nat.{◌-◌}
-use lib.ListN.{length}
-use Rattle.editions.proofs.Copying.{Going}
+-- What the loop of `editions::writing::lower` keeps true.
+use Rattle.reference.specs.Tape.{old}
+use Rattle.reference.proofs.Limits.{All}
+use Rattle.tape.specs.Held.{places}
+use Rattle.tape.specs.Walk.{left}
+use Rattle.tape.proofs.walk.Loops.{Putting}
+use Rattle.editions.proofs.Copying.{lowered, Fitting, Older}
 use Rattle.editions.proofs.writing.lower.Given as goal
 
-abbrev pub invariant-loop-command : goal.invariant-loop-command
-invariant-loop-command l = Going l.tape l.initial.out l.out l.at
-
-abbrev pub decreases-loop-command : goal.decreases-loop-command
-decreases-loop-command l = length l.tape - l.at
+abbrev pub invariant-loop-c : goal.invariant-loop-c
+invariant-loop-c l =
+    record {
+      put : Putting lowered (places l.tape) l.initial.out l.out (left old l.c-iterator);
+      fit : All Fitting (left old l.c-iterator);
+      older : All Older (left old l.c-iterator);
+    }

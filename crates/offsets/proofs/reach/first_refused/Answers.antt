@@ -1,44 +1,35 @@
--- `offsets::reach::first_refused` meets its contract: the first such command is still to come. Assumes nothing.
+-- `offsets::reach::first_refused` meets its contract. Assumes nothing.
 use native.Mathlib.Omega.{arith}
-use mathlib.Core.Path.{sym, ◌∙◌}
+use mathlib.Core.Path.{sym, ap, ◌∙◌}
 use Rattle.tape.specs.Commands.{form_of}
-use Rattle.tape.proofs.questions.Asking.{ends_same}
-use Rattle.tape.proofs.questions.Reading.{moves}
+use Rattle.tape.specs.Held.{first_where}
+use Rattle.tape.specs.Walk.{left, shown}
+use Rattle.tape.proofs.walk.Places.{first_here, first_later, first-none}
 use Rattle.offsets.specs.Calls.{bad_for}
-use Rattle.offsets.proofs.Searching.{search_begins, search_found, search_ends, search_on, search_stops, held_same}
+use Rattle.offsets.proofs.Searching.{bad_command, first-place}
 use Rattle.offsets.specs.contracts.reach.first_refused as code
 use denote.Param.{number}
 use Rattle.offsets.proofs.reach.first_refused.Goals as goal
 
-pub loop-step-init : goal.loop-step-init
-loop-step-init g c = let a = c.args in
-    rw c.header_of-at.ensures (search_begins (form_of (code.BASED-type (number g.row.BASED))) (bad_for (code.BASED-type (number g.row.BASED)) a.base) a.tape.now)
-
-pub returns : goal.returns
-returns g c = absurd (search_stops c.loop-step.invariant c.requires.reads c.step.result c.in_default.not-Ok c.step.ensures.result_value)
+pub loop-c-init : goal.loop-c-init
+loop-c-init g c = let test = bad_command (bad_for (code.BASED-type (number g.row.BASED)) c.args.base) in
+    record { same = ap (first_where test) (rw c.into_iter-c-iterator.ensures.into_iter_gives c.new-c-items.ensures) }
 
 pub returns-then-has_refused : goal.returns-then-has_refused
-returns-then-has_refused g c = let l = c.loop-step in
-    let tape = c.args.tape.now in
-    let p = c.in-Ok in
-    let e = p.ensures.result_value in
-    search_found l.invariant e (rw (held_same tape l.at p.step.command) (sym c.has_refused.ensures ∙ c.if-has_refused.true))
+returns-then-has_refused g c = let b = code.BASED-type (number g.row.BASED) in
+    let test = bad_command (bad_for b c.args.base) in
+    let found = first_here test (shown c.in-Some.c) (left (form_of b) c.next.new.self) (sym c.has_refused.ensures ∙ c.if-has_refused.true) in
+    sym (first-place (form_of b) (bad_for b c.args.base) c.args.tape.now c.requires.lines (λ i. omega (arith, c.type_inv.tape i)) c.requires.reads
+    ∙ sym c.loop-c.invariant.same ∙ ap (first_where test) c.in-Some.ensures.steps ∙ found)
 
-pub returns-then-is_end : goal.returns-then-is_end
-returns-then-is_end g c = let l = c.loop-step in
-    let a = c.args in
-    let p = c.in-Ok in
-    let e = p.ensures.result_value in
-    search_ends l.invariant e (ends_same (form_of (code.BASED-type (number g.row.BASED))) a.tape.now l.at p.step.command ∙ sym c.is_end.ensures ∙ c.if-is_end.true)
+pub loop-c-preserved : goal.loop-c-preserved
+loop-c-preserved g c = let b = code.BASED-type (number g.row.BASED) in
+    let test = bad_command (bad_for b c.args.base) in
+    let later = first_later test (shown c.in-Some.c) (left (form_of b) c.next.new.self) (sym c.has_refused.ensures ∙ c.if-has_refused.false) in
+    record { same = sym later ∙ sym (ap (first_where test) c.in-Some.ensures.steps) ∙ c.loop-c.invariant.same }
 
-pub loop-step-smaller : goal.loop-step-smaller
-loop-step-smaller g c = let e = c.in-Ok.ensures.result_value in
-    omega (arith, moves c.loop-step.invariant.reads e)
-
-pub loop-step-preserved : goal.loop-step-preserved
-loop-step-preserved g c = let l = c.loop-step in
-    let a = c.args in
-    let p = c.in-Ok in
-    let e = p.ensures.result_value in
-    search_on l.invariant e (ends_same (form_of (code.BASED-type (number g.row.BASED))) a.tape.now l.at p.step.command ∙ sym c.is_end.ensures ∙ c.if-is_end.false)
-    (rw (held_same a.tape.now l.at p.step.command) (sym c.has_refused.ensures ∙ c.if-has_refused.false))
+pub returns : goal.returns
+returns g c = let b = code.BASED-type (number g.row.BASED) in
+    let test = bad_command (bad_for b c.args.base) in
+    sym (first-place (form_of b) (bad_for b c.args.base) c.args.tape.now c.requires.lines (λ i. omega (arith, c.type_inv.tape i)) c.requires.reads
+    ∙ sym c.loop-c.invariant.same ∙ ap (first_where test) c.in-None.ensures.steps.0 ∙ first-none test)

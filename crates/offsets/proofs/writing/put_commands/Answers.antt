@@ -1,45 +1,61 @@
--- `offsets::writing::put_commands` meets its contract: what was read so far stands in the output, moved. Assumes nothing.
+-- `offsets::writing::put_commands` meets its contract. Assumes nothing.
 use native.Mathlib.Omega.{arith}
-use mathlib.Core.Path.{sym, ◌∙◌}
+use mathlib.Core.Path.{◌≡◌}
+use mathlib.Core.List.{flat_map}
+use Rattle.reference.proofs.LittleEndian.{Bytes}
 use Rattle.tape.specs.Commands.{form_of}
-use Rattle.tape.proofs.questions.Asking.{ends_same}
-use Rattle.tape.proofs.questions.Reading.{moves}
-use Rattle.offsets.proofs.Searching.{search_stops}
-use Rattle.offsets.proofs.Putting.{writing_begins, writing_moves, writing_on, writing_ends}
+use Rattle.tape.specs.Held.{places_by}
+use Rattle.tape.specs.Walk.{left, shown, event_shown}
+use Rattle.tape.proofs.walk.Accepted.{byte_of}
+use Rattle.tape.proofs.walk.Loops.{coming_begins, putting_fits, putting_on, putting_ends}
+use Rattle.text.proofs.Cursors.{room_left}
+use Rattle.offsets.proofs.Putting.{bytes_of, all_movable, all-room, whole_put, end_is}
 use Rattle.offsets.specs.contracts.writing.put_commands as code
 use denote.Param.{number}
 use Rattle.offsets.proofs.writing.put_commands.Goals as goal
 
-pub loop-step-init : goal.loop-step-init
-loop-step-init g c = let a = c.args in
-    rw c.header_of-at.ensures (writing_begins (code.BASED-type (number g.row.BASED)) a.base a.tape.now a.out.now)
+pub loop-c-init : goal.loop-c-init
+loop-c-init g c = let b = code.BASED-type (number g.row.BASED) in
+    let a = c.args in
+    let k = c.requires.0 in
+    let bytes : Bytes a.tape.now = λ i. omega (arith, c.type_inv.tape i) in
+    let e : left (form_of b) c.into_iter-c-iterator.result ≡ places_by (form_of b) a.tape.now = rw c.into_iter-c-iterator.ensures.into_iter_gives c.new-c-items.ensures in
+    record {
+      put = rw e (coming_begins (flat_map (bytes_of b a.base a.tape.now) (places_by (form_of b) a.tape.now))
+          (omega (arith, c.requires.1, all-room b a.base a.tape.now k.read.lines bytes k.read.reads)));
+      each = rw e (all_movable b a.base a.tape.now k bytes);
+    }
+
+pub put_moved-requires : goal.put_moved-requires
+put_moved-requires g c = let b = code.BASED-type (number g.row.BASED) in
+    let a = c.args in
+    let w = c.loop-c.invariant in
+    let m = rw c.in-Some.ensures.steps at w.each in (
+      m.0.1,
+      byte_of (form_of b) (event_shown c.in-Some.c.event) m.0.0,
+      putting_fits (bytes_of b a.base a.tape.now) (places_by (form_of b) a.tape.now) w.put (shown c.in-Some.c) (left (form_of b) c.next.new.self) c.in-Some.ensures.steps,
+    )
+
+pub loop-c-preserved : goal.loop-c-preserved
+loop-c-preserved g c = let b = code.BASED-type (number g.row.BASED) in
+    let a = c.args in
+    let w = c.loop-c.invariant in
+    record {
+      put = putting_on (bytes_of b a.base a.tape.now) (places_by (form_of b) a.tape.now) w.put (shown c.in-Some.c) (left (form_of b) c.next.new.self) c.in-Some.ensures.steps c.put_moved.ensures;
+      each = (rw c.in-Some.ensures.steps at w.each).1;
+    }
+
+pub put_end-requires : goal.put_end-requires
+put_end-requires g c = let b = code.BASED-type (number g.row.BASED) in
+    let a = c.args in
+    let k = c.requires.0 in
+    let bytes : Bytes a.tape.now = λ i. omega (arith, c.type_inv.tape i) in
+    let w = putting_ends (bytes_of b a.base a.tape.now) (places_by (form_of b) a.tape.now) c.loop-c.invariant.put c.in-None.ensures.steps.0 in
+    room_left w 1 (omega (arith, c.requires.1, all-room b a.base a.tape.now k.read.lines bytes k.read.reads))
 
 pub returns : goal.returns
-returns g c = absurd (search_stops c.loop-step.invariant.searching c.requires.0.read.reads c.step.result c.in_default.not-Ok c.step.ensures.result_value)
-
-pub put_command-requires : goal.put_command-requires
-put_command-requires g c = let l = c.loop-step in
+returns g c lines reads = let b = code.BASED-type (number g.row.BASED) in
     let a = c.args in
-    let p = c.in-Ok in
-    let e = p.ensures.result_value in
-    writing_moves (code.BASED-type (number g.row.BASED)) a.base a.tape.now l.invariant p.step.command e c.requires.0 c.requires.1
-
-pub returns-then-is_end : goal.returns-then-is_end
-returns-then-is_end g c = let l = c.loop-step in
-    let a = c.args in
-    let p = c.in-Ok in
-    let e = p.ensures.result_value in
-    writing_ends (code.BASED-type (number g.row.BASED)) a.base a.tape.now l.invariant p.step.command e c.requires.0 c.requires.1 c.put_command.ensures
-    (ends_same (form_of (code.BASED-type (number g.row.BASED))) a.tape.now l.at p.step.command ∙ sym c.is_end.ensures ∙ c.if-is_end.true)
-
-pub loop-step-smaller : goal.loop-step-smaller
-loop-step-smaller g c = let e = c.in-Ok.ensures.result_value in
-    omega (arith, moves c.loop-step.invariant.searching.reads e)
-
-pub loop-step-preserved : goal.loop-step-preserved
-loop-step-preserved g c = let l = c.loop-step in
-    let a = c.args in
-    let p = c.in-Ok in
-    let e = p.ensures.result_value in
-    writing_on (code.BASED-type (number g.row.BASED)) a.base a.tape.now l.invariant p.step.command e c.requires.0 c.requires.1 c.put_command.ensures
-    (ends_same (form_of (code.BASED-type (number g.row.BASED))) a.tape.now l.at p.step.command ∙ sym c.is_end.ensures ∙ c.if-is_end.false)
+    let bytes : Bytes a.tape.now = λ i. omega (arith, c.type_inv.tape i) in
+    let w = putting_ends (bytes_of b a.base a.tape.now) (places_by (form_of b) a.tape.now) c.loop-c.invariant.put c.in-None.ensures.steps.0 in
+    whole_put b a.base a.tape.now lines bytes reads c.requires.1 w (rw (end_is b) c.put_end.ensures)

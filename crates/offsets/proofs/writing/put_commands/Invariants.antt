@@ -1,15 +1,18 @@
--- What the loops of `offsets::writing::put_commands` keep true, and what falls at each turn.
-use Prim.Native.Nat.{◌-◌}
-use lib.ListN.{length}
-use Rattle.tape.specs.Questions.{totals_of}
-use Rattle.offsets.proofs.Putting.{Writing}
+-- What the loop of `offsets::writing::put_commands` keeps true.
+use Rattle.tape.specs.Commands.{form_of}
+use Rattle.tape.specs.Held.{places_by}
+use Rattle.tape.specs.Walk.{left}
+use Rattle.reference.proofs.Limits.{All}
+use Rattle.tape.proofs.walk.Loops.{Putting}
+use Rattle.offsets.proofs.Putting.{bytes_of, Movable}
 use Rattle.offsets.specs.contracts.writing.put_commands as code
 use denote.Param.{number}
 use Rattle.offsets.proofs.writing.put_commands.Given as goal
 
--- what was read so far stands in the output, moved
-abbrev pub invariant-loop-step : goal.invariant-loop-step
-invariant-loop-step g l = Writing (code.BASED-type (number g.row.BASED)) l.base l.tape l.initial.out l.at (totals_of l.totals) l.out
-
-abbrev pub decreases-loop-step : goal.decreases-loop-step
-decreases-loop-step g l = length l.tape - l.at
+abbrev pub invariant-loop-c : goal.invariant-loop-c
+invariant-loop-c g l =
+    record {
+      put : Putting (bytes_of (code.BASED-type (number g.row.BASED)) l.base l.tape) (places_by (form_of (code.BASED-type (number g.row.BASED))) l.tape)
+          l.initial.out l.out (left (form_of (code.BASED-type (number g.row.BASED))) l.c-iterator);
+      each : All (Movable (code.BASED-type (number g.row.BASED)) l.base l.tape) (left (form_of (code.BASED-type (number g.row.BASED))) l.c-iterator);
+    }

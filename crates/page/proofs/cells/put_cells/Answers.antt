@@ -2,7 +2,8 @@
 use Rattle.std.proofs.Common.{◌≡◌, ℕ, List, ◌+◌, length, min, ap, ◌∙◌, arith, length-append}
 use Rattle.text.proofs.Cursors.{room_left}
 use Rattle.page.specs.Cells.{cell, cells}
-use Rattle.page.proofs.Rowing.{cell-length, coming_begins, coming_on, coming_ends, next_cell, no_cells}
+use Rattle.tape.proofs.walk.Loops.{coming_begins, coming_on, coming_ends}
+use Rattle.page.proofs.Rowing.{cell-length, cells-length, next_cell, no_cells}
 use Rattle.page.proofs.cells.put_cells.Goals as goal
 
 pub loop-piece-init : goal.loop-piece-init
@@ -11,7 +12,7 @@ loop-piece-init c =
     rw c.into_iter-piece-iterator.ensures.into_iter_gives c.chunks-piece-items.ensures.rest in
     record {
       size = rw c.into_iter-piece-iterator.ensures.into_iter_gives c.chunks-piece-items.ensures.size;
-      put = rw e (coming_begins (cells c.args.kind c.args.text.now) (omega arith));
+      put = rw e (coming_begins (cells c.args.kind c.args.text.now) (omega (arith, c.requires, cells-length c.args.kind c.args.text.now)));
       room = λ h. rw e c.requires;
     }
 

@@ -2,7 +2,7 @@
 use Rattle.std.proofs.Common.{◌+◌, ◌*◌, ◌<◌, ◌≡◌, length}
 use Rattle.text.specs.Cursor.{Fits}
 use Rattle.page.specs.Cells.{cells}
-use Rattle.page.proofs.Rowing.{Coming}
+use Rattle.tape.proofs.walk.Loops.{Coming}
 use Rattle.page.proofs.cells.put_cells.Given as goal
 
 abbrev pub invariant-loop-piece : goal.invariant-loop-piece

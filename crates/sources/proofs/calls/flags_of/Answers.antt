@@ -1,7 +1,7 @@
 -- `sources::calls::flags_of` meets its contract. Assumes nothing.
 use native.Mathlib.Omega.{arith}
 use Rattle.lines.specs.Rules.{rules_of}
-use Rattle.sources.proofs.Answering.{flags_refused, flags_walkable, flags-written}
+use Rattle.sources.proofs.Answering.{flags_refused, flags_fit, flags-written}
 use mathlib.Core.Path.{sym, ap, ◌∙◌}
 use Rattle.std.proofs.lemmas.Result.{err_from_is_err_and}
 use Rattle.clean.specs.Replies.{answer_of}
@@ -10,7 +10,7 @@ use Rattle.sources.proofs.calls.flags_of.Goals as goal
 pub walk-requires : goal.walk-requires
 walk-requires c =
     let a = c.args in
-    flags_walkable (rules_of a.rules) a.tape.now a.work_a.now a.work_b.now a.out.now a.flags.now c.clean.ensures.cleans.leaves
+    flags_fit (rules_of a.rules) a.tape.now a.work_a.now a.work_b.now a.out.now a.flags.now c.clean.ensures.cleans.leaves
     (λ i. omega (arith, c.type_inv.tape i)) (sym (ap answer_of c.in_ok-clean.was) ∙ c.clean.ensures.result_value) c.requires.1
 
 pub returns-in_err-clean : goal.returns-in_err-clean

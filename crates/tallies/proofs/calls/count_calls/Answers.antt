@@ -2,7 +2,7 @@
 use native.Mathlib.Omega.{arith}
 use mathlib.Core.Path.{refl}
 use mathlib.Core.Bool.{false}
-use Rattle.walk.specs.Held.{commands, tokens_of}
+use Rattle.tape.specs.Held.{commands, tokens_of}
 use Rattle.tallies.proofs.Adding.{calls-zero}
 use Rattle.tallies.proofs.calls.count_calls.Goals as goal
 

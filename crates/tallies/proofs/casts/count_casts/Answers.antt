@@ -1,6 +1,6 @@
 -- `tallies::casts::count_casts` meets its contract. Assumes nothing.
 use native.Mathlib.Omega.{arith}
-use Rattle.walk.specs.Held.{commands, tokens_of}
+use Rattle.tape.specs.Held.{commands, tokens_of}
 use Rattle.tallies.proofs.Adding.{casts_zero}
 use Rattle.tallies.proofs.casts.count_casts.Goals as goal
 

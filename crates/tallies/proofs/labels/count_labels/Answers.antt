@@ -1,6 +1,6 @@
 -- `tallies::labels::count_labels` meets its contract. Assumes nothing.
 use native.Mathlib.Omega.{arith}
-use Rattle.walk.specs.Held.{commands, tokens_of, held}
+use Rattle.tape.specs.Held.{commands, tokens_of, held}
 use Rattle.tallies.proofs.Adding.{labels_zero, label-sum}
 use Rattle.tallies.proofs.labels.count_labels.Goals as goal
 

@@ -1,6 +1,6 @@
 -- `tallies::sizes::count_sizes` meets its contract. Assumes nothing.
 use mathlib.Core.Path.{ap, ◌∙◌}
-use Rattle.walk.specs.Held.{commands}
+use Rattle.tape.specs.Held.{commands}
 use Rattle.tallies.specs.Counting.{sizes_of}
 use Rattle.tallies.proofs.Sizing.{sizes_all}
 use Rattle.tallies.proofs.sizes.count_sizes.Goals as goal

@@ -1,0 +1,2 @@
+-- Laws of the commands that are put into a lent slice.
+pub mod Putting
