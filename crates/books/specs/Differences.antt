@@ -55,6 +55,8 @@ pub record Differences : Type 0 where
   pub slots_overlap : gives ("var_8 = 5;" ∷ "var_4 = 6;" ∷ "rbx = var_8;" ∷ []) ("var_4 = 6;" ∷ "rbx = 5;" ∷ [])
   -- g may be handed the address of var_8; only `&var_8` would spare it
   pub frame_by_index : gives ("var_8 = 5;" ∷ "g(rsp + rdx * 8);" ∷ "h(var_8);" ∷ []) ("g(rsp + rdx * 8);" ∷ "h(5);" ∷ [])
+  -- four bytes were stored, and eight are read
+  pub slot_width : gives ("var_8 = ecx;" ∷ "rbx = var_8;" ∷ []) ("rbx = ecx;" ∷ [])
   -- ---- parts of registers: section 3.4.1.1
   -- where rax held 256, it holds 261 after `al = 5;`
   pub al_for_rax : (read (the "rax") (write (the "al") 256 5) ≡ 261) × gives ("al = 5;" ∷ "rbx = rax;" ∷ []) ("rbx = 5;" ∷ [])
@@ -80,6 +82,10 @@ pub record Differences : Type 0 where
   pub sum_narrowed :
       (read (the "rcx") (write (the "ecx") 0 0xffffffff) + 8 ≡ 0x100000007) × (read (the "eax") (0xffffffff + 8) ≡ 7)
       × gives ("ecx = edx;" ∷ "rax = rcx + 8;" ∷ []) ("rax = edx + 8;" ∷ [])
+  -- where cl held 255, al was 0
+  pub byte_sum_widened :
+      (read (the "al") (255 + 1) ≡ 0)
+      × gives ("al = cl + 1;" ∷ "if (al == 0) {" ∷ " f();" ∷ "}" ∷ []) ("if ((cl + 1) == 0) {" ∷ " f();" ∷ "}" ∷ [])
   -- MOVSXD made rax -1; and al was below 0
   pub sign_extension :
       gives ("ecx = 0xffffffff;" ∷ "rax = (int64_t)ecx;" ∷ []) ("rax = (int64_t)0xffffffff;" ∷ [])
@@ -175,6 +181,8 @@ pub record Differences : Type 0 where
   pub second_statement : gives ("rax = rcx;" ∷ "rcx = 1; rbx = rax;" ∷ []) ("rcx = 1; rbx = rcx;" ∷ [])
   -- the line that the joined expression comes from had two
   pub two_statements_moved : gives ("rax = rsi; rsi = rdi;" ∷ "h(rax);" ∷ []) ("h(rsi; rsi = rdi);" ∷ [])
+  -- rcx grew in any case
+  pub increment_under_condition : gives ("rax = rcx++;" ∷ "if (rsi) rbx = rax;" ∷ []) ("if (rsi) rbx = rcx++;" ∷ [])
   -- rbx was rcx before it grew
   pub input_changed : gives ("rax = rcx;" ∷ "rdx = rcx++;" ∷ "rbx = rax;" ∷ []) ("rdx = rcx++;" ∷ "rbx = rcx;" ∷ [])
   -- rcx was read before f was called, which may leave anything in it
@@ -192,15 +200,20 @@ pub record Differences : Type 0 where
   pub glued_punctuators :
       gives ("rax = *rcx;" ∷ "rbx = (rdx)/rax;" ∷ []) ("rbx = (rdx)/*rcx;" ∷ [])
       × gives ("rax = &var_8;" ∷ "rbx = rcx&rax;" ∷ []) ("rbx = rcx&&var_8;" ∷ [])
+  -- rbx was an element, and is the address of one
+  pub postfix_on_unary : gives ("rax = &table;" ∷ "rbx = rax[2];" ∷ []) ("rbx = &table[2];" ∷ [])
   -- C adds elements to an address, and has no `&` of one
   pub address_in_a_sum :
       gives ("rcx = &table;" ∷ "rdx = rcx + 8;" ∷ []) ("rdx = &table + 8;" ∷ [])
       × gives ("rcx = &table;" ∷ "rdx = rcx & 7;" ∷ []) ("rdx = &table & 7;" ∷ [])
-  -- eax was compared with its sign, and what it was read from has none
+  -- eax was compared with its sign; what it was read from has none, and neither has the number
   pub signed_comparison :
       turns
       (line (R "eax" ∷ P " = " ∷ K "*(uint32_t *)" ∷ R "rcx" ∷ P ";" ∷ []) ∷ said "if (eax < 0) {" ∷ said " f();" ∷ said "}" ∷ [])
       (line (K "if" ∷ P " (" ∷ K "*(uint32_t *)" ∷ R "rcx" ∷ P " < " ∷ N "0" ∷ P ") {" ∷ []) ∷ said " f();" ∷ said "}" ∷ [])
+      × gives
+      ("eax = 0xffffffff;" ∷ "if (ecx < eax) {" ∷ " f();" ∷ "}" ∷ [])
+      ("if (ecx < 0xffffffff) {" ∷ " f();" ∷ "}" ∷ [])
   -- four writes that the Rust takes for reads: `%=`, `++` in front, `=` without spaces, a member
   pub unknown_write :
       gives ("rax = rcx;" ∷ "rax %= rdx;" ∷ "f(rcx);" ∷ []) ("rcx %= rdx;" ∷ "f(rcx);" ∷ [])
