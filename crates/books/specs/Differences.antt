@@ -11,7 +11,7 @@ use Rattle.reference.specs.Claim.{calls}
 use Rattle.books.specs.Tables.{words, ◌∈◌}
 use Rattle.books.specs.Registers.{register, read, write, the}
 use Rattle.books.specs.Constants.{Decimal, Octal, Hexadecimal, Unsuffixed, integer_suffix, Constant}
-use Rattle.books.specs.Notation.{listing, said, T, R, N, K, P, line, gives, gives_parts, gives_32_bit, turns}
+use Rattle.books.specs.Notation.{listing, said, T, R, N, K, S, P, line, gives, gives_parts, gives_32_bit, turns}
 
 -- the book has no such register, and the Rust has it as a family of its own
 abbrev invented : String → Type 0
@@ -122,10 +122,18 @@ pub record Differences : Type 0 where
   -- MUL reads rax, which the text names
   pub register_in_text :
       turns (said "rax = rcx;" ∷ said "rbx = rax;" ∷ instruction "mul rax" ∷ []) (said "rbx = rcx;" ∷ instruction "mul rax" ∷ [])
-  -- and here does not name; CPUID overwrites rbx
+  -- and here does not name; CPUID overwrites rbx, and POP moves rsp
   pub hidden_registers :
       turns (said "rax = rcx;" ∷ said "rbx = rax;" ∷ instruction "mul rcx" ∷ []) (said "rbx = rcx;" ∷ instruction "mul rcx" ∷ [])
       × gives ("rbx = 5;" ∷ "__cpuid(eax, ecx);" ∷ "h(rbx);" ∷ []) ("__cpuid(eax, ecx);" ∷ "h(5);" ∷ [])
+      × gives ("rcx = rsp;" ∷ "rbx = __pop();" ∷ "g(rcx);" ∷ []) ("rbx = __pop();" ∷ "g(rsp);" ∷ [])
+  -- JRCXZ jumps to L where rcx is 0, past the overwrite
+  pub jump_in_text :
+      turns
+      (said "rax = rcx;" ∷ said "rbx = rax;" ∷ instruction "jrcxz L" ∷ said "rax = 1;" ∷ said "L:" ∷ said "rdx = rax;" ∷ [])
+      (said "rbx = rcx;" ∷ instruction "jrcxz L" ∷ said "rax = 1;" ∷ said "L:" ∷ said "rdx = rax;" ∷ [])
+  -- the multiplication changes the flag
+  pub flags_passed : gives ("al = __flags_o;" ∷ "rcx = rdx * 3;" ∷ "bl = al;" ∷ []) ("rcx = rdx * 3;" ∷ "bl = __flags_o;" ∷ [])
   -- ---- integer constants: C, 6.4.4.1
   pub octal : Constant (bytes "010") 8 × reads "010" (pos 10)
   pub octal_from_eight : {s : Text} {n : ℕ} → Octal s n → 8 ≤ n → parse_c_number s ≡ some (pos n) → ⊥
@@ -179,8 +187,19 @@ pub record Differences : Type 0 where
   pub call_under_condition : gives ("rax = f();" ∷ "if (rcx) rbx = rax;" ∷ []) ("if (rcx) rbx = f();" ∷ [])
   -- rbx was the old rcx
   pub second_statement : gives ("rax = rcx;" ∷ "rcx = 1; rbx = rax;" ∷ []) ("rcx = 1; rbx = rcx;" ∷ [])
-  -- the line that the joined expression comes from had two
-  pub two_statements_moved : gives ("rax = rsi; rsi = rdi;" ∷ "h(rax);" ∷ []) ("h(rsi; rsi = rdi);" ∷ [])
+  -- the line that the joined expression comes from had two, or a comment
+  pub two_statements_moved :
+      gives ("rax = rsi; rsi = rdi;" ∷ "h(rax);" ∷ []) ("h(rsi; rsi = rdi);" ∷ [])
+      × turns
+      (line (R "rax" ∷ P " = " ∷ N "5" ∷ P "; " ∷ T "// five;" ∷ []) ∷ said "h(rax);" ∷ [])
+      (line (S "h" ∷ P "(" ∷ N "5" ∷ P "; " ∷ T "// five" ∷ P ");" ∷ []) ∷ [])
+  -- rbx was f's result
+  pub cut_beside_a_reader : gives ("rax = f(); rbx = rax;" ∷ []) ("f(); rbx = rax;" ∷ [])
+  -- it calls nothing, and so overwrites nothing
+  pub no_function :
+      gives
+      ("rax = rcx;" ∷ "rbx = rax;" ∷ "rdx = sizeof(x);" ∷ "r12 = rax;" ∷ [])
+      ("rbx = rcx;" ∷ "rdx = sizeof(x);" ∷ "r12 = rax;" ∷ [])
   -- rcx grew in any case
   pub increment_under_condition : gives ("rax = rcx++;" ∷ "if (rsi) rbx = rax;" ∷ []) ("if (rsi) rbx = rcx++;" ∷ [])
   -- rbx was rcx before it grew
@@ -239,6 +258,10 @@ pub record Differences : Type 0 where
       ("if (rsi) {" ∷ " rbx = rcx;" ∷ "}" ∷ "if (rdi) {" ∷ " rax = 1;" ∷ "}" ∷ "rdx = rax;" ∷ [])
   pub label_with_statement :
       gives ("rax = 5;" ∷ "L: rbx = rax;" ∷ "rax = 6;" ∷ "goto L;" ∷ []) ("L: rbx = 5;" ∷ "rax = 6;" ∷ "goto L;" ∷ [])
+  pub label_with_comment :
+      turns
+      (said "rax = 5;" ∷ line (S "L" ∷ P ":" ∷ T " // again" ∷ []) ∷ said "rbx = rax;" ∷ said "rax = 6;" ∷ said "goto L;" ∷ [])
+      (line (S "L" ∷ P ":" ∷ T " // again" ∷ []) ∷ said "rbx = 5;" ∷ said "rax = 6;" ∷ said "goto L;" ∷ [])
   pub while_loop :
       gives
       ("while (rdx) {" ∷ " rbx = rax;" ∷ " rax = 5;" ∷ " rcx = rax;" ∷ "}" ∷ [])
@@ -280,6 +303,16 @@ pub record Differences : Type 0 where
       gives
       ("do {" ∷ " if (rsi) goto L;" ∷ " rbx = 1;" ∷ "L:" ∷ " h(rbx);" ∷ " rbx = var_8;" ∷ " rsi = g(rbx);" ∷ "} while (rsi);" ∷ [])
       ("do {" ∷ " if (rsi) goto L;" ∷ " rbx = 1;" ∷ "L:" ∷ " h(rbx);" ∷ " rsi = g(var_8);" ∷ "} while (rsi);" ∷ [])
+  -- L stands at the indent of its code, and so the block counts as that code
+  pub overwrite_one_step_deeper :
+      gives
+      ("L:" ∷ "if (r12) {" ∷ " rbx = 1;" ∷ "}" ∷ "h(rbx);" ∷ "rbx = counter;" ∷ "g(rbx);" ∷ "goto L;" ∷ [])
+      ("L:" ∷ "if (r12) {" ∷ " rbx = 1;" ∷ "}" ∷ "h(rbx);" ∷ "g(counter);" ∷ "goto L;" ∷ [])
+  -- h is reached by the second of two jumps on a line
+  pub second_goto :
+      gives
+      ("M:" ∷ "h(rbx);" ∷ "rbx = rdi;" ∷ "g(rbx);" ∷ "if (r13) goto L; else goto M;" ∷ "L:" ∷ "return;" ∷ [])
+      ("M:" ∷ "h(rbx);" ∷ "g(rdi);" ∷ "if (r13) goto L; else goto M;" ∷ "L:" ∷ "return;" ∷ [])
   pub return_in_another_block :
       gives
       ("if (rsi) {" ∷ " rax = rcx;" ∷ " rbx = rax;" ∷ "}" ∷ "if (rdi) {" ∷ " return;" ∷ "}" ∷ "rdx = rax;" ∷ [])
