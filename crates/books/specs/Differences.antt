@@ -177,8 +177,10 @@ pub record Differences : Type 0 where
   pub register_called : gives ("rbx = rax();" ∷ "rcx = 5;" ∷ "rdx = rbx;" ∷ []) ("rcx = 5;" ∷ "rdx = rax();" ∷ [])
   -- rcx+1 was to be doubled
   pub unspaced_sum : gives ("rax = rcx+1;" ∷ "rbx = rax * 2;" ∷ []) ("rbx = rcx+1 * 2;" ∷ [])
-  -- f had one argument
-  pub comma_to_argument : gives ("rax = rcx, rdx;" ∷ "rbx = f(rax);" ∷ []) ("rbx = f(rcx, rdx);" ∷ [])
+  -- C assigns only what stands before the comma: f had one argument, and rcx was returned
+  pub comma_to_argument :
+      gives ("rax = rcx, rdx;" ∷ "rbx = f(rax);" ∷ []) ("rbx = f(rcx, rdx);" ∷ [])
+      × gives ("rax = rcx, rdx;" ∷ "return rax;" ∷ []) ("return rcx, rdx;" ∷ [])
   -- rcx is changed and read with no order between (6.5 paragraph 2)
   pub two_changes : gives ("rax = rcx++;" ∷ "rbx = rcx + rax;" ∷ []) ("rbx = rcx + rcx++;" ∷ [])
   -- var_8 was read before f was called
