@@ -82,10 +82,11 @@ pub record Differences : Type 0 where
   pub sum_narrowed :
       (read (the "rcx") (write (the "ecx") 0 0xffffffff) + 8 ≡ 0x100000007) × (read (the "eax") (0xffffffff + 8) ≡ 7)
       × gives ("ecx = edx;" ∷ "rax = rcx + 8;" ∷ []) ("rax = edx + 8;" ∷ [])
-  -- where cl held 255, al was 0
+  -- where cl held 255, al was 0; and ~cl is below 0 as C has it
   pub byte_sum_widened :
       (read (the "al") (255 + 1) ≡ 0)
       × gives ("al = cl + 1;" ∷ "if (al == 0) {" ∷ " f();" ∷ "}" ∷ []) ("if ((cl + 1) == 0) {" ∷ " f();" ∷ "}" ∷ [])
+      × gives ("al = ~cl;" ∷ "f(al);" ∷ []) ("f(~cl);" ∷ [])
   -- MOVSXD made rax -1; and al was below 0
   pub sign_extension :
       gives ("ecx = 0xffffffff;" ∷ "rax = (int64_t)ecx;" ∷ []) ("rax = (int64_t)0xffffffff;" ∷ [])
