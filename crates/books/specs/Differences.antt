@@ -87,10 +87,13 @@ pub record Differences : Type 0 where
       (read (the "al") (255 + 1) ≡ 0)
       × gives ("al = cl + 1;" ∷ "if (al == 0) {" ∷ " f();" ∷ "}" ∷ []) ("if ((cl + 1) == 0) {" ∷ " f();" ∷ "}" ∷ [])
       × gives ("al = ~cl;" ∷ "f(al);" ∷ []) ("f(~cl);" ∷ [])
-  -- MOVSXD made rax -1; and al was below 0
+  -- MOVSXD made rax -1; al was below 0; beside eax 0x80000000 is the lowest number of 32 bits
   pub sign_extension :
       gives ("ecx = 0xffffffff;" ∷ "rax = (int64_t)ecx;" ∷ []) ("rax = (int64_t)0xffffffff;" ∷ [])
       × gives ("al = 0x80;" ∷ "if (al < 0) {" ∷ " f();" ∷ "}" ∷ []) ("if (0x80 < 0) {" ∷ " f();" ∷ "}" ∷ [])
+      × gives
+      ("rax = 5;" ∷ "if (eax <= 0x80000000) {" ∷ " f();" ∷ "}" ∷ [])
+      ("if (5 <= 0x80000000) {" ∷ " f();" ∷ "}" ∷ [])
   -- ---- calling conventions
   -- rdi hands over the first argument (System V)
   pub argument_register : gives ("rdi = 5;" ∷ "rbx = rdi;" ∷ "f();" ∷ []) ("rbx = 5;" ∷ "f();" ∷ [])
