@@ -258,6 +258,9 @@ pub record Differences : Type 0 where
       gives
       ("rax = rcx;" ∷ "rbx = rax;" ∷ "if (rsi) f();" ∷ "rdx = rax;" ∷ [])
       ("rbx = rcx;" ∷ "if (rsi) f();" ∷ "rdx = rax;" ∷ [])
+      × gives
+      ("rax = rcx;" ∷ "rbx = rax;" ∷ "rdx = rsi && f();" ∷ "r12 = rax;" ∷ [])
+      ("rbx = rcx;" ∷ "rdx = rsi && f();" ∷ "r12 = rax;" ∷ [])
   pub overwrite_in_another_block :
       gives
       ("if (rsi) {" ∷ " rax = rcx;" ∷ " rbx = rax;" ∷ "}" ∷ "if (rdi) {" ∷ " rax = 1;" ∷ "}" ∷ "rdx = rax;" ∷ [])
