@@ -2,7 +2,7 @@
 
 Text is split as the listing generator splits it: registers, numbers, keywords, names and strings are tokens of their own, a cast or a typed `*(T *)` is one
 Keyword, the blank behind `goto`, `return` and `case` is a Text, and what stands between is Punct. A minus that no operand stands before is part of its
-number. The inside of an `__asm { .. }` is one Text.
+number. The inside of an `__asm { .. }` is one Text, and so is a comment from `//` on.
 """
 import re
 from typing import NamedTuple
@@ -53,11 +53,11 @@ def family_of(token):
 
 # ---- text
 
-KEYWORDS = frozenset("""if else do while for goto return break continue switch case default sizeof __pop __rdtsc __cpuid __asm __fastfail
+KEYWORDS = frozenset("""if else do while for goto return break continue switch case default __pop __rdtsc __cpuid __asm __fastfail
     _InterlockedExchange _InterlockedCompareExchange __ROL__ __ROR__ __readgsqword""".split())
 OTHER_REGISTER = re.compile(r"xmm\d+|st\d|arg_\w+|stack_arg\d+|rip|eflags")
 PART = re.compile(r"""(?P<keyword>\*\((?:u?int\d+_t|void|__m128)\ \*\)|\(\(void\ \(\*\)\(\)\)|\((?:u?int\d+_t|unsigned)\))
-    |(?P<string>L?"[^"]*")|(?P<word>[A-Za-z_]\w*)|(?P<number>[0-9][0-9A-Za-z']*)|(?P<other>.)""", re.X)
+    |(?P<string>L?"[^"]*")|(?P<comment>//.*)|(?P<word>[A-Za-z_]\w*)|(?P<number>[0-9][0-9A-Za-z']*)|(?P<other>.)""", re.X)
 ASM = re.compile(r"__asm \{ (.*) \}")
 SPACED = {Token(KEYWORD, word) for word in ("goto", "return", "case")}
 SPLIT = {}
@@ -83,7 +83,9 @@ def split(text):
     out = []
     for found in PART.finditer(text):
         part = found[0]
-        if found["other"]:
+        if found["comment"]:
+            out.append(Token(TEXT, part))
+        elif found["other"]:
             if part == " " and out and out[-1] in SPACED:
                 out.append(Token(TEXT, part))
             elif out and out[-1].kind == PUNCT:

@@ -14,7 +14,7 @@ calls        A call is an event with its argument values. Its result is the seed
              that is no private slot, in two of three states. A function whose name begins with i answers 32 bits, as every one does under convention 0.
              A call returns, keeps the preserved registers and does not see private slots.
 stores       A store outside the frame is an event with address, width and value. A read is none, but in mode reads.
-intrinsics   `__pop`, `__rdtsc`, `__readgsqword`: values of the seed. `__cpuid` writes rax to rdx. `_Interlocked..` reads and stores. `__ROL__`, `__ROR__` turn.
+intrinsics   `__pop`, `__rdtsc`, `__readgsqword`: values of the seed; `__pop` and `push` move rsp. `__cpuid` writes rax to rdx. `_Interlocked..` reads and stores. `__ROL__`, `__ROR__` turn.
              `__asm` of mul, imul, div, xchg, bswap, sbb, push: what the manual says of registers, without flags (div and sbb: some value of their inputs).
 order        C leaves the order of operands open: both left to right and right to left are run.
 ends         A value returned, a bare return, the end of the listing, a jump to a label that is not there, a jump to a computed address. A division by zero,
@@ -45,8 +45,9 @@ class Mode(NamedTuple):
     reads: bool = False       # reads outside the frame are events: a device's registers
     exits: bool = False       # rax at a bare return and at the end of the listing
     implicit: bool = False    # a call that spells no argument sees the first argument register (convention 0: ecx and edx)
-    aliased: bool = False     # pointers may point into the frame, slots are memory at their addresses and overlap, calls write them
-    slots: bool = False       # calls see the slots
+    # pointers may point into the frame, slots are memory at their addresses and overlap, calls write them, a move is as wide as its register
+    aliased: bool = False
+    slots: bool = False       # calls see the slots that were written, and so does whoever looks at a bare return and at the end
     preserved: bool = False   # the registers that belong to the caller, and the stack pointer, at a bare return
     exact: bool = False       # an argument -1 is not the argument 0xffffffff
     registers: tuple = ()     # these, at a bare return and at the end: for rows that show a register
@@ -376,7 +377,7 @@ class Run:
         if self.mode.implicit and not arguments:
             event += tuple(self.get(r)[0] for r in ARGUMENTS[self.convention])
         if self.mode.slots:
-            event += (tuple(sorted((k, v) for k, v in self.memory.items() if k.__class__ is str)),)
+            event += self.slots_seen()
         self.calls += 1
         self.events.append(event)
         for fam in self.volatile:
@@ -393,6 +394,8 @@ class Run:
     def intrinsic(self, name, arguments):
         if name in ("__pop", "__rdtsc"):
             self.fetched += 1
+            if name == "__pop":
+                self.registers["rsp"] = self.registers["rsp"] + self.word // 8 & ALL
             return some(self.seed, name, self.fetched), 64, PLAIN
         if name == "__fastfail":
             self.events.append(("fastfail",))
@@ -443,6 +446,7 @@ class Run:
             self.put(operands[0], (some("sbb", self.get(operands[0])[0], self.get(operands[1])[0]), 64, PLAIN))
         elif name == "push" and len(operands) == 1:
             self.events.append(("push", self.get(operands[0])[0]))
+            self.registers["rsp"] = self.registers["rsp"] - self.word // 8 & ALL
         else:
             raise NoC(f"the instruction {text}")
 
@@ -454,7 +458,12 @@ class Run:
             out += (self.get("rax")[0],)
         if self.mode.preserved and end == "return":
             out += tuple(self.get(r)[0] for r in PRESERVED[self.convention])
+        if self.mode.slots:
+            out += self.slots_seen()
         return out + tuple((r, self.get(r)[0]) for r in self.mode.registers)
+
+    def slots_seen(self):
+        return tuple(sorted((k, v) for k, v in self.memory.items() if k.__class__ is str))
 
     def go(self):
         """The end of the run, or None where it was stopped; the events are in `events`, the line of each in `places`."""
@@ -537,11 +546,30 @@ def e_memory(run, node):
 
 def e_assign(run, node):
     _, target, right = node
+    if run.mode.aliased and target[0] == right[0] == "register" and is_slot(target) != is_slot(right):
+        return moved(run, target, right)
     place, value = run.in_order(lambda: run.place(target), lambda: evaluate(run, right))
     run.write(place, value)
     if target[0] == "register":
         return run.get(target[1])
     return (cut(value, 8 * place[2]), 8 * place[2], PLAIN) if place[0] == "memory" else run.read(place)
+
+
+def is_slot(node):
+    return node[1].startswith("var_")
+
+
+def moved(run, target, right):
+    """A move between a slot and a register, in mode aliased: as wide as the register."""
+    known = family((right if is_slot(target) else target)[1])
+    size = (known[1] if known else 64) // 8
+    if is_slot(target):
+        value = run.get(right[1])
+        run.store(slot_address(target[1]), size, cut(value, 8 * size))
+    else:
+        value = run.load(slot_address(right[1]), size), 8 * size, PLAIN
+        run.put(target[1], value)
+    return value
 
 
 def e_update(run, node):

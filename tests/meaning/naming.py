@@ -95,8 +95,8 @@ def top(text):
 
 @row("comma_to_argument")
 def comma_to_argument(s):
-    """A comma at the top of an expression becomes one between arguments."""
-    return not s.step.is_cut and "," in top(expression_text(s)) and s.reads_otherwise
+    """A comma at the top of an expression becomes one between arguments, or belongs to it now: C assigns only what stands before it."""
+    return not s.step.is_cut and "," in top(expression_text(s))
 
 
 @row("address_in_a_sum")
@@ -195,8 +195,14 @@ def trees_of(s, j):
 
 @row("increment_moved")
 def increment_moved(s):
-    """An expression that changes something is moved past lines that read it, or made where it was not."""
-    return s.has_change and (bool(s.passed) or any(is_sometimes for _, _, is_sometimes in s.beside))
+    """An expression that changes something is moved past lines that read it."""
+    return s.has_change and bool(s.passed)
+
+
+@row("increment_under_condition")
+def increment_under_condition(s):
+    """An expression that changes something stands behind a condition now."""
+    return s.has_change and any(is_sometimes for _, _, is_sometimes in s.beside)
 
 
 @row("two_changes")
@@ -265,8 +271,17 @@ def hidden_registers(s):
         i = s.code[k]
         if i[0] == "asm":
             return s.family in HIDDEN.get(i[1].split()[0], ()) and s.family not in s.words_of_asm(i[1])
-        return s.family in ("rax", "rbx", "rcx", "rdx") and any(n[0] == "call" and n[1] == ("name", "__cpuid") for e in parts_of(i) for n in nodes(e))
-    return bool(s.stale) and hides_it(s.stale[-1]) or any(hides_it(k) for k in range(len(s.code)) if s.at < s.line_of(k) < s.last)
+        names = {n[1][1] for e in parts_of(i) for n in nodes(e) if n[0] == "call" and n[1][0] == "name"}
+        return any(s.family in HIDDEN.get(name, ()) for name in names)
+
+    def hides_input(k):
+        i = s.code[k]
+        names = {i[1].split()[0]} if i[0] == "asm" else {n[1][1] for e in parts_of(i) for n in nodes(e) if n[0] == "call" and n[1][0] == "name"}
+        return any(s.inputs & set(HIDDEN.get(name, ())) for name in names)
+    if s.stale and hides_it(s.stale[-1]):
+        return True
+    between = [k for k in range(len(s.code)) if s.at < s.line_of(k) < s.last]
+    return any(map(hides_it, between)) or not s.step.is_cut and s.number is None and any(map(hides_input, between))
 
 
 @row("volatile_named")
@@ -305,7 +320,19 @@ def assigned_under_condition(s):
     return not s.step.is_cut and s.is_conditional
 
 
+@row("label_with_comment")
+def label_with_comment(s):
+    """A label with a comment on its line is no label to the Rust, and a jump to it is not seen."""
+    return not s.step.is_cut and any(re.match(r"\w+: ?//", s.bodies[k]) for k in range(s.at, s.last + 1))
+
+
 # ---- the register is still read
+
+@row("cut_beside_a_reader")
+def cut_beside_a_reader(s):
+    """A call's result is cut, and a second statement of its line reads it."""
+    return s.step.is_cut and has_two_statements(s, s.at)
+
 
 @row("result_cut_and_read")
 def result_cut_and_read(s):
@@ -367,6 +394,18 @@ def conditional_call(s):
     return any(s.bodies[k].startswith(("if ", "else")) and not s.bodies[k].endswith(("{", ";")) for k in s.lines_of_way)
 
 
+@row("no_function")
+def no_function(s):
+    """`sizeof(x)` looks like a call, and overwrites nothing."""
+    return s.stale is not None and s.family in s.volatile and any("sizeof(" in s.bodies[k] for k in s.lines_of_way)
+
+
+@row("second_goto")
+def second_goto(s):
+    """Of two jumps on a line the second is not asked."""
+    return any(sum(t.text == "goto" for t in s.lines[a].tokens) > 1 for a, _ in s.jumps_of_way)
+
+
 def goes_back(s, line):
     """Whether the way goes back from a line of that kind."""
     return s.stale is not None and any(b <= a and line(s.bodies[a], s.bodies[b]) for a, b in s.jumps_of_way)
@@ -381,11 +420,22 @@ def while_loop(s):
 @row("for_loop")
 def for_loop(s):
     """A `for` loop runs again."""
-    return goes_back(s, lambda a, b: b.startswith("for "))
+    if s.stale is None:
+        return False
+    return any(b <= a and (s.bodies[b].startswith("for ") or s.bodies[b - 1].startswith("for ")) for a, b in s.jumps_of_way)
 
 
 def jumps_forward(s):
     return any(b > a and has_keyword(s.lines[a], "goto") for a, b in s.jumps_of_way)
+
+
+@row("overwrite_one_step_deeper")
+def overwrite_one_step_deeper(s):
+    """The overwrite that the next turn begins with stands in a block, which the label's indent takes for code that is always run."""
+    if not goes_back(s, lambda a, b: True) or jumps_forward(s):
+        return False
+    back = next(b for a, b in s.jumps_of_way if b <= a)
+    return any(b > a and s.bodies[a].startswith("if ") and s.bodies[a].endswith("{") and back <= a <= s.at for a, b in s.jumps_of_way)
 
 
 @row("overwrite_in_loop_jumped_past")
@@ -476,6 +526,9 @@ def signed_comparison(s):
         s, ("<", ">", "<=", ">=", "/", "%", ">>"))
 
 
+SIGNED = ("int8_t", "int16_t", "int32_t", "int64_t", "int", "__int64")
+
+
 @row("sign_extension")
 def sign_extension(s):
     """A cast or a comparison that extends the sign of the register's width meets an expression of another width, or a number."""
@@ -487,25 +540,37 @@ def sign_extension(s):
             continue
         if s.number is not None and 0 <= s.number < 1 << min(w, s.target_width) - 1:
             continue
-        if any(n[0] == "cast" and n[1] in ("int8_t", "int16_t", "int32_t", "int64_t", "int", "__int64") for n in around_it[-1:]):
+        if any(n[0] == "cast" and n[1] in SIGNED or n[0] == "binary" and n[1] in ("<", ">", "<=", ">=") for n in around_it[-1:]):
             return True
     return False
 
 
 @row("eax_of_rax")
 def eax_of_rax(s):
-    """The value may be too wide for the register that it came through: a 64-bit one assigned, a part of 32 bits used."""
-    if s.step.is_cut:
+    """A number may be too wide for the register that it came through: a 64-bit one assigned, a part of 32 bits used."""
+    return not s.step.is_cut and s.number is not None and any(not 0 <= s.number < 1 << w - 1 and s.target_width > w for w, _ in widths(s))
+
+
+@row("upper_half_kept")
+def upper_half_kept(s):
+    """A value that was read through a 32-bit register may appear whole."""
+    if s.step.is_cut or s.number is not None:
         return False
     own = s.width_of(s.expression) if s.expression else 64
-    fits = s.number is not None
-    return any((not 0 <= s.number < 1 << w - 1 if fits else own == 0 or own > w) and s.target_width > w for w, _ in widths(s))
+    return any((own == 0 or own > w) and s.target_width > w for w, _ in widths(s))
 
 
 @row("eax_minus_one")
 def eax_minus_one(s):
     """A number that is negative in the register's width is not widened, compared or shifted as the machine does it."""
     return not s.step.is_cut and s.number is not None and s.target_width < 64 and not 0 <= s.number < 1 << s.target_width - 1
+
+
+@row("byte_sum_widened")
+def byte_sum_widened(s):
+    """A sum of bytes or words is an int in C, and no longer ends where the register did."""
+    return not s.step.is_cut and s.expression is not None and s.target_width < 32 and s.expression[0] in ("binary", "unary", "update") and s.width_of(s.expression) in (
+        0, 32, 64) and s.number is None
 
 
 @row("copy_of_32_bits")
@@ -577,6 +642,19 @@ def store_between(s, test):
 def slots_overlap(s):
     """Slots of different names are taken to lie apart."""
     return s.family.startswith("var_") and any(f.startswith("var_") and f != s.family for k in range(len(s.lines)) for e in trees_of(s, k) for f in writes_of(e))
+
+
+@row("slot_width", ("aliased",))
+def slot_width(s):
+    """A slot is as wide as the access to it: what was stored in one width is read in another."""
+    if not s.family.startswith("var_") or s.expression is None:
+        return False
+    wide = {s.width_of(s.expression)}
+    for (j, p), code in zip(s.places, s.use_codes):
+        for i in code or ():
+            for e in parts_of(i):
+                wide |= {s.width_of(n[1]) for n in nodes(e) if n[0] == "assign" and n[2] == ("register", "the_use") and n[1][0] == "register"}
+    return len(wide) > 1 or wide != {s.word}
 
 
 @row("frame_by_index", ("aliased",))

@@ -4,7 +4,7 @@ The longest match makes a C token, so `--5`, `/*` and `&&` are what C makes of t
 
 - statements: expressions, `{ }`, `if`, `else`, `do`, `while`, `for`, `switch`, `case`, `default`, `break`, `continue`, `goto`, `return`, labels; `__asm { .. }`
 - expressions: C's operators with C's binding, assignments among them; casts to the types of TYPES; `*(T *)e`, `*e`, `&name`; calls by name, through
-  `((void (*)())e)` and through any expression; `x.f` of a slot, which is its lowest byte
+  `((void (*)())e)` and through any expression; `x.f` of a slot, which is its lowest byte; `sizeof(..)`, which is 8
 
 Everything else is no C here (`NoC`), and a listing that is none before it is cleaned is passed over.
 
@@ -114,12 +114,18 @@ class Reader:
         self.line_of.append(self.line)
         return len(self.code) - 1
 
+    def put_at_end(self, *instruction):
+        """An instruction that belongs to the line of the lexeme read last."""
+        self.line = self.lines[self.at - 1]
+        return self.put(*instruction)
+
     def here(self):
         return len(self.code)
 
     def listing(self):
         while self.lexemes[self.at][0] != "end":
             self.statement()
+        self.line = self.lines[-1]
         self.put("end")
         for place, label in self.jumps:
             self.code[place] = ["jump", self.labels[label]] if label in self.labels else ["leave", label]
@@ -170,7 +176,7 @@ class Reader:
         self.statement()
         if self.lexemes[self.at] == ("word", "else"):
             self.at += 1
-            over = self.put("jump", None)
+            over = self.put_at_end("jump", None)
             self.code[skip][2] = self.here()
             self.statement()
             self.code[over][1] = self.here()
@@ -206,7 +212,7 @@ class Reader:
         leave = self.put("unless", self.condition(), None)
         self.begin_loop()
         self.statement()
-        self.put("jump", head)
+        self.put_at_end("jump", head)
         self.code[leave][2] = self.here()
         self.end_loop(self.here(), head)
 
@@ -222,12 +228,13 @@ class Reader:
         if not self.sees(")"):
             last = self.expression()
         self.wants(")")
+        own = self.line
         self.begin_loop()
         self.statement()
-        again = self.here()
+        again, self.line = self.here(), own
         if last:
             self.put("do", last)
-        self.put("jump", head)
+        self.put_at_end("jump", head)
         if leave is not None:
             self.code[leave][2] = self.here()
         self.end_loop(self.here(), again)
@@ -377,6 +384,9 @@ class Reader:
             return inner
         if kind != "word" or text in CONTROL or text in TYPES:
             raise NoC(f"no expression at {text!r}")
+        if text == "sizeof":
+            self.condition()
+            return ("number", 8)
         if self.sees("("):
             return ("name", text)
         if family(text) or OTHER_REGISTER.fullmatch(text) and not text.startswith("arg_"):

@@ -9,7 +9,8 @@ from meaning import widths_of
 from reading import EFFECTS, TYPES, NoC, read
 
 # registers that instructions use without naming them (Intel's manual, volume 2)
-HIDDEN = {"mul": ("rax", "rdx"), "imul": ("rax", "rdx"), "div": ("rax", "rdx"), "idiv": ("rax", "rdx")}
+HIDDEN = {"mul": ("rax", "rdx"), "imul": ("rax", "rdx"), "div": ("rax", "rdx"), "idiv": ("rax", "rdx"),
+          "push": ("rsp",), "__pop": ("rsp",), "__cpuid": ("rax", "rbx", "rcx", "rdx")}
 
 
 def nodes(node):
