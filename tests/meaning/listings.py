@@ -180,13 +180,17 @@ class Maker:
 
     def odd_line(self):
         a, b, c, d = (self.pointer() for _ in range(4))
-        slot = self.chance.choice(self.slots or ("var_8",))
+        slot, sp = self.chance.choice(self.slots or ("var_8",)), PARTS["rsp"][self.address]
         return self.chance.choice((
             f"{a} = {b}+{c};", f"{a} = ({b}) - ({c});", f"{a} = {b}++;", f"{a} = -{b};", f"{a} = {b} - {c};", f"{a} = {b} ? {c} : {d};", f"{a} = {b} && {c};",
             f"{a} = {b} + f();", f"{a} = g() + {b};", f"{a} = *({b});", f"{a} = *{b};", f"{a} = {b}/{c};", f"{a} = {b}&{c};", f"{a} = {b}; {c} = {d};", f"++{a};",
             f"{a} %= {b};", f"{a}={b};", f"if ({a}) f();", f"if ({a}) return;", f"if ({a}) {b}={c};", f"{a} = {b}();", f"f({a}, g({b}));", f"{a} = {b} = {c};",
             f"{a} = {b} >> 1;", f"if ({a}) return {b};", f"{a} = {b}, {c};", f"{a} = {b} & {c};", f"h({a} - {b}, {c} * 2);", f"if ({a})", f"{slot}.f = 1;",
-            f"{a} = *({b} + 8);", f"{a} = 010;", f"{a} = \"text\";", f"rcx_count += {a};", f"{a} = {slot};", f"{slot} = {a};"))
+            f"{a} = *({b} + 8);", f"{a} = 010;", f"{a} = f(); {b} = {c};", f"{a} = sizeof(x);", f"h(&{slot});", f"{a} = {sp} + ({b} * 8);", f"f({sp} + {b} * 8);",
+            f"{a} = f() + g();", f"{a} = f(g({b}));", f"{a} = !{b};", f"{a} = {b} == {c};", f"if ({a} && f()) {b} = {c};", f"h({a}++, {b});", f"counter += {a};",
+            f"*({a}) += {b};", f"counter++;", f"{a} = {b} | f();", f"{a} = ({b} + {c}) * 2;", f"{a} = {b} - ({c} - {d});", f"{a} = {b} * {c} + {d};", f"{a} = ~({b} + {c});",
+            f"{a} = &counter;", f"{a} = ({b} & 7) == 0;", f"f({a}), {b} = {c};", f"{a} = {b}--;", f"{a} -= {b} = {c};", f"{a} = {b} ? f() : {c};",
+            f"{a} = {b}; // {c}", f"((void (*)()){a})({b}++);", f"{a} = L\"text\";", f"{a} = -{b} + {c};", f"{a} = {b} < {c};", f"{a} = {b} << 1;", f"{a} = \"text\";", f"rcx_count += {a};", f"{a} = {slot};", f"{slot} = {a};"))
 
     # ---- blocks
 
@@ -214,7 +218,18 @@ class Maker:
 
     def odd_block(self, indent, is_loop):
         q = self.chance.random()
-        if q < 0.3:
+        if q < 0.08:
+            self.put(indent, "for (;;) {")
+            self.block(indent + 1, 2, True)
+            self.put(indent + 1, f"if ({self.condition()}) break;")
+            self.put(indent, "}")
+        elif q < 0.14:
+            label = f"loc_{len(self.labels) + 60}"
+            self.labels.append(label)
+            self.put(indent, f"{label}: {self.chance.choice(('// again', self.statement()))}")
+        elif q < 0.2 and len(self.labels) > 1:
+            self.put(indent, f"if ({self.condition()}) goto {self.chance.choice(self.labels)}; else goto {self.chance.choice(self.labels)};")
+        elif q < 0.3:
             self.put(indent, f"while ({self.condition()}) {{")
             self.block(indent + 1, 2, True)
             self.put(indent, "}")

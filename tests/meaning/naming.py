@@ -8,7 +8,7 @@ import re
 from cleaning import fold, has_keyword, low_bit, merged
 from listing import NUMBER, family, family_of
 from meaning import ARGUMENTS, PRESERVED
-from sight import HIDDEN, Sight, fam, is_acting_intrinsic, is_call, nodes, overwrites, parts_of, reads_memory, reads_of, stores, writes_of
+from sight import HIDDEN, HOLE, Sight, fam, is_acting_intrinsic, is_call, nodes, overwrites, parts_of, reads_memory, reads_of, stores, writes_of
 
 ROWS = []
 
@@ -286,8 +286,10 @@ def hidden_registers(s):
 
 @row("volatile_named")
 def volatile_named(s):
-    """A call that names a volatile register does not overwrite it, and the number goes on behind it."""
-    return s.family in s.volatile and any(any(map(is_call, nodes(e))) for j in range(s.at + 1, s.last) for e in trees_of(s, j))
+    """A call whose line names a volatile register does not overwrite it: what was assigned goes on behind the call, on later lines or on its own."""
+    if s.step.is_cut or s.family not in s.volatile:
+        return False
+    return any(any(map(is_call, nodes(e))) for j in range(s.at + 1, s.last) for e in trees_of(s, j)) or s.is_read_beside(lambda e: any(map(is_call, nodes(e))))
 
 
 @row("case_entry")
@@ -581,14 +583,20 @@ def copy_of_32_bits(s):
     return s.width_of(s.expression) > s.target_width
 
 
+def operands_beside(s):
+    """Of each use the nearest operator around it, and its other operands."""
+    for (w, _), (_, around_it, _) in zip(widths(s), s.beside):
+        n = around_it[-1] if around_it else None
+        if n and (n[0] in ("binary", "update") and n[1] in ARITHMETIC or n[0] == "unary" and n[1] != "!"):
+            yield w, n, [part for part in n[1:] if isinstance(part, tuple) and not any(x == HOLE for x in nodes(part))]
+
+
 @row("sum_of_32_bits")
 def sum_of_32_bits(s):
-    """What was computed at 32 bits is computed with numbers alone now: at 64, or folded."""
-    if s.step.is_cut or s.target_width > 32 and all(w > 32 for w, _ in widths(s)):
+    """What was computed at the register's width is computed with numbers alone now: at 64 bits, or folded."""
+    if s.step.is_cut or s.target_width > 32 and all(w > 32 for w, _ in widths(s)) or s.expression is None or s.width_of(s.expression) != 0:
         return False
-    if s.expression is None or s.width_of(s.expression) == 0:
-        return True
-    return False
+    return any(all(s.width_of(x) == 0 for x in others) for _, _, others in operands_beside(s))
 
 
 @row("sum_narrowed")
@@ -597,7 +605,7 @@ def sum_narrowed(s):
     if s.step.is_cut or s.expression is None:
         return False
     own = s.width_of(s.expression)
-    return 0 < own < 64 and any(own < w for w, _ in widths(s)) or own == 0 and s.number is None
+    return own > 0 and any(max([32, own, *map(s.width_of, others)]) < w for w, _, others in operands_beside(s))
 
 
 @row("octal")
