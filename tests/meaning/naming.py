@@ -228,7 +228,12 @@ def input_changed(s):
     """A line passed over, or the use's own, changes an input of the expression on its right side: `rdx = rcx++;`."""
     if s.step.is_cut or s.number is not None:
         return False
-    return any(writes_of(e) & s.inputs for trees in s.passed for e in trees) or s.is_read_beside(lambda e: bool(writes_of(e) & s.inputs))
+    return any(right_writes(e) & s.inputs for trees in s.passed for e in trees) or s.is_read_beside(lambda e: bool(writes_of(e) & s.inputs))
+
+
+def right_writes(e):
+    """What a statement changes beside its plain target, which the Rust asks for."""
+    return writes_of(e[2]) if e[0] == "assign" and e[1][0] == "register" else writes_of(e)
 
 
 @row("volatile_read_beside_call")
@@ -289,7 +294,7 @@ def volatile_named(s):
     """A call whose line names a volatile register does not overwrite it: what was assigned goes on behind the call, on later lines or on its own."""
     if s.step.is_cut or s.family not in s.volatile:
         return False
-    return any(any(map(is_call, nodes(e))) for j in range(s.at + 1, s.last) for e in trees_of(s, j)) or s.is_read_beside(lambda e: any(map(is_call, nodes(e))))
+    return any(any(map(is_call, nodes(e))) for j in s.uses if j < s.last for e in trees_of(s, j)) or s.is_read_beside(lambda e: any(map(is_call, nodes(e))))
 
 
 @row("case_entry")
@@ -338,8 +343,16 @@ def cut_beside_a_reader(s):
 
 @row("result_cut_and_read")
 def result_cut_and_read(s):
-    """The result of a call is cut, and a way leads to a reading of it."""
-    return s.step.is_cut and s.stale is not None
+    """The result of a call is cut, and a way leads to a reading of it: by a jump, past a condition, round a loop, into an instruction."""
+    return s.step.is_cut and s.stale is not None and not is_straight(s)
+
+
+def is_straight(s):
+    """Whether the way goes from line to line, over statements without conditions, to a reading that is named: the Rust's scan sees such a one."""
+    lines = s.lines_of_way
+    plain = all(b == a + 1 for a, b in zip(lines, lines[1:])) and not any(
+        re.match(r"(if|while|for|switch|case|default|do|else|\}|\w+:)", s.bodies[k]) for k in lines)
+    return plain and s.code[s.stale[-1]][0] != "asm" and any(family_of(t) == s.family for t in s.lines[lines[-1]].tokens)
 
 
 @row("jump_on_the_use_line")
@@ -360,6 +373,12 @@ def scan_end(s):
                 overwrites(i, s.family, frozenset()) for q, i in enumerate(s.code) if s.line_of(q) == k)):
             return k
     return None
+
+
+def is_behind(s, end):
+    """Whether the stale reading stands behind the line at which the scan stopped, or above the assignment, and the way does not lead over that line."""
+    reading = s.lines_of_way[-1]
+    return end is not None and end not in s.lines_of_way and (reading > end or reading <= s.at)
 
 
 def takes(s, keyword):
@@ -477,7 +496,7 @@ def return_in_another_block(s):
     if s.stale is None:
         return False
     end = scan_end(s)
-    return end is not None and has_keyword(s.lines[end], "return") and end not in s.lines_of_way
+    return is_behind(s, end) and has_keyword(s.lines[end], "return")
 
 
 @row("else_overwrite")
@@ -486,7 +505,7 @@ def else_overwrite(s):
     if s.stale is None:
         return False
     end = scan_end(s)
-    return end is not None and any(s.bodies[k].startswith("} else") for k in range(s.at, end)) and end not in s.lines_of_way
+    return is_behind(s, end) and any(s.bodies[k].startswith("} else") for k in range(s.at, end))
 
 
 @row("overwrite_in_another_block")
@@ -494,8 +513,7 @@ def overwrite_in_another_block(s):
     """The overwrite stands in another block of the same indent, or of a smaller."""
     if s.stale is None:
         return False
-    end = scan_end(s)
-    return end is not None and end not in s.lines_of_way
+    return is_behind(s, scan_end(s))
 
 
 # ---- widths and signs
