@@ -65,6 +65,8 @@ class Maker:
 
     def number(self, width=FULL):
         pick, q = self.chance.choice, self.chance.random()
+        if self.odd and self.often(0.04):
+            return pick(("010", "0b101", "1'0", "0x1'0", "017"))
         value = self.chance.randint(0, 9)
         if 0.45 <= q < 0.6:
             value = pick((0x10, 0x20, 0x100, 0x7F, 180))

@@ -2,10 +2,10 @@
 
 registers    A family is a register of 64 bits (32 under convention 0). A write of 32 bits clears the upper half, a write of 8 or 16 leaves the rest, ah is the
              second byte. Other registers (xmm0) are cells of 64 bits. A register has no sign.
-widths       An expression is computed at the width of its widest operand, at least 32 bits; a number takes the width of what stands beside it (one
-             beyond 32 bits makes 64), so C's types of numbers are not modelled. `*(uintN_t *)` and `(uintN_t)` have C's unsigned type, `(intN_t)` carries
+widths       An expression is computed at the width of its widest operand, at least 32 bits; a number takes the width of what stands beside it (in a sum
+             one beyond 32 bits makes 64, in a comparison it is cut), so C's types of numbers are not modelled. `*(uintN_t *)` and `(uintN_t)` have C's unsigned type, `(intN_t)` carries
              the sign of its operand, `&x` and strings are pointers: sums with them count elements, other arithmetic with them is no C.
-             Comparisons are signed unless `(unsigned)` stands there or C's conversions make them unsigned; `/`, `%` and `>>` are unsigned.
+             Comparisons are signed unless `(unsigned)` stands there, which cuts nothing (as the listing generator means it), or C's conversions make them unsigned; `/`, `%` and `>>` are unsigned.
 slots        `var_` names are cells of their own that only their name reaches, as wide as the widest register that stands opposite to them in the raw listing,
              else as an address; one that the raw listing takes the address of is memory at that address. `arg_` names are memory of the frame.
 memory       Bytes at addresses. A byte that nothing wrote holds what the seed says. `byte_`, `word_`, `dword_`, `qword_` names have that width; another name the

@@ -549,18 +549,22 @@ def signed_comparison(s):
 SIGNED = ("int8_t", "int16_t", "int32_t", "int64_t", "int", "__int64")
 
 
+COMPARING = ("<", ">", "<=", ">=")
+
+
 @row("sign_extension")
 def sign_extension(s):
-    """A cast or a comparison that extends the sign of the register's width meets an expression of another width, or a number."""
+    """A cast or a comparison that reads a sign at the register's width meets an expression of another width, or numbers alone: one of them was negative there."""
     if s.step.is_cut or s.expression is None:
         return False
     own = s.width_of(s.expression)
     for (w, _), (_, around_it, _) in zip(widths(s), s.beside):
-        if own == w:
+        n = around_it[-1] if around_it else (None,)
+        if n[0] == "binary" and n[1] in COMPARING and own == 0 and any(x[0] == "number" and 1 << w - 1 <= x[1] < 1 << w for x in n[2:]):
+            return True
+        if own == w or s.number is not None and 0 <= s.number < 1 << min(w, s.target_width) - 1:
             continue
-        if s.number is not None and 0 <= s.number < 1 << min(w, s.target_width) - 1:
-            continue
-        if any(n[0] == "cast" and n[1] in SIGNED or n[0] == "binary" and n[1] in ("<", ">", "<=", ">=") for n in around_it[-1:]):
+        if n[0] == "cast" and n[1] in SIGNED or n[0] == "binary" and n[1] in COMPARING:
             return True
     return False
 

@@ -1,6 +1,6 @@
 """The text of a listing read as C: to a code of a few instructions with jumps. Text and not tokens, because text is what a reader has.
 
-The longest match makes a C token, so `--5`, `/*` and `&&` are what C makes of them, however the cleaner's tokens lie. What is read:
+Constants are read by C's edition of 2024 (6.4.4.2), in which each of 2018 has its value. The longest match makes a C token, so `--5`, `/*` and `&&` are what C makes of them, however the cleaner's tokens lie. What is read:
 
 - statements: expressions, `{ }`, `if`, `else`, `do`, `while`, `for`, `switch`, `case`, `default`, `break`, `continue`, `goto`, `return`, labels; `__asm { .. }`
 - expressions: C's operators with C's binding, assignments among them; casts to the types of TYPES; `*(T *)e`, `*e`, `&name`; calls by name, through
@@ -20,7 +20,7 @@ TYPES = {"uint8_t": (8, False), "uint16_t": (16, False), "uint32_t": (32, False)
 CONTROL = frozenset("if else do while for goto return break continue switch case default".split())
 LEXEME = re.compile(r"""\s+|//.*|(?P<comment>/\*)|(?P<string>L?"[^"]*")|(?P<word>[A-Za-z_]\w*)|(?P<number>[0-9][\w']*)
     |(?P<mark><<=|>>=|\+\+|--|->|<<|>>|<=|>=|==|!=|&&|\|\||[-+*/%&|^]=|[][(){};:,?~!+\-*/%&|^<>=.])""", re.X)
-CONSTANT = re.compile(r"(?P<hex>0[xX][0-9a-fA-F]+)|(?P<oct>0[0-7]*)|(?P<dec>[1-9][0-9]*)")
+CONSTANT = re.compile(r"(?P<bin>0[bB][01](?:'?[01])*)|(?P<hex>0[xX][0-9a-fA-F](?:'?[0-9a-fA-F])*)|(?P<oct>0(?:'?[0-7])*)|(?P<dec>[1-9](?:'?[0-9])*)")
 ASM = re.compile(r"\s*__asm \{ (.*) \}")
 FUNCTION_POINTER = [("mark", m) for m in "("] + [("word", "void")] + [("mark", m) for m in ("(", "*", ")", "(", ")", ")")]
 BINARY = [("||",), ("&&",), ("|",), ("^",), ("&",), ("==", "!="), ("<", ">", "<=", ">="), ("<<", ">>"), ("+", "-"), ("*", "/", "%")]
@@ -37,7 +37,10 @@ def constant(text):
     found = CONSTANT.fullmatch(digits)
     if not found:
         raise NoC(f"the number {text}")
-    return int(digits, {"hex": 16, "oct": 8, "dec": 10}[found.lastgroup]) & (1 << 64) - 1
+    plain = digits.replace("'", "")
+    if found["bin"]:
+        return int(plain[2:], 2) & (1 << 64) - 1
+    return int(plain, {"hex": 16, "oct": 8, "dec": 10}[found.lastgroup]) & (1 << 64) - 1
 
 
 LEXED = {}
