@@ -1,27 +1,30 @@
 """What a listing does: states, execution, events. Assumed is, and nothing else:
 
-registers    A family is a register of 64 bits (32 under convention 0). A write of 32 bits clears the upper half, a write of 8 or 16 leaves the rest, ah is the
-             second byte. Other registers (xmm0) are cells of 64 bits. A register has no sign.
-widths       An expression is computed at the width of its widest operand, at least 32 bits; a number takes the width of what stands beside it (in a sum
-             one beyond 32 bits makes 64, in a comparison it is cut), so C's types of numbers are not modelled. `*(uintN_t *)` and `(uintN_t)` have C's unsigned type, `(intN_t)` carries
-             the sign of its operand, `&x` and strings are pointers: sums with them count elements, other arithmetic with them is no C.
-             Comparisons are signed unless `(unsigned)` stands there, which cuts nothing (as the listing generator means it), or C's conversions make them unsigned; `/`, `%` and `>>` are unsigned.
-slots        `var_` names are cells of their own that only their name reaches, as wide as the widest register that stands opposite to them in the raw listing,
-             else as an address; one that the raw listing takes the address of is memory at that address. `arg_` names are memory of the frame.
-memory       Bytes at addresses. A byte that nothing wrote holds what the seed says. `byte_`, `word_`, `dword_`, `qword_` names have that width; another name the
-             width of what stands opposite to it, else that of an address; so has an untyped `*e`.
-calls        A call is an event with its argument values. Its result is the seed's and the count of calls'; volatile registers are new after it; so is all memory
-             that is no private slot, in two of three states. A function whose name begins with i answers 32 bits, as every one does under convention 0.
-             A call returns, keeps the preserved registers and does not see private slots.
+registers    A family is a register of 64 bits (32 under convention 0). A write of 32 bits clears the upper half, a write of 8 or 16 leaves the
+             rest, ah is the second byte. Other registers (xmm0) are cells of 64 bits. A register has no sign.
+widths       An expression is computed at the width of its widest operand, at least 32 bits. A number takes the width of what stands beside it (in a
+             sum one beyond 32 bits makes 64, in a comparison it is cut), so C's types of numbers are not modelled. `*(uintN_t *)` and `(uintN_t)`
+             have C's unsigned type, `(intN_t)` carries the sign of its operand, `&x` and strings are pointers: sums with them count elements,
+             other arithmetic with them is no C. Comparisons are signed unless `(unsigned)` stands there, which cuts nothing (so the listing
+             generator means it), or C's conversions make them unsigned; `/`, `%` and `>>` are unsigned.
+slots        `var_` names are cells of their own that only their name reaches, as wide as the widest register that stands opposite to them in the raw
+             listing, else as an address; one that the raw listing takes the address of is memory at that address. `arg_` names are memory of the
+             frame.
+memory       Bytes at addresses. A byte that nothing wrote holds what the seed says. `byte_`, `word_`, `dword_`, `qword_` names have that width;
+             another name the width of what stands opposite to it, else that of an address; so has an untyped `*e`.
+calls        A call is an event with its argument values. Its result is the seed's and the count of calls'; volatile registers are new after it, and
+             so, in two of three states, is all memory that is no private slot. A function whose name begins with i answers 32 bits, as every one
+             does under convention 0. A call returns, keeps the preserved registers and does not see private slots.
 stores       A store outside the frame is an event with address, width and value. A read is none, but in mode reads.
-intrinsics   `__pop`, `__rdtsc`, `__readgsqword`: values of the seed; `__pop` and `push` move rsp. `__cpuid` writes rax to rdx. `_Interlocked..` reads and stores. `__ROL__`, `__ROR__` turn.
-             `__asm` of mul, imul, div, xchg, bswap, sbb, push: what the manual says of registers, without flags (div and sbb: some value of their inputs).
+intrinsics   `__pop`, `__rdtsc`, `__readgsqword`: values of the seed; `__pop` and `push` move rsp. `__cpuid` writes rax to rdx. `_Interlocked..` reads
+             and stores. `__ROL__` and `__ROR__` turn. `__asm` of mul, imul, div, xchg, bswap, sbb, push: what the manual says of registers, without
+             flags (div and sbb: some value of their inputs).
 order        C leaves the order of operands open: both left to right and right to left are run.
-ends         A value returned, a bare return, the end of the listing, a jump to a label that is not there, a jump to a computed address. A division by zero,
-             more than 40 calls or 120 instructions stop a run, and then only what came before counts.
+ends         A value returned, a bare return, the end of the listing, a jump to a label that is not there, a jump to a computed address. A division by
+             zero, more than 40 calls or 120 instructions stop a run.
 
-Not modelled: C's types of numbers, floating point, flags, the target of a computed jump. Excluded, with a word: in 32-bit code names of 64-bit registers and
-untyped `*e`, which 32-bit code does not have or which have no width.
+Not modelled: C's types of numbers, types of elements (`[`, `->`), floating point, flags, instructions that jump, the target of a computed jump. Excluded,
+with a word: in 32-bit code names of 64-bit registers, which it does not have, and untyped `*e`, whose width is not known.
 """
 import random
 import zlib
@@ -96,7 +99,7 @@ def number_of(text):
 
 def some(*what):
     """Some 64 bits, fixed by what they are of."""
-    value = hash(tuple(number_of(x) if x.__class__ is str else x for x in what)) & ALL
+    value = hash(tuple([number_of(x) if x.__class__ is str else x for x in what])) & ALL
     value = value * 0xBF58476D1CE4E5B9 & ALL
     return (value ^ value >> 31) * 0x94D049BB133111EB & ALL
 
@@ -220,6 +223,9 @@ def turned(value, by, is_left):
 
 # ---- a run
 
+PARTS = {}     # of a register's name: its family, lowest bit, mask and width
+
+
 class State(NamedTuple):
     """What a run begins with: the registers, the seed of all that is not said, and whether calls write memory."""
     registers: dict
@@ -260,6 +266,13 @@ class Run:
         return slot_address(name) if self.mode.aliased or name in self.addressed else name
 
     def get(self, name):
+        part = PARTS.get(name)
+        if part is not None:
+            fam, low, mask, width = part
+            value = self.registers.get(fam)
+            if value is None:
+                value = self.registers[fam] = self.fresh(fam)
+            return value >> low & mask, width, PLAIN
         known = family(name)
         if known is None:
             value = self.registers.get(name)
@@ -269,10 +282,9 @@ class Run:
             value = self.cell(key) if key.__class__ is str else self.load(key, width // 8)
             return value & (1 << width) - 1, width, PLAIN
         fam, width = known
-        value = self.registers.get(fam)
-        if value is None:
-            value = self.registers[fam] = self.fresh(fam)
-        return (value >> 8 & 255 if name in HIGH_BYTES else value & (1 << width) - 1), width, PLAIN
+        low = 8 if name in HIGH_BYTES else 0
+        PARTS[name] = fam, low, (1 << width) - 1, width
+        return self.get(name)
 
     def put(self, name, value):
         known = family(name)

@@ -12,6 +12,7 @@ An instruction is a tuple: ("do", e), ("jump", to), ("unless", e, to), ("when", 
 a label that the listing lacks, ("computed", e) for `goto *e`, ("asm", text), ("end",). An expression is a tuple too; what each is worth says meaning.py.
 """
 import re
+from functools import lru_cache
 
 from listing import OTHER_REGISTER, family
 
@@ -23,7 +24,8 @@ LEXEME = re.compile(r"""\s+|//.*|(?P<comment>/\*)|(?P<string>L?"[^"]*")|(?P<word
 CONSTANT = re.compile(r"(?P<bin>0[bB][01](?:'?[01])*)|(?P<hex>0[xX][0-9a-fA-F](?:'?[0-9a-fA-F])*)|(?P<oct>0(?:'?[0-7])*)|(?P<dec>[1-9](?:'?[0-9])*)")
 ASM = re.compile(r"\s*__asm \{ (.*) \}")
 FUNCTION_POINTER = [("mark", m) for m in "("] + [("word", "void")] + [("mark", m) for m in ("(", "*", ")", "(", ")", ")")]
-BINARY = [("||",), ("&&",), ("|",), ("^",), ("&",), ("==", "!="), ("<", ">", "<=", ">="), ("<<", ">>"), ("+", "-"), ("*", "/", "%")]
+BINARY = (("||",), ("&&",), ("|",), ("^",), ("&",), ("==", "!="), ("<", ">", "<=", ">="), ("<<", ">>"), ("+", "-"), ("*", "/", "%"))
+LEVELS = {operator: level for level, operators in enumerate(BINARY) for operator in operators}
 ASSIGNING = frozenset(("=", "+=", "-=", "*=", "/=", "%=", "&=", "|=", "^=", "<<=", ">>="))
 NAMED_WIDTHS = {"byte_": 8, "word_": 16, "dword_": 32, "qword_": 64}
 
@@ -321,16 +323,16 @@ class Reader:
             return ("choose", test, yes, self.conditional())
         return test
 
-    def binary(self, level):
-        if level == len(BINARY):
-            return self.unary()
-        left = self.binary(level + 1)
-        while self.lexemes[self.at][0] == "mark" and self.lexemes[self.at][1] in BINARY[level]:
-            operator = self.lexemes[self.at][1]
+    def binary(self, least):
+        left = self.unary()
+        while True:
+            kind, operator = self.lexemes[self.at]
+            level = LEVELS.get(operator, -1) if kind == "mark" else -1
+            if level < least:
+                return left
             self.at += 1
             right = self.binary(level + 1)
             left = ("and", left, right) if operator == "&&" else ("or", left, right) if operator == "||" else ("binary", operator, left, right)
-        return left
 
     def unary(self):
         kind, text = self.lexemes[self.at]
@@ -431,10 +433,17 @@ class Code(list):
     def __init__(self, instructions, line_of):
         super().__init__(instructions)
         self.line_of = line_of
+        self.hangs = {}
+
+
+@lru_cache(256)
+def read_once(texts):
+    return Reader(texts).listing()
 
 
 def read(texts):
-    return Reader(texts).listing()
+    """The code of a listing; it is not to be changed, as it is kept for the next time."""
+    return read_once(tuple(texts))
 
 
 # ---- what the order of evaluation can change
@@ -452,6 +461,12 @@ def count(node, kinds):
 
 def hangs_on_order(code, reads_count):
     """Whether the order in which operands are evaluated can matter somewhere; it may say so where it cannot."""
+    if reads_count not in code.hangs:
+        code.hangs[reads_count] = may_hang(code, reads_count)
+    return code.hangs[reads_count]
+
+
+def may_hang(code, reads_count):
     for instruction in code:
         for e in instruction[1:]:
             if not isinstance(e, tuple) or not e or not isinstance(e[0], str):
