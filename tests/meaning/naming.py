@@ -8,7 +8,8 @@ import re
 from cleaning import fold, has_keyword, low_bit, merged
 from listing import NUMBER, family, family_of
 from meaning import ARGUMENTS, PRESERVED
-from sight import HIDDEN, HOLE, Sight, fam, is_acting_intrinsic, is_call, nodes, overwrites, parts_of, reads_memory, reads_of, stores, writes_of
+from reading import EFFECTS
+from sight import HIDDEN, HOLE, Sight, fam, is_acting_intrinsic, is_call, nodes, overwrites, parts_of, reads_memory, reads_of, stores, surely, writes_of
 
 ROWS = []
 
@@ -196,7 +197,8 @@ def trees_of(s, j):
 @row("increment_moved")
 def increment_moved(s):
     """An expression that changes something is moved past lines that read it."""
-    return s.has_change and bool(s.passed)
+    changed = writes_of(s.expression) if s.has_change else set()
+    return s.has_change and any(reads_of(e, True) & changed or stores(s.expression) and reads_memory(e) for trees in s.passed for e in trees)
 
 
 @row("increment_under_condition")
@@ -208,7 +210,12 @@ def increment_under_condition(s):
 @row("two_changes")
 def two_changes(s):
     """An expression that changes something stands in a line that reads it or acts itself."""
-    return s.has_change and any(trees or any(n[0] in ("assign", "update", "call") for n in around_it) for trees, around_it, _ in s.beside)
+    if not s.has_change:
+        return False
+    changed = writes_of(s.expression)
+    if s.is_read_beside(lambda e: bool(reads_of(e, True) & changed) or any(n[0] in EFFECTS for n in nodes(e)) or stores(s.expression) and reads_memory(e)):
+        return True
+    return any(n[0] in ("assign", "update") and (reads_of(n[-2], True) & changed) for _, around_it, _ in s.beside for n in around_it)
 
 
 # ---- what the expression reads has changed
@@ -347,10 +354,15 @@ def result_cut_and_read(s):
     return s.step.is_cut and s.stale is not None and not is_straight(s)
 
 
+def calls_sometimes(s, k):
+    """Whether a line calls behind `&&`, `||` or `?`."""
+    return any(is_call(n) and n not in set(surely(e)) for e in trees_of(s, k) for n in nodes(e))
+
+
 def is_straight(s):
     """Whether the way goes from line to line, over statements without conditions, to a reading that is named: the Rust's scan sees such a one."""
     lines = s.lines_of_way
-    plain = all(b == a + 1 for a, b in zip(lines, lines[1:])) and not any(
+    plain = all(b == a + 1 for a, b in zip(lines, lines[1:])) and not any(calls_sometimes(s, k) for k in lines) and not any(
         re.match(r"(if|while|for|switch|case|default|do|else|\}|\w+:)", s.bodies[k]) for k in lines)
     return plain and s.code[s.stale[-1]][0] != "asm" and any(family_of(t) == s.family for t in s.lines[lines[-1]].tokens)
 
@@ -400,17 +412,18 @@ def continue_past_overwrite(s):
 @row("conditional_return")
 def conditional_return(s):
     """A `return` behind a condition on its line is taken for one."""
-    return s.stale is not None and any(s.bodies[k].startswith("if ") and has_keyword(s.lines[k], "return") for k in s.lines_of_way)
+    return s.stale is not None and any(
+        s.bodies[k].startswith("if ") and has_keyword(s.lines[k], "return") and s.lines[k].indent <= s.lines[s.at].indent for k in s.lines_of_way)
 
 
 @row("conditional_call")
 def conditional_call(s):
-    """A call or an assignment behind a condition, on its line or on the line above, is taken for an overwrite."""
+    """A call or an assignment behind a condition, on its line (`if`, `&&`, `?`) or on the line above, is taken for an overwrite."""
     if s.stale is None or s.code is None:
         return False
     for k in s.lines_of_way[1:]:
         kills = s.family in s.volatile and any(is_call(n) for e in trees_of(s, k) for n in nodes(e)) or any(s.family in writes_of(e) for e in trees_of(s, k))
-        if k not in s.uses and s.bodies[k].startswith("if ") and kills:
+        if k not in s.uses and kills and (s.bodies[k].startswith("if ") or calls_sometimes(s, k)):
             return True
     return any(s.bodies[k].startswith(("if ", "else")) and not s.bodies[k].endswith(("{", ";")) for k in s.lines_of_way)
 
@@ -474,20 +487,19 @@ def back_and_back_again(s):
 @row("jump_past_overwrite")
 def jump_past_overwrite(s):
     """A jump goes past the overwrite, or past a `return`."""
-    return s.stale is not None and jumps_forward(s)
+    return s.stale is not None and jumps_forward(s) and (is_behind(s, scan_end(s)) or s.lines_of_way[-1] <= s.at)
 
 
 @row("switch_case")
 def switch_case(s):
     """The overwrite stands in another `case` than the assignment."""
-    return s.stale is not None and any(s.bodies[k].startswith(("case ", "default")) for k in range(s.at, len(s.lines))) and any(
-        s.bodies[k].startswith("switch") for k in range(s.at))
+    return s.stale is not None and is_behind(s, scan_end(s)) and any(s.bodies[k].startswith(("case ", "default")) for k in range(s.at, scan_end(s)))
 
 
 @row("case_passed_over")
 def case_passed_over(s):
     """The overwrite stands in a `case` that may be passed over."""
-    return s.stale is not None and any(s.bodies[k].startswith("switch") for k in range(s.at, len(s.lines)))
+    return s.stale is not None and is_behind(s, scan_end(s)) and any(s.bodies[k].startswith("switch") for k in range(s.at, scan_end(s)))
 
 
 @row("return_in_another_block")
