@@ -1,7 +1,8 @@
 """Listings to clean and to run: small ones in the shapes that the listing generator writes, with few names so that lines meet, and odd lines on request.
 
-Each is fixed by a seed. `generated(seed, odd)` answers a convention and the texts of the lines; `odd` is the share of lines in shapes that the generator does not
-write (`rax = rcx++;`, two statements on a line, `while`, `for`, `case` with statements, registers in sums without blanks).
+Each is fixed by a seed. `generated(seed, odd, most)` answers a convention and the texts of the lines; `odd` is the share of lines in shapes that the generator
+does not write (`rax = rcx++;`, two statements on a line, `while`, `for`, `case` with statements, registers in sums without blanks), `most` about how many lines it
+has (3 to 12 where it is not said).
 """
 import random
 
@@ -18,7 +19,7 @@ NAMES = ((), ("dword_404010",), ("qword_404020",), ("dword_404010", "counter"), 
 
 
 class Maker:
-    def __init__(self, seed, odd):
+    def __init__(self, seed, odd, most=None):
         self.chance = random.Random(seed)
         self.odd = odd
         pick = self.chance.choice
@@ -37,7 +38,7 @@ class Maker:
         self.slots = pick(SLOTS)
         self.names = pick(NAMES)
         self.functions = ("f", "g", "h") if self.widths == (FULL,) else ("f", "g", "h", "isum", "ival")
-        self.most = self.chance.randint(3, 12)
+        self.most = most or self.chance.randint(3, 12)
         self.out, self.labels, self.awaited, self.written = [], [], [], []
 
     # ---- operands
@@ -317,8 +318,8 @@ class Maker:
         return self.out
 
 
-def generated(seed, odd):
-    maker = Maker(seed, odd)
+def generated(seed, odd, most=None):
+    maker = Maker(seed, odd, most)
     return maker.convention, maker.listing()
 
 

@@ -3,7 +3,7 @@
 registers    A family is a register of 64 bits (32 under convention 0). A write of 32 bits clears the upper half, a write of 8 or 16 leaves the
              rest, ah is the second byte. Other registers (xmm0) are cells of 64 bits. A register has no sign.
 widths       An expression is computed at the width of its widest operand, at least 32 bits. A number takes the width of what stands beside it (in a
-             sum one beyond 32 bits makes 64, in a comparison it is cut), so C's types of numbers are not modelled. `*(uintN_t *)` and `(uintN_t)`
+             sum one beyond 32 bits makes 64; in a comparison one that does not fit is compared whole), so C's types of numbers are not modelled. `*(uintN_t *)` and `(uintN_t)`
              have C's unsigned type, `(intN_t)` carries the sign of its operand, `&x` and strings are pointers: sums with them count elements,
              other arithmetic with them is no C. Comparisons are signed unless `(unsigned)` stands there, which cuts nothing (so the listing
              generator means it), or C's conversions make them unsigned; `/`, `%` and `>>` are unsigned.
@@ -127,6 +127,10 @@ def name_address(name):
 
 # ---- operators
 
+def fits(number, width):
+    return -(1 << width - 1) <= number < 1 << width
+
+
 def compared(operator, a, b):
     (x, a_width, a_kind), (y, b_width, b_kind) = a, b
     is_unsigned = a_kind == UNSIGNED or b_kind == UNSIGNED
@@ -137,9 +141,9 @@ def compared(operator, a, b):
         if b_kind == C_UNSIGNED and b_width < 32:
             b_width, b_kind = 32, PLAIN
         is_unsigned = a_kind == C_UNSIGNED and a_width >= (b_width or 32) or b_kind == C_UNSIGNED and b_width >= (a_width or 32)
-    if a_width == 0 and b_width:
+    if a_width == 0 and b_width and fits(x, b_width):
         x, a_width = x & (1 << b_width) - 1, b_width
-    elif b_width == 0 and a_width:
+    elif b_width == 0 and a_width and fits(y, a_width):
         y, b_width = y & (1 << a_width) - 1, a_width
     if operator in ("==", "!="):
         return int((x & ALL == y & ALL) == (operator == "==")), 0, PLAIN
@@ -387,7 +391,7 @@ class Run:
             raise Stop
         event = ("call", name, *arguments)
         if self.mode.implicit and not arguments:
-            event += tuple(self.get(r)[0] for r in ARGUMENTS[self.convention])
+            event += tuple(map(self.whole, ARGUMENTS[self.convention]))
         if self.mode.slots:
             event += self.slots_seen()
         self.calls += 1
@@ -467,12 +471,16 @@ class Run:
     def seen(self, end):
         out = (end,)
         if self.mode.exits:
-            out += (self.get("rax")[0],)
+            out += (self.whole("rax"),)
         if self.mode.preserved and end == "return":
-            out += tuple(self.get(r)[0] for r in PRESERVED[self.convention])
+            out += tuple(map(self.whole, PRESERVED[self.convention]))
         if self.mode.slots:
             out += self.slots_seen()
         return out + tuple((r, self.get(r)[0]) for r in self.mode.registers)
+
+    def whole(self, fam):
+        """A register as the code's machine has it: of 32 bits under convention 0."""
+        return self.get(fam)[0] & (1 << self.word) - 1
 
     def slots_seen(self):
         return tuple(sorted((k, v) for k, v in self.memory.items() if k.__class__ is str))
