@@ -1,9 +1,9 @@
 """A raw listing beside another form of it: run from the same start states, compared, and shortened while they still differ.
 
-Two runs are the same when their events and their ends are. Only what came before counts where one was stopped (a division by zero, too many calls or instructions),
-but an end that one reaches in a quarter of the instructions, and the other not at all, is a difference. An argument -1 and 0xffffffff are taken for the same where
-the raw listing passes a register of 32 bits, but in mode exact: C makes an int of the -1. A start state in which the raw listing's own meaning hangs on the order of operands is
-passed over; the other form differs if either order does.
+Two runs are the same when their events and their ends are. Where one was stopped (a division by zero, too many calls or instructions), only what came
+before counts; but an end that one reaches in a quarter of the instructions, and the other not at all, is a difference. Where the raw listing passes or returns
+0xffffffff and the other -1, they are taken for the same, but in mode exact: C makes an int of the -1. A start state in which the raw listing's own
+meaning hangs on the order of operands is passed over; the other form differs if either order does.
 """
 import re
 from typing import NamedTuple

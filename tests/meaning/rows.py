@@ -3,14 +3,14 @@
 rows.txt, line by line (`#` begins a comment):
 
     row NAME                     a row of the page; its examples follow
-    run CONVENTION MODE WORDS    an example: convention 0, 1 or 2, a mode of meaning.py, and of WORDS: names of registers that are looked at in the end (of families:
-                                 rbx), `parts`, `edition_1`; `stands` where the page says that the lines stand and nothing differs
+    run CONVENTION MODE WORDS    an example: convention 0, 1 or 2, a mode of meaning.py, and of WORDS: families that are looked at in the end (rbx), `parts`,
+                                 `edition_1`; `stands` where the page says that nothing is joined wrongly, and nothing differs
     clean CONVENTION             an example that is only cleaned and compared with the page: the model shows nothing of it as it stands
     two blanks and a line        of the raw listing, and behind a line `->` of the cleaned one, as the page says; one more blank for each step of indent
     rests NAME WORDS             a row that is not executed, and why
 
-A row is confirmed if each of its examples is cleaned to the lines that stand there, by the library, if each `run` differs in its mode, and if naming.py finds the row
-in the step that makes the difference.
+A row is confirmed if each of its examples is cleaned to the lines that stand there, by the library, if each `run` differs in its mode, and if naming.py
+finds the row in the step that makes the difference.
 """
 import pathlib
 import re
@@ -27,7 +27,8 @@ HERE = pathlib.Path(__file__).resolve().parent
 PAGE = HERE.parents[1] / "docs" / "DIFFERENCES.md"
 STATES, SEEDS = 60, (1, 2, 3, 4)
 # sections of the page whose rows are about what a run does; of the others (agreement, constants in edition 1) nothing is executed
-SECTIONS = ("Names of registers", "Parts of registers", "Calling conventions", "Instructions and operations", "Integer constants in edition 0", "Sums", "Expressions", "Statements")
+SECTIONS = ("Names of registers", "Parts of registers", "Calling conventions", "Instructions and operations", "Integer constants in edition 0", "Sums",
+            "Expressions", "Statements")
 
 
 class Example(NamedTuple):
@@ -46,7 +47,7 @@ def read_rows(path=HERE / "rows.txt"):
 
     def done():
         if head is not None:
-            convention, mode, *words = (*head, None)[:2] if len(head) == 1 else head
+            convention, mode, *words = head if len(head) > 1 else (*head, None)
             settings = Settings(int(convention), "parts" in words, False, 1 if "edition_1" in words else 0)
             seen = tuple(w for w in words if w not in ("parts", "edition_1", "stands"))
             if not all(map(family, seen)):
@@ -83,7 +84,7 @@ def page_rows(path=PAGE):
     for line in path.read_text(encoding="utf-8").splitlines():
         if line.startswith("## "):
             is_asked = line[3:].startswith(SECTIONS)
-        elif is_asked and line.startswith("| `") or is_asked and line.startswith("| all: `"):
+        elif is_asked and line.startswith(("| `", "| all: `")):
             out += re.findall(r"`([^`]+)`", line.split("|")[1])
     return out
 
