@@ -551,17 +551,22 @@ def al_for_rax(s):
     return not s.step.is_cut and s.target_width < 32 and any(w > s.target_width for w, _ in widths(s))
 
 
+COMPARING = ("<", ">", "<=", ">=")
+
+
 @row("signed_comparison")
 def signed_comparison(s):
-    """A register has no sign, a `*(uintN_t *)` or a cast in its place has C's: a comparison, division or shift beside it."""
-    return not s.step.is_cut and s.expression is not None and (s.expression[0] == "memory" and s.expression[3] or s.expression[0] == "cast") and comparison_beside(
-        s, ("<", ">", "<=", ">=", "/", "%", ">>"))
+    """A register has no sign; a `*(uintN_t *)`, a cast, or a number from 2^31 to 2^32 - 1 in its place has C's: a comparison, division or shift beside it."""
+    if s.step.is_cut or s.expression is None:
+        return False
+    if s.number is not None:
+        return 1 << 31 <= s.number < 1 << 32 and any(
+            n[0] == "binary" and n[1] in COMPARING and any(0 < s.width_of(x) <= 32 for x in n[2:] if x != HOLE) for _, around_it, _ in s.beside for n in around_it[-1:])
+    is_typed = s.expression[0] == "memory" and s.expression[3] or s.expression[0] == "cast"
+    return is_typed and comparison_beside(s, ("<", ">", "<=", ">=", "/", "%", ">>"))
 
 
 SIGNED = ("int8_t", "int16_t", "int32_t", "int64_t", "int", "__int64")
-
-
-COMPARING = ("<", ">", "<=", ">=")
 
 
 @row("sign_extension")
