@@ -124,7 +124,7 @@ struct puchkewa_report {
     uint64_t attempts_2; /* .. in the second, 0 if it was not run .. */
     uint64_t attempts_3; /* .. in the third, 0 if it was not run */
     uint64_t removed;    /* lines removed: the attempts that succeeded */
-    uint64_t cut;        /* results of calls that were cut because nothing reads them */
+    uint64_t cut;        /* results of calls that were cut: the Rust's scan takes them for unread */
     uint64_t rounds;     /* where `settle` was set: the rounds that were made, the last included, at least 1; otherwise 0 */
     uint64_t attempts;   /* where `settle` was set: the attempts of all rounds; otherwise 0 */
 };

@@ -30,4 +30,5 @@ readings =
       while_with_call = refl;
       sum_left = refl;
       dead_assignment_left = refl;
+      negation_wraps = refl;
     }

@@ -3,38 +3,12 @@
 -- docs/DIFFERENCES.md cites the fields by name. Assumes nothing.
 use Prim.Native.String.{String}
 use Rattle.std.specs.Prelude.{◌≡◌, List, [], ◌∷◌}
-use Rattle.std.proofs.Math.Option.{none, some}
+use Rattle.std.proofs.Math.Option.{some}
 use Rattle.reference.specs.Text.{bytes}
-use Rattle.reference.specs.Listing.{Token, token, Plain, Register, Number, Keyword, Symbol, Punct, Line, Listing}
 use Rattle.reference.specs.Names.{family}
 use Rattle.reference.specs.Numbers.{fold}
-use Rattle.reference.specs.Run.{run, finished, three, counts}
-use Rattle.books.specs.Notation.{convention_1, listing, gives}
-
-abbrev T : String → Token
-T s = token Plain (bytes s)
-
-abbrev R : String → Token
-R s = token Register (bytes s)
-
-abbrev N : String → Token
-N s = token Number (bytes s)
-
-abbrev K : String → Token
-K s = token Keyword (bytes s)
-
-abbrev S : String → Token
-S s = token Symbol (bytes s)
-
-abbrev P : String → Token
-P s = token Punct (bytes s)
-
-abbrev line : List Token → Line
-line ts = record { address = none; indent = 0; tokens = ts }
-
--- as `gives`, where the kinds matter
-abbrev turns : Listing → Listing → Type 0
-turns before after = finished convention_1 before ≡ after
+use Rattle.reference.specs.Run.{run, three, counts}
+use Rattle.books.specs.Notation.{convention_1, said, listing, T, R, N, K, S, P, line, gives, turns}
 
 abbrev stays : List String → Type 0
 stays ls = gives ls ls
@@ -91,3 +65,8 @@ pub record Readings : Type 0 where
   -- 11: a line that is not rewritten stays as it is, and so does an assignment that nobody reads
   pub sum_left : stays ("rax = 4 + 5;" ∷ [])
   pub dead_assignment_left : stays ("rax = 5;" ∷ "rax = 6;" ∷ [])
+  -- the release form, in which a negation wraps as sums do
+  pub negation_wraps :
+      turns
+      (line (R "rax" ∷ P " = " ∷ N "--9223372036854775808" ∷ P ";" ∷ []) ∷ said "rbx = rax + 1;" ∷ [])
+      (said "rbx = -0x7fffffffffffffff;" ∷ [])

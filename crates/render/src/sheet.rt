@@ -333,9 +333,8 @@ fn put_calls_row(out: Output, cleaning: &Cleaning) -> Result<(), Unwritten> {
     put_sentence(
         out,
         calls_stay(cleaning),
-        b"<b>No call by name is lost, and none through a cast pointer.</b> After a step each function is called in the listing at least \
-          as many times as \
-          before it. <code>calls-stay</code>",
+        b"<b>Each call by name stands in the text, and each through a cast pointer.</b> After a step each function's call stands in the \
+          listing at least as many times as before it. <code>calls_stay</code>",
     )?;
     put(out, b"counted: each callee above</td></tr>\n")
 }
@@ -346,7 +345,7 @@ fn put_labels_row(out: Output, all: usize, stand: usize) -> Result<(), Unwritten
         all == stand,
         b"<b>Labels stand.</b> Every label line of the input stands in every listing of the run, unchanged, with its address and indent, \
           in order. \
-          <code>labels-stand</code>",
+          <code>labels_stand</code>",
     )?;
     put_two(out, stand, b" of ", all, b" stand unchanged</td></tr>\n")
 }
@@ -358,7 +357,8 @@ fn put_gone_row(out: Output, lines: usize, left: usize, removed: u64) -> Result<
         whole,
         b"<b>A line goes only as an assignment.</b> A step takes away at most one line, and just before it that line was an assignment to \
           a register or to a \
-          stack slot. <code>gone</code>",
+          stack slot. The lines that it is joined into keep address and indent, and every other line stands unchanged. \
+          <code>gone</code>",
     )?;
     put_number(out, removed)?;
     put(out, b" went</td></tr>\n")
@@ -368,8 +368,8 @@ fn put_size_row(out: Output, before: Sizes, after: Sizes) -> Result<(), Unwritte
     put_sentence(
         out,
         after.tokens <= before.tokens && after.text <= 49152,
-        b"<b>Nothing swells.</b> No step adds a token, and the text stays within 49,152 bytes. <code>tokens-stay</code> \
-          <code>text-bounded</code>",
+        b"<b>The number of tokens never grows.</b> After a step no more tokens stand than before it, and the text stays within 49,152 \
+          bytes. <code>tokens_stay</code> <code>text_bounded</code>",
     )?;
     put_two(
         out,
@@ -386,9 +386,8 @@ fn put_addresses_row(out: Output, cleaning: &Cleaning) -> Result<(), Unwritten> 
     put_sentence(
         out,
         all == held,
-        b"<b>No instruction is lost.</b> Whatever addresses a line of the input has, there is a finished line whose two addresses hold \
-          them between them. \
-          <code>nothing-lost</code>",
+        b"<b>Every address is accounted for.</b> Whatever addresses a line of the input has, there is a finished line whose two addresses \
+          hold them between them. <code>nothing_lost</code>",
     )?;
     put_two(
         out,
@@ -421,7 +420,7 @@ fn put_guarantee(
     put_proved(
         out,
         b"<b>Places stay.</b> The pairs of address and indent that are left stand in the input's order, and none is new. \
-          <code>pairs-in-order</code>",
+          <code>pairs_in_order</code>",
         b"by the theorem: line beside line above",
     )?;
     put_gone_row(out, before.lines, after.lines, cleaning.told.removed)?;
@@ -437,7 +436,7 @@ fn put_guarantee(
         out,
         b"<b>You get the end of that very run.</b> The output is the tape of the finished listing, and the reported attempts, removals \
           and cuts are those of \
-          the run. <code>output-is</code> <code>report-is</code>",
+          the run. <code>output_is</code> <code>report_is</code>",
         b"by the theorem",
     )?;
     if cleaning.rules.profile {
