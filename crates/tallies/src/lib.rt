@@ -3,12 +3,14 @@
 // counts them.
 #![tactic(auto)]
 
+mod addresses; // the first line that has one
 mod calls; // calls of a name
 mod casts; // calls through a cast pointer
 mod labels; // label lines
 mod sizes; // lines, tokens, bytes of text
 mod tally; // the pass over the commands that they share
 
+pub use addresses::first_addressed;
 pub use calls::{count_calls, opens};
 pub use casts::count_casts;
 pub use labels::count_labels;
