@@ -9,7 +9,7 @@ use clean::{Finished, Tally};
 use lines::marks::Marks;
 use lines::rules::Rules;
 use lines::words::SYMBOL;
-use tallies::{Sizes, count_calls, count_casts, count_labels, count_sizes};
+use tallies::{Sizes, calls_stay, count_calls, count_casts, count_labels, count_sizes};
 use tape::walk::{Commands, Event};
 
 // A tick, or a cross: the latter is never seen unless the counting or the theorem is wrong.
@@ -90,27 +90,6 @@ fn put_calls(out: Output, cleaning: &Cleaning) -> Result<(), Unwritten> {
     put_names(out, cleaning)?;
     put_callee(out, cleaning, None)?;
     put(out, b"</tbody></table></div>\n")
-}
-
-// Whether a callee is called as often afterwards.
-fn stays(cleaning: &Cleaning, callee: Option<&[u8]>) -> bool {
-    count_callee(cleaning.raw, callee) <= count_callee(cleaning.cleaned, callee)
-}
-
-// Whether each callee is called as often afterwards.
-// Kept: beside the loop of `put_names`, which holds what stands before each name besides: the two share how the last Symbol is held.
-fn calls_stay(cleaning: &Cleaning) -> bool {
-    let mut symbol = None;
-    for c in Commands::<false>::new(cleaning.raw) {
-        if let Some(name) = symbol
-            && opens(c.event)
-            && !stays(cleaning, Some(name))
-        {
-            return false;
-        }
-        symbol = symbol_of(c.event);
-    }
-    stays(cleaning, None)
 }
 
 // ---- labels
@@ -332,7 +311,7 @@ fn put_two(
 fn put_calls_row(out: Output, cleaning: &Cleaning) -> Result<(), Unwritten> {
     put_sentence(
         out,
-        calls_stay(cleaning),
+        calls_stay(cleaning.raw, cleaning.cleaned),
         b"<b>Each call by name stands in the text, and each through a cast pointer.</b> After a step each function's call stands in the \
           listing at least as many times as before it. <code>calls_stay</code>",
     )?;

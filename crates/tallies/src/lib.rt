@@ -8,6 +8,7 @@ mod calls; // calls of a name
 mod casts; // calls through a cast pointer
 mod labels; // label lines
 mod sizes; // lines, tokens, bytes of text
+mod staying; // whether each callee is called as often
 mod tally; // the pass over the commands that they share
 
 pub use addresses::first_addressed;
@@ -15,3 +16,4 @@ pub use calls::{count_calls, opens};
 pub use casts::count_casts;
 pub use labels::count_labels;
 pub use sizes::{Sizes, count_sizes};
+pub use staying::calls_stay;
