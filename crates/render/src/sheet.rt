@@ -1,16 +1,16 @@
 // The field engineer's sheet below the listings: calls, labels, counts, settings, and the guarantee's sentences with what was counted here.
 // The numbers are the reply's, and those that crate tallies counts from the two tapes: of the listings that they hold, as the reference
-// counts (its theorem `ticks` says how they must come out). Which labels stand, and which addresses are held, is counted here without a
-// promise.
+// counts (its theorem `ticks` says how they must come out). Which labels stand is counted here without a promise.
 use crate::Cleaning;
 use crate::sink::{Output, Unwritten, count_of, put, put_number, put_text};
 use crate::walking::{Line, Lines, label_of, opens, symbol_of};
 use clean::{Finished, Tally};
-use lines::marks::Marks;
 use lines::rules::Rules;
 use lines::words::SYMBOL;
-use tallies::{Sizes, calls_stay, count_calls, count_casts, count_labels, count_sizes};
-use tape::walk::{Commands, Event};
+use tallies::{
+    Addresses, Sizes, calls_stay, count_calls, count_casts, count_held, count_labels, count_sizes,
+};
+use tape::walk::Commands;
 
 // A tick, or a cross: the latter is never seen unless the counting or the theorem is wrong.
 fn put_tick(out: Output, holds: bool) -> Result<(), Unwritten> {
@@ -145,39 +145,6 @@ fn count_standing(cleaning: &Cleaning, places: &[Option<usize>]) -> usize {
             label_of(*line).is_some() && stands(*line, cleaning.cleaned, **place)
         })
         .count()
-}
-
-// ---- addresses
-
-// The addresses that a command says, if any.
-fn marks_of(event: Event) -> Option<Marks> {
-    match event {
-        Event::Line { address, .. } => address.map(|a| Marks { low: a, high: a }),
-        Event::Marks { low, high } if low <= high => Some(Marks { low, high }),
-        _ => None,
-    }
-}
-
-// Whether addresses lie within the marks of some line.
-fn is_held(cleaned: &[u8], s: Marks) -> bool {
-    Lines::new(cleaned).any(|line| match line.marks {
-        Some(m) => m.low <= s.low && s.high <= m.high,
-        None => false,
-    })
-}
-
-// How many addresses and marks the raw tape has, and how many of them lie within the marks of some finished line.
-// Kept: counted by hand: tried as `filter_map` and `count`, and the proof did not close at the bound that `count` asks of the items.
-fn count_marks(cleaning: &Cleaning) -> (usize, usize) {
-    let mut all = 0usize;
-    let mut held = 0usize;
-    for c in Commands::<false>::new(cleaning.raw) {
-        if let Some(marks) = marks_of(c.event) {
-            all = all.saturating_add(1);
-            held = held.saturating_add(usize::from(is_held(cleaning.cleaned, marks)));
-        }
-    }
-    (all, held)
 }
 
 // ---- counts and settings
@@ -361,7 +328,7 @@ fn put_size_row(out: Output, before: Sizes, after: Sizes) -> Result<(), Unwritte
 }
 
 fn put_addresses_row(out: Output, cleaning: &Cleaning) -> Result<(), Unwritten> {
-    let (all, held) = count_marks(cleaning);
+    let Addresses { all, held } = count_held(cleaning.raw, cleaning.cleaned);
     put_sentence(
         out,
         all == held,

@@ -3,7 +3,7 @@
 // counts them.
 #![tactic(auto)]
 
-mod addresses; // the first line that has one
+mod addresses; // the first line that has one, and those that are held
 mod calls; // calls of a name
 mod casts; // calls through a cast pointer
 mod labels; // label lines
@@ -11,7 +11,7 @@ mod sizes; // lines, tokens, bytes of text
 mod staying; // whether each callee is called as often
 mod tally; // the pass over the commands that they share
 
-pub use addresses::first_addressed;
+pub use addresses::{Addresses, count_held, first_addressed};
 pub use calls::{count_calls, opens};
 pub use casts::count_casts;
 pub use labels::count_labels;
