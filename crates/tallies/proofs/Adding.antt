@@ -128,11 +128,6 @@ unfolding ◌and◌
 and_assoc true b c = refl
 and_assoc false b c = refl
 
-pub and_never : (a : Bool) → (a and false) ≡ false
-unfolding ◌and◌
-and_never true = refl
-and_never false = refl
-
 pub call_in : (name : Text) (t : Token) (ts : List Token) → calls_in (some name) (t ∷ ts) ≡ one_if (is_name name t and opens ts) + calls_in (some name) ts
 unfolding calls_in is_call_mark
 call_in name t ts = ap (λ (b : Bool). one_if b + calls_in (some name) ts) (sym (and_assoc (is Symbol t) (t.text ≟ name) (opens ts)))

@@ -21,7 +21,8 @@ use Rattle.reference.proofs.Shapes.{same_text}
 use Rattle.tape.specs.Held.{tokens_of, lines_of}
 use Rattle.tallies.specs.Counting.{is_name}
 use Rattle.tallies.specs.Ticks.{CallsStay}
-use Rattle.tallies.proofs.Adding.{call_in, opens-first, and_never}
+use Rattle.laws.proofs.Scans.{and_last}
+use Rattle.tallies.proofs.Adding.{call_in, opens-first}
 
 -- the text of the last token, where it is a Symbol
 abbrev pub Last : Type 0
@@ -63,7 +64,7 @@ module _ {before after : Listing} where
   unfolding calls_in opens
   asked_line {symbol} address indent more h = record {
     stays = λ name e.
-        (let closed : one_if (named_by name symbol and false) ≡ 0 = zero_if (and_never (named_by name symbol)) in h.stays name (omega arith));
+        (let closed : one_if (named_by name symbol and false) ≡ 0 = zero_if (and_last (named_by name symbol)) in h.stays name (omega arith));
   }
 
   pub asked_token : {symbol now : Last} (t : Token) (more : List Tape.Command) → Passed before after symbol t
@@ -82,7 +83,7 @@ module _ {before after : Listing} where
   -- no bracket, or a name that stays
   pub passed-closed : {symbol : Last} (t : Token) → opens (t ∷ []) ≡ false → Passed before after symbol t
   passed-closed {symbol} t e = record {
-    stays = λ name f. absurd (false≢true (sym (ap (λ (x : Bool). named_by name symbol and x) e ∙ and_never (named_by name symbol)) ∙ f));
+    stays = λ name f. absurd (false≢true (sym (ap (λ (x : Bool). named_by name symbol and x) e ∙ and_last (named_by name symbol)) ∙ f));
   }
 
   pub passed-stays : (symbol : Last) (t : Token) → name_stays before after symbol ≡ true → Passed before after symbol t
@@ -103,7 +104,7 @@ module _ {before after : Listing} where
     where
       each : leb (calls none before) (calls none after) ≡ true → (c : Callee) → Stays before after c
       each e none = leb-true _ _ e
-      each e (some name) = let closed : one_if (named_by name symbol and false) ≡ 0 = zero_if (and_never (named_by name symbol)) in
+      each e (some name) = let closed : one_if (named_by name symbol and false) ≡ 0 = zero_if (and_last (named_by name symbol)) in
           h.stays name (omega arith)
 
 -- what the last token is, as the code keeps it
