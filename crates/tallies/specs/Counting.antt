@@ -1,4 +1,5 @@
--- What the code's values mean: what is counted so far, with what is still to come. Assumes nothing.
+-- What the code's values mean: what is counted so far, with what is still to come; and which addresses are held. Assumes
+-- nothing.
 use Rattle.std.specs.Prelude.{ℕ, ◌+◌, ◌≡◌, Bool, false, List, [], ◌∷◌, eqb, leb, length}
 use Rattle.std.proofs.Math.Option.{Option, none, some}
 use Rattle.reference.specs.Control.{◌and◌, when◌then◌else◌}

@@ -1,4 +1,5 @@
-// What a listing holds, counted from its tape: lines, tokens, bytes of text, calls, labels. The tape may be any bytes (`held` of crate
+// What a listing holds, counted from its tape: lines, tokens, bytes of text, calls, labels; and what of
+// it the listing of another tape keeps: calls, addresses. The tape may be any bytes (`held` of crate
 // tape says which listing they hold); of an accepted tape, and of a cleaned one, the numbers are those of its listing, as the reference
 // counts them.
 #![tactic(auto)]
