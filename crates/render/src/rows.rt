@@ -4,6 +4,7 @@ use crate::sink::{Output, Unwritten, count_of, put, put_hex, put_number};
 use crate::walking::{Line, Lines};
 use lines::marks::Marks;
 use sources::came_into;
+use tallies::first_addressed;
 
 // ---- what a raw line came into
 
@@ -34,7 +35,7 @@ fn ask(cleaning: &Cleaning, k: usize) -> Trace {
     );
     Trace {
         flags,
-        became: Lines::new(&out).position(|line| line.address.is_some()),
+        became: first_addressed(&out),
     }
 }
 

@@ -1,16 +1,16 @@
 // The field engineer's sheet below the listings: calls, labels, counts, settings, and the guarantee's sentences with what was counted here.
 // The numbers are the reply's, and those that crate tallies counts from the two tapes: of the listings that they hold, as the reference
-// counts (its theorem `ticks` says how they must come out). Which labels stand, and which addresses are held, is counted here without a
-// promise.
+// counts (its theorem `ticks` says how they must come out). Which labels stand is counted here without a promise.
 use crate::Cleaning;
 use crate::sink::{Output, Unwritten, count_of, put, put_number, put_text};
 use crate::walking::{Line, Lines, label_of, opens, symbol_of};
 use clean::{Finished, Tally};
-use lines::marks::Marks;
 use lines::rules::Rules;
 use lines::words::SYMBOL;
-use tallies::{Sizes, count_calls, count_casts, count_labels, count_sizes};
-use tape::walk::{Commands, Event};
+use tallies::{
+    Addresses, Sizes, calls_stay, count_calls, count_casts, count_held, count_labels, count_sizes,
+};
+use tape::walk::Commands;
 
 // A tick, or a cross: the latter is never seen unless the counting or the theorem is wrong.
 fn put_tick(out: Output, holds: bool) -> Result<(), Unwritten> {
@@ -92,27 +92,6 @@ fn put_calls(out: Output, cleaning: &Cleaning) -> Result<(), Unwritten> {
     put(out, b"</tbody></table></div>\n")
 }
 
-// Whether a callee is called as often afterwards.
-fn stays(cleaning: &Cleaning, callee: Option<&[u8]>) -> bool {
-    count_callee(cleaning.raw, callee) <= count_callee(cleaning.cleaned, callee)
-}
-
-// Whether each callee is called as often afterwards.
-// Kept: beside the loop of `put_names`, which holds what stands before each name besides: the two share how the last Symbol is held.
-fn calls_stay(cleaning: &Cleaning) -> bool {
-    let mut symbol = None;
-    for c in Commands::<false>::new(cleaning.raw) {
-        if let Some(name) = symbol
-            && opens(c.event)
-            && !stays(cleaning, Some(name))
-        {
-            return false;
-        }
-        symbol = symbol_of(c.event);
-    }
-    stays(cleaning, None)
-}
-
 // ---- labels
 
 // Whether a line stands as the finished line of that number: unchanged, with its address and indent.
@@ -166,39 +145,6 @@ fn count_standing(cleaning: &Cleaning, places: &[Option<usize>]) -> usize {
             label_of(*line).is_some() && stands(*line, cleaning.cleaned, **place)
         })
         .count()
-}
-
-// ---- addresses
-
-// The addresses that a command says, if any.
-fn marks_of(event: Event) -> Option<Marks> {
-    match event {
-        Event::Line { address, .. } => address.map(|a| Marks { low: a, high: a }),
-        Event::Marks { low, high } if low <= high => Some(Marks { low, high }),
-        _ => None,
-    }
-}
-
-// Whether addresses lie within the marks of some line.
-fn is_held(cleaned: &[u8], s: Marks) -> bool {
-    Lines::new(cleaned).any(|line| match line.marks {
-        Some(m) => m.low <= s.low && s.high <= m.high,
-        None => false,
-    })
-}
-
-// How many addresses and marks the raw tape has, and how many of them lie within the marks of some finished line.
-// Kept: counted by hand: tried as `filter_map` and `count`, and the proof did not close at the bound that `count` asks of the items.
-fn count_marks(cleaning: &Cleaning) -> (usize, usize) {
-    let mut all = 0usize;
-    let mut held = 0usize;
-    for c in Commands::<false>::new(cleaning.raw) {
-        if let Some(marks) = marks_of(c.event) {
-            all = all.saturating_add(1);
-            held = held.saturating_add(usize::from(is_held(cleaning.cleaned, marks)));
-        }
-    }
-    (all, held)
 }
 
 // ---- counts and settings
@@ -332,7 +278,7 @@ fn put_two(
 fn put_calls_row(out: Output, cleaning: &Cleaning) -> Result<(), Unwritten> {
     put_sentence(
         out,
-        calls_stay(cleaning),
+        calls_stay(cleaning.raw, cleaning.cleaned),
         b"<b>Each call by name stands in the text, and each through a cast pointer.</b> After a step each function's call stands in the \
           listing at least as many times as before it. <code>calls_stay</code>",
     )?;
@@ -382,7 +328,7 @@ fn put_size_row(out: Output, before: Sizes, after: Sizes) -> Result<(), Unwritte
 }
 
 fn put_addresses_row(out: Output, cleaning: &Cleaning) -> Result<(), Unwritten> {
-    let (all, held) = count_marks(cleaning);
+    let Addresses { all, held } = count_held(cleaning.raw, cleaning.cleaned);
     put_sentence(
         out,
         all == held,

@@ -128,17 +128,17 @@ unfolding ◌and◌
 and_assoc true b c = refl
 and_assoc false b c = refl
 
+pub call_in : (name : Text) (t : Token) (ts : List Token) → calls_in (some name) (t ∷ ts) ≡ one_if (is_name name t and opens ts) + calls_in (some name) ts
+unfolding calls_in is_call_mark
+call_in name t ts = ap (λ (b : Bool). one_if b + calls_in (some name) ts) (sym (and_assoc (is Symbol t) (t.text ≟ name) (opens ts)))
+
+pub opens-first : (t : Token) (ts : List Token) → opens (t ∷ ts) ≡ opens (t ∷ [])
+unfolding opens
+opens-first t ts = refl
+
 module _ (name : Text) (t : Token) (s : Calls) where
   pub calls-before : s.begun ≡ false → Counts (calls_total name) (Tape.new_token t) s s
   calls-before e = counts_token (calls_with name) (calls_in (some name)) t (λ ts. calls_shut name s ts e ∙ sym (calls_shut name s (t ∷ ts) e))
-
-  call_in : (ts : List Token) → calls_in (some name) (t ∷ ts) ≡ one_if (is_name name t and opens ts) + calls_in (some name) ts
-  unfolding calls_in is_call_mark
-  call_in ts = ap (λ (b : Bool). one_if b + calls_in (some name) ts) (sym (and_assoc (is Symbol t) (t.text ≟ name) (opens ts)))
-
-  opens-first : (ts : List Token) → opens (t ∷ ts) ≡ opens (t ∷ [])
-  unfolding opens
-  opens-first ts = refl
 
   pub calls_more : {r : Calls} → s.begun ≡ true → r.count ≡ s.count + one_if (s.named and opens (t ∷ [])) → r.begun ≡ true
       → r.named ≡ is_name name t → Counts (calls_total name) (Tape.new_token t) s r
@@ -147,8 +147,8 @@ module _ (name : Text) (t : Token) (s : Calls) where
       adds : (ts : List Token) → calls_with name r ts ≡ calls_with name s (t ∷ ts)
       adds ts =
           let same : one_if (r.named and opens ts) ≡ one_if (is_name name t and opens ts) = ap (λ (x : Bool). one_if (x and opens ts)) n in
-          let first : one_if (s.named and opens (t ∷ ts)) ≡ one_if (s.named and opens (t ∷ [])) = ap (λ (x : Bool). one_if (s.named and x)) (opens-first ts) in
-          omega (arith, calls_open name r ts b, calls_open name s (t ∷ ts) e, call_in ts)
+          let first : one_if (s.named and opens (t ∷ ts)) ≡ one_if (s.named and opens (t ∷ [])) = ap (λ (x : Bool). one_if (s.named and x)) (opens-first t ts) in
+          omega (arith, calls_open name r ts b, calls_open name s (t ∷ ts) e, call_in name t ts)
 
 pub calls-zero : (name : Text) (s : Calls) → s.begun ≡ false → s.count ≡ 0 → (ts : List Token) → calls_with name s ts ≡ 0
 calls-zero name s e c ts = calls_shut name s ts e ∙ c

@@ -85,7 +85,7 @@ listing_ticks rules input d tape cleaned e f =
     let ls : List Listing = steps (run rules input) in
     let within : Within input (last_of input ls) = each_last (Within input) input ls d.each in
     record {
-      calls_stay = λ c. rw (e, f) (calls_last c input ls d.step);
+      calls_stay = rw (e, f) (record { as_often = λ c. calls_last c input ls d.step });
       labels_stand = rw (e, f) within.labels_stand;
       lines_gone = rw (e, f) (lines_gone rules input d);
       tokens_stay = rw (e, f) (tokens-last input ls d.step);

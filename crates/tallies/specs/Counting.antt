@@ -1,15 +1,17 @@
--- What the code's values mean: what is counted so far, with what is still to come. Assumes nothing.
-use Rattle.std.specs.Prelude.{ℕ, ◌+◌, ◌≡◌, Bool, false, List, [], ◌∷◌, eqb, length}
+-- What the code's values mean: what is counted so far, with what is still to come; and which addresses are held. Assumes
+-- nothing.
+use Rattle.std.specs.Prelude.{ℕ, ◌+◌, ◌≡◌, Bool, false, List, [], ◌∷◌, eqb, leb, length}
 use Rattle.std.proofs.Math.Option.{Option, none, some}
 use Rattle.reference.specs.Control.{◌and◌, when◌then◌else◌}
 use Rattle.reference.specs.Tape as Tape
+use Rattle.reference.specs.Spans.{Span, Marks}
 use Rattle.reference.specs.Text.{Text, bytes, ◌≟◌}
-use Rattle.reference.specs.Lists.{is_empty}
+use Rattle.reference.specs.Lists.{any, is_empty}
 use Rattle.reference.specs.Listing.{Token, is, Symbol}
 use Rattle.reference.specs.Shapes.{label_tokens}
 use Rattle.reference.specs.Claim.{sum, one_if, opens, calls_in, token_count, text_in, text}
 use Rattle.tape.specs.Questions as Totals
-use Rattle.tape.specs.Held.{tokens_of, lines_of}
+use Rattle.tape.specs.Held.{commands, tokens_of, lines_of, marks_of}
 use Rattle.tallies.specs.declared.sizes.Sizes.{Sizes}
 use Rattle.tallies.specs.declared.casts.Casts.{Casts}
 use Rattle.tallies.specs.declared.calls.Calls.{Calls}
@@ -90,3 +92,23 @@ label_in ts = one_if (label_tokens ts)
 
 unfoldable pub labels_with : Labels → List Token → ℕ
 labels_with s ts = s.count + one_if (is_label_with s.shape ts)
+
+-- ---- addresses held
+
+-- the addresses and the marks that commands say, each as its lowest and its highest
+abbrev pub spans_in : List Tape.Command → List Span
+spans_in [] = []
+spans_in (Tape.new_line none indent ∷ more) = spans_in more
+spans_in (Tape.new_line (some a) indent ∷ more) = record { lowest = a; highest = a } ∷ spans_in more
+spans_in (Tape.marked s ∷ more) = s ∷ spans_in more
+spans_in (Tape.new_token t ∷ more) = spans_in more
+spans_in (Tape.end ∷ more) = spans_in more
+
+-- whether the marks of a line hold them between them
+abbrev pub holds : Span → Marks → Bool
+holds s none = false
+holds s (some m) = leb m.lowest s.lowest and leb s.highest m.highest
+
+-- so the marks of some line of a tape
+abbrev pub is_held : List ℕ → Span → Bool
+is_held tape s = any (holds s) (marks_of (commands tape))
