@@ -1,4 +1,5 @@
--- Laws of the evaluators' places, answers and tests.
+-- Laws of the evaluators' places, answers and tests; what falls when they call each other (Bytes), and that their promises determine each
+-- result (Determined).
 pub mod Left
 pub mod Bytes
 pub mod Ahead

@@ -1,6 +1,5 @@
 -- From the ground up: addresses moved in listings and marks (Moving), the first command with a bad address (Firsts), one conversion
--- (Converting), what the two calls promise (Guarantee), the conversion command by command (Stepwise); for the code, question 18 (Searching), the
--- writing (Putting) and the calls (Answering); examples by computation (Examples).
+-- (Converting), what the two calls promise (Guarantee); for the code, question 18 (Searching), the writing (Putting) and the calls (Answering); examples by computation (Examples).
 pub mod Moving
 pub mod Firsts
 pub mod Converting

@@ -122,7 +122,8 @@ module _ (based : Bool) (base : ℕ) (tape : List ℕ) where
         let f = moved_by based base in
         let m = moved-limits f lines (read-limits_by form tape lines reads) in
         let w = write-length_by (other_form based) (move_lines f lines) (move_all_marks f (marks_in_by form tape)) in
-        omega (arith, w, m.few_lines, m.few_tokens, m.short_text, ap length all-written, length-append (write_lines_by (other_form based) (move_lines f lines) (move_all_marks f (marks_in_by form tape))) (0xFF ∷ []))
+        let written = write_lines_by (other_form based) (move_lines f lines) (move_all_marks f (marks_in_by form tape)) in
+        omega (arith, w, m.few_lines, m.few_tokens, m.short_text, ap length all-written, length-append written (0xFF ∷ []))
 
     pub whole_put : {p p₁ p₂ : Cursor} → Fits p 34561 → Puts p (flat_map bytes_of (places_by form tape)) p₁ → Puts p₁ (write_command_by (other_form based) Tape.end) p₂
         → Puts p (write_by (other_form based) (move_lines (moved_by based base) lines) (move_all_marks (moved_by based base) (marks_in_by form tape))) p₂

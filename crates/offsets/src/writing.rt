@@ -1,5 +1,4 @@
-// The commands of a tape, put in the other form. A line with an address and marks are put anew; every other command has the same bytes in
-// both forms and is copied.
+// The commands of a tape, put in the other form: the addresses of a line and of marks are moved, and every other command is put as it is.
 ghost use Rattle.std.specs.Prelude.{◌≡◌, false, ◌+◌, ◌<◌, length};
 ghost use Rattle.reference.specs.Lists.{any};
 ghost use Rattle.text.specs.Cursor.{Fits, Puts};
