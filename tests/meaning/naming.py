@@ -640,11 +640,15 @@ def sum_of_32_bits(s):
 
 @row("sum_narrowed")
 def sum_narrowed(s):
-    """A sum of the register's width is one of fewer bits now."""
+    """A sum of the register's width is one of fewer bits now. What is joined may be a number, which has no width, beside a narrower register."""
     if s.step.is_cut or s.expression is None:
         return False
     own = s.width_of(s.expression)
-    return own > 0 and any(max([32, own, *map(s.width_of, others)]) < w for w, _, others in operands_beside(s))
+
+    def is_narrower(w, others):
+        widths = [own, *map(s.width_of, others)]
+        return max(widths) > 0 and max(32, *widths) < w
+    return any(is_narrower(w, others) for w, _, others in operands_beside(s))
 
 
 @row("octal")
