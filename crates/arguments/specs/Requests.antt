@@ -24,7 +24,7 @@ use Rattle.arguments.specs.declared.request.Problem.TheVariants as problem
 use Rattle.arguments.specs.declared.request.Destination.{Destination}
 use Rattle.arguments.specs.declared.request.Destination.TheVariants as destination
 use Rattle.arguments.specs.declared.request.Request.{Request}
-use Rattle.lines.specs.declared.rules.Rules.{Rules}
+use Rattle.ground.specs.declared.rules.Rules.{Rules}
 use Rattle.arguments.specs.Request.{with_help, with_fault, with_verb, with_pending, with_convention, with_edition}
 use Rattle.arguments.specs.Request.{with_parts, with_profile, with_settle, with_exact, with_destination, with_operand, with_value}
 use Rattle.arguments.specs.Request.{with_wanted, with_chosen, with_entry}

@@ -13,7 +13,7 @@ use crate::first_word::{is_at, next_word};
 use crate::request::{Action, Destination, Flag, Kind, Problem, Request, Value, Verb};
 use crate::values::{is_name, value_of};
 use crate::word_tables::{convention_in, edition_in, option_in, verb_in};
-use lines::rules::Rules;
+use ground::rules::Rules;
 use text::Cursor;
 use words::integer_in;
 

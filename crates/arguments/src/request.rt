@@ -3,7 +3,7 @@ ghost use Rattle.std.specs.Prelude.{◌≡◌};
 ghost use Rattle.arguments.specs.Request.{with_fault, with_operand};
 ghost use Rattle.arguments.specs.Requests.{none_yet};
 
-use lines::rules::Rules;
+use ground::rules::Rules;
 
 // What is to be done; VersionOption is the word `--version`.
 #[derive(Clone, Copy, Debug, PartialEq, Eq)]

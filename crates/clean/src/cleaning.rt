@@ -2,7 +2,7 @@
 ghost use Rattle.std.specs.Prelude.{◌≡◌};
 ghost use Rattle.reference.specs.Listing as reference;
 ghost use Rattle.reference.specs.Questions.{Passed, read};
-ghost use Rattle.lines.specs.Rules.{rules_of};
+ghost use Rattle.ground.specs.Rules.{rules_of};
 ghost use Rattle.join.specs.Workspaces.{SameLent};
 ghost use Rattle.rounds.specs.Workspaces.{Runnable, Ran};
 ghost use Rattle.clean.specs.Replies.{cleaned};
@@ -11,7 +11,7 @@ ghost use Rattle.clean.specs.Cleaning.{Writable, ReplyWritten, Cleanable, Finish
 use crate::tabled::Tables;
 use build::used::Size;
 use join::Workspace;
-use lines::rules::Rules;
+use ground::rules::Rules;
 use lines::texts::{Listing, Texts};
 use rounds::{Outcome, Tally, optimize};
 

@@ -1,6 +1,6 @@
 // One attempt. The listing is always in the first set, area, tokens and lines, as far as its Size says; in the second a successful attempt
 // builds the new one.
-ghost use Rattle.lines.specs.Rules.{rules_of};
+ghost use Rattle.ground.specs.Rules.{rules_of};
 ghost use Rattle.join.specs.Workspaces.{Attemptable, Attempted, Decided, SameLent};
 
 use crate::apply::apply;
@@ -8,7 +8,7 @@ use crate::marks::carry_marks;
 use crate::workspace::Workspace;
 use build::used::Size;
 use life::LabelledListing;
-use lines::rules::Rules;
+use ground::rules::Rules;
 use plan::plans::{Join, decide};
 use plan::slots::SlotNames;
 

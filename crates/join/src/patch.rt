@@ -1,6 +1,6 @@
 // A plan carried out in place: the lines that change are written behind the used marks, and everything else stays where it is.
 ghost use Rattle.std.specs.Prelude.{◌≡◌, ◌+◌, length};
-ghost use Rattle.lines.specs.Rules.{rules_of};
+ghost use Rattle.ground.specs.Rules.{rules_of};
 ghost use Rattle.build.specs.Builders as builders;
 ghost use Rattle.join.specs.Patching.{need_from};
 ghost use Rattle.join.specs.Builders as Builders;
@@ -11,7 +11,7 @@ use crate::changing::{is_changed, substitution};
 use crate::workspace::Workspace;
 use build::Builder;
 use build::used::Size;
-use lines::rules::Rules;
+use ground::rules::Rules;
 use lines::texts::Texts;
 use plan::plans::Join;
 

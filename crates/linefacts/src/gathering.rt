@@ -12,6 +12,7 @@ ghost use Rattle.lines.specs.Facts.{is_control, Tells};
 ghost use Rattle.linefacts.specs.Gathering.{seen_by, Bits, CallBits, Noted, AllNoted};
 ghost use Rattle.lines.specs.Texts.{Holds, Lined, Points, token_of, tokens_of};
 
+use ground::kinds;
 use lines::texts::Texts;
 use lines::{shapes, words};
 
@@ -36,7 +37,7 @@ fn is_control(texts: &Texts<'_>, w: u64) -> bool
     requires { Points texts.now w }
     ensures { result ≡ is_control (token_of texts.now w) }
 {
-    words::kind(w) == words::KEYWORD
+    words::kind(w) == kinds::KEYWORD
         || shapes::has_brace(texts, w)
         || text::same(words::text(texts, w), b":")
 }
@@ -59,13 +60,13 @@ fn token_bits(texts: &Texts<'_>, w: u64) -> u64
     ensures { Bits result (λ (i : ℕ). seen_by i (token_of texts.now w)) }
 {
     let kind = words::kind(w);
-    if kind == words::REGISTER {
+    if kind == kinds::REGISTER {
         return family_bits(texts, w);
     }
     if is_control(texts, w) {
         return CONTROL + SYMBOLS; // it may be a Symbol too
     }
-    if kind == words::SYMBOL {
+    if kind == kinds::SYMBOL {
         return SYMBOLS;
     }
     0

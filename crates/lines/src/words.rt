@@ -18,22 +18,6 @@ ghost use Rattle.lines.specs.Texts.{Points, text_of};
 
 use crate::texts::Texts;
 
-// The kinds that the cleaner asks about. (Address is 5 and Prefix is 7.)
-// Kept: numbers, as the C interface's tapes and the definitions have them. A kind that is read from a word is compared with one of these,
-// put into another word or written to a tape; an enum would be made of the number only to be turned back, which is no plainer. The number
-// costs `kind < 8` in four contracts: here, in build append.rt and merge.rt, and in tables writing.rt.
-pub const PLAIN: u64 = 0;
-
-pub const REGISTER: u64 = 1;
-
-pub const NUMBER: u64 = 2;
-
-pub const KEYWORD: u64 = 3;
-
-pub const SYMBOL: u64 = 4;
-
-pub const PUNCT: u64 = 6;
-
 // The buffers that hold a text.
 // Kept: the two values of one bit of a word, as the definitions have it. An enum would need a function to the bit and one from it. A `bool`
 // would spare one clause, `buffer < 2` of `token_word`; but calls would say `true` where they say `IN_AREA`, or name it as here.

@@ -11,7 +11,7 @@ mod walking; // the lines of a tape
 ghost use Rattle.render.specs.Sinks.{Later};
 
 use clean::Finished;
-use lines::rules::Rules;
+use ground::rules::Rules;
 pub use sink::{Sink, count_of};
 use sink::{Output, Unwritten};
 

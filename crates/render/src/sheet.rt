@@ -5,8 +5,8 @@ use crate::Cleaning;
 use crate::sink::{Output, Unwritten, count_of, put, put_number, put_text};
 use crate::walking::{Line, Lines, label_of, opens, symbol_of};
 use clean::{Finished, Tally};
-use lines::rules::Rules;
-use lines::words::SYMBOL;
+use ground::rules::Rules;
+use ground::kinds::SYMBOL;
 use tallies::{
     Addresses, Sizes, calls_stay, count_calls, count_casts, count_held, count_labels, count_sizes,
 };

@@ -4,7 +4,7 @@ ghost use Rattle.std.specs.Prelude.{length};
 ghost use Rattle.std.specs.Iterator.{at_most};
 
 use lines::marks::Marks;
-use lines::words::SYMBOL;
+use ground::kinds::SYMBOL;
 use tape::walk::{Commands, Event};
 use text::same;
 

@@ -1,7 +1,7 @@
 // One round: `propagate_once` of the Rust.
 ghost use Rattle.std.specs.Prelude.{◌≡◌, length};
 ghost use Rattle.reference.specs.Run.{propagate_once};
-ghost use Rattle.lines.specs.Rules.{rules_of};
+ghost use Rattle.ground.specs.Rules.{rules_of};
 ghost use Rattle.join.specs.Workspaces.{Attemptable, SameLent};
 ghost use Rattle.rounds.specs.Rounds.{Countable};
 ghost use Rattle.rounds.specs.Workspaces.{Runnable, Gatherable, Roundable, Turned, Made, attempts_with};
@@ -10,7 +10,7 @@ use crate::slots::gather_slots;
 use build::used::Size;
 use join::{Workspace, try_at};
 use life::{gather_labels, shift_labels};
-use lines::rules::Rules;
+use ground::rules::Rules;
 use plan::slots::SlotNames;
 
 // How far a round has come: the next line to try, the attempts and the removals so far, and the listing's size.

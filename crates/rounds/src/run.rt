@@ -5,7 +5,7 @@
 // number of the input line.
 ghost use Rattle.std.specs.Prelude.{◌≡◌, ◌≤◌, length};
 ghost use Rattle.reference.specs.Run.{drop_dead_results};
-ghost use Rattle.lines.specs.Rules.{rules_of};
+ghost use Rattle.ground.specs.Rules.{rules_of};
 ghost use Rattle.build.specs.State.{used};
 ghost use Rattle.build.specs.Added.{used_words};
 ghost use Rattle.cuts.specs.Cuts.{Cut};
@@ -20,7 +20,7 @@ use build::used::Size;
 use cuts::drop_dead_results;
 use join::Workspace;
 use linefacts::gather_facts;
-use lines::rules::Rules;
+use ground::rules::Rules;
 use lines::texts::Texts;
 
 // What is told of the rounds: the attempts of each of three, 0 for one that was not made; or, of a run that settled, how many rounds it

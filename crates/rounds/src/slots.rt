@@ -7,6 +7,7 @@ ghost use Rattle.lines.specs.Words.{len_of};
 ghost use Rattle.rounds.specs.Slots.{Slotting, Roomy, Noted, Gathers, SameSlots};
 ghost use Rattle.lines.specs.Texts.{Holds, Listed, Points, bare_listing, token_of, tokens_of};
 
+use ground::kinds;
 use lines::texts::{Listing, Texts};
 use lines::words;
 use plan::slots::SlotNames;
@@ -34,7 +35,7 @@ impl SlotBuffer<'_> {
         let end = self.used + s.len();
         self.text[self.used..end].copy_from_slice(s);
         self.words[self.count] = words::token_word(
-            words::PLAIN,
+            kinds::PLAIN,
             words::IN_AREA,
             self.used,
             s.len(),

@@ -1,6 +1,6 @@
 -- `clean::cleaning::written` meets its contract. Assumes nothing.
 use Rattle.std.proofs.Common.{rules, ◌≡◌, length}
-use Rattle.lines.specs.Rules.{rules_of}
+use Rattle.ground.specs.Rules.{rules_of}
 use Rattle.clean.proofs.Running.{loaded-runnable, fits-output, writes}
 use Rattle.clean.proofs.cleaning.written.Goals as goal
 

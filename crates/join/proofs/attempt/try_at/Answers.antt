@@ -1,5 +1,5 @@
 -- `join::attempt::try_at` meets its contract. Assumes nothing.
-use Rattle.lines.specs.Rules.{rules_of}
+use Rattle.ground.specs.Rules.{rules_of}
 use Rattle.join.proofs.Lending.{lent_behind, marks_for}
 use Rattle.join.proofs.Trying.{nothing-done, plannable, joined-done}
 use Rattle.join.proofs.attempt.try_at.Goals as goal

@@ -1,5 +1,5 @@
 -- What the loops of `rounds::rounds::turns` keep true, and what falls at each turn.
-use Rattle.lines.specs.Rules.{rules_of}
+use Rattle.ground.specs.Rules.{rules_of}
 use Rattle.lines.specs.Marks.{lows_of, highs_of}
 use Rattle.join.specs.Workspaces.{SameLent}
 use Rattle.rounds.proofs.Turning.{left_over, Rounding}

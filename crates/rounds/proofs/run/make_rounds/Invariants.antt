@@ -1,6 +1,6 @@
 -- What the loop of `rounds::run::make_rounds` keeps true.
 use Rattle.std.proofs.Common.{◌-◌}
-use Rattle.lines.specs.Rules.{rules_of}
+use Rattle.ground.specs.Rules.{rules_of}
 use Rattle.lines.specs.Marks.{lows_of, highs_of}
 use Rattle.join.specs.Workspaces.{SameLent}
 use Rattle.rounds.proofs.Running.{Going}

@@ -1,12 +1,12 @@
--- `tape::questions::asked` meets its contract. Assumes nothing.
+-- `clean::asking::asked` meets its contract. Assumes nothing.
 use borrow.Author.Tests.{le-leb, lt-leb}
 use Rattle.reference.specs.Control.{◌and◌, when◌then◌else◌}
 use Rattle.reference.specs.Questions.{is_convention, is_edition, has_room_by}
 use Rattle.tape.specs.Questions.{first_no}
-use Rattle.tape.proofs.questions.asked.Goals as goal
-use Rattle.tape.proofs.questions.asked.Goals.{then-work_a-lt49152-via-then-work_a-lt49152}
-use Rattle.tape.proofs.questions.asked.Goals.{then-work_a-lt49152-via-else-work_a-lt49152+then-work_b-lt49152}
-use Rattle.tape.proofs.questions.asked.Goals.{then-work_a-lt49152-via-else-work_a-lt49152+else-work_b-lt49152+then-output-lt59137}
+use Rattle.clean.proofs.asking.asked.Goals as goal
+use Rattle.clean.proofs.asking.asked.Goals.{then-work_a-lt49152-via-then-work_a-lt49152}
+use Rattle.clean.proofs.asking.asked.Goals.{then-work_a-lt49152-via-else-work_a-lt49152+then-work_b-lt49152}
+use Rattle.clean.proofs.asking.asked.Goals.{then-work_a-lt49152-via-else-work_a-lt49152+else-work_b-lt49152+then-output-lt59137}
 
 pub returns-then-rules-gt2 : goal.returns-then-rules-gt2
 unfolding first_no is_convention when◌then◌else◌
