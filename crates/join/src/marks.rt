@@ -13,8 +13,8 @@ ghost use Rattle.join.specs.Workspaces.{Current, Plannable, Carried, SameListing
 use crate::changing::is_changed;
 use crate::workspace::Workspace;
 use build::used::Size;
-use lines::marks::Marks;
 use ground::rules::Rules;
+use lines::marks::Marks;
 use lines::words;
 use plan::plans::Join;
 

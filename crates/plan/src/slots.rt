@@ -2,7 +2,7 @@
 ghost use Rattle.std.specs.Prelude.{◌≡◌};
 ghost use Rattle.reference.specs.Text.{has};
 ghost use Rattle.lines.specs.Words.{Holds};
-ghost use Rattle.plan.specs.Slots.{slot_names, Slotted};
+ghost use Rattle.plan.specs.Texts.{slot_names, Slotted};
 ghost use Rattle.lines.specs.Texts.{Known, fam_text};
 
 use lines::fams::Fam;
@@ -21,7 +21,7 @@ pub struct SlotNames<'a> {
 // Whether s is one of the names.
 fn slot_among(slots: &SlotNames<'_>, s: &[u8]) -> bool
     requires { Holds slots.now.text.now slots.now.text.now slots.now.words.now }
-    ensures { result ≡ has (slot_names slots.now.text.now slots.now.words.now) s.now }
+    ensures { result ≡ has (slot_names slots.now) s.now }
 {
     // A name's word points into the one buffer, as the tape or as the area.
     let texts = Texts {
@@ -33,8 +33,8 @@ fn slot_among(slots: &SlotNames<'_>, s: &[u8]) -> bool
 
 // Whether the family is a stack slot whose address was taken when the round began.
 pub fn is_addressed(texts: &Texts<'_>, slots: &SlotNames<'_>, f: Fam) -> bool
-    requires { Slotted slots.now.text.now slots.now.words.now × Known texts.now f }
-    ensures { result ≡ has (slot_names slots.now.text.now slots.now.words.now) (fam_text texts.now f) }
+    requires { Slotted slots.now × Known texts.now f }
+    ensures { result ≡ has (slot_names slots.now) (fam_text texts.now f) }
 {
     8 <= f && slot_among(slots, words::text(texts, f))
 }
