@@ -10,7 +10,7 @@ use Rattle.reference.specs.Text.{Text}
 use Rattle.reference.specs.Listing.{Token, token}
 use Rattle.lines.specs.Words.{kind_of, buffer_of, start_of, len_of, word, text_of, token_of, Points}
 use Rattle.lines.proofs.words.Tokens.{kind_below, start_below, word_place, word_start, word_len, word-means, word-points, in_tape, in_area}
-use Rattle.build.specs.declared.used.Size.{Size}
+use Rattle.lines.specs.declared.texts.Size.{Size}
 use Rattle.build.specs.State.{used, Room, Appends}
 
 one_not_zero : ◌≡◌ {A = ℕ} 1 0 → ⊥

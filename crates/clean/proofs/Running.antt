@@ -29,7 +29,7 @@ use Rattle.lines.specs.Lines.{own, origin_of, bare}
 use Rattle.lines.specs.Marks.{lows_of, highs_of}
 use Rattle.lines.specs.declared.marks.Marks as code
 use Rattle.lines.proofs.words.Lines.{bare-means}
-use Rattle.build.specs.declared.used.Size.{Size}
+use Rattle.lines.specs.declared.texts.Size.{Size}
 use Rattle.join.specs.declared.workspace.Workspace.{Workspace}
 use Rattle.join.specs.Contents.{Contents, contents, used_lines, listing_now, bare_now}
 use Rattle.rounds.specs.Carries.{Held, Marked}

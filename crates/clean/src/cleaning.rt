@@ -10,10 +10,9 @@ ghost use Rattle.clean.specs.Replies.{cleaned};
 ghost use Rattle.clean.specs.Cleaning.{Writable, ReplyWritten, Cleanable, Finishes};
 
 use crate::tabled::Tables;
-use build::used::Size;
 use ground::rules::Rules;
 use join::Workspace;
-use lines::texts::{Listing, Texts};
+use lines::texts::{Listing, Size, Texts};
 use rounds::{Outcome, Tally, optimize};
 
 // What a cleaning did: the output's length, what is told of the rounds, the lines removed and the results cut.

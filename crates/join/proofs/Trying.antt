@@ -23,7 +23,7 @@ use Rattle.plan.specs.Texts.{slot_names}
 use Rattle.plan.specs.Plans.{planned as plan-in, join_in, Joins}
 use Rattle.build.specs.State.{used}
 use Rattle.build.specs.Added.{used_words}
-use Rattle.build.specs.declared.used.Size.{Size}
+use Rattle.lines.specs.declared.texts.Size.{Size}
 use Rattle.join.specs.declared.workspace.Workspace.{Workspace}
 use Rattle.join.specs.Contents.{Contents, contents, used_lines, listing_now, bare_now}
 use Rattle.join.specs.Workspaces.{Plannable, Acted, Carried}

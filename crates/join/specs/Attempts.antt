@@ -16,7 +16,7 @@ use Rattle.plan.specs.declared.plans.Join.{Join}
 use Rattle.plan.specs.declared.slots.SlotNames.{SlotNames}
 use Rattle.build.specs.State.{used}
 use Rattle.build.specs.Added.{used_words}
-use Rattle.build.specs.declared.used.Size.{Size}
+use Rattle.lines.specs.declared.texts.Size.{Size}
 use Rattle.join.specs.Contents.{Contents, contents, used_lines, listing_now, bare_now, Current}
 use Rattle.join.specs.Carrying.{Handed}
 use Rattle.join.specs.Workspaces.{Lent}

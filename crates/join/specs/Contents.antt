@@ -4,7 +4,7 @@ use Rattle.reference.specs.Text.{Text}
 use Rattle.reference.specs.Listing.{Listing}
 use Rattle.lines.specs.Lines.{Reading}
 use Rattle.lines.specs.Marks.{lows_of, highs_of}
-use Rattle.build.specs.declared.used.Size.{Size}
+use Rattle.lines.specs.declared.texts.Size.{Size}
 use Rattle.join.specs.Current as current
 use Rattle.join.specs.declared.workspace.Workspace.{Workspace}
 

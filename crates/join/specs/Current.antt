@@ -5,7 +5,7 @@ use Rattle.reference.specs.Listing.{Listing}
 use Rattle.lines.specs.Lines.{Reading, listing_read, bare_listing, Listed}
 use Rattle.build.specs.State.{used}
 use Rattle.build.specs.Added.{used_words}
-use Rattle.build.specs.declared.used.Size.{Size}
+use Rattle.lines.specs.declared.texts.Size.{Size}
 
 -- the lines in use
 abbrev pub used_lines : List ℕ → Size → List ℕ

@@ -8,7 +8,7 @@ use Rattle.lines.specs.Lines.{bare_in}
 use Rattle.lines.specs.Marks.{lows_of, highs_of}
 use Rattle.lines.specs.declared.texts.Listing.{Listing}
 use Rattle.plan.specs.declared.plans.Join.{Join}
-use Rattle.build.specs.declared.used.Size.{Size}
+use Rattle.lines.specs.declared.texts.Size.{Size}
 use Rattle.build.specs.State.{used}
 use Rattle.build.specs.Added.{used_words}
 use Rattle.join.specs.declared.workspace.Workspace.{Workspace}

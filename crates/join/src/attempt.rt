@@ -10,9 +10,9 @@ ghost use Rattle.join.specs.Workspaces.{SameLent};
 use crate::apply::apply;
 use crate::marks::carry_marks;
 use crate::workspace::Workspace;
-use build::used::Size;
 use ground::rules::Rules;
 use life::LabelledListing;
+use lines::texts::Size;
 use plan::plans::{Join, decide};
 use plan::slots::SlotNames;
 

@@ -1,9 +1,8 @@
 // What the attempts of a run work in.
 ghost use Rattle.join.specs.Workspaces.{Current, Stands};
 
-use build::used::Size;
 use lines::marks::Marks;
-use lines::texts::{Listing, Texts};
+use lines::texts::{Listing, Size, Texts};
 
 // Lent slices: the listing's rewritten texts, its token words and its line words; a second set, in which an attempt builds the lines that
 // it changes; and the marks, by the number of the input line.

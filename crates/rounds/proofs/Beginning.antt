@@ -13,7 +13,7 @@ use Rattle.joining.specs.Places.{label_places, labels_at}
 use Rattle.joining.proofs.Bare.{addressed-bare}
 use Rattle.joining.proofs.Rounds.{round_begins}
 use Rattle.lines.specs.Lines.{Reading}
-use Rattle.build.specs.declared.used.Size.{Size}
+use Rattle.lines.specs.declared.texts.Size.{Size}
 use Rattle.build.specs.State.{used}
 use Rattle.build.specs.Added.{used_words}
 use Rattle.plan.specs.Texts.{slot_names}

@@ -13,7 +13,7 @@ use Rattle.lines.specs.Lines.{Reading, numbered, line_read, listing_read}
 use Rattle.lines.proofs.words.Each.{map_at}
 use Rattle.linefacts.specs.Gathering.{AllNoted}
 use Rattle.linefacts.proofs.Making.{all-noted-lined}
-use Rattle.build.specs.declared.used.Size.{Size}
+use Rattle.lines.specs.declared.texts.Size.{Size}
 use Rattle.build.specs.State.{used}
 use Rattle.build.specs.Added.{used_words}
 use Rattle.join.specs.Current as tables

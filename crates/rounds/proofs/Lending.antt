@@ -6,7 +6,7 @@ use mathlib.Core.Path.{◌≡◌, refl, ◌∙◌}
 use mathlib.Core.List.{List}
 use lib.ListN.{length}
 use Rattle.reference.specs.Text.{Text}
-use Rattle.build.specs.declared.used.Size.{Size}
+use Rattle.lines.specs.declared.texts.Size.{Size}
 use Rattle.join.specs.declared.workspace.Workspace.{Workspace}
 use Rattle.join.specs.Contents.{contents, bare_now, Current}
 use Rattle.join.specs.Attempts.{Attemptable}

@@ -18,7 +18,7 @@ use Rattle.joining.specs.Limits.{RunLimits}
 use Rattle.laws.proofs.Scans.{if-true, if-false}
 use Rattle.reference.proofs.Marks.{finished_is}
 use Rattle.lines.specs.Lines.{Reading, numbered, origin_of}
-use Rattle.build.specs.declared.used.Size.{Size}
+use Rattle.lines.specs.declared.texts.Size.{Size}
 use Rattle.build.specs.State.{used}
 use Rattle.build.specs.Added.{used_words}
 use Rattle.join.specs.Contents.{Contents, used_lines, listing_now, bare_now, Current}

@@ -28,7 +28,7 @@ use Rattle.joining.proofs.Moving.{shift_labels, shift-labelled}
 use Rattle.joining.proofs.Rounds.{success-length, attempts_end, attempts-failed, attempts-succeeded}
 use Rattle.lines.specs.Lines.{Reading, numbered, origin_of, bare_in}
 use Rattle.lines.proofs.words.Lines.{bare-means}
-use Rattle.build.specs.declared.used.Size.{Size}
+use Rattle.lines.specs.declared.texts.Size.{Size}
 use Rattle.build.specs.State.{used}
 use Rattle.build.specs.Added.{used_words}
 use Rattle.plan.specs.Texts.{slot_names}

@@ -7,7 +7,7 @@ use Rattle.reference.specs.Rules.{Rules}
 use Rattle.reference.specs.Run as R
 use Rattle.joining.specs.Limits.{RunLimits}
 use Rattle.lines.specs.Lines.{Reading}
-use Rattle.build.specs.declared.used.Size.{Size}
+use Rattle.lines.specs.declared.texts.Size.{Size}
 use Rattle.join.specs.Current as tables
 use Rattle.join.specs.Contents.{Contents, contents, listing_now, bare_now, Current}
 use Rattle.join.specs.Workspaces.{Lent}

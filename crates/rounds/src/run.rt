@@ -16,12 +16,11 @@ ghost use Rattle.rounds.specs.Rounds.{Countable};
 ghost use Rattle.rounds.specs.Runs.{Runnable, Gatherable, SameListing, most_rounds, after_round, Few, Rounded, tally_of, told_of, Ran};
 
 use crate::rounds::{Round, propagate_once};
-use build::used::Size;
 use cuts::drop_dead_results;
 use ground::rules::Rules;
 use join::Workspace;
 use linefacts::gather_facts;
-use lines::texts::Texts;
+use lines::texts::{Size, Texts};
 
 // What is told of the rounds: the attempts of each of three, 0 for one that was not made; or, of a run that settled, how many rounds it
 // made, the last included, and the attempts of them all.
