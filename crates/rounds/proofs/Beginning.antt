@@ -24,7 +24,7 @@ use Rattle.join.specs.Contents.{Contents, contents, used_lines, listing_now, bar
 use Rattle.join.specs.Attempts.{Attemptable}
 use Rattle.life.specs.Labels.{Gathered}
 use Rattle.rounds.specs.declared.rounds.Round.{Round}
-use Rattle.rounds.specs.Slots.{Gathers}
+use Rattle.plan.specs.Slots.{Gathers}
 use Rattle.rounds.specs.Rounds.{Made, attempts_with}
 use Rattle.rounds.specs.Runs.{Runnable}
 use Rattle.cuts.proofs.Cutting.{gathered_labelled, gathered_labels}

@@ -16,7 +16,7 @@ use Rattle.linefacts.proofs.Making.{all-noted-lined}
 use Rattle.lines.specs.declared.texts.Size.{Size}
 use Rattle.build.specs.State.{used}
 use Rattle.build.specs.Added.{used_words}
-use Rattle.join.specs.Current as tables
+use Rattle.join.specs.Current as slices
 use Rattle.join.specs.Contents.{Contents}
 use Rattle.rounds.specs.Carries.{Carries}
 use Rattle.rounds.specs.declared.run.Progress.{Progress}
@@ -37,8 +37,8 @@ module _ {tape area : Text} {tokens lines after : List ℕ} (r : AllNoted tape a
       map_at f after k (f 0) b ∙ (r.at k b').means addresses ∙ sym (map_at f lines k (f 0) b'))
 
 -- the facts of the lines in use were noted, and these lines stand before the others
-module _ {tape area : Text} {tokens lines : List ℕ} {at : Size} (c : tables.Current tape area tokens lines at) {after : List ℕ}
-    (r : AllNoted tape (used area at) (used_words tokens at) (tables.used_lines lines at) after) where
+module _ {tape area : Text} {tokens lines : List ℕ} {at : Size} (c : slices.Current tape area tokens lines at) {after : List ℕ}
+    (r : AllNoted tape (used area at) (used_words tokens at) (slices.used_lines lines at) after) where
   front : take at.lines (after ++ drop at.lines lines) ≡ after
   front = take_at after _ at.lines (r.long ∙ length-take-le at.lines lines c.lines_fit)
 
@@ -60,10 +60,10 @@ module _ {tape area : Text} {tokens lines : List ℕ} {at : Size} {lines' : List
   abbrev with_lines : List ℕ → List ℕ → List ℕ → Contents
   with_lines ls lows highs = record { tape = tape; area = area; tokens = tokens; lines = ls; size = at; lows = lows; highs = highs }
 
-  bare_same : tables.bare_now tape area tokens lines' at ≡ tables.bare_now tape area tokens lines at
+  bare_same : slices.bare_now tape area tokens lines' at ≡ slices.bare_now tape area tokens lines at
   bare_same = bare_is (with_lines lines' [] []) numbered ∙ ap bare_lines (s.means numbered) ∙ sym (bare_is (with_lines lines [] []) numbered)
 
-  pub limits_same : RunLimits (tables.bare_now tape area tokens lines at) → RunLimits (tables.bare_now tape area tokens lines' at)
+  pub limits_same : RunLimits (slices.bare_now tape area tokens lines at) → RunLimits (slices.bare_now tape area tokens lines' at)
   limits_same l = rw bare_same l
 
   module _ {lows highs : List ℕ} where

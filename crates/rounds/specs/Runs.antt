@@ -8,7 +8,7 @@ use Rattle.reference.specs.Run as R
 use Rattle.joining.specs.Limits.{RunLimits}
 use Rattle.lines.specs.Lines.{Reading}
 use Rattle.lines.specs.declared.texts.Size.{Size}
-use Rattle.join.specs.Current as tables
+use Rattle.join.specs.Current as slices
 use Rattle.join.specs.Contents.{Contents, contents, listing_now, bare_now, Current}
 use Rattle.join.specs.Workspaces.{Lent}
 use Rattle.join.specs.declared.workspace.Workspace.{Workspace}
@@ -38,9 +38,9 @@ pub record Gatherable (labels : List ℕ) (slots : Text) (slot-words : List ℕ)
 
 -- other line words of the same listing, whatever the addresses are
 pub record SameListing (tape area : Text) (tokens lines : List ℕ) (at : Size) (lines' : List ℕ) : Type 0 where
-  pub current : tables.Current tape area tokens lines' at
+  pub current : slices.Current tape area tokens lines' at
   pub means : (addresses : Reading)
-      → tables.listing_now tape area tokens lines' at addresses ≡ tables.listing_now tape area tokens lines at addresses
+      → slices.listing_now tape area tokens lines' at addresses ≡ slices.listing_now tape area tokens lines at addresses
 
 -- ---- the rounds
 

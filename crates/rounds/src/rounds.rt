@@ -9,12 +9,11 @@ ghost use Rattle.join.specs.Workspaces.{SameLent};
 ghost use Rattle.rounds.specs.Rounds.{Countable, Turned, Made, attempts_with};
 ghost use Rattle.rounds.specs.Runs.{Runnable, Gatherable};
 
-use crate::slots::gather_slots;
 use ground::rules::Rules;
 use join::{Workspace, try_at};
 use life::{gather_labels, shift_labels};
 use lines::texts::Size;
-use plan::slots::SlotNames;
+use plan::slots::{SlotNames, gather_slots};
 
 // How far a round has come: the next line to try, the attempts and the removals so far, and the listing's size.
 #[derive(Clone, Copy)]
