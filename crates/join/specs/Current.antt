@@ -1,4 +1,4 @@
--- The listing that a call works on: it stands in the first set, as far as its Size says. Assumes nothing.
+-- The listing that a call works on: it stands in the first set, as far as its size says. Assumes nothing.
 use Rattle.std.specs.Prelude.{ℕ, ◌≤◌, List, length, take}
 use Rattle.reference.specs.Text.{Text}
 use Rattle.reference.specs.Listing.{Listing}

@@ -1,4 +1,4 @@
-// One attempt. The listing is always in the first set, area, tokens and lines, as far as its Size says; in the second a successful attempt
+// One attempt. The listing is always in the first set, area, tokens and lines, as far as its size says; in the second a successful attempt
 // builds the new one.
 ghost use Rattle.std.specs.Prelude.{◌<◌};
 ghost use Rattle.ground.specs.Rules.{rules_of};
