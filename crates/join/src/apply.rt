@@ -7,8 +7,8 @@ use crate::patch::patch;
 use crate::rebuild::rebuild;
 use crate::spare::fits;
 use crate::workspace::Workspace;
-use build::used::Size;
 use ground::rules::Rules;
+use lines::texts::Size;
 use plan::plans::Join;
 
 // Carries out the plan j.

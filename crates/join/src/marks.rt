@@ -12,9 +12,9 @@ ghost use Rattle.join.specs.Workspaces.{Current, Plannable, Carried, SameListing
 
 use crate::changing::is_changed;
 use crate::workspace::Workspace;
-use build::used::Size;
-use lines::marks::Marks;
 use ground::rules::Rules;
+use lines::marks::Marks;
+use lines::texts::Size;
 use lines::words;
 use plan::plans::Join;
 

@@ -10,9 +10,8 @@ ghost use Rattle.join.specs.Workspaces.{SameLent, Current, Plannable, Acted, Spa
 use crate::changing::{is_changed, substitution};
 use crate::workspace::Workspace;
 use build::Builder;
-use build::used::Size;
 use ground::rules::Rules;
-use lines::texts::Texts;
+use lines::texts::{Size, Texts};
 use plan::plans::Join;
 
 // Writes the lines that change behind the used marks, but in the second set; their words take the places of the old ones, and the word of

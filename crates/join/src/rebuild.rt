@@ -10,9 +10,8 @@ ghost use Rattle.join.specs.Workspaces.{SameLent, Current, Lent, Plannable, Acte
 use crate::changing::{is_changed, substitution};
 use crate::workspace::Workspace;
 use build::Builder;
-use build::used::Size;
 use ground::rules::Rules;
-use lines::texts::Texts;
+use lines::texts::{Size, Texts};
 use plan::plans::Join;
 
 // Appends line k, whose word is l, to the second set: with the right side of the line `source` for each token of the family, or as it is;

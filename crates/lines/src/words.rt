@@ -18,6 +18,11 @@ ghost use Rattle.lines.specs.Texts.{Points, text_of};
 
 use crate::texts::Texts;
 
+// What the lowest bit counts of a token's code, and of a line's facts: they stand above all else in their words, from bit 36 and bit 42 on.
+const CODE: u64 = 68719476736;
+
+const FACTS: u64 = 4398046511104;
+
 // The buffers that hold a text.
 // Kept: the two values of one bit of a word, as the definitions have it. An enum would need a function to the bit and one from it. A `bool`
 // would spare one clause, `buffer < 2` of `token_word`; but calls would say `true` where they say `IN_AREA`, or name it as here.
@@ -85,7 +90,7 @@ pub fn len(w: u64) -> usize
 pub fn code(w: u64) -> Option<u64>
     ensures { CodeIs w result }
 {
-    match w / 68719476736 {
+    match w / CODE {
         0 => None,
         c => Some(c),
     }
@@ -97,7 +102,7 @@ pub(crate) fn with_code(w: u64, c: u64) -> u64
     requires { c < 268435456 }
     ensures { result ≡ with_code w c }
 {
-    w % 68719476736 + c * 68719476736
+    w % CODE + c * CODE
 }
 
 // The token without the first n bytes of its text.
@@ -192,7 +197,7 @@ pub fn origin(l: u64) -> usize
 pub fn facts(l: u64) -> u64
     ensures { result ≡ facts_of l }
 {
-    l / 4398046511104
+    l / FACTS
 }
 
 // The line with the facts m.
@@ -201,7 +206,7 @@ pub fn with_facts(l: u64, m: u64) -> u64
     requires { m < 4194304 }
     ensures { result ≡ with_facts l m }
 {
-    l % 4398046511104 + m * 4398046511104
+    l % FACTS + m * FACTS
 }
 
 // The line with its tokens elsewhere, or with others, and no facts.

@@ -14,10 +14,10 @@ ghost use Rattle.lines.specs.Texts.{Holds, Known, Lined, Listed, bare_in, bare_l
 
 use crate::definitions::Definition;
 use ground::kinds;
+use ground::rules::Rules;
 use life::Touched;
 use linefacts::{fact_number, is_calling, is_transparent};
 use lines::fams::{Fam, Named};
-use ground::rules::Rules;
 use lines::texts::{Listing, Texts};
 use lines::{fams, shapes, words};
 

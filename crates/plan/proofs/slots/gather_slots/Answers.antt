@@ -1,7 +1,7 @@
--- `rounds::slots::gather_slots` meets its contract. Assumes nothing.
+-- `plan::slots::gather_slots` meets its contract. Assumes nothing.
 use Rattle.std.proofs.Common.{rules}
-use Rattle.rounds.proofs.Noting.{lines-room, lines_next, lines_end, slots_then}
-use Rattle.rounds.proofs.slots.gather_slots.Goals as goal
+use Rattle.plan.proofs.Noting.{lines-room, lines_next, lines_end, slots_then}
+use Rattle.plan.proofs.slots.gather_slots.Goals as goal
 
 pub gather_line-requires : goal.gather_line-requires
 gather_line-requires c =

@@ -22,16 +22,14 @@ use Rattle.laws.proofs.Parts.{part-below}
 use Rattle.lines.specs.Words.{buffer_of, start_of, len_of, word, source, text_of, token_of, tokens_of, Coded, Points, Holds}
 use Rattle.lines.specs.Lines.{part_of, bare_in, bare_listing}
 use Rattle.lines.proofs.words.Each.{map_same}
-use Rattle.lines.proofs.words.Tokens.{text_length, holds_snoc}
+use Rattle.lines.proofs.words.Tokens.{text_length, holds_snoc, take_behind, behind-points, behind-means}
 use Rattle.lines.proofs.words.Lines.{bare_at}
-use Rattle.build.proofs.Appending.{take_behind, behind-points, behind-means}
-use Rattle.plan.specs.Slots.{slot_names}
 use Rattle.std.proofs.Common.{Option, Some, None, Bor, add-zero}
 use Rattle.std.specs.declared.slice.Windows.{Windows}
 use Rattle.std.specs.Slice.Iter.{windows_rest, windows_size, windows_steps}
 use Rattle.std.proofs.lemmas.Iterator.{window_more}
-use Rattle.rounds.specs.declared.slots.SlotBuffer.{SlotBuffer}
-use Rattle.rounds.specs.Slots.{names_now, Slotting, Roomy, Noted, SameSlots, Gathers}
+use Rattle.plan.specs.declared.slots.SlotBuffer.{SlotBuffer}
+use Rattle.plan.specs.Slots.{slot_names, names_now, Slotting, Roomy, Noted, SameSlots, Gathers}
 
 -- ---- words of a buffer that grows
 

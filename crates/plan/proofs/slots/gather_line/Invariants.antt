@@ -1,7 +1,7 @@
--- What the loop of `rounds::slots::gather_line` keeps true.
-use Rattle.rounds.specs.Slots.{SameSlots}
-use Rattle.rounds.proofs.Noting.{Pairs}
-use Rattle.rounds.proofs.slots.gather_line.Given as goal
+-- What the loop of `plan::slots::gather_line` keeps true.
+use Rattle.plan.specs.Slots.{SameSlots}
+use Rattle.plan.proofs.Noting.{Pairs}
+use Rattle.plan.proofs.slots.gather_line.Given as goal
 
 abbrev pub invariant-loop-pair : goal.invariant-loop-pair
 invariant-loop-pair l =

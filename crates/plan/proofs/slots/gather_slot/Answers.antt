@@ -1,9 +1,9 @@
--- `rounds::slots::gather_slot` meets its contract. Assumes nothing.
+-- `plan::slots::gather_slot` meets its contract. Assumes nothing.
 use Rattle.std.proofs.Common.{ap, ◌∙◌, length}
 use Rattle.lines.proofs.words.Tokens.{text_length}
-use Rattle.rounds.proofs.Noting.{noted-plain, noted_other, noted-slot}
-use Rattle.rounds.proofs.slots.gather_slot.Goals as goal
-use Rattle.rounds.proofs.slots.gather_slot.Goals.{else-ends-via-then-ends+else-starts, else-ends-via-else-ends}
+use Rattle.plan.proofs.Noting.{noted-plain, noted_other, noted-slot}
+use Rattle.plan.proofs.slots.gather_slot.Goals as goal
+use Rattle.plan.proofs.slots.gather_slot.Goals.{else-ends-via-then-ends+else-starts, else-ends-via-else-ends}
 
 pub push-requires : goal.push-requires
 push-requires c =

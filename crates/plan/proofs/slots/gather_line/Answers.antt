@@ -1,6 +1,6 @@
--- `rounds::slots::gather_line` meets its contract. Assumes nothing.
-use Rattle.rounds.proofs.Noting.{pair_first, pair_second, pair_room, pairs_next, pairs_end, slots_then}
-use Rattle.rounds.proofs.slots.gather_line.Goals as goal
+-- `plan::slots::gather_line` meets its contract. Assumes nothing.
+use Rattle.plan.proofs.Noting.{pair_first, pair_second, pair_room, pairs_next, pairs_end, slots_then}
+use Rattle.plan.proofs.slots.gather_line.Goals as goal
 
 pub gather_slot-requires : goal.gather_slot-requires
 gather_slot-requires c =

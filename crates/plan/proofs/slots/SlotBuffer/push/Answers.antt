@@ -1,9 +1,9 @@
--- `rounds::slots::SlotBuffer::push` meets its contract. Assumes nothing.
+-- `plan::slots::SlotBuffer::push` meets its contract. Assumes nothing.
 use Rattle.std.proofs.Common.{rules, arith, length, refl, ap}
 use lib.ListN.{set}
 use Rattle.std.proofs.lemmas.Slice.{put_mid-paste}
-use Rattle.rounds.proofs.Noting.{noted_one}
-use Rattle.rounds.proofs.slots.SlotBuffer.push.Goals as goal
+use Rattle.plan.proofs.Noting.{noted_one}
+use Rattle.plan.proofs.slots.SlotBuffer.push.Goals as goal
 
 pub returns-clause-noted : goal.returns-clause-noted
 returns-clause-noted c =
