@@ -6,7 +6,6 @@ mod frame; // its constant parts
 mod rows; // the two listings
 mod sheet; // the field engineer's sheet
 mod sink; // where it goes
-mod walking; // the lines of a tape
 
 ghost use Rattle.render.specs.Sinks.{Later};
 
