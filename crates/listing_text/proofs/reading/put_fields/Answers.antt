@@ -1,4 +1,4 @@
--- `listing_text::reading::put_line` meets its contract. Assumes nothing.
+-- `listing_text::reading::put_fields` meets its contract. Assumes nothing.
 use native.Mathlib.Omega.{arith}
 use mathlib.Core.Path.{◌≡◌, refl, sym, ap, ◌∙◌}
 use mathlib.Core.List.{List, [], ◌∷◌}
@@ -8,7 +8,7 @@ use Rattle.listing_text.specs.Exact.{apart, fields_read, line_read}
 use Rattle.listing_text.specs.Parsed.{onto_page}
 use Rattle.listing_text.proofs.Fielding.{lies_wrong, no_fields, head_wrong, head_right, field-wrong, field-right, fields_done}
 use Rattle.listing_text.proofs.Parts.{parts_of, first_part, two_parts}
-use Rattle.listing_text.proofs.reading.put_line.Goals as goal
+use Rattle.listing_text.proofs.reading.put_fields.Goals as goal
 
 pub returns-in_err-ok_or : goal.returns-in_err-ok_or
 returns-in_err-ok_or c =

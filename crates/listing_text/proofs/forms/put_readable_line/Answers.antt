@@ -1,11 +1,11 @@
--- `listing_text::forms::put_line` meets its contract. Assumes nothing.
+-- `listing_text::forms::put_readable_line` meets its contract. Assumes nothing.
 use Rattle.reference.specs.Options.{option_of}
 use Rattle.listing_text.specs.Room.{Puts}
 use Rattle.listing_text.specs.Forms.{read_address, span_text}
 use Rattle.listing_text.proofs.Pages.{then_puts, puts_as}
 use Rattle.listing_text.proofs.Spelling.{short}
-use Rattle.listing_text.proofs.forms.put_line.Goals.{in-Some, in-None}
-use Rattle.listing_text.proofs.forms.put_line.Goals as goal
+use Rattle.listing_text.proofs.forms.put_readable_line.Goals.{in-Some, in-None}
+use Rattle.listing_text.proofs.forms.put_readable_line.Goals as goal
 
 pub returns : goal.returns
 unfolding read_address

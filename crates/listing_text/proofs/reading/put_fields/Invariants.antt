@@ -1,10 +1,10 @@
--- What the loop of `listing_text::reading::put_line` keeps true: the fields that are left are still to be put.
+-- What the loop of `listing_text::reading::put_fields` keeps true: the fields that are left are still to be put.
 use mathlib.Core.Path.{◌≡◌}
 use Rattle.listing_text.specs.Room.{page}
 use Rattle.listing_text.specs.Exact.{apart, fields_read, line_read}
 use Rattle.listing_text.specs.Parsed.{onto_page}
 use Rattle.listing_text.proofs.Parts.{parts_of, size_of}
-use Rattle.listing_text.proofs.reading.put_line.Given as goal
+use Rattle.listing_text.proofs.reading.put_fields.Given as goal
 
 abbrev pub invariant-loop-left : goal.invariant-loop-left
 invariant-loop-left l =
