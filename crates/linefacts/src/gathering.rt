@@ -18,7 +18,7 @@ use lines::texts::Texts;
 use lines::{shapes, words};
 
 // What a line may have, in a number of its own: a bit that is set says what there may be, and `facts_of` turns the first sixteen over.
-// Bit 15 is a token of control flow, bit 16 a Symbol (which is no fact, and goes no further); ALL are all families and control flow.
+// Bit 15 a token of control flow, bit 16 a Symbol (which is no fact, and goes no further); all families and control flow.
 const CONTROL: u64 = 32768;
 
 const SYMBOLS: u64 = 65536;
