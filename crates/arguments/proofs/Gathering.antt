@@ -23,11 +23,11 @@ begun_first words e h = rw e (record { done = []; put = puts_none; begins = h; r
 
 module _ (words left : Text) {p₀ : Cursor} {word after : Text} (splits : split left ≡ word ∷ split after) (s : Request) (k : ℕ) {s' : Request}
     (steps : s' ≡ step_of s k word) where
-  pub begun-next : {p p' : Cursor} → Begun words p₀ s k left p → Puts p (if is_at s'.entry k then entry_bytes word else []) p'
+  pub begun-next : {p p' : Cursor} → Begun words p₀ s k left p → Puts p (if is_at s'.start.entry k then entry_bytes word else []) p'
       → Begun words p₀ s' (k + 1) after p'
   unfolding entries_from
   begun-next b w =
-      let piece : Text = if is_at s'.entry k then entry_bytes word else [] in
+      let piece : Text = if is_at s'.start.entry k then entry_bytes word else [] in
       let d : Text = b.done in
       let next : entries_from s k (split left) ≡ piece ++ entries_from s' (k + 1) (split after) =
       ap (λ (ws : List Text). entries_from s k ws) splits ∙ rw steps refl in

@@ -104,7 +104,7 @@ reads [] s k zero h = refl
 reads [] s k (suc f) h = refl
 reads (w ∷ ws) s k f h =
     let after : Request = step_of s k w in
-    turn (is_at after.entry k) w (entries_from after (k + 1) ws) (given_from after (k + 1) ws) (reads ws after (k + 1)) f h
+    turn (is_at after.start.entry k) w (entries_from after (k + 1) ws) (given_from after (k + 1) ws) (reads ws after (k + 1)) f h
 
 pub read_back : (ws : List Text) → L.entries (entries_of ws) ≡ some (given_of ws)
 unfolding entries_of given_of L.entries

@@ -66,28 +66,28 @@ module _ (left word after : List ℕ) (splits : split left ≡ word ∷ split af
   steps_turn = ap (steps_from s k) splits ∙ ap (λ (r : Request). steps_from r (k + 1) (split after)) (sym steps)
 
   pub later_turn : (path : Text) → same_later path s k (split left)
-      ≡ (if is_at s'.last k && (base_name path ≟ base_name word) then Some k else same_later path s' (k + 1) (split after))
+      ≡ (if is_at s'.operands.last k && (base_name path ≟ base_name word) then Some k else same_later path s' (k + 1) (split after))
   unfolding same_later
   later_turn path =
       ap (same_later path s k) splits
-      ∙ ap (λ (r : Request). if is_at r.last k && (base_name path ≟ base_name word) then Some k else same_later path r (k + 1) (split after)) (sym steps)
+      ∙ ap (λ (r : Request). if is_at r.operands.last k && (base_name path ≟ base_name word) then Some k else same_later path r (k + 1) (split after)) (sym steps)
 
-  pub later_here : (path : Text) → (is_at s'.last k && (base_name path ≟ base_name word)) ≡ true → same_later path s k (split left) ≡ Some k
+  pub later_here : (path : Text) → (is_at s'.operands.last k && (base_name path ≟ base_name word)) ≡ true → same_later path s k (split left) ≡ Some k
   later_here path t = later_turn path ∙ ap (λ (b : Bool). if b then Some k else same_later path s' (k + 1) (split after)) t
 
-  pub later_on : (path : Text) → (is_at s'.last k && (base_name path ≟ base_name word)) ≡ false
+  pub later_on : (path : Text) → (is_at s'.operands.last k && (base_name path ≟ base_name word)) ≡ false
       → same_later path s k (split left) ≡ same_later path s' (k + 1) (split after)
   later_on path t = later_turn path ∙ ap (λ (b : Bool). if b then Some k else same_later path s' (k + 1) (split after)) t
 
   clash_turn : clash_from s k (split left)
-      ≡ first_of (if is_at s'.last k then same_later word s' (k + 1) (split after) else None) (clash_from s' (k + 1) (split after))
+      ≡ first_of (if is_at s'.operands.last k then same_later word s' (k + 1) (split after) else None) (clash_from s' (k + 1) (split after))
   unfolding clash_from
   clash_turn =
       ap (clash_from s k) splits
-      ∙ ap (λ (r : Request). first_of (if is_at r.last k then same_later word r (k + 1) (split after) else None) (clash_from r (k + 1) (split after))) (sym steps)
+      ∙ ap (λ (r : Request). first_of (if is_at r.operands.last k then same_later word r (k + 1) (split after) else None) (clash_from r (k + 1) (split after))) (sym steps)
 
   -- `here` is what the code found
-  pub clash_by : (here : Option ℕ) → here ≡ (if is_at s'.last k then same_later word s' (k + 1) (split after) else None)
+  pub clash_by : (here : Option ℕ) → here ≡ (if is_at s'.operands.last k then same_later word s' (k + 1) (split after) else None)
       → clash_from s k (split left) ≡ first_of here (clash_from s' (k + 1) (split after))
   clash_by here f = clash_turn ∙ ap (λ (o : Option ℕ). first_of o (clash_from s' (k + 1) (split after))) (sym f)
 

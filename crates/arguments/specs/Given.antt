@@ -19,7 +19,7 @@ given_from s k [] = []
 given_from s k (w ∷ ws) =
     let after : Request = step_of s k w in
     let rest : List Entry = given_from after (k + 1) ws in
-    if is_at after.entry k then said w rest else rest
+    if is_at after.start.entry k then said w rest else rest
 
 unfoldable pub given_of : List Text → List Entry
 given_of ws = given_from none_yet 0 ws

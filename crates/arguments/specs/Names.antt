@@ -23,7 +23,7 @@ same_later path s k [] = None
 same_later path s k (w ∷ ws) =
     let after : Request = step_of s k w in
     let later : Option ℕ = same_later path after (k + 1) ws in
-    if is_at after.last k && (base_name path ≟ base_name w) then Some k else later
+    if is_at after.operands.last k && (base_name path ≟ base_name w) then Some k else later
 
 abbrev pub first_of : Option ℕ → Option ℕ → Option ℕ
 first_of (Some n) later = Some n
@@ -34,7 +34,7 @@ unfoldable pub clash_from : Request → ℕ → List Text → Option ℕ
 clash_from s k [] = None
 clash_from s k (w ∷ ws) =
     let after : Request = step_of s k w in
-    let here : Option ℕ = if is_at after.last k then same_later w after (k + 1) ws else None in
+    let here : Option ℕ = if is_at after.operands.last k then same_later w after (k + 1) ws else None in
     let later : Option ℕ = clash_from after (k + 1) ws in
     first_of here later
 

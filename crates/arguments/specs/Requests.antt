@@ -4,7 +4,7 @@
 --
 -- One word after the other is taken (`step_of`), and then all of them are judged together (`judged`). Words are numbered from 0. Assumes
 -- nothing.
-use Rattle.std.specs.Prelude.{ℕ, ◌+◌, Bool, false, List, [], ◌∷◌, ◌++◌, ◌||◌, ltb, length, Option, Some, None, if◌then◌else◌}
+use Rattle.std.specs.Prelude.{ℕ, ◌+◌, Bool, true, false, List, [], ◌∷◌, ◌++◌, ◌||◌, ltb, length, Option, Some, None, if◌then◌else◌}
 use Rattle.std.proofs.Math.Option.{none, some}
 use Rattle.reference.specs.Text.{Text, bytes, starts_with, ◌≟◌}
 use Rattle.words.specs.Numerals.{integer_in}
@@ -24,10 +24,7 @@ use Rattle.arguments.specs.declared.request.Problem.TheVariants as problem
 use Rattle.arguments.specs.declared.request.Destination.{Destination}
 use Rattle.arguments.specs.declared.request.Destination.TheVariants as destination
 use Rattle.arguments.specs.declared.request.Request.{Request}
-use Rattle.lines.specs.declared.rules.Rules.{Rules}
-use Rattle.arguments.specs.Request.{with_help, with_fault, with_verb, with_pending, with_convention, with_edition}
-use Rattle.arguments.specs.Request.{with_parts, with_profile, with_settle, with_exact, with_destination, with_operand, with_value}
-use Rattle.arguments.specs.Request.{with_wanted, with_chosen, with_entry}
+use Rattle.arguments.specs.Request.{with_fault, with_operand}
 
 -- before the first word: System V, the edition of 2018, all else off
 abbrev pub none_yet : Request
@@ -38,67 +35,72 @@ none_yet =
       fault = None;
       pending = None;
       rules = record { convention = 1; settle = false; edition = 0; parts = false; profile = false };
-      exact = false;
-      destination = destination.StandardOutput;
-      operands = 0;
-      first = None;
-      third = None;
-      last = None;
-      value = None;
-      wanted = None;
-      chosen = None;
-      entry = None;
+      goal = record { destination = destination.StandardOutput; exact = false };
+      operands = record { count = 0; first = None; third = None; last = None; value = None };
+      start = record { wanted = None; chosen = None; entry = None };
     }
 
 -- ---- one word
 
 -- the first word
 abbrev pub take_verb : Request → ℕ → Text → Request
-take_verb s k w = elim (meaning_in verbs w) [ Some v ↦ with_verb v s | None ↦ with_fault problem.UnknownVerb (Some k) s ]
+take_verb s k w = elim (meaning_in verbs w) [ Some v ↦ record s { verb = Some v } | None ↦ with_fault problem.UnknownVerb (Some k) s ]
 
--- the values of -o, -d; -c; -e
+-- the values of -c; -e; -o and -d; --return; --choose
+abbrev pub take_convention : Request → ℕ → Text → Request
+take_convention s k w =
+    elim (meaning_in conventions w) [
+      | Some n ↦ record s { rules = record s.rules { convention = n } }
+      | None ↦ with_fault problem.BadValue (Some k) s
+    ]
+
+abbrev pub take_edition : Request → ℕ → Text → Request
+take_edition s k w =
+    elim (meaning_in editions w) [
+      | Some n ↦ record s { rules = record s.rules { edition = n } }
+      | None ↦ with_fault problem.BadValue (Some k) s
+    ]
+
 abbrev pub take_destination : Request → Destination → ℕ → Request
 take_destination s to k =
-    elim s.destination [
-      | destination.StandardOutput ↦ with_destination to s
+    elim s.goal.destination [
+      | destination.StandardOutput ↦ record s { goal = record s.goal { destination = to } }
       | _ ↦ with_fault problem.SecondDestination (Some k) s
     ]
 
--- the settings with the value in them
-abbrev pub take_rules : Request → Option Rules → ℕ → Request
-take_rules s rules k = elim rules [ Some r ↦ record s { pending = None; rules = r } | None ↦ with_fault problem.BadValue (Some k) s ]
-
-abbrev pub take_convention : Request → ℕ → Text → Request
-take_convention s k w = elim (meaning_in conventions w) [ Some n ↦ with_convention n s | None ↦ with_fault problem.BadValue (Some k) s ]
-
-abbrev pub take_edition : Request → ℕ → Text → Request
-take_edition s k w = elim (meaning_in editions w) [ Some n ↦ with_edition n s | None ↦ with_fault problem.BadValue (Some k) s ]
-
--- the values of --return; --choose
 abbrev pub put_wanted : Request → ℕ → Text → Request
-put_wanted s k w = elim (integer_in w) [ some v ↦ with_wanted v s | none ↦ with_fault problem.BadValue (Some k) s ]
+put_wanted s k w =
+    elim (integer_in w) [ some v ↦ record s { start = record s.start { wanted = Some v } } | none ↦ with_fault problem.BadValue (Some k) s ]
 
 abbrev pub take_wanted : Request → ℕ → Text → Request
-take_wanted s k w = elim s.wanted [ None ↦ put_wanted s k w | Some _ ↦ with_fault problem.SecondValue (Some k) s ]
+take_wanted s k w = elim s.start.wanted [ None ↦ put_wanted s k w | Some _ ↦ with_fault problem.SecondValue (Some k) s ]
 
 abbrev pub take_chosen : Request → ℕ → Request
-take_chosen s k = elim s.chosen [ None ↦ with_chosen k s | Some _ ↦ with_fault problem.SecondValue (Some k) s ]
+take_chosen s k =
+    elim s.start.chosen [
+      | None ↦ record s { start = record s.start { chosen = Some k } }
+      | Some _ ↦ with_fault problem.SecondValue (Some k) s
+    ]
 
+abbrev pub value_taken : Request → Flag → ℕ → Text → Request
+value_taken s flag.Convention k w = take_convention s k w
+value_taken s flag.Edition k w = take_edition s k w
+value_taken s flag.Output k w = take_destination s (destination.File k) k
+value_taken s flag.Folder k w = take_destination s (destination.Folder k) k
+value_taken s flag.Return k w = take_wanted s k w
+value_taken s _ k w = take_chosen s k
+
+-- the value of the option before it
 abbrev pub take_value : Request → Flag → ℕ → Text → Request
-take_value s flag.Convention k w = take_convention s k w
-take_value s flag.Edition k w = take_edition s k w
-take_value s flag.Output k w = take_destination s (destination.File k) k
-take_value s flag.Folder k w = take_destination s (destination.Folder k) k
-take_value s flag.Return k w = take_wanted s k w
-take_value s _ k w = take_chosen s k
+take_value s option k w = value_taken (record s { pending = None }) option k w
 
--- an option that the verb takes
+-- an option that the verb takes: a setting, or one whose value comes next
 abbrev pub set_option : Request → Flag → Request
-set_option s flag.Parts = with_parts s
-set_option s flag.Profile = with_profile s
-set_option s flag.Settle = with_settle s
-set_option s flag.Exact = with_exact s
-set_option s option = with_pending option s
+set_option s flag.Parts = record s { rules = record s.rules { parts = true } }
+set_option s flag.Profile = record s { rules = record s.rules { profile = true } }
+set_option s flag.Settle = record s { rules = record s.rules { settle = true } }
+set_option s flag.Exact = record s { goal = record s.goal { exact = true } }
+set_option s option = record s { pending = Some option }
 
 abbrev pub put_option : Request → Verb → ℕ → Flag → Request
 put_option s v k option = if takes v option then set_option s option else with_fault problem.UnknownOption (Some k) s
@@ -107,12 +109,20 @@ abbrev pub take_option : Request → Verb → ℕ → Text → Request
 take_option s v k w =
     elim (meaning_in options w) [ Some option ↦ put_option s v k option | None ↦ with_fault problem.UnknownOption (Some k) s ]
 
+-- an operand that stands for a value; the name of a state; REG=VALUE
 abbrev pub put_value : Request → ℕ → Kind → Text → Request
 put_value s k kind w =
-    elim (value_of kind w) [ Some v ↦ with_value v (with_operand k s) | None ↦ with_fault problem.BadOperand (Some k) s ]
+    elim (value_of kind w) [
+      | Some v ↦ let t : Request = with_operand k s in record t { operands = record t.operands { value = Some v } }
+      | None ↦ with_fault problem.BadOperand (Some k) s
+    ]
 
 abbrev pub take_name : Request → ℕ → Text → Request
 take_name s k w = if is_name w then with_operand k s else with_fault problem.BadOperand (Some k) s
+
+abbrev pub take_entry : Request → ℕ → Text → Request
+take_entry s k w =
+    elim (entry_value w) [ some _ ↦ record s { start = record s.start { entry = Some k } } | none ↦ with_fault problem.BadEntry (Some k) s ]
 
 abbrev pub put_operand : Request → ℕ → Option Kind → Text → Request
 put_operand s k None w = with_fault problem.TooMany (Some k) s
@@ -120,14 +130,10 @@ put_operand s k (Some kind.File) w = with_operand k s
 put_operand s k (Some kind.Name) w = take_name s k w
 put_operand s k (Some kind) w = put_value s k kind w
 
--- REG=VALUE
-abbrev pub take_entry : Request → ℕ → Text → Request
-take_entry s k w = elim (entry_value w) [ some _ ↦ with_entry k s | none ↦ with_fault problem.BadEntry (Some k) s ]
-
 -- an operand of `start` with a = is an entry of its list, unless it begins as a path
 abbrev pub take_operand : Request → Verb → ℕ → Text → Request
 take_operand s v k w =
-    let operand : Request = put_operand s k (kind_of v s.operands) w in
+    let operand : Request = put_operand s k (kind_of v s.operands.count) w in
     if is_start v then (if is_entry w then take_entry s k w else operand) else operand
 
 -- begins with a -, and is longer
@@ -150,28 +156,28 @@ take_word s k w =
 
 -- word k
 unfoldable pub step_of : Request → ℕ → Text → Request
-step_of s k w = if is_help w then with_help s else elim s.fault [ Some _ ↦ s | None ↦ take_word s k w ]
+step_of s k w = if is_help w then record s { help = true } else elim s.fault [ Some _ ↦ s | None ↦ take_word s k w ]
 
 -- ---- all words
 
 -- -o stands beside one file; of `state` only `get` has a result
 abbrev pub judge_output : Request → Verb → ℕ → Request
-judge_output s verb.Clean k = if ltb 1 s.operands then with_fault problem.SeveralFiles (Some k) s else s
+judge_output s verb.Clean k = if ltb 1 s.operands.count then with_fault problem.SeveralFiles (Some k) s else s
 judge_output s verb.State k =
-    elim s.value [ Some (value.Action action.Get) ↦ s | _ ↦ with_fault problem.UnknownOption (Some k) s ]
+    elim s.operands.value [ Some (value.Action action.Get) ↦ s | _ ↦ with_fault problem.UnknownOption (Some k) s ]
 judge_output s _ k = s
 
 -- `start` needs --return and --choose
 abbrev pub judge_start : Request → Verb → Request
 judge_start s verb.Start =
-    elim s.wanted [
+    elim s.start.wanted [
       | None ↦ with_fault problem.Incomplete None s
-      | Some _ ↦ elim s.chosen [ None ↦ with_fault problem.Incomplete None s | Some _ ↦ s ]
+      | Some _ ↦ elim s.start.chosen [ None ↦ with_fault problem.Incomplete None s | Some _ ↦ s ]
     ]
 judge_start s _ = s
 
 abbrev pub judge_options : Request → Verb → Request
-judge_options s v = elim s.destination [ destination.File k ↦ judge_output s v k | _ ↦ judge_start s v ]
+judge_options s v = elim s.goal.destination [ destination.File k ↦ judge_output s v k | _ ↦ judge_start s v ]
 
 abbrev pub exceeds : ℕ → Option ℕ → Bool
 exceeds n None = false
@@ -179,8 +185,8 @@ exceeds n (Some most) = ltb most n
 
 abbrev pub judge_operands : Request → Verb → Request
 judge_operands s v =
-    if ltb s.operands (fewest v s.value) then with_fault problem.TooFew None s
-    else if exceeds s.operands (most v s.value) then with_fault problem.TooMany s.last s
+    if ltb s.operands.count (fewest v s.operands.value) then with_fault problem.TooFew None s
+    else if exceeds s.operands.count (most v s.operands.value) then with_fault problem.TooMany s.operands.last s
     else judge_options s v
 
 abbrev pub judge_words : Request → Request
@@ -209,7 +215,7 @@ entries_from s k [] = []
 entries_from s k (w ∷ ws) =
     let after : Request = step_of s k w in
     let rest : Text = entries_from after (k + 1) ws in
-    (if is_at after.entry k then entry_bytes w else []) ++ rest
+    (if is_at after.start.entry k then entry_bytes w else []) ++ rest
 
 unfoldable pub entries_of : List Text → Text
 entries_of ws = entries_from none_yet 0 ws

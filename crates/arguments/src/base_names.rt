@@ -46,7 +46,7 @@ fn same_later(path: &[u8], s: Request, k: u64, words: &[u8]) -> Option<u64>
     let mut left = words;
     while let Some((word, rest)) = next_word(left) {
         t = t.step(n, word);
-        if is_taken_same(t.last, n, path, word) {
+        if is_taken_same(t.operands.last, n, path, word) {
             return Some(n);
         }
         n += 1;
@@ -78,7 +78,7 @@ pub fn clash(words: &[u8]) -> Option<u64>
     let mut left = words;
     while let Some((word, rest)) = next_word(left) {
         s = s.step(k, word);
-        if let Some(other) = taken_later(is_at(s.last, k), word, s, k + 1, rest) {
+        if let Some(other) = taken_later(is_at(s.operands.last, k), word, s, k + 1, rest) {
             return Some(other);
         }
         k += 1;

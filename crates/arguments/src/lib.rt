@@ -13,4 +13,6 @@ mod word_tables; // which words, options and operands there are
 pub use base_names::{base_name, clash};
 pub use first_word::{is_at, next_word};
 pub use reading::{parse, put_entries};
-pub use request::{Action, Destination, Fault, Flag, Kind, Problem, Request, Value, Verb};
+pub use request::{
+    Action, Destination, Fault, Flag, Goal, Kind, Operands, Problem, Request, Start, Value, Verb,
+};

@@ -1,19 +1,17 @@
 // The words of a request, one after the other.
 ghost use Rattle.std.specs.Prelude.{◌≡◌, ◌+◌, ◌*◌, ◌≤◌, length};
 ghost use Rattle.words.specs.Splitting.{split};
-ghost use Rattle.arguments.specs.Requests.{take_verb, take_destination, take_rules, take_convention, take_edition};
-ghost use Rattle.arguments.specs.Requests.{put_wanted, take_wanted, take_chosen, take_value, set_option, take_option};
-ghost use Rattle.arguments.specs.Requests.{put_value, take_name, put_operand, take_entry, take_operand, is_option, is_help};
-ghost use Rattle.arguments.specs.Requests.{take_word, step_of, judge_output, judge_start, judge_options, judge_operands, judged};
-ghost use Rattle.arguments.specs.Requests.{request_of, entries_of};
+ghost use Rattle.arguments.specs.Requests.{take_verb, take_convention, take_edition, take_destination, take_wanted, take_chosen};
+ghost use Rattle.arguments.specs.Requests.{take_value, set_option, take_option, put_value, take_name, put_operand, take_entry};
+ghost use Rattle.arguments.specs.Requests.{take_operand, is_option, is_help, take_word, step_of, judge_output, judge_start};
+ghost use Rattle.arguments.specs.Requests.{judge_options, judge_operands, judged, request_of, entries_of};
 ghost use Rattle.text.specs.Cursor.{Written};
 
 use crate::entries::{entry_in, is_entry, put_taken};
 use crate::first_word::{is_at, next_word};
-use crate::request::{Action, Destination, Flag, Kind, Problem, Request, Value, Verb};
+use crate::request::{Action, Destination, Flag, Kind, Operands, Problem, Request, Value, Verb};
 use crate::values::{is_name, value_of};
 use crate::word_tables::{convention_in, edition_in, option_in, verb_in};
-use lines::rules::Rules;
 use text::Cursor;
 use words::integer_in;
 
@@ -35,107 +33,69 @@ fn is_help(word: &[u8]) -> bool
 // Kept: number and word are two parameters, in fourteen methods: the definitions take the two, so that each contract would take a struct of
 // them apart again.
 impl Request {
-    fn take_verb(self, k: u64, word: &[u8]) -> Self
-        ensures { result ≡ take_verb self k word.now }
+    fn take_verb(&mut self, k: u64, word: &[u8])
+        ensures { self.new ≡ take_verb self.old k word.now }
     {
         match verb_in(word) {
-            Some(verb) => Request {
-                verb: Some(verb),
-                ..self
-            },
-            None => self.with_fault(Problem::UnknownVerb, Some(k)),
+            Some(verb) => self.verb = Some(verb),
+            None => self.fail(Problem::UnknownVerb, Some(k)),
+        }
+    }
+
+    fn take_convention(&mut self, k: u64, word: &[u8])
+        ensures { self.new ≡ take_convention self.old k word.now }
+    {
+        match convention_in(word) {
+            Some(convention) => self.rules.convention = convention,
+            None => self.fail(Problem::BadValue, Some(k)),
+        }
+    }
+
+    fn take_edition(&mut self, k: u64, word: &[u8])
+        ensures { self.new ≡ take_edition self.old k word.now }
+    {
+        match edition_in(word) {
+            Some(edition) => self.rules.edition = edition,
+            None => self.fail(Problem::BadValue, Some(k)),
         }
     }
 
     // The word names a file or a folder for the result: only one is taken.
-    fn take_destination(self, destination: Destination, k: u64) -> Self
-        ensures { result ≡ take_destination self destination k }
+    fn take_destination(&mut self, destination: Destination, k: u64)
+        ensures { self.new ≡ take_destination self.old destination k }
     {
-        match self.destination {
-            Destination::StandardOutput => Request {
-                pending: None,
-                destination,
-                ..self
-            },
-            _ => self.with_fault(Problem::SecondDestination, Some(k)),
+        match self.goal.destination {
+            Destination::StandardOutput => self.goal.destination = destination,
+            _ => self.fail(Problem::SecondDestination, Some(k)),
         }
-    }
-
-    // The settings with the value of an option in them; none, if the word is no value of it.
-    fn take_rules(self, rules: Option<Rules>, k: u64) -> Self
-        ensures { result ≡ take_rules self rules k }
-    {
-        match rules {
-            Some(rules) => Request {
-                pending: None,
-                rules,
-                ..self
-            },
-            None => self.with_fault(Problem::BadValue, Some(k)),
-        }
-    }
-
-    fn take_convention(self, k: u64, word: &[u8]) -> Self
-        ensures { result ≡ take_convention self k word.now }
-    {
-        let rules = convention_in(word).map(|convention| Rules {
-            convention,
-            ..self.rules
-        });
-        self.take_rules(rules, k)
-    }
-
-    fn take_edition(self, k: u64, word: &[u8]) -> Self
-        ensures { result ≡ take_edition self k word.now }
-    {
-        let rules = edition_in(word).map(|edition| Rules {
-            edition,
-            ..self.rules
-        });
-        self.take_rules(rules, k)
     }
 
     // The value that is to be returned.
-    fn put_wanted(self, k: u64, word: &[u8]) -> Self
-        ensures { result ≡ put_wanted self k word.now }
+    fn take_wanted(&mut self, k: u64, word: &[u8])
+        ensures { self.new ≡ take_wanted self.old k word.now }
     {
-        match integer_in(word) {
-            Some(wanted) => Request {
-                pending: None,
-                wanted: Some(wanted),
-                ..self
-            },
-            None => self.with_fault(Problem::BadValue, Some(k)),
-        }
-    }
-
-    fn take_wanted(self, k: u64, word: &[u8]) -> Self
-        ensures { result ≡ take_wanted self k word.now }
-    {
-        match self.wanted {
-            None => self.put_wanted(k, word),
-            Some(_) => self.with_fault(Problem::SecondValue, Some(k)),
+        match (self.start.wanted, integer_in(word)) {
+            (Some(_), _) => self.fail(Problem::SecondValue, Some(k)),
+            (None, Some(wanted)) => self.start.wanted = Some(wanted),
+            (None, None) => self.fail(Problem::BadValue, Some(k)),
         }
     }
 
     // The word names the register whose start value is asked for.
-    fn take_chosen(self, k: u64) -> Self
-        ensures { result ≡ take_chosen self k }
+    fn take_chosen(&mut self, k: u64)
+        ensures { self.new ≡ take_chosen self.old k }
     {
-        match self.chosen {
-            None => Request {
-                pending: None,
-                chosen: Some(k),
-                ..self
-            },
-            Some(_) => self.with_fault(Problem::SecondValue, Some(k)),
+        match self.start.chosen {
+            Some(_) => self.fail(Problem::SecondValue, Some(k)),
+            None => self.start.chosen = Some(k),
         }
     }
 
     // The value of the option before it.
-    fn take_value(self, option: Flag, k: u64, word: &[u8]) -> Self
-        ensures { result ≡ take_value self option k word.now }
+    fn take_value(&mut self, option: Flag, k: u64, word: &[u8])
+        ensures { self.new ≡ take_value self.old option k word.now }
     {
+        self.pending = None;
         match option {
             Flag::Convention => self.take_convention(k, word),
             Flag::Edition => self.take_edition(k, word),
@@ -147,90 +107,86 @@ impl Request {
     }
 
     // What an option that the verb takes asks for: a setting, or that its value comes next.
-    fn set_option(mut self, option: Flag) -> Self
-        ensures { result ≡ set_option self option }
+    fn set_option(&mut self, option: Flag)
+        ensures { self.new ≡ set_option self.old option }
     {
         match option {
             Flag::Parts => self.rules.parts = true,
             Flag::Profile => self.rules.profile = true,
             Flag::Settle => self.rules.settle = true,
-            Flag::Exact => self.exact = true,
+            Flag::Exact => self.goal.exact = true,
             _ => self.pending = Some(option),
         }
-        self
     }
 
-    fn take_option(self, verb: Verb, k: u64, word: &[u8]) -> Self
-        ensures { result ≡ take_option self verb k word.now }
+    fn take_option(&mut self, verb: Verb, k: u64, word: &[u8])
+        ensures { self.new ≡ take_option self.old verb k word.now }
     {
         match option_in(word) {
             Some(option) if verb.takes(option) => self.set_option(option),
-            _ => self.with_fault(Problem::UnknownOption, Some(k)),
+            _ => self.fail(Problem::UnknownOption, Some(k)),
         }
     }
 
     // An operand that stands for a value.
-    fn put_value(self, k: u64, kind: Kind, word: &[u8]) -> Self
-        ensures { result ≡ put_value self k kind word.now }
+    fn put_value(&mut self, k: u64, kind: Kind, word: &[u8])
+        ensures { self.new ≡ put_value self.old k kind word.now }
     {
         match value_of(kind, word) {
-            Some(value) => Request {
-                value: Some(value),
-                ..self.with_operand(k)
-            },
-            None => self.with_fault(Problem::BadOperand, Some(k)),
+            Some(value) => {
+                self.add_operand(k);
+                self.operands.value = Some(value);
+            }
+            None => self.fail(Problem::BadOperand, Some(k)),
         }
     }
 
     // The name of a state.
-    fn take_name(self, k: u64, word: &[u8]) -> Self
-        ensures { result ≡ take_name self k word.now }
+    fn take_name(&mut self, k: u64, word: &[u8])
+        ensures { self.new ≡ take_name self.old k word.now }
     {
         if is_name(word) {
-            self.with_operand(k)
+            self.add_operand(k);
         } else {
-            self.with_fault(Problem::BadOperand, Some(k))
+            self.fail(Problem::BadOperand, Some(k));
         }
     }
 
     // An operand of a kind; none: one too many.
-    fn put_operand(self, k: u64, kind: Option<Kind>, word: &[u8]) -> Self
-        ensures { result ≡ put_operand self k kind word.now }
+    fn put_operand(&mut self, k: u64, kind: Option<Kind>, word: &[u8])
+        ensures { self.new ≡ put_operand self.old k kind word.now }
     {
         match kind {
-            None => self.with_fault(Problem::TooMany, Some(k)),
-            Some(Kind::File) => self.with_operand(k),
+            None => self.fail(Problem::TooMany, Some(k)),
+            Some(Kind::File) => self.add_operand(k),
             Some(Kind::Name) => self.take_name(k, word),
             Some(kind) => self.put_value(k, kind, word),
         }
     }
 
     // REG=VALUE.
-    fn take_entry(self, k: u64, word: &[u8]) -> Self
-        ensures { result ≡ take_entry self k word.now }
+    fn take_entry(&mut self, k: u64, word: &[u8])
+        ensures { self.new ≡ take_entry self.old k word.now }
     {
         match entry_in(word) {
-            Some(_) => Request {
-                entry: Some(k),
-                ..self
-            },
-            None => self.with_fault(Problem::BadEntry, Some(k)),
+            Some(_) => self.start.entry = Some(k),
+            None => self.fail(Problem::BadEntry, Some(k)),
         }
     }
 
     // An operand; of `start` it may be an entry.
-    fn take_operand(self, verb: Verb, k: u64, word: &[u8]) -> Self
-        ensures { result ≡ take_operand self verb k word.now }
+    fn take_operand(&mut self, verb: Verb, k: u64, word: &[u8])
+        ensures { self.new ≡ take_operand self.old verb k word.now }
     {
         if matches!(verb, Verb::Start) && is_entry(word) {
-            self.take_entry(k, word)
+            self.take_entry(k, word);
         } else {
-            self.put_operand(k, verb.kind_of(self.operands), word)
+            self.put_operand(k, verb.kind_of(self.operands.count), word);
         }
     }
 
-    fn take_word(self, k: u64, word: &[u8]) -> Self
-        ensures { result ≡ take_word self k word.now }
+    fn take_word(&mut self, k: u64, word: &[u8])
+        ensures { self.new ≡ take_word self.old k word.now }
     {
         match (self.verb, self.pending) {
             (None, _) => self.take_verb(k, word),
@@ -242,80 +198,81 @@ impl Request {
 
     // Help is asked for by -h or --help wherever it stands, and what comes behind a fault is not looked at.
     #[tactic(auto, unfolding(crate::specs::Requests::step_of))]
-    pub fn step(self, k: u64, word: &[u8]) -> Self
+    pub fn step(mut self, k: u64, word: &[u8]) -> Self
         ensures { result ≡ step_of self k word.now }
     {
         if is_help(word) {
-            return Request { help: true, ..self };
+            self.help = true;
+        } else if self.fault.is_none() {
+            self.take_word(k, word);
         }
-        match self.fault {
-            Some(_) => self,
-            None => self.take_word(k, word),
-        }
+        self
     }
 }
 
 // What is wrong with all the words together, where none is wrong by itself.
 impl Request {
     // -o, whose value is word k, takes the result of one file; of `state` only `get` has a result.
-    fn judge_output(self, verb: Verb, k: u64) -> Self
-        ensures { result ≡ judge_output self verb k }
+    fn judge_output(&mut self, verb: Verb, k: u64)
+        ensures { self.new ≡ judge_output self.old verb k }
     {
-        match (verb, self.value) {
-            (Verb::Clean, _) if 1 < self.operands => self.with_fault(
-                Problem::SeveralFiles,
-                Some(k),
-            ),
-            (Verb::State, Some(Value::Action(Action::Get))) => self,
-            (Verb::State, _) => self.with_fault(Problem::UnknownOption, Some(k)),
-            _ => self,
+        match (verb, self.operands.value) {
+            (Verb::Clean, _) if 1 < self.operands.count => {
+                self.fail(Problem::SeveralFiles, Some(k))
+            }
+            (Verb::State, Some(Value::Action(Action::Get))) => {}
+            (Verb::State, _) => self.fail(Problem::UnknownOption, Some(k)),
+            _ => {}
         }
     }
 
     // `start` needs --return and --choose.
-    fn judge_start(self, verb: Verb) -> Self
-        ensures { result ≡ judge_start self verb }
+    fn judge_start(&mut self, verb: Verb)
+        ensures { self.new ≡ judge_start self.old verb }
     {
-        match (verb, self.wanted, self.chosen) {
-            (Verb::Start, None, _) | (Verb::Start, _, None) => {
-                self.with_fault(Problem::Incomplete, None)
-            }
-            _ => self,
+        match (verb, self.start.wanted, self.start.chosen) {
+            (Verb::Start, None, _) | (Verb::Start, _, None) => self.fail(Problem::Incomplete, None),
+            _ => {}
         }
     }
 
-    fn judge_options(self, verb: Verb) -> Self
-        ensures { result ≡ judge_options self verb }
+    fn judge_options(&mut self, verb: Verb)
+        ensures { self.new ≡ judge_options self.old verb }
     {
-        match self.destination {
+        match self.goal.destination {
             Destination::File(k) => self.judge_output(verb, k),
             _ => self.judge_start(verb),
         }
     }
 
     // How many operands there are, what -o stands beside, and which options are needed.
-    fn judge_operands(self, verb: Verb) -> Self
-        ensures { result ≡ judge_operands self verb }
+    fn judge_operands(&mut self, verb: Verb)
+        ensures { self.new ≡ judge_operands self.old verb }
     {
-        if self.operands < verb.fewest(self.value) {
-            return self.with_fault(Problem::TooFew, None);
-        }
-        match verb.most(self.value) {
-            Some(most) if most < self.operands => self.with_fault(Problem::TooMany, self.last),
+        let Operands {
+            count,
+            last,
+            value,
+            ..
+        } = self.operands;
+        match verb.most(value) {
+            _ if count < verb.fewest(value) => self.fail(Problem::TooFew, None),
+            Some(most) if most < count => self.fail(Problem::TooMany, last),
             _ => self.judge_options(verb),
         }
     }
 
     #[tactic(auto, unfolding(crate::specs::Requests::judged))]
-    fn judge(self) -> Self
+    fn judge(mut self) -> Self
         ensures { result ≡ judged self }
     {
         match (self.fault, self.verb, self.pending) {
-            (Some(_), _, _) => self,
-            (None, None, _) => self.with_fault(Problem::NoVerb, None),
-            (None, Some(_), Some(_)) => self.with_fault(Problem::NoValue, None),
+            (Some(_), _, _) => {}
+            (None, None, _) => self.fail(Problem::NoVerb, None),
+            (None, Some(_), Some(_)) => self.fail(Problem::NoValue, None),
             (None, Some(verb), None) => self.judge_operands(verb),
         }
+        self
     }
 }
 
@@ -350,7 +307,7 @@ pub fn put_entries(words: &[u8], out: &mut [u8]) -> usize
     let mut left = words;
     while let Some((word, rest)) = next_word(left) {
         s = s.step(k, word);
-        put_taken(is_at(s.entry, k), word, &mut list);
+        put_taken(is_at(s.start.entry, k), word, &mut list);
         k += 1;
         left = rest;
     }

@@ -3,7 +3,7 @@ ghost use Rattle.std.specs.Prelude.{◌≡◌};
 ghost use Rattle.arguments.specs.Request.{with_fault, with_operand};
 ghost use Rattle.arguments.specs.Requests.{none_yet};
 
-use lines::rules::Rules;
+use ground::rules::Rules;
 
 // What is to be done; VersionOption is the word `--version`.
 #[derive(Clone, Copy, Debug, PartialEq, Eq)]
@@ -104,6 +104,31 @@ pub enum Destination {
     Folder(u64),
 }
 
+// What the result is: where it goes, and whether in the exact form.
+#[derive(Clone, Copy)]
+pub struct Goal {
+    pub destination: Destination,
+    pub exact: bool,
+}
+
+// The operands so far: how many (9: nine or more), the first, the third and the last of them, and what the one stands for that is a value.
+#[derive(Clone, Copy)]
+pub struct Operands {
+    pub count: u64,
+    pub first: Option<u64>,
+    pub third: Option<u64>,
+    pub last: Option<u64>,
+    pub value: Option<Value>,
+}
+
+// What `start` asks: the value of --return, the word that is the value of --choose, and the last operand that is an entry, REG=VALUE.
+#[derive(Clone, Copy)]
+pub struct Start {
+    pub wanted: Option<u64>,
+    pub chosen: Option<u64>,
+    pub entry: Option<u64>,
+}
+
 // What the words so far ask for.
 #[derive(Clone, Copy)]
 pub struct Request {
@@ -112,16 +137,9 @@ pub struct Request {
     pub fault: Option<Fault>, // what is wrong first
     pub pending: Option<Flag>, // the option whose value comes next
     pub rules: Rules, // the settings of a cleaning
-    pub exact: bool,
-    pub destination: Destination,
-    pub operands: u64, // how many words are operands; 9: nine or more
-    pub first: Option<u64>, // the first, the third and the last of them
-    pub third: Option<u64>,
-    pub last: Option<u64>,
-    pub value: Option<Value>, // of the operand that stands for one
-    pub wanted: Option<u64>, // of --return, and the word that is the value of --choose
-    pub chosen: Option<u64>,
-    pub entry: Option<u64>, // the last operand that is an entry, REG=VALUE
+    pub goal: Goal,
+    pub operands: Operands,
+    pub start: Start,
 }
 
 impl Request {
@@ -141,39 +159,43 @@ impl Request {
                 parts: false,
                 profile: false,
             },
-            exact: false,
-            destination: Destination::StandardOutput,
-            operands: 0,
-            first: None,
-            third: None,
-            last: None,
-            value: None,
-            wanted: None,
-            chosen: None,
-            entry: None,
+            goal: Goal {
+                destination: Destination::StandardOutput,
+                exact: false,
+            },
+            operands: Operands {
+                count: 0,
+                first: None,
+                third: None,
+                last: None,
+                value: None,
+            },
+            start: Start {
+                wanted: None,
+                chosen: None,
+                entry: None,
+            },
         }
     }
 
-    pub(crate) fn with_fault(self, problem: Problem, word: Option<u64>) -> Self
-        ensures { result ≡ with_fault problem word self }
+    // What is wrong, and the word by which it is told.
+    pub(crate) fn fail(&mut self, problem: Problem, word: Option<u64>)
+        ensures { self.new ≡ with_fault problem word self.old }
     {
-        Request {
-            fault: Some(Fault { problem, word }),
-            ..self
-        }
+        self.fault = Some(Fault { problem, word });
     }
 
     // One operand more: word k.
-    pub(crate) fn with_operand(self, k: u64) -> Self
-        ensures { result ≡ with_operand k self }
+    pub(crate) fn add_operand(&mut self, k: u64)
+        ensures { self.new ≡ with_operand k self.old }
     {
-        let word = Some(k);
-        Request {
-            operands: self.operands.min(8) + 1,
-            first: if self.operands == 0 { word } else { self.first },
-            third: if self.operands == 2 { word } else { self.third },
-            last: word,
-            ..self
+        let operands = &mut self.operands;
+        match operands.count {
+            0 => operands.first = Some(k),
+            2 => operands.third = Some(k),
+            _ => {}
         }
+        operands.last = Some(k);
+        operands.count = operands.count.min(8) + 1;
     }
 }

@@ -13,7 +13,7 @@ use Rattle.reference.specs.Join.{substitute, rewrite_use}
 use Rattle.lines.specs.Words.{tokens_of}
 use Rattle.lines.specs.Lines.{Reading, first_of, count_of, facts_of, part_of, with_part, line_read, Lined}
 use Rattle.lines.proofs.words.Lines.{count-below, with_first, with_count, with_factless, with_read, no_facts}
-use Rattle.build.specs.declared.used.Size.{Size}
+use Rattle.lines.specs.declared.texts.Size.{Size}
 use Rattle.build.specs.State.{used, words_from, LineAdded}
 use Rattle.build.specs.Added.{used_words, Added}
 

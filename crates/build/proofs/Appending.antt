@@ -5,19 +5,16 @@ use native.Mathlib.Nat.{le_refl}
 use mathlib.Core.Path.{◌≡◌, refl, sym, ap, ◌∙◌}
 use mathlib.Core.List.{List, ◌++◌}
 use lib.ListN.{length, get_or, set, take, drop, length-append, length-drop}
-use lib.Seq.{paste, take-paste, take-length, take-take, take_all, take_at, take-set-le, drop_at, drop-append-le, get_or-set_same, length-take-le}
+use lib.Seq.{paste, take-take, take_all, take_at, take-set-le, drop-append-le, get_or-set_same, length-take-le}
 use Rattle.reference.specs.Text.{Text}
 use Rattle.reference.specs.Listing.{Token, token}
 use Rattle.lines.specs.Words.{kind_of, buffer_of, start_of, len_of, word, text_of, token_of, Points}
-use Rattle.lines.proofs.words.Tokens.{kind_below, start_below, word_place, word_start, word_len, word-means, word-points, in_tape, in_area}
-use Rattle.build.specs.declared.used.Size.{Size}
+use Rattle.lines.proofs.words.Tokens.{kind_below, start_below, word_place, word_start, word_len, word-means, word-points, in_tape, in_area, take_behind, behind-points, behind-means}
+use Rattle.lines.specs.declared.texts.Size.{Size}
 use Rattle.build.specs.State.{used, Room, Appends}
 
 one_not_zero : ◌≡◌ {A = ℕ} 1 0 → ⊥
 one_not_zero e = omega arith
-
-pub take_behind : (area : Text) (n : ℕ) (s : Text) {area' : Text} → n ≤ length area → area' ≡ paste area n s (length s) → take (n + length s) area' ≡ take n area ++ s
-take_behind area n s h e = rw e (take-paste area n s (length s) h (le_refl _) ∙ rw take-length)
 
 -- a word stored at `keep`, and a text behind the text in use
 module _ (tape area : Text) (tokens : List ℕ) (at : Size) (keep : ℕ) (s : Text) (room : at.text + length s ≤ length area) (below : keep < length tokens) where
@@ -52,22 +49,6 @@ module _ (tape area : Text) (tokens : List ℕ) (at : Size) (keep : ℕ) (s : Te
 pub place_at : (tokens : List ℕ) (keep k start len : ℕ) {v : ℕ} → keep < length tokens → k < 8 → start < 65536 → v ≡ word k 1 start len
     → buffer_of (get_or (set tokens keep v) keep 0) ≡ 1
 place_at tokens keep k start len {v} below hk hs ev = ap buffer_of (get_or-set_same tokens keep v 0 below ∙ ev) ∙ word_place k 1 start len hk (omega arith) hs
-
--- a text behind the text in use, and its word
-module _ (tape front s : Text) (k at : ℕ) (hk : k < 8) (e : length front ≡ at) (short : at + length s < 65536) where
-  hs : at < 65536
-  hs = omega arith
-
-  hl : length s < 65536
-  hl = omega arith
-
-  pub behind-points : Points tape (front ++ s) (word k 1 at (length s))
-  behind-points =
-      word-points k 1 at (length s) hk (omega arith) hs hl tape (front ++ s) (rw (in_area tape (front ++ s) one_not_zero, length-append) (omega arith)) short
-
-  pub behind-means : token_of tape (front ++ s) (word k 1 at (length s)) ≡ token k s
-  behind-means =
-      word-means k 1 at (length s) hk (omega arith) hs hl tape (front ++ s) ∙ rw (in_area tape (front ++ s) one_not_zero, drop_at front s at e, take-length)
 
 -- a token with a copy of its text
 module _ (tape area : Text) (tokens : List ℕ) (at : Size) (k : ℕ) (s : Text) (hk : k < 8) (r : Room area tokens at (length s) 1) where

@@ -9,7 +9,7 @@ use lib.Seq.{take-append-le, take_at, drop_at, length-take-le}
 use Rattle.reference.specs.Text.{Text}
 use Rattle.laws.proofs.Parts.{drop-take}
 use Rattle.lines.proofs.words.Tokens.{holds_none}
-use Rattle.build.specs.declared.used.Size.{Size}
+use Rattle.lines.specs.declared.texts.Size.{Size}
 use Rattle.build.specs.declared.fold.Folding.{Folding}
 use Rattle.build.specs.State.{used, words_from, line_now, Room, Built}
 use Rattle.build.specs.Folding.{signs_room, Foldable, Folded, FoldedLast}

@@ -12,7 +12,7 @@ use Rattle.laws.proofs.Parts.{drop-take}
 use Rattle.lines.specs.Words.{buffer_of, start_of, token_of, tokens_of, Holds}
 use Rattle.lines.proofs.words.Each.{each_one, each_take, each_append}
 use Rattle.lines.proofs.words.Tokens.{holds-take, holds_snoc, holds-grows, tokens_grow}
-use Rattle.build.specs.declared.used.Size.{Size}
+use Rattle.lines.specs.declared.texts.Size.{Size}
 use Rattle.build.specs.State.{used, words_from, line_now, Built, Fresh, Appends, Grows}
 
 -- ---- parts of lists

@@ -1,6 +1,6 @@
 -- The same slices, lent on from call to call. Assumes nothing.
 use mathlib.Core.Path.{refl, ◌∙◌}
-use Rattle.build.specs.declared.used.Size.{Size}
+use Rattle.lines.specs.declared.texts.Size.{Size}
 use Rattle.build.specs.declared.builder.Builder.{Builder}
 use Rattle.build.specs.Builders.{SameLent}
 

@@ -13,7 +13,7 @@ use Rattle.reference.proofs.Weights.{sum-append}
 use Rattle.joining.specs.Limits.{room, over}
 use Rattle.lines.specs.Words.{len_of, token_of, tokens_of, Points}
 use Rattle.lines.proofs.words.Tokens.{text_length}
-use Rattle.build.specs.declared.used.Size.{Size}
+use Rattle.lines.specs.declared.texts.Size.{Size}
 use Rattle.build.specs.State.{line_now, Room, Appends, LineAdded}
 use Rattle.build.specs.Folding.{signs_room, FoldedLast}
 use Rattle.build.proofs.Growing.{built_appended, line_appended, grows_appended}

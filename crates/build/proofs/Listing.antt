@@ -16,7 +16,7 @@ use Rattle.lines.specs.Lines.{Reading, part_of, line_read, listing_read, Lined, 
 use Rattle.lines.proofs.words.Each.{map_same}
 use Rattle.lines.proofs.words.Tokens.{place_below, in_tape, in_area}
 use Rattle.lines.proofs.words.Lines.{listed_snoc, listed-grows, listing-grows}
-use Rattle.build.specs.declared.used.Size.{Size}
+use Rattle.lines.specs.declared.texts.Size.{Size}
 use Rattle.build.specs.State.{used}
 use Rattle.build.specs.Added.{used_words, Added}
 use Rattle.build.proofs.Growing.{grown}

@@ -12,7 +12,7 @@ use Rattle.reference.specs.Listing.{Token}
 use Rattle.reference.specs.Claim.{size, text_in}
 use Rattle.reference.proofs.Weights.{sum-append}
 use Rattle.lines.specs.Words.{token_of, tokens_of}
-use Rattle.build.specs.declared.used.Size.{Size}
+use Rattle.lines.specs.declared.texts.Size.{Size}
 use Rattle.build.specs.State.{line_now, pushes, Room, Ready, Grows, Pushed}
 use Rattle.build.proofs.Merging.{pushes_append}
 

@@ -18,7 +18,7 @@ use Rattle.reference.specs.Numbers.{joins}
 use Rattle.reference.specs.Claim.{size}
 use Rattle.reference.proofs.Cases.{both, true-false}
 use Rattle.lines.specs.Words.{kind_of, buffer_of, start_of, len_of, text_of, token_of, tokens_of}
-use Rattle.build.specs.declared.used.Size.{Size}
+use Rattle.lines.specs.declared.texts.Size.{Size}
 use Rattle.build.specs.State.{joinable, used, line_now, push_token, Built, Extendable, extends, Appends, Pushed}
 use Rattle.build.proofs.Growing.{built_appended, line_appended, grows_appended, line_last}
 use Rattle.build.proofs.Merging.{push_joined, push_added, push_first, pushes_one}

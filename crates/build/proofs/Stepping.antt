@@ -16,13 +16,12 @@ use Rattle.reference.specs.Numbers.{show, fold}
 use Rattle.joining.proofs.Room.{signs}
 use Rattle.lines.specs.Words.{buffer_of, start_of, word, token_of, tokens_of, Points, Holds}
 use Rattle.lines.proofs.words.Each.{each_one, each-drop, each_append, map-drop}
-use Rattle.lines.proofs.words.Tokens.{word_start, holds-drop, holds_append, holds_snoc, holds-prefix, holds-grows, tokens-prefix, tokens_grow}
+use Rattle.lines.proofs.words.Tokens.{word_start, holds-drop, holds_append, holds_snoc, holds-prefix, holds-grows, tokens-prefix, tokens_grow, take_behind, behind-points, behind-means}
 use Rattle.text.specs.declared.cursor.Cursor.{Cursor}
 use Rattle.text.specs.Cursor.{Written, Puts}
 use Rattle.build.specs.declared.fold.Folding.{Folding}
 use Rattle.build.specs.State.{Fresh}
 use Rattle.build.specs.Folding.{number_token, last_of, fold_next, done_now, left_now, folds_to, signs_room, text_limit, Foldable, Stepped}
-use Rattle.build.proofs.Appending.{take_behind, behind-points, behind-means}
 use Rattle.build.proofs.Folding.{fold-kept, fold-made, fold-long, fold_begin, last_snoc, signs_drop}
 
 module _ {tape area : Text} {line : List ℕ} {f : Folding} (s : Foldable tape area line f) where

@@ -19,7 +19,7 @@ use Rattle.lines.specs.Words.{token_of, tokens_of}
 use Rattle.lines.specs.Shapes.{expr_words}
 use Rattle.lines.specs.Fams.{fam_text}
 use Rattle.lines.proofs.words.Tokens.{holds_none}
-use Rattle.build.specs.declared.used.Size.{Size}
+use Rattle.lines.specs.declared.texts.Size.{Size}
 use Rattle.build.specs.declared.merge.Substitution.{Substitution}
 use Rattle.build.specs.State.{used, Room, Ready, Pushed, LineAdded}
 use Rattle.build.specs.Substitution.{bracketed, right_of, used_as, substituted}

@@ -8,7 +8,7 @@ use Rattle.joining.specs.Limits.{room, over}
 use Rattle.lines.specs.Words.{tokens_of}
 use Rattle.lines.specs.Fams.{fam_text}
 use Rattle.lines.specs.Lines.{Reading, first_of, count_of, part_of, line_read, Lined}
-use Rattle.build.specs.declared.used.Size.{Size}
+use Rattle.lines.specs.declared.texts.Size.{Size}
 use Rattle.build.specs.declared.merge.Substitution.{Substitution}
 use Rattle.build.specs.State.{used, Room, Fresh}
 use Rattle.build.specs.Substitution.{right_of, substituted, Substitutes}

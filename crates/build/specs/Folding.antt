@@ -8,7 +8,7 @@ use Rattle.reference.specs.Numbers.{read_number, wrap, show, folded, fold_at, fo
 use Rattle.joining.proofs.Room.{is_sign, signs}
 use Rattle.lines.specs.Words.{tokens_of, Holds}
 use Rattle.build.specs.declared.fold.Folding.{Folding}
-use Rattle.build.specs.declared.used.Size.{Size}
+use Rattle.lines.specs.declared.texts.Size.{Size}
 use Rattle.build.specs.State.{line_now, Fresh, Built, Grows}
 
 -- ---- what a fold makes

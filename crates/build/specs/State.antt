@@ -8,7 +8,7 @@ use Rattle.reference.specs.Listing.{Token, token, Plain, Punct}
 use Rattle.reference.specs.Numbers.{joins}
 use Rattle.reference.specs.Claim.{text_in}
 use Rattle.lines.specs.Words.{kind_of, buffer_of, start_of, len_of, token_of, tokens_of, Points, Holds}
-use Rattle.build.specs.declared.used.Size.{Size}
+use Rattle.lines.specs.declared.texts.Size.{Size}
 
 -- ---- what a push does to the tokens of a line
 

@@ -1,5 +1,5 @@
 // What a new listing is built in.
-use crate::used::Size;
+use lines::texts::Size;
 
 // A set that a listing is built in: its texts, its token words, and how much of it is in use.
 #[derive(Drop)]

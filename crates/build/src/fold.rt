@@ -14,6 +14,7 @@ ghost use Rattle.build.specs.Builders.{SameLent, line_now, Room, Built, FoldedLa
 ghost use Rattle.lines.specs.Texts.{Holds, Points, token_of, tokens_of};
 
 use crate::builder::Builder;
+use ground::kinds;
 use lines::texts::Texts;
 use lines::words;
 use numbers::{put_number, read_number, wrapping_add, wrapping_sub};
@@ -33,7 +34,7 @@ fn sum_of(texts: &Texts<'_>, left: u64, operator: u64, right: u64, edition: u8) 
     ensures { option_of result ≡ sum_of edition (token_of texts.now left)
         (token_of texts.now operator) (token_of texts.now right) }
 {
-    if words::kind(left) != words::NUMBER || words::kind(right) != words::NUMBER {
+    if words::kind(left) != kinds::NUMBER || words::kind(right) != kinds::NUMBER {
         return None;
     }
     let sign = words::text(texts, operator);
@@ -115,7 +116,7 @@ fn fold_step(tape: &[u8], area: &mut [u8], line: &mut [u64], f: Folding, edition
             put_number(v, &mut out);
             let end = out.at;
             let to = next + 2;
-            line[to] = words::token_word(words::NUMBER, words::IN_AREA, at, end - at);
+            line[to] = words::token_word(kinds::NUMBER, words::IN_AREA, at, end - at);
             Folding {
                 next: to,
                 text: end,

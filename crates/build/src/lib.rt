@@ -7,6 +7,5 @@ pub mod builder; // a set that a listing is built in
 mod fold; // numbers folded in place
 pub mod line; // a line kept or rewritten
 pub mod merge; // tokens joined one by one
-pub mod used; // how much of a set is in use
 
 pub use builder::Builder;

@@ -16,6 +16,7 @@ ghost use Rattle.build.specs.Substitution.{bracketed};
 ghost use Rattle.build.specs.Texts.{used_as, substituted, Substitutes};
 
 use crate::builder::Builder;
+use ground::kinds;
 use lines::fams::{Fam, is_of};
 use lines::shapes::{Expr, expr_word};
 use lines::texts::Texts;
@@ -25,7 +26,7 @@ use lines::words;
 fn is_joined(kind: u64) -> bool
     ensures { result ≡ joinable kind }
 {
-    kind == words::PUNCT || kind == words::PLAIN
+    kind == kinds::PUNCT || kind == kinds::PLAIN
 }
 
 // What takes the place of each token of a family: the right side of the line that is joined, in brackets or without.
@@ -94,9 +95,9 @@ impl Builder<'_> {
         ensures pushed { Pushed texts.now.tape.now self.old from (bracketed (tokens_of texts.now (expr_words source.now x))) self.new }
         ensures lent { SameLent self.old self.new }
     {
-        self.push_text(words::PUNCT, b"(", from);
+        self.push_text(kinds::PUNCT, b"(", from);
         self.push_expr(texts, source, x, from);
-        self.push_text(words::PUNCT, b")", from);
+        self.push_text(kinds::PUNCT, b")", from);
     }
 
     // Appends a token of the old line, or the right side where the token is of the family.

@@ -29,12 +29,11 @@ use Rattle.lines.specs.Lines.{own, origin_of, bare}
 use Rattle.lines.specs.Marks.{lows_of, highs_of}
 use Rattle.lines.specs.declared.marks.Marks as code
 use Rattle.lines.proofs.words.Lines.{bare-means}
-use Rattle.build.specs.declared.used.Size.{Size}
+use Rattle.lines.specs.declared.texts.Size.{Size}
 use Rattle.join.specs.declared.workspace.Workspace.{Workspace}
-use Rattle.join.specs.Current.{used_lines, listing_now, bare_now}
+use Rattle.join.specs.Contents.{Contents, contents, used_lines, listing_now, bare_now}
 use Rattle.rounds.specs.Carries.{Held, Marked}
-use Rattle.rounds.specs.Runs.{counts_of, Ran}
-use Rattle.rounds.specs.Workspaces.{Runnable}
+use Rattle.rounds.specs.Runs.{counts_of, Runnable, Ran}
 use Rattle.rounds.specs.declared.run.Outcome.{Outcome}
 use Rattle.tape.specs.declared.questions.Totals.{Totals}
 use Rattle.tables.specs.Tables.{marks_for, Loaded, LoadedMarks}
@@ -79,16 +78,19 @@ all_mapped P f (x ∷ xs) h = (h 0 (omega arith), all_mapped P f xs (λ i b. h (
 abbrev start : Totals → Size
 start t = record { lines = t.lines; tokens = t.tokens; text = 0 }
 
--- the tape of what a run leaves
-abbrev tape_left : List ℕ → List ℕ → Text → List ℕ → List ℕ → List code.Marks → Size → List ℕ
-tape_left tape addresses area tokens lines marks at =
-    Tape.write (listing_now tape area tokens lines at (own addresses)) (marks_for (lows_of marks) (highs_of marks) (used_lines lines at))
+-- what stands in these tables, and its tape
+abbrev standing : Text → Text → List ℕ → List ℕ → List code.Marks → Size → Contents
+standing tape area tokens lines marks at =
+    record { tape = tape; area = area; tokens = tokens; lines = lines; size = at; lows = lows_of marks; highs = highs_of marks }
+
+abbrev tape_of : List ℕ → Contents → List ℕ
+tape_of addresses s = Tape.write (listing_now s (own addresses)) (marks_for s.lows s.highs (used_lines s))
 
 module _ {tape tokens lines addresses : List ℕ} {t : Totals} (l : Loaded tape tokens lines addresses t) (area : Text) where
-  loaded_is : read tape ≡ Passed (listing_now tape area tokens lines (start t) (own addresses))
+  loaded_is : read tape ≡ Passed (listing_now (standing tape area tokens lines [] (start t)) (own addresses))
   loaded_is = l.listing (take 0 area)
 
-  limits-loaded : RunLimits (bare_now tape area tokens lines (start t))
+  limits-loaded : RunLimits (bare_now (standing tape area tokens lines [] (start t)))
   limits-loaded =
       rw (bare-means tape (take 0 area) (take t.tokens tokens) (own addresses) (take t.lines lines))
       (bare-limits (read-limits tape _ loaded_is))
@@ -119,40 +121,41 @@ module _ {tape tokens lines addresses : List ℕ} {t : Totals} (l : Loaded tape 
 
     -- ---- what the run left
 
-    module _ (rules : Rules) {area' : Text} {tokens' lines' : List ℕ} (marks' : List code.Marks) {r : Outcome}
-        (p : Ran rules tape area tokens lines (lows_of marks) (highs_of marks) (start t) area' tokens' lines' (lows_of marks') (highs_of marks') r) where
-      left_marks : (input : Listing) → listing_now tape area tokens lines (start t) (own addresses) ≡ input
-          → marks_for (lows_of marks') (highs_of marks') (used_lines lines' r.size) ≡ finished_marks rules input (marks_in tape)
+    module _ (rules : Rules) (w : Workspace) {r : Outcome}
+        (p : Ran rules (standing tape area tokens lines marks (start t)) (contents tape w r.size) r) where
+      left_marks : (input : Listing) → listing_now (standing tape area tokens lines marks (start t)) (own addresses) ≡ input
+          → marks_for (lows_of w.marks.now) (highs_of w.marks.now) (used_lines (contents tape w r.size)) ≡ finished_marks rules input (marks_in tape)
       left_marks input same =
           (p.marks (own addresses) loaded-marked).1
           ∙ rw same
           (ap (carry (attempts_of (run rules input))) (m.means input (loaded_is ∙ ap Passed same)) ∙ carried rules input (marks_in tape))
 
       -- what stands in the area and in the tables after the run is what the workspace said
-      module _ {left-area : Text} {left-tokens left-words : List ℕ} {left-table : List code.Marks} (ea : left-area ≡ area') (et : left-tokens ≡ tokens')
-          (el : left-words ≡ lines') (eh : left-table ≡ marks') where
-        pub fits-output : {n : ℕ} → OUTPUT ≤ n → length (tape_left tape addresses left-area left-tokens left-words left-table r.size) ≤ n
+      module _ {left-area : Text} {left-tokens left-words : List ℕ} {left-table : List code.Marks} (ea : left-area ≡ w.area.now)
+          (et : left-tokens ≡ w.tokens.now) (el : left-words ≡ w.lines.now) (eh : left-table ≡ w.marks.now) where
+        pub fits-output : {n : ℕ} → OUTPUT ≤ n → length (tape_of addresses (standing tape left-area left-tokens left-words left-table r.size)) ≤ n
         fits-output h =
             rw (ea, et, el, eh, p.finished (own addresses))
-            (le_trans (output-length rules tape _ (marks_for (lows_of marks') (highs_of marks') (used_lines lines' r.size)) loaded_is) h)
+            (le_trans (output-length rules tape _ (marks_for (lows_of w.marks.now) (highs_of w.marks.now) (used_lines (contents tape w r.size))) loaded_is) h)
 
-        left_is : (input : Listing) → listing_now tape area tokens lines (start t) (own addresses) ≡ input
-            → tape_left tape addresses left-area left-tokens left-words left-table r.size ≡ Tape.write (finished rules input) (finished_marks rules input (marks_in tape))
+        left_is : (input : Listing) → listing_now (standing tape area tokens lines marks (start t)) (own addresses) ≡ input
+            → tape_of addresses (standing tape left-area left-tokens left-words left-table r.size)
+            ≡ Tape.write (finished rules input) (finished_marks rules input (marks_in tape))
         left_is input same =
-            let lines_are : listing_now tape area' tokens' lines' r.size (own addresses) ≡ finished rules input = p.finished (own addresses) ∙ ap (finished rules) same in
+            let lines_are : listing_now (contents tape w r.size) (own addresses) ≡ finished rules input = p.finished (own addresses) ∙ ap (finished rules) same in
             rw (ea, et, el, eh) (λ i. Tape.write (lines_are i) (left_marks input same i))
 
-        pub writes : {out out' : List ℕ} {n : ℕ} → Wrote (tape_left tape addresses left-area left-tokens left-words left-table r.size) out out' n
+        pub writes : {out out' : List ℕ} {n : ℕ} → Wrote (tape_of addresses (standing tape left-area left-tokens left-words left-table r.size)) out out' n
             → (input : Listing) → read tape ≡ Passed input → ReplyWritten (cleaned rules tape input) out out' (record { length = n; tally = r.tally; removed = r.removed; cut = r.cut })
         unfolding output_after
-        writes {out} w input e =
-            let same : listing_now tape area tokens lines (start t) (own addresses) ≡ input = passed_inj (sym loaded_is ∙ e) in
+        writes {out} o input e =
+            let same : listing_now (standing tape area tokens lines marks (start t)) (own addresses) ≡ input = passed_inj (sym loaded_is ∙ e) in
             let is = left_is input same in
             let counted : counts_of r ≡ counts rules (run rules input) = p.counts (own addresses) ∙ ap (λ l. counts rules (run rules l)) same in
-            let long = w.ends ∙ ap length is in
+            let long = o.ends ∙ ap length is in
             record {
               summary_is = λ i. Passed (record { length = long i; counts = counted i });
-              output_is = w.holds ∙ ap (λ s. s ++ drop (length s) out) is;
+              output_is = o.holds ∙ ap (λ s. s ++ drop (length s) out) is;
             }
 
 -- ---- the workspace of a loaded listing

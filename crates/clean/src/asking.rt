@@ -1,15 +1,34 @@
-// The question of the profile (request M-106), asked once the tape is read, where the profile is asked for.
+// The questions beside the tape's: 1, 9 and 2, before it is read; and the profile's (request M-106), once it is read.
 ghost use Rattle.std.specs.Prelude.{◌≡◌};
 ghost use Rattle.reference.specs.Options.{option_of};
 ghost use Rattle.reference.specs.Listing.{Listing};
 ghost use Rattle.reference.specs.Questions.{Passed, read};
 ghost use Rattle.reference.specs.Straight.{breaks};
-ghost use Rattle.lines.specs.Rules.{rules_of};
-ghost use Rattle.tape.specs.Questions.{AcceptedTape};
+ghost use Rattle.ground.specs.Rules.{rules_of};
+ghost use Rattle.answers.specs.Refusals.{refusing};
+ghost use Rattle.tape.specs.Questions.{AcceptedTape, first_no};
+ghost use Rattle.clean.specs.Asking.{before_the_tape};
 ghost use Rattle.clean.specs.Replies.{outside};
 
 use crate::tabled::Tables;
-use lines::rules::Rules;
+use answers::Reason;
+use ground::rules::Rules;
+
+// The question that refuses the settings, or the lengths of what is lent.
+pub fn asked(rules: Rules, work_a: usize, work_b: usize, output: usize) -> Result<(), Reason>
+    ensures { refusing result ≡ first_no (before_the_tape (rules_of rules) work_a work_b output) }
+{
+    if 2 < rules.convention {
+        return Err(Reason::UnknownConvention);
+    }
+    if 1 < rules.edition {
+        return Err(Reason::UnknownEdition);
+    }
+    if work_a < 49152 || work_b < 49152 || output < 59137 {
+        return Err(Reason::TooLittleRoom);
+    }
+    Ok(())
+}
 
 // The first line that breaks the profile. The tables are this function's own, so a call without the profile has no part in them.
 fn broken(tape: &[u8]) -> Option<usize>

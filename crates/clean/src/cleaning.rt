@@ -2,17 +2,17 @@
 ghost use Rattle.std.specs.Prelude.{◌≡◌};
 ghost use Rattle.reference.specs.Listing as reference;
 ghost use Rattle.reference.specs.Questions.{Passed, read};
-ghost use Rattle.lines.specs.Rules.{rules_of};
+ghost use Rattle.ground.specs.Rules.{rules_of};
+ghost use Rattle.join.specs.Contents.{contents};
 ghost use Rattle.join.specs.Workspaces.{SameLent};
-ghost use Rattle.rounds.specs.Workspaces.{Runnable, Ran};
+ghost use Rattle.rounds.specs.Runs.{Runnable, Ran};
 ghost use Rattle.clean.specs.Replies.{cleaned};
 ghost use Rattle.clean.specs.Cleaning.{Writable, ReplyWritten, Cleanable, Finishes};
 
 use crate::tabled::Tables;
-use build::used::Size;
+use ground::rules::Rules;
 use join::Workspace;
-use lines::rules::Rules;
-use lines::texts::{Listing, Texts};
+use lines::texts::{Listing, Size, Texts};
 use rounds::{Outcome, Tally, optimize};
 
 // What a cleaning did: the output's length, what is told of the rounds, the lines removed and the results cut.
@@ -27,7 +27,7 @@ pub struct Finished {
 // Cleans a listing that was loaded into the workspace, in which the texts are all in the tape.
 fn optimized(tape: &[u8], room: &mut Workspace<'_>, size: Size, rules: Rules) -> Outcome
     requires { Runnable tape.now room.old size }
-    ensures ran { Ran (rules_of rules) tape.now room.old size room.new result }
+    ensures ran { Ran (rules_of rules) (contents tape.now room.old size) (contents tape.now room.new result.size) result }
     ensures lent { SameLent room.old room.new }
 {
     let mut labels = [0usize; 256];

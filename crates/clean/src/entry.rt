@@ -1,13 +1,13 @@
 // The questions, then the cleaning.
 ghost use Rattle.std.specs.Prelude.{◌≡◌, length};
 ghost use Rattle.reference.specs.Reply.{reply};
-ghost use Rattle.lines.specs.Rules.{rules_of};
+ghost use Rattle.ground.specs.Rules.{rules_of};
 ghost use Rattle.clean.specs.Replies.{report_of, answer_of, summary, Cleans};
 
-use crate::asking::outside_profile;
+use crate::asking::{asked, outside_profile};
 use crate::cleaning::{Finished, finish};
 use answers::{Reason, Refusal};
-use lines::rules::Rules;
+use ground::rules::Rules;
 
 // Cleans the listing of a tape under the settings: in at most three rounds or, where it is to settle, in as many as it takes. A refusal
 // changes nothing that was lent; otherwise the output is the new tape, and the first 49,152 bytes of both work areas are zero afterwards.
@@ -23,7 +23,7 @@ pub fn clean(
     ensures result_value { answer_of result ≡ summary (reply (rules_of rules) tape.now
         (length work_a.old) (length work_b.old) (length out.old)) }
 {
-    tape::asked(rules, work_a.len(), work_b.len(), out.len()).map_err(|reason| reason.at(0))?;
+    asked(rules, work_a.len(), work_b.len(), out.len()).map_err(|reason| reason.at(0))?;
     tape::check::<false>(tape)?;
     match outside_profile(rules, tape) {
         Some(line) => Err(Reason::OutsideProfile.at(line)),

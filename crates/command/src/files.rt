@@ -1,6 +1,8 @@
-// Files as they are read, and what is told of them on standard error, in the system's words.
+// Files as they are read, standard output, and what is told on standard error, in the system's words.
+use answers::Refusal;
 use std::fs::File;
 use std::io::{Error, ErrorKind, Read, Write};
+use std::process::ExitCode;
 
 // The numbers of the standard streams.
 // Kept: in crates command, filter and replays (for the test programs): crate io takes a stream's number and has no names for them.
@@ -18,6 +20,40 @@ pub(crate) fn is_dash(name: &[u8]) -> bool {
     matches!(name, b"-")
 }
 
+// ---- how things end
+
+// Why something was not done: a question refused it, which is told by whoever has the file's name, or it failed, which was told.
+#[derive(Clone, Copy)]
+pub(crate) enum Trouble {
+    Refused(Refusal),
+    Failed,
+}
+
+impl From<Refusal> for Trouble {
+    fn from(refused: Refusal) -> Trouble {
+        Trouble::Refused(refused)
+    }
+}
+
+// How a run ends: all was done; something was refused or failed; or its words were wrong.
+#[derive(Clone, Copy, Debug, PartialEq, Eq)]
+pub(crate) enum Outcome {
+    Done,
+    Undone,
+    Misused,
+}
+
+impl Outcome {
+    // The exit status.
+    pub(crate) fn status(self) -> ExitCode {
+        match self {
+            Outcome::Done => ExitCode::SUCCESS,
+            Outcome::Undone => ExitCode::FAILURE,
+            Outcome::Misused => ExitCode::from(2),
+        }
+    }
+}
+
 // ---- words on standard error
 
 pub(crate) fn tell(s: &[u8]) {
@@ -26,40 +62,36 @@ pub(crate) fn tell(s: &[u8]) {
 
 // The name of a file, as it is told.
 pub(crate) fn tell_name(name: &[u8]) {
-    if is_dash(name) {
-        tell(b"standard input");
+    tell(if is_dash(name) {
+        b"standard input"
     } else {
-        tell(name);
-    }
+        name
+    });
     tell(b": ");
 }
 
-// Why a call failed: the system's words, without the number in brackets behind them.
-fn tell_reason(rt: &HostRuntime, error: &Error) {
+// What is wrong with a file, in words.
+pub(crate) fn failed_by(name: &[u8], words: &[u8]) -> Trouble {
+    tell_name(name);
+    tell(words);
+    tell(b"\n");
+    Trouble::Failed
+}
+
+// Why a call failed that reads or writes a file: the system's words, without the number in brackets behind them.
+pub(crate) fn failed(rt: &HostRuntime, name: &[u8], error: &Error) -> Trouble {
     match format!(in rt.alloc(); "{error}") {
         Ok(words) => {
             let text = words.as_str();
-            match text.split_once(" (os error ") {
-                Some((reason, _)) => tell(reason.as_bytes()),
-                None => tell(text.as_bytes()),
-            }
+            let reason = text.split_once(" (os error ").map_or(text, |parts| parts.0);
+            failed_by(name, reason.as_bytes())
         }
-        Err(_) => tell(b"no memory is left to say why"),
+        Err(_) => failed_by(name, b"no memory is left to say why"),
     }
-    tell(b"\n");
 }
 
-// Why a file could not be read.
-pub(crate) fn tell_read_error(rt: &HostRuntime, name: &[u8], error: &Error) {
-    tell_name(name);
-    tell_reason(rt, error);
-}
-
-// Why a file could not be written.
-pub(crate) fn tell_write_error(rt: &HostRuntime, path: &[u8], error: &Error) {
-    tell(path);
-    tell(b": ");
-    tell_reason(rt, error);
+pub(crate) fn no_memory() -> Trouble {
+    failed_by(b"puchkewa", b"no memory is left")
 }
 
 // ---- paths
@@ -91,17 +123,29 @@ pub(crate) fn read_path(rt: &HostRuntime, name: &[u8], buffer: &mut [u8]) -> Res
 }
 
 // The same, or standard input by the name -.
-pub(crate) fn read_file(rt: &HostRuntime, name: &[u8], buffer: &mut [u8]) -> Result<usize, Error> {
-    if is_dash(name) {
-        return read_all(&mut rt.stdin(), buffer);
-    }
-    read_path(rt, name, buffer)
+pub(crate) fn read_file(
+    rt: &HostRuntime,
+    name: &[u8],
+    buffer: &mut [u8],
+) -> Result<usize, Trouble> {
+    let read = if is_dash(name) {
+        read_all(&mut rt.stdin(), buffer)
+    } else {
+        read_path(rt, name, buffer)
+    };
+    read.map_err(|error| failed(rt, name, &error))
 }
 
 // ---- standard output
 
-pub(crate) fn write_output(rt: &HostRuntime, bytes: &[u8]) {
-    if let Err(error) = rt.stdout().write_all(bytes) {
-        tell_write_error(rt, b"standard output", &error);
-    }
+pub(crate) fn print(rt: &HostRuntime, bytes: &[u8]) -> Result<(), Trouble> {
+    rt.stdout()
+        .write_all(bytes)
+        .map_err(|error| failed(rt, b"standard output", &error))
+}
+
+pub(crate) fn print_decimal(rt: &HostRuntime, n: u64) -> Result<(), Trouble> {
+    let mut digits = [0u8; 20];
+    let k = io::decimal(n, &mut digits);
+    print(rt, front(&digits, k))
 }

@@ -1,17 +1,12 @@
 // The help, and what is said of wrong use.
-use crate::files::{STDERR, STDOUT, tell};
+use crate::files::{Trouble, print, tell};
 use arguments::{Fault, Problem, Verb};
 use words::nth_word;
 
 // The first lines of the help.
-fn put_front(fd: i32) {
-    io::write_all(
-        fd,
-        b"puchkewa cleans listings of pseudocode: a tape in, the cleaned tape out\n\
-          usage: puchkewa WORD [OPTION..] [FILE..]\n\
-          puchkewa help lists the words, puchkewa help WORD (or puchkewa WORD --help) tells of one\n",
-    );
-}
+const FRONT: &[u8] = b"puchkewa cleans listings of pseudocode: a tape in, the cleaned tape out\n\
+    usage: puchkewa WORD [OPTION..] [FILE..]\n\
+    puchkewa help lists the words, puchkewa help WORD (or puchkewa WORD --help) tells of one\n";
 
 // What is told of a verb.
 fn lines_of(verb: Verb) -> &'static [u8] {
@@ -61,23 +56,18 @@ fn lines_of(verb: Verb) -> &'static [u8] {
 }
 
 // What every verb has in common.
-fn put_rest() {
-    io::write_all(
-        STDOUT,
-        b"SETTINGS\n\
-          \x20 -c 32|sysv|windows  the calling convention (sysv)\n\
-          \x20 -e 2018|2024        the edition of C by which numbers are read (2018)\n\
-          \x20 --parts             ah is not al: parts of a register are kept apart\n\
-          \x20 --profile           only straight pieces, whose returned value is kept\n\
-          \x20 --settle            rounds until one changes nothing\n\
-          V is a decimal number, or hexadecimal behind 0x, from 0 to 2^64-1; -1 to -2^63 are taken as a register holds them.\n\
-          An operand of start with a = in it gives a register its value, the others start with 0; a file that has a = in its\n\
-          name is given with its path, as ./a=b: what begins with . or / is always a file.\n\
-          A FILE is a tape; - or none is standard input. Results go to standard output, or with -o to the file OUT,\n\
-          with -d to files of the same names in the folder DIR; a file is written whole or not at all. What is refused is\n\
-          told on standard error with the file's name, and the others are still done; the exit status is then 1.\n",
-    );
-}
+const REST: &[u8] = b"SETTINGS\n\
+    \x20 -c 32|sysv|windows  the calling convention (sysv)\n\
+    \x20 -e 2018|2024        the edition of C by which numbers are read (2018)\n\
+    \x20 --parts             ah is not al: parts of a register are kept apart\n\
+    \x20 --profile           only straight pieces, whose returned value is kept\n\
+    \x20 --settle            rounds until one changes nothing\n\
+    V is a decimal number, or hexadecimal behind 0x, from 0 to 2^64-1; -1 to -2^63 are taken as a register holds them.\n\
+    An operand of start with a = in it gives a register its value, the others start with 0; a file that has a = in its\n\
+    name is given with its path, as ./a=b: what begins with . or / is always a file.\n\
+    A FILE is a tape; - or none is standard input. Results go to standard output, or with -o to the file OUT,\n\
+    with -d to files of the same names in the folder DIR; a file is written whole or not at all. What is refused is\n\
+    told on standard error with the file's name, and the others are still done; the exit status is then 1.\n";
 
 // The verbs in the order of the help.
 const ORDER: [Verb; 14] = [
@@ -98,21 +88,21 @@ const ORDER: [Verb; 14] = [
 ];
 
 // The whole help.
-fn help_all() {
-    put_front(STDOUT);
+fn help_all(rt: &HostRuntime) -> Result<(), Trouble> {
+    print(rt, FRONT)?;
     for verb in ORDER {
-        io::write_all(STDOUT, lines_of(verb));
+        print(rt, lines_of(verb))?;
     }
-    put_rest();
+    print(rt, REST)
 }
 
 // The help of a verb; without one, and of --version, the whole.
-pub(crate) fn help(verb: Option<Verb>) {
+pub(crate) fn help(rt: &HostRuntime, verb: Option<Verb>) -> Result<(), Trouble> {
     match verb {
-        None | Some(Verb::VersionOption) => help_all(),
+        None | Some(Verb::VersionOption) => help_all(rt),
         Some(verb) => {
-            io::write_all(STDOUT, lines_of(verb));
-            put_rest();
+            print(rt, lines_of(verb))?;
+            print(rt, REST)
         }
     }
 }
@@ -145,7 +135,7 @@ pub(crate) fn tell_wrong(words: &[u8], verb: Option<Verb>, fault: Fault) {
     }
     tell(words_of(fault.problem));
     tell(b"\n");
-    put_front(STDERR);
+    tell(FRONT);
     if let Some(verb) = verb {
         tell(lines_of(verb));
     }

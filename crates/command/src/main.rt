@@ -1,26 +1,27 @@
 // The command `puchkewa`: cleans tapes in files, and the other calls of the library. bin/puchkewa runs it.
 //
 // What the words ask for is read by crate arguments, and what is written of a reply is made by crate reports; the work is the library's.
-// Here stands only what reads, writes and prints. A program has no exit status: whatever is written to standard error is an error, and the
-// wrapper says 1 then.
+// Here stands only what reads, writes and prints. The exit status is 0 where all was done, 1 where something was refused or failed, 2 where
+// the words were wrong.
 #![tactic(auto)]
 
-mod files; // reading files
+mod files; // reading, and what is told
 mod help; // the help, and wrong use
-mod sink; // writing files
+mod outputs; // results, and where they go
 mod stores; // named states, in a file
 
 use answers::{Answer, Refusal};
 use arguments::{Destination, Request, Value, Verb, base_name, next_word};
 use clean::Finished;
 use files::{
-    STDERR, STDOUT, front, is_dash, path_of, read_file, tell, tell_name, tell_read_error,
-    tell_write_error, write_output,
+    Outcome, Trouble, failed_by, front, is_dash, no_memory, print, print_decimal, read_file, tell,
+    tell_name,
 };
 use listing_text::{Unmade, put_listing, put_tape};
-use render::{Cleaning, Sink, count_of, put_page};
-use sink::{Goal, tell_unwritten, write_file};
+use outputs::Product;
+use render::{Cleaning, count_of};
 use std::env::FillError;
+use std::process::ExitCode;
 use std::rt::Env;
 use words::nth_word;
 
@@ -72,18 +73,19 @@ fn put_path(dir: &[u8], base: &[u8], path: &mut [u8]) -> Option<usize> {
 }
 
 // To the file of the same name in the folder DIR.
-fn deliver_into(rt: &HostRuntime, dir: &[u8], name: &[u8], bytes: &[u8]) {
+fn deliver_into(
+    rt: &HostRuntime,
+    dir: &[u8],
+    name: &[u8],
+    product: Product,
+) -> Result<(), Trouble> {
     if is_dash(name) {
-        tell(b"puchkewa: -d needs the names of files\n");
-        return;
+        return Err(failed_by(b"puchkewa", b"-d needs the names of files"));
     }
     let mut path = [0u8; 8200];
     match put_path(dir, base_name(name), &mut path) {
-        Some(n) => write_file(rt, front(&path, n), bytes),
-        None => {
-            tell_name(name);
-            tell(b"the name is too long\n");
-        }
+        Some(n) => product.write(rt, front(&path, n)),
+        None => Err(failed_by(name, b"the name is too long")),
     }
 }
 
@@ -97,123 +99,89 @@ impl Call<'_> {
     }
 
     // The result of a file.
-    fn deliver(&self, name: &[u8], bytes: &[u8]) {
-        match self.request.destination {
-            Destination::StandardOutput => write_output(self.rt, bytes),
-            Destination::File(k) => write_file(self.rt, nth_word(self.words, k), bytes),
-            Destination::Folder(k) => deliver_into(self.rt, nth_word(self.words, k), name, bytes),
+    fn deliver(&self, name: &[u8], product: Product) -> Result<(), Trouble> {
+        match self.request.goal.destination {
+            Destination::StandardOutput => product.print(self.rt),
+            Destination::File(k) => product.write(self.rt, nth_word(self.words, k)),
+            Destination::Folder(k) => deliver_into(self.rt, nth_word(self.words, k), name, product),
         }
     }
 
     // A call beside the cleaning: what it puts into a buffer of 131,072 bytes is delivered.
-    fn answered<F: FnOnce(&mut [u8]) -> Answer>(&self, name: &[u8], call: F) -> Result<(), Refusal>
+    fn answered<F: FnOnce(&mut [u8]) -> Answer>(&self, name: &[u8], call: F) -> Result<(), Trouble>
         requires { F.IsAlwaysCallable call }
     {
         let mut out = [0u8; 131072];
         let n = call(&mut out)?;
         // Kept: an answer is a u64, as C has it; std has no `From` of it for usize, and the error of `try_from` cannot come: no plainer.
-        self.deliver(name, front(&out, n as usize));
-        Ok(())
+        self.deliver(name, Product::Bytes(front(&out, n as usize)))
     }
 }
 
 // ---- what is told of a reply
 
-fn tell_refusal_line(refused: Refusal) {
+fn tell_refusal(refused: Refusal) {
     let mut line = [0u8; 256];
     let n = reports::put_refused(refused, &mut line);
     tell(front(&line, n));
 }
 
-pub(crate) fn tell_refusal(name: &[u8], refused: Refusal) {
-    tell_name(name);
-    tell_refusal_line(refused);
+// Tells a refusal with the name of its file, and says how the run ends that has done that.
+pub(crate) fn outcome_of(name: &[u8], done: Result<(), Trouble>) -> Outcome {
+    match done {
+        Ok(_) => return Outcome::Done,
+        Err(Trouble::Refused(refused)) => {
+            tell_name(name);
+            tell_refusal(refused);
+        }
+        Err(Trouble::Failed) => {}
+    }
+    Outcome::Undone
 }
 
-pub(crate) fn print_decimal(n: u64) {
-    io::print_decimal(STDOUT, n);
-}
-
-fn print_counts(rt: &HostRuntime, f: Finished) {
+fn print_counts(rt: &HostRuntime, f: Finished) -> Result<(), Trouble> {
     let mut line = [0u8; 256];
     let n = reports::put_counts(count_of(f.length), f.tally, f.removed, f.cut, &mut line);
-    write_output(rt, front(&line, n));
+    print(rt, front(&line, n))
 }
 
 // The line of a start value.
-fn print_start(rt: &HostRuntime, chosen: &[u8], v: u64) {
+fn print_start(rt: &HostRuntime, chosen: &[u8], v: u64) -> Result<(), Trouble> {
     let mut line = [0u8; 65581];
-    if chosen.len() <= 65536 {
-        let n = reports::put_start(chosen, v, &mut line);
-        write_output(rt, front(&line, n));
-    }
-}
-
-fn tell_no_memory() {
-    tell(b"puchkewa: no memory is left\n");
+    let n = if chosen.len() <= 65536 {
+        reports::put_start(chosen, v, &mut line)
+    } else {
+        0
+    };
+    print(rt, front(&line, n))
 }
 
 // ---- a start value
 
 impl Call<'_> {
     // Asks for the start value, by way of a buffer for the list of the words' entries, and prints its line.
-    fn print_start_value(&self, tape: &[u8], list: &mut [u8]) -> Result<(), Refusal> {
+    fn print_start_value(&self, tape: &[u8], list: &mut [u8]) -> Result<(), Trouble> {
         if list.len() / 9 <= self.words.len() {
-            tell(b"puchkewa: the words of start have more than 65,536 bytes\n");
-            return Ok(());
+            return Err(failed_by(
+                b"puchkewa",
+                b"the words of start have more than 65,536 bytes",
+            ));
         }
         let n = arguments::put_entries(self.words, list);
-        if let (Some(k), Some(wanted)) = (self.request.chosen, self.request.wanted) {
-            let chosen = nth_word(self.words, k);
-            let v = start::start_value(tape, chosen, front(list, n), wanted)?;
-            print_start(self.rt, chosen, v);
-        }
-        Ok(())
+        let (Some(k), Some(wanted)) = (self.request.start.chosen, self.request.start.wanted) else {
+            return Ok(());
+        };
+        let chosen = nth_word(self.words, k);
+        let v = start::start_value(tape, chosen, front(list, n), wanted)?;
+        print_start(self.rt, chosen, v)
     }
 
     // The smallest start value of the chosen register.
-    fn start_one(&self, tape: &[u8]) -> Result<(), Refusal> {
+    fn start_one(&self, tape: &[u8]) -> Result<(), Trouble> {
         match vec![in self.rt.alloc(); 0u8; 589833] {
             Ok(mut list) => self.print_start_value(tape, &mut list),
-            Err(_) => {
-                tell_no_memory();
-                Ok(())
-            }
+            Err(_) => Err(no_memory()),
         }
-    }
-}
-
-// ---- a page
-
-// The page of a cleaning, to what is open, and whether all of it was written.
-fn put_whole(fd: i32, cleaning: &Cleaning) -> bool {
-    let mut sink = Sink { fd, sound: true };
-    put_page(&mut sink, cleaning);
-    sink.sound
-}
-
-// To standard output.
-fn print_page(rt: &HostRuntime, cleaning: &Cleaning) {
-    if !put_whole(STDOUT, cleaning) {
-        tell_unwritten(rt, &mut rt.stdout(), b"standard output");
-    }
-}
-
-fn try_page(rt: &HostRuntime, path: &[u8], cleaning: &Cleaning) -> Result<(), std::io::Error> {
-    let text = path_of(path)?;
-    let mut goal = Goal::open(rt, text)?;
-    if put_whole(goal.number(), cleaning) {
-        return goal.keep(rt, text);
-    }
-    goal.tell_unwritten(rt, path);
-    goal.give_up(rt);
-    Ok(())
-}
-
-// To a file.
-fn write_page(rt: &HostRuntime, path: &[u8], cleaning: &Cleaning) {
-    if let Err(error) = try_page(rt, path, cleaning) {
-        tell_write_error(rt, path, &error);
     }
 }
 
@@ -221,11 +189,12 @@ fn write_page(rt: &HostRuntime, path: &[u8], cleaning: &Cleaning) {
 
 impl Call<'_> {
     // The name of a file in front of its line; none where no file was named.
-    fn print_name(&self, name: &[u8]) {
-        if self.request.operands != 0 {
-            write_output(self.rt, name);
-            write_output(self.rt, b": ");
+    fn print_name(&self, name: &[u8]) -> Result<(), Trouble> {
+        if self.request.operands.count == 0 {
+            return Ok(());
         }
+        print(self.rt, name)?;
+        print(self.rt, b": ")
     }
 
     // Cleans a tape into a buffer.
@@ -235,102 +204,96 @@ impl Call<'_> {
         clean::clean(self.request.rules, tape, &mut work_a, &mut work_b, out)
     }
 
-    fn clean_one(&self, name: &[u8], tape: &[u8]) -> Result<(), Refusal> {
+    fn clean_one(&self, name: &[u8], tape: &[u8]) -> Result<(), Trouble> {
         let mut out = [0u8; 59137];
         let f = self.clean(tape, &mut out)?;
-        self.deliver(name, front(&out, f.length));
-        Ok(())
+        self.deliver(name, Product::Bytes(front(&out, f.length)))
     }
 
-    fn count_one(&self, name: &[u8], tape: &[u8]) -> Result<(), Refusal> {
+    fn count_one(&self, name: &[u8], tape: &[u8]) -> Result<(), Trouble> {
         let mut out = [0u8; 59137];
         let f = self.clean(tape, &mut out)?;
-        self.print_name(name);
-        print_counts(self.rt, f);
-        Ok(())
+        self.print_name(name)?;
+        print_counts(self.rt, f)
     }
 
-    fn check_one(&self, name: &[u8], tape: &[u8]) -> Result<(), Refusal> {
+    fn check_one(&self, name: &[u8], tape: &[u8]) -> Result<(), Trouble> {
         let totals = tape::check::<false>(tape)?;
-        self.print_name(name);
-        write_output(self.rt, b"accepted, lines ");
-        print_decimal(count_of(totals.lines));
-        write_output(self.rt, b", tokens ");
-        print_decimal(count_of(totals.tokens));
-        write_output(self.rt, b", bytes of text ");
-        print_decimal(count_of(totals.text));
-        write_output(self.rt, b"\n");
-        Ok(())
+        self.print_name(name)?;
+        print(self.rt, b"accepted, lines ")?;
+        print_decimal(self.rt, count_of(totals.lines))?;
+        print(self.rt, b", tokens ")?;
+        print_decimal(self.rt, count_of(totals.tokens))?;
+        print(self.rt, b", bytes of text ")?;
+        print_decimal(self.rt, count_of(totals.text))?;
+        print(self.rt, b"\n")
     }
 
-    fn edition_one(&self, name: &[u8], tape: &[u8]) -> Result<(), Refusal> {
-        match self.request.value {
+    fn edition_one(&self, name: &[u8], tape: &[u8]) -> Result<(), Trouble> {
+        match self.request.operands.value {
             Some(Value::Edition(0)) => self.answered(name, |out| editions::to_2018(tape, out)),
             _ => self.answered(name, |out| editions::to_2024(tape, out)),
         }
     }
 
-    fn offsets_one(&self, name: &[u8], tape: &[u8]) -> Result<(), Refusal> {
-        let Some(Value::Number(base)) = self.request.value else {
+    fn offsets_one(&self, name: &[u8], tape: &[u8]) -> Result<(), Trouble> {
+        let Some(Value::Number(base)) = self.request.operands.value else {
             return Ok(());
         };
         self.answered(name, |out| offsets::to_offsets(base, tape, out))
     }
 
-    fn addresses_one(&self, name: &[u8], tape: &[u8]) -> Result<(), Refusal> {
+    fn addresses_one(&self, name: &[u8], tape: &[u8]) -> Result<(), Trouble> {
         self.answered(name, |out| offsets::from_offsets(tape, out))
     }
 
     // A bare tape is shown up to the command that is wrong; nothing of it where its text has more than 262,144 bytes.
-    fn show_one(&self, tape: &[u8]) -> Result<(), Refusal> {
+    fn show_one(&self, tape: &[u8]) -> Result<(), Trouble> {
         let mut out = [0u8; 262144];
-        let shown = put_listing(tape, self.request.exact, &mut out);
+        let shown = put_listing(tape, self.request.goal.exact, &mut out);
         if shown.whole {
-            write_output(self.rt, front(&out, shown.length));
+            print(self.rt, front(&out, shown.length))?;
         }
         match shown.refusal {
-            Some(refused) => Err(refused),
+            Some(refused) => Err(Trouble::Refused(refused)),
             None => Ok(()),
         }
     }
 
     // A tape that was made of a text; what is no tape is refused as one.
-    fn deliver_made(&self, name: &[u8], tape: &[u8]) {
+    fn deliver_made(&self, name: &[u8], tape: &[u8]) -> Result<(), Trouble> {
         let mut again = [0u8; 262144];
         match put_listing(tape, true, &mut again).refusal {
             Some(refused) => {
                 tell_name(name);
                 tell(b"the tape of this text is ");
-                tell_refusal_line(refused);
+                tell_refusal(refused);
+                Err(Trouble::Failed)
             }
-            None => self.deliver(name, tape),
+            None => self.deliver(name, Product::Bytes(tape)),
         }
     }
 
     // The tape of a text in the exact form.
-    fn tape_one(&self, name: &[u8], text: &[u8]) {
+    fn tape_one(&self, name: &[u8], text: &[u8]) -> Result<(), Trouble> {
         if 131072 <= text.len() {
-            tell_name(name);
-            tell(b"the text is too long\n");
-            return;
+            return Err(failed_by(name, b"the text is too long"));
         }
         let mut out = [0u8; 131072];
         match put_tape(text, &mut out) {
             Ok(length) => self.deliver_made(name, front(&out, length)),
-            Err(Unmade::Full) => {
-                tell_name(name);
-                tell(b"the tape of this text is too long\n");
-            }
+            Err(Unmade::Full) => Err(failed_by(name, b"the tape of this text is too long")),
             Err(Unmade::Wrong(line)) => {
                 tell_name(name);
                 tell(b"line ");
-                io::print_decimal(STDERR, line);
+                io::print_decimal(files::STDERR, line);
                 tell(b", counted from 0, is not as show --exact prints it\n");
+                Err(Trouble::Failed)
             }
         }
     }
 
-    fn page_one(&self, name: &[u8], tape: &[u8]) -> Result<(), Refusal> {
+    fn page_one(&self, name: &[u8], tape: &[u8]) -> Result<(), Trouble> {
         let mut out = [0u8; 59137];
         let told = self.clean(tape, &mut out)?;
         let cleaning = Cleaning {
@@ -340,26 +303,17 @@ impl Call<'_> {
             cleaned: front(&out, told.length),
             told,
         };
-        match self.request.destination {
-            Destination::StandardOutput => print_page(self.rt, &cleaning),
-            Destination::File(k) | Destination::Folder(k) => {
-                write_page(self.rt, nth_word(self.words, k), &cleaning)
-            }
-        }
-        Ok(())
+        self.deliver(name, Product::Page(&cleaning))
     }
 
     // What is done with the bytes of a file.
-    fn work(&self, verb: Verb, name: &[u8], tape: &[u8]) -> Result<(), Refusal> {
+    fn work(&self, verb: Verb, name: &[u8], tape: &[u8]) -> Result<(), Trouble> {
         match verb {
             Verb::Clean => self.clean_one(name, tape),
             Verb::Counts => self.count_one(name, tape),
             Verb::Check => self.check_one(name, tape),
             Verb::Show => self.show_one(tape),
-            Verb::Tape => {
-                self.tape_one(name, tape);
-                Ok(())
-            }
+            Verb::Tape => self.tape_one(name, tape),
             Verb::Addresses => self.addresses_one(name, tape),
             Verb::Edition => self.edition_one(name, tape),
             Verb::Offsets => self.offsets_one(name, tape),
@@ -372,22 +326,20 @@ impl Call<'_> {
     // Reads a file and does what is asked with it. At most 131,072 bytes are read: an accepted tape has at most 34,561 bytes and no command
     // more than 65,538, so a longer tape is refused at a command that ends before that, and whatever follows, the refusal is the whole
     // file's. (`show`, which does not ask the totals, shows of a longer file the front.)
-    fn one_file(&self, verb: Verb, name: &[u8]) {
+    fn try_file(&self, verb: Verb, name: &[u8]) -> Result<(), Trouble> {
         let mut input = [0u8; 131072];
-        match read_file(self.rt, name, &mut input) {
-            Ok(n) => {
-                if let Err(refused) = self.work(verb, name, front(&input, n)) {
-                    tell_refusal(name, refused);
-                }
-            }
-            Err(error) => tell_read_error(self.rt, name, &error),
-        }
+        let n = read_file(self.rt, name, &mut input)?;
+        self.work(verb, name, front(&input, n))
+    }
+
+    fn one_file(&self, verb: Verb, name: &[u8]) -> Outcome {
+        outcome_of(name, self.try_file(verb, name))
     }
 
     // The file of a verb that takes one: the last operand, where there are more than so many; otherwise standard input.
-    fn only_file(&self, verb: Verb, before: u64) {
-        match self.request.last {
-            Some(k) if before < self.request.operands => {
+    fn only_file(&self, verb: Verb, before: u64) -> Outcome {
+        match self.request.operands.last {
+            Some(k) if before < self.request.operands.count => {
                 self.one_file(verb, nth_word(self.words, k))
             }
             _ => self.one_file(verb, b"-"),
@@ -396,59 +348,75 @@ impl Call<'_> {
 
     // Every operand is a file: the words are taken once more, and each that is an operand is done.
     // Kept: what is left is carried by hand, as in `parse` of crate arguments, which says why.
-    fn each_file(&self, verb: Verb) {
+    fn each_file(&self, verb: Verb) -> Outcome {
+        let mut outcome = Outcome::Done;
         let mut s = Request::begin();
         let mut left = self.words;
         for k in 0..u64::MAX {
             let Some((word, rest)) = next_word(left) else {
-                return;
+                break;
             };
             s = s.step(k, word);
-            if s.last == Some(k) {
-                self.one_file(verb, word);
+            if s.operands.last == Some(k) && self.one_file(verb, word) != Outcome::Done {
+                outcome = Outcome::Undone;
             }
             left = rest;
         }
+        outcome
     }
 
-    // Whether each result has a file of its own: with -d two files of one base name would be written to one, which is told.
-    fn go_apart(&self) -> bool {
-        let Destination::Folder(_) = self.request.destination else {
-            return true;
-        };
-        let Some(k) = arguments::clash(self.words) else {
-            return true;
+    // The operand, if there is one, that has the base name of one before it: with -d both would be written to one file.
+    fn clash(&self) -> Option<u64> {
+        match self.request.goal.destination {
+            Destination::Folder(_) => arguments::clash(self.words),
+            _ => None,
+        }
+    }
+
+    fn all_files(&self, verb: Verb) -> Outcome {
+        if self.request.operands.count == 0 {
+            return self.one_file(verb, b"-");
+        }
+        let Some(k) = self.clash() else {
+            return self.each_file(verb);
         };
         tell(b"puchkewa: ");
         tell(nth_word(self.words, k));
         tell(
             b" has the base name of another file, and -d would write both to one; nothing was done\n",
         );
-        false
-    }
-
-    fn all_files(&self, verb: Verb) {
-        if self.request.operands == 0 {
-            self.one_file(verb, b"-");
-        } else if self.go_apart() {
-            self.each_file(verb);
-        }
+        Outcome::Misused
     }
 
     // ---- no file is read
 
-    fn laborious(&self) {
-        let Some(Value::Number(n)) = self.request.value else {
-            return;
+    fn laborious(&self) -> Outcome {
+        let Some(Value::Number(n)) = self.request.operands.value else {
+            return Outcome::Done;
         };
-        if let Err(refused) = self.answered(b"laborious", |out| laborious::laborious(n, out)) {
-            tell_refusal(b"laborious", refused);
-        }
+        let name = b"laborious";
+        outcome_of(
+            name,
+            self.answered(name, |out| laborious::laborious(n, out)),
+        )
+    }
+
+    fn help(&self) -> Outcome {
+        let told = match self.request.operands.value {
+            Some(Value::Verb(verb)) => Some(verb),
+            _ => None,
+        };
+        outcome_of(b"help", help::help(self.rt, told))
+    }
+
+    fn version(&self) -> Outcome {
+        // Kept: the version's text, which the page of crate render has too: by one name the line's end here would be written by itself.
+        outcome_of(b"version", print(self.rt, b"puchkewa 0.15.0\n"))
     }
 
     // ---- all verbs
 
-    fn run(&self, verb: Verb) {
+    fn run(&self, verb: Verb) -> Outcome {
         match verb {
             Verb::Clean | Verb::Counts | Verb::Check => self.all_files(verb),
             Verb::Show | Verb::Tape | Verb::Addresses | Verb::Page | Verb::Start => {
@@ -457,38 +425,38 @@ impl Call<'_> {
             Verb::Edition | Verb::Offsets => self.only_file(verb, 1),
             Verb::Laborious => self.laborious(),
             Verb::State => self.state(),
-            Verb::Help => match self.request.value {
-                Some(Value::Verb(told)) => help::help(Some(told)),
-                _ => help::help(None),
-            },
-            // Kept: the version's text, which the page of crate render has too: by one name the line's end here would be written by itself.
-            Verb::Version | Verb::VersionOption => write_output(self.rt, b"puchkewa 0.15.0\n"),
+            Verb::Help => self.help(),
+            Verb::Version | Verb::VersionOption => self.version(),
         }
     }
 }
 
-fn begin(rt: &HostRuntime, words: &[u8]) {
+fn begin(rt: &HostRuntime, words: &[u8]) -> Outcome {
     let request = arguments::parse(words);
     if request.help {
-        help::help(request.verb);
-        return;
+        return outcome_of(b"help", help::help(rt, request.verb));
     }
     if let Some(fault) = request.fault {
         help::tell_wrong(words, request.verb, fault);
-        return;
+        return Outcome::Misused;
     }
     let call = Call { rt, words, request };
-    if let Some(verb) = request.verb {
-        call.run(verb);
+    match request.verb {
+        Some(verb) => call.run(verb),
+        None => Outcome::Misused,
     }
 }
 
-fn main(rt: HostRuntime) {
-    match vec![in rt.alloc(); 0u8; 524288] {
+fn main(rt: HostRuntime) -> ExitCode {
+    let outcome = match vec![in rt.alloc(); 0u8; 524288] {
         Ok(mut words) => match gather(&rt, &mut words) {
             Some(n) => begin(&rt, front(&words, n)),
-            None => tell(b"puchkewa: the words have more than 524,288 bytes\n"),
+            None => {
+                tell(b"puchkewa: the words have more than 524,288 bytes\n");
+                Outcome::Misused
+            }
         },
-        Err(_) => tell_no_memory(),
-    }
+        Err(_) => outcome_of(b"puchkewa", Err(no_memory())),
+    };
+    outcome.status()
 }

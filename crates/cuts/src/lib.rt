@@ -4,7 +4,7 @@
 ghost use Rattle.std.specs.Prelude.{◌≡◌, ◌<◌, ◌≤◌, length};
 ghost use Rattle.reference.specs.Run.{dead_result, drop_dead_results};
 ghost use Rattle.joining.specs.Rounds.{cuts};
-ghost use Rattle.lines.specs.Rules.{rules_of};
+ghost use Rattle.ground.specs.Rules.{rules_of};
 ghost use Rattle.lines.specs.Lines.{Listed};
 ghost use Rattle.lines.specs.Texts.{Holds, bare_listing, tokens_of};
 ghost use Rattle.life.specs.Labels.{Labelled, labels_of};
@@ -12,7 +12,7 @@ ghost use Rattle.cuts.specs.Cuts.{keeps_result};
 ghost use Rattle.cuts.specs.Texts.{Cuttable, labels_now, Dropped, Cut};
 
 use life::{Followed, LabelledListing, dead_after, gather_labels};
-use lines::rules::Rules;
+use ground::rules::Rules;
 use lines::texts::{Listing, Texts};
 use lines::{shapes, words};
 use names::RAX;

@@ -10,7 +10,7 @@ ghost use Rattle.editions.specs.Numbers.{begins_binary, is_newer, has_no_older, 
 ghost use Rattle.editions.specs.Conversion.{of_command};
 ghost use Rattle.editions.specs.Asking.{keywords_1, keywords_2, keywords_3, earns, leftmost};
 
-use lines::words::{NUMBER, SYMBOL};
+use ground::kinds::{NUMBER, SYMBOL};
 use numbers::{begins_binary, read_number};
 use tape::walk::{Commands, Event};
 

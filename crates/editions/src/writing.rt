@@ -11,7 +11,7 @@ ghost use Rattle.editions.specs.Conversion.{down_token, change};
 ghost use Rattle.editions.specs.Lowering.{down_command, Lowers, Lowerable};
 
 use crate::texts::put_down;
-use lines::words::NUMBER;
+use ground::kinds::NUMBER;
 use tape::walk::{Commands, Event};
 use tape::writing::{put_command, put_end, put_token};
 use text::Cursor;

@@ -7,7 +7,7 @@ ghost use Rattle.filter.specs.Response.{refusal, shown, settings, LONGEST, respo
 
 use answers::{Reason, Refusal};
 use clean::clean;
-use lines::rules::Rules;
+use ground::rules::Rules;
 use printing::put_decimal;
 use text::Cursor;
 
@@ -32,7 +32,7 @@ fn answer(convention: u8, tape: &[u8], out: &mut [u8]) -> usize
     requires { length out.old ≡ OUTPUT }
     ensures { Shows (shown (reply (settings convention) tape.now WORK WORK OUTPUT)) out.old out.new result }
 {
-    // Kept: the sizes that question 2 asks for (requests M-109, M-105) as numbers, as they stand in `asked` of crate tape, on which this
+    // Kept: the sizes that question 2 asks for (requests M-109, M-105) as numbers, as they stand in `asked` of crate clean, on which this
     // program does not rest.
     let mut work_a = [0u8; 49152];
     let mut work_b = [0u8; 49152];

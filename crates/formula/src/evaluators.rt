@@ -17,6 +17,7 @@ use crate::line::Line;
 use crate::places;
 use crate::places::{Place, Sign};
 use crate::terms::has_junk;
+use ground::kinds;
 use lines::words;
 
 // A multiple of the register that is chosen, and a constant.
@@ -71,7 +72,7 @@ pub fn term(line: &Line<'_>, values: &[Pair], place: Place) -> Worth
     if line.words.len() <= place.token {
         return None;
     }
-    if words::kind(line.words[place.token]) != words::PUNCT {
+    if words::kind(line.words[place.token]) != kinds::PUNCT {
         return Some(Value {
             pair: pair_at(values, place.token),
             place: Place {

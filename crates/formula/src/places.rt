@@ -4,6 +4,7 @@ ghost use Rattle.reference.specs.Evaluators.{behind, operator};
 ghost use Rattle.formula.specs.Line.{left, Placed, InLine, Readable, Leads, Operates};
 
 use crate::line::Line;
+use ground::kinds;
 use lines::words;
 
 #[derive(Clone, Copy, Debug, PartialEq, Eq)]
@@ -34,7 +35,7 @@ fn behind_byte(line: &Line<'_>, place: Place, c: u8) -> Option<Place>
         return None;
     }
     let w = line.words[place.token];
-    if words::kind(w) != words::PUNCT {
+    if words::kind(w) != kinds::PUNCT {
         return None;
     }
     let s = words::text(&line.texts, w);

@@ -15,6 +15,7 @@ ghost use Rattle.formula.specs.Profile.{Filled};
 use crate::evaluators::evaluate;
 use crate::line::Line;
 use crate::terms::is_wide;
+use ground::kinds;
 use lines::texts::Texts;
 use lines::{shapes, words};
 
@@ -34,8 +35,8 @@ fn is_read(texts: &Texts<'_>, words: &[u64], before: &[u8]) -> bool
 fn puncts_apart(line: &[u64]) -> bool
     ensures { (tape area : Text) → result ≡ puncts_apart false (Words.tokens_of tape area line.now) }
 {
-    !line.windows(2).any(|pair| words::kind(pair[0]) == words::PUNCT
-        && words::kind(pair[1]) == words::PUNCT)
+    !line.windows(2).any(|pair| words::kind(pair[0]) == kinds::PUNCT
+        && words::kind(pair[1]) == kinds::PUNCT)
 }
 
 // Whether a line assigns to a 64-bit register, as the profile wants it.

@@ -8,6 +8,7 @@ ghost use Rattle.formula.specs.Terms.{is_plain, is_junk};
 ghost use Rattle.formula.specs.Line.{has_junk, Holds};
 
 use crate::line::Line;
+use ground::kinds;
 use lines::texts::Texts;
 use lines::{fams, words};
 use numbers::parse_c_number;
@@ -58,7 +59,7 @@ fn is_number(texts: &Texts<'_>, w: u64) -> bool
     requires { Points texts.now w }
     ensures { result ≡ is_some (number_of (token_of texts.now w)) }
 {
-    if words::kind(w) != words::NUMBER {
+    if words::kind(w) != kinds::NUMBER {
         return false;
     }
     let s = words::text(texts, w);
@@ -78,7 +79,7 @@ fn is_junk(texts: &Texts<'_>, w: u64) -> bool
     requires { Points texts.now w }
     ensures { result ≡ any is_junk (lexemes_of (token_of texts.now w)) }
 {
-    words::kind(w) != words::PUNCT && !is_term(texts, w)
+    words::kind(w) != kinds::PUNCT && !is_term(texts, w)
 }
 
 // Whether a line has a token that can stand in no expression, wherever it stands.

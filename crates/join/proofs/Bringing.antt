@@ -13,7 +13,7 @@ use Rattle.laws.proofs.Parts.{drop-take}
 use Rattle.joining.specs.Plan.{act}
 use Rattle.lines.specs.Lines.{Reading, listing_read, Listed}
 use Rattle.plan.specs.declared.plans.Join.{Join}
-use Rattle.build.specs.declared.used.Size.{Size}
+use Rattle.lines.specs.declared.texts.Size.{Size}
 use Rattle.join.specs.Building.{plan_of, Acted}
 use Rattle.join.specs.Patching.{need_from, Spare, mixed, Patched}
 

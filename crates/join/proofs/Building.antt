@@ -16,7 +16,7 @@ use Rattle.joining.proofs.Building.{built_begin, built_turn, built-skip, act-bui
 use Rattle.lines.specs.Lines.{Reading, listing_read}
 use Rattle.lines.proofs.words.Lines.{listing_at, listed_none}
 use Rattle.plan.specs.declared.plans.Join.{Join}
-use Rattle.build.specs.declared.used.Size.{Size}
+use Rattle.lines.specs.declared.texts.Size.{Size}
 use Rattle.build.proofs.Listing.{listed-added, listing-added}
 use Rattle.join.specs.Building.{Placed, plan_of, Plannable, nothing_used, acted_upto, Upto, Rebuilt}
 use Rattle.join.proofs.Rows.{within_begin, text_few, words_few, within_passed, within-placed}

@@ -1,13 +1,7 @@
 -- The same slices, lent on from call to call. Assumes nothing.
-use Prim.Native.Nat.{ℕ, ◌≤◌}
-use native.Mathlib.Omega.{arith}
 use mathlib.Core.Path.{refl, ◌∙◌}
-use mathlib.Core.List.{List}
-use lib.ListN.{length, length-map}
-use Rattle.reference.specs.Text.{Text}
-use Rattle.build.specs.declared.used.Size.{Size}
 use Rattle.join.specs.declared.workspace.Workspace.{Workspace}
-use Rattle.join.specs.Workspaces.{SameLent, SameListing, Attemptable}
+use Rattle.join.specs.Workspaces.{SameLent, SameListing}
 
 pub same_listing : {w : Workspace} → SameListing w w
 same_listing = record { area_is = refl; tokens_are = refl; lines_are = refl; area2_is = refl; tokens2_are = refl; marks_are = refl; marks_length = refl }
@@ -28,8 +22,3 @@ lent_behind f g = record {
   tokens2_length = rw f.tokens2_are at g.tokens2_length;
   marks_length = g.marks_length ∙ f.marks_length;
 }
-
--- an attempt has the marks of 256 lines
-pub marks_for : {tape : Text} (w : Workspace) {labels : List ℕ} {slots : Text} {words : List ℕ} {i : ℕ} {at : Size}
-    → Attemptable tape w labels slots words i at → 256 ≤ length w.marks.now
-marks_for w a = omega (arith, a.for_lows, length-map w.marks.now (λ m. m.low))

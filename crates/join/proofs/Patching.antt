@@ -22,7 +22,7 @@ use Rattle.joining.proofs.Indexed.{length-map-from, map-from_append, map-from_id
 use Rattle.lines.specs.Lines.{Reading, line_read, bare_in, listing_read, Lined, Listed}
 use Rattle.lines.proofs.words.Lines.{listing_at, listed-set, listed-grows, listing-grows, listed-remove}
 use Rattle.plan.specs.declared.plans.Join.{Join}
-use Rattle.build.specs.declared.used.Size.{Size}
+use Rattle.lines.specs.declared.texts.Size.{Size}
 use Rattle.build.proofs.Growing.{grown}
 use Rattle.build.proofs.Listing.{lined_elsewhere, line_elsewhere}
 use Rattle.join.specs.Building.{new_tokens, Placeable, Placed, plan_of, Plannable}

@@ -19,7 +19,7 @@ use Rattle.lines.specs.Words.{tokens_of}
 use Rattle.lines.specs.Lines.{Reading, part_of, line_read, bare_in}
 use Rattle.plan.specs.declared.plans.Join.{Join}
 use Rattle.plan.specs.Plans.{join_in}
-use Rattle.build.specs.declared.used.Size.{Size}
+use Rattle.lines.specs.declared.texts.Size.{Size}
 use Rattle.build.specs.Substitution.{right_of}
 use Rattle.build.specs.Added.{Added, Keepable, Kept, unmerged, Rewritable, Rewritten}
 use Rattle.build.proofs.Rooms.{text_room}

@@ -18,7 +18,7 @@ use Rattle.joining.proofs.Room.{built-sum}
 use Rattle.lines.specs.Lines.{bare_listing}
 use Rattle.lines.proofs.words.Lines.{bare_at}
 use Rattle.plan.specs.declared.plans.Join.{Join}
-use Rattle.build.specs.declared.used.Size.{Size}
+use Rattle.lines.specs.declared.texts.Size.{Size}
 use Rattle.build.specs.State.{Room}
 use Rattle.join.specs.Building.{new_tokens, Placeable, Placed, plan_of, Plannable, unmerged_upto, Within, nothing_used}
 

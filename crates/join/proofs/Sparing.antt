@@ -18,7 +18,7 @@ use Rattle.lines.specs.Words.{len_of}
 use Rattle.lines.specs.Lines.{first_of, count_of, part_of}
 use Rattle.lines.proofs.words.Tokens.{len_below}
 use Rattle.lines.proofs.words.Lines.{count-below}
-use Rattle.build.specs.declared.used.Size.{Size}
+use Rattle.lines.specs.declared.texts.Size.{Size}
 use Rattle.join.specs.Patching.{words_room, line_need, needs, behind, free, Spare}
 
 -- ---- the room of words

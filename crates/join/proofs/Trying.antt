@@ -2,16 +2,14 @@
 -- Assumes nothing.
 use Prim.Native.Nat.{ℕ, suc, ◌<◌}
 use native.Mathlib.Omega.{arith}
-use mathlib.Core.Path.{◌≡◌, refl, sym, ap, ◌∙◌, subst}
+use mathlib.Core.Path.{◌≡◌, sym, ap, ◌∙◌, subst}
 use mathlib.Core.List.{List}
 use mathlib.Core.Option.{Option, none, some}
 use lib.ListN.{length, get_or, drop}
 use lib.Seq.{length-take-le}
 use Rattle.reference.specs.Control.{let_some◌else◌then◌}
 use Rattle.reference.specs.Text.{Text}
-use Rattle.reference.specs.Listing.{Listing}
 use Rattle.reference.specs.Rules.{Rules, volatile}
-use Rattle.reference.specs.Join.{try_at, targets}
 use Rattle.joining.specs.Places.{labels_at}
 use Rattle.joining.specs.Plan as J
 use Rattle.joining.proofs.Deciding.{try_at_is, targets-are}
@@ -20,15 +18,17 @@ use Rattle.joining.proofs.Bare.{decide-bare, labels_at-bare}
 use Rattle.lines.specs.Lines.{Reading, part_of}
 use Rattle.lines.proofs.words.Lines.{bare-means}
 use Rattle.plan.specs.declared.plans.Join.{Join}
-use Rattle.plan.specs.Slots.{slot_names}
-use Rattle.plan.specs.Plans.{planned as plan-in, join_in, Joins, Plans}
+use Rattle.plan.specs.declared.slots.SlotNames.{SlotNames}
+use Rattle.plan.specs.Texts.{slot_names}
+use Rattle.plan.specs.Plans.{planned as plan-in, join_in, Joins}
 use Rattle.build.specs.State.{used}
 use Rattle.build.specs.Added.{used_words}
-use Rattle.build.specs.declared.used.Size.{Size}
-use Rattle.join.specs.Current.{used_lines, listing_now, bare_now}
-use Rattle.join.specs.Building.{Plannable, Acted}
-use Rattle.join.specs.Carrying.{changed_by, Carried}
-use Rattle.join.specs.Attempts.{Attemptable, Attempted}
+use Rattle.lines.specs.declared.texts.Size.{Size}
+use Rattle.join.specs.declared.workspace.Workspace.{Workspace}
+use Rattle.join.specs.Contents.{Contents, contents, used_lines, listing_now, bare_now}
+use Rattle.join.specs.Workspaces.{Plannable, Acted, Carried}
+use Rattle.join.specs.Carrying.{changed_by}
+use Rattle.join.specs.Attempts.{Attemptable, Attempted, Decided, tried_at, targets_now}
 use Rattle.join.proofs.Carrying.{picked_uses}
 use Rattle.std.specs.Prelude as std
 use Rattle.std.specs.Prelude.{Some, None}
@@ -36,72 +36,68 @@ use Rattle.std.specs.Prelude.{Some, None}
 some-size : {a b : Size} → Some a ≡ Some b → b ≡ a
 some-size e = cc
 
-module _ (rules : Rules) {tape area : Text} {tokens lines : List ℕ} {area2 : Text} {tokens2 lows highs labels : List ℕ} {slots : Text} {slot-words : List ℕ}
-    {i : ℕ} {size : Size} (h : Attemptable tape area tokens lines area2 tokens2 lows highs labels slots slot-words i size) where
-  abbrev bare_old : Listing
-  bare_old = bare_now tape area tokens lines size
+module _ (rules : Rules) {tape : Text} {w : Workspace} {labels : List ℕ} {slots : SlotNames} {i : ℕ} {size : Size}
+    (h : Attemptable tape w labels slots size × (i < size.lines)) where
+  abbrev s : Contents
+  s = contents tape w size
+
+  abbrev names : List Text
+  names = slot_names slots
 
   abbrev decided : Option J.Plan
-  decided = J.decide rules bare_old i (labels_at bare_old labels) (slot_names slots slot-words)
+  decided = J.decide rules (bare_now s) i (labels_at (bare_now s) labels) names
 
-  pub inside : i < length (used_lines lines size)
-  inside = omega (arith, h.inside, length-take-le size.lines lines h.current.lines_fit)
+  pub inside : i < length (used_lines s)
+  inside = omega (arith, h.1, length-take-le size.lines w.lines.now h.0.current.lines_fit)
 
   -- an attempt is this decision, carried out
   try_decided : (addresses : Reading)
-      → try_at rules (listing_now tape area tokens lines size addresses) i (labels_at (listing_now tape area tokens lines size addresses) labels) (slot_names slots slot-words)
-      ≡ (let_some decided else none then λ p. some (J.act rules (listing_now tape area tokens lines size addresses) i p))
+      → tried_at rules names s labels i addresses ≡ (let_some decided else none then λ p. some (J.act rules (listing_now s addresses) i p))
   try_decided addresses =
-      let now = listing_now tape area tokens lines size addresses in
-      let same : J.decide rules now i (labels_at now labels) (slot_names slots slot-words) ≡ decided =
-      sym (decide-bare rules now i (labels_at now labels) (slot_names slots slot-words))
-      ∙ rw (bare-means tape (used area size) (used_words tokens size) addresses (used_lines lines size), labels_at-bare now labels) in
-      try_at_is rules now i (labels_at now labels) (slot_names slots slot-words) ∙ rw same
+      let now = listing_now s addresses in
+      let same : J.decide rules now i (labels_at now labels) names ≡ decided =
+      sym (decide-bare rules now i (labels_at now labels) names)
+      ∙ rw (bare-means tape (used s.area size) (used_words s.tokens size) addresses (used_lines s), labels_at-bare now labels) in
+      try_at_is rules now i (labels_at now labels) names ∙ rw same
 
-  module _ {r : std.Option Join} (d : Plans tape (used area size) (part_of (used_words tokens size) (get_or (used_lines lines size) i 0)) i decided r) where
-    pub nothing-done : r ≡ None → Attempted rules tape area tokens lines lows highs labels slots slot-words i size area tokens lines lows highs None
+  module _ {r : std.Option Join} (d : Decided rules names s labels i r) where
+    pub nothing-done : r ≡ None → {s' : Size → Contents} → s' size ≡ s → Attempted rules names s labels i s' None
     unfolding let_some◌else◌then◌
-    nothing-done e =
-        let none-decided : decided ≡ none = sym d.is ∙ ap (plan-in tape (used area size) (part_of (used_words tokens size) (get_or (used_lines lines size) i 0))) e in
-        record {
-          failed = λ _. (refl, refl, refl, λ addresses. try_decided addresses ∙ rw none-decided, refl, refl);
-          succeeded = λ after t. cc;
-        }
+    nothing-done e same =
+        let none-decided : decided ≡ none = sym d.is ∙ ap (plan-in tape (used s.area size) (part_of (used_words s.tokens size) (get_or (used_lines s) i 0))) e in
+        record { failed = λ _. (same, λ addresses. try_decided addresses ∙ rw none-decided); succeeded = λ after t. cc }
 
     module _ {j : Join} (e : r ≡ Some j) where
       abbrev plan : J.Plan
-      plan = join_in tape (used area size) (part_of (used_words tokens size) (get_or (used_lines lines size) i 0)) j
+      plan = join_in tape (used s.area size) (part_of (used_words s.tokens size) (get_or (used_lines s) i 0)) j
 
       plan_decided : decided ≡ some plan
-      plan_decided = sym d.is ∙ ap (plan-in tape (used area size) (part_of (used_words tokens size) (get_or (used_lines lines size) i 0))) e
+      plan_decided = sym d.is ∙ ap (plan-in tape (used s.area size) (part_of (used_words s.tokens size) (get_or (used_lines s) i 0))) e
 
-      pub plannable : Plannable rules tape (used area size) (used_words tokens size) (used_lines lines size) j
+      pub plannable : Plannable rules tape w size j
       plannable =
-          let s = d.sound j e in
+          let g = d.sound j e in
           record {
-            listed = h.current.listed;
-            fits = h.limits.fits;
-            inside = rw s.line_is inside;
-            joins = subst (λ (n : ℕ). Joins tape (used area size) (part_of (used_words tokens size) (get_or (used_lines lines size) n 0)) n j) (sym s.line_is) s;
-            planned = rw s.line_is (planned rules bare_old i (labels_at bare_old labels) plan (slot_names slots slot-words) plan_decided);
+            listed = h.0.current.listed;
+            fits = h.0.limits.fits;
+            inside = rw g.line_is inside;
+            joins = subst (λ (n : ℕ). Joins tape (used s.area size) (part_of (used_words s.tokens size) (get_or (used_lines s) n 0)) n j) (sym g.line_is) g;
+            planned = rw g.line_is (planned rules (bare_now s) i (labels_at (bare_now s) labels) plan names plan_decided);
           }
 
-      places_are : changed_by rules tape (used area size) (used_words tokens size) (used_lines lines size) j
-          ≡ targets rules bare_old i (labels_at bare_old labels)
+      places_are : changed_by rules tape (used s.area size) (used_words s.tokens size) (used_lines s) j ≡ targets_now rules s labels i
       places_are =
-          rw (d.sound j e).line_is (picked_uses (volatile rules) i plan (suc i) (drop (suc i) bare_old) (omega arith))
-          ∙ sym (targets-are rules bare_old i (labels_at bare_old labels) (slot_names slots slot-words) plan plan_decided)
+          rw (d.sound j e).line_is (picked_uses (volatile rules) i plan (suc i) (drop (suc i) (bare_now s)) (omega arith))
+          ∙ sym (targets-are rules (bare_now s) i (labels_at (bare_now s) labels) names plan plan_decided)
 
-      pub joined-done : {area' : Text} {tokens' lines' lows' highs' : List ℕ} {after : Size}
-          → Carried rules tape (used area size) (used_words tokens size) (used_lines lines size) j lows highs lows' highs'
-          → Acted rules tape (used area size) (used_words tokens size) (used_lines lines size) j area' tokens' lines' after
-          → Attempted rules tape area tokens lines lows highs labels slots slot-words i size area' tokens' lines' lows' highs' (Some after)
+      pub joined-done : (w' : Workspace) {after : Size} → Carried rules tape w size j w' → Acted rules tape w size j w' after
+          → Attempted rules names s labels i (contents tape w') (Some after)
       unfolding let_some◌else◌then◌
-      joined-done m a = record {
+      joined-done w' m a = record {
         failed = λ t. cc;
-        succeeded = λ size' t. rw (some-size t) (
-          a.current,
-          λ addresses. try_decided addresses ∙ rw plan_decided (ap some (sym (rw (d.sound j e).line_is at (a.means addresses)))),
-          rw (places_are, (d.sound j e).line_is) at m,
-        );
+        succeeded = λ size' t. rw (some-size t) (record {
+          current = a.current;
+          tried = λ addresses. try_decided addresses ∙ rw plan_decided (ap some (sym (rw (d.sound j e).line_is at (a.means addresses))));
+          handed = rw (places_are, (d.sound j e).line_is) at m;
+        });
       }

@@ -4,7 +4,7 @@ use Rattle.std.specs.Prelude.{ℕ, List}
 use Rattle.reference.specs.Rules.{Rules}
 use Rattle.lines.specs.declared.texts.Texts.{Texts}
 use Rattle.plan.specs.declared.plans.Join.{Join}
-use Rattle.build.specs.declared.used.Size.{Size}
+use Rattle.lines.specs.declared.texts.Size.{Size}
 use Rattle.build.specs.declared.builder.Builder.{Builder}
 use Rattle.join.specs.Building as building
 use Rattle.join.specs.Patching as patching

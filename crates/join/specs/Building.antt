@@ -15,7 +15,7 @@ use Rattle.plan.specs.declared.plans.Join.{Join}
 use Rattle.plan.specs.Plans.{join_in, Joins}
 use Rattle.build.specs.State.{used, Room}
 use Rattle.build.specs.Added.{used_words, Added}
-use Rattle.build.specs.declared.used.Size.{Size}
+use Rattle.lines.specs.declared.texts.Size.{Size}
 use Rattle.build.specs.declared.merge.Substitution.{Substitution}
 use Rattle.join.specs.Current.{listing_now, Current}
 

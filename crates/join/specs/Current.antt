@@ -1,11 +1,11 @@
--- The listing that a call works on: it stands in the first set, as far as its Size says. Assumes nothing.
+-- The listing that a call works on: it stands in the first set, as far as its size says. Assumes nothing.
 use Rattle.std.specs.Prelude.{ℕ, ◌≤◌, List, length, take}
 use Rattle.reference.specs.Text.{Text}
 use Rattle.reference.specs.Listing.{Listing}
 use Rattle.lines.specs.Lines.{Reading, listing_read, bare_listing, Listed}
 use Rattle.build.specs.State.{used}
 use Rattle.build.specs.Added.{used_words}
-use Rattle.build.specs.declared.used.Size.{Size}
+use Rattle.lines.specs.declared.texts.Size.{Size}
 
 -- the lines in use
 abbrev pub used_lines : List ℕ → Size → List ℕ

@@ -10,7 +10,7 @@ use Rattle.joining.specs.Plan.{map_from, acted_line, act}
 use Rattle.lines.specs.Words.{len_of}
 use Rattle.lines.specs.Lines.{Reading, first_of, count_of, part_of, listing_read, Listed}
 use Rattle.plan.specs.declared.plans.Join.{Join}
-use Rattle.build.specs.declared.used.Size.{Size}
+use Rattle.lines.specs.declared.texts.Size.{Size}
 use Rattle.join.specs.Building.{plan_of}
 
 -- ---- the room that the changed lines take

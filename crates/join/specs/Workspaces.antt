@@ -1,19 +1,14 @@
 -- What is said of an attempt and of its parts, of the struct in which the slices are lent: the same words, the same meaning. Assumes
 -- nothing.
-use Rattle.std.specs.Prelude.{ℕ, ◌≡◌, ◌+◌, List, length, get_or}
-use Rattle.std.specs.Prelude as std
+use Rattle.std.specs.Prelude.{ℕ, ◌≡◌, ◌+◌, length, get_or}
 use Rattle.reference.specs.Text.{Text}
 use Rattle.reference.specs.Listing.{Line}
 use Rattle.reference.specs.Rules.{Rules}
-use Rattle.joining.specs.Places.{labels_at}
-use Rattle.joining.specs.Plan.{decide}
-use Rattle.lines.specs.Lines.{part_of, bare_in}
+use Rattle.lines.specs.Lines.{bare_in}
 use Rattle.lines.specs.Marks.{lows_of, highs_of}
 use Rattle.lines.specs.declared.texts.Listing.{Listing}
 use Rattle.plan.specs.declared.plans.Join.{Join}
-use Rattle.plan.specs.Plans.{Plans}
-use Rattle.plan.specs.Slots.{slot_names}
-use Rattle.build.specs.declared.used.Size.{Size}
+use Rattle.lines.specs.declared.texts.Size.{Size}
 use Rattle.build.specs.State.{used}
 use Rattle.build.specs.Added.{used_words}
 use Rattle.join.specs.declared.workspace.Workspace.{Workspace}
@@ -22,17 +17,6 @@ use Rattle.join.specs.Current.{used_lines}
 use Rattle.join.specs.Building as building
 use Rattle.join.specs.Patching as patching
 use Rattle.join.specs.Carrying as carrying
-use Rattle.join.specs.Attempts as Attempts
-
-abbrev pub Attemptable : Text → Workspace → List ℕ → Text → List ℕ → ℕ → Size → Type 0
-Attemptable tape w labels slots slot-words i at =
-    Attempts.Attemptable tape w.area.now w.tokens.now w.lines.now w.area2.now w.tokens2.now (lows_of w.marks.now) (highs_of w.marks.now)
-    labels slots slot-words i at
-
-abbrev pub Attempted : Rules → Text → Workspace → List ℕ → Text → List ℕ → ℕ → Size → Workspace → std.Option Size → Type 0
-Attempted rules tape w labels slots slot-words i at w' r =
-    Attempts.Attempted rules tape w.area.now w.tokens.now w.lines.now (lows_of w.marks.now) (highs_of w.marks.now) labels slots
-    slot-words i at w'.area.now w'.tokens.now w'.lines.now (lows_of w'.marks.now) (highs_of w'.marks.now) r
 
 -- the same slices are lent, of the same lengths
 pub record SameLent (w w' : Workspace) : Type 0 where
@@ -48,13 +32,6 @@ pub record SameLent (w w' : Workspace) : Type 0 where
   pub area2_length : length w'.area2.now ≡ length w.area2.now
   pub tokens2_length : length w'.tokens2.now ≡ length w.tokens2.now
   pub marks_length : length w'.marks.now ≡ length w.marks.now
-
--- what is decided at line i
-abbrev pub Decided : Rules → Text → Workspace → List ℕ → Text → List ℕ → ℕ → Size → std.Option Join → Type 0
-Decided rules tape w labels slots slot-words i at r =
-    let now = current.bare_now tape w.area.now w.tokens.now w.lines.now at in
-    Plans tape (used w.area.now at) (part_of (used_words w.tokens.now at) (get_or (used_lines w.lines.now at) i 0)) i
-    (decide rules now i (labels_at now labels) (slot_names slots slot-words)) r
 
 -- the listing that stands in the first set
 pub record Stands (tape : Text) (w : Workspace) (at : Size) (g : Listing) : Type 0 where

@@ -1,14 +1,14 @@
 // A plan carried out: in place where there is room behind the used marks, else by writing the whole listing anew.
 ghost use Rattle.std.specs.Prelude.{◌≡◌};
-ghost use Rattle.lines.specs.Rules.{rules_of};
+ghost use Rattle.ground.specs.Rules.{rules_of};
 ghost use Rattle.join.specs.Workspaces.{SameLent, Current, Lent, Plannable, Acted};
 
 use crate::patch::patch;
 use crate::rebuild::rebuild;
 use crate::spare::fits;
 use crate::workspace::Workspace;
-use build::used::Size;
-use lines::rules::Rules;
+use ground::rules::Rules;
+use lines::texts::Size;
 use plan::plans::Join;
 
 // Carries out the plan j.

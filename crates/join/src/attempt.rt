@@ -1,14 +1,18 @@
-// One attempt. The listing is always in the first set, area, tokens and lines, as far as its Size says; in the second a successful attempt
+// One attempt. The listing is always in the first set, area, tokens and lines, as far as its size says; in the second a successful attempt
 // builds the new one.
-ghost use Rattle.lines.specs.Rules.{rules_of};
-ghost use Rattle.join.specs.Workspaces.{Attemptable, Attempted, Decided, SameLent};
+ghost use Rattle.std.specs.Prelude.{◌<◌};
+ghost use Rattle.ground.specs.Rules.{rules_of};
+ghost use Rattle.plan.specs.Texts.{slot_names};
+ghost use Rattle.join.specs.Attempts.{Attemptable, Attempted, Decided};
+ghost use Rattle.join.specs.Contents.{contents};
+ghost use Rattle.join.specs.Workspaces.{SameLent};
 
 use crate::apply::apply;
 use crate::marks::carry_marks;
 use crate::workspace::Workspace;
-use build::used::Size;
+use ground::rules::Rules;
 use life::LabelledListing;
-use lines::rules::Rules;
+use lines::texts::Size;
 use plan::plans::{Join, decide};
 use plan::slots::SlotNames;
 
@@ -22,8 +26,8 @@ fn plan_at<'a>(
     size: Size,
     rules: Rules,
 ) -> Option<Join>
-    requires { Attemptable tape.now room.now labels.now slots.now.text.now slots.now.words.now i size }
-    ensures { Decided (rules_of rules) tape.now room.now labels.now slots.now.text.now slots.now.words.now i size result }
+    requires { Attemptable tape.now room.now labels.now slots.now size × (i < size.lines) }
+    ensures { Decided (rules_of rules) (slot_names slots.now) (contents tape.now room.now size) labels.now i result }
 {
     let listing = room.listing(tape, size);
     decide(&LabelledListing { listing, labels }, slots, i, rules)
@@ -41,9 +45,9 @@ pub fn try_at(
     size: Size,
     rules: Rules,
 ) -> Option<Size>
-    requires { Attemptable tape.now room.old labels.now slots.now.text.now slots.now.words.now i size }
-    ensures attempted { Attempted (rules_of rules) tape.now room.old labels.now slots.now.text.now slots.now.words.now i size
-        room.new result }
+    requires { Attemptable tape.now room.old labels.now slots.now size × (i < size.lines) }
+    ensures attempted { Attempted (rules_of rules) (slot_names slots.now) (contents tape.now room.old size) labels.now i
+        (contents tape.now room.new) result }
     ensures lent { SameLent room.old room.new }
 {
     let j = plan_at(tape, room, labels, slots, i, size, rules)?;

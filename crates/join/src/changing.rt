@@ -2,13 +2,13 @@
 ghost use Rattle.std.specs.Prelude.{◌≡◌, List, ℕ};
 ghost use Rattle.reference.specs.Rules.{volatile};
 ghost use Rattle.joining.specs.Plan.{changes};
-ghost use Rattle.lines.specs.Rules.{rules_of};
+ghost use Rattle.ground.specs.Rules.{rules_of};
 ghost use Rattle.plan.specs.Plans.{join_in};
 ghost use Rattle.join.specs.Building.{substitution_of};
 ghost use Rattle.lines.specs.Texts.{Known, Lined, bare_in};
 
 use build::merge::Substitution;
-use lines::rules::Rules;
+use ground::rules::Rules;
 use lines::texts::Texts;
 use lines::words;
 use plan::plans::Join;

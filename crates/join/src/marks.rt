@@ -3,7 +3,7 @@
 ghost use Rattle.std.specs.Prelude.{◌≡◌, ◌≤◌, ◌<◌, min, max, ℕ, List, length, get_or, set};
 ghost use Rattle.reference.specs.Rules.{volatile};
 ghost use Rattle.joining.specs.Plan.{changes};
-ghost use Rattle.lines.specs.Rules.{rules_of};
+ghost use Rattle.ground.specs.Rules.{rules_of};
 ghost use Rattle.lines.specs.Fams.{Known};
 ghost use Rattle.lines.specs.Marks.{highs_of, lows_of};
 ghost use Rattle.build.specs.State.{used};
@@ -12,9 +12,9 @@ ghost use Rattle.join.specs.Workspaces.{Current, Plannable, Carried, SameListing
 
 use crate::changing::is_changed;
 use crate::workspace::Workspace;
-use build::used::Size;
+use ground::rules::Rules;
 use lines::marks::Marks;
-use lines::rules::Rules;
+use lines::texts::Size;
 use lines::words;
 use plan::plans::Join;
 

@@ -1,6 +1,6 @@
 // A plan carried out in place: the lines that change are written behind the used marks, and everything else stays where it is.
 ghost use Rattle.std.specs.Prelude.{◌≡◌, ◌+◌, length};
-ghost use Rattle.lines.specs.Rules.{rules_of};
+ghost use Rattle.ground.specs.Rules.{rules_of};
 ghost use Rattle.build.specs.Builders as builders;
 ghost use Rattle.join.specs.Patching.{need_from};
 ghost use Rattle.join.specs.Builders as Builders;
@@ -10,9 +10,8 @@ ghost use Rattle.join.specs.Workspaces.{SameLent, Current, Plannable, Acted, Spa
 use crate::changing::{is_changed, substitution};
 use crate::workspace::Workspace;
 use build::Builder;
-use build::used::Size;
-use lines::rules::Rules;
-use lines::texts::Texts;
+use ground::rules::Rules;
+use lines::texts::{Size, Texts};
 use plan::plans::Join;
 
 // Writes the lines that change behind the used marks, but in the second set; their words take the places of the old ones, and the word of

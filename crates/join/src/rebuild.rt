@@ -1,6 +1,6 @@
 // A plan carried out by writing the whole listing anew: it is built in the second set, line after line, and brought back to the first.
 ghost use Rattle.std.specs.Prelude.{◌≡◌, ◌≤◌, length};
-ghost use Rattle.lines.specs.Rules.{rules_of};
+ghost use Rattle.ground.specs.Rules.{rules_of};
 ghost use Rattle.build.specs.Builders as builders;
 ghost use Rattle.join.specs.Building.{nothing_used};
 ghost use Rattle.join.specs.Builders as Builders;
@@ -10,9 +10,8 @@ ghost use Rattle.join.specs.Workspaces.{SameLent, Current, Lent, Plannable, Acte
 use crate::changing::{is_changed, substitution};
 use crate::workspace::Workspace;
 use build::Builder;
-use build::used::Size;
-use lines::rules::Rules;
-use lines::texts::Texts;
+use ground::rules::Rules;
+use lines::texts::{Size, Texts};
 use plan::plans::Join;
 
 // Appends line k, whose word is l, to the second set: with the right side of the line `source` for each token of the family, or as it is;

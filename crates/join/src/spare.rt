@@ -8,7 +8,7 @@ ghost use Rattle.join.specs.Patching.{words_room, needs, behind, free, Within};
 ghost use Rattle.join.specs.Workspaces.{need};
 
 use crate::workspace::Workspace;
-use build::used::Size;
+use lines::texts::Size;
 use lines::words;
 use plan::plans::Join;
 

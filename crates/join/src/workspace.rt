@@ -1,15 +1,14 @@
 // What the attempts of a run work in.
 ghost use Rattle.join.specs.Workspaces.{Current, Stands};
 
-use build::used::Size;
 use lines::marks::Marks;
-use lines::texts::{Listing, Texts};
+use lines::texts::{Listing, Size, Texts};
 
 // Lent slices: the listing's rewritten texts, its token words and its line words; a second set, in which an attempt builds the lines that
 // it changes; and the marks, by the number of the input line.
 // Kept: the listing's size is a parameter beside the workspace, and no field of it: `Round`, `Progress` and `Outcome` of crate rounds have
-// the size that was left, and the definitions of a turn, a round and a run speak of it there. With a field besides, each contract would
-// have to say that the two are the same.
+// the size that was left, and the contracts of a turn, a round and a run take it from there (`contents`). With a field besides, each
+// would have to say that the two are the same.
 #[derive(Drop)]
 pub struct Workspace<'a> {
     pub area: &'a mut [u8],

@@ -3,7 +3,7 @@ ghost use Rattle.std.specs.Prelude.{◌≡◌, ◌<◌, length, get_or};
 ghost use Rattle.reference.specs.Text.{has};
 ghost use Rattle.reference.specs.Rules.{volatile};
 ghost use Rattle.reference.specs.Life.{dead_after};
-ghost use Rattle.lines.specs.Rules.{rules_of};
+ghost use Rattle.ground.specs.Rules.{rules_of};
 ghost use Rattle.lines.specs.Codes.{family_number};
 ghost use Rattle.life.specs.Labels.{Labelled, labels_of};
 ghost use Rattle.life.specs.Liveness.{returns_at, scan_liveness, liveness_after};

@@ -5,7 +5,7 @@ ghost use Rattle.reference.specs.Lists.{last_position};
 ghost use Rattle.reference.specs.Text.{◌≟◌};
 ghost use Rattle.reference.specs.Rules.{volatile};
 ghost use Rattle.reference.specs.Life.{lookup, is_do, goto_target, while_passes, goto_passes};
-ghost use Rattle.lines.specs.Rules.{rules_of};
+ghost use Rattle.ground.specs.Rules.{rules_of};
 ghost use Rattle.lines.specs.Lines.{part_of};
 ghost use Rattle.life.specs.Jumps.{jump};
 ghost use Rattle.life.specs.Labels.{Labelled, labels_of};

@@ -2,14 +2,14 @@
 ghost use Rattle.std.specs.Prelude.{◌≡◌, ◌≤◌, ◌<◌, length};
 ghost use Rattle.reference.specs.Rules.{volatile};
 ghost use Rattle.reference.specs.Life.{killed_first, rerun_kills};
-ghost use Rattle.lines.specs.Rules.{rules_of};
+ghost use Rattle.ground.specs.Rules.{rules_of};
 ghost use Rattle.life.specs.Liveness.{line_liveness};
 ghost use Rattle.lines.specs.Texts.{Known, Lined, Listed, bare_in, bare_listing, fam_text};
 
 use crate::touches;
 use crate::touches::Touched;
 use lines::fams::Fam;
-use lines::rules::Rules;
+use ground::rules::Rules;
 use lines::texts::Listing;
 use lines::words;
 

@@ -2,13 +2,13 @@
 ghost use Rattle.std.specs.Prelude.{◌≡◌};
 ghost use Rattle.reference.specs.Rules.{volatile};
 ghost use Rattle.reference.specs.Life.{kills, touch_of, is_use, is_kill};
-ghost use Rattle.lines.specs.Rules.{rules_of};
+ghost use Rattle.ground.specs.Rules.{rules_of};
 ghost use Rattle.lines.specs.Shapes.{Expression};
 ghost use Rattle.life.specs.Touches.{touched, kills_by};
 ghost use Rattle.lines.specs.Texts.{Holds, Known, fam_text, tokens_of};
 
 use lines::fams::Fam;
-use lines::rules::Rules;
+use ground::rules::Rules;
 use lines::shapes::Expr;
 use lines::texts::Texts;
 use lines::{fams, shapes};

@@ -52,16 +52,15 @@ low_bit m i h =
 pub set_below : (m k i : ℕ) → all-below k (λ i. eqb (bit m i) 1) ≡ true → i < k → bit m i ≡ 1
 set_below m k i e h = eqb-true (bit m i) 1 (below_at k (λ i. eqb (bit m i) 1) i e h)
 
--- the 18 bits of the facts
-all_set : all-below 18 (λ i. eqb (bit 262143 i) 1) ≡ true
+pub all_set : all-below 16 (λ i. eqb (bit 65535 i) 1) ≡ true
 unfolding all-below bit ◌and◌
 all_set = refl
 
-pub turn_bit : (m i : ℕ) → i < 18 → bit (bit_xor m 262143) i ≡ 1 → bit m i ≡ 0
+pub turn_bit : (m i : ℕ) → i < 16 → bit (bit_xor m 65535) i ≡ 1 → bit m i ≡ 0
 unfolding bit
 turn_bit m i h e =
-    let s : bit_xor m 262143 / 2 ^ i ≡ bit_xor (m / 2 ^ i / 2) (262143 / 2 ^ i / 2) * 2 + differ (m / 2 ^ i % 2) (262143 / 2 ^ i % 2) = xor_shr m 262143 i ∙ xor_step (m / 2 ^ i) (262143 / 2 ^ i) in
-    turned (m / 2 ^ i % 2) (bit_xor (m / 2 ^ i / 2) (262143 / 2 ^ i / 2)) (omega arith) (rw (s, set_below 262143 18 i all_set h) at e)
+    let s : bit_xor m 65535 / 2 ^ i ≡ bit_xor (m / 2 ^ i / 2) (65535 / 2 ^ i / 2) * 2 + differ (m / 2 ^ i % 2) (65535 / 2 ^ i % 2) = xor_shr m 65535 i ∙ xor_step (m / 2 ^ i) (65535 / 2 ^ i) in
+    turned (m / 2 ^ i % 2) (bit_xor (m / 2 ^ i / 2) (65535 / 2 ^ i / 2)) (omega arith) (rw (s, set_below 65535 16 i all_set h) at e)
 
 -- one bit, as a shift makes it
 pub one_shifted : (n : ℕ) → n < 15 → (1 * 2 ^ n) % 2 ^ 64 ≡ 2 ^ n

@@ -1,5 +1,5 @@
 -- The numbers of families, the bits of tokens and of lines, and the facts that are made of them. Assumes nothing.
-use Prim.Native.Nat.{ℕ, ◌+◌, ◌-◌, ◌/◌, ◌%◌, ◌^◌, ◌≤◌, ◌<◌}
+use Prim.Native.Nat.{ℕ, ◌+◌, ◌-◌, ◌/◌, ◌%◌, ◌≤◌, ◌<◌}
 use native.Mathlib.Omega.{arith}
 use mathlib.Core.Path.{◌≡◌, refl, sym, ap, ◌∙◌}
 use mathlib.Core.Bool.{Bool, true, false}
@@ -22,7 +22,7 @@ use Rattle.lines.specs.Fams.{Fam, fam_text}
 use Rattle.lines.proofs.fams.Families.{fam-row, fam-name}
 use Rattle.lines.proofs.words.Lines.{noted-first, noted-count, noted-indent, noted_read, noted-facts}
 use Rattle.lines.proofs.codes.Coding.{name-whole, row-numbered, text_numbered}
-use Rattle.linefacts.specs.Gathering.{seen_by, Bits, CallBits, Noted, AllNoted}
+use Rattle.linefacts.specs.Gathering.{seen_by, Bits, CallFacts, Noted, AllNoted}
 use Rattle.linefacts.proofs.Bits.{or_left, or_right, low_bit, turn_bit}
 use Rattle.linefacts.proofs.Tokens.{control_fact, symbol_seen, fact_seen}
 use Rattle.linefacts.proofs.Lacking.{any-less, plain-call}
@@ -59,47 +59,51 @@ module _ (tape area : Text) (ws : List ℕ) {has b k : ℕ}
         );
   }
 
--- ---- the bits of whether a line calls: x is whether it does
+-- ---- the facts of whether a line calls: x is whether it does
 
-pub unasked_bits : (x : Bool) → CallBits 196608 x
+pub unasked_facts : (x : Bool) → CallFacts 0 x
 unfolding bit
-unasked_bits x = record { small = omega arith; no_call = λ z. absurd (omega arith); calling = λ z. absurd (omega arith) }
+unasked_facts x = record { small = omega arith; above = refl; no_call = λ z. absurd (omega arith); calling = λ z. absurd (omega arith) }
 
-pub calls_bits : {x y : Bool} → y ≡ x → y ≡ true → CallBits 65536 x
+pub calls_facts : {x y : Bool} → y ≡ x → y ≡ true → CallFacts 131072 x
 unfolding bit
-calls_bits e t = record { small = omega arith; no_call = λ z. absurd (omega arith); calling = λ z. sym e ∙ t }
+calls_facts e t = record { small = omega arith; above = refl; no_call = λ z. absurd (omega arith); calling = λ z. sym e ∙ t }
 
-pub callless_bits : {x y : Bool} → y ≡ x → y ≡ false → CallBits 131072 x
+pub callless_facts : {x y : Bool} → y ≡ x → y ≡ false → CallFacts 65536 x
 unfolding bit
-callless_bits e f = record { small = omega arith; no_call = λ z. sym e ∙ f; calling = λ z. absurd (omega arith) }
+callless_facts e f = record { small = omega arith; above = refl; no_call = λ z. sym e ∙ f; calling = λ z. absurd (omega arith) }
 
 module _ (ts : List Token) {has : ℕ} (b : Bits has (λ i. any (seen_by i) ts)) where
   -- neither control flow nor a Symbol
-  pub plain_bits : has % 65536 < 32768 → has < 65536 → CallBits 131072 (is_some (call_in ts))
+  pub plain_facts : has % 65536 < 32768 → has < 65536 → CallFacts 65536 (is_some (call_in ts))
   unfolding bit
-  plain_bits h s = callless_bits refl (plain-call ts
+  plain_facts h s = callless_facts refl (plain-call ts
       (any-less is_control _ (λ t e. fact_seen t 15 (λ q. omega arith) ∙ control_fact t 15 refl ∙ e) ts (b.fails 15 (omega arith) (omega arith)))
       (any-less (is Symbol) _ (λ t e. symbol_seen t 16 refl ∙ e) ts (b.fails 16 (omega arith) (omega arith))))
 
-  -- ---- the facts that are made: the bits turned
+  -- ---- the facts that are made: the bits turned, and those
 
-  module _ {k : ℕ} (g : CallBits k (is_some (call_in ts))) where
-    abbrev m : ℕ
-    m = bit_or (has % 65536) k
+  module _ {k : ℕ} (g : CallFacts k (is_some (call_in ts))) where
+    abbrev turned : ℕ
+    turned = bit_xor (has % 65536) 65535
 
-    pub turned_small : bit_xor m 262143 < 4194304
-    turned_small =
-        let c : m < 2 ^ 18 = or_lt 18 (has % 65536) k (omega arith) g.small in
-        let d : bit_xor m 262143 < 2 ^ 18 = xor_lt 18 m 262143 c (omega arith) in
-        omega arith
+    turned_small : turned < 65536
+    turned_small = xor_lt 16 (has % 65536) 65535 (omega arith) (omega arith)
 
-    pub turned_tells : Tells 1 (bit_xor m 262143) ts
-    turned_tells = record {
+    pub made_small : turned + k < 4194304
+    made_small = omega (arith, turned_small, g.small)
+
+    low : turned ≡ (turned + k) % 65536
+    low = omega (arith, turned_small, g.above)
+
+    pub made_tells : Tells 1 (turned + k) ts
+    unfolding bit
+    made_tells = record {
       lacks = λ i h e.
           any-less (concerns i) _ (λ t q. fact_seen t i (λ z. omega arith) ∙ q) ts
-          (b.fails i (omega arith) (sym (low_bit has i h) ∙ or_left (has % 65536) k i (turn_bit m i (omega arith) e)));
-      no_call = λ e. g.no_call (or_right (has % 65536) k 16 (turn_bit m 16 (omega arith) e));
-      calling = λ e. g.calling (or_right (has % 65536) k 17 (turn_bit m 17 (omega arith) e));
+          (b.fails i (omega arith) (sym (low_bit has i h) ∙ turn_bit (has % 65536) i h (rw low (low_bit (turned + k) i h ∙ e))));
+      no_call = λ e. g.no_call (omega (arith, turned_small, g.above, e));
+      calling = λ e. g.calling (omega (arith, turned_small, g.above, e));
     }
 
 -- the part of the tokens is the same with any facts

@@ -6,7 +6,6 @@ use mathlib.Core.Logic.{by_cases}
 use mathlib.Core.Path.{◌≡◌, refl, sym, ap, ◌∙◌}
 use mathlib.Core.Bool.{Bool, true, false}
 use mathlib.Core.Option.{none}
-use lib.Dec.{eqb}
 use lib.Pow.{pow-lt}
 use borrow.Author.Tests.{eq-eqb, ne_eqb}
 use Rattle.reference.specs.Control.{◌and◌, ◌or◌, when◌then◌else◌, let_some◌else◌then◌}
@@ -15,7 +14,6 @@ use Rattle.reference.specs.Listing.{Token, is, Symbol}
 use Rattle.reference.specs.Names.{legacy, stack_slot, numbered, high_byte, family, fam_of}
 use Rattle.reference.specs.Shapes.{has_brace}
 use Rattle.reference.proofs.Cases.{fails, none-some}
-use Rattle.names.proofs.Searches.{all-below}
 use Rattle.names.proofs.Texts.{same_true}
 use Rattle.lines.specs.Codes.{Says}
 use Rattle.lines.specs.Words.{kind_of, text_of, token_of, Points}
@@ -23,7 +21,7 @@ use Rattle.lines.specs.Facts.{bit, of_number, is_control, concerns}
 use Rattle.lines.proofs.shapes.Tests.{is_it, is_not}
 use Rattle.lines.proofs.codes.Coding.{number_below}
 use Rattle.linefacts.specs.Gathering.{seen_by, Bits}
-use Rattle.linefacts.proofs.Bits.{power_bit, set_below, one_shifted}
+use Rattle.linefacts.proofs.Bits.{power_bit, set_below, all_set, one_shifted}
 
 -- ---- what a bit is about
 
@@ -92,10 +90,6 @@ module _ (t : Token) {x : ℕ} (e : x ≡ t.kind) (n : x ≡ 1 → ⊥) {y : Boo
   no_bits h m = record { small = omega arith; fails = λ i b z. by_bit t i (λ q. sym (is_not t 4 e m)) (λ q. sym ey ∙ h) (other_number i) }
 
 -- ---- a Register
-
-all_set : all-below 16 (λ i. eqb (bit 65535 i) 1) ≡ true
-unfolding all-below bit ◌and◌
-all_set = refl
 
 -- a `:` has no family
 colon_none : family (bytes ":") ≡ none

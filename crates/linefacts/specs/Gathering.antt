@@ -1,5 +1,5 @@
 -- Bits of what there is, and lines with facts. Assumes nothing.
-use Rattle.std.specs.Prelude.{ℕ, ◌<◌, ◌≡◌, Bool, true, false, List, eqb, length, get_or}
+use Rattle.std.specs.Prelude.{ℕ, ◌%◌, ◌<◌, ◌≡◌, Bool, true, false, List, eqb, length, get_or}
 use Rattle.reference.specs.Control.{when◌then◌else◌}
 use Rattle.reference.specs.Text.{Text}
 use Rattle.reference.specs.Listing.{Token, is, Symbol}
@@ -15,11 +15,12 @@ pub record Bits (m : ℕ) (test : ℕ → Bool) : Type 0 where
   pub small : m < 131072
   pub fails : (i : ℕ) → i < 17 → bit m i ≡ 0 → test i ≡ false
 
--- bits of whether a line calls: bit 16 not set tells that it does not, bit 17 not set that it does
-pub record CallBits (m : ℕ) (calls : Bool) : Type 0 where
+-- the facts of whether a line calls, at the bits 16 and 17, are true
+pub record CallFacts (m : ℕ) (calls : Bool) : Type 0 where
   pub small : m < 262144
-  pub no_call : bit m 16 ≡ 0 → calls ≡ false
-  pub calling : bit m 17 ≡ 0 → calls ≡ true
+  pub above : m % 65536 ≡ 0
+  pub no_call : bit m 16 ≡ 1 → calls ≡ false
+  pub calling : bit m 17 ≡ 1 → calls ≡ true
 
 -- r is the line l with facts, which are true
 pub record Noted (tape area : Text) (tokens : List ℕ) (l r : ℕ) : Type 0 where

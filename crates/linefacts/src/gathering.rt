@@ -9,26 +9,21 @@ ghost use Rattle.reference.specs.Shapes.{call_in};
 ghost use Rattle.lines.specs.Words.{kind_of};
 ghost use Rattle.lines.specs.Lines.{Listed};
 ghost use Rattle.lines.specs.Facts.{is_control, Tells};
-ghost use Rattle.linefacts.specs.Gathering.{seen_by, Bits, CallBits, Noted, AllNoted};
+ghost use Rattle.linefacts.specs.Gathering.{seen_by, Bits, CallFacts, Noted, AllNoted};
 ghost use Rattle.lines.specs.Texts.{Holds, Lined, Points, token_of, tokens_of};
 
+use crate::transparent::{CALLING, NO_CALL};
+use ground::kinds;
 use lines::texts::Texts;
 use lines::{shapes, words};
 
-// While facts are made, a bit that is set says what there may be; `facts_of` turns all of them over at the end.
-
-// What a line may have, in a number of its own: bit 15 a token of control flow, bit 16 a Symbol (which is no fact, and goes no further);
-// all families and control flow.
+// What a line may have, in a number of its own: a bit that is set says what there may be, and `facts_of` turns the first sixteen over.
+// Bit 15 a token of control flow, bit 16 a Symbol (which is no fact, and goes no further); all families and control flow.
 const CONTROL: u64 = 32768;
 
 const SYMBOLS: u64 = 65536;
 
 const ALL: u64 = 65535;
-
-// Whether a line calls: bit 16 it may call, bit 17 it may have no call. Turned over they are `NO_CALL` and `CALLING` of transparent.rt.
-const MAY_CALL: u64 = 65536;
-
-const MAY_NOT_CALL: u64 = 131072;
 
 // Whether a token may make its line a jump, a label, the edge of a block or a call of an address.
 #[tactic(auto, using(crate::proofs::Tokens::control_keyword, crate::proofs::Tokens::control_brace, crate::proofs::Tokens::control_colon))]
@@ -36,7 +31,7 @@ fn is_control(texts: &Texts<'_>, w: u64) -> bool
     requires { Points texts.now w }
     ensures { result ≡ is_control (token_of texts.now w) }
 {
-    words::kind(w) == words::KEYWORD
+    words::kind(w) == kinds::KEYWORD
         || shapes::has_brace(texts, w)
         || text::same(words::text(texts, w), b":")
 }
@@ -59,13 +54,13 @@ fn token_bits(texts: &Texts<'_>, w: u64) -> u64
     ensures { Bits result (λ (i : ℕ). seen_by i (token_of texts.now w)) }
 {
     let kind = words::kind(w);
-    if kind == words::REGISTER {
+    if kind == kinds::REGISTER {
         return family_bits(texts, w);
     }
     if is_control(texts, w) {
         return CONTROL + SYMBOLS; // it may be a Symbol too
     }
-    if kind == words::SYMBOL {
+    if kind == kinds::SYMBOL {
         return SYMBOLS;
     }
     0
@@ -85,32 +80,32 @@ fn bits_of(texts: &Texts<'_>, line: &[u64]) -> u64
     has
 }
 
-// The bits of whether a line calls, from the bits of what it has. Where there is control flow, no scan asks.
-fn call_bits(texts: &Texts<'_>, line: &[u64], has: u64) -> u64
+// The facts of whether a line calls, from the bits of what it has. Where there is control flow, no scan asks.
+fn call_facts(texts: &Texts<'_>, line: &[u64], has: u64) -> u64
     requires { Holds texts.now line.now
         × Bits has (λ (i : ℕ). any (seen_by i) (tokens_of texts.now line.now)) }
-    ensures { CallBits result (is_some (call_in (tokens_of texts.now line.now))) }
+    ensures { CallFacts result (is_some (call_in (tokens_of texts.now line.now))) }
 {
     if CONTROL <= has % 65536 {
-        return MAY_CALL + MAY_NOT_CALL;
+        return 0;
     }
     if has < SYMBOLS {
-        return MAY_NOT_CALL;
+        return 1 << NO_CALL;
     }
     if shapes::has_call(texts, line) {
-        return MAY_CALL;
+        return 1 << CALLING;
     }
-    MAY_NOT_CALL
+    1 << NO_CALL
 }
 
-// The facts of a line: the bits of what it has and of whether it calls, turned over, so that a bit that is set says what is not.
-#[tactic(auto, using(crate::proofs::Making::turned_small, crate::proofs::Making::turned_tells))]
+// The facts of a line: the bits of what it has turned over, so that a bit that is set says what is not; and whether it calls.
+#[tactic(auto, using(crate::proofs::Making::made_small, crate::proofs::Making::made_tells))]
 fn facts_of(texts: &Texts<'_>, line: &[u64]) -> u64
     requires { Holds texts.now line.now }
     ensures { (result < 4194304) × Tells 1 result (tokens_of texts.now line.now) }
 {
     let has = bits_of(texts, line);
-    (has % 65536 | call_bits(texts, line, has)) ^ 262143
+    (has % 65536 ^ ALL) + call_facts(texts, line, has)
 }
 
 // The line with its facts.

@@ -12,9 +12,9 @@ use lines::{codes, words};
 // The bits of facts that are not of a family: the line has no control flow, it has no call, it has a call.
 const CONTROL: u64 = 15;
 
-const NO_CALL: u64 = 16;
+pub(crate) const NO_CALL: u64 = 16;
 
-const CALLING: u64 = 17;
+pub(crate) const CALLING: u64 = 17;
 
 // Whether the bit i of the facts of the line l is set.
 #[tactic(auto, unfolding(crate::specs::Transparent::has_fact, lines::specs::Facts::bit))]

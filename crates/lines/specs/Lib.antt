@@ -1,10 +1,9 @@
--- What the code's values mean: codes of names, token words, facts of lines, line words and listings, settings, answers on shapes, families,
+-- What the code's values mean: codes of names, token words, facts of lines, line words and listings, answers on shapes, families,
 -- texts and listings as they are lent, marks.
 pub mod Codes
 pub mod Words
 pub mod Facts
 pub mod Lines
-pub mod Rules
 pub mod Shapes
 pub mod Fams
 pub mod Texts

@@ -11,6 +11,7 @@ ghost use Rattle.lines.specs.Texts.{Points, text_of};
 
 use crate::texts::Texts;
 use crate::words;
+use ground::kinds;
 use names::Spelled;
 
 // A number below 7 of a name.
@@ -116,7 +117,7 @@ fn code_of(s: &[u8]) -> Option<u64>
 pub fn coded(tape: &[u8], w: u64) -> u64
     ensures { Recoded tape.now w result }
 {
-    if words::kind(w) != words::REGISTER || words::buffer(w) != words::IN_TAPE {
+    if words::kind(w) != kinds::REGISTER || words::buffer(w) != words::IN_TAPE {
         return w;
     }
     let from = words::start(w);

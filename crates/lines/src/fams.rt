@@ -8,15 +8,16 @@ ghost use Rattle.reference.specs.Names.{family, fam_of, of_family};
 ghost use Rattle.reference.specs.Rules.{volatile};
 ghost use Rattle.reference.specs.Shapes.{is_written};
 ghost use Rattle.reference.specs.Join.{is_narrow, written_from};
-ghost use Rattle.lines.specs.Rules.{rules_of};
+ghost use Rattle.ground.specs.Rules.{rules_of};
 ghost use Rattle.lines.specs.Shapes.{expr_words, Expression};
 ghost use Rattle.lines.specs.Fams.{fam_number, Names};
 ghost use Rattle.lines.specs.Texts.{Holds, Known, Points, fam_text, text_of, token_of, tokens_of};
 
-use crate::rules::Rules;
 use crate::shapes::Expr;
 use crate::texts::Texts;
 use crate::{codes, shapes, words};
+use ground::kinds;
+use ground::rules::Rules;
 use names::Spelled;
 
 // A family in one number: below 8 a row of the table of names, else the token word of its name.
@@ -79,7 +80,7 @@ pub fn fam_of(texts: &Texts<'_>, w: u64) -> Option<Named>
     requires { Points texts.now w }
     ensures { Names texts.now.tape.now texts.now.area.now (fam_of (token_of texts.now w)) result }
 {
-    if words::kind(w) != words::REGISTER {
+    if words::kind(w) != kinds::REGISTER {
         return None;
     }
     name_of(texts, w)
@@ -104,7 +105,7 @@ pub fn is_of(texts: &Texts<'_>, w: u64, f: Fam) -> bool
     requires { Points texts.now w × Known texts.now f }
     ensures { result ≡ of_family (fam_text texts.now f) (token_of texts.now w) }
 {
-    if words::kind(w) != words::REGISTER {
+    if words::kind(w) != kinds::REGISTER {
         return false;
     }
     match words::code(w) {

@@ -15,6 +15,7 @@ ghost use Rattle.lines.specs.Texts.{Holds, Points, token_of, tokens_of};
 
 use crate::texts::Texts;
 use crate::words;
+use ground::kinds;
 
 // Two tokens, a Symbol and `:`.
 pub fn is_label(texts: &Texts<'_>, line: &[u64]) -> bool
@@ -24,7 +25,7 @@ pub fn is_label(texts: &Texts<'_>, line: &[u64]) -> bool
     let [name, colon] = line else {
         return false;
     };
-    text::same(words::text(texts, *colon), b":") && words::kind(*name) == words::SYMBOL
+    text::same(words::text(texts, *colon), b":") && words::kind(*name) == kinds::SYMBOL
 }
 
 // ---- keywords
@@ -35,7 +36,7 @@ pub fn is_kw(texts: &Texts<'_>, w: u64, kw: &[u8]) -> bool
     requires { Points texts.now w }
     ensures { result ≡ is_kw kw.now (token_of texts.now w) }
 {
-    words::kind(w) == words::KEYWORD && text::same(words::text(texts, w), kw)
+    words::kind(w) == kinds::KEYWORD && text::same(words::text(texts, w), kw)
 }
 
 // The place of the first Keyword with that text.
@@ -58,7 +59,7 @@ pub fn has_kw(texts: &Texts<'_>, line: &[u64], kw: &[u8]) -> bool
 pub fn symbol_from(line: &[u64], from: usize) -> Option<usize>
     ensures { (tape area : Text) → option_of result ≡ symbol_from (Words.tokens_of tape area line.now) from }
 {
-    (from..line.len()).find(|k| words::kind(line[*k]) == words::SYMBOL)
+    (from..line.len()).find(|k| words::kind(line[*k]) == kinds::SYMBOL)
 }
 
 // ---- braces and calls
@@ -68,7 +69,7 @@ pub fn has_brace(texts: &Texts<'_>, w: u64) -> bool
     requires { Points texts.now w }
     ensures { result ≡ has_brace (token_of texts.now w) }
 {
-    words::kind(w) == words::PUNCT && text::has_brace(words::text(texts, w))
+    words::kind(w) == kinds::PUNCT && text::has_brace(words::text(texts, w))
 }
 
 pub fn opens_or_closes(texts: &Texts<'_>, line: &[u64]) -> bool
@@ -84,8 +85,8 @@ fn is_called(texts: &Texts<'_>, w: u64, next: u64) -> bool
     requires { Points texts.now next }
     ensures { result ≡ is_called (token_of texts.now w) (token_of texts.now next) }
 {
-    words::kind(w) == words::SYMBOL
-        && words::kind(next) == words::PUNCT
+    words::kind(w) == kinds::SYMBOL
+        && words::kind(next) == kinds::PUNCT
         && text::starts(words::text(texts, next), b"(")
 }
 
@@ -95,7 +96,7 @@ fn is_call_mark(texts: &Texts<'_>, w: u64, next: u64) -> bool
     ensures { result ≡ calls_here (token_of texts.now w, token_of texts.now next) }
 {
     is_called(texts, w, next)
-        || words::kind(w) == words::KEYWORD && text::starts(words::text(texts, w), b"((void")
+        || words::kind(w) == kinds::KEYWORD && text::starts(words::text(texts, w), b"((void")
 }
 
 // The place of the first call mark.
@@ -162,8 +163,8 @@ fn begins_assignment(texts: &Texts<'_>, lhs: u64, eq: u64) -> bool
     requires { Points texts.now eq }
     ensures { result ≡ begins_assignment (token_of texts.now lhs) (token_of texts.now eq) }
 {
-    words::kind(lhs) == words::REGISTER
-        && words::kind(eq) == words::PUNCT
+    words::kind(lhs) == kinds::REGISTER
+        && words::kind(eq) == kinds::PUNCT
         && text::starts(words::text(texts, eq), b" = ")
 }
 
@@ -216,7 +217,7 @@ pub fn is_lone_number(line: &[u64], x: Expr) -> bool
     requires { Expression line.now x }
     ensures { (tape area : Text) → result ≡ lone_number (Words.tokens_of tape area (expr_words line.now x)) }
 {
-    x.count == 1 && words::kind(expr_word(line, x, 0)) == words::NUMBER
+    x.count == 1 && words::kind(expr_word(line, x, 0)) == kinds::NUMBER
 }
 
 // ---- in a line
@@ -229,7 +230,7 @@ pub(crate) fn is_written(texts: &Texts<'_>, line: &[u64], pos: usize) -> bool
     let Some(next) = line.get(pos + 1) else {
         return false;
     };
-    if words::kind(*next) != words::PUNCT {
+    if words::kind(*next) != kinds::PUNCT {
         return false;
     }
     let s = words::text(texts, *next);
@@ -242,7 +243,7 @@ fn is_operator(texts: &Texts<'_>, w: u64) -> bool
     requires { Points texts.now w }
     ensures { result ≡ is_operator (token_of texts.now w) }
 {
-    if words::kind(w) != words::PUNCT {
+    if words::kind(w) != kinds::PUNCT {
         return false;
     }
     let s = words::text(texts, w);

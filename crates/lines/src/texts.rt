@@ -1,4 +1,5 @@
-// Where the texts of a listing's tokens stand, and a listing as it stands in the tables: what travels from function to function as one.
+// Where the texts of a listing's tokens stand, a listing as it stands in the tables, and how much of them is in use: what travels from
+// function to function as one.
 //
 // Kept: that words point into their texts (`Points`, `Holds`, `Lined`, `Listed`, `Known` of specs/Texts) is asked in contracts, and is no
 // invariant of these structs. `Texts` has no words. Of a `Listing` it is a fact between values, the words of two slices against the lengths
@@ -18,4 +19,13 @@ pub struct Listing<'a> {
     pub texts: Texts<'a>,
     pub tokens: &'a [u64],
     pub lines: &'a [u64],
+}
+
+// How much of a set of tables is in use: of its lines, its token words and its text.
+// Kept: lengths beside lent buffers: there is no heap, and a set is the caller's memory of a fixed size.
+#[derive(Clone, Copy)]
+pub struct Size {
+    pub lines: usize,
+    pub tokens: usize,
+    pub text: usize,
 }

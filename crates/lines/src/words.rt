@@ -18,21 +18,10 @@ ghost use Rattle.lines.specs.Texts.{Points, text_of};
 
 use crate::texts::Texts;
 
-// The kinds that the cleaner asks about. (Address is 5 and Prefix is 7.)
-// Kept: numbers, as the C interface's tapes and the definitions have them. A kind that is read from a word is compared with one of these,
-// put into another word or written to a tape; an enum would be made of the number only to be turned back, which is no plainer. The number
-// costs `kind < 8` in four contracts: here, in build append.rt and merge.rt, and in tables writing.rt.
-pub const PLAIN: u64 = 0;
+// What the lowest bit counts of a token's code, and of a line's facts: they stand above all else in their words, from bit 36 and bit 42 on.
+const CODE: u64 = 68719476736;
 
-pub const REGISTER: u64 = 1;
-
-pub const NUMBER: u64 = 2;
-
-pub const KEYWORD: u64 = 3;
-
-pub const SYMBOL: u64 = 4;
-
-pub const PUNCT: u64 = 6;
+const FACTS: u64 = 4398046511104;
 
 // The buffers that hold a text.
 // Kept: the two values of one bit of a word, as the definitions have it. An enum would need a function to the bit and one from it. A `bool`
@@ -101,7 +90,7 @@ pub fn len(w: u64) -> usize
 pub fn code(w: u64) -> Option<u64>
     ensures { CodeIs w result }
 {
-    match w / 68719476736 {
+    match w / CODE {
         0 => None,
         c => Some(c),
     }
@@ -113,7 +102,7 @@ pub(crate) fn with_code(w: u64, c: u64) -> u64
     requires { c < 268435456 }
     ensures { result ≡ with_code w c }
 {
-    w % 68719476736 + c * 68719476736
+    w % CODE + c * CODE
 }
 
 // The token without the first n bytes of its text.
@@ -208,7 +197,7 @@ pub fn origin(l: u64) -> usize
 pub fn facts(l: u64) -> u64
     ensures { result ≡ facts_of l }
 {
-    l / 4398046511104
+    l / FACTS
 }
 
 // The line with the facts m.
@@ -217,7 +206,7 @@ pub fn with_facts(l: u64, m: u64) -> u64
     requires { m < 4194304 }
     ensures { result ≡ with_facts l m }
 {
-    l % 4398046511104 + m * 4398046511104
+    l % FACTS + m * FACTS
 }
 
 // The line with its tokens elsewhere, or with others, and no facts.

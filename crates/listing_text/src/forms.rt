@@ -161,7 +161,7 @@ fn put_span(own: Marks, marks: Option<Marks>, out: &mut Clipped)
 }
 
 // Puts a line's command.
-fn put_line(
+fn put_readable_line(
     tape: &[u8],
     at: usize,
     next: usize,
@@ -193,7 +193,7 @@ fn put_readable(tape: &[u8], at: usize, advance: Advance, out: &mut Clipped)
 {
     let next = advance.next;
     match advance.command {
-        Command::Addressed { address, indent } => put_line(
+        Command::Addressed { address, indent } => put_readable_line(
             tape,
             at,
             next,
@@ -201,7 +201,7 @@ fn put_readable(tape: &[u8], at: usize, advance: Advance, out: &mut Clipped)
             indent,
             out,
         ),
-        Command::Plain { indent } => put_line(tape, at, next, None, indent, out),
+        Command::Plain { indent } => put_readable_line(tape, at, next, None, indent, out),
         Command::Marked { .. } => {}
         Command::Token { .. } => out.put(&tape[at + 3..next]),
         Command::End => put_line_end(at, out),

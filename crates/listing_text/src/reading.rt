@@ -26,7 +26,7 @@ fn split_once(text: &[u8], b: u8) -> (&[u8], Option<&[u8]>)
 }
 
 // Puts a line, up to the first field that is wrong.
-fn put_line(line: &[u8], out: &mut Clipped) -> Result<(), Malformed>
+fn put_fields(line: &[u8], out: &mut Clipped) -> Result<(), Malformed>
     ensures { PutsRead out.old (line_read (apart 9 line.now)) out.new result }
 {
     let (address, behind) = split_once(line, b'\t');
@@ -56,7 +56,7 @@ pub fn put_tape(text: &[u8], out: &mut [u8]) -> Result<usize, Unmade>
     for (n, piece) in (0..).zip(text.split_inclusive(|b| *b == b'\n')) {
         let (line, _) = split_once(piece, b'\n');
         // Kept: asked and returned: `map_err` and `?` were tried, and the goal of their way out (`returns-in_err-map_err`) stayed open.
-        if put_line(line, &mut page).is_err() {
+        if put_fields(line, &mut page).is_err() {
             return Err(Unmade::Wrong(n));
         }
     }

@@ -1,5 +1,6 @@
 -- Laws of each file of the source: the cases in which its functions return, and the turns of their loops.
 pub mod Defining
+pub mod Noting
 pub mod Addressing
 pub mod Reaching
 pub mod Looking

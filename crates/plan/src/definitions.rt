@@ -5,6 +5,7 @@ ghost use Rattle.lines.specs.Shapes.{expr_words, Expression};
 ghost use Rattle.plan.specs.Definitions.{before_at, Defines};
 ghost use Rattle.lines.specs.Texts.{Holds, token_of, tokens_of};
 
+use ground::kinds;
 use lines::fams::Named;
 use lines::shapes::Expr;
 use lines::texts::Texts;
@@ -28,9 +29,9 @@ fn reads_at(texts: &Texts<'_>, line: &[u64], x: Expr, k: usize) -> bool
 {
     let w = shapes::expr_word(line, x, k);
     match words::kind(w) {
-        words::KEYWORD => text::starts(words::text(texts, w), b"*("),
-        words::REGISTER => text::starts(words::text(texts, w), b"var_"),
-        words::SYMBOL => {
+        kinds::KEYWORD => text::starts(words::text(texts, w), b"*("),
+        kinds::REGISTER => text::starts(words::text(texts, w), b"var_"),
+        kinds::SYMBOL => {
             k == 0
                 || {
                     let before = shapes::expr_word(line, x, k - 1);

@@ -4,5 +4,5 @@
 pub mod definitions; // what an attempt starts from
 pub mod plans; // the decision
 mod reaches; // how far a constant reaches, and whether every use takes it
-pub mod slots; // the stack slots that are addressed
+pub mod slots; // the stack slots that are addressed, gathered and looked up
 mod uses; // the single use of a definition

@@ -3,21 +3,20 @@ ghost use Rattle.std.specs.Prelude.{◌≡◌, ◌<◌, length, get_or};
 ghost use Rattle.reference.specs.Rules.{volatile};
 ghost use Rattle.reference.specs.Join.{is_bracketed};
 ghost use Rattle.joining.specs.Plan.{wants_brackets, plan_constant, plan_use, plan_single, plan_for, decide};
-ghost use Rattle.lines.specs.Rules.{rules_of};
+ghost use Rattle.ground.specs.Rules.{rules_of};
 ghost use Rattle.lines.specs.Shapes.{expr_words, Expression};
 ghost use Rattle.life.specs.Labels.{Labelled, labels_of};
 ghost use Rattle.lines.specs.Lines.{indent_of};
-ghost use Rattle.plan.specs.Slots.{slot_names, Slotted};
 ghost use Rattle.plan.specs.Plans.{plan_among};
-ghost use Rattle.plan.specs.Texts.{Plans, Sound, definition_in};
+ghost use Rattle.plan.specs.Texts.{Plans, Slotted, Sound, definition_in, slot_names};
 ghost use Rattle.lines.specs.Texts.{Holds, Listed, bare_listing, tokens_of, words_at};
 
 use crate::definitions::{Definition, definition_of};
 use crate::slots::{SlotNames, is_addressed};
 use crate::{reaches, uses};
+use ground::rules::Rules;
 use life::{Followed, LabelledListing, dead_after};
 use lines::fams::Fam;
-use lines::rules::Rules;
 use lines::shapes::Expr;
 use lines::texts::{Listing, Texts};
 use lines::{fams, shapes, words};
@@ -206,11 +205,11 @@ pub fn decide(
     i: usize,
     rules: Rules,
 ) -> Option<Join>
-    requires { Labelled scope.now × Slotted slots.now.text.now slots.now.words.now
+    requires { Labelled scope.now × Slotted slots.now
         × (i < length scope.now.listing.lines.now) }
     ensures { Plans scope.now.listing.texts (words_at scope.now.listing i) i
         (decide (rules_of rules) (bare_listing scope.now.listing) i (labels_of scope.now)
-        (slot_names slots.now.text.now slots.now.words.now)) result }
+        (slot_names slots.now)) result }
 {
     let d = definition_of(
         &scope.listing.texts,

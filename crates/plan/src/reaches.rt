@@ -7,11 +7,12 @@ ghost use Rattle.reference.specs.Join.{ends_run, updates_first, bad_use};
 ghost use Rattle.joining.specs.Plan.{reach_at, reach_of, refuses, all_take, ends_at};
 ghost use Rattle.lines.specs.Codes.{family_number};
 ghost use Rattle.lines.specs.Lines.{indent_of};
-ghost use Rattle.lines.specs.Rules.{rules_of};
+ghost use Rattle.ground.specs.Rules.{rules_of};
 ghost use Rattle.life.specs.Labels.{Labelled, labels_of};
 ghost use Rattle.plan.specs.Reaches.{last_of, reached, Reaches};
 ghost use Rattle.lines.specs.Texts.{Holds, Known, Lined, Listed, bare_in, bare_listing, fam_text, tokens_of};
 
+use ground::kinds;
 use life::{Followed, LabelledListing, Touched, dead_after};
 use linefacts::{fact_number, is_calling, is_transparent};
 use lines::fams::Fam;
@@ -116,7 +117,7 @@ fn updates_first(texts: &Texts<'_>, line: &[u64], f: Fam) -> bool
 {
     2 <= line.len()
         && fams::is_of(texts, line[0], f)
-        && words::kind(line[1]) == words::PUNCT
+        && words::kind(line[1]) == kinds::PUNCT
         && {
             let s = words::text(texts, line[1]);
             !text::starts(s, b" = ") && !text::starts(s, b" ==")

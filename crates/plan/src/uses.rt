@@ -7,16 +7,17 @@ ghost use Rattle.reference.specs.Join.{text_before, text_after, standalone, use_
 ghost use Rattle.joining.specs.Plan.{look, use_of};
 ghost use Rattle.lines.specs.Codes.{family_number};
 ghost use Rattle.lines.specs.Lines.{indent_of, part_of};
-ghost use Rattle.lines.specs.Rules.{rules_of};
+ghost use Rattle.ground.specs.Rules.{rules_of};
 ghost use Rattle.plan.specs.Uses.{looked, same_run, leaves_inputs};
 ghost use Rattle.plan.specs.Texts.{Sound, definition_in};
 ghost use Rattle.lines.specs.Texts.{Holds, Known, Lined, Listed, bare_in, bare_listing, fam_text, tokens_of, words_at};
 
 use crate::definitions::Definition;
+use ground::kinds;
+use ground::rules::Rules;
 use life::Touched;
 use linefacts::{fact_number, is_calling, is_transparent};
 use lines::fams::{Fam, Named};
-use lines::rules::Rules;
 use lines::texts::{Listing, Texts};
 use lines::{fams, shapes, words};
 
@@ -151,7 +152,7 @@ fn is_compound(texts: &Texts<'_>, line: &[u64], pos: usize) -> bool
 {
     pos == 0
         && 2 <= line.len()
-        && words::kind(line[1]) == words::PUNCT
+        && words::kind(line[1]) == kinds::PUNCT
         && {
             let s = words::text(texts, line[1]);
             text::begins_operator(s) && !text::starts(s, b" = ")

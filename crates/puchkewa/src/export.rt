@@ -4,7 +4,7 @@ ghost use Rattle.puchkewa.specs.Exports.{settings_of, exported};
 
 use answers::Refusal;
 use clean::{Finished, Told, clean};
-use lines::rules::Rules;
+use ground::rules::Rules;
 
 // The settings of a call.
 // Kept: beside `Rules` and `Finished`, the C interface's own structs: their fields and their order are those of include/puchkewa.h.
@@ -36,7 +36,7 @@ pub struct Report {
 
 impl From<Settings> for Rules {
     ghost use Rattle.std.specs.Prelude.{◌≡◌};
-    ghost use Rattle.lines.specs.Rules.{rules_of};
+    ghost use Rattle.ground.specs.Rules.{rules_of};
     ghost use Rattle.puchkewa.specs.Exports.{settings_of};
 
     ghost from_gives = { λ settings rules. rules_of rules ≡ settings_of settings };

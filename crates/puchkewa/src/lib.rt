@@ -19,7 +19,7 @@ pub use export_offsets::{puchkewa_from_offsets, puchkewa_to_offsets};
 pub use export_start::puchkewa_start_value;
 pub use export_states::{puchkewa_delete, puchkewa_restore, puchkewa_save};
 pub use laborious::laborious;
-pub use lines::rules::Rules;
+pub use ground::rules::Rules;
 pub use offsets::{from_offsets, to_offsets};
 pub use start::start_value;
 pub use states::{delete, restore, save};

@@ -7,8 +7,8 @@ fn put_style(out: Output) -> Result<(), Unwritten> {
     put(
         out,
         b"<style>\n\
-          :root{--ink:#1b2330;--soft:#667080;--rule:#dde2e9;--gone:#fbeae7;--gonei:#a3301f;--chg:#fff5da;--chgi:#8a6100;--src:#d6e6ff;\
-          --srci:#1a5fd0}\n\
+          :root{--ink:#1b2330;--soft:#667080;--rule:#dde2e9;--gone:#fbeae7;--gonei:#a3301f;--chg:#fff5da;--chgi:#8a6100;--cut:#dcf2ef;--cuti:#0b6b63;\
+          --src:#d6e6ff;--srci:#1a5fd0}\n\
           *{box-sizing:border-box}\n\
           body{font:14px/1.5 system-ui,'Segoe UI','DejaVu Sans',sans-serif;color:var(--ink);background:#fff;margin:0 auto;\
           max-width:1720px;padding:20px 24px 60px}\n\
@@ -19,7 +19,7 @@ fn put_style(out: Output) -> Result<(), Unwritten> {
           .key{display:inline-block;min-width:1.7em;padding:0 .35em;margin:0 .25em 0 1em;border:1px solid var(--rule);border-radius:3px;\
           text-align:center;\
           font-family:ui-monospace,'DejaVu Sans Mono',monospace;color:var(--ink)}.key:first-of-type{margin-left:0}\n\
-          .kg{background:var(--gone);color:var(--gonei)}.kc{background:var(--chg);color:var(--chgi)}.ks{background:var(--src);\
+          .kg{background:var(--gone);color:var(--gonei)}.kc{background:var(--chg);color:var(--chgi)}.ku{background:var(--cut);color:var(--cuti)}.ks{background:var(--src);\
           color:var(--srci)}\n\
           #b{position:sticky;top:0;z-index:2;background:#fff;border:1px solid var(--rule);border-left:4px solid var(--srci);padding:6px \
           12px;margin:10px 0;min-height:35px}\n\
@@ -35,6 +35,7 @@ fn put_style(out: Output) -> Result<(), Unwritten> {
           text-indent:-2ch}\n\
           tr.gone .c,tr.gone .s,tr.gone .i{background:var(--gone)}tr.gone .s,tr.gone .i{color:var(--gonei)}\n\
           tr.changed .c,tr.changed .o,tr.changed .s{background:var(--chg)}tr.changed .s{color:var(--chgi)}\n\
+          tr.cut .c,tr.cut .o,tr.cut .s{background:var(--cut)}tr.cut .s{color:var(--cuti)}\n\
           td.o[data-q]{cursor:pointer}td.o[data-q]:hover{box-shadow:inset 0 0 0 1px var(--srci)}td.o:focus{outline:2px solid var(--srci);\
           outline-offset:-2px}\n\
           #t tr.src td.c,#t tr.src td.n,#t tr.src td.a,#t tr.src td.s{background:var(--src);color:var(--ink)}tr.src td.n::before{\
@@ -83,7 +84,7 @@ pub(crate) fn put_head(out: Output, name: &[u8]) -> Result<(), Unwritten> {
     put(
         out,
         b"</h1>\n<p><span class=\"key kg\">&minus;</span>joined into the cleaned lines behind its arrow, and gone \
-          <span class=\"key kc\">~</span>rewritten <span class=\"key\">&nbsp;</span>as it was \
+          <span class=\"key kc\">~</span>rewritten <span class=\"key ku\">/</span>its result is cut <span class=\"key\">&nbsp;</span>as it was \
           <span class=\"key ks\">&#9656;</span>came into the cleaned line that is marked</p>\n\
           <div id=b class=idle aria-live=polite>Click a cleaned line, or go to one with Tab and on with the arrow keys: the raw lines \
           that came into it are \

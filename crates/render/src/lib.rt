@@ -6,12 +6,11 @@ mod frame; // its constant parts
 mod rows; // the two listings
 mod sheet; // the field engineer's sheet
 mod sink; // where it goes
-mod walking; // the lines of a tape
 
 ghost use Rattle.render.specs.Sinks.{Later};
 
 use clean::Finished;
-use lines::rules::Rules;
+use ground::rules::Rules;
 pub use sink::{Sink, count_of};
 use sink::{Output, Unwritten};
 

@@ -1,10 +1,12 @@
-// The rows of the page: each raw line, and beside it what became of it. What a raw line came into is asked of crate sources, line by line.
+// The rows of the page: each raw line, and beside it what became of it. What a raw line came into is asked of crate sources, line by line;
+// what that makes of it is crate tallies'.
+ghost use Rattle.std.specs.Prelude.{◌≡◌};
+ghost use Rattle.render.specs.Rows.{class_of, sign_of};
+
 use crate::Cleaning;
 use crate::sink::{Output, Unwritten, count_of, put, put_hex, put_number};
-use crate::walking::{Line, Lines};
-use lines::marks::Marks;
 use sources::came_into;
-use tallies::first_addressed;
+use tallies::{Fate, Line, Lines, fate_of, first_addressed, line_at};
 
 // ---- what a raw line came into
 
@@ -61,13 +63,13 @@ fn put_address(out: Output, address: Option<u64>) -> Result<(), Unwritten> {
 }
 
 // The lowest and the highest address of marks, if the line has any.
-fn put_marks(out: Output, marks: Option<Marks>) -> Result<(), Unwritten> {
-    let Some(marks) = marks else {
+fn put_marks(out: Output, marks: Option<(u64, u64)>) -> Result<(), Unwritten> {
+    let Some((low, high)) = marks else {
         return Ok(());
     };
-    put_hex(out, marks.low)?;
+    put_hex(out, low)?;
     put(out, b"..")?;
-    put_hex(out, marks.high)
+    put_hex(out, high)
 }
 
 // The tokens of a line in their cells, by way of a buffer that has room for them.
@@ -81,31 +83,45 @@ fn put_tokens_by(out: Output, tokens: &[u8], cells: &mut [u8]) -> Result<(), Unw
     put(out, cells.get(..n).unwrap_or_default())
 }
 
-// The tokens of a line in their cells. A line of an accepted or a cleaned tape has at most 59,137 bytes, and its cells at most twelve
-// times so many.
-fn put_tokens(out: Output, tokens: &[u8]) -> Result<(), Unwritten> {
+// The tokens of a line in their cells. What stands from them on in an accepted or a cleaned tape has at most 59,137 bytes, and cells at most
+// twelve times so many.
+fn put_tokens(out: Output, line: Line) -> Result<(), Unwritten> {
     let mut cells = [0u8; 709644];
-    put_tokens_by(out, tokens, &mut cells)
+    put_tokens_by(out, line.as_bytes(), &mut cells)
 }
 
 // ---- rows
 
-// What became of a raw line.
-#[derive(Clone, Copy, PartialEq, Eq)]
-enum Fate {
-    Gone,
-    Rewritten,
-    Kept,
+// The class of a raw line's row: its colours go by it.
+fn class_of(fate: Fate) -> &'static [u8]
+    ensures { result.now ≡ class_of fate }
+{
+    match fate {
+        Fate::Gone => b"gone",
+        Fate::Rewritten => b"changed",
+        Fate::Cut => b"cut",
+        Fate::Kept => b"kept",
+    }
+}
+
+// The sign before a raw line.
+fn sign_of(fate: Fate) -> &'static [u8]
+    ensures { result.now ≡ sign_of fate }
+{
+    match fate {
+        Fate::Gone => b"&minus;",
+        Fate::Rewritten => b"~",
+        Fate::Cut => b"/",
+        Fate::Kept => b"",
+    }
 }
 
 // A raw line, number k from 0; the finished lines that it came into are flagged.
 fn put_raw(out: Output, fate: Fate, line: Line, k: usize, flags: &[u8]) -> Result<(), Unwritten> {
     let number = count_of(k.saturating_add(1));
-    match fate {
-        Fate::Gone => put(out, b"<tr class=gone data-k="),
-        Fate::Rewritten => put(out, b"<tr class=changed data-k="),
-        Fate::Kept => put(out, b"<tr class=kept data-k="),
-    }?;
+    put(out, b"<tr class=")?;
+    put(out, class_of(fate))?;
+    put(out, b" data-k=")?;
     put_number(out, number)?;
     put(out, b" data-into=\"")?;
     put_flagged(out, flags)?;
@@ -114,15 +130,11 @@ fn put_raw(out: Output, fate: Fate, line: Line, k: usize, flags: &[u8]) -> Resul
     put(out, b"</td><td class=a>")?;
     put_address(out, line.address)?;
     put(out, b"</td><td class=s>")?;
-    match fate {
-        Fate::Gone => put(out, b"&minus;"),
-        Fate::Rewritten => put(out, b"~"),
-        Fate::Kept => Ok(()),
-    }?;
+    put(out, sign_of(fate))?;
     put(out, b"</td><td class=c style=\"--d:")?;
     put_number(out, line.indent)?;
     put(out, b"\">")?;
-    put_tokens(out, line.tokens)?;
+    put_tokens(out, line)?;
     put(out, b"</td><td class=i>")
 }
 
@@ -144,13 +156,13 @@ fn put_cleaned(out: Output, line: Line, q: usize) -> Result<(), Unwritten> {
     put(out, b"</td><td class=o data-q=")?;
     put_number(out, number)?;
     put(out, b" data-span=\"")?;
-    put_marks(out, line.marks)?;
+    put_marks(out, line.marks())?;
     put(out, b"\" style=\"--d:")?;
     put_number(out, line.indent)?;
     put(out, b"\">")?;
-    put_tokens(out, line.tokens)?;
+    put_tokens(out, line)?;
     put(out, b"</td><td class=p>")?;
-    put_marks(out, line.marks)?;
+    put_marks(out, line.marks())?;
     put(out, b"</td></tr>\n")
 }
 
@@ -168,21 +180,16 @@ pub(crate) fn put_rows(
     cleaning: &Cleaning,
     places: &mut [Option<usize>],
 ) -> Result<(), Unwritten> {
-    for (k, raw) in Lines::new(cleaning.raw).enumerate() {
+    for (k, raw) in (0..256).zip(Lines::new(cleaning.raw)) {
         let Trace { flags, became } = ask(cleaning, k);
-        let line = became.and_then(|q| Lines::new(cleaning.cleaned).nth(q));
-        if let (Some(q), Some(line)) = (became, line) {
-            let fate = if raw.tokens == line.tokens {
-                Fate::Kept
-            } else {
-                Fate::Rewritten
-            };
-            put_raw(out, fate, raw, k, &flags)?;
-            put_cleaned(out, line, q)?;
-            note(places, k, q);
-        } else {
-            put_raw(out, Fate::Gone, raw, k, &flags)?;
-            put_arrow(out, &flags)?;
+        let fate = fate_of(cleaning.raw, k, cleaning.cleaned, became);
+        put_raw(out, fate, raw, k, &flags)?;
+        match became.and_then(|q| Some((q, line_at(cleaning.cleaned, q)?))) {
+            Some((q, line)) => {
+                put_cleaned(out, line, q)?;
+                note(places, k, q);
+            }
+            None => put_arrow(out, &flags)?,
         }
     }
     Ok(())

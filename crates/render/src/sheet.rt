@@ -1,16 +1,16 @@
 // The field engineer's sheet below the listings: calls, labels, counts, settings, and the guarantee's sentences with what was counted here.
 // The numbers are the reply's, and those that crate tallies counts from the two tapes: of the listings that they hold, as the reference
-// counts (its theorem `ticks` says how they must come out). Which labels stand is counted here without a promise.
+// counts (its theorem `ticks` says how they must come out).
 use crate::Cleaning;
 use crate::sink::{Output, Unwritten, count_of, put, put_number, put_text};
-use crate::walking::{Line, Lines, label_of, opens, symbol_of};
 use clean::{Finished, Tally};
-use lines::rules::Rules;
-use lines::words::SYMBOL;
+use ground::kinds::SYMBOL;
+use ground::rules::Rules;
 use tallies::{
-    Addresses, Sizes, calls_stay, count_calls, count_casts, count_held, count_labels, count_sizes,
+    Addresses, Lines, Sizes, calls_stay, count_calls, count_casts, count_held, count_labels,
+    count_sizes, count_standing, label_stands,
 };
-use tape::walk::Commands;
+use tape::walk::{Commands, Event};
 
 // A tick, or a cross: the latter is never seen unless the counting or the theorem is wrong.
 fn put_tick(out: Output, holds: bool) -> Result<(), Unwritten> {
@@ -48,6 +48,22 @@ fn put_row(
 }
 
 // ---- calls: a callee is a name, or none for a cast pointer
+
+// The text of a Symbol.
+fn symbol_of(event: Event) -> Option<&[u8]> {
+    match event {
+        Event::Token { kind: SYMBOL, text } => Some(text),
+        _ => None,
+    }
+}
+
+// Whether a bracket opens: behind a name it calls it.
+fn opens(event: Event) -> bool {
+    match event {
+        Event::Token { kind, text } => tallies::opens(kind, text),
+        _ => false,
+    }
+}
 
 fn count_callee(tape: &[u8], callee: Option<&[u8]>) -> usize {
     match callee {
@@ -94,29 +110,17 @@ fn put_calls(out: Output, cleaning: &Cleaning) -> Result<(), Unwritten> {
 
 // ---- labels
 
-// Whether a line stands as the finished line of that number: unchanged, with its address and indent.
-fn stands(line: Line, cleaned: &[u8], place: Option<usize>) -> bool {
-    match place.and_then(|q| Lines::new(cleaned).nth(q)) {
-        Some(finished) => {
-            finished.tokens == line.tokens
-                && finished.address == line.address
-                && finished.indent == line.indent
-        }
-        None => false,
-    }
-}
-
 fn put_label_rows(
     out: Output,
     cleaning: &Cleaning,
     places: &[Option<usize>],
 ) -> Result<(), Unwritten> {
-    for (k, line) in Lines::new(cleaning.raw).enumerate() {
-        if let Some(name) = label_of(line) {
+    for (k, line) in (0..256).zip(Lines::new(cleaning.raw)) {
+        if let Some(name) = line.label() {
             let place = places.get(k).copied().flatten();
             put_row(
                 out,
-                stands(line, cleaning.cleaned, place),
+                label_stands(cleaning.raw, k, cleaning.cleaned, place),
                 Some(name),
                 k.saturating_add(1),
                 place.map_or(0, |q| q.saturating_add(1)),
@@ -135,16 +139,6 @@ fn put_labels(out: Output, cleaning: &Cleaning, places: &[Option<usize>]) -> Res
     )?;
     put_label_rows(out, cleaning, places)?;
     put(out, b"</tbody></table></div>\n")
-}
-
-// How many labels stand.
-fn count_standing(cleaning: &Cleaning, places: &[Option<usize>]) -> usize {
-    Lines::new(cleaning.raw)
-        .zip(places)
-        .filter(|(line, place)| {
-            label_of(*line).is_some() && stands(*line, cleaning.cleaned, **place)
-        })
-        .count()
 }
 
 // ---- counts and settings
@@ -361,7 +355,7 @@ fn put_guarantee(
     put_labels_row(
         out,
         count_labels(cleaning.raw),
-        count_standing(cleaning, places),
+        count_standing(cleaning.raw, cleaning.cleaned, places),
     )?;
     put_proved(
         out,

@@ -27,6 +27,9 @@ use Rattle.joining.proofs.Bare.{cut-addresses}
 use Rattle.joining.proofs.Carried.{joined-marks, kept-joined, changed_at, rising-remove}
 use Rattle.lines.specs.Lines.{origin_of, numbered, listing_read}
 use Rattle.lines.proofs.words.Each.{map_at}
+use Rattle.build.specs.State.{used}
+use Rattle.build.specs.Added.{used_words}
+use Rattle.join.specs.Contents.{Contents, used_lines, listing_now}
 use Rattle.join.specs.Carrying.{lowered, raised, origins_at, Handed}
 use Rattle.rounds.specs.Carries.{Held, Marked, Carries}
 
@@ -71,22 +74,18 @@ numbers-read : (tape area : Text) (tokens lines : List ℕ)
 numbers-read tape area tokens [] = refl
 numbers-read tape area tokens (l ∷ lines) = ap (λ (r : List ℕ). origin_of l ∷ r) (numbers-read tape area tokens lines)
 
--- lines with the same of these have the same numbers
-pub numbers_same : (tape area : Text) (tokens lines : List ℕ) (area' : Text) (tokens' lines' : List ℕ)
-    → map (λ l. l.address) (listing_read tape area' tokens' numbered lines') ≡ map (λ l. l.address) (listing_read tape area tokens numbered lines)
-    → map origin_of lines' ≡ map origin_of lines
-numbers_same tape area tokens lines area' tokens' lines' e =
-    sym (numbers-read tape area' tokens' lines') ∙ ap (map number) e ∙ numbers-read tape area tokens lines
+numbers-now : (s : Contents) → map number (map (λ l. l.address) (listing_now s numbered)) ≡ map origin_of (used_lines s)
+numbers-now s = numbers-read s.tape (used s.area s.size) (used_words s.tokens s.size) (used_lines s)
 
-pub numbers-remove : (tape area : Text) (tokens lines : List ℕ) (area' : Text) (tokens' lines' : List ℕ) (i : ℕ)
-    → map (λ l. l.address) (listing_read tape area' tokens' numbered lines')
-    ≡ remove i (map (λ l. l.address) (listing_read tape area tokens numbered lines))
-    → map origin_of lines' ≡ remove i (map origin_of lines)
-numbers-remove tape area tokens lines area' tokens' lines' i e =
-    sym (numbers-read tape area' tokens' lines')
-    ∙ ap (map number) e
-    ∙ map-remove number i (map (λ l. l.address) (listing_read tape area tokens numbered lines))
-    ∙ ap (remove i) (numbers-read tape area tokens lines)
+-- lines with the same of these have the same numbers
+pub numbers_same : (s s' : Contents) → map (λ l. l.address) (listing_now s' numbered) ≡ map (λ l. l.address) (listing_now s numbered)
+    → map origin_of (used_lines s') ≡ map origin_of (used_lines s)
+numbers_same s s' e = sym (numbers-now s') ∙ ap (map number) e ∙ numbers-now s
+
+pub numbers-remove : (s s' : Contents) (i : ℕ) → map (λ l. l.address) (listing_now s' numbered) ≡ remove i (map (λ l. l.address) (listing_now s numbered))
+    → map origin_of (used_lines s') ≡ remove i (map origin_of (used_lines s))
+numbers-remove s s' i e =
+    sym (numbers-now s') ∙ ap (map number) e ∙ map-remove number i (map (λ l. l.address) (listing_now s numbered)) ∙ ap (remove i) (numbers-now s)
 
 -- ---- one line takes in a pair
 
@@ -151,15 +150,21 @@ numbers_at : (lines places : List ℕ) → All (λ j. j < length lines) places �
 numbers_at lines [] b = refl
 numbers_at lines (j ∷ js) b = λ i. sym (map_at origin_of lines j 0 b.0) i ∷ numbers_at lines js b.1 i
 
-pub carries_failed : (i : ℕ) (left : Listing) (lines lows highs : List ℕ) → Carries (failure i left ∷ []) lines lows highs lines lows highs
+pub carries_failed : (i : ℕ) (left : Listing) (s : Contents) → Carries (failure i left ∷ []) s s
 unfolding carry when◌then◌else◌
-carries_failed i left lines lows highs m = (m, refl)
+carries_failed i left s m = (m, refl)
 
-pub carries_joined : (i : ℕ) (places : List ℕ) (left : Listing) (lines lows highs lines' lows' highs' : List ℕ) → Handed lines i places lows highs lows' highs'
-    → i < length lines → All (λ j. (i < j) × (j < length lines)) places → map origin_of lines' ≡ remove i (map origin_of lines)
-    → Carries (success i places left ∷ []) lines lows highs lines' lows' highs'
+pub carries_joined : (i : ℕ) (places : List ℕ) (left : Listing) (s s' : Contents) → Handed (used_lines s) i places s.lows s.highs s'.lows s'.highs
+    → i < length (used_lines s) → All (λ j. (i < j) × (j < length (used_lines s))) places
+    → map origin_of (used_lines s') ≡ remove i (map origin_of (used_lines s)) → Carries (success i places left ∷ []) s s'
 unfolding carry when◌then◌else◌
-carries_joined i places left lines lows highs lines' lows' highs' handed inside each gone m =
+carries_joined i places left s s' handed inside each gone m =
+    let lines : List ℕ = used_lines s in
+    let lows : List ℕ = s.lows in
+    let highs : List ℕ = s.highs in
+    let lines' : List ℕ = used_lines s' in
+    let lows' : List ℕ = s'.lows in
+    let highs' : List ℕ = s'.highs in
     let os : List ℕ = map origin_of lines in
     let o : ℕ = origin_of (get_or lines i 0) in
     let below : All (λ j. j < length lines) places = all-other (λ j. (i < j) × (j < length lines)) (λ j. j < length lines) (λ j b. b.1) places each in
@@ -191,22 +196,21 @@ carry_append [] ys marks = refl
 carry_append (x ∷ xs) ys marks = carry_append xs ys _
 
 -- one after the other
-pub carries_then : (xs ys : List Attempt) (a al ah b bl bh c cl ch : List ℕ) → Carries xs a al ah b bl bh → Carries ys b bl bh c cl ch
-    → Carries (xs ++ ys) a al ah c cl ch
-carries_then xs ys a al ah b bl bh c cl ch f g m =
+pub carries_then : (xs ys : List Attempt) (a b c : Contents) → Carries xs a b → Carries ys b c → Carries (xs ++ ys) a c
+carries_then xs ys a b c f g m =
     let p = f m in
     let q = g p.0 in
-    (q.0, q.1 ∙ ap (carry ys) p.1 ∙ sym (carry_append xs ys (marks_by origin_of al ah a)))
+    (q.0, q.1 ∙ ap (carry ys) p.1 ∙ sym (carry_append xs ys (marks_by origin_of a.lows a.highs (used_lines a))))
 
-pub carries_none : (lines lows highs : List ℕ) → Carries [] lines lows highs lines lows highs
+pub carries_none : (s : Contents) → Carries [] s s
 unfolding carry
-carries_none lines lows highs m = (m, refl)
+carries_none s m = (m, refl)
 
 -- other words for the same lines
-pub carries_same : (lines lines' lows highs : List ℕ) → map origin_of lines' ≡ map origin_of lines → Carries [] lines lows highs lines' lows highs
+pub carries_same : (s s' : Contents) → s'.lows ≡ s.lows → s'.highs ≡ s.highs → map origin_of (used_lines s') ≡ map origin_of (used_lines s) → Carries [] s s'
 unfolding carry
-carries_same lines lines' lows highs e m =
-    (rw e m, by_number (at_number lows highs) lines' ∙ ap (map (at_number lows highs)) e ∙ sym (by_number (at_number lows highs) lines))
+carries_same s s' el eh e m =
+    (rw (el, eh, e) m, rw (el, eh) (by_number (at_number s.lows s.highs) (used_lines s') ∙ ap (map (at_number s.lows s.highs)) e ∙ sym (by_number (at_number s.lows s.highs) (used_lines s))))
 
 -- ---- the cuts move no address
 

@@ -1,7 +1,7 @@
 -- Lines whose facts were noted (crate linefacts): the listing is the same, and so is the run that is made of it. Assumes nothing.
 use Prim.Native.Nat.{ℕ, ◌<◌}
 use native.Mathlib.Omega.{arith}
-use mathlib.Core.Path.{◌≡◌, sym, ap, ◌∙◌}
+use mathlib.Core.Path.{◌≡◌, refl, sym, ap, ◌∙◌}
 use mathlib.Core.List.{List, [], ◌++◌, map}
 use lib.ListN.{length, take, drop, length-map}
 use lib.Seq.{ext_get_or, take_at, length-take-le, length_front}
@@ -9,14 +9,16 @@ use Rattle.reference.specs.Text.{Text}
 use Rattle.reference.specs.Rules.{Rules}
 use Rattle.joining.specs.Bare.{bare_lines}
 use Rattle.joining.specs.Limits.{RunLimits}
-use Rattle.lines.specs.Lines.{Reading, numbered, origin_of, line_read, listing_read}
+use Rattle.lines.specs.Lines.{Reading, numbered, line_read, listing_read}
 use Rattle.lines.proofs.words.Each.{map_at}
 use Rattle.linefacts.specs.Gathering.{AllNoted}
 use Rattle.linefacts.proofs.Making.{all-noted-lined}
-use Rattle.build.specs.declared.used.Size.{Size}
+use Rattle.lines.specs.declared.texts.Size.{Size}
 use Rattle.build.specs.State.{used}
 use Rattle.build.specs.Added.{used_words}
-use Rattle.join.specs.Current.{used_lines, bare_now, Current}
+use Rattle.join.specs.Current as slices
+use Rattle.join.specs.Contents.{Contents}
+use Rattle.rounds.specs.Carries.{Carries}
 use Rattle.rounds.specs.declared.run.Progress.{Progress}
 use Rattle.rounds.specs.Runs.{SameListing, Rounded}
 use Rattle.rounds.proofs.Carrying.{carries_then, carries_same, numbers_same}
@@ -35,8 +37,8 @@ module _ {tape area : Text} {tokens lines after : List ℕ} (r : AllNoted tape a
       map_at f after k (f 0) b ∙ (r.at k b').means addresses ∙ sym (map_at f lines k (f 0) b'))
 
 -- the facts of the lines in use were noted, and these lines stand before the others
-module _ {tape area : Text} {tokens lines : List ℕ} {at : Size} (c : Current tape area tokens lines at) {after : List ℕ}
-    (r : AllNoted tape (used area at) (used_words tokens at) (used_lines lines at) after) where
+module _ {tape area : Text} {tokens lines : List ℕ} {at : Size} (c : slices.Current tape area tokens lines at) {after : List ℕ}
+    (r : AllNoted tape (used area at) (used_words tokens at) (slices.used_lines lines at) after) where
   front : take at.lines (after ++ drop at.lines lines) ≡ after
   front = take_at after _ at.lines (r.long ∙ length-take-le at.lines lines c.lines_fit)
 
@@ -54,26 +56,29 @@ module _ {tape area : Text} {tokens lines : List ℕ} {at : Size} (c : Current t
 -- ---- a run of the same listing
 
 module _ {tape area : Text} {tokens lines : List ℕ} {at : Size} {lines' : List ℕ} (s : SameListing tape area tokens lines at lines') where
-  bare_same : bare_now tape area tokens lines' at ≡ bare_now tape area tokens lines at
-  bare_same = bare_is tape area tokens lines' at numbered ∙ ap bare_lines (s.means numbered) ∙ sym (bare_is tape area tokens lines at numbered)
+  -- the tables with these line words
+  abbrev with_lines : List ℕ → List ℕ → List ℕ → Contents
+  with_lines ls lows highs = record { tape = tape; area = area; tokens = tokens; lines = ls; size = at; lows = lows; highs = highs }
 
-  pub limits_same : RunLimits (bare_now tape area tokens lines at) → RunLimits (bare_now tape area tokens lines' at)
+  bare_same : slices.bare_now tape area tokens lines' at ≡ slices.bare_now tape area tokens lines at
+  bare_same = bare_is (with_lines lines' [] []) numbered ∙ ap bare_lines (s.means numbered) ∙ sym (bare_is (with_lines lines [] []) numbered)
+
+  pub limits_same : RunLimits (slices.bare_now tape area tokens lines at) → RunLimits (slices.bare_now tape area tokens lines' at)
   limits_same l = rw bare_same l
 
-  numbers_stay : map origin_of (used_lines lines' at) ≡ map origin_of (used_lines lines at)
-  numbers_stay =
-      numbers_same tape (used area at) (used_words tokens at) (used_lines lines at) (used area at) (used_words tokens at) (used_lines lines' at)
-      (ap (map (λ l. l.address)) (s.means numbered))
+  module _ {lows highs : List ℕ} where
+    stays : Carries [] (with_lines lines lows highs) (with_lines lines' lows highs)
+    stays =
+        let a = with_lines lines lows highs in
+        let b = with_lines lines' lows highs in
+        carries_same a b refl refl (numbers_same a b (ap (map (λ l. l.address)) (s.means numbered)))
 
-  pub rounded_same : {rules : Rules} {lows highs : List ℕ} {area'' : Text} {tokens'' lines'' lows'' highs'' : List ℕ} {r : Progress}
-      → Rounded rules tape area tokens lines' lows highs at area'' tokens'' lines'' lows'' highs'' r
-      → Rounded rules tape area tokens lines lows highs at area'' tokens'' lines'' lows'' highs'' r
-  rounded_same {lows = lows} {highs = highs} {lines'' = lines''} {lows'' = lows''} {highs'' = highs''} {r = r} m = record {
-    current = m.current;
-    limits = m.limits;
-    left = λ addresses. rw (s.means addresses) at (m.left addresses);
-    counted = λ addresses. rw (s.means addresses) at (m.counted addresses);
-    marks = λ addresses.
-        carries_then [] _ (used_lines lines at) lows highs (used_lines lines' at) lows highs (used_lines lines'' r.size) lows'' highs''
-        (carries_same (used_lines lines at) (used_lines lines' at) lows highs numbers_stay) (rw (s.means addresses) at (m.marks addresses));
-  }
+    pub rounded_same : {rules : Rules} {left : Contents} {r : Progress} → Rounded rules (with_lines lines' lows highs) left r
+        → Rounded rules (with_lines lines lows highs) left r
+    rounded_same {left = left} m = record {
+      current = m.current;
+      limits = m.limits;
+      left = λ addresses. rw (s.means addresses) at (m.left addresses);
+      counted = λ addresses. rw (s.means addresses) at (m.counted addresses);
+      marks = λ addresses. carries_then [] _ (with_lines lines lows highs) (with_lines lines' lows highs) left stays (rw (s.means addresses) at (m.marks addresses));
+    }

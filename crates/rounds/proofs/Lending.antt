@@ -1,18 +1,20 @@
 -- The slices that are lent to a round: they are the same and as long after a call, and so after one call after the other, and a round finds room in
 -- them as the one before it did. Assumes nothing.
-use Prim.Native.Nat.{ℕ, ◌<◌}
+use Prim.Native.Nat.{ℕ}
 use native.Mathlib.Omega.{arith}
 use mathlib.Core.Path.{◌≡◌, refl, ◌∙◌}
 use mathlib.Core.List.{List}
-use lib.ListN.{length, length-map}
+use lib.ListN.{length}
 use Rattle.reference.specs.Text.{Text}
-use Rattle.build.specs.declared.used.Size.{Size}
+use Rattle.lines.specs.declared.texts.Size.{Size}
 use Rattle.join.specs.declared.workspace.Workspace.{Workspace}
-use Rattle.join.specs.Current.{bare_now, Current, Lent}
-use Rattle.join.specs.Workspaces.{Attemptable, SameLent}
+use Rattle.join.specs.Contents.{contents, bare_now, Current}
+use Rattle.join.specs.Attempts.{Attemptable}
+use Rattle.join.specs.Workspaces.{SameLent, Lent}
 use Rattle.joining.specs.Limits.{RunLimits}
 use Rattle.joining.specs.Places.{Labelled}
-use Rattle.rounds.specs.Workspaces.{Runnable, Gatherable, Roundable}
+use Rattle.plan.specs.declared.slots.SlotNames.{SlotNames}
+use Rattle.rounds.specs.Runs.{Runnable, Gatherable}
 
 pub lent_same : (w : Workspace) → SameLent w w
 lent_same w = record {
@@ -74,7 +76,7 @@ lent_written w lines e = record {
 -- ---- room for an attempt and for a round
 
 module _ {w w' : Workspace} (s : SameLent w w') where
-  lent_again : Lent w.area.now w.tokens.now w.area2.now w.tokens2.now → Lent w'.area.now w'.tokens.now w'.area2.now w'.tokens2.now
+  lent_again : Lent w → Lent w'
   lent_again l = record {
     first_text = omega (arith, l.first_text, s.area_length);
     first_words = omega (arith, l.first_words, s.tokens_length);
@@ -82,31 +84,28 @@ module _ {w w' : Workspace} (s : SameLent w w') where
     second_words = omega (arith, l.second_words, s.tokens2_length);
   }
 
-  -- the next attempt finds what the round found
-  pub attempt_again : {tape : Text} {labels labels' : List ℕ} {slots : Text} {words : List ℕ} {at at' : Size} {i : ℕ} → Roundable tape w labels slots words at
-      → Current tape w'.area.now w'.tokens.now w'.lines.now at' → RunLimits (bare_now tape w'.area.now w'.tokens.now w'.lines.now at')
-      → Labelled (bare_now tape w'.area.now w'.tokens.now w'.lines.now at') labels' → i < at'.lines → Attemptable tape w' labels' slots words i at'
-  attempt_again b current limits labelled inside = record {
-    current = current;
-    limits = limits;
-    lent = lent_again b.lent;
-    labelled = labelled;
-    slotted = b.slotted;
-    inside = inside;
-    for_lows = omega (arith, b.for_lows, s.marks_length, length-map w.marks.now (λ m. m.low), length-map w'.marks.now (λ m. m.low));
-    for_highs = omega (arith, b.for_highs, s.marks_length, length-map w.marks.now (λ m. m.high), length-map w'.marks.now (λ m. m.high));
-  }
+  module _ {tape : Text} {at at' : Size} (current : Current (contents tape w' at')) (limits : RunLimits (bare_now (contents tape w' at'))) where
+    -- the next attempt finds what the round found
+    pub attempt_again : {labels labels' : List ℕ} {slots : SlotNames} → Attemptable tape w labels slots at → Labelled (bare_now (contents tape w' at')) labels'
+        → Attemptable tape w' labels' slots at'
+    attempt_again b labelled = record {
+      current = current;
+      limits = limits;
+      lent = lent_again b.lent;
+      labelled = labelled;
+      slotted = b.slotted;
+      for_marks = omega (arith, b.for_marks, s.marks_length);
+    }
 
-  -- and the next round what the run found
-  pub runnable_again : {tape : Text} {at at' : Size} → Runnable tape w at → Current tape w'.area.now w'.tokens.now w'.lines.now at'
-      → RunLimits (bare_now tape w'.area.now w'.tokens.now w'.lines.now at') → Runnable tape w' at'
-  runnable_again b current limits = record {
-    current = current;
-    limits = limits;
-    lent = lent_again b.lent;
-    words_short = omega (arith, b.words_short, s.tokens_length);
-    for_marks = omega (arith, b.for_marks, s.marks_length);
-  }
+    -- and the next round what the run found
+    pub runnable_again : Runnable tape w at → Runnable tape w' at'
+    runnable_again b = record {
+      current = current;
+      limits = limits;
+      lent = lent_again b.lent;
+      words_short = omega (arith, b.words_short, s.tokens_length);
+      for_marks = omega (arith, b.for_marks, s.marks_length);
+    }
 
 -- the same slices to gather in, as long as they were
 pub gatherable_again : {labels labels' : List ℕ} {slots slots' : Text} {words words' : List ℕ} → Gatherable labels slots words

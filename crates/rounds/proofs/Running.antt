@@ -6,11 +6,10 @@ use mathlib.Core.Logic.{◌⊎◌, ⊎_elim, inl, inr}
 use mathlib.Core.Bool.{Bool, true, false}
 use mathlib.Core.List.{List, [], ◌∷◌, ◌++◌, map, flatten, append-nil, append_assoc}
 use lib.Dec.{eqb}
-use lib.ListN.{length, set, length-append}
+use lib.ListN.{length, set, take, length-append}
 use lib.Seq.{append_snoc}
 use borrow.Author.Tests.{eq-eqb, ne_eqb}
 use Rattle.reference.specs.Control.{◌or◌, when◌then◌else◌}
-use Rattle.reference.specs.Text.{Text}
 use Rattle.reference.specs.Listing.{Listing}
 use Rattle.reference.specs.Rules.{Rules}
 use Rattle.reference.specs.Run.{Attempt, propagate_once, after_attempts, removals, changed, rounds_from, limit, after_rounds, drop_dead_results}
@@ -19,10 +18,10 @@ use Rattle.joining.specs.Limits.{RunLimits}
 use Rattle.laws.proofs.Scans.{if-true, if-false}
 use Rattle.reference.proofs.Marks.{finished_is}
 use Rattle.lines.specs.Lines.{Reading, numbered, origin_of}
-use Rattle.build.specs.declared.used.Size.{Size}
+use Rattle.lines.specs.declared.texts.Size.{Size}
 use Rattle.build.specs.State.{used}
 use Rattle.build.specs.Added.{used_words}
-use Rattle.join.specs.Current.{used_lines, listing_now, bare_now, Current}
+use Rattle.join.specs.Contents.{Contents, used_lines, listing_now, bare_now, Current}
 use Rattle.rounds.specs.declared.rounds.Round.{Round}
 use Rattle.rounds.specs.declared.run.Outcome.{Outcome}
 use Rattle.rounds.specs.declared.run.Progress.{Progress}
@@ -159,40 +158,34 @@ module _ (rules : Rules) (most : ℕ) (start : Listing) where
         u.made ∙ ap (λ (n : ℕ). u.done ++ rounds_from rules n lines) h ∙ append-nil u.done in
         rw all (sym u.left, u.counted, u.said)
 
--- the rounds stand at s, and at most `more` are to come: what began as the first listing is now the second
-pub record Going (rules : Rules) (tape area₀ : Text) (tokens₀ lines₀ lows₀ highs₀ : List ℕ) (at₀ : Size) (most more : ℕ)
-    (area : Text) (tokens lines lows highs : List ℕ) (s : Progress) : Type 0 where
-  pub current : Current tape area tokens lines s.size
-  pub limits : RunLimits (bare_now tape area tokens lines s.size)
-  pub few : Few s
-  pub rounds : s.made + more ≤ 257
-  pub sofar : (addresses : Reading)
-      → Sofar rules most more (listing_now tape area₀ tokens₀ lines₀ at₀ addresses) s (listing_now tape area tokens lines s.size addresses)
-      (λ done. Carries done (used_lines lines₀ at₀) lows₀ highs₀ (used_lines lines s.size) lows highs)
+-- the rounds stand at p, and at most `more` are to come: what began as the first listing is now the second
+pub record Going (rules : Rules) (s₀ : Contents) (most more : ℕ) (s : Contents) (p : Progress) : Type 0 where
+  pub current : Current s
+  pub limits : RunLimits (bare_now s)
+  pub few : Few p
+  pub rounds : p.made + more ≤ 257
+  pub sofar : (addresses : Reading) → Sofar rules most more (listing_now s₀ addresses) p (listing_now s addresses) (λ done. Carries done s₀ s)
 
 most-few : (settle : Bool) {n : ℕ} → n ≤ 256 → most_rounds settle n ≤ 257
 unfolding most_rounds when◌then◌else◌
 most-few true h = omega arith
 most-few false h = omega arith
 
-module _ {rules : Rules} {tape area₀ : Text} {tokens₀ lines₀ lows₀ highs₀ : List ℕ} {at₀ : Size} where
-  pub going_begin : Current tape area₀ tokens₀ lines₀ at₀ → RunLimits (bare_now tape area₀ tokens₀ lines₀ at₀) → {most : ℕ}
-      → most ≡ most_rounds rules.settle at₀.lines
-      → Going rules tape area₀ tokens₀ lines₀ lows₀ highs₀ at₀ most most area₀ tokens₀ lines₀ lows₀ highs₀ (begin at₀)
+module _ {rules : Rules} {s₀ : Contents} where
+  pub going_begin : Current s₀ → RunLimits (bare_now s₀) → {most : ℕ} → most ≡ most_rounds rules.settle s₀.size.lines
+      → Going rules s₀ most most s₀ (begin s₀.size)
   going_begin current limits e =
       record {
         current = current;
         limits = limits;
         few = record { rounds = omega arith; attempts = omega arith; removed = omega arith };
-        rounds = omega (arith, e, most-few rules.settle (now-few current limits));
-        sofar = λ addresses. sofar_begin rules _ _ at₀ (carries_none (used_lines lines₀ at₀) lows₀ highs₀);
+        rounds = omega (arith, e, most-few rules.settle (now-few s₀ current limits));
+        sofar = λ addresses. sofar_begin rules _ _ s₀.size (carries_none s₀);
       }
 
-  module _ {most more : ℕ} {area : Text} {tokens lines lows highs : List ℕ} {s : Progress}
-      (g : Going rules tape area₀ tokens₀ lines₀ lows₀ highs₀ at₀ most more area tokens lines lows highs s) where
-    module _ (h : 1 ≤ more) {area' : Text} {tokens' lines' lows' highs' : List ℕ} {r : Round}
-        (m : Made (propagate_once rules) tape area tokens lines lows highs s.size area' tokens' lines' lows' highs' r) where
-      going_round : Going rules tape area₀ tokens₀ lines₀ lows₀ highs₀ at₀ most (rounds_left more r.removed) area' tokens' lines' lows' highs' (after_round s r)
+  module _ {most more : ℕ} {s : Contents} {p : Progress} (g : Going rules s₀ most more s p) where
+    module _ (h : 1 ≤ more) {s' : Contents} {r : Round} (m : Made (propagate_once rules) s s' r) where
+      going_round : Going rules s₀ most (rounds_left more r.removed) s' (after_round p r)
       unfolding rounds_left when◌then◌else◌
       going_round =
           record {
@@ -207,9 +200,7 @@ module _ {rules : Rules} {tape area₀ : Text} {tokens₀ lines₀ lows₀ highs
             rounds = omega (arith, g.rounds, h, fewer (eqb r.removed 0));
             sofar = λ addresses.
                 sofar-next rules most _ (g.sofar addresses) h r (m.left addresses) (m.attempts_are addresses) (m.removed_is addresses)
-                (λ done had.
-                carries_then done _ (used_lines lines₀ at₀) lows₀ highs₀ (used_lines lines s.size) lows highs
-                (used_lines lines' r.size) lows' highs' had (m.marks addresses));
+                (λ done had. carries_then done _ s₀ s s' had (m.marks addresses));
           }
         where
           fewer : (b : Bool) → (when b then 0 else more - 1) ≤ more - 1
@@ -217,21 +208,20 @@ module _ {rules : Rules} {tape area₀ : Text} {tokens₀ lines₀ lows₀ highs
           fewer false = omega arith
 
       -- after a round that removed something
-      pub going_next : (r.removed ≡ 0 → ⊥) → Going rules tape area₀ tokens₀ lines₀ lows₀ highs₀ at₀ most (more - 1) area' tokens' lines' lows' highs' (after_round s r)
+      pub going_next : (r.removed ≡ 0 → ⊥) → Going rules s₀ most (more - 1) s' (after_round p r)
       unfolding rounds_left
       going_next n = rw (if-false 0 (more - 1) (ne_eqb r.removed 0 n)) at going_round
 
       -- and after one that removed nothing
-      pub going_last : r.removed ≡ 0 → Going rules tape area₀ tokens₀ lines₀ lows₀ highs₀ at₀ most 0 area' tokens' lines' lows' highs' (after_round s r)
+      pub going_last : r.removed ≡ 0 → Going rules s₀ most 0 s' (after_round p r)
       unfolding rounds_left
       going_last e = rw (if-true 0 (more - 1) (eq-eqb r.removed 0 e)) at going_round
 
-    pub going_end : Current tape area₀ tokens₀ lines₀ at₀ → most ≡ most_rounds rules.settle at₀.lines
-        → more ≡ 0 → Rounded rules tape area₀ tokens₀ lines₀ lows₀ highs₀ at₀ area tokens lines lows highs s
+    pub going_end : Current s₀ → most ≡ most_rounds rules.settle s₀.size.lines → more ≡ 0 → Rounded rules s₀ s p
     unfolding run attempts_of
     going_end current e h =
-        let most_is : (addresses : Reading) → limit rules (listing_now tape area₀ tokens₀ lines₀ at₀ addresses) ≡ most =
-        (λ addresses. limit_is rules _ ∙ ap (most_rounds rules.settle) (now-length current addresses) ∙ sym e) in
+        let most_is : (addresses : Reading) → limit rules (listing_now s₀ addresses) ≡ most =
+        (λ addresses. limit_is rules _ ∙ ap (most_rounds rules.settle) (now-length s₀ current addresses) ∙ sym e) in
         record {
           current = g.current;
           limits = g.limits;
@@ -246,52 +236,47 @@ cuts_are : (rules : Rules) (lines : Listing) → (run rules lines).cuts ≡ drop
 unfolding run
 cuts_are rules lines = refl
 
-module _ (rules : Rules) {tape area : Text} {tokens lines lows highs : List ℕ} {at : Size} {area' : Text} {tokens' lines' lows' highs' : List ℕ} {s : Progress}
-    (m : Rounded rules tape area tokens lines lows highs at area' tokens' lines' lows' highs' s) where
-  module _ (left : List ℕ) {k : ℕ}
-      (c : Cut (drop_dead_results rules) tape (used area' s.size) (used_words tokens' s.size) (used_lines lines' s.size) (used_lines left s.size) k)
-      (e : length left ≡ length lines') (t : Code.Tally) (et : tally_of t ≡ told_of rules.settle s) where
-    cuts-made : (addresses : Reading) → drop_dead_results rules (listing_now tape area' tokens' lines' s.size addresses)
-        ≡ (run rules (listing_now tape area tokens lines at addresses)).cuts
-    cuts-made addresses = ap (drop_dead_results rules) (m.left addresses) ∙ sym (cuts_are rules (listing_now tape area tokens lines at addresses))
+module _ (rules : Rules) {s s' : Contents} {p : Progress} (m : Rounded rules s s' p) (left : List ℕ) {k : ℕ}
+    (c : Cut (drop_dead_results rules) s'.tape (used s'.area s'.size) (used_words s'.tokens s'.size) (used_lines s') (take s'.size.lines left) k)
+    (e : length left ≡ length s'.lines) (t : Code.Tally) (et : tally_of t ≡ told_of rules.settle p) where
+  -- the tables, with the lines that are left
+  abbrev cut : Contents
+  cut = record { tape = s'.tape; area = s'.area; tokens = s'.tokens; lines = left; size = s'.size; lows = s'.lows; highs = s'.highs }
 
-    abbrev outcome : Outcome
-    outcome = record { tally = t; removed = s.removed; cut = k; size = s.size }
+  cuts-made : (addresses : Reading) → drop_dead_results rules (listing_now s' addresses) ≡ (run rules (listing_now s addresses)).cuts
+  cuts-made addresses = ap (drop_dead_results rules) (m.left addresses) ∙ sym (cuts_are rules (listing_now s addresses))
 
-    counted : (addresses : Reading) → counts_of outcome ≡ counts rules (run rules (listing_now tape area tokens lines at addresses))
-    unfolding counts attempts_of
-    counted addresses =
-        let all = run rules (listing_now tape area tokens lines at addresses) in
-        let told = m.counted addresses in
-        let tally : tally_of t ≡ (counts rules all).tally =
-        et ∙ rw (told.made_are, told.attempts_are, told.each_is) in
-        let cut : k ≡ length all.cuts = c.count addresses ∙ ap length (cuts-made addresses) in
-        λ i. record { tally = tally i; lines_removed = told.removed_is i; results_cut = cut i }
+  abbrev outcome : Outcome
+  outcome = record { tally = t; removed = p.removed; cut = k; size = s'.size }
 
-    -- a cut line is the line that it was
-    numbers-kept : map origin_of (used_lines left s.size) ≡ map origin_of (used_lines lines' s.size)
-    numbers-kept =
-        numbers_same tape (used area' s.size) (used_words tokens' s.size) (used_lines lines' s.size)
-        (used area' s.size) (used_words tokens' s.size) (used_lines left s.size)
-        (ap (map (λ l. l.address)) (c.finished numbered) ∙ cuts-addresses rules (listing_now tape area' tokens' lines' s.size numbered))
+  counted : (addresses : Reading) → counts_of outcome ≡ counts rules (run rules (listing_now s addresses))
+  unfolding counts attempts_of
+  counted addresses =
+      let all = run rules (listing_now s addresses) in
+      let told = m.counted addresses in
+      let tally : tally_of t ≡ (counts rules all).tally =
+      et ∙ rw (told.made_are, told.attempts_are, told.each_is) in
+      let cuts : k ≡ length all.cuts = c.count addresses ∙ ap length (cuts-made addresses) in
+      λ i. record { tally = tally i; lines_removed = told.removed_is i; results_cut = cuts i }
 
-    marks_left : (addresses : Reading) → Carries (attempts_of (run rules (listing_now tape area tokens lines at addresses)))
-        (used_lines lines at) lows highs (used_lines left s.size) lows' highs'
-    marks_left addresses =
-        rw append-nil
-        at (carries_then (attempts_of (run rules (listing_now tape area tokens lines at addresses))) [] (used_lines lines at) lows highs
-        (used_lines lines' s.size) lows' highs' (used_lines left s.size) lows' highs' (m.marks addresses)
-        (carries_same (used_lines lines' s.size) (used_lines left s.size) lows' highs' numbers-kept))
+  -- a cut line is the line that it was
+  numbers-kept : map origin_of (used_lines cut) ≡ map origin_of (used_lines s')
+  numbers-kept = numbers_same s' cut (ap (map (λ l. l.address)) (c.finished numbered) ∙ cuts-addresses rules (listing_now s' numbered))
 
-    pub run-made : Ran rules tape area tokens lines lows highs at area' tokens' left lows' highs' outcome
-    run-made = record {
-      current = record {
-        text_fits = m.current.text_fits;
-        words_fit = m.current.words_fit;
-        lines_fit = omega (arith, m.current.lines_fit, e);
-        listed = c.listed;
-      };
-      finished = λ addresses. c.finished addresses ∙ rw (cuts-made addresses, m.left addresses) (sym (finished_is rules (listing_now tape area tokens lines at addresses)));
-      counts = counted;
-      marks = marks_left;
-    }
+  marks_left : (addresses : Reading) → Carries (attempts_of (run rules (listing_now s addresses))) s cut
+  marks_left addresses =
+      rw append-nil
+      at (carries_then (attempts_of (run rules (listing_now s addresses))) [] s s' cut (m.marks addresses) (carries_same s' cut refl refl numbers-kept))
+
+  pub run-made : Ran rules s cut outcome
+  run-made = record {
+    current = record {
+      text_fits = m.current.text_fits;
+      words_fit = m.current.words_fit;
+      lines_fit = omega (arith, m.current.lines_fit, e);
+      listed = c.listed;
+    };
+    finished = λ addresses. c.finished addresses ∙ rw (cuts-made addresses, m.left addresses) (sym (finished_is rules (listing_now s addresses)));
+    counts = counted;
+    marks = marks_left;
+  }

@@ -28,15 +28,17 @@ use Rattle.joining.proofs.Moving.{shift_labels, shift-labelled}
 use Rattle.joining.proofs.Rounds.{success-length, attempts_end, attempts-failed, attempts-succeeded}
 use Rattle.lines.specs.Lines.{Reading, numbered, origin_of, bare_in}
 use Rattle.lines.proofs.words.Lines.{bare-means}
-use Rattle.build.specs.declared.used.Size.{Size}
+use Rattle.lines.specs.declared.texts.Size.{Size}
 use Rattle.build.specs.State.{used}
 use Rattle.build.specs.Added.{used_words}
-use Rattle.plan.specs.Slots.{slot_names}
-use Rattle.join.specs.Current.{used_lines, listing_now, bare_now, Current}
-use Rattle.join.specs.Attempts.{targets_now}
+use Rattle.plan.specs.Texts.{slot_names}
+use Rattle.plan.specs.declared.slots.SlotNames.{SlotNames}
+use Rattle.join.specs.declared.workspace.Workspace.{Workspace}
+use Rattle.join.specs.Contents.{Contents, contents, used_lines, listing_now, bare_now, Current}
+use Rattle.join.specs.Attempts.{Attemptable, targets_now}
 use Rattle.rounds.specs.declared.rounds.Round.{Round}
 use Rattle.rounds.specs.Carries.{Carries}
-use Rattle.rounds.specs.Rounds.{Failed, Succeeded, Turned, Countable, Roundable, Made, attempts_with}
+use Rattle.rounds.specs.Rounds.{Failed, Succeeded, Turned, Countable, Made, attempts_with}
 use Rattle.rounds.proofs.Carrying.{carries_none, carries_failed, carries_joined, carries_then, numbers-remove}
 
 -- ---- what is read off attempts, one after the other
@@ -114,25 +116,24 @@ module _ (rules : Rules) (names : List Text) (first : Labels) where
 
 -- ---- the listing with its addresses and without
 
-module _ {tape area : Text} {tokens lines : List ℕ} {at : Size} (c : Current tape area tokens lines at) where
-  pub now-length : (addresses : Reading) → length (listing_now tape area tokens lines at addresses) ≡ at.lines
-  now-length addresses = length-map (used_lines lines at) _ ∙ length-take-le at.lines lines c.lines_fit
+module _ (s : Contents) where
+  pub now-length : Current s → (addresses : Reading) → length (listing_now s addresses) ≡ s.size.lines
+  now-length c addresses = length-map (used_lines s) _ ∙ length-take-le s.size.lines s.lines c.lines_fit
 
-  pub now-few : RunLimits (bare_now tape area tokens lines at) → at.lines ≤ 256
-  now-few l = omega (
+  pub now-few : Current s → RunLimits (bare_now s) → s.size.lines ≤ 256
+  now-few c l = omega (
     arith,
     l.lines_fit,
-    length-map (used_lines lines at) (bare_in tape (used area at) (used_words tokens at)),
-    length-take-le at.lines lines c.lines_fit,
+    length-map (used_lines s) (bare_in s.tape (used s.area s.size) (used_words s.tokens s.size)),
+    length-take-le s.size.lines s.lines c.lines_fit,
   )
 
-module _ (tape area : Text) (tokens lines : List ℕ) (at : Size) where
-  pub bare_is : (addresses : Reading) → bare_now tape area tokens lines at ≡ bare_lines (listing_now tape area tokens lines at addresses)
-  bare_is addresses = bare-means tape (used area at) (used_words tokens at) addresses (used_lines lines at)
+  pub bare_is : (addresses : Reading) → bare_now s ≡ bare_lines (listing_now s addresses)
+  bare_is addresses = bare-means s.tape (used s.area s.size) (used_words s.tokens s.size) addresses (used_lines s)
 
-  pub labels_are : (addresses : Reading) (places : List ℕ) → labels_at (listing_now tape area tokens lines at addresses) places ≡ labels_at (bare_now tape area tokens lines at) places
+  pub labels_are : (addresses : Reading) (places : List ℕ) → labels_at (listing_now s addresses) places ≡ labels_at (bare_now s) places
   labels_are addresses places =
-      sym (labels_at-bare (listing_now tape area tokens lines at addresses) places) ∙ ap (λ (ls : Listing). labels_at ls places) (sym (bare_is addresses))
+      sym (labels_at-bare (listing_now s addresses) places) ∙ ap (λ (ls : Listing). labels_at ls places) (sym (bare_is addresses))
 
 -- ---- in the tables
 
@@ -142,164 +143,136 @@ back zero = omega arith
 back (suc i) = omega arith
 
 -- twice the lines, less those that were passed: each attempt takes one away
-abbrev pub left_over : Round → ℕ
-left_over r = r.size.lines + r.size.lines - r.next
+abbrev pub left_over : ℕ → Round → ℕ
+left_over lines r = lines + lines - r.next
 
 -- a round stands at r: what began as the first listing is now the second
-pub record Rounding (rules : Rules) (tape area₀ : Text) (tokens₀ lines₀ lows₀ highs₀ : List ℕ) (at₀ : Size) (labels₀ : List ℕ) (slots : Text)
-    (words : List ℕ) (area : Text) (tokens lines lows highs labels : List ℕ) (r : Round) : Type 0 where
-  pub current : Current tape area tokens lines r.size
-  pub limits : RunLimits (bare_now tape area tokens lines r.size)
-  pub labelled : Labelled (bare_now tape area tokens lines r.size) labels
-  pub few : r.attempts + left_over r ≤ 512
+pub record Rounding (rules : Rules) (names : List Text) (s₀ : Contents) (labels₀ : List ℕ) (s : Contents) (labels : List ℕ) (r : Round) : Type 0 where
+  pub current : Current s
+  pub limits : RunLimits (bare_now s)
+  pub labelled : Labelled (bare_now s) labels
+  pub few : r.attempts + left_over s.size.lines r ≤ 512
   pub fewer : r.removed ≤ r.attempts
   pub sofar : (addresses : Reading)
-      → Sofar rules (slot_names slots words) (labels_at (bare_now tape area₀ tokens₀ lines₀ at₀) labels₀) (listing_now tape area₀ tokens₀ lines₀ at₀ addresses)
-      r.next r.attempts r.removed (labels_at (bare_now tape area tokens lines r.size) labels) (listing_now tape area tokens lines r.size addresses)
-      (λ done. Carries done (used_lines lines₀ at₀) lows₀ highs₀ (used_lines lines r.size) lows highs)
+      → Sofar rules names (labels_at (bare_now s₀) labels₀) (listing_now s₀ addresses) r.next r.attempts r.removed (labels_at (bare_now s) labels)
+      (listing_now s addresses) (λ done. Carries done s₀ s)
 
-module _ {rules : Rules} {tape area₀ : Text} {tokens₀ lines₀ lows₀ highs₀ : List ℕ} {at₀ : Size} {labels₀ : List ℕ} {slots : Text} {words : List ℕ} where
-  pub rounding_begin : {area2 : Text} {tokens2 : List ℕ} → Roundable tape area₀ tokens₀ lines₀ area2 tokens2 lows₀ highs₀ labels₀ slots words at₀
-      → Rounding rules tape area₀ tokens₀ lines₀ lows₀ highs₀ at₀ labels₀ slots words area₀ tokens₀ lines₀ lows₀ highs₀ labels₀
-      (record { next = 0; attempts = 0; removed = 0; size = at₀ })
-  rounding_begin b = record {
-    current = b.current;
-    limits = b.limits;
-    labelled = b.labelled;
-    few = omega (arith, now-few b.current b.limits);
-    fewer = omega arith;
-    sofar = λ addresses. sofar_begin rules (slot_names slots words) _ _ (carries_none (used_lines lines₀ at₀) lows₀ highs₀);
-  }
+pub rounding_begin : {rules : Rules} {tape : Text} {w : Workspace} {labels : List ℕ} {slots : SlotNames} {at : Size} → Attemptable tape w labels slots at
+    → Rounding rules (slot_names slots) (contents tape w at) labels (contents tape w at) labels (record { next = 0; attempts = 0; removed = 0; size = at })
+rounding_begin {rules} {tape} {w} {labels} {slots} {at} b = record {
+  current = b.current;
+  limits = b.limits;
+  labelled = b.labelled;
+  few = omega (arith, now-few (contents tape w at) b.current b.limits);
+  fewer = omega arith;
+  sofar = λ addresses. sofar_begin rules (slot_names slots) _ _ (carries_none (contents tape w at));
+}
 
-  module _ {area : Text} {tokens lines lows highs labels : List ℕ} {r : Round}
-      (s : Rounding rules tape area₀ tokens₀ lines₀ lows₀ highs₀ at₀ labels₀ slots words area tokens lines lows highs labels r) where
-    pub rounding_counts : Countable r
-    rounding_counts = (omega (arith, s.few), omega (arith, s.few, s.fewer))
+module _ {rules : Rules} {names : List Text} {s₀ : Contents} {labels₀ : List ℕ} {s : Contents} {labels : List ℕ} {r : Round}
+    (g : Rounding rules names s₀ labels₀ s labels r) where
+  pub rounding_counts : Countable r
+  rounding_counts = (omega (arith, g.few), omega (arith, g.few, g.fewer))
 
-    pub rounding_end : r.size.lines ≤ r.next
-        → Made (attempts_with rules tape area₀ tokens₀ lines₀ at₀ labels₀ slots words) tape area₀ tokens₀ lines₀ lows₀ highs₀ at₀
-        area tokens lines lows highs r
-    rounding_end h =
-        let over : (addresses : Reading) → length (listing_now tape area tokens lines r.size addresses) ≤ r.next =
-        (λ addresses. rw (now-length s.current addresses) h) in
-        record {
-          current = s.current;
-          limits = s.limits;
-          few = rounding_counts;
-          left = λ addresses. (sofar_end rules (slot_names slots words) _ (s.sofar addresses) (over addresses)).0;
-          attempts_are = λ addresses. (sofar_end rules (slot_names slots words) _ (s.sofar addresses) (over addresses)).1;
-          removed_is = λ addresses. (sofar_end rules (slot_names slots words) _ (s.sofar addresses) (over addresses)).2;
-          marks = λ addresses. (sofar_end rules (slot_names slots words) _ (s.sofar addresses) (over addresses)).3;
-        }
+  pub rounding_end : s.size.lines ≤ r.next → Made (attempts_with rules names s₀ labels₀) s₀ s r
+  rounding_end h =
+      let over : (addresses : Reading) → length (listing_now s addresses) ≤ r.next =
+      (λ addresses. rw (now-length s g.current addresses) h) in
+      record {
+        current = g.current;
+        limits = g.limits;
+        few = rounding_counts;
+        left = λ addresses. (sofar_end rules names _ (g.sofar addresses) (over addresses)).0;
+        attempts_are = λ addresses. (sofar_end rules names _ (g.sofar addresses) (over addresses)).1;
+        removed_is = λ addresses. (sofar_end rules names _ (g.sofar addresses) (over addresses)).2;
+        marks = λ addresses. (sofar_end rules names _ (g.sofar addresses) (over addresses)).3;
+      }
 
-    inside : r.next < r.size.lines → (addresses : Reading) → r.next < length (listing_now tape area tokens lines r.size addresses)
-    inside h addresses = rw (now-length s.current addresses) h
+  inside : r.next < s.size.lines → (addresses : Reading) → r.next < length (listing_now s addresses)
+  inside h addresses = rw (now-length s g.current addresses) h
 
-    module _ (h : r.next < r.size.lines) {area' : Text} {tokens' lines' lows' highs' labels' : List ℕ} {r' : Round} where
-      next-failed : Failed rules tape area tokens lines lows highs labels slots words r area' tokens' lines' lows' highs' labels' r'
-          → Rounding rules tape area₀ tokens₀ lines₀ lows₀ highs₀ at₀ labels₀ slots words area' tokens' lines' lows' highs' labels' r'
-          × (left_over r' < left_over r)
-      next-failed f =
-          rw (f.area_is, f.tokens_are, f.lines_are, f.lows_are, f.highs_are, f.labels_are, f.round_is) (
-            record {
-              current = s.current;
-              limits = s.limits;
-              labelled = s.labelled;
-              few = omega (arith, s.few);
-              fewer = omega (arith, s.fewer);
-              sofar = λ addresses.
-                  sofar-failed rules (slot_names slots words) _ (s.sofar addresses) (inside h addresses)
-                  (rw (labels_are tape area tokens lines r.size addresses labels) at (f.tried addresses))
-                  (λ done had.
-                  carries_then done _ (used_lines lines₀ at₀) lows₀ highs₀ (used_lines lines r.size) lows highs (used_lines lines r.size) lows highs had
-                  (carries_failed r.next (listing_now tape area tokens lines r.size addresses) (used_lines lines r.size) lows highs));
-            },
-            omega arith,
-          )
-
-      module _ (f : Succeeded rules tape area tokens lines lows highs labels slots words r area' tokens' lines' lows' highs' labels' r') where
-        -- the answer, with the labels read off the lines without addresses
-        gave : (addresses : Reading)
-            → try_at rules (listing_now tape area tokens lines r.size addresses) r.next (labels_at (bare_now tape area tokens lines r.size) labels) (slot_names slots words)
-            ≡ some (listing_now tape area' tokens' lines' r'.size addresses)
-        gave addresses = rw (labels_are tape area tokens lines r.size addresses labels) at (f.tried addresses)
-
-        -- and of those lines
-        gave_bare : try_at rules (bare_now tape area tokens lines r.size) r.next (labels_at (bare_now tape area tokens lines r.size) labels) (slot_names slots words)
-            ≡ some (bare_now tape area' tokens' lines' r'.size)
-        unfolding let_some◌else◌then◌
-        gave_bare =
-            ap (λ (ls : Listing). try_at rules ls r.next (labels_at (bare_now tape area tokens lines r.size) labels) (slot_names slots words)) (bare_is tape area tokens lines r.size numbered)
-            ∙ try_at-bare rules (listing_now tape area tokens lines r.size numbered) r.next (labels_at (bare_now tape area tokens lines r.size) labels) (slot_names slots words)
-            ∙ rw (gave numbered) (ap some (sym (bare_is tape area' tokens' lines' r'.size numbered)))
-
-        fewer-lines : suc r'.size.lines ≡ r.size.lines
-        fewer-lines =
-            rw (now-length f.current numbered, now-length s.current numbered)
-            at (success-length rules (slot_names slots words) (listing_now tape area tokens lines r.size numbered) r.next _ (gave numbered))
-
-        labels_move : labels_at (bare_now tape area' tokens' lines' r'.size) labels' ≡ shift r.next (labels_at (bare_now tape area tokens lines r.size) labels)
-        labels_move =
-            rw f.labels_are (sym (shift_labels rules (bare_now tape area tokens lines r.size) r.next _ (slot_names slots words) gave_bare labels s.labelled))
-
-        less : left_over r' < left_over r
-        less = omega (arith, fewer-lines, f.next_is, back r.next)
-
-        -- the lines that it was joined into, and the numbers of the lines that are left
-        into : (addresses : Reading) → targets_now rules tape area tokens lines labels r.next r.size
-            ≡ targets rules (listing_now tape area tokens lines r.size addresses) r.next (labels_at (bare_now tape area tokens lines r.size) labels)
-        into addresses =
-            ap (λ (ls : Listing). targets rules ls r.next (labels_at (bare_now tape area tokens lines r.size) labels))
-            (bare_is tape area tokens lines r.size addresses)
-            ∙ targets-bare rules (listing_now tape area tokens lines r.size addresses) r.next _ (slot_names slots words) (gave addresses)
-
-        numbers_left : map origin_of (used_lines lines' r'.size) ≡ remove r.next (map origin_of (used_lines lines r.size))
-        numbers_left =
-            numbers-remove tape (used area r.size) (used_words tokens r.size) (used_lines lines r.size)
-            (used area' r'.size) (used_words tokens' r'.size) (used_lines lines' r'.size) r.next
-            (attempt_addresses rules (listing_now tape area tokens lines r.size numbered) r.next _ (slot_names slots words) (gave numbered))
-
-        handed-on : (addresses : Reading)
-            → Carries (success r.next (targets rules (listing_now tape area tokens lines r.size addresses) r.next
-            (labels_at (bare_now tape area tokens lines r.size) labels)) (listing_now tape area' tokens' lines' r'.size addresses) ∷ [])
-            (used_lines lines r.size) lows highs (used_lines lines' r'.size) lows' highs'
-        handed-on addresses =
-            let long : length (used_lines lines r.size) ≡ r.size.lines = length-take-le r.size.lines lines s.current.lines_fit in
-            let same : length (listing_now tape area tokens lines r.size addresses) ≡ length (used_lines lines r.size) =
-            now-length s.current addresses ∙ sym long in
-            carries_joined r.next _ (listing_now tape area' tokens' lines' r'.size addresses) (used_lines lines r.size) lows highs
-            (used_lines lines' r'.size) lows' highs' (rw (into addresses) at f.handed) (rw long h)
-            (rw same at (attempt_joined rules (listing_now tape area tokens lines r.size addresses) r.next _ (slot_names slots words) (gave addresses)).each)
-            numbers_left
-
-        next-succeeded : Rounding rules tape area₀ tokens₀ lines₀ lows₀ highs₀ at₀ labels₀ slots words area' tokens' lines' lows' highs' labels' r'
-            × (left_over r' < left_over r)
-        next-succeeded = (
+  module _ (h : r.next < s.size.lines) {s' : Contents} {labels' : List ℕ} {r' : Round} where
+    next-failed : Failed rules names s labels r s' labels' r'
+        → Rounding rules names s₀ labels₀ s' labels' r' × (left_over s'.size.lines r' < left_over s.size.lines r)
+    next-failed f =
+        rw (f.same, f.labels_are) (
           record {
-            current = f.current;
-            limits = limits-after rules (bare_now tape area tokens lines r.size) r.next _ (slot_names slots words) gave_bare s.limits;
-            labelled = rw f.labels_are (shift-labelled rules (bare_now tape area tokens lines r.size) r.next _ (slot_names slots words) gave_bare labels s.labelled);
-            few = omega (arith, s.few, less, f.attempts_are);
-            fewer = omega (arith, s.fewer, f.attempts_are, f.removed_is);
+            current = g.current;
+            limits = g.limits;
+            labelled = g.labelled;
+            few = omega (arith, h, g.few, f.next_is, f.attempts_are);
+            fewer = omega (arith, g.fewer, f.attempts_are, f.removed_is);
             sofar = λ addresses.
-                rw (f.next_is, f.attempts_are, f.removed_is, labels_move)
-                (sofar-succeeded rules (slot_names slots words) _ (s.sofar addresses) (inside h addresses) (gave addresses)
-                (λ done had.
-                carries_then done _ (used_lines lines₀ at₀) lows₀ highs₀ (used_lines lines r.size) lows highs
-                (used_lines lines' r'.size) lows' highs' had (handed-on addresses)));
+                rw (f.next_is, f.attempts_are, f.removed_is)
+                (sofar-failed rules names _ (g.sofar addresses) (inside h addresses) (rw (labels_are s addresses labels) at (f.tried addresses))
+                (λ done had. carries_then done _ s₀ s s had (carries_failed r.next (listing_now s addresses) s)));
           },
-          less,
+          omega (arith, h, f.next_is),
         )
 
-      turned : Turned rules tape area tokens lines lows highs labels slots words r area' tokens' lines' lows' highs' labels' r'
-          → Rounding rules tape area₀ tokens₀ lines₀ lows₀ highs₀ at₀ labels₀ slots words area' tokens' lines' lows' highs' labels' r'
-          × (left_over r' < left_over r)
-      turned t = ⊎_elim next-failed next-succeeded t
+    module _ (f : Succeeded rules names s labels r s' labels' r') where
+      -- the answer, with the labels read off the lines without addresses
+      gave : (addresses : Reading) → try_at rules (listing_now s addresses) r.next (labels_at (bare_now s) labels) names ≡ some (listing_now s' addresses)
+      gave addresses = rw (labels_are s addresses labels) at (f.joined.tried addresses)
 
-      pub rounding_next : Turned rules tape area tokens lines lows highs labels slots words r area' tokens' lines' lows' highs' labels' r'
-          → Rounding rules tape area₀ tokens₀ lines₀ lows₀ highs₀ at₀ labels₀ slots words area' tokens' lines' lows' highs' labels' r'
-      rounding_next t = (turned t).0
+      -- and of those lines
+      gave_bare : try_at rules (bare_now s) r.next (labels_at (bare_now s) labels) names ≡ some (bare_now s')
+      unfolding let_some◌else◌then◌
+      gave_bare =
+          ap (λ (ls : Listing). try_at rules ls r.next (labels_at (bare_now s) labels) names) (bare_is s numbered)
+          ∙ try_at-bare rules (listing_now s numbered) r.next (labels_at (bare_now s) labels) names
+          ∙ rw (gave numbered) (ap some (sym (bare_is s' numbered)))
 
-      pub rounding_less : Turned rules tape area tokens lines lows highs labels slots words r area' tokens' lines' lows' highs' labels' r'
-          → left_over r' < left_over r
-      rounding_less t = (turned t).1
+      fewer-lines : suc s'.size.lines ≡ s.size.lines
+      fewer-lines =
+          rw (now-length s' f.joined.current numbered, now-length s g.current numbered)
+          at (success-length rules names (listing_now s numbered) r.next _ (gave numbered))
+
+      labels_move : labels_at (bare_now s') labels' ≡ shift r.next (labels_at (bare_now s) labels)
+      labels_move = rw f.labels_are (sym (shift_labels rules (bare_now s) r.next _ names gave_bare labels g.labelled))
+
+      less : left_over s'.size.lines r' < left_over s.size.lines r
+      less = omega (arith, h, fewer-lines, f.next_is, back r.next)
+
+      -- the lines that it was joined into, and the numbers of the lines that are left
+      into : (addresses : Reading) → targets_now rules s labels r.next ≡ targets rules (listing_now s addresses) r.next (labels_at (bare_now s) labels)
+      into addresses =
+          ap (λ (ls : Listing). targets rules ls r.next (labels_at (bare_now s) labels)) (bare_is s addresses)
+          ∙ targets-bare rules (listing_now s addresses) r.next _ names (gave addresses)
+
+      numbers_left : map origin_of (used_lines s') ≡ remove r.next (map origin_of (used_lines s))
+      numbers_left = numbers-remove s s' r.next (attempt_addresses rules (listing_now s numbered) r.next _ names (gave numbered))
+
+      handed-on : (addresses : Reading)
+          → Carries (success r.next (targets rules (listing_now s addresses) r.next (labels_at (bare_now s) labels)) (listing_now s' addresses) ∷ []) s s'
+      handed-on addresses =
+          let long : length (used_lines s) ≡ s.size.lines = length-take-le s.size.lines s.lines g.current.lines_fit in
+          let same : length (listing_now s addresses) ≡ length (used_lines s) = now-length s g.current addresses ∙ sym long in
+          carries_joined r.next _ (listing_now s' addresses) s s' (rw (into addresses) at f.joined.handed) (rw long h)
+          (rw same at (attempt_joined rules (listing_now s addresses) r.next _ names (gave addresses)).each)
+          numbers_left
+
+      next-succeeded : Rounding rules names s₀ labels₀ s' labels' r' × (left_over s'.size.lines r' < left_over s.size.lines r)
+      next-succeeded = (
+        record {
+          current = f.joined.current;
+          limits = limits-after rules (bare_now s) r.next _ names gave_bare g.limits;
+          labelled = rw f.labels_are (shift-labelled rules (bare_now s) r.next _ names gave_bare labels g.labelled);
+          few = omega (arith, g.few, less, f.attempts_are);
+          fewer = omega (arith, g.fewer, f.attempts_are, f.removed_is);
+          sofar = λ addresses.
+              rw (f.next_is, f.attempts_are, f.removed_is, labels_move)
+              (sofar-succeeded rules names _ (g.sofar addresses) (inside h addresses) (gave addresses)
+              (λ done had. carries_then done _ s₀ s s' had (handed-on addresses)));
+        },
+        less,
+      )
+
+    turned : Turned rules names s labels r s' labels' r'
+        → Rounding rules names s₀ labels₀ s' labels' r' × (left_over s'.size.lines r' < left_over s.size.lines r)
+    turned t = ⊎_elim next-failed next-succeeded t
+
+    pub rounding_next : Turned rules names s labels r s' labels' r' → Rounding rules names s₀ labels₀ s' labels' r'
+    rounding_next t = (turned t).0
+
+    pub rounding_less : Turned rules names s labels r s' labels' r' → left_over s'.size.lines r' < left_over s.size.lines r
+    rounding_less t = (turned t).1

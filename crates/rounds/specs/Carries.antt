@@ -5,6 +5,7 @@ use Rattle.reference.specs.Marks.{carry}
 use Rattle.reference.proofs.Limits.{All}
 use Rattle.joining.specs.Carried.{pair_at, marks_by, Kept, Rising}
 use Rattle.lines.specs.Lines.{origin_of}
+use Rattle.join.specs.Contents.{Contents, used_lines}
 
 -- the two tables have a pair for the input line o
 pub record Held (lows highs : List ℕ) (o : ℕ) : Type 0 where
@@ -18,8 +19,8 @@ pub record Marked (origins lows highs : List ℕ) : Type 0 where
   pub each : All (Held lows highs) origins
 
 -- Tables that have the lines' marks have them after the attempts too: those that the attempts carry on.
-abbrev pub Carries : List Attempt → List ℕ → List ℕ → List ℕ → List ℕ → List ℕ → List ℕ → Type 0
-Carries attempts lines lows highs lines' lows' highs' =
-    Marked (map origin_of lines) lows highs
-    → Marked (map origin_of lines') lows' highs'
-    × (marks_by origin_of lows' highs' lines' ≡ carry attempts (marks_by origin_of lows highs lines))
+abbrev pub Carries : List Attempt → Contents → Contents → Type 0
+Carries attempts s s' =
+    Marked (map origin_of (used_lines s)) s.lows s.highs
+    → Marked (map origin_of (used_lines s')) s'.lows s'.highs
+    × (marks_by origin_of s'.lows s'.highs (used_lines s') ≡ carry attempts (marks_by origin_of s.lows s.highs (used_lines s)))

@@ -1,7 +1,4 @@
--- What the contracts of rounds cite: the addressed names as they are gathered, marks carried on, a round, the whole run;
--- and the last two of the struct in which the slices are lent (Workspaces).
-pub mod Slots
+-- What the contracts of rounds cite: marks carried on, a round, the whole run.
 pub mod Carries
 pub mod Rounds
 pub mod Runs
-pub mod Workspaces

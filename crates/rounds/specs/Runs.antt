@@ -7,8 +7,11 @@ use Rattle.reference.specs.Rules.{Rules}
 use Rattle.reference.specs.Run as R
 use Rattle.joining.specs.Limits.{RunLimits}
 use Rattle.lines.specs.Lines.{Reading}
-use Rattle.build.specs.declared.used.Size.{Size}
-use Rattle.join.specs.Current.{used_lines, listing_now, bare_now, Current}
+use Rattle.lines.specs.declared.texts.Size.{Size}
+use Rattle.join.specs.Current as slices
+use Rattle.join.specs.Contents.{Contents, contents, listing_now, bare_now, Current}
+use Rattle.join.specs.Workspaces.{Lent}
+use Rattle.join.specs.declared.workspace.Workspace.{Workspace}
 use Rattle.rounds.specs.Carries.{Carries}
 use Rattle.rounds.specs.declared.rounds.Round.{Round}
 use Rattle.rounds.specs.declared.run.Tally.{Tally}
@@ -16,10 +19,28 @@ use Rattle.rounds.specs.declared.run.Tally.TheVariants.{Three, Settled}
 use Rattle.rounds.specs.declared.run.Outcome.{Outcome}
 use Rattle.rounds.specs.declared.run.Progress.{Progress}
 
+-- ---- what is lent
+
+-- A listing within the limits, and room for its rounds; the table of token words is no larger than a line word can name, and there is room
+-- for the marks of 256 lines.
+pub record Runnable (tape : Text) (w : Workspace) (at : Size) : Type 0 where
+  pub current : Current (contents tape w at)
+  pub limits : RunLimits (bare_now (contents tape w at))
+  pub lent : Lent w
+  pub words_short : length w.tokens.now ≤ 65536
+  pub for_marks : 256 ≤ length w.marks.now
+
+-- room for the labels of 256 lines, and for the addressed names of a listing within the limits
+pub record Gatherable (labels : List ℕ) (slots : Text) (slot-words : List ℕ) : Type 0 where
+  pub for_labels : 256 ≤ length labels
+  pub for_slots : 49152 ≤ length slots
+  pub for_slot_words : 1024 ≤ length slot-words
+
 -- other line words of the same listing, whatever the addresses are
 pub record SameListing (tape area : Text) (tokens lines : List ℕ) (at : Size) (lines' : List ℕ) : Type 0 where
-  pub current : Current tape area tokens lines' at
-  pub means : (addresses : Reading) → listing_now tape area tokens lines' at addresses ≡ listing_now tape area tokens lines at addresses
+  pub current : slices.Current tape area tokens lines' at
+  pub means : (addresses : Reading)
+      → slices.listing_now tape area tokens lines' at addresses ≡ slices.listing_now tape area tokens lines at addresses
 
 -- ---- the rounds
 
@@ -51,16 +72,13 @@ pub record Counted (rounds : List (List R.Attempt)) (s : Progress) : Type 0 wher
   pub removed_is : s.removed ≡ R.removals (flatten rounds)
 
 -- the rounds of the run were made, and nothing was cut yet; whatever the addresses are
-pub record Rounded (rules : Rules) (tape area : Text) (tokens lines lows highs : List ℕ) (at : Size)
-    (area' : Text) (tokens' lines' lows' highs' : List ℕ) (s : Progress) : Type 0 where
-  pub current : Current tape area' tokens' lines' s.size
-  pub limits : RunLimits (bare_now tape area' tokens' lines' s.size)
+pub record Rounded (rules : Rules) (s s' : Contents) (p : Progress) : Type 0 where
+  pub current : Current s'
+  pub limits : RunLimits (bare_now s')
   pub left : (addresses : Reading)
-      → let before = listing_now tape area tokens lines at addresses in
-      listing_now tape area' tokens' lines' s.size addresses ≡ R.after_rounds before (R.run rules before).rounds
-  pub counted : (addresses : Reading) → Counted (R.run rules (listing_now tape area tokens lines at addresses)).rounds s
-  pub marks : (addresses : Reading) → Carries (R.attempts_of (R.run rules (listing_now tape area tokens lines at addresses)))
-      (used_lines lines at) lows highs (used_lines lines' s.size) lows' highs'
+      → let before = listing_now s addresses in listing_now s' addresses ≡ R.after_rounds before (R.run rules before).rounds
+  pub counted : (addresses : Reading) → Counted (R.run rules (listing_now s addresses)).rounds p
+  pub marks : (addresses : Reading) → Carries (R.attempts_of (R.run rules (listing_now s addresses))) s s'
 
 -- ---- what a run tells
 
@@ -75,11 +93,8 @@ abbrev pub counts_of : Outcome → R.Counts
 counts_of r = record { tally = tally_of r.tally; lines_removed = r.removed; results_cut = r.cut }
 
 -- the finished listing is left, the counts are the run's, and the marks those that its attempts carry on; whatever the addresses are
-pub record Ran (rules : Rules) (tape area : Text) (tokens lines lows highs : List ℕ) (at : Size)
-    (area' : Text) (tokens' lines' lows' highs' : List ℕ) (r : Outcome) : Type 0 where
-  pub current : Current tape area' tokens' lines' r.size
-  pub finished : (addresses : Reading) → listing_now tape area' tokens' lines' r.size addresses
-      ≡ R.finished rules (listing_now tape area tokens lines at addresses)
-  pub counts : (addresses : Reading) → counts_of r ≡ R.counts rules (R.run rules (listing_now tape area tokens lines at addresses))
-  pub marks : (addresses : Reading) → Carries (R.attempts_of (R.run rules (listing_now tape area tokens lines at addresses)))
-      (used_lines lines at) lows highs (used_lines lines' r.size) lows' highs'
+pub record Ran (rules : Rules) (s s' : Contents) (r : Outcome) : Type 0 where
+  pub current : Current s'
+  pub finished : (addresses : Reading) → listing_now s' addresses ≡ R.finished rules (listing_now s addresses)
+  pub counts : (addresses : Reading) → counts_of r ≡ R.counts rules (R.run rules (listing_now s addresses))
+  pub marks : (addresses : Reading) → Carries (R.attempts_of (R.run rules (listing_now s addresses))) s s'

@@ -3,6 +3,5 @@
 
 mod rounds; // a round's attempts
 mod run; // the rounds, then the cuts
-mod slots; // the addressed names of a round
 
 pub use run::{Outcome, Tally, optimize};

@@ -1,17 +1,19 @@
 // One round: `propagate_once` of the Rust.
-ghost use Rattle.std.specs.Prelude.{◌≡◌, length};
+ghost use Rattle.std.specs.Prelude.{◌≡◌, ◌<◌, length};
 ghost use Rattle.reference.specs.Run.{propagate_once};
-ghost use Rattle.lines.specs.Rules.{rules_of};
-ghost use Rattle.join.specs.Workspaces.{Attemptable, SameLent};
-ghost use Rattle.rounds.specs.Rounds.{Countable};
-ghost use Rattle.rounds.specs.Workspaces.{Runnable, Gatherable, Roundable, Turned, Made, attempts_with};
+ghost use Rattle.ground.specs.Rules.{rules_of};
+ghost use Rattle.plan.specs.Texts.{slot_names};
+ghost use Rattle.join.specs.Attempts.{Attemptable};
+ghost use Rattle.join.specs.Contents.{contents};
+ghost use Rattle.join.specs.Workspaces.{SameLent};
+ghost use Rattle.rounds.specs.Rounds.{Countable, Turned, Made, attempts_with};
+ghost use Rattle.rounds.specs.Runs.{Runnable, Gatherable};
 
-use crate::slots::gather_slots;
-use build::used::Size;
+use ground::rules::Rules;
 use join::{Workspace, try_at};
 use life::{gather_labels, shift_labels};
-use lines::rules::Rules;
-use plan::slots::SlotNames;
+use lines::texts::Size;
+use plan::slots::{SlotNames, gather_slots};
 
 // How far a round has come: the next line to try, the attempts and the removals so far, and the listing's size.
 #[derive(Clone, Copy)]
@@ -31,9 +33,9 @@ fn turn(
     r: Round,
     rules: Rules,
 ) -> Round
-    requires { Attemptable tape.now room.old labels.old slots.now.text.now slots.now.words.now r.next r.size × Countable r }
-    ensures turned { Turned (rules_of rules) tape.now room.old labels.old slots.now.text.now slots.now.words.now r room.new labels.new
-        result }
+    requires { Attemptable tape.now room.old labels.old slots.now r.size × (r.next < r.size.lines) × Countable r }
+    ensures turned { Turned (rules_of rules) (slot_names slots.now) (contents tape.now room.old r.size) labels.old r
+        (contents tape.now room.new result.size) labels.new result }
     ensures lent { SameLent room.old room.new }
 {
     let i = r.next;
@@ -63,9 +65,9 @@ fn turns(
     size: Size,
     rules: Rules,
 ) -> Round
-    requires { Roundable tape.now room.old labels.old slots.now.text.now slots.now.words.now size }
-    ensures made { Made (attempts_with (rules_of rules) tape.now room.old size labels.old slots.now.text.now slots.now.words.now) tape.now
-        room.old size room.new result }
+    requires { Attemptable tape.now room.old labels.old slots.now size }
+    ensures made { Made (attempts_with (rules_of rules) (slot_names slots.now) (contents tape.now room.old size) labels.old)
+        (contents tape.now room.old size) (contents tape.now room.new result.size) result }
     ensures lent { SameLent room.old room.new }
 {
     let mut r = Round {
@@ -95,7 +97,8 @@ pub fn propagate_once(
     rules: Rules,
 ) -> Round
     requires { Runnable tape.now room.old size × Gatherable labels.old slots.old slot_words.old }
-    ensures made { Made (propagate_once (rules_of rules)) tape.now room.old size room.new result }
+    ensures made { Made (propagate_once (rules_of rules)) (contents tape.now room.old size) (contents tape.now room.new result.size)
+        result }
     ensures lent { SameLent room.old room.new }
 {
     let listing = room.listing(tape, size);

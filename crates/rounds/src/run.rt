@@ -5,23 +5,22 @@
 // number of the input line.
 ghost use Rattle.std.specs.Prelude.{◌≡◌, ◌≤◌, length};
 ghost use Rattle.reference.specs.Run.{drop_dead_results};
-ghost use Rattle.lines.specs.Rules.{rules_of};
+ghost use Rattle.ground.specs.Rules.{rules_of};
 ghost use Rattle.build.specs.State.{used};
 ghost use Rattle.build.specs.Added.{used_words};
 ghost use Rattle.cuts.specs.Cuts.{Cut};
 ghost use Rattle.join.specs.Current.{Current, used_lines};
+ghost use Rattle.join.specs.Contents.{contents};
 ghost use Rattle.join.specs.Workspaces.{SameLent};
 ghost use Rattle.rounds.specs.Rounds.{Countable};
-ghost use Rattle.rounds.specs.Runs.{SameListing, most_rounds, after_round, Few, tally_of, told_of};
-ghost use Rattle.rounds.specs.Workspaces.{Runnable, Gatherable, Rounded, Ran};
+ghost use Rattle.rounds.specs.Runs.{Runnable, Gatherable, SameListing, most_rounds, after_round, Few, Rounded, tally_of, told_of, Ran};
 
 use crate::rounds::{Round, propagate_once};
-use build::used::Size;
 use cuts::drop_dead_results;
+use ground::rules::Rules;
 use join::Workspace;
 use linefacts::gather_facts;
-use lines::rules::Rules;
-use lines::texts::Texts;
+use lines::texts::{Size, Texts};
 
 // What is told of the rounds: the attempts of each of three, 0 for one that was not made; or, of a run that settled, how many rounds it
 // made, the last included, and the attempts of them all.
@@ -113,7 +112,7 @@ fn make_rounds(
     rules: Rules,
 ) -> Progress
     requires { Runnable tape.now room.old size × Gatherable labels.old slots.old slot_words.old }
-    ensures rounded { Rounded (rules_of rules) tape.now room.old size room.new result }
+    ensures rounded { Rounded (rules_of rules) (contents tape.now room.old size) (contents tape.now room.new result.size) result }
     ensures lent { SameLent room.old room.new }
 {
     let most = most_rounds(rules.settle, size.lines);
@@ -189,7 +188,7 @@ pub fn optimize(
     rules: Rules,
 ) -> Outcome
     requires { Runnable tape.now room.old size × Gatherable labels.old slots.old slot_words.old }
-    ensures ran { Ran (rules_of rules) tape.now room.old size room.new result }
+    ensures ran { Ran (rules_of rules) (contents tape.now room.old size) (contents tape.now room.new result.size) result }
     ensures lent { SameLent room.old room.new }
 {
     let area = &mut *room.area;

@@ -25,7 +25,7 @@ use Rattle.reference.specs.Claim.{one_if}
 use Rattle.reference.specs.Run.{run, finished, counts}
 use Rattle.reference.specs.Marks.{finished_marks}
 use Rattle.reference.specs.Tape.{write}
-use Rattle.reference.specs.Questions.{is_convention, is_edition, has_room, Answer, Refused, Passed, ask, let_passed◌then◌, read, marks_in}
+use Rattle.reference.specs.Questions.{Answer, Refused, Passed, ask, let_passed◌then◌, read, marks_in}
 use Rattle.reference.specs.Reply as R
 use Rattle.reference.specs.Reply.{ask_profile, reply, reply_by}
 use Rattle.reference.proofs.Cases.{by-if, by-some}
@@ -34,6 +34,7 @@ use Rattle.reference.proofs.Marks.{marks-length}
 use Rattle.laws.proofs.Scans.{and_true}
 use Rattle.answers.specs.Answers.{measured, output_after, Writes}
 use Rattle.tape.specs.Questions.{first_no, AcceptedTape}
+use Rattle.clean.specs.Asking.{before_the_tape}
 use Rattle.tape.proofs.questions.Asking.{none_no, ask_number}
 use Rattle.sources.specs.Only.{COPY, FLAGS, only, only_tape, only_reply, came, flags, came_flags, Lent, ask_lent, in_profile, came_copy, came_cleaning, came_reply}
 use Rattle.sources.specs.Calls.{flag_of, in_place_of, FlagsCleaned, lent_as, lent_after, CameInto}
@@ -95,7 +96,7 @@ profile_passed rules lines bytes {x} =
 
 -- the questions of the settings and of the lengths that the cleaning asks
 abbrev door : Rules → Lent → List (ℕ × Bool)
-door rules lent = (1, is_convention rules) ∷ (9, is_edition rules) ∷ (2, has_room (length lent.work_a) (length lent.work_b) (length lent.output)) ∷ []
+door rules lent = before_the_tape rules (length lent.work_a) (length lent.work_b) (length lent.output)
 
 measured_passed : (a : Answer (List ℕ)) {n : ℕ} → Passed n ≡ measured a → (x : List ℕ) × (a ≡ Passed x) × (n ≡ length x)
 measured_passed (Refused m p) e = absurd (refused_passed (sym e))

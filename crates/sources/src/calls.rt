@@ -3,7 +3,7 @@
 // would be made in it for `flags_of` alone, and taken apart there to call `clean`: no plainer.
 ghost use Rattle.std.specs.Prelude.{◌≤◌, length};
 ghost use Rattle.answers.specs.Answers.{answer_of, Writes};
-ghost use Rattle.lines.specs.Rules.{rules_of};
+ghost use Rattle.ground.specs.Rules.{rules_of};
 ghost use Rattle.tape.specs.Questions.{AcceptedTape};
 ghost use Rattle.sources.specs.Only.{only_reply};
 ghost use Rattle.sources.specs.Calls.{FlagsCleaned, lent_as, CameInto};
@@ -11,9 +11,9 @@ ghost use Rattle.sources.specs.Calls.{FlagsCleaned, lent_as, CameInto};
 use crate::copying::put_commands;
 use crate::walking::walk;
 use answers::{Answer, Reason, Refusal};
-use clean::clean;
-use lines::rules::Rules;
-use tape::questions::{asked, check};
+use clean::{asked, clean};
+use ground::rules::Rules;
+use tape::check;
 
 // What the copy has at least: the bytes of the longest tape that is accepted.
 const COPY_BYTES: usize = 34561;

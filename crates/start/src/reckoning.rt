@@ -27,6 +27,7 @@ use crate::listed::value_of;
 use crate::starts::Starts;
 use formula::evaluators::{Pair, evaluate};
 use formula::line::Line;
+use ground::kinds;
 use lines::texts::{Listing, Texts};
 use lines::words;
 use numbers::parse_c_number;
@@ -64,7 +65,7 @@ fn token_pair(texts: &Texts<'_>, w: u64, starts: &Starts<'_>) -> Pair
         → Prices (start_pairs starts.now.chosen.now es) (token_of texts.now w) (numbers_of result) }
 {
     let s = words::text(texts, w);
-    if words::kind(w) == words::NUMBER {
+    if words::kind(w) == kinds::NUMBER {
         return Pair {
             multiplier: 0,
             constant: number_value(s),
@@ -93,7 +94,7 @@ fn is_same(texts: &Texts<'_>, w: u64, target: u64) -> bool
     requires { Lent.Points texts.now w × Lent.Points texts.now target }
     ensures { result ≡ same_register (token_of texts.now target) (token_of texts.now w) }
 {
-    words::kind(w) == words::REGISTER
+    words::kind(w) == kinds::REGISTER
         && text::same(words::text(texts, w), words::text(texts, target))
 }
 

@@ -13,8 +13,8 @@ use Rattle.reference.specs.Listing.{Listing}
 use Rattle.reference.specs.Questions.{Refused, Passed, ask, let_passed◌then◌, read}
 use Rattle.laws.proofs.Scans.{or_true, or_false, and_true, and_false, and_kept}
 use Rattle.states.specs.Store.{Store, Cell, Name, Tape, ROOM, cell}
-use Rattle.states.specs.Store.{first_byte, name_of, length_of, named, free_cell, is_wrong, wrong_cell}
-use Rattle.states.specs.Calls.{opened, is_whole, held_cell, replaced, taken, spot_for, save_reply}
+use Rattle.states.specs.Store.{first_byte, name_of, length_of, named, free_cell, is_wrong, wrong_cell, entry_in, entry_at}
+use Rattle.states.specs.Calls.{opened, is_whole, list_reply, held_cell, replaced, taken, spot_for, save_reply}
 use Rattle.states.specs.Answers.{cell_of}
 use Rattle.states.proofs.Contents.{store_is}
 use Rattle.std.specs.Prelude as Std
@@ -46,6 +46,26 @@ module _ (store : Store) (i : ℕ) {c : Cell} (e : c ≡ cell store i) where
       unfolding is_wrong first_byte
       wrong-twice h =
           rw e (sym (or_false _ (le-ltb _ _ (rw e at low)) ∙ and_true _ (eq-eqb _ _ (rw e at held)) ∙ or_false _ (rw e at h)))
+
+-- ---- what the list has of a cell
+
+module _ (c : Cell) where
+  pub unlisted : (get_or c 0 0 ≡ 1 → ⊥) → none ≡ entry_in c
+  unfolding entry_in first_byte when◌then◌else◌
+  unlisted h = rw (ne_eqb (get_or c 0 0) 1 h) refl
+
+  pub listed : {n : Name} {k : ℕ} → get_or c 0 0 ≡ 1 → n ≡ name_of c → k ≡ length_of c → some (record { name = n; length = k }) ≡ entry_in c
+  unfolding entry_in first_byte when◌then◌else◌
+  listed h e f = rw (eq-eqb (get_or c 0 0) 1 h, e, f) refl
+
+module _ (store : Store) (i : ℕ) where
+  pub within : i < 8 → entry_in (cell store i) ≡ entry_at store i
+  unfolding entry_at when◌then◌else◌
+  within h = rw (lt-ltb i 8 h) refl
+
+  pub past : 8 ≤ i → none ≡ entry_at store i
+  unfolding entry_at when◌then◌else◌
+  past h = rw (le-ltb i 8 h) refl
 
 -- ---- 2 and 22
 
@@ -117,6 +137,15 @@ module _ (store : Store) (n : Name) (tape : Tape) {room : Bool} (r : room ≡ is
   pub save-read : {lines : Listing} → opened store room ≡ Passed tt → read tape ≡ Passed lines → save_reply store n tape ≡ spot_for store n
   unfolding save_reply let_passed◌then◌
   save-read e f = rw (← r, e, f)
+
+module _ (store : Store) (i : ℕ) {room : Bool} (r : room ≡ is_whole store) where
+  pub list_refused : {number place : ℕ} → opened store room ≡ Refused number place → list_reply store i ≡ Refused number place
+  unfolding list_reply let_passed◌then◌
+  list_refused e = rw (← r, e)
+
+  pub list-passed : opened store room ≡ Passed tt → list_reply store i ≡ Passed (entry_at store i)
+  unfolding list_reply let_passed◌then◌
+  list-passed e = rw (← r, e)
 
 -- ---- what the code finds
 

@@ -2,7 +2,11 @@
 use Rattle.std.specs.Prelude.{ℕ, ◌≤◌, ◌<◌, ◌≡◌, length, Result}
 use Rattle.reference.specs.Questions as Q
 use Rattle.reference.specs.Questions.{Answer}
-use Rattle.states.specs.Store.{Store, Name, Tape, STORE}
+use Rattle.std.specs.Prelude as std
+use Rattle.std.proofs.Math.Option.{Option}
+use Rattle.states.specs.Store.{Store, Name, Tape, Entry, STORE}
+use Rattle.states.specs.declared.cells.Entry as Code
+use Rattle.states.specs.Entries.{entry_of}
 use Rattle.states.specs.Calls.{Spot, replaced, taken, save_reply, after_save, delete_reply, after_delete}
 use Rattle.answers.specs.declared.Refusal.{Refusal}
 use Rattle.answers.specs.Refusals.{answered}
@@ -22,6 +26,10 @@ spot (P.Taken i) = taken i
 
 abbrev pub spot_of : Result Placed Refusal → Answer Spot
 spot_of = answered spot
+
+-- what the list has of a cell
+abbrev pub listed_of : Result (std.Option Code.Entry) Refusal → Answer (Option Entry)
+listed_of = answered entry_of
 
 -- an answer that has no number of its own: saving and deleting answer 0
 abbrev pub plain : {A : Type 0} → Answer A → Answer ℕ

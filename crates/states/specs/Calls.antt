@@ -5,7 +5,8 @@ use Rattle.reference.specs.Control.{◌and◌, let_some◌else◌then◌}
 use Rattle.reference.specs.Tape.{to_le_bytes}
 use Rattle.reference.specs.Questions.{Answer, Refused, Passed, ask, let_passed◌then◌, read}
 use Rattle.tape.specs.Bytes.{put}
-use Rattle.states.specs.Store.{Store, Name, Tape, CELL, STORE, ROOM, cell, tape_of, named, free_cell, wrong_cell}
+use Rattle.std.proofs.Math.Option.{Option}
+use Rattle.states.specs.Store.{Store, Name, Tape, Entry, CELL, STORE, ROOM, cell, tape_of, named, free_cell, wrong_cell, entry_at}
 
 -- 2: "A shorter store, or on coming back an output below 65,523 bytes, earns 2"; then 22, at the cell's number, "asked just after 2"
 unfoldable pub opened : Store → Bool → Answer (Unit {0})
@@ -20,6 +21,10 @@ held_cell store room n =
     let_passed (opened store room) then λ _.
     let_some (named store 8 n) else Refused 20 0 then λ i.
     Passed i
+
+-- what the list has of cell i; first the questions of the store
+unfoldable pub list_reply : Store → ℕ → Answer (Option Entry)
+list_reply store i = let_passed (opened store (is_whole store)) then λ _. Passed (entry_at store i)
 
 -- ---- saving
 

@@ -79,6 +79,21 @@ is_wrong store i =
 abbrev pub wrong_cell : Store → Option ℕ
 wrong_cell store = first 8 0 (is_wrong store)
 
+-- ---- the list of what is held
+
+-- a name, and how long the tape is that is held under it
+pub record Entry : Type 0 where
+  pub name : Name
+  pub length : ℕ
+
+-- what the list has of a cell that is held
+unfoldable pub entry_in : Cell → Option Entry
+entry_in c = when is_held c then some (record { name = name_of c; length = length_of c }) else none
+
+-- what it has of cell i: nothing, where it is none of the eight or is not held
+unfoldable pub entry_at : Store → ℕ → Option Entry
+entry_at store i = when ltb i 8 then entry_in (cell store i) else none
+
 -- ---- what a store means: the tape that is held under a name
 
 unfoldable pub state : Store → Name → Option Tape

@@ -1,14 +1,14 @@
-// The three calls.
+// The three calls, and the list of what is held.
 ghost use Rattle.std.specs.Prelude.{◌≡◌, ◌∷◌, ◌++◌, ◌+◌, ◌*◌, ◌<◌, ◌≤◌, length, drop, set, IfOk};
 ghost use Rattle.reference.specs.Control.{◌and◌};
 ghost use Rattle.text.specs.Cursor.{Fits, Puts};
 ghost use Rattle.tape.specs.Bytes.{put};
 ghost use Rattle.states.specs.Store.{CELL, ROOM, cell, length_of, tape_of};
-ghost use Rattle.states.specs.Calls.{is_whole, opened, held_cell, spot_for, save_reply, restore_reply, body};
+ghost use Rattle.states.specs.Calls.{is_whole, opened, list_reply, held_cell, spot_for, save_reply, restore_reply, body};
 ghost use Rattle.answers.specs.Answers.{answer_of, Writes};
-ghost use Rattle.states.specs.Answers.{cell_of, spot_of, opened_of, Saves, Deletes, InStore};
+ghost use Rattle.states.specs.Answers.{cell_of, spot_of, opened_of, listed_of, Saves, Deletes, InStore};
 
-use crate::cells::{Cells, cell_start};
+use crate::cells::{Cells, Entry, cell_start};
 use crate::sizes::{ROOM_BYTES, STORE_BYTES};
 use answers::{Answer, Reason, Refusal};
 use text::Cursor;
@@ -33,6 +33,14 @@ fn opened(store: &[u8], enough: bool) -> Result<Cells<'_>, Refusal>
         Some(i) => Err(Reason::BrokenCell.at(i)),
         None => Ok(cells),
     }
+}
+
+// What the list of a store has of cell i: its name and the length of its tape, where it is held. First questions 2 and 22.
+pub fn list(store: &[u8], i: usize) -> Result<Option<Entry<'_>>, Refusal>
+    ensures { listed_of result ≡ list_reply store.now i }
+{
+    let cells = opened(store, true)?;
+    Ok(cells.entry_at(i))
 }
 
 // ---- saving

@@ -3,7 +3,8 @@ ghost use Rattle.std.specs.Prelude.{◌≡◌, ◌≤◌, ◌*◌, ◌<◌, leng
 ghost use Rattle.reference.specs.Options.{option_of};
 ghost use Rattle.reference.specs.Lists.{is_some};
 ghost use Rattle.states.specs.Store.{CELL, STORE, ROOM, cell, name_of, length_of, tape_of};
-ghost use Rattle.states.specs.Store.{is_free, holds, named, free_cell, is_wrong, wrong_cell};
+ghost use Rattle.states.specs.Store.{is_free, holds, named, free_cell, is_wrong, wrong_cell, entry_in, entry_at};
+ghost use Rattle.states.specs.Entries.{entry_of};
 
 use crate::sizes::{CELL_BYTES, ROOM_BYTES};
 use tape::little_endian::number_at;
@@ -14,6 +15,13 @@ use text::same;
 pub struct Cells<'a> {
     pub bytes: &'a [u8],
     pub ghost whole: { STORE ≤ length bytes.now },
+}
+
+// What the list of a store has of a held cell: its name, and how long its tape is.
+#[derive(Clone, Copy, Debug, PartialEq, Eq)]
+pub struct Entry<'a> {
+    pub name: &'a [u8],
+    pub length: usize,
 }
 
 // Where a cell begins.
@@ -39,6 +47,20 @@ fn cell_length(cell: &[u8]) -> usize
 {
     // Kept: there is no `From` from u64 to usize, and `try_from` has a branch that no number of four bytes takes.
     number_at(cell, 9, 4) as usize
+}
+
+// What the list has of a cell; none, if it is not held.
+fn entry_in(cell: &[u8]) -> Option<Entry<'_>>
+    requires { 13 ≤ length cell.now }
+    ensures { entry_of result ≡ entry_in cell.now }
+{
+    if cell[0] != 1 {
+        return None;
+    }
+    Some(Entry {
+        name: cell_name(cell),
+        length: cell_length(cell),
+    })
 }
 
 // Whether a length is more than a cell has room for.
@@ -118,7 +140,18 @@ impl<'a> Cells<'a> {
         (0..8).find(|i| self.is_wrong(*i))
     }
 
-    // ---- the tape of a cell
+    // ---- what a cell holds
+
+    // What the list has of cell i; none where it is none of the eight, or not held.
+    pub fn entry_at(&self, i: usize) -> Option<Entry<'a>>
+        ensures { entry_of result ≡ entry_at self.now.bytes.now i }
+    {
+        if i < 8 {
+            entry_in(self.cell_at(i))
+        } else {
+            None
+        }
+    }
 
     pub fn held_tape(&self, i: usize) -> &'a [u8]
         requires { (i < 8) × (length_of (cell self.now.bytes.now i) ≤ ROOM) }

@@ -7,7 +7,7 @@ ghost use Rattle.tape.specs.Held.{held};
 ghost use Rattle.tallies.specs.Counting.{is_name, calls_with, with_commands};
 
 use crate::tally::{Tally, count};
-use lines::words::{PUNCT, SYMBOL};
+use ground::kinds::{PUNCT, SYMBOL};
 use text::starts;
 
 // So many so far, whether a line has begun, and whether its last token is the name.

@@ -7,7 +7,7 @@ ghost use Rattle.tape.specs.Held.{held};
 ghost use Rattle.tallies.specs.Counting.{casts_with, with_commands};
 
 use crate::tally::{Tally, count};
-use lines::words::KEYWORD;
+use ground::kinds::KEYWORD;
 use text::starts;
 
 // So many so far, and whether a line has begun.

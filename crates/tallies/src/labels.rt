@@ -6,7 +6,7 @@ ghost use Rattle.tape.specs.Held.{held};
 ghost use Rattle.tallies.specs.Counting.{Shaped, label_in, labels_with, with_commands};
 
 use crate::tally::{Tally, count};
-use lines::words::SYMBOL;
+use ground::kinds::SYMBOL;
 use text::same;
 
 // What the last line is so far: nothing, a Symbol, a label, or what no label begins with (so too where no line has begun).

@@ -10,7 +10,7 @@ ghost use Rattle.tallies.specs.Ticks.{CallsStay};
 
 use crate::calls::{count_calls, opens};
 use crate::casts::count_casts;
-use lines::words::SYMBOL;
+use ground::kinds::SYMBOL;
 use tape::walk::{Commands, Event};
 
 // Whether a name, if there is one, is called at least as often in the cleaned listing.

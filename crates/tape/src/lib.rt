@@ -9,4 +9,4 @@ pub mod reader; // a tape and its offset
 pub mod walk; // the commands of any bytes, one after the other
 pub mod writing; // commands put into a lent slice
 
-pub use questions::{asked, check};
+pub use questions::check;

@@ -5,19 +5,16 @@ ghost use Rattle.reference.specs.Lists.{position};
 ghost use Rattle.reference.specs.Listing.{token};
 ghost use Rattle.reference.specs.Options.{option_of};
 ghost use Rattle.reference.specs.Tape.{new_line, marked, new_token};
-ghost use Rattle.reference.specs.Questions.{is_convention, is_edition, has_room, has_line, is_within, is_offending};
+ghost use Rattle.reference.specs.Questions.{has_line, is_within, is_offending};
 ghost use Rattle.reference.specs.Questions.{read_command_by, let_passed◌then◌, Passed, read_by};
 ghost use Rattle.reference.specs.Steps.{FromHereBy};
-ghost use Rattle.answers.specs.Refusals.{refusing};
-ghost use Rattle.lines.specs.Rules.{rules_of};
 ghost use Rattle.tape.specs.Commands.{form_of, looked_at, command_in};
-ghost use Rattle.tape.specs.Questions.{first_no, said, asking, totals_of, sizes_in, Counts, counted, stepped, SteppedOn, checked};
+ghost use Rattle.tape.specs.Questions.{said, asking, totals_of, sizes_in, Counts, counted, stepped, SteppedOn, checked};
 
 use crate::commands::{Command, header_of, size_of};
 use crate::reader::{command_at, token_text};
 use answers::{Reason, Refusal};
-use lines::rules::Rules;
-use lines::words::NUMBER;
+use ground::kinds::NUMBER;
 
 // What was read so far, and whether the command just before is a line's.
 #[derive(Clone, Copy, Debug, PartialEq, Eq)]
@@ -220,23 +217,4 @@ pub fn check<const BASED: bool>(tape: &[u8]) -> Result<Totals, Refusal>
         totals = step.totals;
     }
     Ok(totals)
-}
-
-// ---- before the tape
-
-// The question that refuses the settings, or the lengths of what is lent.
-pub fn asked(rules: Rules, work_a: usize, work_b: usize, output: usize) -> Result<(), Reason>
-    ensures { refusing result ≡ first_no ((1, is_convention (rules_of rules)) ∷ (9, is_edition (rules_of rules))
-        ∷ (2, has_room work_a work_b output) ∷ []) }
-{
-    if 2 < rules.convention {
-        return Err(Reason::UnknownConvention);
-    }
-    if 1 < rules.edition {
-        return Err(Reason::UnknownEdition);
-    }
-    if work_a < 49152 || work_b < 49152 || output < 59137 {
-        return Err(Reason::TooLittleRoom);
-    }
-    Ok(())
 }

@@ -6,35 +6,24 @@
 use replays::STDOUT;
 
 // The command of a line of indent 0.
-const LINE: [u8; 2] = [0x02, 0x00];
+const LINE: &[u8] = b"\x02\x00";
 
 // A token `f`.
-const TOKEN: [u8; 4] = [0x10, 0x01, 0x00, 0x66];
+const TOKEN: &[u8] = b"\x10\x01\x00f";
 
 // The example of document 01: `rax = f();` `return;`.
-const EXAMPLE: [u8; 40] = [
-    0x02, 0x00, 0x11, 0x03, 0x00, 0x72, 0x61, 0x78, 0x16, 0x03, 0x00, 0x20, 0x3D, 0x20, 0x14, 0x01,
-    0x00, 0x66, 0x16, 0x03, 0x00, 0x28, 0x29, 0x3B, 0x02, 0x00, 0x13, 0x06, 0x00, 0x72, 0x65, 0x74,
-    0x75, 0x72, 0x6E, 0x16, 0x01, 0x00, 0x3B, 0xFF,
-];
+const EXAMPLE: &[u8] =
+    b"\x02\x00\x11\x03\x00rax\x16\x03\x00 = \x14\x01\x00f\x16\x03\x00();\x02\x00\x13\x06\x00return\x16\x01\x00;\xFF";
 
 // 03 with the addresses 10 and 20.
-const MARKS: [u8; 17] = [
-    0x03, 0x10, 0x00, 0x00, 0x00, 0x00, 0x00, 0x00, 0x00, 0x20, 0x00, 0x00, 0x00, 0x00, 0x00, 0x00,
-    0x00,
-];
+const MARKS: &[u8] = b"\x03\x10\x00\x00\x00\x00\x00\x00\x00\x20\x00\x00\x00\x00\x00\x00\x00";
 
 // An addressed line with that 03 and a token.
-const MARKED: [u8; 32] = [
-    0x01, 0x18, 0x00, 0x00, 0x00, 0x00, 0x00, 0x00, 0x00, 0x00, 0x03, 0x10, 0x00, 0x00, 0x00, 0x00,
-    0x00, 0x00, 0x00, 0x20, 0x00, 0x00, 0x00, 0x00, 0x00, 0x00, 0x00, 0x10, 0x01, 0x00, 0x66, 0xFF,
-];
+const MARKED: &[u8] =
+    b"\x01\x18\x00\x00\x00\x00\x00\x00\x00\x00\x03\x10\x00\x00\x00\x00\x00\x00\x00\x20\x00\x00\x00\x00\x00\x00\x00\x10\x01\x00f\xFF";
 
 // A token of 24 bytes of text: 1,024 of them are 24,576.
-const TOKEN_24: [u8; 27] = [
-    0x10, 0x18, 0x00, 0x61, 0x61, 0x61, 0x61, 0x61, 0x61, 0x61, 0x61, 0x61, 0x61, 0x61, 0x61, 0x61,
-    0x61, 0x61, 0x61, 0x61, 0x61, 0x61, 0x61, 0x61, 0x61, 0x61, 0x61,
-];
+const TOKEN_24: &[u8] = b"\x10\x18\x00aaaaaaaaaaaaaaaaaaaaaaaa";
 
 // ---- answers
 
@@ -124,7 +113,7 @@ impl Tape {
 
     // Ends the tape, and writes the answer to it.
     fn finish(&mut self) {
-        self.put(&[0xFF]);
+        self.put(b"\xFF");
         self.answer();
     }
 }
@@ -135,7 +124,7 @@ fn lines(count: usize) {
     write_number(count);
     write(b" lines");
     let mut tape = Tape::with(&[]);
-    tape.put_times(&LINE, count);
+    tape.put_times(LINE, count);
     tape.finish();
 }
 
@@ -148,15 +137,15 @@ fn indent(depth: u8) {
 fn tokens(count: usize) {
     write_number(count);
     write(b" tokens");
-    let mut tape = Tape::with(&LINE);
-    tape.put_times(&TOKEN, count);
+    let mut tape = Tape::with(LINE);
+    tape.put_times(TOKEN, count);
     tape.finish();
 }
 
 fn text_bytes(count: usize) {
     write_number(count);
     write(b" bytes of text");
-    let mut tape = Tape::with(&LINE);
+    let mut tape = Tape::with(LINE);
     tape.put_token(0x10, b'a', count);
     tape.finish();
 }
@@ -165,16 +154,16 @@ fn text_bytes(count: usize) {
 fn text_in_two(count: usize) {
     write_number(count);
     write(b" bytes of text and 1 more");
-    let mut tape = Tape::with(&LINE);
+    let mut tape = Tape::with(LINE);
     tape.put_token(0x10, b'a', count);
-    tape.put(&TOKEN);
+    tape.put(TOKEN);
     tape.finish();
 }
 
 fn number(count: usize) {
     write(b"Number of ");
     write_number(count);
-    let mut tape = Tape::with(&LINE);
+    let mut tape = Tape::with(LINE);
     tape.put_token(0x12, b'5', count);
     tape.finish();
 }
@@ -191,21 +180,21 @@ fn refusals() {
     write(b"no byte");
     answer(&[]);
     write(b"no command");
-    answer(&[0x02, 0x00, 0x18, 0x01, 0x00, 0x66, 0xFF]);
+    answer(b"\x02\x00\x18\x01\x00f\xFF");
     write(b"no end");
-    answer(&[0x02, 0x00]);
+    answer(b"\x02\x00");
     write(b"cut off before a line");
-    answer(&[0x10, 0x02, 0x00, 0x66]);
+    answer(b"\x10\x02\x00f");
     write(b"more announced than there is");
-    answer(&[0x02, 0x00, 0x10, 0xFF, 0xFF, 0x66]);
+    answer(b"\x02\x00\x10\xFF\xFFf");
     write(b"empty before a line");
-    answer(&[0x10, 0x00, 0x00, 0xFF]);
+    answer(b"\x10\x00\x00\xFF");
     write(b"empty");
-    answer(&[0x02, 0x00, 0x10, 0x00, 0x00, 0xFF]);
+    answer(b"\x02\x00\x10\x00\x00\xFF");
     write(b"after the end");
-    answer(&[0x02, 0x00, 0xFF, 0x00]);
+    answer(b"\x02\x00\xFF\x00");
     write(b"end alone");
-    answer(&[0xFF]);
+    answer(b"\xFF");
 }
 
 // ---- marks
@@ -216,8 +205,8 @@ fn span(low: u8, high: u8) {
     write_number(usize::from(low));
     write(b" to ");
     write_number(usize::from(high));
-    let mut tape = Tape::with(&LINE);
-    tape.put(&[0x03]);
+    let mut tape = Tape::with(LINE);
+    tape.put(b"\x03");
     tape.put(&u64::from(low).to_le_bytes());
     tape.put(&u64::from(high).to_le_bytes());
     tape.finish();
@@ -227,8 +216,8 @@ fn span(low: u8, high: u8) {
 fn marks(count: usize) {
     write_number(count);
     write(b" times 03");
-    let mut tape = Tape::with(&LINE);
-    tape.put_times(&MARKS, count);
+    let mut tape = Tape::with(LINE);
+    tape.put_times(MARKS, count);
     tape.finish();
 }
 
@@ -241,7 +230,7 @@ fn marks_after(tape: &[u8], n: usize) {
     write_number(n);
     write(b" bytes");
     let mut tape = Tape::with(front);
-    tape.put(&MARKS);
+    tape.put(MARKS);
     tape.put(behind);
     tape.answer();
 }
@@ -259,14 +248,14 @@ fn line_257(indent: u8) {
     write(b"line 257, indent ");
     write_number(usize::from(indent));
     let mut tape = Tape::with(&[]);
-    tape.put_times(&LINE, 256);
+    tape.put_times(LINE, 256);
     tape.put(&[0x02, indent]);
     tape.finish();
 }
 
 // A line with 1,024 tokens, all alike, then one more.
 fn token_1025(token: &[u8], last: &[u8]) {
-    let mut tape = Tape::with(&LINE);
+    let mut tape = Tape::with(LINE);
     tape.put_times(token, 1024);
     tape.put(last);
     tape.finish();
@@ -274,7 +263,7 @@ fn token_1025(token: &[u8], last: &[u8]) {
 
 // A line with a text of 24,576 bytes, then a token of a command's kind whose text is a byte many times.
 fn past_text(command: u8, byte: u8, times: usize) {
-    let mut tape = Tape::with(&LINE);
+    let mut tape = Tape::with(LINE);
     tape.put_token(0x10, b'a', 24576);
     tape.put_token(command, byte, times);
     tape.finish();
@@ -282,13 +271,13 @@ fn past_text(command: u8, byte: u8, times: usize) {
 
 fn last_tokens() {
     write(b"token 1025, empty");
-    token_1025(&TOKEN, &[0x10, 0x00, 0x00]);
+    token_1025(TOKEN, b"\x10\x00\x00");
     write(b"token 1025, not printable");
-    token_1025(&TOKEN, &[0x10, 0x01, 0x00, 0x07]);
+    token_1025(TOKEN, b"\x10\x01\x00\x07");
     write(b"token 1025, past the text");
-    token_1025(&TOKEN_24, &TOKEN);
+    token_1025(TOKEN_24, TOKEN);
     write(b"token 1025, past the text, a Number of 25");
-    token_1025(&TOKEN_24, b"\x12\x19\x005555555555555555555555555");
+    token_1025(TOKEN_24, b"\x12\x19\x005555555555555555555555555");
 }
 
 fn last_texts() {
@@ -304,15 +293,13 @@ fn last_texts() {
 
 fn first_offending() {
     write(b"second byte");
-    answer(&[0x02, 0x00, 0x10, 0x02, 0x00, 0x41, 0x07, 0xFF]);
+    answer(b"\x02\x00\x10\x02\x00A\x07\xFF");
     write(b"first and third byte");
-    answer(&[0x02, 0x00, 0x10, 0x03, 0x00, 0x1F, 0x41, 0x7F, 0xFF]);
+    answer(b"\x02\x00\x10\x03\x00\x1FA\x7F\xFF");
     write(b"third byte of the second token");
-    answer(&[
-        0x02, 0x00, 0x10, 0x01, 0x00, 0x66, 0x11, 0x03, 0x00, 0x72, 0x61, 0xFF, 0xFF,
-    ]);
+    answer(b"\x02\x00\x10\x01\x00f\x11\x03\x00ra\xFF\xFF");
     write(b"in a Number of 25");
-    answer(b"\x02\x00\x12\x19\x00\x07555555555555555555555555\xff");
+    answer(b"\x02\x00\x12\x19\x00\x07555555555555555555555555\xFF");
 }
 
 // ---- truncations
@@ -358,12 +345,12 @@ fn main() {
     last_tokens();
     last_texts();
     first_offending();
-    truncations(b"example", &EXAMPLE);
+    truncations(b"example", EXAMPLE);
     span(0, 0);
     span(16, 32);
     span(32, 16);
     marks(1);
     marks(2);
-    marks_everywhere(&EXAMPLE);
-    truncations(b"marked", &MARKED);
+    marks_everywhere(EXAMPLE);
+    truncations(b"marked", MARKED);
 }

@@ -1,7 +1,7 @@
 // One call, and whether it did what its frame wants: the report, and every byte that was lent.
 ghost use Rattle.std.specs.Prelude.{◌≡◌, ◌≤◌, length, replicate};
 ghost use Rattle.reference.specs.Text.{◌≟◌};
-ghost use Rattle.lines.specs.Rules.{rules_of};
+ghost use Rattle.ground.specs.Rules.{rules_of};
 ghost use Rattle.clean.specs.Replies.{report_of};
 ghost use Rattle.test_replay.specs.Answers.{is_wanted, wanted_in};
 ghost use Rattle.test_replay.specs.Answers.{work_wanted, out_wanted};
@@ -14,7 +14,7 @@ use crate::frames::{
 use crate::print;
 use answers::Refusal;
 use clean::Finished;
-use lines::rules::Rules;
+use ground::rules::Rules;
 use puchkewa::Report;
 use replays::MARK;
 use text::same;

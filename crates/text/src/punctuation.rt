@@ -1,10 +1,11 @@
 // Whether one of a row of literals is a text, begins it, ends it or stands in it: the rows that the Rust asks for.
 #![tactic(auto, using(laws::proofs::Std::tests_of_std, crate::proofs::Operators::first_byte))]
 
+ghost use Rattle.std.specs.Borrow.{Bor};
 ghost use Rattle.std.specs.Prelude.{◌≡◌};
 ghost use Rattle.reference.specs.Control.{◌or◌};
 ghost use Rattle.reference.specs.Lists.{any};
-ghost use Rattle.reference.specs.Text.{◌≟◌, starts_with, ends_with, contains, bytes, trim_start};
+ghost use Rattle.reference.specs.Text.{Text, ◌≟◌, starts_with, ends_with, contains, bytes, trim_start};
 ghost use Rattle.reference.specs.Join.{starts_with_operator};
 ghost use Rattle.text.specs.Punctuation.{updates};
 
@@ -22,21 +23,22 @@ pub fn is_result_name(s: &[u8]) -> bool
 
 // ---- how a text begins
 
+// Whether one of these texts begins s.
+fn begins_with_one(texts: &[&[u8]], s: &[u8]) -> bool
+    ensures { result ≡ any (λ (t : Bor Text). starts_with s.now t.now) texts.now }
+{
+    texts.iter().any(|t| starts(s, t))
+}
+
 // The operators that write what stands before them, but ` = `.
+const UPDATES: [&[u8]; 11] = [
+    b" += ", b" -= ", b" &= ", b" |= ", b" ^= ", b" *= ", b" /= ", b" <<= ", b" >>= ", b"++", b"--",
+];
+
 pub fn begins_update(s: &[u8]) -> bool
     ensures { result ≡ any (starts_with s.now) updates }
 {
-    starts(s, b" += ")
-        || starts(s, b" -= ")
-        || starts(s, b" &= ")
-        || starts(s, b" |= ")
-        || starts(s, b" ^= ")
-        || starts(s, b" *= ")
-        || starts(s, b" /= ")
-        || starts(s, b" <<= ")
-        || starts(s, b" >>= ")
-        || starts(s, b"++")
-        || starts(s, b"--")
+    begins_with_one(&UPDATES, s)
 }
 
 // The bytes with which an operator begins.

@@ -1,5 +1,5 @@
 -- What the loop of `cuts::drop_results` keeps true.
-use Rattle.lines.specs.Rules.{rules_of}
+use Rattle.ground.specs.Rules.{rules_of}
 use Rattle.cuts.proofs.Cutting.{Cutting}
 use Rattle.cuts.proofs.drop_results.Given as goal
 

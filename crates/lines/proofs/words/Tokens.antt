@@ -3,11 +3,12 @@
 use Prim.Native.Nat.{ℕ, ◌+◌, ◌-◌, ◌≤◌, ◌<◌}
 use native.Mathlib.Omega.{arith}
 use native.Mathlib.Decide.{ℕ_discrete}
+use native.Mathlib.Nat.{le_refl}
 use mathlib.Core.Logic.{by_cases, inl}
 use mathlib.Core.Path.{◌≡◌, sym, ap, ◌∙◌}
 use mathlib.Core.List.{List, [], ◌∷◌, ◌++◌}
-use lib.ListN.{length, take, drop, get_or, set, length-take, length-drop}
-use lib.Seq.{drop-drop, take-take, take-append_seam}
+use lib.ListN.{length, take, drop, get_or, set, length-take, length-drop, length-append}
+use lib.Seq.{paste, drop-drop, take-take, take-append_seam, take-paste, take-length, drop_at}
 use borrow.Author.Tests.{eq-eqb, ne_eqb}
 use Rattle.reference.specs.Text.{Text}
 use Rattle.reference.specs.Listing.{token}
@@ -197,3 +198,23 @@ module _ {tape used : Text} (more : Text) {ws : List ℕ} (h : Holds tape used w
 
   pub tokens_grow : tokens_of tape (used ++ more) ws ≡ tokens_of tape used ws
   tokens_grow = sym (tokens-prefix (length used) (used ++ more) words-front) ∙ rw take-append_seam
+
+-- ---- a text put behind the text in use, and its word
+
+pub take_behind : (area : Text) (n : ℕ) (s : Text) {area' : Text} → n ≤ length area → area' ≡ paste area n s (length s) → take (n + length s) area' ≡ take n area ++ s
+take_behind area n s h e = rw e (take-paste area n s (length s) h (le_refl _) ∙ rw take-length)
+
+module _ (tape front s : Text) (k at : ℕ) (hk : k < 8) (e : length front ≡ at) (short : at + length s < 65536) where
+  hs : at < 65536
+  hs = omega arith
+
+  hl : length s < 65536
+  hl = omega arith
+
+  pub behind-points : Points tape (front ++ s) (word k 1 at (length s))
+  behind-points =
+      word-points k 1 at (length s) hk (omega arith) hs hl tape (front ++ s) (rw (in_area tape (front ++ s) {p = 1} (λ z. omega arith), length-append) (omega arith)) short
+
+  pub behind-means : token_of tape (front ++ s) (word k 1 at (length s)) ≡ token k s
+  behind-means =
+      word-means k 1 at (length s) hk (omega arith) hs hl tape (front ++ s) ∙ rw (in_area tape (front ++ s) {p = 1} (λ z. omega arith), drop_at front s at e, take-length)

@@ -18,7 +18,7 @@ loop-word-preserved c =
     let f = c.in-Some.ensures in
     let p = rw c.is_at.ensures at c.put_taken.ensures in
     let before = c.loop-word.invariant.before (omega (arith, f.falls)) in
-    let n = taken-length (is_at c.step-s.result.entry c.loop-word.k) w in
+    let n = taken-length (is_at c.step-s.result.start.entry c.loop-word.k) w in
     record {
       counted = omega (arith, f.falls);
       room = room_left p _ (omega (arith, n, f.within, before));

@@ -1,6 +1,6 @@
 -- `clean::cleaning::written` meets its contract. Assumes nothing.
 use Rattle.std.proofs.Common.{rules, ◌≡◌, length}
-use Rattle.lines.specs.Rules.{rules_of}
+use Rattle.ground.specs.Rules.{rules_of}
 use Rattle.clean.proofs.Running.{loaded-runnable, fits-output, writes}
 use Rattle.clean.proofs.cleaning.written.Goals as goal
 
@@ -18,7 +18,7 @@ returns c =
     let l = c.load-loaded in
     let lines_long : length l.new.self.lines ≡ 256 = search rules in
     let marks_long : length l.new.self.marks ≡ 256 = search rules in
-    writes l.ensures.0 a.area.now _ l.ensures.1 lines_long marks_long (rules_of a.rules) _ c.optimized-r.ensures.ran
+    writes l.ensures.0 a.area.now _ l.ensures.1 lines_long marks_long (rules_of a.rules) c.optimized-r.new.room c.optimized-r.ensures.ran
     (search rules) (search rules) (search rules) (search rules) c.write-length.ensures
 
 pub write-length-requires-clause-lines_in_bounds : goal.write-length-requires-clause-lines_in_bounds
@@ -27,5 +27,5 @@ write-length-requires-clause-lines_in_bounds c =
     let l = c.load-loaded in
     let lines_long : length l.new.self.lines ≡ 256 = search rules in
     let marks_long : length l.new.self.marks ≡ 256 = search rules in
-    fits-output l.ensures.0 a.area.now _ l.ensures.1 lines_long marks_long (rules_of a.rules) _ c.optimized-r.ensures.ran
+    fits-output l.ensures.0 a.area.now _ l.ensures.1 lines_long marks_long (rules_of a.rules) c.optimized-r.new.room c.optimized-r.ensures.ran
     (search rules) (search rules) (search rules) (search rules) c.requires.room

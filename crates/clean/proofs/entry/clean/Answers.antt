@@ -3,7 +3,7 @@ use mathlib.Core.Path.{◌≡◌}
 use borrow.Author.Rules.{rules}
 use Rattle.std.specs.Prelude.{Ok, Err}
 use Rattle.std.specs.Result.{MatchResult, IsErrAnd}
-use Rattle.lines.specs.Rules.{rules_of}
+use Rattle.ground.specs.Rules.{rules_of}
 use Rattle.tape.proofs.questions.Reading.{refused_by}
 use Rattle.clean.proofs.Replying.{refused_early, refused_on_tape, accepted-now, cleanable_now, refused_now, finished-now}
 use Rattle.clean.proofs.entry.clean.Goals as goal

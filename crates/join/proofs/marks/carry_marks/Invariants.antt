@@ -1,6 +1,6 @@
 -- What the loop of `join::marks::carry_marks` keeps true.
 use Prim.Native.Nat.{◌≤◌}
-use Rattle.lines.specs.Rules.{rules_of}
+use Rattle.ground.specs.Rules.{rules_of}
 use Rattle.lines.specs.Marks.{lows_of, highs_of}
 use Rattle.build.specs.State.{used}
 use Rattle.build.specs.Added.{used_words}

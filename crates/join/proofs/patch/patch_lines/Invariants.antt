@@ -1,7 +1,7 @@
 -- What the loop of `join::patch::patch_lines` keeps true.
 use Prim.Native.Nat.{◌≤◌}
 use lib.ListN.{length}
-use Rattle.lines.specs.Rules.{rules_of}
+use Rattle.ground.specs.Rules.{rules_of}
 use Rattle.build.specs.Builders.{SameLent}
 use Rattle.join.specs.Builders.{Patching}
 use Rattle.join.proofs.patch.patch_lines.Given as goal

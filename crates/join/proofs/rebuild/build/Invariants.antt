@@ -1,5 +1,5 @@
 -- What the loop of `join::rebuild::build` keeps true.
-use Rattle.lines.specs.Rules.{rules_of}
+use Rattle.ground.specs.Rules.{rules_of}
 use Rattle.build.specs.Builders.{SameLent}
 use Rattle.join.specs.Builders.{Upto}
 use Rattle.join.proofs.rebuild.build.Given as goal

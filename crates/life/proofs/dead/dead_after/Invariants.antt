@@ -3,7 +3,7 @@ use Rattle.std.proofs.Common.{◌≡◌}
 use Rattle.reference.specs.Life.{dead_after}
 use Rattle.reference.specs.Rules.{volatile}
 use Rattle.joining.specs.Places.{labels_at}
-use Rattle.lines.specs.Rules.{rules_of}
+use Rattle.ground.specs.Rules.{rules_of}
 use Rattle.lines.specs.Texts.{bare_listing, fam_text}
 use Rattle.life.proofs.Scanning.{dead-rest}
 use Rattle.life.proofs.dead.dead_after.Given as goal

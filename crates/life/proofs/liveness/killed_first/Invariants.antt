@@ -3,7 +3,7 @@ use Rattle.std.proofs.Common.{◌≡◌, drop}
 use Rattle.reference.specs.Life.{killed_first}
 use Rattle.reference.specs.Rules.{volatile}
 use Rattle.lines.specs.Lines as Lines
-use Rattle.lines.specs.Rules.{rules_of}
+use Rattle.ground.specs.Rules.{rules_of}
 use Rattle.lines.specs.Texts.{bare_listing, fam_text}
 use Rattle.life.proofs.liveness.killed_first.Given as goal
 

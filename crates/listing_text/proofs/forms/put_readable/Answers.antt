@@ -5,11 +5,11 @@ use Rattle.listing_text.proofs.forms.put_readable.Goals as goal
 
 pub returns-in-Addressed : goal.returns-in-Addressed
 unfolding read_command_text
-returns-in-Addressed c = rw c.in-Addressed.is c.put_line.ensures
+returns-in-Addressed c = rw c.in-Addressed.is c.put_readable_line.ensures
 
 pub returns-in-Plain : goal.returns-in-Plain
 unfolding read_command_text
-returns-in-Plain c = rw c.in-Plain.is c.put_line-in-Plain.ensures
+returns-in-Plain c = rw c.in-Plain.is c.put_readable_line-in-Plain.ensures
 
 pub returns-in-Marked : goal.returns-in-Marked
 unfolding read_command_text

@@ -36,7 +36,7 @@ returns-then-is_err c =
     let first = (m.1.2 (λ x. eqb x 10) (always_returns_same _ (λ a r. r ≡ eqb a.0.now 10) _ (λ a r q k. (search (rules, of_calls), refl)))).1 in
     let o = c.split_once in
     let lines = piece_line 10 s c.in-Some.piece.now c.next.new.self.b.rest.now m.1.0 m.0 m.1.1 first.0 first.1 m.2 o.result.0.now o.result.1 o.ensures.without o.ensures.whole in
-    let laid = rw (lies_by c.put_line.new.out c.put_line.result (sym c.is_err.ensures.value ∙ c.if-is_err.true)) at c.put_line.ensures.lays in
+    let laid = rw (lies_by c.put_fields.new.out c.put_fields.result (sym c.is_err.ensures.value ∙ c.if-is_err.true)) at c.put_fields.ensures.lays in
     rw k.0
     (made-wrong c.args.out.now (tape_of c.args.text.now)
     (line_wrong (page l.page) l.n-iterator.a.start o.result.0.now (ended 10 c.next.new.self.b.rest.now) laid refl
@@ -52,12 +52,12 @@ loop-n-preserved c =
     let first = (m.1.2 (λ x. eqb x 10) (always_returns_same _ (λ a r. r ≡ eqb a.0.now 10) _ (λ a r q k. (search (rules, of_calls), refl)))).1 in
     let o = c.split_once in
     let lines = piece_line 10 s c.in-Some.piece.now c.next.new.self.b.rest.now m.1.0 m.0 m.1.1 first.0 first.1 m.2 o.result.0.now o.result.1 o.ensures.without o.ensures.whole in
-    let laid = rw (lies_by c.put_line.new.out c.put_line.result (sym c.is_err.ensures.value ∙ c.if-is_err.false)) at c.put_line.ensures.lays in
+    let laid = rw (lies_by c.put_fields.new.out c.put_fields.result (sym c.is_err.ensures.value ∙ c.if-is_err.false)) at c.put_fields.ensures.lays in
     record {
       told = rw (k.1, k.0) (line_right (page l.page) l.n-iterator.a.start o.result.0.now (ended 10 c.next.new.self.b.rest.now) laid refl
           ∙ ap (λ (ls : List Text). ending (page l.page) (lines_read l.n-iterator.a.start ls)) (sym lines) ∙ l.invariant.told);
       few = omega (arith, k.0, k.1, l.invariant.few, ap length m.0, length-append c.in-Some.piece.now c.next.new.self.b.rest.now, m.1.1, m.2);
-      lent = c.put_line.ensures.lent ∙ l.invariant.lent;
+      lent = c.put_fields.ensures.lent ∙ l.invariant.lent;
     }
 
 pub returns-then-page : goal.returns-then-page

@@ -1,6 +1,6 @@
 -- `plan::plans::plan_single` meets its contract. Assumes nothing.
 use Rattle.std.proofs.Common.{rules}
-use Rattle.lines.specs.Rules.{rules_of}
+use Rattle.ground.specs.Rules.{rules_of}
 use Rattle.plan.proofs.Deciding.{use_inside, single_none, single_at}
 use Rattle.plan.proofs.plans.plan_single.Goals as goal
 

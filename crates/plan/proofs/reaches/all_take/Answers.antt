@@ -1,7 +1,7 @@
 -- `plan::reaches::all_take` meets its contract. Assumes nothing.
 use Rattle.std.proofs.Common.{rules}
 use Rattle.reference.specs.Rules.{volatile}
-use Rattle.lines.specs.Rules.{rules_of}
+use Rattle.ground.specs.Rules.{rules_of}
 use Rattle.lines.specs.Texts.{fam_text}
 use Rattle.plan.proofs.Reaching.{serves_after, all_after}
 use Rattle.plan.proofs.reaches.all_take.Goals as goal

@@ -1,6 +1,6 @@
 -- What the loop of `plan::reaches::reach_of` keeps true: the answer is what is reached from line j on. Assumes nothing.
 use Rattle.reference.specs.Rules.{volatile}
-use Rattle.lines.specs.Rules.{rules_of}
+use Rattle.ground.specs.Rules.{rules_of}
 use Rattle.lines.specs.Texts.{fam_text}
 use Rattle.plan.proofs.Reaching.{Reached}
 use Rattle.plan.proofs.reaches.reach_of.Given as goal

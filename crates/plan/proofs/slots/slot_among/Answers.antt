@@ -8,7 +8,7 @@ use Rattle.lines.proofs.words.Chains.{serves_words, any_words}
 use Rattle.plan.proofs.slots.slot_among.Goals as goal
 
 pub any-requires-clause-callable : goal.any-requires-clause-callable
-any-requires-clause-callable c = serves_words c.requires (search rules) (λ x q k. search rules) (λ x h. search rules)
+any-requires-clause-callable c = serves_words c.requires.holds (search rules) (λ x q k. search rules) (λ x h. search rules)
 
 pub returns : goal.returns
 returns c =

@@ -2,7 +2,7 @@
 use mathlib.Core.Path.{◌≡◌}
 use Rattle.reference.specs.Rules.{volatile}
 use Rattle.joining.specs.Plan.{use_of}
-use Rattle.lines.specs.Rules.{rules_of}
+use Rattle.ground.specs.Rules.{rules_of}
 use Rattle.lines.specs.Texts.{bare_listing, words_at}
 use Rattle.plan.specs.Texts.{definition_in}
 use Rattle.plan.proofs.Looking.{used-from}

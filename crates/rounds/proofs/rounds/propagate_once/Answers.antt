@@ -1,7 +1,7 @@
 -- `rounds::rounds::propagate_once` meets its contract. Assumes nothing.
 use native.Mathlib.Omega.{arith}
 use lib.ListN.{length-take}
-use Rattle.rounds.proofs.Beginning.{begin_labels, begin_room, begin_roundable, begin_made}
+use Rattle.rounds.proofs.Beginning.{begin_labels, begin_room, begin_attemptable, begin_made}
 use Rattle.rounds.proofs.rounds.propagate_once.Goals as goal
 
 pub gather_labels-known-requires : goal.gather_labels-known-requires
@@ -23,7 +23,7 @@ gather_slots-names-requires c =
 pub turns-requires : goal.turns-requires
 turns-requires c =
     let l = c.listing-listing.ensures in
-    begin_roundable c.requires.0 (rw (l.tape_is, l.area_is, l.tokens_are, l.lines_are) at c.gather_labels-known.ensures)
+    begin_attemptable c.requires.0 (rw (l.tape_is, l.area_is, l.tokens_are, l.lines_are) at c.gather_labels-known.ensures) _
     (rw (l.tape_is, l.area_is, l.tokens_are, l.lines_are) at c.gather_slots-names.ensures)
 
 pub returns : goal.returns
@@ -32,7 +32,7 @@ returns c =
     let t = c.turns.ensures in
     record {
       made =
-          begin_made c.requires.0 (rw (l.tape_is, l.area_is, l.tokens_are, l.lines_are) at c.gather_labels-known.ensures)
+          begin_made c.requires.0 (rw (l.tape_is, l.area_is, l.tokens_are, l.lines_are) at c.gather_labels-known.ensures) c.gather_slots-names.result
           (rw (l.tape_is, l.area_is, l.tokens_are, l.lines_are) at c.gather_slots-names.ensures) _ t.made;
       lent = t.lent;
     }

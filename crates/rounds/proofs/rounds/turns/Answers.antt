@@ -9,7 +9,7 @@ loop-r-init c = (rounding_begin c.requires, lent_same c.args.room.now)
 pub turn-r-requires : goal.turn-r-requires
 turn-r-requires c =
     let i = c.loop-r.invariant in
-    (attempt_again i.1 c.requires i.0.current i.0.limits i.0.labelled c.loop-r-test.true, rounding_counts i.0)
+    (attempt_again i.1 i.0.current i.0.limits c.requires i.0.labelled, c.loop-r-test.true, rounding_counts i.0)
 
 pub loop-r-smaller : goal.loop-r-smaller
 loop-r-smaller c = rounding_less c.loop-r.invariant.0 c.loop-r-test.true c.turn-r.ensures.turned

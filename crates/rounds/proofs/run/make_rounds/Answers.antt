@@ -12,7 +12,7 @@ loop-init c =
 pub propagate_once-r-requires : goal.propagate_once-r-requires
 propagate_once-r-requires c =
     let i = c.loop.invariant in
-    (runnable_again i.1 c.requires.0 i.0.current i.0.limits, gatherable_again c.requires.1 (search rules) (search rules) (search rules))
+    (runnable_again i.1 i.0.current i.0.limits c.requires.0, gatherable_again c.requires.1 (search rules) (search rules) (search rules))
 
 pub loop-preserved : goal.loop-preserved
 loop-preserved c =

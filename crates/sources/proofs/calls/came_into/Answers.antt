@@ -4,7 +4,7 @@ use mathlib.Core.Path.{◌≡◌, refl, ap}
 use Rattle.std.specs.Prelude.{Ok, Err}
 use Rattle.std.specs.Result.{MatchResult, IsErrAnd}
 use Rattle.std.proofs.lemmas.Result.{err_from_is_err_and}
-use Rattle.lines.specs.Rules.{rules_of}
+use Rattle.ground.specs.Rules.{rules_of}
 use Rattle.answers.specs.Refusals.{refusing}
 use Rattle.sources.specs.Calls.{lent_as}
 use Rattle.sources.proofs.Came.{refused_early, refused_flags, refused_copy, part-accepted, told-into}

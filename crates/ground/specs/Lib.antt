@@ -1,0 +1,2 @@
+-- What the settings of a call mean.
+pub mod Rules
