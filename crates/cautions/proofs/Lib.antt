@@ -1,0 +1,3 @@
+-- The examples, proved.
+pub mod Opened
+pub mod Examples

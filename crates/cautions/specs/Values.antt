@@ -1,0 +1,131 @@
+-- What tokens read, what stands beside a use, and how wide a value is. Assumes nothing.
+use Rattle.std.specs.Prelude.{ℕ, ◌-◌, ◌^◌, Bool, false, List, [], ◌∷◌, eqb, ltb, ℤ, pos, negsuc, drop, take}
+use Rattle.std.proofs.Math.Option.{Option, none, some}
+use Rattle.std.proofs.Math.Seq.{slice}
+use Rattle.reference.specs.Control.{not, ◌and◌, ◌or◌, when◌then◌else◌, let_some◌else◌then◌}
+use Rattle.reference.specs.Lists.{any, find, count, position, is_some, get, remove, windows}
+use Rattle.reference.specs.Text.{Text, bytes, ◌≟◌, has, starts_with, ends_with}
+use Rattle.reference.specs.Listing.{Token, is, Register, Number, Keyword, Symbol, Address, Punct}
+use Rattle.reference.specs.Names.{fam_of}
+use Rattle.reference.specs.Numbers.{read_number, show}
+use Rattle.reference.specs.Shapes.{is_kw, calls_here, call_in}
+use Rattle.reference.specs.Join.{standalone, text_or_empty}
+use Rattle.cautions.specs.Texts.{holds, marks, frame, depth, outside, all_words, loose}
+
+-- ---- reads
+
+-- a stack slot, or another name of kind Register that is no general register
+unfoldable pub is_cell : Token → Bool
+is_cell t = is Register t and (starts_with t.text (bytes "var_") or not (is_some (fam_of t)))
+
+-- a read of memory that has a name or an address; a callee's name and what `&` stands before are none
+unfoldable pub reads_world : Text → List Token → Bool
+reads_world before [] = false
+reads_world before (t ∷ ts) =
+    let r = reads_world t.text ts in
+    (is Keyword t and starts_with t.text (bytes "*("))
+    or (is Symbol t and not (ends_with before (bytes "&")) and not (starts_with (text_or_empty (get ts 0)) (bytes "(")))
+    or r
+
+abbrev pub world : List Token → Bool
+world ts = reads_world [] ts
+
+unfoldable pub memory : List Token → Bool
+memory ts = world ts or any is_cell ts
+
+-- a register that a call overwrites
+unfoldable pub is_volatile : List Text → Token → Bool
+is_volatile volatile t = let_some (fam_of t) else false then λ f. has volatile f.name
+
+-- what a call may change
+unfoldable pub changeable : List Text → List Token → Bool
+changeable volatile ts = memory ts or any (is_volatile volatile) ts
+
+abbrev pub calls : List Token → ℕ
+calls ts = count calls_here (windows ts)
+
+-- ---- beside a use
+
+-- the line stores its value by ` = `: what its first token names is only written
+unfoldable pub only_written : List Token → Bool
+only_written ts = let_some (find (λ t. ltb 0 (marks t)) ts) else false then λ t. holds (bytes " = ") t.text
+
+-- the other tokens that the line reads, those from a `goto` on left out
+unfoldable pub rest : List Token → ℕ → List Token
+rest ts u =
+    let kept : List Token = let_some (position (is_kw (bytes "goto")) ts) else ts then λ g. take g ts in
+    drop (when only_written ts then 1 else 0) (remove u kept)
+
+-- behind the callee a bracket is open, and nothing stands outside it
+unfoldable pub in_brackets : Text → Bool
+in_brackets s = ltb 0 (depth 0 s) and all_words (outside 0 s)
+
+-- the line makes a call, and not just one around the use: the two are in no order
+unfoldable pub acts_beside : List Token → ℕ → Bool
+acts_beside ts u =
+    let_some (call_in ts) else false then λ c. not (eqb (calls ts) 1 and in_brackets (frame (slice c u ts)))
+
+-- between the delimiters that spare brackets, or all that is returned
+unfoldable pub is_whole : Text → Text → Bool
+is_whole before after = standalone before after or ((before ≟ bytes " ") and starts_with after (bytes ";"))
+
+-- ---- widths
+
+-- the width of an address, by convention
+unfoldable pub full : ℕ → ℕ
+full convention = when eqb convention 0 then 32 else 64
+
+-- the width that the generator's name of a variable says
+unfoldable pub name_width : ℕ → Text → ℕ
+name_width convention s =
+    when starts_with s (bytes "byte_") then 8 else when starts_with s (bytes "word_") then 16
+    else when starts_with s (bytes "dword_") then 32 else when starts_with s (bytes "qword_") then 64 else full convention
+
+-- the width of a cast, or of what is read through an address
+unfoldable pub cast_width : Text → ℕ
+cast_width s =
+    when holds (bytes "int8_t") s then 8 else when holds (bytes "int16_t") s then 16 else when holds (bytes "int32_t") s then 32
+    else when holds (bytes "int64_t") s or holds (bytes "void *") s then 64 else 0
+
+-- the width of one token behind a text: none for numbers and Puncts, 0 if it is not known
+unfoldable pub token_width : ℕ → Text → Token → Option ℕ
+token_width convention before t =
+    when is Number t or is Punct t then none
+    else when is Address t or is_cell t or ends_with before (bytes "&") then some (full convention)
+    else when is Symbol t then some (name_width convention t.text)
+    else let_some (fam_of t) else some 0 then λ f. some f.width
+
+unfoldable pub common : ℕ → Option ℕ → Text → List Token → ℕ
+common convention w before [] = let_some w else 0 then λ v. v
+common convention w before (t ∷ ts) =
+    let one : Option ℕ =
+    let_some (token_width convention before t) else w then λ v. let_some w else some v then λ u. some (when eqb u v then u else 0) in
+    common convention one t.text ts
+
+-- the width of an expression: of the cast or read in front of all of it, or the one that all its names have; else 0
+unfoldable pub natural : ℕ → List Token → ℕ
+natural convention expr =
+    let head : Text = text_or_empty (get expr 0) in
+    when any (is Keyword) (take 1 expr) and not (loose expr) then cast_width head else common convention none [] expr
+
+unfoldable pub lone_call : List Token → Bool
+lone_call expr = (let_some (call_in expr) else false then eqb 0) and not (loose expr)
+
+-- ---- numbers
+
+-- not negative, and its highest bit of so many is clear
+unfoldable pub fits : ℕ → ℤ → Bool
+fits width (pos n) = ltb n (2 ^ (width - 1))
+fits width (negsuc n) = false
+
+unfoldable pub is_small : Bool → ℤ → Bool
+is_small minus (pos n) = ltb n (2 ^ 31)
+is_small minus (negsuc n) = minus and ltb n (2 ^ 31)
+
+-- both editions read it alike, it has at most 31 bits and a sign, and the sign is written
+unfoldable pub is_tame : Token → Bool
+is_tame t =
+    not (is Number t)
+    or (let_some (read_number 0 t.text) else false then λ a.
+    let_some (read_number 1 t.text) else false then λ b.
+    (show a ≟ show b) and is_small (starts_with t.text (bytes "-")) a)
