@@ -5,6 +5,7 @@ pub mod Kinds
 pub mod Texts
 pub mod Forms
 pub mod Values
+pub mod Joins
 pub mod Cautions
 pub mod Notation
 pub mod Examples

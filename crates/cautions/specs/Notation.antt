@@ -10,7 +10,7 @@ use Rattle.reference.specs.Listing.{Token, token, is, Register, Number, Keyword,
 use Rattle.reference.specs.Names.{family, is_digit}
 use Rattle.reference.specs.Rules.{Rules}
 use Rattle.reference.specs.Run.{finished}
-use Rattle.cautions.specs.Kinds.{set_of}
+use Rattle.cautions.specs.Kinds.{union}
 use Rattle.cautions.specs.Forms.{CONTROL}
 use Rattle.cautions.specs.Cautions.{finished_cautions}
 
@@ -67,4 +67,4 @@ under c = record { convention = c; settle = false; edition = 0; parts = false; p
 abbrev pub shows : ℕ → List String → List (String × List ℕ) → Type 0
 shows c before after =
     (finished (under c) (listing before) ≡ listing (map (λ r. r.0) after))
-    × (finished_cautions (under c) (listing before) ≡ map (λ r. set_of r.1) after)
+    × (finished_cautions (under c) (listing before) ≡ map (λ r. union r.1) after)

@@ -1,0 +1,188 @@
+-- The cautions of one join and of one cut, from the listing just before it. Assumes nothing.
+use Rattle.std.specs.Prelude.{ℕ, suc, min, Bool, false, List, [], ◌∷◌, ◌++◌, map, eqb, ltb, leb, length, take, filter}
+use Rattle.std.proofs.Math.Seq.{slice}
+use Rattle.reference.specs.Control.{not, ◌and◌, ◌or◌, when◌then◌else◌, let_some◌else◌then◌}
+use Rattle.reference.specs.Lists.{any, count, is_empty, is_some, get}
+use Rattle.reference.specs.Text.{Text, bytes, ◌≟◌, has, contains, starts_with, ends_with}
+use Rattle.reference.specs.Listing.{Token, is, Number, Keyword, Address, Punct, Listing, ◌at◌}
+use Rattle.reference.specs.Names.{Fam, family, fam_of, of_family}
+use Rattle.reference.specs.Rules.{Rules, volatile}
+use Rattle.reference.specs.Numbers.{read_number}
+use Rattle.reference.specs.Shapes.{is_kw, call_in, assignment}
+use Rattle.reference.specs.Join.{substitute, text_before, text_after, is_bracketed, lone_number, use_width, use_lowest}
+use Rattle.reference.specs.Run.{Attempt}
+use Rattle.reference.specs.Marks.{moved}
+use Rattle.cautions.specs.Kinds.{odd_form, still_read, overwritten, call_moved, read_moved, other_width, other_text, odd_number, slot, handed_over, ◌∪◌, ◌given◌, union}
+use Rattle.cautions.specs.Texts.{holds, last_byte, frame, outside, loose, is_opaque}
+use Rattle.cautions.specs.Forms.{is_guarded, places, Ways, ways, is_odd, reads, reached}
+use Rattle.cautions.specs.Values.{world, memory, changeable, rest, acts_beside, is_whole, full, natural, lone_call, fits, is_tame}
+
+-- ---- a register's value that is no longer put there
+
+-- the registers in which a call may find an argument that it does not spell
+abbrev pub first_arguments : ℕ → List Text
+first_arguments c =
+    when eqb c 0 then bytes "rcx" ∷ bytes "rdx" ∷ [] else when eqb c 1 then bytes "rdi" ∷ [] else bytes "rcx" ∷ []
+
+-- a call with no arguments spelt (in 32-bit code: any call)
+unfoldable pub takes_unspelt : Rules → Text → List Token → Bool
+takes_unspelt rules fam ts =
+    has (first_arguments rules.convention) fam and is_some (call_in ts)
+    and (eqb rules.convention 0 or any (λ t. is Punct t and holds (bytes "()") t.text) ts)
+
+-- the head of the listing says that nothing is returned
+unfoldable pub is_void : Listing → Bool
+is_void lines = any (is_kw (bytes "void")) (take 1 (lines at 0).tokens)
+
+-- what a caller finds: the result, the stack's registers, and a preserved register that was fetched back from memory
+unfoldable pub for_caller : Rules → Listing → Text → List Token → Bool
+for_caller rules lines fam expr =
+    ((fam ≟ bytes "rax") and not (is_void lines)) or has (bytes "rsp" ∷ bytes "rbp" ∷ []) fam
+    or (not (has (volatile rules) fam) and not (starts_with fam (bytes "var_")) and memory expr)
+
+module _ (rules : Rules) (lines : Listing) (fam : Text) where
+  -- of the lines that the value reaches, those that read it and are not rewritten
+  unfoldable pub stale_in : List ℕ → List ℕ → List ℕ
+  stale_in far into = filter (λ k. ltb k (length lines) and not (any (eqb k) into) and reads fam (lines at k).tokens) far
+
+  -- those of a value, `expr`, that reaches the lines `far` and is no longer put in the register
+  unfoldable pub gone : List ℕ → List ℕ → List Token → ℕ
+  gone far stale expr =
+      still_read given not (is_empty stale)
+      ∪ handed_over given
+      (any (λ k. takes_unspelt rules fam (lines at k).tokens) far
+      or (any (eqb (length lines)) far and for_caller rules lines fam expr))
+
+-- ---- one use: the expression in place of the token at `u`
+
+module _ (rules : Rules) (f : Fam) (expr : List Token) (ts : List Token) (u : ℕ) where
+  abbrev before : Text
+  before = text_before ts u
+
+  abbrev behind : Text
+  behind = text_after ts u
+
+  -- a call is made among other reads and calls of the line, or under its condition
+  unfoldable pub moves_call : Bool
+  moves_call = is_some (call_in expr) and (acts_beside ts u or is_guarded ts or changeable (volatile rules) (rest ts u))
+
+  -- a read comes beside a call, or one of memory beside another or behind one of the lines passed over, or under a condition
+  unfoldable pub moves_read : Listing → Bool
+  moves_read passed =
+      (changeable (volatile rules) expr and acts_beside ts u)
+      or (world expr and (is_guarded ts or world (rest ts u) or any (λ l. world l.tokens) passed))
+
+  -- the widths assigned and used; a slot is as wide as an address
+  unfoldable pub widths : ℕ × ℕ
+  widths =
+      when starts_with f.name (bytes "var_") then (full rules.convention, full rules.convention) else (f.width, use_width ts u)
+
+  -- all of the right side, and the target cuts it as the register did
+  unfoldable pub target_cuts : Bool
+  target_cuts =
+      (before ≟ bytes " = ") and (behind ≟ bytes ";") and eqb u 2
+      and (let_some (get ts 0) else false then λ t.
+      let_some (fam_of t) else false then λ g. leb g.width (min widths.0 widths.1))
+
+  unfoldable pub number_fits : Bool
+  number_fits =
+      let_some (get expr 0) else false then λ t.
+      let_some (read_number rules.edition t.text) else false then λ n.
+      (eqb widths.0 64 and eqb widths.1 64) or (leb 32 widths.0 and fits (min widths.0 widths.1) n)
+
+  -- the expression's own width is the register's, or it is a 32-bit value handed on whole as one of 64 bits
+  unfoldable pub width_kept : Bool
+  width_kept =
+      let own : ℕ = natural rules.convention expr in
+      when lone_number expr then number_fits
+      else when not (eqb widths.0 widths.1)
+      then eqb widths.0 32 and eqb widths.1 64 and eqb own 32 and is_whole before behind
+      else when lone_call expr then eqb widths.0 (full rules.convention) or (leb 32 widths.0 and (f.name ≟ bytes "rax"))
+      else eqb own widths.0
+
+  -- a read or cast, of C's unsigned types, beside `<`, `>`, `/` or `%`, that the register had without a sign
+  unfoldable pub sign_lost : Bool
+  sign_lost =
+      any (is Keyword) (take 1 expr) and not (before ≟ bytes "(unsigned)")
+      and any (λ c. contains (bytes "<>/%") c) (before ++ behind)
+
+  unfoldable pub changes_width : Bool
+  changes_width = not (eqb f.lowest (use_lowest ts u)) or sign_lost or not (target_cuts or width_kept)
+
+  -- the delimiters are the generator's: no operator directly in front, and none directly behind
+  unfoldable pub is_apart : Bool
+  is_apart =
+      not (is_empty before) and not (contains (bytes "+-*/%&|^<>=!~") (last_byte before))
+      and any (λ c. contains (bytes "),; ") c) (take 1 behind) and not (starts_with behind (bytes " %"))
+
+  -- a comma stays inside brackets, an address out of sums, and what gets no brackets needs none
+  unfoldable pub groups : Bool
+  groups =
+      when is_whole before behind then not (contains (outside 0 (frame expr)) 44)
+      else not (ends_with (text_before expr 1) (bytes "&")) and not (any (is Address) (take 1 expr))
+      and (is_bracketed rules expr or not (loose expr))
+
+  -- those of the use, which passes these lines
+  unfoldable pub use_cautions : Listing → ℕ
+  use_cautions passed =
+      call_moved given moves_call ∪ read_moved given moves_read passed ∪ other_width given changes_width
+      ∪ other_text given not (is_apart and groups)
+
+-- the places of a family's tokens, numbered from p
+unfoldable pub places_of : Text → ℕ → List Token → List ℕ
+places_of fam p [] = []
+places_of fam p (t ∷ ts) = let r = places_of fam (suc p) ts in when of_family fam t then p ∷ r else r
+
+-- ---- one join: line i, which assigns `expr` to f, into the lines `into`
+
+module _ (rules : Rules) (lines : Listing) (i : ℕ) (f : Fam) (expr : List Token) where
+  -- a line from i to a use is not looked into
+  unfoldable pub through_opaque : ℕ → Bool
+  through_opaque j = any (λ l. is_opaque l.tokens) (slice i (suc j) lines)
+
+  -- a call stands between, and may overwrite the register
+  unfoldable pub past_call : ℕ → Bool
+  past_call j = has (volatile rules) f.name and any (λ l. is_some (call_in l.tokens)) (slice (suc i) j lines)
+
+  -- a number was moved into the line, or two were added up, and a Number of the line, old or new, is not tame
+  unfoldable pub numbers_odd : List Token → List Token → Bool
+  numbers_odd old new =
+      (lone_number expr or ltb (count (is Number) new) (count (is Number) (substitute f.name expr old)))
+      and any (λ t. not (is_tame t)) (old ++ expr ++ new)
+
+  -- those of the line j, rewritten to `new`
+  unfoldable pub line_cautions : ℕ → List Token → ℕ
+  line_cautions j new =
+      let old : List Token = (lines at j).tokens in
+      odd_form given through_opaque j ∪ overwritten given past_call j ∪ odd_number given numbers_odd old new
+      ∪ union (map (λ u. use_cautions rules f expr old u (slice (suc i) j lines)) (places_of f.name 0 old))
+
+-- ---- on which lines they stand
+
+-- a set for each line: `s` on the lines that are rewritten, `still_read` on those that read a value that is gone
+unfoldable pub spread : ℕ → List ℕ → List ℕ → Listing → List ℕ
+spread s into stale lines = map (λ p. s given any (eqb p) into ∪ still_read given any (eqb p) stale) (places lines)
+
+-- The cautions that a successful attempt puts on each line of the listing before it: all of its own on a line that it rewrites.
+unfoldable pub join_cautions : Rules → Listing → Attempt → List ℕ
+join_cautions rules lines a =
+    let_some (assignment (lines at a.line)) else [] then λ s.
+    let_some (family s.lhs.text) else [] then λ f.
+    let ways : Ways = ways lines in
+    let far : List ℕ = reached lines ways a.line f.name (volatile rules) in
+    let stale : List ℕ = stale_in rules lines f.name far (a.line ∷ a.into) in
+    let each : List ℕ = map (λ j. line_cautions rules lines a.line f s.expr j (a.left at moved a.line j).tokens) a.into in
+    spread
+    (odd_form given is_odd ways ∪ slot given starts_with f.name (bytes "var_") ∪ gone rules lines f.name far stale s.expr ∪ union each)
+    a.into
+    stale
+    lines
+
+-- those that the cut of line i's result puts on each line
+unfoldable pub cut_cautions : Rules → Listing → ℕ → List ℕ
+cut_cautions rules lines i =
+    let rax : Text = bytes "rax" in
+    let ways : Ways = ways lines in
+    let far : List ℕ = reached lines ways i rax (volatile rules) in
+    let stale : List ℕ = stale_in rules lines rax far [] in
+    spread (odd_form given (is_odd ways or is_opaque (lines at i).tokens) ∪ gone rules lines rax far stale []) (i ∷ []) stale lines
