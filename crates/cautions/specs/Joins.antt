@@ -159,9 +159,14 @@ module _ (rules : Rules) (lines : Listing) (i : ℕ) (f : Fam) (expr : List Toke
 
 -- ---- on which lines they stand
 
--- a set for each line: `s` on the lines that are rewritten, `still_read` on those that read a value that is gone
+-- the set s too on those lines of `into`, the first of the lines being line p
+unfoldable pub put : ℕ → List ℕ → ℕ → List ℕ → List ℕ
+put s into p [] = []
+put s into p (t ∷ ts) = (t ∪ s given any (eqb p) into) ∷ put s into (suc p) ts
+
+-- `s` on the lines that are rewritten, `still_read` on those that read a value that is gone
 unfoldable pub spread : ℕ → List ℕ → List ℕ → Listing → List ℕ
-spread s into stale lines = map (λ p. s given any (eqb p) into ∪ still_read given any (eqb p) stale) (places lines)
+spread s into stale lines = put still_read stale 0 (put s into 0 (map (λ l. 0) lines))
 
 -- The cautions that a successful attempt puts on each line of the listing before it: all of its own on a line that it rewrites.
 unfoldable pub join_cautions : Rules → Listing → Attempt → List ℕ

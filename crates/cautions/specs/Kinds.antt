@@ -1,5 +1,5 @@
 -- The ten kinds of caution, in a plant programmer's words. A kind is a bit, and a set of kinds the number with those bits. Assumes nothing.
-use Rattle.std.specs.Prelude.{ℕ, Bool, List, [], ◌∷◌, bit_or}
+use Rattle.std.specs.Prelude.{ℕ, ◌≡◌, Bool, List, [], ◌∷◌, bit_or}
 use Rattle.reference.specs.Control.{when◌then◌else◌}
 
 -- A line here, or one that control may come from, has a form that is not looked into (inline assembly, a keyword's call, two statements,
@@ -49,6 +49,11 @@ handed_over = 512
 infixr 25 ◌∪◌
 abbrev pub ◌∪◌ : ℕ → ℕ → ℕ
 a ∪ b = bit_or a b
+
+-- every kind of the first is in the second
+infix 20 ◌⊆◌
+abbrev pub ◌⊆◌ : ℕ → ℕ → Type 0
+a ⊆ b = a ∪ b ≡ b
 
 -- a set, if the condition holds
 infix 27 ◌given◌
