@@ -1,3 +1,4 @@
 -- The examples, proved.
 pub mod Opened
+pub mod Rows
 pub mod Examples

@@ -1,10 +1,10 @@
 -- The cautions of each finished line: those of the joins are handed on as marks are (reference's Marks), those of the cuts stay where they
 -- are put. Then the same as a program keeps them, step by step: proofs/Carried.antt shows that the two are one. Assumes nothing.
-use Rattle.std.specs.Prelude.{ℕ, zero, suc, ◌≡◌, ◌<◌, Bool, true, false, List, [], ◌∷◌, ◌++◌, map, eqb, length, get_or, drop}
+use Rattle.std.specs.Prelude.{ℕ, zero, suc, ◌≡◌, ◌<◌, Bool, true, false, List, [], ◌∷◌, ◌++◌, map, length, get_or, drop}
 use mathlib.Core.List.{flat_map}
 use Rattle.std.proofs.Math.Option.{some}
 use Rattle.reference.specs.Control.{when◌then◌else◌}
-use Rattle.reference.specs.Lists.{any, get, remove, modify}
+use Rattle.reference.specs.Lists.{get, remove, modify}
 use Rattle.reference.specs.Listing.{Listing, with_tokens}
 use Rattle.reference.specs.Rules.{Rules}
 use Rattle.reference.specs.Life.{Labels}

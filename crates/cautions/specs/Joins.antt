@@ -14,7 +14,7 @@ use Rattle.reference.specs.Run.{Attempt}
 use Rattle.reference.specs.Marks.{moved}
 use Rattle.cautions.specs.Kinds.{odd_form, still_read, overwritten, call_moved, read_moved, other_width, other_text, odd_number, slot, handed_over, ◌∪◌, ◌given◌, union}
 use Rattle.cautions.specs.Texts.{holds, last_byte, frame, outside, loose, is_opaque}
-use Rattle.cautions.specs.Forms.{is_guarded, places, Ways, ways, is_odd, reads, reached}
+use Rattle.cautions.specs.Forms.{is_guarded, Ways, ways, is_odd, reads, reached}
 use Rattle.cautions.specs.Values.{world, memory, changeable, rest, acts_beside, is_whole, full, natural, lone_call, fits, is_tame}
 
 -- ---- a register's value that is no longer put there

@@ -8,4 +8,5 @@ pub mod Values
 pub mod Joins
 pub mod Cautions
 pub mod Notation
+pub mod Rows
 pub mod Examples
