@@ -1,104 +1,80 @@
 -- The forms of lines that the listing generator writes, the lines that may follow each, and how far a register's value goes along them.
 -- Assumes nothing.
-use Rattle.std.specs.Prelude.{ℕ, zero, suc, pred, Bool, true, false, List, [], ◌∷◌, ◌++◌, map, reverse, eqb, length, get_or, drop, take, set, replicate}
+use Rattle.std.specs.Prelude.{ℕ, zero, suc, pred, Bool, true, false, List, [], ◌∷◌, ◌++◌, map, reverse, eqb, length, get_or, drop, take}
+use Rattle.std.specs.Prelude.{set, replicate, filter}
 use mathlib.Core.List.{flat_map}
 use Rattle.std.proofs.Math.Option.{Option, none, some}
+use Rattle.std.proofs.Math.Seq.{slice}
 use Rattle.reference.specs.Control.{not, ◌and◌, ◌or◌, when◌then◌else◌, let_some◌else◌then◌}
-use Rattle.reference.specs.Lists.{any, is_empty, is_some, get}
+use Rattle.reference.specs.Lists.{any, find, is_empty, is_some, get}
 use Rattle.reference.specs.Text.{Text, bytes, ◌≟◌, has, contains}
 use Rattle.reference.specs.Listing.{Token, is, Keyword, Punct, Listing, ◌at◌}
 use Rattle.reference.specs.Names.{of_family}
 use Rattle.reference.specs.Shapes.{is_kw, call_in}
-use Rattle.reference.specs.Life.{Labels, kills, goto_target}
+use Rattle.reference.specs.Life.{kills, goto_target}
 use Rattle.reference.specs.Run.{labels_from}
 use Rattle.cautions.specs.Texts.{is_opaque}
 
 -- ---- forms
 
-abbrev pub CONTROL : List Text
+-- the words of a text, one blank between two
+abbrev CASES : List Text
+CASES = bytes "case" ∷ bytes "default" ∷ []
+
+abbrev CONTROL : List Text
 CONTROL =
     bytes "if" ∷ bytes "else" ∷ bytes "do" ∷ bytes "while" ∷ bytes "for" ∷ bytes "goto" ∷ bytes "return" ∷ bytes "break"
-    ∷ bytes "continue" ∷ bytes "switch" ∷ bytes "case" ∷ bytes "default" ∷ []
+    ∷ bytes "continue" ∷ bytes "switch" ∷ []
 
-unfoldable pub form_bytes : Text → Text
-form_bytes = flat_map (λ c. when contains (bytes "{}:;") c then c ∷ [] else [])
+-- the Keywords of a line that are among these
+unfoldable pub words_in : List Text → List Token → Text
+words_in words = flat_map (λ t. when is Keyword t and has words t.text then t.text else [])
 
--- A line's form: its control words, then its bytes `{`, `}`, `:` and `;`. `if (rax) goto L;` has the form `ifgoto;`.
+-- the bytes of its Puncts that are among these
+unfoldable pub signs_in : Text → List Token → Text
+signs_in signs = flat_map (λ t. when is Punct t then filter (λ c. contains signs c) t.text else [])
+
+-- A line's form: its control words, then its bytes `{`, `}`, `;` and `?`; `if (rax) goto L;` has the form `ifgoto;`. Labels and cases in front
+-- do not count; where a line has nothing else, its form is `:`.
 unfoldable pub form : List Token → Text
 form ts =
-    flat_map (λ t. when is Keyword t and has CONTROL t.text then t.text else []) ts
-    ++ flat_map (λ t. when is Punct t then form_bytes t.text else []) ts
+    let statement : Text = words_in CONTROL ts ++ signs_in (bytes "{};?") ts in
+    when is_empty statement then take 1 (signs_in (bytes ":") ts) else statement
 
--- a statement, a label, a brace, `__asm { .. }`, `if (..) S;`, `do {`, `switch (..) {`: the next line may follow, and no other
-abbrev pub FALL : List Text
-FALL = map bytes (";" ∷ ":" ∷ "{" ∷ "}" ∷ "{}" ∷ "if;" ∷ "do{" ∷ "switch{" ∷ [])
-
-abbrev pub OPEN : List Text
-OPEN = map bytes ("{" ∷ "if{" ∷ "do{" ∷ "switch{" ∷ [])
-
-abbrev pub CLOSE : List Text
-CLOSE = map bytes ("}" ∷ "while};" ∷ [])
+-- its first control word is `case` or `default`
+unfoldable pub is_case : List Token → Bool
+is_case ts = let_some (find (λ t. is Keyword t and has (CASES ++ CONTROL) t.text) ts) else false then λ t. has CASES t.text
 
 -- what it does hangs on a condition in front
 unfoldable pub is_guarded : List Token → Bool
-is_guarded ts = has (bytes "if;" ∷ bytes "ifreturn;" ∷ []) (form ts)
+is_guarded ts = has (bytes "if;" ∷ bytes "ifreturn;" ∷ bytes "elseif}{" ∷ []) (form ts)
 
--- ---- next lines
+-- control may come to it from elsewhere than from the line above: a label, a case, the end of a block
+unfoldable pub is_entered : List Token → Bool
+is_entered ts = not (is_empty (signs_in (bytes ":}") ts))
 
--- of forms, numbered from m, the first that closes what was open d blocks above
+-- ---- blocks
+
+-- the depth behind a form that begins d blocks deep, `in` going a block deeper and `out` leaving one; none if it leaves the outermost
+unfoldable pub depth_behind : ℕ → ℕ → ℕ → Text → Option ℕ
+depth_behind inward outward d [] = some d
+depth_behind inward outward d (c ∷ cs) =
+    let deeper = depth_behind inward outward (suc d) cs in
+    let higher = depth_behind inward outward (pred d) cs in
+    let same = depth_behind inward outward d cs in
+    when eqb c inward then deeper else when eqb c outward then (when eqb d 0 then none else higher) else same
+
+-- of forms, numbered from m, the first that closes what was open d blocks above; `{` is 123 and `}` 125
 unfoldable pub closer_from : ℕ → ℕ → List Text → Option ℕ
 closer_from d m [] = none
-closer_from d m (f ∷ fs) =
-    let in_block = closer_from (suc d) (suc m) fs in
-    let out_of_block = closer_from (pred d) (suc m) fs in
-    let on = closer_from d (suc m) fs in
-    when has CLOSE f then (when eqb d 0 then some m else out_of_block) else when has OPEN f then in_block else on
+closer_from d m (f ∷ fs) = let_some (depth_behind 123 125 d f) else some m then λ e. closer_from e (suc m) fs
 
 -- of forms from the last to the first, the first that opens what is closed d blocks below
 unfoldable pub opener_from : ℕ → List Text → Option ℕ
 opener_from d [] = none
-opener_from d (f ∷ fs) =
-    let in_block = opener_from (suc d) fs in
-    let out_of_block = opener_from (pred d) fs in
-    let on = opener_from d fs in
-    when has OPEN f then (when eqb d 0 then some (length fs) else out_of_block) else when has CLOSE f then in_block else on
+opener_from d (f ∷ fs) = let_some (depth_behind 125 123 d (reverse f)) else some (length fs) then λ e. opener_from e fs
 
-module _ (forms : List Text) where
-  -- the line behind the last stands for the caller
-  abbrev pub exit : ℕ
-  exit = length forms
-
-  -- the line that closes what line k opens
-  unfoldable pub closer : ℕ → Option ℕ
-  closer k = closer_from 0 (suc k) (drop (suc k) forms)
-
-  -- the `do {` that the line k closes
-  unfoldable pub loop_head : ℕ → Option ℕ
-  loop_head k =
-      let_some (opener_from 0 (reverse (take k forms))) else none then λ d.
-      when get_or forms d [] ≟ bytes "do{" then some d else none
-
-  -- where the line's goto goes: out of the listing, if it names no label here
-  unfoldable pub jump : Labels → List Token → ℕ
-  jump labels ts = let_some (goto_target ts labels) else exit then λ target. let_some target else exit then λ p. p
-
-  -- a bare `return;` hands the registers to the caller; `return e;` hands over e
-  unfoldable pub returns_to : List Token → List ℕ
-  returns_to ts =
-      let_some (get ts (pred (pred (length ts)))) else [] then λ t. when is_kw (bytes "return") t then exit ∷ [] else []
-
-  -- the lines that may come next after line k, or none if its form is not known
-  unfoldable pub next : Labels → ℕ → List Token → Option (List ℕ)
-  next labels k ts =
-      let f : Text = get_or forms k [] in
-      when has FALL f or (eqb k 0 and is_empty f) then some (suc k ∷ [])
-      else when f ≟ bytes "goto;" then some (jump labels ts ∷ [])
-      else when (f ≟ bytes "ifgoto;") or (f ≟ bytes "casegoto:;") then some (suc k ∷ jump labels ts ∷ [])
-      else when f ≟ bytes "return;" then some (returns_to ts)
-      else when f ≟ bytes "ifreturn;" then some (suc k ∷ returns_to ts)
-      else when f ≟ bytes "if{" then (let_some (closer k) else none then λ c. some (suc k ∷ c ∷ []))
-      else when f ≟ bytes "while};" then (let_some (loop_head k) else none then λ d. some (suc k ∷ d ∷ []))
-      else none
+-- ---- next lines
 
 -- the numbers of a listing's lines
 unfoldable pub places_from : ℕ → Listing → List ℕ
@@ -108,33 +84,88 @@ places_from i (l ∷ ls) = i ∷ places_from (suc i) ls
 abbrev pub places : Listing → List ℕ
 places = places_from 0
 
+-- a statement, a label, a brace, `__asm { .. }`, `if (..) S;`, `do {`: the next line follows
+abbrev FALL : List Text
+FALL = map bytes (";" ∷ ":" ∷ "{" ∷ "{}" ∷ "if;" ∷ "do{" ∷ [])
+
+-- what a `}` alone may close
+abbrev BLOCKS : List Text
+BLOCKS = map bytes ("{" ∷ "if{" ∷ "switch{" ∷ "else}{" ∷ "elseif}{" ∷ [])
+
+-- the line behind the last stands for the caller
+module _ (lines : Listing) (forms : List Text) where
+  -- the form of the line that opens the block which line k closes
+  unfoldable pub opener : ℕ → Option ℕ
+  opener k = opener_from 0 (reverse (take k forms))
+
+  -- a line whose form is among these opens it
+  unfoldable pub opened_by : List Text → ℕ → Bool
+  opened_by fs k = let_some (opener k) else false then λ d. has fs (get_or forms d [])
+
+  -- the line that closes what line k opens
+  unfoldable pub closer : ℕ → Option ℕ
+  closer k = closer_from 0 (suc k) (drop (suc k) forms)
+
+  -- the label that the line's goto names
+  unfoldable pub jump : List Token → Option ℕ
+  jump ts = let_some (goto_target ts (labels_from 0 lines)) else none then λ target. target
+
+  -- a bare `return;` hands the registers to the caller; `return e;` hands over e
+  unfoldable pub returns_to : List Token → List ℕ
+  returns_to ts =
+      let_some (get ts (pred (pred (length ts)))) else [] then λ t.
+      when is_kw (bytes "return") t then length lines ∷ [] else []
+
+  -- where a condition that is false leads: past an `else`, into its block
+  unfoldable pub behind : ℕ → ℕ
+  behind c = when get_or forms c [] ≟ bytes "else}{" then suc c else c
+
+  -- from a line that opens a block, which line c closes
+  unfoldable pub next_in : ℕ → Text → ℕ → Option (List ℕ)
+  next_in k f c =
+      when f ≟ bytes "if{" then some (suc k ∷ behind c ∷ [])
+      -- reached from the branch above too, and then all is passed over
+      else when f ≟ bytes "elseif}{" then some (suc k ∷ behind c ∷ c ∷ [])
+      -- reached from the branch above alone
+      else when f ≟ bytes "else}{" then some (c ∷ [])
+      else when f ≟ bytes "switch{" then some (filter (λ m. is_case (lines at m).tokens) (slice (suc k) c (places lines)) ++ (c ∷ []))
+      else none
+
+  -- the lines that may come next after line k, or none if its form is not known
+  unfoldable pub next : ℕ → Option (List ℕ)
+  next k =
+      let ts : List Token = (lines at k).tokens in
+      let f : Text = get_or forms k [] in
+      when has FALL f or (eqb k 0 and is_empty f) then some (suc k ∷ [])
+      else when f ≟ bytes "goto;" then (let_some (jump ts) else none then λ p. some (p ∷ []))
+      else when f ≟ bytes "ifgoto;" then (let_some (jump ts) else none then λ p. some (suc k ∷ p ∷ []))
+      else when f ≟ bytes "return;" then some (returns_to ts)
+      else when f ≟ bytes "ifreturn;" then some (suc k ∷ returns_to ts)
+      else when f ≟ bytes "while};"
+      then (let_some (opener k) else none then λ d. when get_or forms d [] ≟ bytes "do{" then some (suc k ∷ d ∷ []) else none)
+      else when f ≟ bytes "}" then (when opened_by BLOCKS k then some (suc k ∷ []) else none)
+      else (let_some (closer k) else none then next_in k f)
+
 -- the lines that may come next after each line
 abbrev pub Ways : Type 0
 Ways = List (Option (List ℕ))
 
 unfoldable pub ways : Listing → Ways
-ways lines =
-    let forms : List Text = map (λ l. form l.tokens) lines in
-    let labels : Labels = labels_from 0 lines in
-    map (λ k. next forms labels k (lines at k).tokens) (places lines)
+ways lines = let forms : List Text = map (λ l. form l.tokens) lines in map (next lines forms) (places lines)
 
--- some line may be followed by any other
-unfoldable pub is_odd : Ways → Bool
-is_odd ways = any (λ w. not (is_some w)) ways
-
--- those after line k; of a form that is not known, the next
-unfoldable pub after : Ways → ℕ → List ℕ
-after ways k = let_some (get_or ways k none) else suc k ∷ [] then λ ks. ks
+-- a line is not looked into
+unfoldable pub is_dark : Listing → Ways → ℕ → Bool
+is_dark lines ways k = not (is_some (get_or ways k none)) or is_opaque (lines at k).tokens
 
 -- ---- how far a value goes
 
--- the line surely overwrites the family
+-- the line overwrites the family in any case
 unfoldable pub ends : Text → List Text → List Token → Bool
-ends fam volatile ts =
-    not (is_opaque ts) and not (is_guarded ts) and (kills ts fam or (has volatile fam and is_some (call_in ts)))
+ends fam volatile ts = not (is_guarded ts) and (kills ts fam or (has volatile fam and is_some (call_in ts)))
 
+-- the line reads the family
 unfoldable pub reads : Text → List Token → Bool
-reads fam ts = is_opaque ts or (any (of_family fam) ts and not (kills ts fam))
+reads fam ts = any (of_family fam) ts and not (kills ts fam)
 
 -- these lines are reached
 unfoldable pub reach : List ℕ → List Bool → List Bool
@@ -156,12 +187,15 @@ reached_from k [] = []
 reached_from k (b ∷ bs) = let r = reached_from (suc k) bs in when b then k ∷ r else r
 
 module _ (lines : Listing) (ways : Ways) (i : ℕ) (fam : Text) (volatile : List Text) where
-  -- where the value goes from line k: not past line i, nor past a line that surely overwrites it
-  unfoldable pub onward : ℕ → List ℕ
-  onward k = when eqb k i or ends fam volatile (lines at k).tokens then [] else after ways k
+  abbrev after : ℕ → List ℕ
+  after k = let_some (get_or ways k none) else [] then λ ks. ks
 
-  -- The lines, and perhaps the exit, that the value which line i gave the family may reach. Of n lines, none is more than n steps away.
+  -- where the value goes from line k: not past line i, nor past a line that is not looked into or overwrites it
+  unfoldable pub onward : ℕ → List ℕ
+  onward k = when eqb k i or is_dark lines ways k or ends fam volatile (lines at k).tokens then [] else after k
+
+  -- The lines, and perhaps the caller, that the value which line i gave the family may reach. Of n lines, none is more than n steps away.
   unfoldable pub reached : List ℕ
   reached =
       reached_from 0
-      (sweeps (length lines) (map onward (places lines)) (reach (after ways i) (replicate (suc (length lines)) false)))
+      (sweeps (length lines) (map onward (places lines)) (reach (after i) (replicate (suc (length lines)) false)))

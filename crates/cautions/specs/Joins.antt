@@ -1,5 +1,6 @@
 -- The cautions of one join and of one cut, from the listing just before it. Assumes nothing.
-use Rattle.std.specs.Prelude.{ℕ, suc, min, Bool, false, List, [], ◌∷◌, ◌++◌, map, eqb, ltb, leb, length, take, filter}
+use Rattle.std.specs.Prelude.{ℕ, suc, min, Bool, false, List, [], ◌∷◌, ◌++◌, map, eqb, ltb, leb, length, get_or, reverse, pred, drop, take, filter}
+use Rattle.std.proofs.Math.Option.{none}
 use Rattle.std.proofs.Math.Seq.{slice}
 use Rattle.reference.specs.Control.{not, ◌and◌, ◌or◌, when◌then◌else◌, let_some◌else◌then◌}
 use Rattle.reference.specs.Lists.{any, count, is_empty, is_some, get}
@@ -13,9 +14,9 @@ use Rattle.reference.specs.Join.{substitute, text_before, text_after, is_bracket
 use Rattle.reference.specs.Run.{Attempt}
 use Rattle.reference.specs.Marks.{moved}
 use Rattle.cautions.specs.Kinds.{odd_form, still_read, overwritten, call_moved, read_moved, other_width, other_text, odd_number, slot, handed_over, ◌∪◌, ◌given◌, union}
-use Rattle.cautions.specs.Texts.{holds, last_byte, frame, outside, loose, is_opaque}
-use Rattle.cautions.specs.Forms.{is_guarded, Ways, ways, is_odd, reads, reached}
-use Rattle.cautions.specs.Values.{world, memory, changeable, rest, acts_beside, is_whole, full, natural, lone_call, fits, is_tame}
+use Rattle.cautions.specs.Texts.{holds, last_byte, frame, outside, loose}
+use Rattle.cautions.specs.Forms.{is_guarded, is_entered, places, Ways, ways, is_dark, reads, reached}
+use Rattle.cautions.specs.Values.{world, changeable, rest, acts_beside, is_whole, full, widths_in, natural, is_plain, lone_call, fits, is_tame}
 
 -- ---- a register's value that is no longer put there
 
@@ -34,24 +35,15 @@ takes_unspelt rules fam ts =
 unfoldable pub is_void : Listing → Bool
 is_void lines = any (is_kw (bytes "void")) (take 1 (lines at 0).tokens)
 
--- what a caller finds: the result, the stack's registers, and a preserved register that was fetched back from memory
-unfoldable pub for_caller : Rules → Listing → Text → List Token → Bool
-for_caller rules lines fam expr =
-    ((fam ≟ bytes "rax") and not (is_void lines)) or has (bytes "rsp" ∷ bytes "rbp" ∷ []) fam
-    or (not (has (volatile rules) fam) and not (starts_with fam (bytes "var_")) and memory expr)
+-- what a caller finds: the result, and the registers that calls preserve
+unfoldable pub for_caller : Rules → Listing → Text → Bool
+for_caller rules lines fam =
+    ((fam ≟ bytes "rax") and not (is_void lines)) or (not (has (volatile rules) fam) and not (starts_with fam (bytes "var_")))
 
-module _ (rules : Rules) (lines : Listing) (fam : Text) where
-  -- of the lines that the value reaches, those that read it and are not rewritten
-  unfoldable pub stale_in : List ℕ → List ℕ → List ℕ
-  stale_in far into = filter (λ k. ltb k (length lines) and not (any (eqb k) into) and reads fam (lines at k).tokens) far
-
-  -- those of a value, `expr`, that reaches the lines `far` and is no longer put in the register
-  unfoldable pub gone : List ℕ → List ℕ → List Token → ℕ
-  gone far stale expr =
-      still_read given not (is_empty stale)
-      ∪ handed_over given
-      (any (λ k. takes_unspelt rules fam (lines at k).tokens) far
-      or (any (eqb (length lines)) far and for_caller rules lines fam expr))
+-- one of the lines that the value reaches hands it over
+unfoldable pub is_handed : Rules → Listing → Text → List ℕ → Bool
+is_handed rules lines fam far =
+    any (λ k. takes_unspelt rules fam (lines at k).tokens) far or (any (eqb (length lines)) far and for_caller rules lines fam)
 
 -- ---- one use: the expression in place of the token at `u`
 
@@ -84,13 +76,20 @@ module _ (rules : Rules) (f : Fam) (expr : List Token) (ts : List Token) (u : �
       and (let_some (get ts 0) else false then λ t.
       let_some (fam_of t) else false then λ g. leb g.width (min widths.0 widths.1))
 
+  -- what stands beside the use is narrower than it
+  unfoldable pub beside_narrower : Bool
+  beside_narrower =
+      eqb widths.1 64 and not (is_whole before behind) and any (λ w. ltb w 64) (widths_in rules.convention [] (rest ts u))
+
+  -- the register held that number
   unfoldable pub number_fits : Bool
   number_fits =
       let_some (get expr 0) else false then λ t.
       let_some (read_number rules.edition t.text) else false then λ n.
-      (eqb widths.0 64 and eqb widths.1 64) or (leb 32 widths.0 and fits (min widths.0 widths.1) n)
+      not beside_narrower and ((eqb widths.0 64 and eqb widths.1 64) or (leb 32 widths.0 and fits (min widths.0 widths.1) n))
 
-  -- the expression's own width is the register's, or it is a 32-bit value handed on whole as one of 64 bits
+  -- the expression's own width is the register's, or it is a 32-bit value handed on whole as one of 64 bits; what is computed at less than
+  -- 32 bits C computes as an int
   unfoldable pub width_kept : Bool
   width_kept =
       let own : ℕ = natural rules.convention expr in
@@ -98,7 +97,7 @@ module _ (rules : Rules) (f : Fam) (expr : List Token) (ts : List Token) (u : �
       else when not (eqb widths.0 widths.1)
       then eqb widths.0 32 and eqb widths.1 64 and eqb own 32 and is_whole before behind
       else when lone_call expr then eqb widths.0 (full rules.convention) or (leb 32 widths.0 and (f.name ≟ bytes "rax"))
-      else eqb own widths.0
+      else eqb own widths.0 and (leb 32 own or is_plain expr)
 
   -- a read or cast, of C's unsigned types, beside `<`, `>`, `/` or `%`, that the register had without a sign
   unfoldable pub sign_lost : Bool
@@ -133,29 +132,39 @@ unfoldable pub places_of : Text → ℕ → List Token → List ℕ
 places_of fam p [] = []
 places_of fam p (t ∷ ts) = let r = places_of fam (suc p) ts in when of_family fam t then p ∷ r else r
 
+-- a number was moved into a line, or two were added up, and a Number of the line, old or new, is not tame
+unfoldable pub numbers_odd : Fam → List Token → List Token → List Token → Bool
+numbers_odd f expr old new =
+    (lone_number expr or ltb (count (is Number) new) (count (is Number) (substitute f.name expr old)))
+    and any (λ t. not (is_tame t)) (old ++ expr ++ new)
+
 -- ---- one join: line i, which assigns `expr` to f, into the lines `into`
 
-module _ (rules : Rules) (lines : Listing) (i : ℕ) (f : Fam) (expr : List Token) where
-  -- a line from i to a use is not looked into
-  unfoldable pub through_opaque : ℕ → Bool
-  through_opaque j = any (λ l. is_opaque l.tokens) (slice i (suc j) lines)
+module _ (rules : Rules) (lines : Listing) (ways : Ways) (i : ℕ) (f : Fam) (expr : List Token) where
+  -- a line from i to the last use is not looked into, or control may come to one of them but the first from elsewhere
+  unfoldable pub is_odd : ℕ → Bool
+  is_odd last =
+      (ltb 0 i and not (is_some (get_or ways (pred i) none)))
+      or any (is_dark lines ways) (slice i (suc last) (places lines))
+      or any (λ l. is_entered l.tokens) (slice (suc i) (suc last) lines)
 
-  -- a call stands between, and may overwrite the register
+  -- a call stands between line i and the last use, and may overwrite the register
   unfoldable pub past_call : ℕ → Bool
-  past_call j = has (volatile rules) f.name and any (λ l. is_some (call_in l.tokens)) (slice (suc i) j lines)
+  past_call last = has (volatile rules) f.name and any (λ l. is_some (call_in l.tokens)) (slice (suc i) last lines)
 
-  -- a number was moved into the line, or two were added up, and a Number of the line, old or new, is not tame
-  unfoldable pub numbers_odd : List Token → List Token → Bool
-  numbers_odd old new =
-      (lone_number expr or ltb (count (is Number) new) (count (is Number) (substitute f.name expr old)))
-      and any (λ t. not (is_tame t)) (old ++ expr ++ new)
-
-  -- those of the line j, rewritten to `new`
+  -- those of the line j, which the join rewrites to `new`
   unfoldable pub line_cautions : ℕ → List Token → ℕ
   line_cautions j new =
       let old : List Token = (lines at j).tokens in
-      odd_form given through_opaque j ∪ overwritten given past_call j ∪ odd_number given numbers_odd old new
+      odd_number given numbers_odd f expr old new
       ∪ union (map (λ u. use_cautions rules f expr old u (slice (suc i) j lines)) (places_of f.name 0 old))
+
+  -- those of the lines `into`, of which `left` is what the join makes
+  unfoldable pub uses_cautions : List ℕ → Listing → ℕ
+  uses_cautions into left =
+      let last : ℕ = get_or (reverse into) 0 i in
+      odd_form given is_odd last ∪ overwritten given past_call last ∪ slot given starts_with f.name (bytes "var_")
+      ∪ union (map (λ j. line_cautions j (left at moved i j).tokens) into)
 
 -- ---- on which lines they stand
 
@@ -164,30 +173,39 @@ unfoldable pub put : ℕ → List ℕ → ℕ → List ℕ → List ℕ
 put s into p [] = []
 put s into p (t ∷ ts) = (t ∪ s given any (eqb p) into) ∷ put s into (suc p) ts
 
--- `s` on the lines that are rewritten, `still_read` on those that read a value that is gone
-unfoldable pub spread : ℕ → List ℕ → List ℕ → Listing → List ℕ
-spread s into stale lines = put still_read stale 0 (put s into 0 (map (λ l. 0) lines))
+-- A value of line i, which reaches the lines `far`, is no longer put in the register. The lines that are rewritten, or the cut one, get all;
+-- of the others that it reaches those that are not looked into get `odd_form`, and those that read it `still_read`.
+module _ (rules : Rules) (lines : Listing) (ways : Ways) (i : ℕ) (fam : Text) (far : List ℕ) where
+  unfoldable pub dark_in : List ℕ → List ℕ
+  dark_in others = filter (is_dark lines ways) others
 
--- The cautions that a successful attempt puts on each line of the listing before it: all of its own on a line that it rewrites.
+  unfoldable pub stale_in : List ℕ → List ℕ
+  stale_in others = filter (λ k. not (is_dark lines ways k) and reads fam (lines at k).tokens) others
+
+  -- `s` are the cautions that the lines `into` have besides, `again` says that line i itself reads the value
+  unfoldable pub spread : ℕ → List ℕ → Bool → List ℕ
+  spread s into again =
+      let others : List ℕ = filter (λ k. ltb k (length lines) and not (any (eqb k) (i ∷ into))) far in
+      let dark : List ℕ = dark_in others in
+      let stale : List ℕ = stale_in others in
+      let own : ℕ =
+      s ∪ odd_form given (not (is_empty dark) or is_dark lines ways i) ∪ still_read given (not (is_empty stale) or again)
+      ∪ handed_over given is_handed rules lines fam far in
+      put odd_form dark 0 (put still_read stale 0 (put own into 0 (map (λ l. 0) lines)))
+
+-- The cautions that a successful attempt puts on each line of the listing before it.
 unfoldable pub join_cautions : Rules → Listing → Attempt → List ℕ
 join_cautions rules lines a =
     let_some (assignment (lines at a.line)) else [] then λ s.
     let_some (family s.lhs.text) else [] then λ f.
     let ways : Ways = ways lines in
     let far : List ℕ = reached lines ways a.line f.name (volatile rules) in
-    let stale : List ℕ = stale_in rules lines f.name far (a.line ∷ a.into) in
-    let each : List ℕ = map (λ j. line_cautions rules lines a.line f s.expr j (a.left at moved a.line j).tokens) a.into in
-    spread
-    (odd_form given is_odd ways ∪ slot given starts_with f.name (bytes "var_") ∪ gone rules lines f.name far stale s.expr ∪ union each)
-    a.into
-    stale
-    lines
+    spread rules lines ways a.line f.name far (uses_cautions rules lines ways a.line f s.expr a.into a.left) a.into false
 
--- those that the cut of line i's result puts on each line
+-- those that the cut of line i's result puts on each line; it may read the result of its last turn
 unfoldable pub cut_cautions : Rules → Listing → ℕ → List ℕ
 cut_cautions rules lines i =
     let rax : Text = bytes "rax" in
     let ways : Ways = ways lines in
     let far : List ℕ = reached lines ways i rax (volatile rules) in
-    let stale : List ℕ = stale_in rules lines rax far [] in
-    spread (odd_form given (is_odd ways or is_opaque (lines at i).tokens) ∪ gone rules lines rax far stale []) (i ∷ []) stale lines
+    spread rules lines ways i rax far 0 (i ∷ []) (any (eqb i) far and reads rax (drop 2 (lines at i).tokens))

@@ -10,9 +10,7 @@ pub record Rows : Type 0 where
   -- ---- names of registers
   pub stack_slot : warns ("var_8 = 5;" ∷ "rbx = var_8;" ∷ []) (("rbx = 5;", slot) ∷ [])
   pub slot_past_pointer :
-      warns
-      ("var_8 = 5;" ∷ "*(rcx) = 6;" ∷ "rbx = var_8;" ∷ [])
-      (("*(rcx) = 6;", still_read) ∷ ("rbx = 5;", odd_form ∪ still_read ∪ slot) ∷ [])
+      warns ("var_8 = 5;" ∷ "*(rcx) = 6;" ∷ "rbx = var_8;" ∷ []) (("*(rcx) = 6;", odd_form) ∷ ("rbx = 5;", odd_form ∪ slot) ∷ [])
   pub slots_overlap : warns ("var_8 = 5;" ∷ "var_4 = 6;" ∷ "rbx = var_8;" ∷ []) (plain "var_4 = 6;" ∷ ("rbx = 5;", slot) ∷ [])
   pub frame_by_index : warns ("var_8 = 5;" ∷ "g(rsp + rdx * 8);" ∷ "h(var_8);" ∷ []) (plain "g(rsp + rdx * 8);" ∷ ("h(5);", slot) ∷ [])
   pub slot_width : warns ("var_8 = ecx;" ∷ "rbx = var_8;" ∷ []) (("rbx = ecx;", slot) ∷ [])
@@ -34,8 +32,8 @@ pub record Rows : Type 0 where
   pub byte_sum_widened :
       warns
       ("al = cl + 1;" ∷ "if (al == 0) {" ∷ " f();" ∷ "}" ∷ [])
-      (("if ((cl + 1) == 0) {", handed_over) ∷ plain " f();" ∷ plain "}" ∷ [])
-      × warns ("al = ~cl;" ∷ "f(al);" ∷ []) (plain "f(~cl);" ∷ [])
+      (("if ((cl + 1) == 0) {", other_width ∪ handed_over) ∷ plain " f();" ∷ plain "}" ∷ [])
+      × warns ("al = ~cl;" ∷ "f(al);" ∷ []) (("f(~cl);", other_width) ∷ [])
   pub sign_extension :
       warns ("ecx = 0xffffffff;" ∷ "rax = (int64_t)ecx;" ∷ []) (("rax = (int64_t)0xffffffff;", other_width ∪ odd_number) ∷ [])
       × warns
@@ -60,32 +58,26 @@ pub record Rows : Type 0 where
       × warns ("rax = rcx;" ∷ "rbx = rax;" ∷ []) (("rbx = rcx;", handed_over) ∷ [])
   -- ---- instructions and operations by name
   pub keyword_call :
-      warns
-      ("rbx = __pop();" ∷ "rcx = __pop();" ∷ "rdx = rbx;" ∷ [])
-      (("rcx = __pop();", still_read) ∷ ("rdx = __pop();", odd_form ∪ still_read) ∷ [])
-      × warns
-      ("eax = 1;" ∷ "__cpuid(eax, ecx);" ∷ "esi = eax;" ∷ [])
-      (("__cpuid(1, ecx);", odd_form ∪ handed_over) ∷ ("esi = 1;", odd_form ∪ handed_over) ∷ [])
+      warns ("rbx = __pop();" ∷ "rcx = __pop();" ∷ "rdx = rbx;" ∷ []) (("rcx = __pop();", odd_form) ∷ ("rdx = __pop();", odd_form) ∷ [])
+      × warns ("eax = 1;" ∷ "__cpuid(eax, ecx);" ∷ "esi = eax;" ∷ []) (("__cpuid(1, ecx);", odd_form) ∷ ("esi = 1;", odd_form) ∷ [])
   pub interlocked_passed :
       warns
       ("rbx = counter;" ∷ "r12 = _InterlockedExchange(&counter, r12);" ∷ "h(rbx);" ∷ [])
-      (("r12 = _InterlockedExchange(&counter, r12);", still_read) ∷ ("h(counter);", odd_form ∪ still_read ∪ handed_over) ∷ [])
+      (("r12 = _InterlockedExchange(&counter, r12);", odd_form) ∷ ("h(counter);", odd_form) ∷ [])
   pub register_in_text :
       warns_lines
       (said "rax = rcx;" ∷ said "rbx = rax;" ∷ instruction "mul rax" ∷ [])
-      ((said "rbx = rcx;", still_read ∪ handed_over) ∷ (instruction "mul rax", still_read) ∷ [])
+      ((said "rbx = rcx;", odd_form) ∷ (instruction "mul rax", odd_form) ∷ [])
   pub hidden_registers :
       warns_lines
       (said "rax = rcx;" ∷ said "rbx = rax;" ∷ instruction "mul rcx" ∷ [])
-      ((said "rbx = rcx;", still_read ∪ handed_over) ∷ (instruction "mul rcx", still_read) ∷ [])
-      × warns
-      ("rbx = 5;" ∷ "__cpuid(eax, ecx);" ∷ "h(rbx);" ∷ [])
-      (("__cpuid(eax, ecx);", still_read) ∷ ("h(5);", odd_form ∪ still_read) ∷ [])
-      × warns ("rcx = rsp;" ∷ "rbx = __pop();" ∷ "g(rcx);" ∷ []) (("rbx = __pop();", still_read) ∷ ("g(rsp);", odd_form ∪ still_read) ∷ [])
+      ((said "rbx = rcx;", odd_form) ∷ (instruction "mul rcx", odd_form) ∷ [])
+      × warns ("rbx = 5;" ∷ "__cpuid(eax, ecx);" ∷ "h(rbx);" ∷ []) (("__cpuid(eax, ecx);", odd_form) ∷ ("h(5);", odd_form) ∷ [])
+      × warns ("rcx = rsp;" ∷ "rbx = __pop();" ∷ "g(rcx);" ∷ []) (("rbx = __pop();", odd_form) ∷ ("g(rsp);", odd_form) ∷ [])
   pub jump_in_text :
       warns_lines
       (said "rax = rcx;" ∷ said "rbx = rax;" ∷ instruction "jrcxz L" ∷ said "rax = 1;" ∷ said "L:" ∷ said "rdx = rax;" ∷ [])
-      ((said "rbx = rcx;", still_read) ∷ (instruction "jrcxz L", still_read) ∷ plain (said "rax = 1;") ∷ plain (said "L:")
+      ((said "rbx = rcx;", odd_form) ∷ (instruction "jrcxz L", odd_form) ∷ plain (said "rax = 1;") ∷ plain (said "L:")
       ∷ plain (said "rdx = rax;") ∷ [])
   pub flags_passed :
       warns
@@ -97,12 +89,13 @@ pub record Rows : Type 0 where
   pub lost_brackets :
       warns ("rax = (rcx) - (rdx);" ∷ "rbx = rsi - rax;" ∷ []) (("rbx = rsi - (rcx) - (rdx);", other_text ∪ handed_over) ∷ [])
   pub call_order : warns ("rax = f();" ∷ "rbx = g() + rax;" ∷ []) (("rbx = g() + f();", call_moved) ∷ [])
-  pub call_skipped : warns ("rax = f();" ∷ "rbx = rcx && rax;" ∷ []) (("rbx = rcx && f();", odd_form ∪ call_moved ∪ handed_over) ∷ [])
+  pub call_skipped : warns ("rax = f();" ∷ "rbx = rcx && rax;" ∷ []) (("rbx = rcx && f();", odd_form ∪ call_moved) ∷ [])
   pub read_past_store :
       warns ("rax = *(rcx);" ∷ "var_8 = 5;" ∷ "rbx = rax;" ∷ []) (plain "var_8 = 5;" ∷ ("rbx = *(rcx);", odd_form ∪ handed_over) ∷ [])
   pub increment_moved :
       warns ("rax = rcx++;" ∷ "rbx = rcx;" ∷ "rdx = rax;" ∷ []) (plain "rbx = rcx;" ∷ ("rdx = rcx++;", odd_form ∪ handed_over) ∷ [])
-  pub register_called : warns ("rbx = rax();" ∷ "rcx = 5;" ∷ "rdx = rbx;" ∷ []) (plain "rcx = 5;" ∷ ("rdx = rax();", odd_form) ∷ [])
+  pub register_called :
+      warns ("rbx = rax();" ∷ "rcx = 5;" ∷ "rdx = rbx;" ∷ []) (plain "rcx = 5;" ∷ ("rdx = rax();", odd_form ∪ handed_over) ∷ [])
   pub unspaced_sum : warns ("rax = rcx+1;" ∷ "rbx = rax * 2;" ∷ []) (("rbx = rcx+1 * 2;", other_text ∪ handed_over) ∷ [])
   pub comma_to_argument :
       warns ("rax = rcx, rdx;" ∷ "rbx = f(rax);" ∷ []) (("rbx = f(rcx, rdx);", other_text) ∷ [])
@@ -110,28 +103,26 @@ pub record Rows : Type 0 where
   pub two_changes : warns ("rax = rcx++;" ∷ "rbx = rcx + rax;" ∷ []) (("rbx = rcx + rcx++;", odd_form ∪ other_text ∪ handed_over) ∷ [])
   pub read_past_call : warns ("rax = var_8;" ∷ "rbx = f() + rax;" ∷ []) (("rbx = f() + var_8;", read_moved) ∷ [])
   pub call_under_condition : warns ("rax = f();" ∷ "if (rcx) rbx = rax;" ∷ []) (("if (rcx) rbx = f();", call_moved ∪ handed_over) ∷ [])
-  pub second_statement : warns ("rax = rcx;" ∷ "rcx = 1; rbx = rax;" ∷ []) (("rcx = 1; rbx = rcx;", odd_form ∪ handed_over) ∷ [])
+  pub second_statement : warns ("rax = rcx;" ∷ "rcx = 1; rbx = rax;" ∷ []) (("rcx = 1; rbx = rcx;", odd_form) ∷ [])
   pub two_statements_moved :
       warns ("rax = rsi; rsi = rdi;" ∷ "h(rax);" ∷ []) (("h(rsi; rsi = rdi);", odd_form) ∷ [])
       × warns_lines
       (line (R "rax" ∷ P " = " ∷ N "5" ∷ P "; " ∷ T "// five;" ∷ []) ∷ said "h(rax);" ∷ [])
       ((line (S "h" ∷ P "(" ∷ N "5" ∷ P "; " ∷ T "// five" ∷ P ");" ∷ []), odd_form ∪ other_width) ∷ [])
-  pub cut_beside_a_reader : warns ("rax = f(); rbx = rax;" ∷ []) (("f(); rbx = rax;", odd_form ∪ handed_over) ∷ [])
+  pub cut_beside_a_reader : warns ("rax = f(); rbx = rax;" ∷ []) (("f(); rbx = rax;", odd_form) ∷ [])
   pub no_function :
       warns
       ("rax = rcx;" ∷ "rbx = rax;" ∷ "rdx = sizeof(x);" ∷ "r12 = rax;" ∷ [])
-      (plain "rbx = rcx;" ∷ plain "rdx = sizeof(x);" ∷ plain "r12 = rax;" ∷ [])
+      (("rbx = rcx;", odd_form) ∷ ("rdx = sizeof(x);", odd_form) ∷ plain "r12 = rax;" ∷ [])
   pub increment_under_condition :
       warns ("rax = rcx++;" ∷ "if (rsi) rbx = rax;" ∷ []) (("if (rsi) rbx = rcx++;", odd_form ∪ handed_over) ∷ [])
   pub input_changed :
-      warns
-      ("rax = rcx;" ∷ "rdx = rcx++;" ∷ "rbx = rax;" ∷ [])
-      (("rdx = rcx++;", still_read) ∷ ("rbx = rcx;", odd_form ∪ still_read ∪ handed_over) ∷ [])
-  pub volatile_read_beside_call : warns ("rbx = rcx;" ∷ "rdx = f() + rbx;" ∷ []) (("rdx = f() + rcx;", read_moved) ∷ [])
+      warns ("rax = rcx;" ∷ "rdx = rcx++;" ∷ "rbx = rax;" ∷ []) (("rdx = rcx++;", odd_form) ∷ ("rbx = rcx;", odd_form) ∷ [])
+  pub volatile_read_beside_call : warns ("rbx = rcx;" ∷ "rdx = f() + rbx;" ∷ []) (("rdx = f() + rcx;", read_moved ∪ handed_over) ∷ [])
   pub call_behind_a_read :
       warns ("rax = f();" ∷ "counter += rax;" ∷ []) (("counter += f();", call_moved ∪ handed_over) ∷ [])
       × warns ("rax = f();" ∷ "g(counter, rax);" ∷ []) (("g(counter, f());", call_moved) ∷ [])
-      × warns ("rax = f();" ∷ "*(rcx + 8) = rax;" ∷ []) (("*(rcx + 8) = f();", odd_form ∪ call_moved ∪ handed_over) ∷ [])
+      × warns ("rax = f();" ∷ "*(rcx + 8) = rax;" ∷ []) (("*(rcx + 8) = f();", odd_form ∪ call_moved) ∷ [])
   pub reads_change_places :
       warns ("rbx = status;" ∷ "r12 = data;" ∷ "h(r12, rbx);" ∷ []) (("h(data, status);", read_moved ∪ handed_over) ∷ [])
       × warns ("rax = status;" ∷ "if (rsi) rbx = rax;" ∷ []) (("if (rsi) rbx = status;", read_moved ∪ handed_over) ∷ [])
@@ -155,7 +146,7 @@ pub record Rows : Type 0 where
       × warns ("rax = 5;" ∷ "++rax;" ∷ "rbx = rax;" ∷ []) (("++5;", other_text ∪ handed_over) ∷ ("rbx = 5;", other_text ∪ handed_over) ∷ [])
       × warns
       ("rax = 5;" ∷ "if (rsi) rax=1;" ∷ "rbx = rax;" ∷ [])
-      (("if (rsi) 5=1;", other_text ∪ handed_over) ∷ ("rbx = 5;", other_text ∪ handed_over) ∷ [])
+      (("if (rsi) 5=1;", other_width ∪ other_text ∪ handed_over) ∷ ("rbx = 5;", other_width ∪ other_text ∪ handed_over) ∷ [])
       × warns ("var_8 = rcx;" ∷ "var_8.f = 1;" ∷ "f(rcx);" ∷ []) (("rcx.f = 1;", other_text ∪ slot) ∷ plain "f(rcx);" ∷ [])
   -- ---- statements
   pub jump_past_overwrite :
@@ -173,7 +164,7 @@ pub record Rows : Type 0 where
       (("rbx = rcx;", still_read ∪ handed_over) ∷ plain "if (rsi) f();" ∷ ("rdx = rax;", still_read) ∷ [])
       × warns
       ("rax = rcx;" ∷ "rbx = rax;" ∷ "rdx = rsi && f();" ∷ "r12 = rax;" ∷ [])
-      (("rbx = rcx;", still_read ∪ handed_over) ∷ ("rdx = rsi && f();", still_read) ∷ ("r12 = rax;", still_read) ∷ [])
+      (("rbx = rcx;", odd_form) ∷ ("rdx = rsi && f();", odd_form) ∷ plain "r12 = rax;" ∷ [])
   pub overwrite_in_another_block :
       warns
       ("if (rsi) {" ∷ " rax = rcx;" ∷ " rbx = rax;" ∷ "}" ∷ "if (rdi) {" ∷ " rax = 1;" ∷ "}" ∷ "rdx = rax;" ∷ [])
@@ -186,39 +177,40 @@ pub record Rows : Type 0 where
   pub label_with_comment :
       warns_lines
       (said "rax = 5;" ∷ line (S "L" ∷ P ":" ∷ T " // again" ∷ []) ∷ said "rbx = rax;" ∷ said "rax = 6;" ∷ said "goto L;" ∷ [])
-      ((line (S "L" ∷ P ":" ∷ T " // again" ∷ []), still_read) ∷ (said "rbx = 5;", odd_form ∪ still_read) ∷ plain (said "rax = 6;")
+      ((line (S "L" ∷ P ":" ∷ T " // again" ∷ []), odd_form) ∷ (said "rbx = 5;", odd_form) ∷ plain (said "rax = 6;")
       ∷ plain (said "goto L;") ∷ [])
   pub while_loop :
       warns
       ("while (rdx) {" ∷ " rbx = rax;" ∷ " rax = 5;" ∷ " rcx = rax;" ∷ "}" ∷ [])
-      (plain "while (rdx) {" ∷ plain " rbx = rax;" ∷ (" rcx = 5;", odd_form ∪ handed_over) ∷ plain "}" ∷ [])
+      (plain "while (rdx) {" ∷ plain " rbx = rax;" ∷ (" rcx = 5;", odd_form) ∷ ("}", odd_form) ∷ [])
   pub for_loop :
       warns
       ("for (;;) {" ∷ " rbx = rax;" ∷ " rax = 5;" ∷ " rcx = rax;" ∷ "}" ∷ [])
-      (plain "for (;;) {" ∷ plain " rbx = rax;" ∷ (" rcx = 5;", odd_form ∪ handed_over) ∷ plain "}" ∷ [])
+      (plain "for (;;) {" ∷ plain " rbx = rax;" ∷ (" rcx = 5;", odd_form) ∷ ("}", odd_form) ∷ [])
   pub break_past_overwrite :
       warns
       ("do {" ∷ " rax = rcx;" ∷ " rbx = rax;" ∷ " if (rsi) break;" ∷ " rax = 1;" ∷ "} while (rdx);" ∷ "rdi = rax;" ∷ [])
-      (plain "do {" ∷ (" rbx = rcx;", odd_form) ∷ plain " if (rsi) break;" ∷ plain " rax = 1;" ∷ plain "} while (rdx);"
+      (plain "do {" ∷ (" rbx = rcx;", odd_form) ∷ (" if (rsi) break;", odd_form) ∷ plain " rax = 1;" ∷ plain "} while (rdx);"
       ∷ plain "rdi = rax;" ∷ [])
   pub continue_past_overwrite :
       warns
       ("do {" ∷ " rax = rcx;" ∷ " rbx = rax;" ∷ " if (rsi) continue;" ∷ " rax = 1;" ∷ "} while (rdx);" ∷ "rdi = rax;" ∷ [])
-      (plain "do {" ∷ (" rbx = rcx;", odd_form) ∷ plain " if (rsi) continue;" ∷ plain " rax = 1;" ∷ plain "} while (rdx);"
+      (plain "do {" ∷ (" rbx = rcx;", odd_form) ∷ (" if (rsi) continue;", odd_form) ∷ plain " rax = 1;" ∷ plain "} while (rdx);"
       ∷ plain "rdi = rax;" ∷ [])
   pub switch_case :
       warns
       ("switch (rsi) {" ∷ " case 0:" ∷ " rax = rcx;" ∷ " rbx = rax;" ∷ " break;" ∷ " case 1:" ∷ " rax = 1;" ∷ "}" ∷ "rdx = rax;" ∷ [])
-      (plain "switch (rsi) {" ∷ plain " case 0:" ∷ (" rbx = rcx;", odd_form) ∷ plain " break;" ∷ plain " case 1:" ∷ plain " rax = 1;"
-      ∷ plain "}" ∷ plain "rdx = rax;" ∷ [])
+      (plain "switch (rsi) {" ∷ plain " case 0:" ∷ (" rbx = rcx;", odd_form) ∷ (" break;", odd_form) ∷ plain " case 1:"
+      ∷ plain " rax = 1;" ∷ plain "}" ∷ plain "rdx = rax;" ∷ [])
   pub case_passed_over :
       warns
       ("rax = rcx;" ∷ "rbx = rax;" ∷ "switch (rsi) {" ∷ "case 1:" ∷ "rax = 1;" ∷ "}" ∷ "rdx = rax;" ∷ [])
-      (("rbx = rcx;", odd_form) ∷ plain "switch (rsi) {" ∷ plain "case 1:" ∷ plain "rax = 1;" ∷ plain "}" ∷ plain "rdx = rax;" ∷ [])
+      (("rbx = rcx;", still_read ∪ handed_over) ∷ plain "switch (rsi) {" ∷ plain "case 1:" ∷ plain "rax = 1;" ∷ plain "}"
+      ∷ ("rdx = rax;", still_read) ∷ [])
   pub for_head :
       warns
       ("rax = rcx;" ∷ "for (; rax; ) {" ∷ " rcx = 1;" ∷ "}" ∷ [])
-      (("for (; rcx; ) {", odd_form ∪ handed_over) ∷ plain " rcx = 1;" ∷ plain "}" ∷ [])
+      (("for (; rcx; ) {", odd_form) ∷ plain " rcx = 1;" ∷ plain "}" ∷ [])
   pub for_head_call :
       warns ("rax = f();" ∷ "for (; rax; ) {" ∷ " g();" ∷ "}" ∷ []) (("for (; f(); ) {", odd_form) ∷ plain " g();" ∷ plain "}" ∷ [])
   -- ---- the same, where the Rust looks at a jump, a loop, a return or a condition, but only in part
@@ -244,7 +236,8 @@ pub record Rows : Type 0 where
   pub second_goto :
       warns
       ("M:" ∷ "h(rbx);" ∷ "rbx = rdi;" ∷ "g(rbx);" ∷ "if (r13) goto L; else goto M;" ∷ "L:" ∷ "return;" ∷ [])
-      (plain "M:" ∷ plain "h(rbx);" ∷ ("g(rdi);", odd_form) ∷ plain "if (r13) goto L; else goto M;" ∷ plain "L:" ∷ plain "return;" ∷ [])
+      (plain "M:" ∷ plain "h(rbx);" ∷ ("g(rdi);", odd_form) ∷ ("if (r13) goto L; else goto M;", odd_form) ∷ plain "L:"
+      ∷ plain "return;" ∷ [])
   pub return_in_another_block :
       warns
       ("if (rsi) {" ∷ " rax = rcx;" ∷ " rbx = rax;" ∷ "}" ∷ "if (rdi) {" ∷ " return;" ∷ "}" ∷ "rdx = rax;" ∷ [])
@@ -255,11 +248,11 @@ pub record Rows : Type 0 where
   pub other_branch :
       warns
       ("if (rsi) {" ∷ " rax = f();" ∷ "} else if (rax) {" ∷ " g();" ∷ "}" ∷ [])
-      (plain "if (rsi) {" ∷ ("} else if (f()) {", odd_form) ∷ plain " g();" ∷ plain "}" ∷ [])
+      (plain "if (rsi) {" ∷ ("} else if (f()) {", odd_form ∪ call_moved ∪ handed_over) ∷ plain " g();" ∷ plain "}" ∷ [])
   pub else_overwrite :
       warns
       ("if (rsi) {" ∷ " rax = f();" ∷ "} else {" ∷ " g();" ∷ "}" ∷ "return rax;" ∷ [])
-      (plain "if (rsi) {" ∷ (" f();", odd_form) ∷ plain "} else {" ∷ plain " g();" ∷ plain "}" ∷ plain "return rax;" ∷ [])
+      (plain "if (rsi) {" ∷ (" f();", still_read) ∷ plain "} else {" ∷ plain " g();" ∷ plain "}" ∷ ("return rax;", still_read) ∷ [])
   pub case_entry :
       warns
       ("switch (rsi) {" ∷ " case 0:" ∷ " rax = 5;" ∷ " case 1:" ∷ " rbx = rax;" ∷ "}" ∷ [])
@@ -273,11 +266,9 @@ pub record Rows : Type 0 where
       (("f();", still_read ∪ handed_over) ∷ plain "if (rsi) return;" ∷ ("rbx = rax;", still_read) ∷ [])
       × warns
       ("while (r12) {" ∷ " h(rax);" ∷ " rax = f();" ∷ "}" ∷ [])
-      (plain "while (r12) {" ∷ plain " h(rax);" ∷ (" f();", odd_form ∪ handed_over) ∷ plain "}" ∷ [])
+      (plain "while (r12) {" ∷ plain " h(rax);" ∷ (" f();", odd_form) ∷ ("}", odd_form) ∷ [])
       × warns
       ("if (rsi) {" ∷ " rax = f();" ∷ "}" ∷ "if (rbx) {" ∷ " rax = 5;" ∷ "}" ∷ "return rax;" ∷ [])
       (plain "if (rsi) {" ∷ (" f();", still_read) ∷ plain "}" ∷ plain "if (rbx) {" ∷ plain " rax = 5;" ∷ plain "}"
       ∷ ("return rax;", still_read) ∷ [])
-      × warns_lines
-      (said "rax = f();" ∷ instruction "mul rbx" ∷ [])
-      ((said "f();", still_read ∪ handed_over) ∷ (instruction "mul rbx", still_read) ∷ [])
+      × warns_lines (said "rax = f();" ∷ instruction "mul rbx" ∷ []) ((said "f();", odd_form) ∷ (instruction "mul rbx", odd_form) ∷ [])

@@ -4,7 +4,7 @@ use mathlib.Core.List.{flat_map}
 use Rattle.reference.specs.Control.{not, ◌and◌, ◌or◌, when◌then◌else◌}
 use Rattle.reference.specs.Lists.{any, is_empty, windows}
 use Rattle.reference.specs.Text.{Text, bytes, ◌≟◌, contains, starts_with}
-use Rattle.reference.specs.Listing.{Token, is, Register, Keyword, Punct, Plain, Prefix}
+use Rattle.reference.specs.Listing.{Token, is, Register, Keyword, Symbol, Punct, Plain, Prefix}
 use Rattle.reference.specs.Claim.{sum}
 
 -- whether p stands somewhere in s
@@ -74,6 +74,8 @@ unfoldable pub is_strange : Token → Bool
 is_strange t =
     (is Keyword t and starts_with t.text (bytes "_"))
     or ((is Plain t or is Prefix t) and not (t.text ≟ bytes " "))
+    -- looks like a call, and is none
+    or (is Symbol t and (t.text ≟ bytes "sizeof"))
     or (is Punct t and (holds (bytes "&&") t.text or holds (bytes "||") t.text or star_after 0 t.text))
 
 -- a register behind which a bracket opens: a call that is none to the Rust

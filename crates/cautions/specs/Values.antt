@@ -1,5 +1,5 @@
 -- What tokens read, what stands beside a use, and how wide a value is. Assumes nothing.
-use Rattle.std.specs.Prelude.{ℕ, ◌-◌, ◌^◌, Bool, false, List, [], ◌∷◌, eqb, ltb, ℤ, pos, negsuc, drop, take}
+use Rattle.std.specs.Prelude.{ℕ, ◌-◌, ◌^◌, Bool, false, List, [], ◌∷◌, eqb, ltb, length, ℤ, pos, negsuc, drop, take}
 use Rattle.std.proofs.Math.Option.{Option, none, some}
 use Rattle.std.proofs.Math.Seq.{slice}
 use Rattle.reference.specs.Control.{not, ◌and◌, ◌or◌, when◌then◌else◌, let_some◌else◌then◌}
@@ -7,7 +7,7 @@ use Rattle.reference.specs.Lists.{any, find, count, position, is_some, get, remo
 use Rattle.reference.specs.Text.{Text, bytes, ◌≟◌, has, starts_with, ends_with}
 use Rattle.reference.specs.Listing.{Token, is, Register, Number, Keyword, Symbol, Address, Punct}
 use Rattle.reference.specs.Names.{fam_of}
-use Rattle.reference.specs.Numbers.{read_number, show}
+use Rattle.reference.specs.Numbers.{read_number}
 use Rattle.reference.specs.Shapes.{is_kw, calls_here, call_in}
 use Rattle.reference.specs.Join.{standalone, text_or_empty}
 use Rattle.cautions.specs.Texts.{holds, marks, frame, depth, outside, all_words, loose}
@@ -95,18 +95,29 @@ token_width convention before t =
     else when is Symbol t then some (name_width convention t.text)
     else let_some (fam_of t) else some 0 then λ f. some f.width
 
-unfoldable pub common : ℕ → Option ℕ → Text → List Token → ℕ
-common convention w before [] = let_some w else 0 then λ v. v
-common convention w before (t ∷ ts) =
-    let one : Option ℕ =
-    let_some (token_width convention before t) else w then λ v. let_some w else some v then λ u. some (when eqb u v then u else 0) in
-    common convention one t.text ts
+-- the widths of all tokens that have one
+unfoldable pub widths_in : ℕ → Text → List Token → List ℕ
+widths_in convention before [] = []
+widths_in convention before (t ∷ ts) =
+    let r = widths_in convention t.text ts in let_some (token_width convention before t) else r then λ w. w ∷ r
+
+-- the one number in a list; 0 if there are others, or none
+unfoldable pub common : List ℕ → ℕ
+common [] = 0
+common (w ∷ ws) = when any (λ v. not (eqb v w)) ws then 0 else w
+
+-- a cast or read in front of all of it
+unfoldable pub is_cast : List Token → Bool
+is_cast expr = any (is Keyword) (take 1 expr) and not (loose expr)
 
 -- the width of an expression: of the cast or read in front of all of it, or the one that all its names have; else 0
 unfoldable pub natural : ℕ → List Token → ℕ
 natural convention expr =
-    let head : Text = text_or_empty (get expr 0) in
-    when any (is Keyword) (take 1 expr) and not (loose expr) then cast_width head else common convention none [] expr
+    when is_cast expr then cast_width (text_or_empty (get expr 0)) else common (widths_in convention [] expr)
+
+-- no operator computes it
+unfoldable pub is_plain : List Token → Bool
+is_plain expr = eqb (length expr) 1 or is_cast expr
 
 unfoldable pub lone_call : List Token → Bool
 lone_call expr = (let_some (call_in expr) else false then eqb 0) and not (loose expr)
@@ -118,14 +129,16 @@ unfoldable pub fits : ℕ → ℤ → Bool
 fits width (pos n) = ltb n (2 ^ (width - 1))
 fits width (negsuc n) = false
 
-unfoldable pub is_small : Bool → ℤ → Bool
-is_small minus (pos n) = ltb n (2 ^ 31)
-is_small minus (negsuc n) = minus and ltb n (2 ^ 31)
+-- the same integer, of 31 bits and a sign, and if it has a minus then one is written
+unfoldable pub is_small : Bool → ℤ → ℤ → Bool
+is_small minus (pos m) (pos n) = eqb m n and ltb n (2 ^ 31)
+is_small minus (negsuc m) (negsuc n) = eqb m n and ltb n (2 ^ 31) and minus
+is_small minus (pos m) (negsuc n) = false
+is_small minus (negsuc m) (pos n) = false
 
 -- both editions read it alike, it has at most 31 bits and a sign, and the sign is written
 unfoldable pub is_tame : Token → Bool
 is_tame t =
     not (is Number t)
     or (let_some (read_number 0 t.text) else false then λ a.
-    let_some (read_number 1 t.text) else false then λ b.
-    (show a ≟ show b) and is_small (starts_with t.text (bytes "-")) a)
+    let_some (read_number 1 t.text) else false then λ b. is_small (starts_with t.text (bytes "-")) a b)
