@@ -1,5 +1,5 @@
 -- The cautions of one join and of one cut, from the listing just before it. Assumes nothing.
-use Rattle.std.specs.Prelude.{ℕ, suc, min, Bool, false, List, [], ◌∷◌, ◌++◌, map, eqb, ltb, leb, length, get_or, reverse, pred, drop, take, filter}
+use Rattle.std.specs.Prelude.{ℕ, suc, ◌+◌, ◌-◌, min, Bool, false, List, [], ◌∷◌, ◌++◌, map, eqb, ltb, leb, length, get_or, reverse, pred, drop, take, filter}
 use Rattle.std.proofs.Math.Option.{none}
 use Rattle.std.proofs.Math.Seq.{slice}
 use Rattle.reference.specs.Control.{not, ◌and◌, ◌or◌, when◌then◌else◌, let_some◌else◌then◌}
@@ -46,6 +46,16 @@ is_handed rules lines fam far =
     any (λ k. takes_unspelt rules fam (lines at k).tokens) far or (any (eqb (length lines)) far and for_caller rules lines fam)
 
 -- ---- one use: the expression in place of the token at `u`
+
+-- numbers were added up when the expression was put into the line
+unfoldable pub is_folded : Fam → List Token → List Token → List Token → Bool
+is_folded f expr old new = ltb (count (is Number) new) (count (is Number) (substitute f.name expr old))
+
+unfoldable pub compares : Text → Bool
+compares s = any (λ c. holds c s) (map bytes (" == " ∷ " != " ∷ " < " ∷ " > " ∷ " <= " ∷ " >= " ∷ []))
+
+unfoldable pub number_at : List Token → ℕ → Bool
+number_at ts q = let_some (get ts q) else false then is Number
 
 module _ (rules : Rules) (f : Fam) (expr : List Token) (ts : List Token) (u : ℕ) where
   abbrev before : Text
@@ -99,6 +109,19 @@ module _ (rules : Rules) (f : Fam) (expr : List Token) (ts : List Token) (u : �
       else when lone_call expr then eqb widths.0 (full rules.convention) or (leb 32 widths.0 and (f.name ≟ bytes "rax"))
       else eqb own widths.0 and (leb 32 own or is_plain expr)
 
+  -- a Number is computed with the use
+  unfoldable pub beside_number : Bool
+  beside_number =
+      not (is_whole before behind)
+      and ((leb 2 u and number_at ts (u - 2) and not (compares before)) or (number_at ts (u + 2) and not (compares behind)))
+
+  -- numbers alone are computed where a register of 32 bits was, and not added up to a small one that is not negative
+  unfoldable pub sums_numbers : List Token → Bool
+  sums_numbers new =
+      lone_number expr and ltb widths.1 64 and beside_number
+      and not
+      (is_folded f expr ts new and not (any (λ t. is Number t and (starts_with t.text (bytes "-") or not (is_tame t))) new))
+
   -- a read or cast, of C's unsigned types, beside `<`, `>`, `/` or `%`, that the register had without a sign
   unfoldable pub sign_lost : Bool
   sign_lost =
@@ -121,10 +144,10 @@ module _ (rules : Rules) (f : Fam) (expr : List Token) (ts : List Token) (u : �
       else not (ends_with (text_before expr 1) (bytes "&")) and not (any (is Address) (take 1 expr))
       and (is_bracketed rules expr or not (loose expr))
 
-  -- those of the use, which passes these lines
-  unfoldable pub use_cautions : Listing → ℕ
-  use_cautions passed =
-      call_moved given moves_call ∪ read_moved given moves_read passed ∪ other_width given changes_width
+  -- those of the use, which passes these lines and makes the line `new`
+  unfoldable pub use_cautions : Listing → List Token → ℕ
+  use_cautions passed new =
+      call_moved given moves_call ∪ read_moved given moves_read passed ∪ other_width given (changes_width or sums_numbers new)
       ∪ other_text given not (is_apart and groups)
 
 -- the places of a family's tokens, numbered from p
@@ -135,8 +158,7 @@ places_of fam p (t ∷ ts) = let r = places_of fam (suc p) ts in when of_family 
 -- a number was moved into a line, or two were added up, and a Number of the line, old or new, is not tame
 unfoldable pub numbers_odd : Fam → List Token → List Token → List Token → Bool
 numbers_odd f expr old new =
-    (lone_number expr or ltb (count (is Number) new) (count (is Number) (substitute f.name expr old)))
-    and any (λ t. not (is_tame t)) (old ++ expr ++ new)
+    (lone_number expr or is_folded f expr old new) and any (λ t. not (is_tame t)) (old ++ expr ++ new)
 
 -- ---- one join: line i, which assigns `expr` to f, into the lines `into`
 
@@ -157,7 +179,7 @@ module _ (rules : Rules) (lines : Listing) (ways : Ways) (i : ℕ) (f : Fam) (ex
   line_cautions j new =
       let old : List Token = (lines at j).tokens in
       odd_number given numbers_odd f expr old new
-      ∪ union (map (λ u. use_cautions rules f expr old u (slice (suc i) j lines)) (places_of f.name 0 old))
+      ∪ union (map (λ u. use_cautions rules f expr old u (slice (suc i) j lines) new) (places_of f.name 0 old))
 
   -- those of the lines `into`, of which `left` is what the join makes
   unfoldable pub uses_cautions : List ℕ → Listing → ℕ
