@@ -1,4 +1,8 @@
--- The examples, proved.
+-- Opened computes the examples (Rows, Examples). Sets has the laws of union, Handed what a removed line hands on, Carried that the cautions kept
+-- step by step are those of the definition.
 pub mod Opened
+pub mod Sets
+pub mod Handed
+pub mod Carried
 pub mod Rows
 pub mod Examples

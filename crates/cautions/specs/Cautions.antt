@@ -13,7 +13,7 @@ use Rattle.reference.specs.Marks.{comes_to}
 use Rattle.reference.specs.Tape.{to_le_bytes}
 use Rattle.cautions.specs.Kinds.{◌∪◌, ◌⊆◌, ◌given◌}
 use Rattle.cautions.specs.Forms.{places}
-use Rattle.cautions.specs.Joins.{put, join_cautions, cut_cautions}
+use Rattle.cautions.specs.Joins.{none_yet, put, join_cautions, cut_cautions}
 
 -- ---- the joins
 
@@ -90,7 +90,7 @@ carry rules lines (a ∷ more) sets =
 
 -- of the whole run
 unfoldable pub kept_cautions : Rules → Listing → List ℕ
-kept_cautions rules input = with_cuts rules (cuts_of rules input) (carry rules input (attempts_of (run rules input)) (map (λ l. 0) input))
+kept_cautions rules input = with_cuts rules (cuts_of rules input) (carry rules input (attempts_of (run rules input)) (none_yet input))
 
 -- ---- what holds of them
 
@@ -113,4 +113,4 @@ pub record NothingLost (rules : Rules) (input : Listing) : Type 0 where
 -- A listing of which no step succeeds has none.
 abbrev pub Quiet : Rules → Listing → Type 0
 Quiet rules input =
-    changed (attempts_of (run rules input)) ≡ false → (run rules input).cuts ≡ [] → finished_cautions rules input ≡ map (λ l. 0) input
+    changed (attempts_of (run rules input)) ≡ false → (run rules input).cuts ≡ [] → finished_cautions rules input ≡ none_yet input

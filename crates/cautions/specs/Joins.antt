@@ -190,6 +190,10 @@ module _ (rules : Rules) (lines : Listing) (ways : Ways) (i : ℕ) (f : Fam) (ex
 
 -- ---- on which lines they stand
 
+-- no kind on any line
+abbrev pub none_yet : Listing → List ℕ
+none_yet lines = map (λ l. 0) lines
+
 -- the set s too on those lines of `into`, the first of the lines being line p
 unfoldable pub put : ℕ → List ℕ → ℕ → List ℕ → List ℕ
 put s into p [] = []
@@ -213,7 +217,7 @@ module _ (rules : Rules) (lines : Listing) (ways : Ways) (i : ℕ) (fam : Text) 
       let own : ℕ =
       s ∪ odd_form given (not (is_empty dark) or is_dark lines ways i) ∪ still_read given (not (is_empty stale) or again)
       ∪ handed_over given is_handed rules lines fam far in
-      put odd_form dark 0 (put still_read stale 0 (put own into 0 (map (λ l. 0) lines)))
+      put odd_form dark 0 (put still_read stale 0 (put own into 0 (none_yet lines)))
 
 -- The cautions that a successful attempt puts on each line of the listing before it.
 unfoldable pub join_cautions : Rules → Listing → Attempt → List ℕ
