@@ -167,7 +167,7 @@ carry_at rules {lines = lines} (joins {left = left} {i = i} {js = js} {more = mo
 -- ---- the cuts
 
 -- each cut is of a listing of n lines
-cuts_long : (rules : Rules) (labels : Labels) (n i : ℕ) (lines : Listing) → All (λ (c : Cut). length c.before ≡ length lines) (cuts_made rules labels n i lines)
+pub cuts_long : (rules : Rules) (labels : Labels) (n i : ℕ) (lines : Listing) → All (λ (c : Cut). length c.before ≡ length lines) (cuts_made rules labels n i lines)
 unfolding cuts_made
 cuts_long rules labels zero i lines = tt
 cuts_long rules labels (suc n) i lines =
@@ -217,6 +217,9 @@ place_at f i [] q h = absurd (omega arith)
 place_at f i (l ∷ lines) zero h = let z : i ≡ i + 0 = omega arith in ap f z
 place_at f i (l ∷ lines) (suc q) h = let z : suc i + q ≡ i + suc q = omega arith in place_at f (suc i) lines q (omega arith) ∙ ap f z
 
+pub by_place_at : (f : ℕ → ℕ) (lines : Listing) (q : ℕ) → q < length lines → get_or (map f (places lines)) q 0 ≡ f q
+by_place_at f lines q h = let z : 0 + q ≡ q = omega arith in place_at f 0 lines q h ∙ ap f z
+
 -- THE CAUTIONS OF THE JOINS, KEPT STEP BY STEP
 carried : (rules : Rules) (input : Listing)
     → carry rules input (attempts_of (run rules input)) (none_yet input)
@@ -233,7 +236,7 @@ carried rules input =
     (λ q h.
     carry_at rules along none here q
     ∙ ap (λ (s : ℕ). s ∪ joined rules input all q) (picked-zeros (λ p. comes_to all p q) input)
-    ∙ sym (let z : 0 + q ≡ q = omega arith in place_at (joined rules input all) 0 (uncut rules input) q (omega (arith, long)) ∙ ap (joined rules input all) z))
+    ∙ sym (by_place_at (joined rules input all) (uncut rules input) q (omega (arith, long))))
 
 -- THE CAUTIONS KEPT STEP BY STEP ARE THOSE OF THE DEFINITION, one set for each finished line
 pub kept_as : (rules : Rules) (input : Listing) → Kept rules input

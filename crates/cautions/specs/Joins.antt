@@ -16,7 +16,7 @@ use Rattle.reference.specs.Marks.{moved}
 use Rattle.cautions.specs.Kinds.{odd_form, still_read, overwritten, call_moved, read_moved, other_width, other_text, odd_number, slot, handed_over, ◌∪◌, ◌given◌, union}
 use Rattle.cautions.specs.Texts.{holds, last_byte, frame, outside, loose}
 use Rattle.cautions.specs.Forms.{is_guarded, is_entered, places, Ways, ways, is_dark, reads, reached}
-use Rattle.cautions.specs.Values.{world, changeable, rest, acts_beside, is_whole, full, widths_in, natural, is_plain, lone_call, fits, is_tame}
+use Rattle.cautions.specs.Values.{world, changeable, rest, acts_beside, is_spared, is_whole, full, widths_in, natural, is_plain, lone_call, fits, is_tame}
 
 -- ---- a register's value that is no longer put there
 
@@ -137,12 +137,14 @@ module _ (rules : Rules) (f : Fam) (expr : List Token) (ts : List Token) (u : �
       not (is_empty before) and not (contains (bytes "+-*/%&|^<>=!~") (last_byte before))
       and any (λ c. contains (bytes "),; ") c) (take 1 behind) and not (starts_with behind (bytes " %"))
 
+  unfoldable pub is_address : Bool
+  is_address = ends_with (text_before expr 1) (bytes "&") or any (is Address) (take 1 expr)
+
   -- a comma stays inside brackets, an address out of sums, and what gets no brackets needs none
   unfoldable pub groups : Bool
   groups =
-      when is_whole before behind then not (contains (outside 0 (frame expr)) 44)
-      else not (ends_with (text_before expr 1) (bytes "&")) and not (any (is Address) (take 1 expr))
-      and (is_bracketed rules expr or not (loose expr))
+      when is_spared before behind then not (contains (outside 0 (frame expr)) 44) and (is_whole before behind or not is_address)
+      else not is_address and (is_bracketed rules expr or not (loose expr))
 
   -- those of the use, which passes these lines and makes the line `new`
   unfoldable pub use_cautions : Listing → List Token → ℕ

@@ -1,5 +1,5 @@
 -- What tokens read, what stands beside a use, and how wide a value is. Assumes nothing.
-use Rattle.std.specs.Prelude.{ℕ, ◌-◌, ◌^◌, Bool, false, List, [], ◌∷◌, eqb, ltb, length, ℤ, pos, negsuc, drop, take}
+use Rattle.std.specs.Prelude.{ℕ, ◌-◌, ◌^◌, Bool, false, List, [], ◌∷◌, map, eqb, ltb, length, ℤ, pos, negsuc, drop, take}
 use Rattle.std.proofs.Math.Option.{Option, none, some}
 use Rattle.std.proofs.Math.Seq.{slice}
 use Rattle.reference.specs.Control.{not, ◌and◌, ◌or◌, when◌then◌else◌, let_some◌else◌then◌}
@@ -66,8 +66,14 @@ acts_beside ts u =
     let_some (call_in ts) else false then λ c. not (eqb (calls ts) 1 and in_brackets (frame (slice c u ts)))
 
 -- between the delimiters that spare brackets, or all that is returned
+unfoldable pub is_spared : Text → Text → Bool
+is_spared before after = standalone before after or ((before ≟ bytes " ") and starts_with after (bytes ";"))
+
+-- a whole argument, condition, right side or returned value; the bracket in front is none of a sum
 unfoldable pub is_whole : Text → Text → Bool
-is_whole before after = standalone before after or ((before ≟ bytes " ") and starts_with after (bytes ";"))
+is_whole before after =
+    is_spared before after
+    and (ends_with before (bytes ", ") or ends_with before (bytes " = ") or has (map bytes ("(" ∷ ")(" ∷ " (" ∷ " " ∷ [])) before)
 
 -- ---- widths
 
