@@ -84,4 +84,7 @@ calls_register w = is Register w.0 and is Punct w.1 and starts_with w.1.text (by
 
 -- it may read and write every register and all memory
 unfoldable pub is_opaque : List Token → Bool
-is_opaque ts = any is_strange ts or any calls_register (windows ts) or ltb 1 (sum marks ts)
+is_opaque ts =
+    any is_strange ts or any calls_register (windows ts) or ltb 1 (sum marks ts)
+    -- one inside brackets
+    or ltb (marks_after 0 (outside 0 (frame ts))) (sum marks ts)
