@@ -30,6 +30,7 @@ use Rattle.cautions.specs.Forms.{Ways, places, places_from}
 use Rattle.cautions.specs.Joins.{none_yet, put, spread, join_cautions, cut_cautions}
 use Rattle.cautions.specs.Cautions.{picked, joined, Cut, cuts_made, both, with_cuts, uncut, cuts_of, finished_cautions, hand_on, carry, kept_cautions, Kept}
 use Rattle.cautions.proofs.Sets.{or_assoc, in_self, in_both, union_in, in_left, in_right, in_trans, get_both, picked_has, picked_in}
+use Rattle.cautions.proofs.Small.{finished_small}
 use Rattle.cautions.proofs.Handed.{length-put, through, handed}
 
 -- ---- the attempts of a run, from one listing on to another
@@ -249,5 +250,6 @@ kept_as rules input =
       each =
           with_cuts-length rules (length after) (cuts_of rules input) (cuts_long rules (labels_from 0 after) (length after) 0 after) sets long
           ∙ sym (uncut_length rules input);
+      small = finished_small rules input;
       same = ap (with_cuts rules (cuts_of rules input)) (carried rules input);
     }
