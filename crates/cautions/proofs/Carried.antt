@@ -207,7 +207,7 @@ picked-zeros P lines =
     (picked_in P (none_yet lines) 0 (λ p e. subst (λ (s : ℕ). s ⊆ 0) (sym (zeros lines p)) refl))
     refl
 
-places_from-length : (i : ℕ) (lines : Listing) → length (places_from i lines) ≡ length lines
+pub places_from-length : (i : ℕ) (lines : Listing) → length (places_from i lines) ≡ length lines
 unfolding places_from
 places_from-length i [] = refl
 places_from-length i (l ∷ lines) = ap suc (places_from-length (suc i) lines)

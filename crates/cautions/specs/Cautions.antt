@@ -2,7 +2,7 @@
 -- are put. Then the same as a program keeps them, step by step: proofs/Carried.antt shows that the two are one. Assumes nothing.
 use Rattle.std.specs.Prelude.{ℕ, zero, suc, ◌≡◌, ◌<◌, ◌^◌, Bool, true, false, List, [], ◌∷◌, ◌++◌, map, length, get_or, drop}
 use mathlib.Core.List.{flat_map}
-use Rattle.std.proofs.Math.Option.{some}
+use Rattle.std.proofs.Math.Option.{none, some}
 use Rattle.reference.specs.Control.{when◌then◌else◌}
 use Rattle.reference.specs.Lists.{get, remove, modify}
 use Rattle.reference.specs.Listing.{Listing, with_tokens}
@@ -11,7 +11,8 @@ use Rattle.reference.specs.Life.{Labels}
 use Rattle.reference.specs.Run.{Attempt, labels_from, dead_result, run, attempts_of, changed, after_attempts, after_rounds, finished}
 use Rattle.reference.specs.Marks.{comes_to}
 use Rattle.reference.specs.Tape.{to_le_bytes}
-use Rattle.cautions.specs.Kinds.{◌∪◌, ◌⊆◌, ◌given◌}
+use Rattle.reference.specs.Straight.{breaks}
+use Rattle.cautions.specs.Kinds.{odd_form, still_read, other_width, other_text, odd_number, slot, handed_over, ◌∪◌, ◌⊆◌, ◌given◌}
 use Rattle.cautions.specs.Forms.{places}
 use Rattle.cautions.specs.Joins.{none_yet, put, join_cautions, cut_cautions}
 
@@ -115,3 +116,11 @@ pub record NothingLost (rules : Rules) (input : Listing) : Type 0 where
 abbrev pub Quiet : Rules → Listing → Type 0
 Quiet rules input =
     changed (attempts_of (run rules input)) ≡ false → (run rules input).cuts ≡ [] → finished_cautions rules input ≡ none_yet input
+
+-- In the profile of straight pieces (M-106) no kind is raised that speaks of order: no call and no read has moved, and none stands between.
+abbrev pub UNORDERED : ℕ
+UNORDERED = odd_form ∪ still_read ∪ other_width ∪ other_text ∪ odd_number ∪ slot ∪ handed_over
+
+abbrev pub InOrder : Rules → Listing → Type 0
+InOrder rules input =
+    rules.profile ≡ true → breaks input ≡ none → (q : ℕ) → get_or (finished_cautions rules input) q 0 ⊆ UNORDERED
