@@ -187,12 +187,13 @@ module _ {indent : ℕ} (rules : Rules) (lines : Listing) (st : Straight indent 
   unfolding use_cautions moves_call moves_read
   use_fine j u passed new =
       let ts : List Token = (lines at j).tokens in
-      or_fine (never call_moved (moves_call rules f expr ts u) (and_false _ (ap is_some (silent_calls expr silent))))
+      or_fine (never overwritten (has (volatile rules) f.name and acts_beside ts u) (and_off (has (volatile rules) f.name) (acts_beside ts u) (nothing_beside j u)))
+      (or_fine (never call_moved (moves_call rules f expr ts u) (and_false _ (ap is_some (silent_calls expr silent))))
       (or_fine
       (never read_moved (moves_read rules f expr ts u passed)
       (or_false _ (and_off (changeable (volatile rules) expr) (acts_beside ts u) (nothing_beside j u))
       ∙ and_false _ (silent_world [] expr silent.no_symbol silent.no_keyword)))
-      (or_fine (given_fine other_width _ (kind other_width refl)) (given_fine other_text _ (kind other_text refl))))
+      (or_fine (given_fine other_width _ (kind other_width refl)) (given_fine other_text _ (kind other_text refl)))))
     where
       and_off : (a b : Bool) → b ≡ false → (a and b) ≡ false
       and_off true b e = unfold ◌and◌ in e

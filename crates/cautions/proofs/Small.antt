@@ -43,8 +43,9 @@ union_small f h (x ∷ xs) = or_small (h x) (union_small f h xs)
 use_small : (rules : Rules) (f : Fam) (expr ts : List Token) (u : ℕ) (passed : Listing) (new : List Token) → Small (use_cautions rules f expr ts u passed new)
 unfolding use_cautions
 use_small rules f expr ts u passed new =
-    or_small (given_small call_moved _ (omega arith))
-    (or_small (given_small read_moved _ (omega arith)) (or_small (given_small other_width _ (omega arith)) (given_small other_text _ (omega arith))))
+    or_small (given_small overwritten _ (omega arith))
+    (or_small (given_small call_moved _ (omega arith))
+    (or_small (given_small read_moved _ (omega arith)) (or_small (given_small other_width _ (omega arith)) (given_small other_text _ (omega arith)))))
 
 line_small : (rules : Rules) (lines : Listing) (ways : Ways) (i : ℕ) (f : Fam) (expr : List Token) (j : ℕ) (new : List Token)
     → Small (line_cautions rules lines ways i f expr j new)

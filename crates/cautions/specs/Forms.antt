@@ -153,6 +153,12 @@ Ways = List (Option (List ℕ))
 unfoldable pub ways : Listing → Ways
 ways lines = let forms : List Text = map (λ l. form l.tokens) lines in map (next lines forms) (places lines)
 
+-- line i hangs on the line above it, labels left out: an `if (..)` alone, whose form is not known
+unfoldable pub hangs : Listing → Ways → ℕ → Bool
+hangs lines ways i =
+    let_some (find (λ k. not (form (lines at k).tokens ≟ bytes ":")) (reverse (take i (places lines)))) else false then λ k.
+    not (is_some (get_or ways k none))
+
 -- a line is not looked into
 unfoldable pub is_dark : Listing → Ways → ℕ → Bool
 is_dark lines ways k = not (is_some (get_or ways k none)) or is_opaque (lines at k).tokens

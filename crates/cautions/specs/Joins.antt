@@ -1,6 +1,5 @@
 -- The cautions of one join and of one cut, from the listing just before it, and on which of its lines they stand. Assumes nothing.
-use Rattle.std.specs.Prelude.{ℕ, suc, Bool, false, List, [], ◌∷◌, map, eqb, ltb, length, get_or, reverse, pred, drop, take, filter}
-use Rattle.std.proofs.Math.Option.{none}
+use Rattle.std.specs.Prelude.{ℕ, suc, Bool, false, List, [], ◌∷◌, map, eqb, ltb, length, get_or, reverse, drop, take, filter}
 use Rattle.std.proofs.Math.Seq.{slice}
 use Rattle.reference.specs.Control.{not, ◌and◌, ◌or◌, when◌then◌else◌, let_some◌else◌then◌}
 use Rattle.reference.specs.Lists.{any, is_empty, is_some}
@@ -13,7 +12,7 @@ use Rattle.reference.specs.Run.{Attempt}
 use Rattle.reference.specs.Marks.{moved}
 use Rattle.cautions.specs.Kinds.{odd_form, still_read, overwritten, odd_number, slot, handed_over, ◌∪◌, ◌given◌, union}
 use Rattle.cautions.specs.Texts.{holds}
-use Rattle.cautions.specs.Forms.{is_entered, places, Ways, ways, is_dark, reads, reached}
+use Rattle.cautions.specs.Forms.{is_entered, places, Ways, ways, hangs, is_dark, reads, reached}
 use Rattle.cautions.specs.Uses.{places_of, use_cautions, numbers_odd}
 
 -- ---- a register's value that is no longer put there
@@ -46,10 +45,10 @@ is_handed rules lines fam far =
 -- ---- one join: line i, which assigns `expr` to f, into the lines `into`
 
 module _ (rules : Rules) (lines : Listing) (ways : Ways) (i : ℕ) (f : Fam) (expr : List Token) where
-  -- a line from i to the last use is not looked into, or control may come to one of them but the first from elsewhere
+  -- a line from i to the last use is not looked into, or control may come to one of them from elsewhere
   unfoldable pub is_odd : ℕ → Bool
   is_odd last =
-      (ltb 0 i and not (is_some (get_or ways (pred i) none)))
+      hangs lines ways i
       or any (is_dark lines ways) (slice i (suc last) (places lines))
       or any (λ l. is_entered l.tokens) (slice (suc i) (suc last) lines)
 

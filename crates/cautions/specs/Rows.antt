@@ -88,7 +88,7 @@ pub record Rows : Type 0 where
   pub minus_minus_register : warns ("rax = -rcx;" ∷ "rbx = -rax;" ∷ []) (("rbx = --rcx;", other_text ∪ handed_over) ∷ [])
   pub lost_brackets :
       warns ("rax = (rcx) - (rdx);" ∷ "rbx = rsi - rax;" ∷ []) (("rbx = rsi - (rcx) - (rdx);", other_text ∪ handed_over) ∷ [])
-  pub call_order : warns ("rax = f();" ∷ "rbx = g() + rax;" ∷ []) (("rbx = g() + f();", call_moved) ∷ [])
+  pub call_order : warns ("rax = f();" ∷ "rbx = g() + rax;" ∷ []) (("rbx = g() + f();", overwritten ∪ call_moved) ∷ [])
   pub call_skipped : warns ("rax = f();" ∷ "rbx = rcx && rax;" ∷ []) (("rbx = rcx && f();", odd_form ∪ call_moved) ∷ [])
   pub read_past_store :
       warns ("rax = *(rcx);" ∷ "var_8 = 5;" ∷ "rbx = rax;" ∷ []) (plain "var_8 = 5;" ∷ ("rbx = *(rcx);", odd_form ∪ handed_over) ∷ [])
@@ -101,7 +101,7 @@ pub record Rows : Type 0 where
       warns ("rax = rcx, rdx;" ∷ "rbx = f(rax);" ∷ []) (("rbx = f(rcx, rdx);", other_text) ∷ [])
       × warns ("rax = rcx, rdx;" ∷ "return rax;" ∷ []) (("return rcx, rdx;", other_text) ∷ [])
   pub two_changes : warns ("rax = rcx++;" ∷ "rbx = rcx + rax;" ∷ []) (("rbx = rcx + rcx++;", odd_form ∪ other_text ∪ handed_over) ∷ [])
-  pub read_past_call : warns ("rax = var_8;" ∷ "rbx = f() + rax;" ∷ []) (("rbx = f() + var_8;", read_moved) ∷ [])
+  pub read_past_call : warns ("rax = var_8;" ∷ "rbx = f() + rax;" ∷ []) (("rbx = f() + var_8;", overwritten ∪ read_moved) ∷ [])
   pub call_under_condition : warns ("rax = f();" ∷ "if (rcx) rbx = rax;" ∷ []) (("if (rcx) rbx = f();", call_moved ∪ handed_over) ∷ [])
   pub second_statement : warns ("rax = rcx;" ∷ "rcx = 1; rbx = rax;" ∷ []) (("rcx = 1; rbx = rcx;", odd_form) ∷ [])
   pub two_statements_moved :

@@ -3,14 +3,14 @@
 use Rattle.std.specs.Prelude.{ℕ, suc, ◌+◌, ◌-◌, min, Bool, false, List, [], ◌∷◌, ◌++◌, map, eqb, ltb, leb, take}
 use Rattle.reference.specs.Control.{not, ◌and◌, ◌or◌, when◌then◌else◌, let_some◌else◌then◌}
 use Rattle.reference.specs.Lists.{any, count, is_empty, is_some, get}
-use Rattle.reference.specs.Text.{Text, bytes, ◌≟◌, contains, starts_with, ends_with}
+use Rattle.reference.specs.Text.{Text, bytes, ◌≟◌, has, contains, starts_with, ends_with}
 use Rattle.reference.specs.Listing.{Token, is, Number, Keyword, Address, Listing}
 use Rattle.reference.specs.Names.{Fam, fam_of, of_family}
 use Rattle.reference.specs.Rules.{Rules, volatile}
 use Rattle.reference.specs.Numbers.{read_number}
 use Rattle.reference.specs.Shapes.{call_in}
 use Rattle.reference.specs.Join.{substitute, text_before, text_after, is_bracketed, lone_number, use_width, use_lowest}
-use Rattle.cautions.specs.Kinds.{call_moved, read_moved, other_width, other_text, ◌∪◌, ◌given◌}
+use Rattle.cautions.specs.Kinds.{overwritten, call_moved, read_moved, other_width, other_text, ◌∪◌, ◌given◌}
 use Rattle.cautions.specs.Texts.{holds, last_byte, frame, outside, loose}
 use Rattle.cautions.specs.Forms.{is_guarded}
 use Rattle.cautions.specs.Values.{world, changeable, rest, acts_beside, is_spared, is_whole, full, widths_in, natural, is_plain, lone_call, fits, is_tame}
@@ -23,6 +23,10 @@ is_folded f expr old new = ltb (count (is Number) new) (count (is Number) (subst
 
 unfoldable pub compares : Text → Bool
 compares s = any (λ c. holds c s) (map bytes (" == " ∷ " != " ∷ " < " ∷ " > " ∷ " <= " ∷ " >= " ∷ []))
+
+-- a comparison, or `!` in front: 0 or 1
+unfoldable pub is_truth : List Token → Bool
+is_truth expr = let s : Text = outside 0 (frame expr) in starts_with s (bytes "!") or compares s
 
 unfoldable pub number_at : List Token → ℕ → Bool
 number_at ts q = let_some (get ts q) else false then is Number
@@ -68,16 +72,17 @@ module _ (rules : Rules) (f : Fam) (expr : List Token) (ts : List Token) (u : �
       let_some (read_number rules.edition t.text) else false then λ n.
       not beside_narrower and ((eqb widths.0 64 and eqb widths.1 64) or (leb 32 widths.0 and fits (min widths.0 widths.1) n))
 
-  -- the expression's own width is the register's, or it is a 32-bit value handed on whole as one of 64 bits; what is computed at less than
-  -- 32 bits C computes as an int
+  -- The expression's own width is the register's, or it is a 32-bit value handed on whole as one of 64 bits. C computes what is narrower than
+  -- an int as an int, and at 64 bits what a large number stands in; and a comparison has no register's width.
   unfoldable pub width_kept : Bool
   width_kept =
       let own : ℕ = natural rules.convention expr in
       when lone_number expr then number_fits
+      else when is_truth expr then is_whole before behind
       else when not (eqb widths.0 widths.1)
       then eqb widths.0 32 and eqb widths.1 64 and eqb own 32 and is_whole before behind
       else when lone_call expr then eqb widths.0 (full rules.convention) or (leb 32 widths.0 and (f.name ≟ bytes "rax"))
-      else eqb own widths.0 and (leb 32 own or is_plain expr)
+      else eqb own widths.0 and (eqb own 64 or is_plain expr or (eqb own 32 and not (any (λ t. not (is_tame t)) expr)))
 
   -- a Number is computed with the use
   unfoldable pub beside_number : Bool
@@ -119,7 +124,8 @@ module _ (rules : Rules) (f : Fam) (expr : List Token) (ts : List Token) (u : �
   -- those of the use, which passes these lines and makes the line `new`
   unfoldable pub use_cautions : Listing → List Token → ℕ
   use_cautions passed new =
-      call_moved given moves_call ∪ read_moved given moves_read passed ∪ other_width given (changes_width or sums_numbers new)
+      overwritten given (has (volatile rules) f.name and acts_beside ts u)
+      ∪ call_moved given moves_call ∪ read_moved given moves_read passed ∪ other_width given (changes_width or sums_numbers new)
       ∪ other_text given not (is_apart and groups)
 
 -- the places of a family's tokens, numbered from p
