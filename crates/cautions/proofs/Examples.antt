@@ -14,6 +14,7 @@ others =
       sum_of_unsigned = (refl, refl);
       sign_of_a_byte = (refl, refl);
       result_through_32_bits = (refl, refl);
+      entered_from_the_switch = (refl, refl);
       through_another_line = (refl, refl);
     }
 

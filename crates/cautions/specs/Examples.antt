@@ -2,7 +2,7 @@
 -- listings, which get no caution: the starred examples of document 01, their result returned, and pieces of samples/press. Proved in
 -- proofs/Examples.antt. Assumes nothing.
 use Rattle.std.specs.Prelude.{[], ◌∷◌}
-use Rattle.cautions.specs.Kinds.{read_moved, other_width, odd_number}
+use Rattle.cautions.specs.Kinds.{still_read, read_moved, other_width, odd_number}
 use Rattle.cautions.specs.Notation.{plain, warns, quiet}
 
 pub record Others : Type 0 where
@@ -14,6 +14,13 @@ pub record Others : Type 0 where
   -- ---- found by execution
   pub sign_of_a_byte : warns ("al = 0x80;" ∷ "ecx = (int32_t)al;" ∷ "h(ecx);" ∷ []) (("h((int32_t)0x80);", other_width) ∷ [])
   pub result_through_32_bits : warns ("rax = h();" ∷ "ebp = eax;" ∷ "return ebp;" ∷ []) (("return h();", other_width) ∷ [])
+  -- the second case is entered from the switch, past the overwrite in the first
+  pub entered_from_the_switch :
+      warns
+      ("rax = rcx;" ∷ "rbx = rax;" ∷ "switch (rsi) {" ∷ "case 0:" ∷ "rax = 1;" ∷ "goto M;" ∷ "case 1:" ∷ "h(rax);" ∷ "}" ∷ "M:"
+      ∷ "return rbx;" ∷ [])
+      (("rbx = rcx;", still_read) ∷ plain "switch (rsi) {" ∷ plain "case 0:" ∷ plain "rax = 1;" ∷ plain "goto M;" ∷ plain "case 1:"
+      ∷ ("h(rax);", still_read) ∷ plain "}" ∷ plain "M:" ∷ plain "return rbx;" ∷ [])
   -- the caution of the first join comes to the finished line through the second
   pub through_another_line :
       warns

@@ -4,7 +4,7 @@ use Rattle.std.specs.Prelude.{ℕ, suc, ◌+◌, ◌-◌, min, Bool, false, List
 use Rattle.reference.specs.Control.{not, ◌and◌, ◌or◌, when◌then◌else◌, let_some◌else◌then◌}
 use Rattle.reference.specs.Lists.{any, count, is_empty, is_some, get}
 use Rattle.reference.specs.Text.{Text, bytes, ◌≟◌, has, contains, starts_with, ends_with}
-use Rattle.reference.specs.Listing.{Token, is, Number, Keyword, Address, Listing}
+use Rattle.reference.specs.Listing.{Token, is, Number, Keyword, Address, Punct, Listing}
 use Rattle.reference.specs.Names.{Fam, fam_of, of_family}
 use Rattle.reference.specs.Rules.{Rules, volatile}
 use Rattle.reference.specs.Numbers.{read_number}
@@ -27,6 +27,12 @@ compares s = any (λ c. holds c s) (map bytes (" == " ∷ " != " ∷ " < " ∷ "
 -- a comparison, or `!` in front: 0 or 1
 unfoldable pub is_truth : List Token → Bool
 is_truth expr = let s : Text = outside 0 (frame expr) in starts_with s (bytes "!") or compares s
+
+-- the delimiters are the generator's: no operator directly in front, and none directly behind
+unfoldable pub is_apart : Text → Text → Bool
+is_apart before behind =
+    not (is_empty before) and not (contains (bytes "+-*/%&|^<>=!~") (last_byte before))
+    and any (λ c. contains (bytes "),; ") c) (take 1 behind) and not (starts_with behind (bytes " %"))
 
 unfoldable pub number_at : List Token → ℕ → Bool
 number_at ts q = let_some (get ts q) else false then is Number
@@ -106,14 +112,8 @@ module _ (rules : Rules) (f : Fam) (expr : List Token) (ts : List Token) (u : �
   unfoldable pub changes_width : Bool
   changes_width = not (eqb f.lowest (use_lowest ts u)) or sign_lost or not (target_cuts or width_kept)
 
-  -- the delimiters are the generator's: no operator directly in front, and none directly behind
-  unfoldable pub is_apart : Bool
-  is_apart =
-      not (is_empty before) and not (contains (bytes "+-*/%&|^<>=!~") (last_byte before))
-      and any (λ c. contains (bytes "),; ") c) (take 1 behind) and not (starts_with behind (bytes " %"))
-
   unfoldable pub is_address : Bool
-  is_address = ends_with (text_before expr 1) (bytes "&") or any (is Address) (take 1 expr)
+  is_address = any (λ t. is Address t or (is Punct t and ends_with t.text (bytes "&"))) (take 1 expr)
 
   -- a comma stays inside brackets, an address out of sums, and what gets no brackets needs none
   unfoldable pub groups : Bool
@@ -126,7 +126,7 @@ module _ (rules : Rules) (f : Fam) (expr : List Token) (ts : List Token) (u : �
   use_cautions passed new =
       overwritten given (has (volatile rules) f.name and acts_beside ts u)
       ∪ call_moved given moves_call ∪ read_moved given moves_read passed ∪ other_width given (changes_width or sums_numbers new)
-      ∪ other_text given not (is_apart and groups)
+      ∪ other_text given not (is_apart before behind and groups)
 
 -- the places of a family's tokens, numbered from p
 unfoldable pub places_of : Text → ℕ → List Token → List ℕ
