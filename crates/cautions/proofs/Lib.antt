@@ -7,6 +7,7 @@ pub mod Small
 pub mod Handed
 pub mod Carried
 pub mod Lost
+pub mod Grouped
 pub mod Ordered
 pub mod Rows
 pub mod Examples
