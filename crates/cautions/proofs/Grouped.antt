@@ -1,6 +1,6 @@
 -- In the profile of straight pieces an expression's text groups as it did: its Puncts hold no comma and no address, it gets brackets unless it is one
 -- term, and a use stands between spaces and brackets. Assumes nothing.
-use Prim.Native.Nat.{ℕ, suc}
+use Prim.Native.Nat.{ℕ, zero, suc}
 use native.Mathlib.Omega.{arith}
 use mathlib.Core.Path.{◌≡◌, refl, sym, ap, ◌∙◌, subst}
 use mathlib.Core.Logic.{◌⊎◌, inl, inr, ⊎_elim}
@@ -12,11 +12,11 @@ use borrow.Author.Tests.{ltb-false}
 use Rattle.reference.specs.Control.{not, ◌and◌, ◌or◌, when◌then◌else◌, let_some◌else◌then◌}
 use Rattle.reference.specs.Lists.{any, is_empty, get}
 use Rattle.reference.specs.Text.{Text, bytes, contains, starts_with, ends_with}
-use Rattle.reference.specs.Listing.{Token, is, Register, Number, Keyword, Address, Punct}
+use Rattle.reference.specs.Listing.{Token, is, Register, Number, Keyword, Address, Punct, Listing, ◌at◌}
 use Rattle.reference.specs.Names.{Fam, of_family}
 use Rattle.reference.specs.Rules.{Rules}
-use Rattle.reference.specs.Shapes.{is_operator_expr}
-use Rattle.reference.specs.Join.{text_or_empty, is_bracketed}
+use Rattle.reference.specs.Shapes.{is_kw, is_operator_expr}
+use Rattle.reference.specs.Join.{written_from, text_or_empty, is_bracketed}
 use Rattle.reference.specs.Evaluators.{Store, of_integer}
 use Rattle.reference.specs.Straight.{puncts_apart}
 use Rattle.reference.proofs.Cases.{by-if, neither, both, true-false, fails, either, not-true, pair, same_number}
@@ -27,6 +27,8 @@ use Rattle.straight.proofs.Machine.{text_broken, run-broken, step-punct, step-re
 use Rattle.straight.proofs.Substituting.{wide-register, number_kind}
 use Rattle.straight.proofs.Expression.{Worth}
 use Rattle.straight.proofs.Folding.{alive, term_wanted}
+use Rattle.straight.proofs.Flow.{Assigns, assigns, Returns, returns, Straight, last, next}
+use Rattle.straight.proofs.Rewriting.{return-family, unwritten}
 use Rattle.cautions.specs.Texts.{frame, deeper, outside, after_unary, all_words, loose, last_byte}
 use Rattle.cautions.specs.Uses.{is_apart, is_address, groups}
 
@@ -307,6 +309,15 @@ no_want v (signed p k) e = let z : ◌≡◌ {A = ℕ} 0 1 = cc in omega arith
 no_want v (done u) e = let z : ◌≡◌ {A = ℕ} 0 1 = cc in omega arith
 no_want v broken e = let z : ◌≡◌ {A = ℕ} 0 1 = cc in omega arith
 
+-- where a term is wanted, the token before is a Punct that ends in a space or a bracket
+Led : Token → State → Type 0
+Led b s = (p : Pending) (k : List Pending) → s ≡ wants p k → (is Punct b ≡ true) × Opens b.text
+
+-- each token of the family x stands between texts of the profile
+abbrev pub AllApart : Text → Token → List Token → Type 0
+AllApart x b [] = Unit {0}
+AllApart x b (w ∷ ws) = (of_family x w ≡ true → is_apart b.text (text_or_empty (get ws 0)) ≡ true) × AllApart x w ws
+
 module _ (σ : Store) (end : ℕ) where
   -- no text is read on from a broken state
   living : (cs : Text) (s : State) (rest : List Token) → run-tokens σ rest (text_step cs s) ≡ done end → s ≡ broken → ⊥
@@ -369,17 +380,6 @@ module _ (σ : Store) (end : ℕ) where
       text_ends t.text ts v k (sym (ap (run-tokens σ ts) (step-punct σ t (holds v k) p)) ∙ h)
       (subst (λ (b : Bool). puncts_apart b ts ≡ true) p (apart_parts false t ts a).1)
 
-  -- ---- a use between them
-
-  -- where a term is wanted, the token before is a Punct that ends in a space or a bracket
-  Led : Token → State → Type 0
-  Led b s = (p : Pending) (k : List Pending) → s ≡ wants p k → (is Punct b ≡ true) × Opens b.text
-
-  -- each token of the family x, between the one before it and the one behind it
-  AllApart : Text → Token → List Token → Type 0
-  AllApart x b [] = Unit {0}
-  AllApart x b (w ∷ ws) = (of_family x w ≡ true → is_apart b.text (text_or_empty (get ws 0)) ≡ true) × AllApart x w ws
-
   apart_text : (s r : Text) → Opens s → Ends r → is_apart s r ≡ true
   unfolding is_apart
   apart_text s r o e =
@@ -405,7 +405,7 @@ module _ (σ : Store) (end : ℕ) where
       go (breaks f) = absurd (alive σ end ws (token-step σ w s) h (f σ s))
 
   all_apart : (x : Text) (b : Token) (ws : List Token) (s : State) → Led b s → puncts_apart (is Punct b) ws ≡ true → run-tokens σ ws s ≡ done end → AllApart x b ws
-  unfolding AllApart Led run-tokens term
+  unfolding Led run-tokens term
   all_apart x b [] s led a h = tt
   all_apart x b (w ∷ ws) s led a h =
       (λ f. here f (step_of σ w), all_apart x w ws (token-step σ w s) (led_on b w ws s led a h) (apart_parts (is Punct b) w ws a).1 h)
@@ -421,3 +421,52 @@ module _ (σ : Store) (end : ℕ) where
       here f (punct p) = absurd (true-false p (other_kind Register Punct w refl (family-register x w f)))
       here f (number z n) = absurd (true-false (number_kind w z n) (other_kind Register Number w refl (family-register x w f)))
       here f (breaks g) = absurd (alive σ end ws (token-step σ w s) h (g σ s))
+
+-- ---- in a line
+
+-- the same of a line's tokens, behind the first
+abbrev pub LineApart : Text → List Token → Type 0
+LineApart x [] = Unit {0}
+LineApart x (t ∷ ts) = AllApart x t ts
+
+no_lead : (t : Token) (s : State) → ((p : Pending) (k : List Pending) → s ≡ wants p k → ⊥) → Led t s
+unfolding Led
+no_lead t s f p k e = absurd (f p k e)
+
+pub assigns_apart : (x y : Text) (ts : List Token) → Assigns ts y → LineApart x ts
+assigns_apart x y [] x' = elim x' [ ]
+assigns_apart x y (t ∷ ts) (assigns w r a) =
+    all_apart zeros (r zeros).0 x t ts fresh (no_lead t fresh (λ p k e. (let z : ◌≡◌ {A = ℕ} 0 1 = cc in omega arith)))
+    (subst (λ (b : Bool). puncts_apart b ts ≡ true) (sym (other_kind Register Punct t refl (wide-register t y w))) a) (r zeros).1
+
+pub returns_apart : (x : Text) (ts : List Token) → Returns ts → LineApart x ts
+unfolding is_kw
+returns_apart x [] x' = elim x' [ ]
+returns_apart x (t ∷ ts) (returns w r a) =
+    all_apart zeros (r zeros).0 x t ts equals (no_lead t equals (λ p k e. (let z : ◌≡◌ {A = ℕ} 0 1 = cc in omega arith)))
+    (subst (λ (b : Bool). puncts_apart b ts ≡ true) (sym (other_kind Keyword Punct t refl (both w).0)) a) (r zeros).1
+
+pub line_apart : {indent : ℕ} {lines : Listing} (x : Text) (j : ℕ) → Straight indent lines → LineApart x (lines at j).tokens
+line_apart x zero (last {l = l} e r) = returns_apart x l.tokens r
+line_apart x (suc j) (last e r) = tt
+line_apart x zero (next {l = l} y e a more) = assigns_apart x y l.tokens a
+line_apart x (suc j) (next y e a more) = line_apart x j more
+
+-- the first token is not of a family that the line does not write
+abbrev pub First : Text → List Token → Type 0
+First x [] = Unit {0}
+First x (t ∷ ts) = of_family x t ≡ false
+
+pub line_first : {indent : ℕ} {lines : Listing} (x : Text) (j : ℕ) → Straight indent lines → written_from x (lines at j).tokens ≡ false → First x (lines at j).tokens
+line_first x zero (last {l = l} e r) w = go l.tokens r
+  where
+    go : (ts : List Token) → Returns ts → First x ts
+    go [] x' = elim x' [ ]
+    go (t ∷ ts) (returns v r a) = return-family x t v
+line_first x (suc j) (last e r) w = tt
+line_first x zero (next {l = l} y e a more) w = go l.tokens a w
+  where
+    go : (ts : List Token) → Assigns ts y → written_from x ts ≡ false → First x ts
+    go [] x' w = elim x' [ ]
+    go (t ∷ ts) a w = unwritten x y t ts a w
+line_first x (suc j) (next y e a more) w = line_first x j more w

@@ -1,6 +1,6 @@
--- Opened computes the examples (Rows, Examples). Sets has the laws of union, Small that each has the ten kinds alone, Handed what a removed line hands on, Carried that the cautions kept
--- step by step are those of the definition, Lost that none is lost, and that there is none where no step succeeds, Ordered that in
--- the profile of straight pieces no kind of order is raised.
+-- Opened computes the examples (Rows, Examples). Sets has the laws of union; Small: each set has the ten kinds alone; Handed: what a removed line hands
+-- on; Carried: kept step by step the cautions are those of the definition; Lost: none is lost, and there is none where no step succeeds; Grouped and
+-- Ordered: in the profile of straight pieces no kind of order or grouping is raised.
 pub mod Opened
 pub mod Sets
 pub mod Small

@@ -12,7 +12,7 @@ use Rattle.reference.specs.Run.{Attempt, labels_from, dead_result, run, attempts
 use Rattle.reference.specs.Marks.{comes_to}
 use Rattle.reference.specs.Tape.{to_le_bytes}
 use Rattle.reference.specs.Straight.{breaks}
-use Rattle.cautions.specs.Kinds.{odd_form, still_read, other_width, other_text, odd_number, slot, handed_over, ◌∪◌, ◌⊆◌, ◌given◌}
+use Rattle.cautions.specs.Kinds.{odd_form, still_read, other_width, odd_number, slot, handed_over, ◌∪◌, ◌⊆◌, ◌given◌}
 use Rattle.cautions.specs.Forms.{places}
 use Rattle.cautions.specs.Joins.{none_yet, put, join_cautions, cut_cautions}
 
@@ -117,10 +117,10 @@ abbrev pub Quiet : Rules → Listing → Type 0
 Quiet rules input =
     changed (attempts_of (run rules input)) ≡ false → (run rules input).cuts ≡ [] → finished_cautions rules input ≡ none_yet input
 
--- In the profile of straight pieces (M-106) no kind is raised that speaks of order: no call and no read has moved, and none stands between.
-abbrev pub UNORDERED : ℕ
-UNORDERED = odd_form ∪ still_read ∪ other_width ∪ other_text ∪ odd_number ∪ slot ∪ handed_over
+-- In the profile of straight pieces (M-106) no kind is raised that speaks of order or grouping: no call and no read has moved, no call stands
+-- between, and the text of each line groups as it did.
+abbrev pub VALUES : ℕ
+VALUES = odd_form ∪ still_read ∪ other_width ∪ odd_number ∪ slot ∪ handed_over
 
 abbrev pub InOrder : Rules → Listing → Type 0
-InOrder rules input =
-    rules.profile ≡ true → breaks input ≡ none → (q : ℕ) → get_or (finished_cautions rules input) q 0 ⊆ UNORDERED
+InOrder rules input = rules.profile ≡ true → breaks input ≡ none → (q : ℕ) → get_or (finished_cautions rules input) q 0 ⊆ VALUES
