@@ -30,7 +30,7 @@ use Rattle.straight.proofs.Folding.{alive, term_wanted}
 use Rattle.straight.proofs.Flow.{Assigns, assigns, Returns, returns, Straight, last, next}
 use Rattle.straight.proofs.Rewriting.{return-family, unwritten}
 use Rattle.cautions.specs.Texts.{frame, deeper, outside, after_unary, all_words, loose, last_byte}
-use Rattle.cautions.specs.Uses.{is_apart, is_address, groups}
+use Rattle.cautions.specs.Uses.{OPERATORS, is_apart, is_address, groups}
 
 -- ---- bytes that break the reader
 
@@ -381,12 +381,12 @@ module _ (σ : Store) (end : ℕ) where
       (subst (λ (b : Bool). puncts_apart b ts ≡ true) p (apart_parts false t ts a).1)
 
   apart_text : (s r : Text) → Opens s → Ends r → is_apart s r ≡ true
-  unfolding is_apart
+  unfolding is_apart ◌or◌
   apart_text s r o e =
       pair (opposite o.0)
       (pair (opposite (⊎_elim
-      (λ (z : last_byte s ≡ 32). ap (contains (bytes "+-*/%&|^<>=!~")) z ∙ (unfold ◌or◌ in refl))
-      (λ (z : last_byte s ≡ 40). ap (contains (bytes "+-*/%&|^<>=!~")) z ∙ (unfold ◌or◌ in refl)) o.1))
+      (λ (z : last_byte s ≡ 32). ap (contains OPERATORS) z)
+      (λ (z : last_byte s ≡ 40). ap (contains OPERATORS) z) o.1))
       (pair e.0 (opposite e.1)))
 
   led_on : (b w : Token) (ws : List Token) (s : State) → Led b s → puncts_apart (is Punct b) (w ∷ ws) ≡ true → run-tokens σ (w ∷ ws) s ≡ done end

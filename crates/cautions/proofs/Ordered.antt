@@ -260,11 +260,11 @@ module _ {indent : ℕ} (rules : Rules) (on : rules.profile ≡ true) (lines : L
 
   none_past : (ways : Ways) (i until : ℕ) → past_call rules lines ways i f expr until ≡ false
   unfolding past_call calls
-  none_past ways i until = go (has (volatile rules) f.name)
+  none_past ways i until = go (has (volatile rules) f.name) (suc i) until
     where
-      go : (b : Bool) → (b and any calls (slice (suc i) until lines)) ≡ false
-      go true = unfold ◌and◌ in any_drop (suc i) (take until lines) (any_take until lines (no_line_calls st))
-      go false = unfold ◌and◌ in refl
+      go : (b : Bool) (m n : ℕ) → (b and any calls (slice m n lines)) ≡ false
+      go true m n = unfold ◌and◌ in any_drop m (take n lines) (any_take n lines (no_line_calls st))
+      go false m n = unfold ◌and◌ in refl
 
   uses_fine : (ways : Ways) (i : ℕ) (into : List ℕ) (left : Listing) → All (λ j. written_from f.name (lines at j).tokens ≡ false) into
       → Fine (uses_cautions rules lines ways i f expr into left)

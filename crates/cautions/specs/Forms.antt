@@ -17,7 +17,6 @@ use Rattle.cautions.specs.Texts.{is_opaque}
 
 -- ---- forms
 
--- the words of a text, one blank between two
 abbrev CASES : List Text
 CASES = bytes "case" ∷ bytes "default" ∷ []
 
@@ -25,6 +24,10 @@ abbrev CONTROL : List Text
 CONTROL =
     bytes "if" ∷ bytes "else" ∷ bytes "do" ∷ bytes "while" ∷ bytes "for" ∷ bytes "goto" ∷ bytes "return" ∷ bytes "break"
     ∷ bytes "continue" ∷ bytes "switch" ∷ []
+
+-- the words of control
+abbrev pub WORDS : List Text
+WORDS = CASES ++ CONTROL
 
 -- the Keywords of a line that are among these
 unfoldable pub words_in : List Text → List Token → Text
@@ -43,7 +46,7 @@ form ts =
 
 -- its first control word is `case` or `default`
 unfoldable pub is_case : List Token → Bool
-is_case ts = let_some (find (λ t. is Keyword t and has (CASES ++ CONTROL) t.text) ts) else false then λ t. has CASES t.text
+is_case ts = let_some (find (λ t. is Keyword t and has WORDS t.text) ts) else false then λ t. has CASES t.text
 
 -- what it does hangs on a condition in front
 unfoldable pub is_guarded : List Token → Bool

@@ -146,7 +146,7 @@ pub record Rows : Type 0 where
       × warns ("rax = 5;" ∷ "++rax;" ∷ "rbx = rax;" ∷ []) (("++5;", other_text ∪ handed_over) ∷ ("rbx = 5;", other_text ∪ handed_over) ∷ [])
       × warns
       ("rax = 5;" ∷ "if (rsi) rax=1;" ∷ "rbx = rax;" ∷ [])
-      (("if (rsi) 5=1;", other_width ∪ other_text ∪ handed_over) ∷ ("rbx = 5;", other_width ∪ other_text ∪ handed_over) ∷ [])
+      (("if (rsi) 5=1;", other_text ∪ handed_over) ∷ ("rbx = 5;", other_text ∪ handed_over) ∷ [])
       × warns ("var_8 = rcx;" ∷ "var_8.f = 1;" ∷ "f(rcx);" ∷ []) (("rcx.f = 1;", other_text ∪ slot) ∷ plain "f(rcx);" ∷ [])
   -- ---- statements
   pub jump_past_overwrite :

@@ -28,10 +28,13 @@ compares s = any (λ c. holds c s) (map bytes (" == " ∷ " != " ∷ " < " ∷ "
 unfoldable pub is_truth : List Token → Bool
 is_truth expr = let s : Text = outside 0 (frame expr) in starts_with s (bytes "!") or compares s
 
+abbrev pub OPERATORS : Text
+OPERATORS = bytes "+-*/%&|^<>=!~"
+
 -- the delimiters are the generator's: no operator directly in front, and none directly behind
 unfoldable pub is_apart : Text → Text → Bool
 is_apart before behind =
-    not (is_empty before) and not (contains (bytes "+-*/%&|^<>=!~") (last_byte before))
+    not (is_empty before) and not (contains OPERATORS (last_byte before))
     and any (λ c. contains (bytes "),; ") c) (take 1 behind) and not (starts_with behind (bytes " %"))
 
 unfoldable pub number_at : List Token → ℕ → Bool

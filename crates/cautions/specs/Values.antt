@@ -10,6 +10,7 @@ use Rattle.reference.specs.Names.{fam_of}
 use Rattle.reference.specs.Numbers.{read_number}
 use Rattle.reference.specs.Shapes.{is_kw, calls_here, call_in}
 use Rattle.reference.specs.Join.{standalone, text_or_empty}
+use Rattle.cautions.specs.Forms.{WORDS}
 use Rattle.cautions.specs.Texts.{holds, marks, frame, depth, outside, all_words, loose}
 
 -- ---- reads
@@ -93,12 +94,17 @@ cast_width s =
     when holds (bytes "int8_t") s then 8 else when holds (bytes "int16_t") s then 16 else when holds (bytes "int32_t") s then 32
     else when holds (bytes "int64_t") s or holds (bytes "void *") s then 64 else 0
 
--- the width of one token behind a text: none for numbers and Puncts, 0 if it is not known
+-- words of control, and the cast that changes no width
+unfoldable pub has_no_width : Token → Bool
+has_no_width t = is Keyword t and (has WORDS t.text or (t.text ≟ bytes "(unsigned)"))
+
+-- the width of one token behind a text: none for numbers, Puncts and words, 0 if it is not known
 unfoldable pub token_width : ℕ → Text → Token → Option ℕ
 token_width convention before t =
-    when is Number t or is Punct t then none
+    when is Number t or is Punct t or has_no_width t then none
     else when is Address t or is_cell t or ends_with before (bytes "&") then some (full convention)
     else when is Symbol t then some (name_width convention t.text)
+    else when is Keyword t then some (cast_width t.text)
     else let_some (fam_of t) else some 0 then λ f. some f.width
 
 -- the widths of all tokens that have one
