@@ -1,9 +1,9 @@
 -- Kept step by step the cautions are those of the definition (`kept`), one set for each finished line. Assumes nothing.
-use Prim.Native.Nat.{ℕ, zero, suc, ◌+◌, ◌<◌, ◌≤◌}
+use Prim.Native.Nat.{ℕ, zero, suc, ◌+◌, ◌*◌, ◌<◌, ◌≤◌}
 use native.Mathlib.Omega.{arith}
 use mathlib.Core.Path.{◌≡◌, refl, sym, ap, ◌∙◌, subst}
 use mathlib.Core.Bool.{Bool, false}
-use mathlib.Core.List.{List, [], ◌∷◌, ◌++◌, map, flatten}
+use mathlib.Core.List.{List, [], ◌∷◌, ◌++◌, map, flatten, flat_map}
 use lib.Dec.{eqb}
 use lib.ListN.{length, get_or, drop, length-map}
 use lib.Seq.{ext_get_or}
@@ -25,10 +25,11 @@ use Rattle.reference.proofs.Changes.{removed-length}
 use Rattle.reference.proofs.Attempts.{attempt_removed, Joined, attempt_joined}
 use Rattle.reference.proofs.Rounds.{run-taken}
 use Rattle.reference.proofs.Marks.{finished_is}
+use Rattle.reference.specs.Tape.{to_le_bytes}
 use Rattle.cautions.specs.Kinds.{◌∪◌, ◌⊆◌}
 use Rattle.cautions.specs.Forms.{Ways, places, places_from}
 use Rattle.cautions.specs.Joins.{none_yet, put, spread, join_cautions, cut_cautions}
-use Rattle.cautions.specs.Cautions.{picked, joined, Cut, cuts_made, both, with_cuts, uncut, cuts_of, finished_cautions, hand_on, carry, kept_cautions, Kept}
+use Rattle.cautions.specs.Cautions.{picked, joined, Cut, cuts_made, both, with_cuts, uncut, cuts_of, finished_cautions, caution_bytes, hand_on, carry, kept_cautions, Kept}
 use Rattle.cautions.proofs.Sets.{or_assoc, in_self, in_both, union_in, in_left, in_right, in_trans, get_both, picked_has, picked_in}
 use Rattle.cautions.proofs.Small.{finished_small}
 use Rattle.cautions.proofs.Handed.{length-put, through, handed}
@@ -239,6 +240,11 @@ carried rules input =
     ∙ ap (λ (s : ℕ). s ∪ joined rules input all q) (picked-zeros (λ p. comes_to all p q) input)
     ∙ sym (by_place_at (joined rules input all) (uncut rules input) q (omega (arith, long))))
 
+bytes-length : (sets : List ℕ) → length (caution_bytes sets) ≡ 2 * length sets
+unfolding caution_bytes flat_map to_le_bytes
+bytes-length [] = refl
+bytes-length (s ∷ sets) = let r = bytes-length sets in omega (arith, r)
+
 -- THE CAUTIONS KEPT STEP BY STEP ARE THOSE OF THE DEFINITION, one set for each finished line
 pub kept_as : (rules : Rules) (input : Listing) → Kept rules input
 unfolding kept_cautions finished_cautions
@@ -246,10 +252,12 @@ kept_as rules input =
     let after : Listing = uncut rules input in
     let sets : List ℕ = map (joined rules input (attempts_of (run rules input))) (places after) in
     let long : length sets ≡ length after = length-map (places after) _ ∙ places_from-length 0 after in
+    let each : length (finished_cautions rules input) ≡ length (finished rules input) =
+    with_cuts-length rules (length after) (cuts_of rules input) (cuts_long rules (labels_from 0 after) (length after) 0 after) sets long
+    ∙ sym (uncut_length rules input) in
     record {
-      each =
-          with_cuts-length rules (length after) (cuts_of rules input) (cuts_long rules (labels_from 0 after) (length after) 0 after) sets long
-          ∙ sym (uncut_length rules input);
+      each = each;
       small = finished_small rules input;
       same = ap (with_cuts rules (cuts_of rules input)) (carried rules input);
+      written = bytes-length (finished_cautions rules input) ∙ ap (λ (n : ℕ). 2 * n) each;
     }

@@ -1,6 +1,6 @@
 -- The cautions of each finished line: those of the joins are handed on as marks are (reference's Marks), those of the cuts stay where they
 -- are put. Then the same as a program keeps them, step by step: proofs/Carried.antt shows that the two are one. Assumes nothing.
-use Rattle.std.specs.Prelude.{ℕ, zero, suc, ◌≡◌, ◌<◌, ◌^◌, Bool, true, false, List, [], ◌∷◌, ◌++◌, map, length, get_or, drop}
+use Rattle.std.specs.Prelude.{ℕ, zero, suc, ◌≡◌, ◌<◌, ◌*◌, ◌^◌, Bool, true, false, List, [], ◌∷◌, ◌++◌, map, length, get_or, drop}
 use mathlib.Core.List.{flat_map}
 use Rattle.std.proofs.Math.Option.{none, some}
 use Rattle.reference.specs.Control.{when◌then◌else◌}
@@ -100,6 +100,8 @@ pub record Kept (rules : Rules) (input : Listing) : Type 0 where
   pub each : length (finished_cautions rules input) ≡ length (finished rules input)
   pub small : (q : ℕ) → get_or (finished_cautions rules input) q 0 < 2 ^ 10
   pub same : kept_cautions rules input ≡ finished_cautions rules input
+  -- so two bytes hold a set
+  pub written : length (caution_bytes (finished_cautions rules input)) ≡ 2 * length (finished rules input)
 
 -- No caution is lost: what a join or a cut puts on a line stands on a finished line.
 abbrev pub Stands : Rules → Listing → ℕ → Type 0

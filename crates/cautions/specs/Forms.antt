@@ -58,7 +58,7 @@ is_entered ts = not (is_empty (signs_in (bytes ":}") ts))
 
 -- ---- blocks
 
--- the depth behind a form that begins d blocks deep, `in` going a block deeper and `out` leaving one; none if it leaves the outermost
+-- the depth behind a form that begins d blocks deep: one byte leads a block deeper, another out of one; none where it leads out of them all
 unfoldable pub depth_behind : ℕ → ℕ → ℕ → Text → Option ℕ
 depth_behind inward outward d [] = some d
 depth_behind inward outward d (c ∷ cs) =
@@ -95,13 +95,13 @@ FALL = map bytes (";" ∷ ":" ∷ "{" ∷ "{}" ∷ "if;" ∷ "do{" ∷ [])
 abbrev BLOCKS : List Text
 BLOCKS = map bytes ("{" ∷ "if{" ∷ "switch{" ∷ "else}{" ∷ "elseif}{" ∷ [])
 
--- the line behind the last stands for the caller
+-- The line behind the last stands for the caller.
 module _ (lines : Listing) (forms : List Text) where
-  -- the form of the line that opens the block which line k closes
+  -- the line that opens the block which line k closes
   unfoldable pub opener : ℕ → Option ℕ
   opener k = opener_from 0 (reverse (take k forms))
 
-  -- a line whose form is among these opens it
+  -- that line has one of these forms
   unfoldable pub opened_by : List Text → ℕ → Bool
   opened_by fs k = let_some (opener k) else false then λ d. has fs (get_or forms d [])
 
@@ -176,7 +176,7 @@ ends fam volatile ts = not (is_guarded ts) and (kills ts fam or (has volatile fa
 unfoldable pub reads : Text → List Token → Bool
 reads fam ts = any (of_family fam) ts and not (kills ts fam)
 
--- these lines are reached
+-- the lines `ks` are reached too
 unfoldable pub reach : List ℕ → List Bool → List Bool
 reach [] seen = seen
 reach (k ∷ ks) seen = reach ks (set seen k true)

@@ -2,8 +2,8 @@
 use Rattle.std.specs.Prelude.{ℕ, ◌≡◌, Bool, List, [], ◌∷◌, bit_or}
 use Rattle.reference.specs.Control.{when◌then◌else◌}
 
--- A line here, or one that control may come from, has a form that is not looked into (inline assembly, a keyword's call, two statements,
--- `&&`, a loop other than do .. while, ..): compare with the raw lines yourself.
+-- A line here, or one that the value may reach, has a form that is not looked into (inline assembly, a keyword's call, two statements, `&&`, a
+-- loop other than do .. while, ..), or control may come in between from elsewhere: compare with the raw lines yourself.
 abbrev pub odd_form : ℕ
 odd_form = 1
 
@@ -11,7 +11,7 @@ odd_form = 1
 abbrev pub still_read : ℕ
 still_read = 2
 
--- Between the number's assignment and this line there is a call, which may have overwritten the register.
+-- Between the assignment and this line, or beside the use in it, there is a call, which may have overwritten the register.
 abbrev pub overwritten : ℕ
 overwritten = 4
 
@@ -31,7 +31,7 @@ other_width = 32
 abbrev pub other_text : ℕ
 other_text = 64
 
--- A number is large, or not spelt plainly: C may read it or add it up otherwise.
+-- A number is large, or not spelt plainly: C may read it, or add it up, otherwise.
 abbrev pub odd_number : ℕ
 odd_number = 128
 
