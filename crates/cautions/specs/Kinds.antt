@@ -2,8 +2,8 @@
 use Rattle.std.specs.Prelude.{ℕ, ◌≡◌, Bool, List, [], ◌∷◌, bit_or}
 use Rattle.reference.specs.Control.{when◌then◌else◌}
 
--- A line here, or one that the value may reach, has a form that is not looked into (inline assembly, a keyword's call, two statements, `&&`, a
--- loop other than do .. while, ..), or control may come in between from elsewhere: compare with the raw lines yourself.
+-- A line here, or one that the value may reach, is not looked into (inline assembly, an instruction by name, two statements, `&&`, a loop other
+-- than do .. while, a line entered from elsewhere): compare with the raw lines yourself.
 abbrev pub odd_form : ℕ
 odd_form = 1
 
@@ -11,7 +11,7 @@ odd_form = 1
 abbrev pub still_read : ℕ
 still_read = 2
 
--- Between the assignment and this line, or beside the use in it, there is a call, which may have overwritten the register.
+-- A call stands between the value's assignment and its use here, which may have overwritten the register.
 abbrev pub overwritten : ℕ
 overwritten = 4
 
@@ -39,7 +39,8 @@ odd_number = 128
 abbrev pub slot : ℕ
 slot = 256
 
--- The value may be handed over unseen: to a call that does not spell its arguments, or back to the caller.
+-- The value may be handed over unseen: to a call that does not spell its arguments, or back to the caller (the result, and the registers that
+-- calls preserve).
 abbrev pub handed_over : ℕ
 handed_over = 512
 
