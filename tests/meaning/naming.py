@@ -569,6 +569,20 @@ def signed_comparison(s):
 SIGNED = ("int8_t", "int16_t", "int32_t", "int64_t", "int", "__int64")
 
 
+def is_negative(node):
+    return node[0] == "unary" and node[1] == "-" and node[2][0] == "number"
+
+
+def equals_narrower(s, w, n):
+    """Whether a negative number is asked, by `==` or `!=`, to be what has fewer bits now than the register of w bits: it is read at the width of what stands beside it."""
+    if n[0] != "binary" or n[1] not in ("==", "!="):
+        return False
+    other = n[3] if n[2] == HOLE else n[2]
+    if is_negative(s.expression):
+        return 0 < s.width_of(other) < w
+    return is_negative(other) and 0 < s.width_of(s.expression) < w
+
+
 @row("sign_extension")
 def sign_extension(s):
     """A cast or a comparison that reads a sign at the register's width meets an expression of another width, or numbers alone: one of them was negative there."""
@@ -577,6 +591,8 @@ def sign_extension(s):
     own = s.width_of(s.expression)
     for (w, _), (_, around_it, _) in zip(widths(s), s.beside):
         n = around_it[-1] if around_it else (None,)
+        if equals_narrower(s, w, n):
+            return True
         if n[0] == "binary" and n[1] in COMPARING and own == 0 and any(x[0] == "number" and 1 << w - 1 <= x[1] < 1 << w for x in n[2:]):
             return True
         if own == w or s.number is not None and 0 <= s.number < 1 << min(w, s.target_width) - 1:
