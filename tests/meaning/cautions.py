@@ -177,6 +177,11 @@ class Ways:
             return (*(m for m in range(k + 1, closer) if is_case(self.lines[m].tokens)), closer)
         return None
 
+    def hangs(self, k):
+        """The line above, labels left out, has no known form: an `if (..)` alone, on which the line hangs."""
+        above = next((m for m in range(k - 1, -1, -1) if self.forms[m] != ":"), None)
+        return above is not None and self.next(above) is None
+
     def is_dark(self, k):
         """The line is not looked into."""
         return self.next(k) is None or is_opaque(self.lines[k].tokens)
@@ -352,6 +357,15 @@ def natural(expression, convention):
     return widths.pop() if len(widths) == 1 else 0
 
 
+COMPARISONS = (" == ", " != ", " < ", " > ", " <= ", " >= ")
+
+
+def is_truth(expression):
+    """A comparison, or `!` in front."""
+    text = outside(frame(expression))
+    return text.startswith("!") or any(c in text for c in COMPARISONS)
+
+
 def is_plain(expression):
     """One token, or a cast or read in front of all of it: no operator computes it."""
     return len(expression) == 1 or expression[0].kind == KEYWORD and not is_loose(expression)
@@ -375,9 +389,6 @@ def is_folded(step, old, new):
     """Numbers were added up when the expression was put into the line."""
     put = [x for t in old for x in (step.expression if family_of(t) == step.family else (t,))]
     return sum(t.kind == NUMBER for t in new) < sum(t.kind == NUMBER for t in put)
-
-
-COMPARISONS = (" == ", " != ", " < ", " > ", " <= ", " >= ")
 
 
 # ---- one use: the expression in place of the token at u
@@ -416,15 +427,18 @@ class Use:
         return self.assigned == self.used == 64 or self.assigned >= 32 and 0 <= value < 1 << min(self.assigned, self.used) - 1
 
     def width_kept(self):
-        """The expression's own width is the register's, or it is a 32-bit value that is handed on whole as one of 64 bits."""
+        """The expression's own width is the register's, or it is a 32-bit value that is handed on whole as one of 64 bits. C computes what is narrower than
+        int as an int, what a large number stands in at 64 bits, and a comparison is 0 or 1 of no register's width."""
         if self.is_number:
             return self.number_fits()
+        if is_truth(self.expression):
+            return is_whole(self.before, self.behind)
         own = natural(self.expression, self.settings.convention)
         if self.assigned != self.used:
             return self.assigned == 32 and self.used == 64 and own == 32 and is_whole(self.before, self.behind)
         if is_lone_call(self.expression):
             return self.assigned == full(self.settings.convention) or self.assigned >= 32 and self.step.family == "rax"
-        return own == self.assigned and (own >= 32 or is_plain(self.expression))      # C computes what is narrower as an int
+        return own == self.assigned and (own == 64 or is_plain(self.expression) or own == 32 and all(map(is_tame, self.expression)))
 
     def is_beside_number(self):
         """A Number stands on the other side of an operator that is no comparison."""
@@ -507,11 +521,12 @@ def join_cautions(step, settings, ways):
     """Those of a join that its lines themselves say: what stands between, and what each use is made."""
     lines, i, last, own = step.before, step.at, max(step.uses), set()
     between = range(i + 1, last + 1)
-    if i > 0 and ways.next(i - 1) is None or any(ways.is_dark(k) or is_entered(lines[k].tokens) for k in between):
+    if ways.hangs(i) or any(ways.is_dark(k) or is_entered(lines[k].tokens) for k in between):
         own.add(ODD_FORM)
     if step.family.startswith("var_"):
         own.add(SLOT)
-    if step.family in VOLATILE[settings.convention] and any(calls(lines[k].tokens) for k in range(i + 1, last)):
+    if step.family in VOLATILE[settings.convention] and (any(calls(lines[k].tokens) for k in range(i + 1, last)) or any(
+            family_of(t) == step.family and acts_beside(lines[j].tokens, u) for j in step.uses for u, t in enumerate(lines[j].tokens))):
         own.add(OVERWRITTEN)
     is_number = len(step.expression) == 1 and step.expression[0].kind == NUMBER
     for j in step.uses:
