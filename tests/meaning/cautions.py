@@ -467,7 +467,8 @@ class Use:
 
     def groups(self):
         """A comma stays inside brackets, an address out of sums, and what gets no brackets needs none."""
-        is_address = self.expression[0].text.endswith("&") or self.expression[0].kind == ADDRESS
+        first = self.expression[0]
+        is_address = first.kind == PUNCT and first.text.endswith("&") or first.kind == ADDRESS
         if is_spared(self.before, self.behind):
             return "," not in outside(frame(self.expression)) and (is_whole(self.before, self.behind) or not is_address)
         return not is_address and (self.is_bracketed() and not self.step.is_constant or not is_loose(self.expression))
@@ -497,10 +498,9 @@ def step_cautions(step, settings):
     lines, i, fam, volatile = step.before, step.at, step.family, VOLATILE[settings.convention]
     ways = Ways(lines)
     far = reached(ways, i, fam, volatile)
-    other = sorted(k for k in far if k < ways.exit and k != i and k not in step.uses)
+    gone = () if step.is_cut else (i, *step.uses)
+    other = sorted(k for k in far if k < ways.exit and k not in gone)
     dark, stale = [k for k in other if ways.is_dark(k)], [k for k in other if not ways.is_dark(k) and reads(lines[k].tokens, fam)]
-    if step.is_cut and i in far and reads(lines[i].tokens[2:], fam):
-        stale.append(i)
     own = set()
     if dark or ways.is_dark(i):
         own.add(ODD_FORM)
