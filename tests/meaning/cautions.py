@@ -334,13 +334,15 @@ def typed_width(text):
 
 
 def token_width(token, before, convention):
-    """The width of one token behind a text: None for numbers and Puncts, 0 where it is not known."""
-    if token.kind in (NUMBER, PUNCT):
+    """The width of one token behind a text: None for numbers, Puncts, words of control and `(unsigned)`, 0 where it is not known."""
+    if token.kind in (NUMBER, PUNCT) or token.kind == KEYWORD and (token.text in CONTROL or token.text == "(unsigned)"):
         return None
     if token.kind == ADDRESS or is_cell(token) or before.endswith("&"):
         return full(convention)
     if token.kind == SYMBOL:
         return next((w for name, w in NAMED_WIDTHS if token.text.startswith(name)), full(convention))
+    if token.kind == KEYWORD:
+        return typed_width(token.text)
     return family(token.text)[1] if token.kind == REGISTER else 0
 
 
