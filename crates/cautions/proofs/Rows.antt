@@ -90,5 +90,11 @@ rows =
       other_branch = (differences.other_branch, refl);
       else_overwrite = (differences.else_overwrite, refl);
       case_entry = (differences.case_entry, refl);
-      result_cut_and_read = ((differences.result_cut_and_read.0, refl), (differences.result_cut_and_read.1, refl), (differences.result_cut_and_read.2, refl), (differences.result_cut_and_read.3, refl), (differences.result_cut_and_read.4, refl));
+      result_cut_and_read = (
+        (differences.result_cut_and_read.0, refl),
+        (differences.result_cut_and_read.1, refl),
+        (differences.result_cut_and_read.2, refl),
+        (differences.result_cut_and_read.3, refl),
+        (differences.result_cut_and_read.4, refl),
+      );
     }

@@ -2,7 +2,8 @@
 use Rattle.std.specs.Prelude.{ℕ, ◌≡◌, List, [], ◌∷◌, map}
 use Prim.Native.String.{String}
 use Rattle.reference.specs.Listing.{Line, Listing}
-use Rattle.books.specs.Notation.{listing, K, P, T, line, convention_0, convention_1, convention_1_parts, gives, gives_32_bit, gives_parts, turns}
+use Rattle.books.specs.Notation.{listing, K, P, T, line, convention_0, convention_1, convention_1_parts}
+use Rattle.books.specs.Notation.{gives, gives_32_bit, gives_parts, turns}
 use Rattle.cautions.specs.Cautions.{finished_cautions}
 
 -- an instruction that stands as text

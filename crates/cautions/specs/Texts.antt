@@ -35,7 +35,9 @@ marks t = when is Punct t then marks_after 0 t.text else 0
 
 -- the texts of the Puncts, each other token as `w`; the Keyword `((void (*)())` has one bracket that stays open
 unfoldable pub frame : List Token → Text
-frame = flat_map (λ t. when is Punct t then t.text else when is Keyword t and starts_with t.text (bytes "((void") then bytes "(" else bytes "w")
+frame =
+    flat_map (λ t.
+    when is Punct t then t.text else when is Keyword t and starts_with t.text (bytes "((void") then bytes "(" else bytes "w")
 
 -- the depth behind a byte at depth d, `(` being 40 and `)` 41
 unfoldable pub deeper : ℕ → ℕ → ℕ
