@@ -170,8 +170,8 @@ pub record Rows : Type 0 where
   pub unspaced_sum :
       row ("rax = rcx+1;" ∷ "rbx = rax * 2;" ∷ []) (("rbx = rcx+1 * 2;", other_text ∪ handed_over) ∷ []) differences.unspaced_sum
   pub comma_to_argument :
-      row ("rax = rcx, rdx;" ∷ "rbx = f(rax);" ∷ []) (("rbx = f(rcx, rdx);", other_text) ∷ []) differences.comma_to_argument.0
-      × row ("rax = rcx, rdx;" ∷ "return rax;" ∷ []) (("return rcx, rdx;", other_text) ∷ []) differences.comma_to_argument.1
+      row ("rax = rcx, rdx;" ∷ "rbx = f(rax);" ∷ []) (("rbx = f(rcx, rdx);", odd_form ∪ other_text) ∷ []) differences.comma_to_argument.0
+      × row ("rax = rcx, rdx;" ∷ "return rax;" ∷ []) (("return rcx, rdx;", odd_form ∪ other_text) ∷ []) differences.comma_to_argument.1
   pub two_changes :
       row
       ("rax = rcx++;" ∷ "rbx = rcx + rax;" ∷ [])
