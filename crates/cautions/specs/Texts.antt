@@ -84,9 +84,10 @@ is_strange t =
 unfoldable pub calls_register : Token × Token → Bool
 calls_register w = is Register w.0 and is Punct w.1 and starts_with w.1.text (bytes "(")
 
--- It may read and write every register and all memory: it has such a token, changes more than one thing or something inside brackets, or has
--- a comma (44) outside of them, behind which C evaluates more.
+-- It may read and write every register and all memory: it has such a token, changes more than one thing or something inside brackets, or
+-- has a comma (44) outside of them, behind which C evaluates more.
 unfoldable pub is_opaque : List Token → Bool
 is_opaque ts =
     let top : Text = outside 0 (frame ts) in
-    any is_strange ts or any calls_register (windows ts) or ltb 1 (sum marks ts) or ltb (marks_after 0 top) (sum marks ts) or contains top 44
+    any is_strange ts or any calls_register (windows ts) or ltb 1 (sum marks ts)
+    or ltb (marks_after 0 top) (sum marks ts) or contains top 44
