@@ -147,10 +147,10 @@ class Case(NamedTuple):
     count: int = STATES
 
 
-def steps_if_different(lines, case, only):
-    """The steps of the listing's run if its cleaned form differs in that state, else None."""
+def steps_if_different(lines, case, only, is_wanted):
+    """The steps of the listing's run if they are wanted and its cleaned form differs in that state, else None."""
     steps = run_of(lines, case.settings)
-    if not steps:
+    if not steps or not is_wanted(lines, steps):
         return None
     try:
         found = Original(lines, case.settings.convention, case.mode, case.seed, case.count, only).difference(finished(lines, steps))
@@ -205,14 +205,14 @@ def shorter(lines):
             yield lines[:i] + [line_of(indent + text)] + lines[i + 1:]
 
 
-def shortened(lines, case, only):
-    """A listing that still differs in that state, and has nothing that can be left out; and the steps of its run."""
-    steps = steps_if_different(lines, case, only)
+def shortened(lines, case, only, is_wanted=lambda lines, steps: True):
+    """A listing that still differs in that state, and has nothing that can be left out; and the steps of its run, which are wanted still."""
+    steps = steps_if_different(lines, case, only, is_wanted)
     if steps is None:
         return lines, run_of(lines, case.settings)
     while True:
         for some in shorter(lines):
-            found = steps_if_different(some, case, only)
+            found = steps_if_different(some, case, only, is_wanted)
             if found is not None:
                 lines, steps = some, found
                 break

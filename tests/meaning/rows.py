@@ -10,12 +10,13 @@ rows.txt, line by line (`#` begins a comment):
     rests NAME WORDS             a row that is not executed, and why
 
 A row is confirmed if each of its examples is cleaned to the lines that stand there, by the library, if each `run` differs in its mode, and if naming.py
-finds the row in the step that makes the difference.
+finds the row in the step that makes the difference. Of the cautions that the page's last column names each example raises one, and each is raised by some example.
 """
 import pathlib
 import re
 from typing import NamedTuple
 
+from cautions import KINDS, finished_cautions
 from cleaning import Settings, finished, run_of
 from differences import Original, step_that_differs
 from listing import family, listing_of, listing_of_tape, tape_of, texts_of
@@ -89,6 +90,40 @@ def page_rows(path=PAGE):
     return out
 
 
+def page_cautions(path=PAGE):
+    """Of each row that names cautions their kinds."""
+    out, is_asked = {}, False
+    for line in path.read_text(encoding="utf-8").splitlines():
+        cells = re.split(r"(?<!\\)\|", line)
+        if line.startswith("| shown by"):
+            is_asked = cells[-2].strip() == "caution"
+        elif is_asked and line.startswith("| `"):
+            kinds = [k for k in cells[-2].strip().split(", ") if k]
+            out.update((name, kinds) for name in re.findall(r"`([^`]+)`", cells[1]) if kinds)
+    return out
+
+
+def raised(example):
+    """The kinds of caution on the finished lines of an example."""
+    return {KINDS[k] for found in finished_cautions(listing_of(example.raw), example.settings) for k in found}
+
+
+def caution_faults(examples, kinds):
+    """What of the page's column of cautions is not so."""
+    found = {}
+    for example in examples:
+        if example.stands or example.row not in kinds:
+            continue
+        own = raised(example) & set(kinds[example.row])
+        found.setdefault(example.row, set()).update(own)
+        if not own:
+            yield f"NO CAUTION of those named on {example.row}: {' '.join(example.raw)}"
+    for row, kinds_of_row in kinds.items():
+        yield from (f"NO KIND {kind}, which {row} names" for kind in kinds_of_row if kind not in KINDS)
+        if row in found:
+            yield from (f"NO EXAMPLE of {row} raises {kind}" for kind in kinds_of_row if kind not in found[row])
+
+
 def example_fault(example, clean):
     """None, or what is not as the page says; and the words of the difference that was seen."""
     raw = listing_of(example.raw)
@@ -147,5 +182,10 @@ def confirm(clean, page, put):
     for name in sorted(known - set(named)):
         faults += 1
         put(f"NOT ON THE PAGE: {name}")
+    kinds = page_cautions(page)
+    for fault in caution_faults(examples, kinds):
+        faults += 1
+        put(fault)
+    put(f"{len(kinds)} rows name cautions")
     put(f"{len(set(named))} rows on the page; {len(shown)} executed, {len(examples)} listings; {len(rests)} not executed; {faults} faults")
     return faults

@@ -1,0 +1,2 @@
+// Definitions, examples and theorems only.
+#![tactic(auto)]
