@@ -123,6 +123,7 @@ fn words_of(problem: Problem) -> &'static [u8] {
         Problem::SecondValue => b"is a second value for the option before it",
         Problem::Incomplete => b"--return and --choose must both be given",
         Problem::BadEntry => b"is no REG=V with a value V of 64 bits",
+        Problem::NoFolder => b"several pages need a folder: -d DIR",
     }
 }
 

@@ -5,18 +5,21 @@
 // the words were wrong.
 #![tactic(auto)]
 
+mod batches; // several files in one call
 mod files; // reading, and what is told
+mod guards; // what is looked at before anything is done
 mod help; // the help, and wrong use
 mod outputs; // results, and where they go
 mod stores; // named states, in a file
 
-use answers::{Answer, Refusal};
-use arguments::{Destination, Request, Value, Verb, base_name, next_word};
+use answers::{Answer, Reason, Refusal};
+use arguments::{Destination, Part, Request, Value, Verb, base_name};
 use clean::Finished;
 use files::{
-    Outcome, Trouble, failed_by, front, is_dash, no_memory, print, print_decimal, read_file, tell,
-    tell_name,
+    Fate, Outcome, Trouble, failed_by, front, is_dash, no_memory, print, print_decimal, put_path,
+    read_file, tell, tell_name,
 };
+use ground::rules::Rules;
 use listing_text::{Unmade, put_listing, put_tape};
 use outputs::Product;
 use render::{Cleaning, count_of};
@@ -25,12 +28,29 @@ use std::process::ExitCode;
 use std::rt::Env;
 use words::nth_word;
 
-// What was asked for: the words, and what they say.
+// Where the results go.
+#[derive(Clone, Copy)]
+pub(crate) enum Target<'a> {
+    StandardOutput,
+    File(&'a [u8]),
+    Folder(&'a [u8]),
+}
+
+// What was asked for: the words, what they say, and where the results go.
 #[derive(Clone, Copy)]
 pub(crate) struct Call<'a> {
     rt: &'a HostRuntime,
     words: &'a [u8],
     request: Request,
+    target: Target<'a>,
+}
+
+// A tape as it was read, with its name and the settings of its cleaning.
+#[derive(Clone, Copy)]
+struct Input<'a> {
+    name: &'a [u8],
+    tape: &'a [u8],
+    rules: Rules,
 }
 
 // ---- words
@@ -54,23 +74,22 @@ fn gather(rt: &HostRuntime, words: &mut [u8]) -> Option<usize> {
     None
 }
 
+// What the value of an option is.
+fn part_of(words: &[u8], part: Part) -> &[u8] {
+    nth_word(words, part.word)
+        .get(part.from..)
+        .unwrap_or_default()
+}
+
+fn target_of(words: &[u8], destination: Destination) -> Target<'_> {
+    match destination {
+        Destination::StandardOutput => Target::StandardOutput,
+        Destination::File(part) => Target::File(part_of(words, part)),
+        Destination::Folder(part) => Target::Folder(part_of(words, part)),
+    }
+}
+
 // ---- where a result goes
-
-// Puts a text at `at` of a buffer, if it fits, and answers where it ends.
-// Kept: a buffer, and where it ends: its size is what makes a path too long. A Vec would want that test beside it, and an answer where no
-// memory is left: no plainer.
-fn append(s: &[u8], buffer: &mut [u8], at: usize) -> Option<usize> {
-    let room = buffer.get_mut(at..)?.get_mut(..s.len())?;
-    room.copy_from_slice(s);
-    Some(at + s.len())
-}
-
-// Puts the path of a file in a folder, if it fits.
-fn put_path(dir: &[u8], base: &[u8], path: &mut [u8]) -> Option<usize> {
-    let a = append(dir, path, 0)?;
-    let b = append(b"/", path, a)?;
-    append(base, path, b)
-}
 
 // To the file of the same name in the folder DIR.
 fn deliver_into(
@@ -80,12 +99,12 @@ fn deliver_into(
     product: Product,
 ) -> Result<(), Trouble> {
     if is_dash(name) {
-        return Err(failed_by(b"puchkewa", b"-d needs the names of files"));
+        return Err(failed_by(rt, b"puchkewa", b"-d needs the names of files"));
     }
     let mut path = [0u8; 8200];
     match put_path(dir, base_name(name), &mut path) {
         Some(n) => product.write(rt, front(&path, n)),
-        None => Err(failed_by(name, b"the name is too long")),
+        None => Err(failed_by(rt, name, b"the name is too long")),
     }
 }
 
@@ -100,10 +119,10 @@ impl Call<'_> {
 
     // The result of a file.
     fn deliver(&self, name: &[u8], product: Product) -> Result<(), Trouble> {
-        match self.request.goal.destination {
-            Destination::StandardOutput => product.print(self.rt),
-            Destination::File(k) => product.write(self.rt, nth_word(self.words, k)),
-            Destination::Folder(k) => deliver_into(self.rt, nth_word(self.words, k), name, product),
+        match self.target {
+            Target::StandardOutput => product.print(self.rt),
+            Target::File(path) => product.write(self.rt, path),
+            Target::Folder(dir) => deliver_into(self.rt, dir, name, product),
         }
     }
 
@@ -126,17 +145,17 @@ fn tell_refusal(refused: Refusal) {
     tell(front(&line, n));
 }
 
-// Tells a refusal with the name of its file, and says how the run ends that has done that.
-pub(crate) fn outcome_of(name: &[u8], done: Result<(), Trouble>) -> Outcome {
+// Tells a refusal with the name of its file, and says what became of the file.
+pub(crate) fn fate_of(rt: &HostRuntime, name: &[u8], done: Result<(), Trouble>) -> Fate {
     match done {
-        Ok(_) => return Outcome::Done,
+        Ok(_) => Fate::Done,
         Err(Trouble::Refused(refused)) => {
-            tell_name(name);
+            tell_name(rt, name);
             tell_refusal(refused);
+            Fate::Refused
         }
-        Err(Trouble::Failed) => {}
+        Err(Trouble::Failed) => Fate::Failed,
     }
-    Outcome::Undone
 }
 
 fn print_counts(rt: &HostRuntime, f: Finished) -> Result<(), Trouble> {
@@ -163,15 +182,17 @@ impl Call<'_> {
     fn print_start_value(&self, tape: &[u8], list: &mut [u8]) -> Result<(), Trouble> {
         if list.len() / 9 <= self.words.len() {
             return Err(failed_by(
+                self.rt,
                 b"puchkewa",
                 b"the words of start have more than 65,536 bytes",
             ));
         }
         let n = arguments::put_entries(self.words, list);
-        let (Some(k), Some(wanted)) = (self.request.start.chosen, self.request.start.wanted) else {
+        let (Some(part), Some(wanted)) = (self.request.start.chosen, self.request.start.wanted)
+        else {
             return Ok(());
         };
-        let chosen = nth_word(self.words, k);
+        let chosen = part_of(self.words, part);
         let v = start::start_value(tape, chosen, front(list, n), wanted)?;
         print_start(self.rt, chosen, v)
     }
@@ -180,12 +201,21 @@ impl Call<'_> {
     fn start_one(&self, tape: &[u8]) -> Result<(), Trouble> {
         match vec![in self.rt.alloc(); 0u8; 589833] {
             Ok(mut list) => self.print_start_value(tape, &mut list),
-            Err(_) => Err(no_memory()),
+            Err(_) => Err(no_memory(self.rt)),
         }
     }
 }
 
 // ---- one file
+
+impl Input<'_> {
+    // Cleans the tape into a buffer.
+    fn clean(&self, out: &mut [u8]) -> Result<Finished, Refusal> {
+        let mut work_a = [0u8; 49152];
+        let mut work_b = [0u8; 49152];
+        clean::clean(self.rules, self.tape, &mut work_a, &mut work_b, out)
+    }
+}
 
 impl Call<'_> {
     // The name of a file in front of its line; none where no file was named.
@@ -197,29 +227,22 @@ impl Call<'_> {
         print(self.rt, b": ")
     }
 
-    // Cleans a tape into a buffer.
-    fn clean(&self, tape: &[u8], out: &mut [u8]) -> Result<Finished, Refusal> {
-        let mut work_a = [0u8; 49152];
-        let mut work_b = [0u8; 49152];
-        clean::clean(self.request.rules, tape, &mut work_a, &mut work_b, out)
+    fn clean_one(&self, input: Input) -> Result<(), Trouble> {
+        let mut out = [0u8; 59137];
+        let f = input.clean(&mut out)?;
+        self.deliver(input.name, Product::Bytes(front(&out, f.length)))
     }
 
-    fn clean_one(&self, name: &[u8], tape: &[u8]) -> Result<(), Trouble> {
+    fn count_one(&self, input: Input) -> Result<(), Trouble> {
         let mut out = [0u8; 59137];
-        let f = self.clean(tape, &mut out)?;
-        self.deliver(name, Product::Bytes(front(&out, f.length)))
-    }
-
-    fn count_one(&self, name: &[u8], tape: &[u8]) -> Result<(), Trouble> {
-        let mut out = [0u8; 59137];
-        let f = self.clean(tape, &mut out)?;
-        self.print_name(name)?;
+        let f = input.clean(&mut out)?;
+        self.print_name(input.name)?;
         print_counts(self.rt, f)
     }
 
-    fn check_one(&self, name: &[u8], tape: &[u8]) -> Result<(), Trouble> {
-        let totals = tape::check::<false>(tape)?;
-        self.print_name(name)?;
+    fn check_one(&self, input: Input) -> Result<(), Trouble> {
+        let totals = tape::check::<false>(input.tape)?;
+        self.print_name(input.name)?;
         print(self.rt, b"accepted, lines ")?;
         print_decimal(self.rt, count_of(totals.lines))?;
         print(self.rt, b", tokens ")?;
@@ -250,7 +273,7 @@ impl Call<'_> {
     // A bare tape is shown up to the command that is wrong; nothing of it where its text has more than 262,144 bytes.
     fn show_one(&self, tape: &[u8]) -> Result<(), Trouble> {
         let mut out = [0u8; 262144];
-        let shown = put_listing(tape, self.request.goal.exact, &mut out);
+        let shown = put_listing(tape, self.request.form.exact, &mut out);
         if shown.whole {
             print(self.rt, front(&out, shown.length))?;
         }
@@ -265,7 +288,7 @@ impl Call<'_> {
         let mut again = [0u8; 262144];
         match put_listing(tape, true, &mut again).refusal {
             Some(refused) => {
-                tell_name(name);
+                tell_name(self.rt, name);
                 tell(b"the tape of this text is ");
                 tell_refusal(refused);
                 Err(Trouble::Failed)
@@ -277,14 +300,18 @@ impl Call<'_> {
     // The tape of a text in the exact form.
     fn tape_one(&self, name: &[u8], text: &[u8]) -> Result<(), Trouble> {
         if 131072 <= text.len() {
-            return Err(failed_by(name, b"the text is too long"));
+            return Err(failed_by(self.rt, name, b"the text is too long"));
         }
         let mut out = [0u8; 131072];
         match put_tape(text, &mut out) {
             Ok(length) => self.deliver_made(name, front(&out, length)),
-            Err(Unmade::Full) => Err(failed_by(name, b"the tape of this text is too long")),
+            Err(Unmade::Full) => Err(failed_by(
+                self.rt,
+                name,
+                b"the tape of this text is too long",
+            )),
             Err(Unmade::Wrong(line)) => {
-                tell_name(name);
+                tell_name(self.rt, name);
                 tell(b"line ");
                 io::print_decimal(files::STDERR, line);
                 tell(b", counted from 0, is not as show --exact prints it\n");
@@ -293,33 +320,57 @@ impl Call<'_> {
         }
     }
 
-    fn page_one(&self, name: &[u8], tape: &[u8]) -> Result<(), Trouble> {
+    fn page_one(&self, input: Input) -> Result<(), Trouble> {
         let mut out = [0u8; 59137];
-        let told = self.clean(tape, &mut out)?;
+        let told = input.clean(&mut out)?;
         let cleaning = Cleaning {
-            rules: self.request.rules,
-            name,
-            raw: tape,
+            rules: input.rules,
+            name: input.name,
+            raw: input.tape,
             cleaned: front(&out, told.length),
             told,
         };
-        self.deliver(name, Product::Page(&cleaning))
+        self.deliver(input.name, Product::Page(&cleaning))
     }
 
-    // What is done with the bytes of a file.
-    fn work(&self, verb: Verb, name: &[u8], tape: &[u8]) -> Result<(), Trouble> {
+    // What is done with a tape, or with the text of one.
+    fn work(&self, verb: Verb, input: Input) -> Result<(), Trouble> {
+        let Input { name, tape, .. } = input;
         match verb {
-            Verb::Clean => self.clean_one(name, tape),
-            Verb::Counts => self.count_one(name, tape),
-            Verb::Check => self.check_one(name, tape),
+            Verb::Clean => self.clean_one(input),
+            Verb::Counts => self.count_one(input),
+            Verb::Check => self.check_one(input),
             Verb::Show => self.show_one(tape),
             Verb::Tape => self.tape_one(name, tape),
             Verb::Addresses => self.addresses_one(name, tape),
             Verb::Edition => self.edition_one(name, tape),
             Verb::Offsets => self.offsets_one(name, tape),
-            Verb::Page => self.page_one(name, tape),
+            Verb::Page => self.page_one(input),
             Verb::Start => self.start_one(tape),
             _ => Ok(()),
+        }
+    }
+
+    // What was read as the verb takes it: with --filter-form a convention byte stands in front of the tape.
+    fn input_of<'b>(&self, name: &'b [u8], bytes: &'b [u8]) -> Result<Input<'b>, Refusal> {
+        let rules = self.request.rules;
+        if !self.request.form.filter {
+            return Ok(Input {
+                name,
+                tape: bytes,
+                rules,
+            });
+        }
+        match bytes {
+            [convention @ 0..=2, tape @ ..] => Ok(Input {
+                name,
+                tape,
+                rules: Rules {
+                    convention: *convention,
+                    ..rules
+                },
+            }),
+            _ => Err(Reason::UnknownConvention.at(0)),
         }
     }
 
@@ -327,65 +378,30 @@ impl Call<'_> {
     // more than 65,538, so a longer tape is refused at a command that ends before that, and whatever follows, the refusal is the whole
     // file's. (`show`, which does not ask the totals, shows of a longer file the front.)
     fn try_file(&self, verb: Verb, name: &[u8]) -> Result<(), Trouble> {
-        let mut input = [0u8; 131072];
-        let n = read_file(self.rt, name, &mut input)?;
-        self.work(verb, name, front(&input, n))
+        let mut buffer = [0u8; 131072];
+        let n = read_file(self.rt, name, &mut buffer)?;
+        self.work(verb, self.input_of(name, front(&buffer, n))?)
     }
 
-    fn one_file(&self, verb: Verb, name: &[u8]) -> Outcome {
-        outcome_of(name, self.try_file(verb, name))
+    fn one_file(&self, verb: Verb, name: &[u8]) -> Fate {
+        fate_of(self.rt, name, self.try_file(verb, name))
     }
 
     // The file of a verb that takes one: the last operand, where there are more than so many; otherwise standard input.
     fn only_file(&self, verb: Verb, before: u64) -> Outcome {
-        match self.request.operands.last {
-            Some(k) if before < self.request.operands.count => {
-                self.one_file(verb, nth_word(self.words, k))
-            }
-            _ => self.one_file(verb, b"-"),
-        }
-    }
-
-    // Every operand is a file: the words are taken once more, and each that is an operand is done.
-    // Kept: what is left is carried by hand, as in `parse` of crate arguments, which says why.
-    fn each_file(&self, verb: Verb) -> Outcome {
-        let mut outcome = Outcome::Done;
-        let mut s = Request::begin();
-        let mut left = self.words;
-        for k in 0..u64::MAX {
-            let Some((word, rest)) = next_word(left) else {
-                break;
-            };
-            s = s.step(k, word);
-            if s.operands.last == Some(k) && self.one_file(verb, word) != Outcome::Done {
-                outcome = Outcome::Undone;
-            }
-            left = rest;
-        }
-        outcome
-    }
-
-    // The operand, if there is one, that has the base name of one before it: with -d both would be written to one file.
-    fn clash(&self) -> Option<u64> {
-        match self.request.goal.destination {
-            Destination::Folder(_) => arguments::clash(self.words),
-            _ => None,
-        }
+        let name = match self.request.operands.last {
+            Some(k) if before < self.request.operands.count => nth_word(self.words, k),
+            _ => b"-",
+        };
+        self.one_file(verb, name).outcome()
     }
 
     fn all_files(&self, verb: Verb) -> Outcome {
         if self.request.operands.count == 0 {
-            return self.one_file(verb, b"-");
+            self.one_file(verb, b"-").outcome()
+        } else {
+            self.each_file(verb)
         }
-        let Some(k) = self.clash() else {
-            return self.each_file(verb);
-        };
-        tell(b"puchkewa: ");
-        tell(nth_word(self.words, k));
-        tell(
-            b" has the base name of another file, and -d would write both to one; nothing was done\n",
-        );
-        Outcome::Misused
     }
 
     // ---- no file is read
@@ -395,10 +411,12 @@ impl Call<'_> {
             return Outcome::Done;
         };
         let name = b"laborious";
-        outcome_of(
+        fate_of(
+            self.rt,
             name,
             self.answered(name, |out| laborious::laborious(n, out)),
         )
+        .outcome()
     }
 
     fn help(&self) -> Outcome {
@@ -406,22 +424,20 @@ impl Call<'_> {
             Some(Value::Verb(verb)) => Some(verb),
             _ => None,
         };
-        outcome_of(b"help", help::help(self.rt, told))
+        fate_of(self.rt, b"help", help::help(self.rt, told)).outcome()
     }
 
     fn version(&self) -> Outcome {
         // Kept: the version's text, which the page of crate render has too: by one name the line's end here would be written by itself.
-        outcome_of(b"version", print(self.rt, b"puchkewa 0.15.0\n"))
+        fate_of(self.rt, b"version", print(self.rt, b"puchkewa 0.15.0\n")).outcome()
     }
 
     // ---- all verbs
 
     fn run(&self, verb: Verb) -> Outcome {
         match verb {
-            Verb::Clean | Verb::Counts | Verb::Check => self.all_files(verb),
-            Verb::Show | Verb::Tape | Verb::Addresses | Verb::Page | Verb::Start => {
-                self.only_file(verb, 0)
-            }
+            Verb::Clean | Verb::Counts | Verb::Check | Verb::Page => self.all_files(verb),
+            Verb::Show | Verb::Tape | Verb::Addresses | Verb::Start => self.only_file(verb, 0),
             Verb::Edition | Verb::Offsets => self.only_file(verb, 1),
             Verb::Laborious => self.laborious(),
             Verb::State => self.state(),
@@ -434,16 +450,25 @@ impl Call<'_> {
 fn begin(rt: &HostRuntime, words: &[u8]) -> Outcome {
     let request = arguments::parse(words);
     if request.help {
-        return outcome_of(b"help", help::help(rt, request.verb));
+        return fate_of(rt, b"help", help::help(rt, request.verb)).outcome();
     }
     if let Some(fault) = request.fault {
         help::tell_wrong(words, request.verb, fault);
         return Outcome::Misused;
     }
-    let call = Call { rt, words, request };
+    let target = target_of(words, request.goal.destination);
+    let call = Call {
+        rt,
+        words,
+        request,
+        target,
+    };
     match request.verb {
-        Some(verb) => call.run(verb),
-        None => Outcome::Misused,
+        Some(verb) if !call.is_misused(verb) => {
+            call.tell_left(verb);
+            call.run(verb)
+        }
+        _ => Outcome::Misused,
     }
 }
 
@@ -456,7 +481,10 @@ fn main(rt: HostRuntime) -> ExitCode {
                 Outcome::Misused
             }
         },
-        Err(_) => outcome_of(b"puchkewa", Err(no_memory())),
+        Err(_) => {
+            no_memory(&rt);
+            Outcome::Undone
+        }
     };
     outcome.status()
 }

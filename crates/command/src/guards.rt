@@ -1,0 +1,213 @@
+// What is looked at before anything is done: whether a terminal would be read or written, whether a result would go onto an input, whether
+// two would go to one file; and what an ended run left behind, which is told.
+use crate::files::{begin_line, front, is_dash, path_of, put_path, tell};
+use crate::{Call, Target};
+use arguments::{Action, Request, Value, Verb, base_name, next_word};
+use std::fs::{metadata, read_dir};
+use std::io::IsTerminal;
+use std::os::unix::fs::MetadataExt;
+
+// Whether two paths name one file.
+fn is_same(rt: &HostRuntime, a: &[u8], b: &[u8]) -> bool {
+    let (Ok(a), Ok(b)) = (path_of(a), path_of(b)) else {
+        return false;
+    };
+    match (metadata(rt, a), metadata(rt, b)) {
+        (Ok(a), Ok(b)) => a.ino() == b.ino() && a.dev() == b.dev() && a.is_file(),
+        _ => false,
+    }
+}
+
+// The folder that a path is in.
+fn folder_of(path: &[u8]) -> &[u8] {
+    match path.len().checked_sub(base_name(path).len()) {
+        Some(0) | None => b".",
+        Some(n) => front(path, n),
+    }
+}
+
+// Whether no process has this number, in digits.
+pub(crate) fn is_gone(rt: &HostRuntime, number: &str) -> bool {
+    if number.is_empty() || !number.bytes().all(|b| b.is_ascii_digit()) {
+        return false;
+    }
+    match format!(in rt.alloc(); "/proc/{number}") {
+        Ok(path) => metadata(rt, path.as_str()).is_err(),
+        Err(_) => false,
+    }
+}
+
+// The process that the name of a run tells.
+pub(crate) fn process_of(run: &str) -> &str {
+    match run.split_once("-") {
+        Some((number, _)) => number,
+        None => run,
+    }
+}
+
+// Whether a name in a folder is that of a part which a run left that is gone: of any file, or of that of one base name.
+fn is_left(rt: &HostRuntime, name: &str, base: &[u8]) -> bool {
+    match name.split_once(".part") {
+        Some((of, run)) => (base.is_empty() || of.as_bytes() == base)
+            && is_gone(rt, process_of(run)),
+        None => false,
+    }
+}
+
+fn tell_left_in(rt: &HostRuntime, dir: &[u8], base: &[u8]) {
+    let Ok(dir) = path_of(dir) else {
+        return;
+    };
+    let Ok(entries) = read_dir(rt, dir) else {
+        return;
+    };
+    for entry in entries {
+        let Ok(entry) = entry else {
+            return;
+        };
+        if is_left(rt, entry.file_name(), base) {
+            tell(b"puchkewa: ");
+            tell(dir.as_bytes());
+            tell(b"/");
+            tell(entry.file_name().as_bytes());
+            tell(b" is left of a run that was ended: remove it\n");
+        }
+    }
+}
+
+// Tells a line of wrong use, with a name at its head.
+fn tell_misuse(rt: &HostRuntime, name: &[u8], words: &[u8]) {
+    begin_line(rt);
+    tell(b"puchkewa: ");
+    tell(name);
+    tell(words);
+    tell(b"\n");
+}
+
+impl Call<'_> {
+    // How many operands stand before that of the file that is read; none where no file is.
+    fn operands_before(&self, verb: Verb) -> Option<u64> {
+        match (verb, self.request.operands.value) {
+            (Verb::Edition | Verb::Offsets, _) => Some(1),
+            (Verb::State, Some(Value::Action(Action::Save))) => Some(3),
+            (Verb::State | Verb::Laborious, _) => None,
+            (Verb::Help | Verb::Version | Verb::VersionOption, _) => None,
+            _ => Some(0),
+        }
+    }
+
+    // Whether standard input would be read, though no word says so and it is a terminal.
+    fn reads_terminal(&self, verb: Verb) -> bool {
+        match self.operands_before(verb) {
+            Some(n) => self.request.operands.count <= n && self.rt.stdin().is_terminal(),
+            None => false,
+        }
+    }
+
+    // Whether the bytes of a tape would go to a terminal.
+    fn writes_terminal(&self, verb: Verb) -> bool {
+        let writes = match verb {
+            Verb::Clean | Verb::Tape | Verb::Addresses => true,
+            Verb::Edition | Verb::Offsets | Verb::Laborious => true,
+            Verb::State => self.request.operands.value == Some(Value::Action(Action::Get)),
+            _ => false,
+        };
+        writes
+            && !self.request.goal.force
+            && matches!(self.target, Target::StandardOutput)
+            && self.rt.stdout().is_terminal()
+    }
+
+    // Whether the result of a file would go onto the file itself.
+    fn goes_onto(&self, name: &[u8]) -> bool {
+        let mut path = [0u8; 8200];
+        match self.target {
+            Target::StandardOutput => false,
+            Target::File(at) => is_same(self.rt, name, at),
+            Target::Folder(dir) => match put_path(dir, base_name(name), &mut path) {
+                Some(n) => is_same(self.rt, name, front(&path, n)),
+                None => false,
+            },
+        }
+    }
+
+    // The first operand onto which its own result would go.
+    fn written_over(&self) -> Option<u64> {
+        if self.request.goal.force || matches!(self.target, Target::StandardOutput) {
+            return None;
+        }
+        let mut s = Request::begin();
+        let mut left = self.words;
+        for k in 0..u64::MAX {
+            let (word, rest) = next_word(left)?;
+            s = s.step(k, word);
+            if s.operands.last == Some(k) && !is_dash(word) && self.goes_onto(word) {
+                return Some(k);
+            }
+            left = rest;
+        }
+        None
+    }
+
+    // The operand, if there is one, that has the base name of one before it: with -d both would be written to one file.
+    fn clash(&self) -> Option<u64> {
+        match self.target {
+            Target::Folder(_) => arguments::clash(self.words),
+            _ => None,
+        }
+    }
+
+    // Whether something stands against doing what is asked; it is told.
+    pub(crate) fn is_misused(&self, verb: Verb) -> bool {
+        if self.reads_terminal(verb) {
+            tell_misuse(
+                self.rt,
+                b"no FILE is named",
+                b", and standard input is a terminal; - reads it",
+            );
+            return true;
+        }
+        if self.writes_terminal(verb) {
+            tell_misuse(
+                self.rt,
+                b"a tape is no text for a terminal",
+                b"; -o FILE, or -f",
+            );
+            return true;
+        }
+        if let Some(k) = self.clash() {
+            tell_misuse(
+                self.rt,
+                self.word(Some(k)),
+                b" has the base name of another file, and -d would write both to one; nothing was done",
+            );
+            return true;
+        }
+        if let Some(k) = self.written_over() {
+            tell_misuse(
+                self.rt,
+                self.word(Some(k)),
+                b" would be written over by its own result; -f does it",
+            );
+            return true;
+        }
+        false
+    }
+
+    // Tells which files an ended run left where this one is to write.
+    pub(crate) fn tell_left(&self, verb: Verb) {
+        if self.request.form.quiet {
+            return;
+        }
+        match self.target {
+            Target::Folder(dir) => tell_left_in(self.rt, dir, b""),
+            Target::File(at) => tell_left_in(self.rt, folder_of(at), base_name(at)),
+            Target::StandardOutput => {
+                if verb == Verb::State {
+                    let at = self.word(self.request.operands.first);
+                    tell_left_in(self.rt, folder_of(at), base_name(at));
+                }
+            }
+        }
+    }
+}
