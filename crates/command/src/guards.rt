@@ -3,6 +3,8 @@
 use crate::files::{begin_line, front, is_dash, path_of, put_path, tell};
 use crate::{Call, Target};
 use arguments::{Action, Request, Value, Verb, base_name, next_word};
+use std::alloc::AllocError;
+use std::collections::HashSet;
 use std::fs::{metadata, read_dir};
 use std::io::IsTerminal;
 use std::os::unix::fs::MetadataExt;
@@ -149,10 +151,28 @@ impl Call<'_> {
         None
     }
 
+    // Whether no two operands have one base name. (`clash` of crate arguments says which do, and takes each pair of operands.)
+    fn are_apart(&self) -> Result<bool, AllocError> {
+        let mut names = HashSet::new(self.rt.alloc());
+        let mut s = Request::begin();
+        let mut left = self.words;
+        for k in 0..u64::MAX {
+            let Some((word, rest)) = next_word(left) else {
+                return Ok(true);
+            };
+            s = s.step(k, word);
+            if s.operands.last == Some(k) && !names.insert(base_name(word))? {
+                return Ok(false);
+            }
+            left = rest;
+        }
+        Ok(true)
+    }
+
     // The operand, if there is one, that has the base name of one before it: with -d both would be written to one file.
     fn clash(&self) -> Option<u64> {
         match self.target {
-            Target::Folder(_) => arguments::clash(self.words),
+            Target::Folder(_) if self.are_apart() != Ok(true) => arguments::clash(self.words),
             _ => None,
         }
     }

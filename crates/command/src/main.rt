@@ -145,6 +145,31 @@ fn tell_refusal(refused: Refusal) {
     tell(front(&line, n));
 }
 
+// The same of a refusal by the questions of a tape, which stands in the tape.
+pub(crate) fn tell_explained(tape: &[u8], refused: Refusal) {
+    let mut line = [0u8; 512];
+    let n = reports::put_explained(tape, refused, &mut line);
+    tell(front(&line, n));
+}
+
+// Whether the place of a refusal is an offset of the tape.
+fn is_in_tape(refused: Refusal) -> bool {
+    matches!(
+        refused.reason,
+        Reason::NoCommand
+            | Reason::CutOff
+            | Reason::OutOfPlace
+            | Reason::OutOfBounds
+            | Reason::Unprintable
+            | Reason::BytesAfterEnd
+            | Reason::TooMany
+            | Reason::TooMuchText
+            | Reason::NewKeyword
+            | Reason::UnreadNumber
+            | Reason::OutOfReach
+    )
+}
+
 // Tells a refusal with the name of its file, and says what became of the file.
 pub(crate) fn fate_of(rt: &HostRuntime, name: &[u8], done: Result<(), Trouble>) -> Fate {
     match done {
@@ -154,6 +179,7 @@ pub(crate) fn fate_of(rt: &HostRuntime, name: &[u8], done: Result<(), Trouble>) 
             tell_refusal(refused);
             Fate::Refused
         }
+        Err(Trouble::Told) => Fate::Refused,
         Err(Trouble::Failed) => Fate::Failed,
     }
 }
@@ -283,17 +309,16 @@ impl Call<'_> {
         }
     }
 
-    // A tape that was made of a text; what is no tape is refused as one.
+    // A tape that was made of a text; what `check` would refuse is refused. A line of the tape is one of the text.
     fn deliver_made(&self, name: &[u8], tape: &[u8]) -> Result<(), Trouble> {
-        let mut again = [0u8; 262144];
-        match put_listing(tape, true, &mut again).refusal {
-            Some(refused) => {
+        match tape::check::<false>(tape) {
+            Ok(_) => self.deliver(name, Product::Bytes(tape)),
+            Err(refused) => {
                 tell_name(self.rt, name);
                 tell(b"the tape of this text is ");
-                tell_refusal(refused);
-                Err(Trouble::Failed)
+                tell_explained(tape, refused);
+                Err(Trouble::Told)
             }
-            None => self.deliver(name, Product::Bytes(tape)),
         }
     }
 
@@ -313,9 +338,9 @@ impl Call<'_> {
             Err(Unmade::Wrong(line)) => {
                 tell_name(self.rt, name);
                 tell(b"line ");
-                io::print_decimal(files::STDERR, line);
-                tell(b", counted from 0, is not as show --exact prints it\n");
-                Err(Trouble::Failed)
+                io::print_decimal(files::STDERR, line.saturating_add(1));
+                tell(b" is not as show --exact prints it\n");
+                Err(Trouble::Told)
             }
         }
     }
@@ -380,7 +405,15 @@ impl Call<'_> {
     fn try_file(&self, verb: Verb, name: &[u8]) -> Result<(), Trouble> {
         let mut buffer = [0u8; 131072];
         let n = read_file(self.rt, name, &mut buffer)?;
-        self.work(verb, self.input_of(name, front(&buffer, n))?)
+        let input = self.input_of(name, front(&buffer, n))?;
+        match self.work(verb, input) {
+            Err(Trouble::Refused(refused)) if is_in_tape(refused) && verb != Verb::Addresses => {
+                tell_name(self.rt, name);
+                tell_explained(input.tape, refused);
+                Err(Trouble::Told)
+            }
+            done => done,
+        }
     }
 
     fn one_file(&self, verb: Verb, name: &[u8]) -> Fate {

@@ -1,11 +1,11 @@
 // Named states of listings, in a file of 524,288 bytes. Who changes one holds its lock: a file beside it, which one run alone can make.
 use crate::files::{
     Outcome, Trouble, failed, failed_by, front, no_memory, path_of, print, print_decimal,
-    read_file, read_path,
+    read_file, read_path, tell_name,
 };
 use crate::guards::{is_gone, process_of};
 use crate::outputs::{Product, create_new, run_name};
-use crate::{Call, fate_of};
+use crate::{Call, fate_of, tell_explained};
 use answers::{Reason, Refusal};
 use arguments::{Action, Value};
 use render::count_of;
@@ -131,8 +131,9 @@ impl Call<'_> {
             Ok(_) => Product::Bytes(store).write(self.rt, at),
             Err(refused) if is_of_store(refused) => Err(Trouble::Refused(refused)),
             Err(refused) => {
-                fate_of(self.rt, self.saved_file(), Err(Trouble::Refused(refused)));
-                Err(Trouble::Failed)
+                tell_name(self.rt, self.saved_file());
+                tell_explained(tape, refused);
+                Err(Trouble::Told)
             }
         }
     }

@@ -3,6 +3,10 @@
 // line too (`Written`), of which a slice of the buffer as the answer would say nothing.
 #![tactic(auto, using(crate::proofs::Putting::lengths, text::proofs::Cursors::room_left, text::proofs::Cursors::then_puts))]
 
+mod explained; // the line of a refusal of a tape
+mod places; // where in a listing an offset is
+mod why; // the words for one reason
+
 ghost use Rattle.std.specs.Prelude.{◌≡◌, [], ◌++◌, ◌+◌, ◌*◌, ◌≤◌, length};
 ghost use Rattle.text.specs.Cursor.{Fits, Puts, Written};
 ghost use Rattle.numbers.specs.Writing.{hexadecimal};
@@ -12,6 +16,7 @@ ghost use Rattle.answers.specs.Refusals.{number_of};
 ghost use Rattle.reports.specs.Reports.{meaning, refusal, three, settled, tallied, counts, started, escape, visible_byte, visible};
 
 use answers::{Reason, Refusal};
+pub use explained::put_explained;
 use numbers::{last_digit, put_digits};
 use printing::put_decimal;
 use rounds::Tally;
