@@ -3,3 +3,4 @@ pub mod Reports
 pub mod Places
 pub mod Why
 pub mod Explained
+pub mod Profile

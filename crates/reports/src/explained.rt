@@ -43,7 +43,7 @@ fn put_located(reason: Reason, spot: Spot, out: &mut Cursor)
 }
 
 // Puts what question refuses, and at what place.
-fn put_head(refused: Refusal, out: &mut Cursor)
+pub(crate) fn put_head(refused: Refusal, out: &mut Cursor)
     requires { Fits out.old 52 }
     ensures { Puts out.old (head (number_of refused.reason) refused.place) out.new }
 {

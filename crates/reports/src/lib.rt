@@ -4,6 +4,7 @@
 #![tactic(auto, using(crate::proofs::Putting::lengths, text::proofs::Cursors::room_left, text::proofs::Cursors::then_puts))]
 
 mod explained; // the line of a refusal of a tape
+mod profile; // what breaks the profile, and what is no register
 mod places; // where in a listing an offset is
 mod why; // the words for one reason
 
@@ -19,6 +20,7 @@ use answers::{Reason, Refusal};
 pub use explained::put_explained;
 use numbers::{last_digit, put_digits};
 use printing::put_decimal;
+pub use profile::{Piece, broken, is_register, put_no_register};
 use rounds::Tally;
 use text::Cursor;
 
