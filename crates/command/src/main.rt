@@ -9,23 +9,28 @@ mod batches; // several files in one call
 mod files; // reading, and what is told
 mod guards; // what is looked at before anything is done
 mod help; // the help, and wrong use
+mod json; // a reply as JSON
 mod outputs; // results, and where they go
+mod refusals; // what is told of a refusal
 mod stores; // named states, in a file
 
 use answers::{Answer, Reason, Refusal};
-use arguments::{Destination, Part, Request, Value, Verb, base_name};
-use clean::Finished;
+use arguments::{Destination, Part, Request, Value, Verb, base_name, next_word};
+use clean::{Finished, Tally};
 use files::{
-    Fate, Outcome, Trouble, failed_by, front, is_dash, no_memory, print, print_decimal, put_path,
-    read_file, tell, tell_name,
+    Fate, Outcome, Trouble, failed_by, front, is_dash, no_memory, print, put_path, read_file, tell,
+    tell_name,
 };
 use ground::rules::Rules;
+use json::{print_object, print_quoted};
 use listing_text::{Unmade, put_listing, put_tape};
 use outputs::Product;
+use refusals::{fate_of, print_refused, tell_explained, tell_in_tape, tell_no_register};
 use render::{Cleaning, count_of};
 use std::env::FillError;
 use std::process::ExitCode;
 use std::rt::Env;
+use tape::questions::Totals;
 use words::nth_word;
 
 // Where the results go.
@@ -137,52 +142,7 @@ impl Call<'_> {
     }
 }
 
-// ---- what is told of a reply
-
-fn tell_refusal(refused: Refusal) {
-    let mut line = [0u8; 256];
-    let n = reports::put_refused(refused, &mut line);
-    tell(front(&line, n));
-}
-
-// The same of a refusal by the questions of a tape, which stands in the tape.
-pub(crate) fn tell_explained(tape: &[u8], refused: Refusal) {
-    let mut line = [0u8; 512];
-    let n = reports::put_explained(tape, refused, &mut line);
-    tell(front(&line, n));
-}
-
-// Whether the place of a refusal is an offset of the tape.
-fn is_in_tape(refused: Refusal) -> bool {
-    matches!(
-        refused.reason,
-        Reason::NoCommand
-            | Reason::CutOff
-            | Reason::OutOfPlace
-            | Reason::OutOfBounds
-            | Reason::Unprintable
-            | Reason::BytesAfterEnd
-            | Reason::TooMany
-            | Reason::TooMuchText
-            | Reason::NewKeyword
-            | Reason::UnreadNumber
-            | Reason::OutOfReach
-    )
-}
-
-// Tells a refusal with the name of its file, and says what became of the file.
-pub(crate) fn fate_of(rt: &HostRuntime, name: &[u8], done: Result<(), Trouble>) -> Fate {
-    match done {
-        Ok(_) => Fate::Done,
-        Err(Trouble::Refused(refused)) => {
-            tell_name(rt, name);
-            tell_refusal(refused);
-            Fate::Refused
-        }
-        Err(Trouble::Told) => Fate::Refused,
-        Err(Trouble::Failed) => Fate::Failed,
-    }
-}
+// ---- what is printed of a reply
 
 fn print_counts(rt: &HostRuntime, f: Finished) -> Result<(), Trouble> {
     let mut line = [0u8; 256];
@@ -190,22 +150,61 @@ fn print_counts(rt: &HostRuntime, f: Finished) -> Result<(), Trouble> {
     print(rt, front(&line, n))
 }
 
-// The line of a start value.
-fn print_start(rt: &HostRuntime, chosen: &[u8], v: u64) -> Result<(), Trouble> {
-    let mut line = [0u8; 65581];
-    let n = if chosen.len() <= 65536 {
-        reports::put_start(chosen, v, &mut line)
-    } else {
-        0
+fn print_json_counts(rt: &HostRuntime, name: &[u8], f: Finished) -> Result<(), Trouble> {
+    let Finished {
+        length,
+        tally,
+        removed,
+        cut,
+    } = f;
+    let rest = match tally {
+        Tally::Three {
+            first,
+            second,
+            third,
+        } => format!(in rt.alloc();
+            ",\"length\":{length},\"settled\":false,\"attempts\":[{first},{second},{third}],\"removed\":{removed},\"cut\":{cut}"
+        ),
+        Tally::Settled { rounds, attempts } => format!(in rt.alloc();
+            ",\"length\":{length},\"settled\":true,\"rounds\":{rounds},\"attempts\":{attempts},\"removed\":{removed},\"cut\":{cut}"
+        ),
     };
-    print(rt, front(&line, n))
+    print_object(rt, name, rest)
 }
 
 // ---- a start value
 
+// The name in a word REG=VALUE.
+fn name_in(entry: &[u8]) -> &[u8] {
+    match entry.iter().position(|b| *b == b'=') {
+        Some(n) => front(entry, n),
+        None => entry,
+    }
+}
+
 impl Call<'_> {
+    // The register that is none: the chosen one, or the first that the words give a value.
+    fn no_register<'b>(&'b self, chosen: &'b [u8]) -> &'b [u8] {
+        if !reports::is_register(chosen) {
+            return chosen;
+        }
+        let mut s = Request::begin();
+        let mut left = self.words;
+        for k in 0..u64::MAX {
+            let Some((word, rest)) = next_word(left) else {
+                break;
+            };
+            s = s.step(k, word);
+            if s.start.entry == Some(k) && !reports::is_register(name_in(word)) {
+                return name_in(word);
+            }
+            left = rest;
+        }
+        chosen
+    }
+
     // Asks for the start value, by way of a buffer for the list of the words' entries, and prints its line.
-    fn print_start_value(&self, tape: &[u8], list: &mut [u8]) -> Result<(), Trouble> {
+    fn print_start_value(&self, input: Input, list: &mut [u8]) -> Result<(), Trouble> {
         if list.len() / 9 <= self.words.len() {
             return Err(failed_by(
                 self.rt,
@@ -219,14 +218,93 @@ impl Call<'_> {
             return Ok(());
         };
         let chosen = part_of(self.words, part);
-        let v = start::start_value(tape, chosen, front(list, n), wanted)?;
-        print_start(self.rt, chosen, v)
+        match start::start_value(input.tape, chosen, front(list, n), wanted) {
+            Ok(v) => self.print_start(input, chosen, front(list, n), wanted, v),
+            Err(refused) if refused.reason == Reason::NoRegister => {
+                if self.request.form.json {
+                    print_refused(self.rt, input.name, input.tape, refused)?;
+                }
+                Err(tell_no_register(self.rt, input.name, self.no_register(chosen)))
+            }
+            Err(refused) => Err(Trouble::Refused(refused)),
+        }
+    }
+
+    // How far the next value lies that is returned too, as a power of 2: 64 where there is none further. What is returned is m * v + c modulo
+    // 2^64, so that a value works for a wanted one that is 2^s more exactly where m has at most s twos.
+    fn step_of(&self, tape: &[u8], chosen: &[u8], list: &[u8], wanted: u64) -> u32 {
+        for s in 0..64u32 {
+            let further = wanted.wrapping_add(1u64 << s);
+            if start::start_value(tape, chosen, list, further).is_ok() {
+                return 64 - s;
+            }
+        }
+        0
+    }
+
+    fn print_start(
+        &self,
+        input: Input,
+        chosen: &[u8],
+        list: &[u8],
+        wanted: u64,
+        v: u64,
+    ) -> Result<(), Trouble> {
+        if self.request.form.json {
+            print(self.rt, b"{\"file\":\"")?;
+            print_quoted(self.rt, input.name)?;
+            print(self.rt, b"\",\"register\":\"")?;
+            print_quoted(self.rt, chosen)?;
+            return match format!(in self.rt.alloc();
+                "\",\"value\":\"{v:#x}\",\"decimal\":\"{v}\"}}\n"
+            ) {
+                Ok(rest) => print(self.rt, rest.as_bytes()),
+                Err(_) => Err(no_memory(self.rt)),
+            };
+        }
+        let mut line = [0u8; 65581];
+        let n = if chosen.len() <= 65536 {
+            reports::put_start(chosen, v, &mut line)
+        } else {
+            0
+        };
+        print(self.rt, front(&line, n))?;
+        self.tell_others(input, chosen, list, wanted)
+    }
+
+    // Tells, unless told to be quiet, that the value is one of several, and how they follow.
+    fn tell_others(
+        &self,
+        input: Input,
+        chosen: &[u8],
+        list: &[u8],
+        wanted: u64,
+    ) -> Result<(), Trouble> {
+        let line = match self.step_of(input.tape, chosen, list, wanted) {
+            64 => return Ok(()),
+            0 => format!(in self.rt.alloc();
+                "any other value does too: the result does not depend on it"
+            ),
+            n => {
+                let step = 1u64 << n;
+                format!(in self.rt.alloc();
+                    "the smallest of several: each {step:#x} further does too"
+                )
+            }
+        };
+        let Ok(line) = line else {
+            return Err(no_memory(self.rt));
+        };
+        tell_name(self.rt, input.name);
+        tell(line.as_bytes());
+        tell(b"\n");
+        Ok(())
     }
 
     // The smallest start value of the chosen register.
-    fn start_one(&self, tape: &[u8]) -> Result<(), Trouble> {
+    fn start_one(&self, input: Input) -> Result<(), Trouble> {
         match vec![in self.rt.alloc(); 0u8; 589833] {
-            Ok(mut list) => self.print_start_value(tape, &mut list),
+            Ok(mut list) => self.print_start_value(input, &mut list),
             Err(_) => Err(no_memory(self.rt)),
         }
     }
@@ -262,20 +340,33 @@ impl Call<'_> {
     fn count_one(&self, input: Input) -> Result<(), Trouble> {
         let mut out = [0u8; 59137];
         let f = input.clean(&mut out)?;
+        if self.request.form.json {
+            return print_json_counts(self.rt, input.name, f);
+        }
         self.print_name(input.name)?;
         print_counts(self.rt, f)
     }
 
     fn check_one(&self, input: Input) -> Result<(), Trouble> {
-        let totals = tape::check::<false>(input.tape)?;
+        let Totals {
+            lines,
+            tokens,
+            text,
+            ..
+        } = tape::check::<false>(input.tape)?;
+        if self.request.form.json {
+            let rest = format!(in self.rt.alloc();
+                ",\"accepted\":true,\"lines\":{lines},\"tokens\":{tokens},\"text\":{text}"
+            );
+            return print_object(self.rt, input.name, rest);
+        }
         self.print_name(input.name)?;
-        print(self.rt, b"accepted, lines ")?;
-        print_decimal(self.rt, count_of(totals.lines))?;
-        print(self.rt, b", tokens ")?;
-        print_decimal(self.rt, count_of(totals.tokens))?;
-        print(self.rt, b", bytes of text ")?;
-        print_decimal(self.rt, count_of(totals.text))?;
-        print(self.rt, b"\n")
+        match format!(in self.rt.alloc();
+            "accepted, lines {lines}, tokens {tokens}, bytes of text {text}\n"
+        ) {
+            Ok(line) => print(self.rt, line.as_bytes()),
+            Err(_) => Err(no_memory(self.rt)),
+        }
     }
 
     fn edition_one(&self, name: &[u8], tape: &[u8]) -> Result<(), Trouble> {
@@ -371,7 +462,7 @@ impl Call<'_> {
             Verb::Edition => self.edition_one(name, tape),
             Verb::Offsets => self.offsets_one(name, tape),
             Verb::Page => self.page_one(input),
-            Verb::Start => self.start_one(tape),
+            Verb::Start => self.start_one(input),
             _ => Ok(()),
         }
     }
@@ -407,10 +498,11 @@ impl Call<'_> {
         let n = read_file(self.rt, name, &mut buffer)?;
         let input = self.input_of(name, front(&buffer, n))?;
         match self.work(verb, input) {
-            Err(Trouble::Refused(refused)) if is_in_tape(refused) && verb != Verb::Addresses => {
-                tell_name(self.rt, name);
-                tell_explained(input.tape, refused);
-                Err(Trouble::Told)
+            Err(Trouble::Refused(refused)) if verb != Verb::Addresses => {
+                if self.request.form.json {
+                    print_refused(self.rt, name, input.tape, refused)?;
+                }
+                Err(tell_in_tape(self.rt, name, input.tape, refused))
             }
             done => done,
         }

@@ -1,11 +1,12 @@
 // Named states of listings, in a file of 524,288 bytes. Who changes one holds its lock: a file beside it, which one run alone can make.
+use crate::Call;
 use crate::files::{
     Outcome, Trouble, failed, failed_by, front, no_memory, path_of, print, print_decimal,
     read_file, read_path, tell_name,
 };
 use crate::guards::{is_gone, process_of};
 use crate::outputs::{Product, create_new, run_name};
-use crate::{Call, fate_of, tell_explained};
+use crate::refusals::{fate_of, tell_explained};
 use answers::{Reason, Refusal};
 use arguments::{Action, Value};
 use render::count_of;

@@ -82,9 +82,9 @@ fn words_by(reason: Reason, command: Command) -> &'static [u8]
     }
 }
 
-// Of a refusal of a tape.
+// The words for the one reason of a refusal of a tape.
 #[tactic(auto, unfolding(crate::specs::Why::words))]
-pub(crate) fn words(tape: &[u8], refused: Refusal) -> &'static [u8]
+pub fn words(tape: &[u8], refused: Refusal) -> &'static [u8]
     ensures { result.now ≡ words tape.now (number_of refused.reason) refused.place }
 {
     let Refusal { reason, place } = refused;
