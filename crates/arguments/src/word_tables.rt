@@ -144,7 +144,7 @@ impl Verb {
         )
     }
 
-    pub(crate) fn takes(self, option: Flag) -> bool
+    pub fn takes(self, option: Flag) -> bool
         ensures { result ≡ takes self option }
     {
         match option {

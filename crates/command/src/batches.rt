@@ -114,8 +114,9 @@ impl Call<'_> {
             }
             left = rest;
         }
+        let indexed = self.deliver_index().is_ok();
         self.close(verb, &batch);
-        if batch.refused == 0 && batch.failed == 0 {
+        if indexed && batch.refused == 0 && batch.failed == 0 {
             Outcome::Done
         } else {
             Outcome::Undone

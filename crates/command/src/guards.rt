@@ -1,6 +1,6 @@
 // What is looked at before anything is done: whether a terminal would be read or written, whether a result would go onto an input, whether
 // two would go to one file; and what an ended run left behind, which is told.
-use crate::files::{begin_line, front, is_dash, path_of, put_path, tell};
+use crate::files::{begin_line, front, is_dash, path_of, tell};
 use crate::{Call, Target};
 use arguments::{Action, Request, Value, Verb, base_name, next_word};
 use std::alloc::AllocError;
@@ -126,7 +126,7 @@ impl Call<'_> {
         match self.target {
             Target::StandardOutput => false,
             Target::File(at) => is_same(self.rt, name, at),
-            Target::Folder(dir) => match put_path(dir, base_name(name), &mut path) {
+            Target::Folder(dir) => match self.put_path_in(dir, name, &mut path) {
                 Some(n) => is_same(self.rt, name, front(&path, n)),
                 None => false,
             },
@@ -177,6 +177,24 @@ impl Call<'_> {
         }
     }
 
+    // The operand, if there is one, whose page would have the name of the index.
+    fn is_index(&self, verb: Verb) -> Option<u64> {
+        if verb != Verb::Page || !matches!(self.target, Target::Folder(_)) {
+            return None;
+        }
+        let mut s = Request::begin();
+        let mut left = self.words;
+        for k in 0..u64::MAX {
+            let (word, rest) = next_word(left)?;
+            s = s.step(k, word);
+            if s.operands.last == Some(k) && base_name(word) == b"index".as_slice() {
+                return Some(k);
+            }
+            left = rest;
+        }
+        None
+    }
+
     // Whether something stands against doing what is asked; it is told.
     pub(crate) fn is_misused(&self, verb: Verb) -> bool {
         if self.reads_terminal(verb) {
@@ -200,6 +218,14 @@ impl Call<'_> {
                 self.rt,
                 self.word(Some(k)),
                 b" has the base name of another file, and -d would write both to one; nothing was done",
+            );
+            return true;
+        }
+        if let Some(k) = self.is_index(verb) {
+            tell_misuse(
+                self.rt,
+                self.word(Some(k)),
+                b" would have the page of the index; nothing was done",
             );
             return true;
         }

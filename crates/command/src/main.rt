@@ -9,6 +9,7 @@ mod batches; // several files in one call
 mod files; // reading, and what is told
 mod guards; // what is looked at before anything is done
 mod help; // the help, and wrong use
+mod index; // the index over the pages of a folder
 mod json; // a reply as JSON
 mod outputs; // results, and where they go
 mod refusals; // what is told of a refusal
@@ -18,8 +19,8 @@ use answers::{Answer, Reason, Refusal};
 use arguments::{Destination, Part, Request, Value, Verb, base_name, next_word};
 use clean::{Finished, Tally};
 use files::{
-    Fate, Outcome, Trouble, failed_by, front, is_dash, no_memory, print, put_path, read_file, tell,
-    tell_name,
+    Fate, Outcome, Trouble, append, failed_by, front, is_dash, no_memory, print, put_path,
+    read_file, tell, tell_name,
 };
 use ground::rules::Rules;
 use json::{print_object, print_quoted};
@@ -96,24 +97,45 @@ fn target_of(words: &[u8], destination: Destination) -> Target<'_> {
 
 // ---- where a result goes
 
-// To the file of the same name in the folder DIR.
-fn deliver_into(
-    rt: &HostRuntime,
-    dir: &[u8],
-    name: &[u8],
-    product: Product,
-) -> Result<(), Trouble> {
-    if is_dash(name) {
-        return Err(failed_by(rt, b"puchkewa", b"-d needs the names of files"));
-    }
-    let mut path = [0u8; 8200];
-    match put_path(dir, base_name(name), &mut path) {
-        Some(n) => product.write(rt, front(&path, n)),
-        None => Err(failed_by(rt, name, b"the name is too long")),
-    }
-}
-
 impl Call<'_> {
+    // The path of a file's result in a folder, if it fits: of the same name, a page's with .html behind it.
+    fn put_path_in(&self, dir: &[u8], name: &[u8], path: &mut [u8]) -> Option<usize> {
+        let n = put_path(dir, base_name(name), path)?;
+        if self.request.verb == Some(Verb::Page) {
+            append(b".html", path, n)
+        } else {
+            Some(n)
+        }
+    }
+
+    // To the file of that name in the folder DIR.
+    fn deliver_into(&self, dir: &[u8], name: &[u8], product: Product) -> Result<(), Trouble> {
+        if is_dash(name) {
+            return Err(failed_by(self.rt, b"puchkewa", b"-d needs the names of files"));
+        }
+        let mut path = [0u8; 8200];
+        match self.put_path_in(dir, name, &mut path) {
+            Some(n) => product.write(self.rt, front(&path, n)),
+            None => Err(failed_by(self.rt, name, b"the name is too long")),
+        }
+    }
+
+    // The index over the pages, where several are made.
+    fn deliver_index(&self) -> Result<(), Trouble> {
+        let mut path = [0u8; 8200];
+        match (self.request.verb, self.target) {
+            (Some(Verb::Page), Target::Folder(dir)) => match put_path(
+                dir,
+                b"index.html",
+                &mut path,
+            ) {
+                Some(n) => Product::Index(self).write(self.rt, front(&path, n)),
+                None => Err(failed_by(self.rt, dir, b"the name is too long")),
+            },
+            _ => Ok(()),
+        }
+    }
+
     // A word by its number; nothing for none.
     fn word(&self, k: Option<u64>) -> &[u8] {
         match k {
@@ -127,7 +149,7 @@ impl Call<'_> {
         match self.target {
             Target::StandardOutput => product.print(self.rt),
             Target::File(path) => product.write(self.rt, path),
-            Target::Folder(dir) => deliver_into(self.rt, dir, name, product),
+            Target::Folder(dir) => self.deliver_into(dir, name, product),
         }
     }
 

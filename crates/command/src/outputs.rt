@@ -1,6 +1,8 @@
 // A result, and where it goes. A file is there whole or not at all: its bytes stand under another name beside it until all are written.
 // What is no regular file (a device, a pipe) is written to as it is; one that may not be written is not replaced.
+use crate::Call;
 use crate::files::{STDOUT, Trouble, failed, path_of};
+use crate::index::put_index;
 use render::{Cleaning, Sink, put_page};
 use std::alloc::AllocError;
 use std::env::var;
@@ -10,11 +12,12 @@ use std::os::fd::AsRawFd;
 use std::process::id;
 use std::random::RandomSource;
 
-// The bytes of a tape, or the page of a cleaning, which is made while it is written.
+// The bytes of a tape, or the page of a cleaning or the index over pages, which are made while they are written.
 #[derive(Clone, Copy)]
 pub(crate) enum Product<'a> {
     Bytes(&'a [u8]),
     Page(&'a Cleaning<'a>),
+    Index(&'a Call<'a>),
 }
 
 // Writes a page to what is open. Where not all could be written the system says why when it is asked for one byte more.
@@ -34,6 +37,7 @@ impl Product<'_> {
         match self {
             Product::Bytes(bytes) => to.write_all(bytes),
             Product::Page(cleaning) => put_whole(cleaning, to, fd),
+            Product::Index(call) => put_index(call, to),
         }
     }
 

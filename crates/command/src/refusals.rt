@@ -67,7 +67,7 @@ fn broken_words(tape: &[u8], place: u64) -> &'static [u8] {
 }
 
 // The words for the one reason.
-fn words_of(tape: &[u8], refused: Refusal) -> &'static [u8] {
+pub(crate) fn words_of(tape: &[u8], refused: Refusal) -> &'static [u8] {
     match refused.reason {
         Reason::OutsideProfile => broken_words(tape, refused.place),
         _ => reports::words(tape, refused),
