@@ -14,6 +14,7 @@ mod json; // a reply as JSON
 mod outputs; // results, and where they go
 mod refusals; // what is told of a refusal
 mod stores; // named states, in a file
+mod texts; // the tape of a text
 
 use answers::{Answer, Reason, Refusal};
 use arguments::{Destination, Part, Request, Value, Verb, base_name, next_word};
@@ -24,9 +25,9 @@ use files::{
 };
 use ground::rules::Rules;
 use json::{print_object, print_quoted};
-use listing_text::{Unmade, put_listing, put_tape};
+use listing_text::put_listing;
 use outputs::Product;
-use refusals::{fate_of, print_refused, tell_explained, tell_in_tape, tell_no_register};
+use refusals::{fate_of, print_refused, tell_in_tape, tell_no_register};
 use render::{Cleaning, count_of};
 use std::env::FillError;
 use std::process::ExitCode;
@@ -419,42 +420,6 @@ impl Call<'_> {
         match shown.refusal {
             Some(refused) => Err(Trouble::Refused(refused)),
             None => Ok(()),
-        }
-    }
-
-    // A tape that was made of a text; what `check` would refuse is refused. A line of the tape is one of the text.
-    fn deliver_made(&self, name: &[u8], tape: &[u8]) -> Result<(), Trouble> {
-        match tape::check::<false>(tape) {
-            Ok(_) => self.deliver(name, Product::Bytes(tape)),
-            Err(refused) => {
-                tell_name(self.rt, name);
-                tell(b"the tape of this text is ");
-                tell_explained(tape, refused);
-                Err(Trouble::Told)
-            }
-        }
-    }
-
-    // The tape of a text in the exact form.
-    fn tape_one(&self, name: &[u8], text: &[u8]) -> Result<(), Trouble> {
-        if 131072 <= text.len() {
-            return Err(failed_by(self.rt, name, b"the text is too long"));
-        }
-        let mut out = [0u8; 131072];
-        match put_tape(text, &mut out) {
-            Ok(length) => self.deliver_made(name, front(&out, length)),
-            Err(Unmade::Full) => Err(failed_by(
-                self.rt,
-                name,
-                b"the tape of this text is too long",
-            )),
-            Err(Unmade::Wrong(line)) => {
-                tell_name(self.rt, name);
-                tell(b"line ");
-                io::print_decimal(files::STDERR, line.saturating_add(1));
-                tell(b" is not as show --exact prints it\n");
-                Err(Trouble::Told)
-            }
         }
     }
 
