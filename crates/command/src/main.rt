@@ -304,16 +304,16 @@ impl Call<'_> {
         wanted: u64,
     ) -> Result<(), Trouble> {
         let line = match self.step_of(input.tape, chosen, list, wanted) {
-            64 => return Ok(()),
             0 => format!(in self.rt.alloc();
                 "any other value does too: the result does not depend on it"
             ),
-            n => {
+            n if n < 64 => {
                 let step = 1u64 << n;
                 format!(in self.rt.alloc();
                     "the smallest of several: each {step:#x} further does too"
                 )
             }
+            _ => return Ok(()),
         };
         let Ok(line) = line else {
             return Err(no_memory(self.rt));

@@ -128,9 +128,13 @@ fn tell_broken(rt: &HostRuntime, tape: &[u8], refused: Refusal) {
 // A name that is no 64-bit register.
 pub(crate) fn tell_no_register(rt: &HostRuntime, file: &[u8], name: &[u8]) -> Trouble {
     let mut line = [0u8; 1120];
-    let n = reports::put_no_register(front(name, name.len().min(1024)), &mut line);
     tell_name(rt, file);
-    tell(front(&line, n));
+    if name.len() <= 1024 {
+        let n = reports::put_no_register(name, &mut line);
+        tell(front(&line, n));
+    } else {
+        tell_refusal(Reason::NoRegister.at(0));
+    }
     Trouble::Told
 }
 
