@@ -9,22 +9,21 @@ use std::fs::{metadata, read_dir};
 use std::io::IsTerminal;
 use std::os::unix::fs::MetadataExt;
 
-// Whether two paths name one file.
-fn is_same(rt: &HostRuntime, a: &[u8], b: &[u8]) -> bool {
-    let (Ok(a), Ok(b)) = (path_of(a), path_of(b)) else {
-        return false;
-    };
-    match (metadata(rt, a), metadata(rt, b)) {
-        (Ok(a), Ok(b)) => a.ino() == b.ino() && a.dev() == b.dev() && a.is_file(),
-        _ => false,
+// What tells a regular file that a path names from every other.
+fn file_at(rt: &HostRuntime, path: &[u8]) -> Option<(u64, u64)> {
+    let found = metadata(rt, path_of(path).ok()?).ok()?;
+    if found.is_file() {
+        Some((found.dev(), found.ino()))
+    } else {
+        None
     }
 }
 
-// The folder that a path is in.
+// A path without its base name: the folder that it is in, as it is written.
 fn folder_of(path: &[u8]) -> &[u8] {
     match path.len().checked_sub(base_name(path).len()) {
-        Some(0) | None => b".",
         Some(n) => front(path, n),
+        None => &path[..0],
     }
 }
 
@@ -56,8 +55,9 @@ fn is_left(rt: &HostRuntime, name: &str, base: &[u8]) -> bool {
     }
 }
 
-fn tell_left_in(rt: &HostRuntime, dir: &[u8], base: &[u8]) {
-    let Ok(dir) = path_of(dir) else {
+// Tells the parts that are left in a folder, whose path is written so, with what parts it from the names.
+fn tell_left_in(rt: &HostRuntime, folder: &[u8], slash: &[u8], base: &[u8]) {
+    let Ok(dir) = path_of(if folder.is_empty() { b"." } else { folder }) else {
         return;
     };
     let Ok(entries) = read_dir(rt, dir) else {
@@ -69,8 +69,8 @@ fn tell_left_in(rt: &HostRuntime, dir: &[u8], base: &[u8]) {
         };
         if is_left(rt, entry.file_name(), base) {
             tell(b"puchkewa: ");
-            tell(dir.as_bytes());
-            tell(b"/");
+            tell(folder);
+            tell(slash);
             tell(entry.file_name().as_bytes());
             tell(b" is left of a run that was ended: remove it\n");
         }
@@ -120,31 +120,56 @@ impl Call<'_> {
             && self.rt.stdout().is_terminal()
     }
 
-    // Whether the result of a file would go onto the file itself.
-    fn goes_onto(&self, name: &[u8]) -> bool {
+    // The regular file that is there where the result of a file is to go.
+    fn file_at_result(&self, name: &[u8]) -> Option<(u64, u64)> {
         let mut path = [0u8; 8200];
         match self.target {
-            Target::StandardOutput => false,
-            Target::File(at) => is_same(self.rt, name, at),
-            Target::Folder(dir) => match self.put_path_in(dir, name, &mut path) {
-                Some(n) => is_same(self.rt, name, front(&path, n)),
-                None => false,
-            },
+            Target::StandardOutput => None,
+            Target::File(at) => file_at(self.rt, at),
+            Target::Folder(dir) => {
+                let n = self.put_path_in(dir, name, &mut path)?;
+                file_at(self.rt, front(&path, n))
+            }
         }
     }
 
-    // The first operand onto which its own result would go.
+    // The files that are read.
+    fn inputs(&self) -> Result<HashSet<(u64, u64)>, AllocError> {
+        let mut files = HashSet::new(self.rt.alloc());
+        let mut s = Request::begin();
+        let mut left = self.words;
+        for k in 0..u64::MAX {
+            let Some((word, rest)) = next_word(left) else {
+                break;
+            };
+            s = s.step(k, word);
+            if s.operands.last == Some(k) && !is_dash(word) {
+                if let Some(file) = file_at(self.rt, word) {
+                    let _ = files.insert(file)?;
+                }
+            }
+            left = rest;
+        }
+        Ok(files)
+    }
+
+    // The first operand whose result would go onto a file that is read.
     fn written_over(&self) -> Option<u64> {
         if self.request.goal.force || matches!(self.target, Target::StandardOutput) {
             return None;
         }
+        let inputs = self.inputs().ok()?;
         let mut s = Request::begin();
         let mut left = self.words;
         for k in 0..u64::MAX {
             let (word, rest) = next_word(left)?;
             s = s.step(k, word);
-            if s.operands.last == Some(k) && !is_dash(word) && self.goes_onto(word) {
-                return Some(k);
+            if s.operands.last == Some(k) {
+                if let Some(file) = self.file_at_result(word) {
+                    if inputs.contains(&file) {
+                        return Some(k);
+                    }
+                }
             }
             left = rest;
         }
@@ -230,10 +255,16 @@ impl Call<'_> {
             return true;
         }
         if let Some(k) = self.written_over() {
+            let name = self.word(Some(k));
+            let own = file_at(self.rt, name) == self.file_at_result(name);
             tell_misuse(
                 self.rt,
-                self.word(Some(k)),
-                b" would be written over by its own result; -f does it",
+                name,
+                if own {
+                    b" would be written over by its own result; -f does it"
+                } else {
+                    b" has a result that would be written over another input; -f does it"
+                },
             );
             return true;
         }
@@ -246,12 +277,12 @@ impl Call<'_> {
             return;
         }
         match self.target {
-            Target::Folder(dir) => tell_left_in(self.rt, dir, b""),
-            Target::File(at) => tell_left_in(self.rt, folder_of(at), base_name(at)),
+            Target::Folder(dir) => tell_left_in(self.rt, dir, b"/", b""),
+            Target::File(at) => tell_left_in(self.rt, folder_of(at), b"", base_name(at)),
             Target::StandardOutput => {
                 if verb == Verb::State {
                     let at = self.word(self.request.operands.first);
-                    tell_left_in(self.rt, folder_of(at), base_name(at));
+                    tell_left_in(self.rt, folder_of(at), b"", base_name(at));
                 }
             }
         }
