@@ -4,7 +4,8 @@
 --
 -- One word after the other is taken (`step_of`), and then all of them are judged together (`judged`). Words are numbered from 0. Assumes
 -- nothing.
-use Rattle.std.specs.Prelude.{ℕ, ◌+◌, Bool, true, false, List, [], ◌∷◌, ◌++◌, ◌&&◌, ◌||◌, not, ltb, length, take, drop, Option, Some, None, if◌then◌else◌}
+use Rattle.std.specs.Prelude.{ℕ, ◌+◌, Bool, true, false, List, [], ◌∷◌, ◌++◌, ◌&&◌, ◌||◌, not, ltb, length, take, drop}
+use Rattle.std.specs.Prelude.{Option, Some, None, if◌then◌else◌}
 use Rattle.std.proofs.Math.Option.{none, some}
 use Rattle.reference.specs.Text.{Text, bytes, starts_with, ◌≟◌}
 use Rattle.words.specs.Numerals.{integer_in}

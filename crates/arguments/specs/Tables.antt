@@ -31,7 +31,8 @@ verbs =
     (bytes "clean", verb.Clean) ∷ (bytes "counts", verb.Counts) ∷ (bytes "check", verb.Check) ∷ (bytes "show", verb.Show)
     ∷ (bytes "tape", verb.Tape) ∷ (bytes "addresses", verb.Addresses) ∷ (bytes "edition", verb.Edition) ∷ (bytes "offsets", verb.Offsets)
     ∷ (bytes "laborious", verb.Laborious) ∷ (bytes "state", verb.State) ∷ (bytes "help", verb.Help) ∷ (bytes "version", verb.Version)
-    ∷ (bytes "--version", verb.VersionOption) ∷ (bytes "-V", verb.VersionOption) ∷ (bytes "page", verb.Page) ∷ (bytes "start", verb.Start) ∷ []
+    ∷ (bytes "--version", verb.VersionOption) ∷ (bytes "-V", verb.VersionOption) ∷ (bytes "page", verb.Page)
+    ∷ (bytes "start", verb.Start) ∷ []
 
 abbrev pub options : List (Text × Flag)
 options =

@@ -22,7 +22,8 @@ pub(crate) fn is_dash(name: &[u8]) -> bool {
 
 // ---- how things end
 
-// Why something was not done: a question refused it, which is told by whoever has the file's name, or was told; or it failed, which was told.
+// Why something was not done: a question refused it, which is told by whoever has the file's name, or was told; or it failed, which was
+// told.
 #[derive(Clone, Copy)]
 pub(crate) enum Trouble {
     Refused(Refusal),

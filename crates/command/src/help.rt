@@ -71,7 +71,7 @@ fn line_of(option: Flag) -> &'static [u8] {
         Flag::Settle => b"\x20 --settle            rounds until one changes nothing\n",
         Flag::Output => b"\x20 -o OUT              the result goes to the file OUT\n",
         Flag::Folder => {
-            b"\x20 -d DIR              results go to files of the same names in the folder DIR; pages with .html, and index.html over them\n"
+            b"\x20 -d DIR              to files of the same names in the folder DIR; pages with .html, and index.html over them\n"
         }
         Flag::Exact => b"\x20 --exact             in the form that tape reads\n",
         Flag::Return => b"\x20 --return V          the value that is to be returned\n",

@@ -1,5 +1,5 @@
-// The index over the pages of a folder: a row for each file, with its lines before and after and whether its calls are kept, or with the words
-// that it was refused with. A row of a page is a link to it. Files are read and cleaned once more for their rows.
+// The index over the pages of a folder: a row for each file, with its lines before and after and whether its calls are kept, or with the
+// words that it was refused with. A row of a page is a link to it. Files are read and cleaned once more for their rows.
 use crate::Call;
 use crate::files::{front, is_dash, read_path};
 use crate::refusals::words_of;
@@ -120,7 +120,8 @@ pub(crate) fn put_index<W: Write>(call: &Call, to: &mut W) -> Result<(), Error> 
           <meta http-equiv=Content-Security-Policy content=\"default-src 'none';style-src 'unsafe-inline'\">\n\
           <meta name=viewport content=\"width=device-width,initial-scale=1\">\n<title>Cleaned listings - Puchkewa</title>\n\
           <style>\n\
-          :root{color-scheme:light dark;--ink:#1b2330;--soft:#667080;--rule:#dde2e9;--back:#fff;--link:#1a5fd0;--good:#1c7a3d;--bad:#a3301f}\n\
+          :root{color-scheme:light dark;--ink:#1b2330;--soft:#667080;--rule:#dde2e9;--back:#fff;--link:#1a5fd0;--good:#1c7a3d;\
+          --bad:#a3301f}\n\
           @media(prefers-color-scheme:dark){:root{--ink:#e6e9ee;--soft:#9aa5b4;--rule:#39424f;--back:#14181e;--link:#7fb0ff;--good:#6fce8e;\
           --bad:#ff9a86}}\n\
           body{font:14px/1.5 system-ui,'Segoe UI','DejaVu Sans',sans-serif;color:var(--ink);background:var(--back);margin:0 auto;\

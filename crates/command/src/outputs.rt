@@ -93,8 +93,8 @@ fn chance(rt: &HostRuntime) -> u64 {
     u64::from_le_bytes(bytes)
 }
 
-// What names this run, the number of a process first: what the wrapper says, which takes away the files that a signal leaves; otherwise this
-// process and a number by chance.
+// What names this run, the number of a process first: what the wrapper says, which takes away the files that a signal leaves; otherwise
+// this process and a number by chance.
 pub(crate) fn run_name(rt: &HostRuntime) -> Result<String, AllocError> {
     match var(rt, "PUCHKEWA_RUN") {
         Ok(name) => Ok(name),
