@@ -1,6 +1,6 @@
 // Several files in one call: how many are done while they are, where a terminal shows it, and what became of them at the end.
-use crate::Call;
 use crate::files::{Fate, Outcome, begin_line, tell};
+use crate::{Call, Target};
 use arguments::{Request, Verb, next_word};
 use std::io::IsTerminal;
 
@@ -31,10 +31,16 @@ impl Batch {
 }
 
 impl Call<'_> {
+    // Whether the results go to a terminal, where they show how far the files are.
+    fn prints_there(&self) -> bool {
+        matches!(self.target, Target::StandardOutput) && self.rt.stdout().is_terminal()
+    }
+
     // Whether a terminal is to show how far the files are: at most some 200 times.
     fn is_shown(&self, batch: &Batch) -> bool {
         1 < batch.files
             && !self.request.form.quiet
+            && !self.prints_there()
             && batch.so_far() % (batch.files / 200 + 1) == 0
             && self.rt.stderr().is_terminal()
     }

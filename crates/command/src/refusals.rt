@@ -78,6 +78,9 @@ pub(crate) fn words_of(tape: &[u8], refused: Refusal) -> &'static [u8] {
 
 // The words for bytes that are no bare tape, where they are one in another form.
 fn look_of(bytes: &[u8]) -> &'static [u8] {
+    if tape::check::<false>(bytes).is_ok() {
+        return b"";
+    }
     if let [0..=2, rest @ ..] = bytes {
         if tape::check::<false>(rest).is_ok() {
             return b"a convention byte in front, as the filter takes it: --filter-form reads it";
