@@ -137,7 +137,7 @@ def try_keys(folder, chance):
         time.sleep(0.02)
         expect(len(list(out.iterdir())) == len(left), "the program goes on")
     expect(ended >= 5, "too few of 10 runs were ended", ended)
-    status = on_terminal(("tape", "-"), (0, 1, 2), keys=press_later(b"\x03"))[0]
+    status = on_terminal(("tape", "-"), (0, 2), keys=press_later(b"\x03"))[0]
     expect(status == -signal.SIGINT, "Ctrl-C while a terminal is read", status)
 
     def stop_and_go_on(terminal, child):

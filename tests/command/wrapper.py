@@ -121,7 +121,7 @@ def try_passed_on(folder):
                 expect(line == b"ready\n" and len(list(out.iterdir())) == len(others) + 2, shell, number, words, list(out.iterdir()))
                 began = time.monotonic()
                 child.send_signal(number)
-                status = child.wait()
+                status = child.wait(timeout=30)
                 # bash cannot end itself by QUIT
                 expect(status == -number or (number, status) == (signal.SIGQUIT, 128 + signal.SIGTERM), shell, number, status)
                 expect(time.monotonic() - began < 5 and child.stderr.read() == b"", shell, number, "took", time.monotonic() - began)
@@ -129,6 +129,6 @@ def try_passed_on(folder):
             mark = folder / "ended by itself"
             child, line = start(shell, "slow", mark)
             child.send_signal(number)
-            child.wait()
+            child.wait(timeout=30)
             expect(mark.exists(), shell, number, "the program was not waited for")
             mark.unlink()
