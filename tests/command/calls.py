@@ -90,22 +90,27 @@ def formula(chance):
 
 
 def smallest(returned, chosen, start, wanted):
-    """The smallest start value of a register for which a formula, which is m * v + c, returns what is wanted; None if there is none."""
+    """The smallest start value of a register for which a formula, which is m * v + c, returns what is wanted, and how far the next one is; None if there is none."""
     at = lambda v: returned({**start, chosen: v})
     constant = at(0)
     multiplier = (at(1) - constant) % MODULUS
     missing = (wanted - constant) % MODULUS
     divisor = math.gcd(multiplier, MODULUS)
     if missing % divisor:
-        return None
+        return None, None
     period = MODULUS // divisor
     value = missing // divisor * pow(multiplier // divisor, -1, period) % period if period > 1 else 0
     assert at(value) == wanted
-    return value
+    return value, period
 
 
-def first_line(printed):
-    return printed.decode().split("\n")[0]
+def further(name, period):
+    """What is told of the other values that do."""
+    if period == MODULUS:
+        return ""
+    if period == 1:
+        return f"{name}: any other value does too: the result does not depend on it\n"
+    return f"{name}: the smallest of several: each {period:#x} further does too\n"
 
 
 def written(chance, value):
@@ -133,7 +138,7 @@ def try_start(folder, count, chance):
         chance.shuffle(places)
         entries = (f"{name}={written(chance, value)}" for name, value in given)
         words = [word for place in places for word in (place or [next(entries)])]
-        value = smallest(returned, chosen, start, wanted)
+        value, period = smallest(returned, chosen, start, wanted)
         file.write_bytes(tape)
         in_file = chance.random() < 0.5
         status, printed, told = run("start", *words, *([file] if in_file else []), data=b"" if in_file else tape)
@@ -143,7 +148,7 @@ def try_start(folder, count, chance):
             expect((status, printed) == (1, b"") and told.startswith(f"{name}: refused 15 at 0: ") and told.count("\n") == 1, "start:", i, tape, words, status, printed, told)
         else:
             told_values += 1
-            expect((status, first_line(printed), told) == (0, f"{chosen} = {value:#x} ({value})", ""), "start:", i, tape, words, value, printed, told)
+            expect((status, printed, told) == (0, f"{chosen} = {value:#x} ({value})\n".encode(), further(name, period)), "start:", i, tape, words, value, printed, told)
     expect(count < 100 or min(told_values, none) > count // 50, "start: too few of one sort", told_values, none)
 
 
@@ -161,9 +166,8 @@ def try_start_words(folder):
                         (("start", file, "--choose", "rax", "--return", "18446744073709551615"), "rax = 0xffffffffffffffff (18446744073709551615)"),
                         (("start", file, "--choose", "rax", "--return", "-0"), "rax = 0x0 (0)"),
                         (("start", file, "--choose", "rax", "--return", "0xffffFFFFffffFFFF", "rbx=-1"), "rax = 0x0 (0)")):
-        status, printed, told = run(*words)
-        expect((status, first_line(printed), told) == (0, line, ""), words, status, printed, told)
-    names, breaks = "16 at 0: ", "14 at 0: "
+        expect(run(*words) == (0, line.encode() + b"\n", ""), words, run(*words))
+    names, breaks = "16 at 0: ", "14 at 0, line 1: "
     for words, data, what in ((("--return", "10", "--choose", "eax"), sum_tape, names), (("--return", "10", "--choose", "rax", "ebx=1"), sum_tape, names),
                               (("--return", "10", "--choose", "rax", "=1"), sum_tape, names), (("--return", "10", "--choose", "rax", "r" + "0" * 254 + "=1"), sum_tape, None),
                               (("--return", "10", "--choose", "rax"), b"\x02\x00\xff", breaks), (("--return", "10", "--choose", "rax"), b"\x02", "4 at 0")):

@@ -23,7 +23,7 @@ def try_folder(folder, chance):
     raw, out = folder / "raw tapes", folder / "out"
     put_tapes(raw, 200, chance)
     out.mkdir()
-    damaged = {"t00007.tape": (b"\x02", "4 at 0"), "t00100.tape": (b"", "3 at 0"), "t00199.tape": (b"\x02\x40\xff", "6 at 0")}
+    damaged = {"t00007.tape": (b"\x02", "4 at 0"), "t00100.tape": (b"", "3 at 0"), "t00199.tape": (b"\x02\x40\xff", "6 at 0, line 1")}
     for name, (tape, _) in damaged.items():
         (raw / name).write_bytes(tape)
     files = sorted(raw.iterdir())

@@ -67,7 +67,7 @@ def try_json(folder):
         length, *attempts, removed, cut = map(int, re.findall(r"\d+", line[len(str(file)):]))
         expect(pairs == [("file", str(file)), ("length", length), ("settled", False), ("attempts", attempts), ("removed", removed), ("cut", cut)], pairs, line)
     refused = dict(found[-1])
-    words = re.match(r".*: refused 4 at 0(?:, line \d+)?(?:, token \d+)?: (.*)\n", told).group(1)
+    words = re.match(r".*: refused 4 at 0: (.*)\n", told).group(1)
     expect(list(refused) == ["file", "refused", "place", "words"] and list(refused.values()) == [str(bad), 4, 0, words], refused, told)
     status, found, told = objects("counts", "--json", "--settle", "-q", *files)
     for file, pairs, line in zip(files, found, run("counts", "--settle", "-q", *files)[1].decode().split("\n")):
