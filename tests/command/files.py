@@ -1,4 +1,5 @@
 """Files: what a signal in the middle of a batch leaves, older parts, inputs that would be written over, modes, the lock of a store, base names, and how long a batch takes."""
+import html.parser
 import os
 import re
 import resource
@@ -6,6 +7,7 @@ import shutil
 import signal
 import subprocess
 import time
+import urllib.parse
 
 from common import BAD, COMMAND, FILTER, GOOD, expect, expect_wrong, put_tapes, random_tape, run
 
@@ -60,6 +62,60 @@ def try_one_name(folder):
     status, printed, told = run(*words)
     expect((status, printed) == (0, b"") and summed(told, 2, 2, 0, 0), "files of other names, one of them named as the folder", status, told)
     expect(sorted(p.name for p in out.iterdir()) == ["apart", "same.tape"], "names in the folder")
+
+
+class Rows(html.parser.HTMLParser):
+    """The rows of an index: the text of each cell, and the link in it."""
+
+    def __init__(self, text):
+        super().__init__()
+        self.rows, self.is_cell = [], False
+        self.feed(text)
+
+    def handle_starttag(self, tag, attributes):
+        self.is_cell = tag == "td" or (self.is_cell and tag == "a")
+        if tag == "tr":
+            self.rows.append([])
+        elif tag == "td":
+            self.rows[-1].append(["", None])
+        elif tag == "a":
+            self.rows[-1][-1][1] = dict(attributes)["href"]
+
+    def handle_data(self, data):
+        if self.is_cell and self.rows and self.rows[-1]:
+            self.rows[-1][-1][0] += data.strip("\n")
+
+
+def try_pages(folder, chance):
+    """`page -d`: a page for each file, and an index whose rows say what became of each, with a link to its page."""
+    raw, out = folder / "raw", folder / "out"
+    files = put_tapes(raw, 5, chance)
+    for name in ('a b#?%<&">.tape', "x:y.tape", "\u00e4.tape"):
+        files.append(raw / name)
+        files[-1].write_bytes(files[1].read_bytes())
+    files[2].write_bytes(BAD)
+    out.mkdir()
+    status, printed, told = run("page", *files, raw / "none", "-d", out)
+    expect((status, printed) == (1, b"") and summed(told, 9, 7, 1, 1), status, told)
+    pages = [file for i, file in enumerate(files) if i != 2]
+    expect(sorted(p.name for p in out.iterdir()) == sorted([f"{file.name}.html" for file in pages] + ["index.html"]), list(out.iterdir()))
+    for file in pages:
+        expect(run("page", file)[1] == (out / f"{file.name}.html").read_bytes(), file, "is not the page of page FILE")
+    rows = Rows((out / "index.html").read_text())
+    rows = [row for row in rows.rows if row]
+    expect(len(rows) == 9, rows)
+    for file, row in zip(files + [raw / "none"], rows):
+        shown, link = row[0]
+        expect(shown.endswith(file.name), file, row)
+        if file in pages:
+            lines = [str(run("show", "-", data=tape)[1].count(b"\n")) for tape in (file.read_bytes(), run("clean", file)[1])]
+            expect((out / urllib.parse.unquote(link)).name == f"{file.name}.html" and (out / urllib.parse.unquote(link)).exists() and [row[1][0], row[2][0]] == lines, row, lines)
+        else:
+            expect(link is None and row[-1][0] != "", row)
+    expect("refused 4 at 0: " in rows[2][-1][0], rows[2])
+    expect_wrong(("page", files[0], files[1]), "puchkewa: ")
+    (raw / "index").write_bytes(GOOD)
+    expect_wrong(("page", raw / "index", "-d", out), "index")
 
 
 def seconds_of(words, **more):
