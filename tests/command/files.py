@@ -233,6 +233,11 @@ def try_inputs_kept(folder):
                   ("page", file, "-o", file), ("edition", "2018", file, "-o", file), ("offsets", "0", file, "-o", file), ("addresses", file, "-o", file), ("tape", file, "-o", file)):
         expect_wrong(words, what, cwd=tapes)
         expect(file.read_bytes() == tape and other.read_bytes() == tape and (folder / "hard").read_bytes() == tape, words, "was written over")
+    (tapes / "x.tape.html").write_bytes(tape)
+    expect_wrong(("page", "x.tape", "x.tape.html", "-d", "."), "would be written over", cwd=tapes)
+    expect((tapes / "x.tape.html").read_bytes() == tape, "a page went onto another input")
+    (folder / "out").mkdir()
+    expect(run("page", "x.tape", "x.tape.html", "-q", "-d", folder / "out", cwd=tapes) == (0, b"", ""), "pages elsewhere")
     cleaned = run("clean", file)[1]
     expect(cleaned not in (b"", tape), "the tape has nothing to be cleaned")
     for words in (("clean", file, "-f", "-o", file), ("clean", "x.tape", "-f", "-d", "."), ("clean", "-f", file, f"-o{file}"), ("clean", "x.tape", "-f", "-d.")):

@@ -97,17 +97,17 @@ def try_looks(folder):
 
 
 def try_texts(folder):
-    """`tape` refuses what `check` would, and counts lines from 1."""
+    """`tape` refuses what `check` would, counts lines and fields from 1; `help start` lists what start takes."""
     file = folder / "x.txt"
     file.write_bytes(b"-\t0\n" * 257)
     status, printed, told = run("tape", file)
     expect((status, printed) == (1, b"") and told.startswith(f"{file}: the tape of this text is refused 10 at 512, line 257: "), told)
     file.write_bytes(b"-\t0\n" * 256)
     expect(run("tape", file) == (0, LINE * 256 + END, ""), "256 lines")
-    for text, number in ((b"x\n", 1), (b"-\t0\n-\t0\nx\n", 3), (b"-\t0\tr:rax\n-\t0\tq:rax\n", 2), (b"-\t0\n-\tx\n", 2)):
+    for text, number, field in ((b"x\n", 1, 1), (b"-\t0\n-\t0\nx\n", 3, 1), (b"-\t0\tr:rax\n-\t0\tq:rax\n", 2, 3), (b"-\t0\n-\tx\n", 2, 2)):
         file.write_bytes(text)
         status, printed, told = run("tape", file)
-        expect((status, printed) == (1, b"") and told.startswith(f"{file}: line {number} ") and told.count("\n") == 1, text, told)
+        expect((status, printed, told) == (1, b"", f"{file}: line {number}, field {field}, is not as show --exact prints it\n"), text, told)
     helped = run("help", "start")[1].decode()
     expect("--parts" not in helped and "--settle" not in helped and " -d " not in helped, "help start lists what start does not take", helped)
     expect(run("check", data=GOOD)[0] == 0, "check")
