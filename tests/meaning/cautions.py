@@ -71,9 +71,10 @@ def outside(text):
 
 @lru_cache(100_000)
 def is_opaque(tokens):
-    """The line may read and write every register and all memory: it has a strange token, or changes more than one thing, or something inside brackets."""
-    count = marks_of(tokens)
-    return any(map(is_strange, tokens)) or calls_register(tokens) or count > 1 or marks(outside(frame(tokens))) < count
+    """The line may read and write every register and all memory: it has a strange token, or changes more than one thing, or something inside brackets, or has a
+    comma outside brackets, behind which C evaluates more."""
+    count, top = marks_of(tokens), outside(frame(tokens))
+    return any(map(is_strange, tokens)) or calls_register(tokens) or count > 1 or marks(top) < count or "," in top
 
 
 # ---- forms

@@ -184,7 +184,11 @@ unfolding spread
 spread_fine rules lines ways i fam far s into self h =
     put_fine odd_form _ (kind odd_form refl) 0 _
     (put_fine still_read _ (kind still_read refl) 0 _
-    (put_fine _ into (or_fine h (or_fine (given_fine odd_form _ (kind odd_form refl)) (or_fine (given_fine still_read _ (kind still_read refl)) (given_fine handed_over _ (kind handed_over refl))))) 0 _ (none_fine lines)))
+    (put_fine _ into
+    (or_fine h
+    (or_fine (given_fine odd_form _ (kind odd_form refl))
+    (or_fine (given_fine still_read _ (kind still_read refl)) (given_fine handed_over _ (kind handed_over refl)))))
+    0 _ (none_fine lines)))
 
 union_all : (f : ℕ → ℕ) (xs : List ℕ) → All (λ x. Fine (f x)) xs → Fine (union (map f xs))
 unfolding union
@@ -378,7 +382,9 @@ module _ (indent : ℕ) (rules : Rules) (on : rules.profile ≡ true) (q : ℕ) 
   round_fine {addressed = addressed} (succeeded {i = i} {lines = lines} {lines' = lines'} {labels = labels} {more = tail} h e rest) st more f =
       let left : Straight indent lines' = (attempt_keeps rules on lines i indent st labels addressed e).0 in
       let a : Attempt = success i (targets rules lines i labels) lines' in
-      or_fine (picked_fine (λ p. comes_to (a ∷ tail ++ more) p q) (join_cautions rules lines a) (join_fine rules on lines st a (unwritten_into rules lines i labels addressed e))) (round_fine rest left more f)
+      or_fine (picked_fine (λ p. comes_to (a ∷ tail ++ more) p q) (join_cautions rules lines a)
+      (join_fine rules on lines st a (unwritten_into rules lines i labels addressed e)))
+      (round_fine rest left more f)
 
   round_straight : {addressed : List Text} {i : ℕ} {lines : Listing} {labels : Labels} {round : List Attempt} → Attempts rules addressed i lines labels round
       → Straight indent lines → Straight indent (after_attempts lines round)

@@ -119,8 +119,8 @@ abbrev pub Quiet : Rules → Listing → Type 0
 Quiet rules input =
     changed (attempts_of (run rules input)) ≡ false → (run rules input).cuts ≡ [] → finished_cautions rules input ≡ none_yet input
 
--- In the profile of straight pieces (M-106) no kind is raised that speaks of order or grouping: no call and no read has moved, no call stands
--- between, and the text of each line groups as it did.
+-- In the profile of straight pieces (M-106) no kind is raised that speaks of order or grouping: no call and no read has moved, no call
+-- stands between, and the text of each line groups as it did.
 abbrev pub VALUES : ℕ
 VALUES = odd_form ∪ still_read ∪ other_width ∪ odd_number ∪ slot ∪ handed_over
 

@@ -37,8 +37,8 @@ words_in words = flat_map (λ t. when is Keyword t and has words t.text then t.t
 unfoldable pub signs_in : Text → List Token → Text
 signs_in signs = flat_map (λ t. when is Punct t then filter (λ c. contains signs c) t.text else [])
 
--- A line's form: its control words, then its bytes `{`, `}`, `;` and `?`; `if (rax) goto L;` has the form `ifgoto;`. Labels and cases in front
--- do not count; where a line has nothing else, its form is `:`.
+-- A line's form: its control words, then its bytes `{`, `}`, `;` and `?`; `if (rax) goto L;` has the form `ifgoto;`. Labels and cases in
+-- front do not count; where a line has nothing else, its form is `:`.
 unfoldable pub form : List Token → Text
 form ts =
     let statement : Text = words_in CONTROL ts ++ signs_in (bytes "{};?") ts in

@@ -81,8 +81,8 @@ unfoldable pub put : ℕ → List ℕ → ℕ → List ℕ → List ℕ
 put s into p [] = []
 put s into p (t ∷ ts) = (t ∪ s given any (eqb p) into) ∷ put s into (suc p) ts
 
--- A value of line i, which reaches the lines `far`, is no longer put in the register. The lines that are rewritten, or the cut one, get all;
--- of the others that it reaches those that are not looked into get `odd_form`, and those that read it `still_read`.
+-- A value of line i, which reaches the lines `far`, is no longer put in the register. The lines that are rewritten, or the cut one, get
+-- all; of the others that it reaches those that are not looked into get `odd_form`, and those that read it `still_read`.
 module _ (rules : Rules) (lines : Listing) (ways : Ways) (i : ℕ) (fam : Text) (far : List ℕ) where
   unfoldable pub dark_in : List ℕ → List ℕ
   dark_in others = filter (is_dark lines ways) others

@@ -2,8 +2,8 @@
 use Rattle.std.specs.Prelude.{ℕ, ◌≡◌, Bool, List, [], ◌∷◌, bit_or}
 use Rattle.reference.specs.Control.{when◌then◌else◌}
 
--- A line here, or one that the value may reach, is not looked into (inline assembly, an instruction by name, two statements, `&&`, a loop other
--- than do .. while, a line entered from elsewhere): compare with the raw lines yourself.
+-- A line here, or one that the value may reach, is not looked into (inline assembly, an instruction by name, two statements, `&&`, a loop
+-- other than do .. while, a line entered from elsewhere): compare with the raw lines yourself.
 abbrev pub odd_form : ℕ
 odd_form = 1
 
@@ -39,8 +39,8 @@ odd_number = 128
 abbrev pub slot : ℕ
 slot = 256
 
--- The value may be handed over unseen: to a call that does not spell its arguments, or back to the caller (the result, and the registers that
--- calls preserve).
+-- The value may be handed over unseen: to a call that does not spell its arguments, or back to the caller (the result, and the registers
+-- that calls preserve).
 abbrev pub handed_over : ℕ
 handed_over = 512
 

@@ -35,7 +35,9 @@ marks t = when is Punct t then marks_after 0 t.text else 0
 
 -- the texts of the Puncts, each other token as `w`; the Keyword `((void (*)())` has one bracket that stays open
 unfoldable pub frame : List Token → Text
-frame = flat_map (λ t. when is Punct t then t.text else when is Keyword t and starts_with t.text (bytes "((void") then bytes "(" else bytes "w")
+frame =
+    flat_map (λ t.
+    when is Punct t then t.text else when is Keyword t and starts_with t.text (bytes "((void") then bytes "(" else bytes "w")
 
 -- the depth behind a byte at depth d, `(` being 40 and `)` 41
 unfoldable pub deeper : ℕ → ℕ → ℕ
@@ -82,9 +84,10 @@ is_strange t =
 unfoldable pub calls_register : Token × Token → Bool
 calls_register w = is Register w.0 and is Punct w.1 and starts_with w.1.text (bytes "(")
 
--- it may read and write every register and all memory
+-- It may read and write every register and all memory: it has such a token, changes more than one thing or something inside brackets, or
+-- has a comma (44) outside of them, behind which C evaluates more.
 unfoldable pub is_opaque : List Token → Bool
 is_opaque ts =
+    let top : Text = outside 0 (frame ts) in
     any is_strange ts or any calls_register (windows ts) or ltb 1 (sum marks ts)
-    -- one inside brackets
-    or ltb (marks_after 0 (outside 0 (frame ts))) (sum marks ts)
+    or ltb (marks_after 0 top) (sum marks ts) or contains top 44

@@ -1,5 +1,5 @@
--- One use: an expression in the place of a register's token, read as C. Whether a call or a read moves, whether the width stays, whether the
--- text groups as it did. Assumes nothing.
+-- One use: an expression in the place of a register's token, read as C. Whether a call or a read moves, whether the width stays, whether
+-- the text groups as it did. Assumes nothing.
 use Rattle.std.specs.Prelude.{ℕ, suc, ◌+◌, ◌-◌, min, Bool, false, List, [], ◌∷◌, ◌++◌, map, eqb, ltb, leb, take}
 use Rattle.reference.specs.Control.{not, ◌and◌, ◌or◌, when◌then◌else◌, let_some◌else◌then◌}
 use Rattle.reference.specs.Lists.{any, count, is_empty, is_some, get}
@@ -13,7 +13,8 @@ use Rattle.reference.specs.Join.{substitute, text_before, text_after, is_bracket
 use Rattle.cautions.specs.Kinds.{overwritten, call_moved, read_moved, other_width, other_text, ◌∪◌, ◌given◌}
 use Rattle.cautions.specs.Texts.{holds, last_byte, frame, outside, loose}
 use Rattle.cautions.specs.Forms.{is_guarded}
-use Rattle.cautions.specs.Values.{world, changeable, rest, acts_beside, is_spared, is_whole, full, widths_in, natural, is_plain, lone_call, fits, is_tame}
+use Rattle.cautions.specs.Values.{world, changeable, rest, acts_beside, is_spared, is_whole, full, widths_in, natural, is_plain}
+use Rattle.cautions.specs.Values.{lone_call, fits, is_tame}
 
 -- ---- one use: the expression in place of the token at `u`
 
@@ -81,8 +82,8 @@ module _ (rules : Rules) (f : Fam) (expr : List Token) (ts : List Token) (u : �
       let_some (read_number rules.edition t.text) else false then λ n.
       not beside_narrower and ((eqb widths.0 64 and eqb widths.1 64) or (leb 32 widths.0 and fits (min widths.0 widths.1) n))
 
-  -- The expression's own width is the register's, or it is a 32-bit value handed on whole as one of 64 bits. C computes what is narrower than
-  -- an int as an int, and at 64 bits what a large number stands in; and a comparison has no register's width.
+  -- The expression's own width is the register's, or it is a 32-bit value handed on whole as one of 64 bits. C computes what is narrower
+  -- than an int as an int, and at 64 bits what a large number stands in; and a comparison has no register's width.
   unfoldable pub width_kept : Bool
   width_kept =
       let own : ℕ = natural rules.convention expr in
