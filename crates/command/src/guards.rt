@@ -133,6 +133,16 @@ impl Call<'_> {
         }
     }
 
+    // Whether the operand of this number, from 1, is a file.
+    fn is_file(&self, n: u64) -> bool {
+        match self.request.verb {
+            Some(Verb::Edition | Verb::Offsets) => n == 2,
+            Some(Verb::State) => n == 1 || n == 4,
+            Some(Verb::Laborious) => false,
+            _ => true,
+        }
+    }
+
     // The files that are read.
     fn inputs(&self) -> Result<HashSet<(u64, u64)>, AllocError> {
         let mut files = HashSet::new(self.rt.alloc());
@@ -143,7 +153,7 @@ impl Call<'_> {
                 break;
             };
             s = s.step(k, word);
-            if s.operands.last == Some(k) && !is_dash(word) {
+            if s.operands.last == Some(k) && self.is_file(s.operands.count) && !is_dash(word) {
                 if let Some(file) = file_at(self.rt, word) {
                     let _ = files.insert(file)?;
                 }
@@ -164,7 +174,7 @@ impl Call<'_> {
         for k in 0..u64::MAX {
             let (word, rest) = next_word(left)?;
             s = s.step(k, word);
-            if s.operands.last == Some(k) {
+            if s.operands.last == Some(k) && self.is_file(s.operands.count) {
                 if let Some(file) = self.file_at_result(word) {
                     if inputs.contains(&file) {
                         return Some(k);

@@ -10,7 +10,7 @@ use crate::refusals::{fate_of, tell_explained};
 use answers::{Reason, Refusal};
 use arguments::{Action, Value};
 use render::count_of;
-use std::fs::remove_file;
+use std::fs::{hard_link, remove_file};
 use std::io::{Error, ErrorKind, Write};
 use std::thread::sleep;
 use std::time::Duration;
@@ -25,12 +25,23 @@ fn lock_name(rt: &HostRuntime, at: &[u8]) -> Result<String, Error> {
     Ok(format!(in rt.alloc(); "{path}.lock")?)
 }
 
-// Makes the lock, which says whose it is.
-fn make_lock(rt: &HostRuntime, lock: &str) -> Result<(), Error> {
-    let mut file = create_new(rt, lock)?;
-    let run = run_name(rt)?;
+fn write_run(rt: &HostRuntime, path: &str, run: &str) -> Result<(), Error> {
+    let mut file = create_new(rt, path)?;
     file.write_all(run.as_bytes())?;
     file.write_all(b"\n")
+}
+
+// Makes the lock, which says whose it is from its first moment on: what is written under another name gets the lock's name too, where
+// nothing has that.
+fn make_lock(rt: &HostRuntime, lock: &str) -> Result<(), Error> {
+    let run = run_name(rt)?;
+    let part = format!(in rt.alloc(); "{lock}.part{run}")?;
+    let made = match write_run(rt, part.as_str(), run.as_str()) {
+        Ok(_) => hard_link(rt, part.as_str(), lock),
+        Err(error) => Err(error),
+    };
+    let _ = remove_file(rt, part.as_str());
+    made
 }
 
 // Tells whose lock it is, if that run is gone or the time is over.
