@@ -177,7 +177,8 @@ def try_start_words(folder):
     for words, what in ((("start", "--choose", "rax"), "--return and --choose must both"), (("start", "--return", "1"), "--return and --choose must both"),
                         (("start", "--return", "1", "--choose"), "the value of the last option is missing"),
                         (ask + ("--return", "11"), "11 is a second value"), (ask + ("--choose", "rbx"), "rbx is a second value"), (ask + ("a=b",), "a=b is no REG=V"),
-                        (ask + ("rbx=",), "rbx= is no REG=V"), (ask + ("rbx=3=",), "rbx=3= is no REG=V"), (ask + ("r" + "0" * 255 + "=1",), "=1 is no REG=V"), (ask + (file, file), "is one word too many"),
+                        (ask + ("rbx=",), "rbx= is no REG=V"), (ask + ("rbx=3=",), "rbx=3= is no REG=V"), (ask + ("r" + "0" * 255 + "=1",), "=1 is no REG=V"),
+                        (ask + (file, file), "is one word too many"),
                         (ask + ("-o", "x"), "-o is no option here"), (("clean", "--return", "1"), "--return is no option here")):
         expect_wrong(words, what)
     for value in ("", "x", "0x", "-", "--1", "1_0", "1 ", "+1", "0X1", "0b1", "1f", "0xg", "18446744073709551616", "99999999999999999999999", "0x10000000000000000", "-9223372036854775809"):

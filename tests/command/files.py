@@ -257,20 +257,16 @@ def try_modes(folder):
         old = os.umask(mask)
         try:
             for mode in (0o600, 0o640, 0o755, 0o664, 0o400 if os.getuid() == 0 else 0o606):
-                for path, words, data in ((out / "y", ("clean", tape, "-o", out / "y"), b""), (out / "x.tape", ("clean", tape, "-d", out), b""), (out / "page", ("page", tape, "-o", out / "page"), b""),
-                                          (out / "store", ("state", out / "store", "save", "a"), GOOD)):
+                for path, words, data in ((out / "y", ("clean", tape, "-o", out / "y"), b""), (out / "x.tape", ("clean", tape, "-d", out), b""),
+                                          (out / "page", ("page", tape, "-o", out / "page"), b""), (out / "store", ("state", out / "store", "save", "a"), GOOD)):
                     path.unlink(missing_ok=True)
                     expect(run(*words, data=data) == (0, b"", ""), words, run(*words, data=data))
                     expect(path.stat().st_mode & 0o7777 == 0o666 & ~mask, words, "a new file's mode", oct(path.stat().st_mode))
                     path.chmod(mode)
                     expect(run(*words, data=data) == (0, b"", ""), words, run(*words, data=data))
-                    expect(path.stat().st_mode & 0o7777 == mask_free(mode), words, "mode", oct(mode), "became", oct(path.stat().st_mode))
+                    expect(path.stat().st_mode & 0o7777 == mode, words, "mode", oct(mode), "became", oct(path.stat().st_mode))
         finally:
             os.umask(old)
-
-
-def mask_free(mode):
-    return mode
 
 
 def try_locks(folder):

@@ -75,7 +75,8 @@ def try_looks(folder):
     """A file that is no bare tape, but the filter's form or a tape by offset, is named as such; --filter-form reads the first."""
     file = folder / "x.tape"
     for convention, name in ((0, "32"), (1, "sysv"), (2, "windows")):
-        tape = line(("register", "rdi"), ("punct", " = "), ("number", "1"), ("punct", ";")) + line(("symbol", "f"), ("punct", "();")) + line(("keyword", "return"), ("punct", " "), ("register", "rdi")) + END
+        tape = line(("register", "rdi"), ("punct", " = "), ("number", "1"), ("punct", ";")) + line(("symbol", "f"), ("punct", "();"))
+        tape += line(("keyword", "return"), ("punct", " "), ("register", "rdi")) + END
         for verb, more in (("clean", ()), ("counts", ()), ("check", ()), ("show", ()), ("edition", ("2018",)), ("offsets", ("0",)), ("page", ())):
             file.write_bytes(bytes([convention]) + tape)
             status, _, told = run(verb, *more, file)
@@ -92,7 +93,8 @@ def try_looks(folder):
     run("offsets", "0x400000", folder / "low.tape", "-o", file)
     for verb in ("clean", "counts", "check", "page"):
         status, _, told = run(verb, file)
-        expect(status == 1 and told.startswith(f"{file}: refused ") and told.endswith(f"{file}: it looks like a tape by offset: addresses makes a bare tape of it\n") and told.count("\n") == 2, verb, told)
+        looks = f"{file}: it looks like a tape by offset: addresses makes a bare tape of it\n"
+        expect(status == 1 and told.startswith(f"{file}: refused ") and told.endswith(looks) and told.count("\n") == 2, verb, told)
     expect(run("addresses", file) == (0, low, ""), "addresses")
 
 

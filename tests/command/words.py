@@ -40,7 +40,8 @@ def try_conventions(folder):
     (folder / "out").mkdir()
     for words, path in ((("-oout/y",), "out/y"), (("-dout",), "out/sum.tape")):
         expect(run("clean", "sum.tape", *words, cwd=folder) == (0, b"", "") and (folder / path).read_bytes() == run("clean", sum_tape)[1], words)
-    for words, what in ((("clean", "-cx"), "x is no value"), (("clean", "-c"), "missing"), (("clean", "-e2020"), "no value"), (("start", "--return=", "--choose=rax"), "no value"), (("start", "--returns=1"), "no option"),
+    for words, what in ((("clean", "-cx"), "x is no value"), (("clean", "-c"), "missing"), (("clean", "-e2020"), "no value"), (("start", "--return=", "--choose=rax"), "no value"),
+                        (("start", "--returns=1"), "no option"),
                         (("clean", "--exact"), "no option"), (("clean", "-x"), "no option"), (("check", "-f"), "no option"), (("version", "x"), "too many")):
         expect_wrong(words, what)
 
@@ -108,6 +109,7 @@ def try_completion(folder):
     (here / "a folder").mkdir(parents=True)
     (here / "x.tape").write_bytes(GOOD)
     for words, right in ((("c",), ["clean", "counts", "check"]), (("clean", "-c", ""), ["32", "sysv", "windows"]), (("clean", "-cw"), ["-cwindows"]), (("clean", "-e", ""), ["2018", "2024"]),
-                         (("edition", ""), ["2018", "2024"]), (("edition", "2018", ""), ["a folder", "x.tape"]), (("state", "x.tape", ""), ["list", "save", "get", "delete"]), (("clean", "x"), ["x.tape"]),
+                         (("edition", ""), ["2018", "2024"]), (("edition", "2018", ""), ["a folder", "x.tape"]), (("state", "x.tape", ""), ["list", "save", "get", "delete"]),
+                         (("clean", "x"), ["x.tape"]),
                          (("clean", "-d", ""), ["a folder"]), (("clean", "-o", "x"), ["x.tape"]), (("clean", "--", "-"), []), (("clean", "--pa"), ["--parts"])):
         expect(sorted(completed("puchkewa", *words, cwd=here)) == sorted(right), words, completed("puchkewa", *words, cwd=here))

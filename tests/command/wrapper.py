@@ -70,7 +70,8 @@ def try_handed_on(folder):
 
         me = '"$0" "$@"'
         expect(by_shell(me + " third 3<<< three") == b"three\n", shell, "descriptor 3", by_shell(me + " third 3<<< three"))
-        for closed, are_open in (("", b"012"), ("3< /dev/null", b"0123"), ("3< /dev/null 4< /dev/null 7> /dev/null", b"012347"), ("<&-", b"012"), (">&-", b"012"), ("2>&-", b"012"), ("<&- >&- 2>&-", b"012")):
+        for closed, are_open in (("", b"012"), ("3< /dev/null", b"0123"), ("3< /dev/null 4< /dev/null 7> /dev/null", b"012347"),
+                                 ("<&-", b"012"), (">&-", b"012"), ("2>&-", b"012"), ("<&- >&- 2>&-", b"012")):
             place = folder / "open"
             by_shell(f"{me} open '{place}' {closed}")
             expect(place.read_bytes() == are_open, shell, "open descriptors by", closed, place.read_bytes())
