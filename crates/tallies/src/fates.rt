@@ -4,7 +4,8 @@ ghost use Rattle.reference.specs.Control.{◌and◌};
 ghost use Rattle.reference.specs.Options.{option_of};
 ghost use Rattle.tape.specs.Held.{held};
 ghost use Rattle.tallies.specs.Lines.{token_shown, line_shown};
-ghost use Rattle.tallies.specs.Fates.{same_token, same_address, same_tokens, same_line, begins_result, fate_as, fate_of, is_kept, label_stands, standing_from};
+ghost use Rattle.tallies.specs.Fates.{same_token, same_address, same_tokens, same_line, begins_result};
+ghost use Rattle.tallies.specs.Fates.{fate_as, fate_of, is_kept, label_stands, standing_from};
 
 use crate::listing::{Line, Token, line_at};
 use text::{is_result_name, same, starts};
