@@ -348,9 +348,8 @@ fn put_guarantee(
     put(
         out,
         b"<h3>What each tick stands for</h3><p class=z>The sentences are theorems that a machine has checked, for all inputs; the numbers \
-          were counted from the two tapes of this page.</p><table class=\"q g\"><thead><tr><th></th><th>the guarantee, of every accepted listing, over \
-          every step of its \
-          cleaning</th><th>here</th></tr></thead><tbody id=guarantee>\n",
+          were counted from the two tapes of this page.</p><table class=\"q g\"><thead><tr><th></th><th>the guarantee, of every accepted \
+          listing, over every step of its cleaning</th><th>here</th></tr></thead><tbody id=guarantee>\n",
     )?;
     put_calls_row(out, cleaning)?;
     put_labels_row(
