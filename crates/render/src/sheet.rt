@@ -99,7 +99,7 @@ fn put_names(out: Output, cleaning: &Cleaning) -> Result<(), Unwritten> {
 fn put_calls(out: Output, cleaning: &Cleaning) -> Result<(), Unwritten> {
     put(
         out,
-        b"<div><h3>Calls <code>calls-stay</code></h3><table class=q><thead><tr><th></th><th>callee</th><th>before</th><th>after</th></tr><\
+        b"<div><h3>Calls <code>calls_stay</code></h3><table class=q><thead><tr><th></th><th>callee</th><th>before</th><th>after</th></tr><\
           /thead><tbody \
           id=calls>\n",
     )?;
@@ -133,7 +133,7 @@ fn put_label_rows(
 fn put_labels(out: Output, cleaning: &Cleaning, places: &[Option<usize>]) -> Result<(), Unwritten> {
     put(
         out,
-        b"<div><h3>Labels <code>labels-stand</code></h3><table class=q><thead><tr><th>stands</th><th>label</th><th>raw \
+        b"<div><h3>Labels <code>labels_stand</code></h3><table class=q><thead><tr><th>stands</th><th>label</th><th>raw \
           line</th><th>cleaned \
           line</th></tr></thead><tbody id=labels>\n",
     )?;
