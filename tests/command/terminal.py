@@ -116,7 +116,7 @@ def try_progress(folder, chance):
 
 
 def try_keys(folder, chance):
-    """Ctrl-C in a batch, and while a tape is read from the terminal: the program ends with the wrapper, and no part is left. Ctrl-Z stops it, and it goes on."""
+    """Ctrl-C in a batch, and while a tape is read from the terminal: the program ends with the wrapper, and no part is left."""
     out = folder / "out"
     files = put_tapes(folder / "raw", 5000, chance)
 
@@ -139,17 +139,3 @@ def try_keys(folder, chance):
     expect(ended >= 5, "too few of 10 runs were ended", ended)
     status = on_terminal(("tape", "-"), (0, 2), keys=press_later(b"\x03"))[0]
     expect(status == -signal.SIGINT, "Ctrl-C while a terminal is read", status)
-
-    def stop_and_go_on(terminal, child):
-        time.sleep(0.1)
-        os.write(terminal, b"\x1a")
-        time.sleep(0.2)
-        seen = len(list(out.iterdir()))
-        time.sleep(0.2)
-        expect(len(list(out.iterdir())) == seen, "Ctrl-Z does not stop it")
-        os.killpg(child.pid, signal.SIGCONT)
-
-    shutil.rmtree(out)
-    out.mkdir()
-    status = on_terminal(("clean", *files, "-d", out), (0, 1, 2), keys=stop_and_go_on)[0]
-    expect(status == 0 and len(list(out.iterdir())) == 5000, "stopped and gone on", status, len(list(out.iterdir())))
