@@ -186,28 +186,32 @@ impl Call<'_> {
         None
     }
 
-    // Whether no two operands have one base name. (`clash` of crate arguments says which do, and takes each pair of operands.)
-    fn are_apart(&self) -> Result<bool, AllocError> {
+    // The first operand that has the base name of one before it.
+    fn repeated(&self) -> Result<Option<u64>, AllocError> {
         let mut names = HashSet::new(self.rt.alloc());
         let mut s = Request::begin();
         let mut left = self.words;
         for k in 0..u64::MAX {
             let Some((word, rest)) = next_word(left) else {
-                return Ok(true);
+                return Ok(None);
             };
             s = s.step(k, word);
             if s.operands.last == Some(k) && !names.insert(base_name(word))? {
-                return Ok(false);
+                return Ok(Some(k));
             }
             left = rest;
         }
-        Ok(true)
+        Ok(None)
     }
 
-    // The operand, if there is one, that has the base name of one before it: with -d both would be written to one file.
+    // An operand, if there is one, that has the base name of one before it: with -d both would be written to one file. Where no memory is
+    // left for the names it is found by `clash` of crate arguments, which takes each pair of operands.
     fn clash(&self) -> Option<u64> {
         match self.target {
-            Target::Folder(_) if self.are_apart() != Ok(true) => arguments::clash(self.words),
+            Target::Folder(_) => match self.repeated() {
+                Ok(found) => found,
+                Err(_) => arguments::clash(self.words),
+            },
             _ => None,
         }
     }
