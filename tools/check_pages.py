@@ -15,7 +15,7 @@ FILES = [f for f in subprocess.check_output(["git", "ls-files"], text=True).spli
 PAGES = [f for f in FILES if f.endswith((".md", ".1")) and not f.startswith("crates/")]
 EDITS = {re.sub(r"crates/|tests/edits/|must-fail/|\.edit$", "", f) for f in FILES if f.endswith(".edit")}
 # what stands for any name, what is made, what is another's
-ANY = re.compile(r"NAME|LABEL|OUT|ORACLE|PREFIX|M/F|m/f|m\.rt|crate/label|ISO/IEC|^target/|^proofs/f$")
+ANY = re.compile(r"NAME|LABEL|OUT|DIR|ORACLE|PREFIX|M/F|m/f|m\.rt|crate/label|ISO/IEC|^target/|^proofs/f$")
 OLD = {l.split("\t")[0] for l in open("tools/respelled.tsv", encoding="utf-8")}
 OTHERS = {"symbolize_args", "thread_local", "static_assert", "typeof_unqual"}
 RT = re.compile(r"\b(?:fn|struct|enum|const|mod)\s+(\w+)|^\s*(?:pub(?:\(crate\))? )?(\w+):", re.M)

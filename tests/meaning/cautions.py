@@ -8,7 +8,7 @@ Lines are looked at as tokens. Nothing here is run, and nothing of meaning.py is
 """
 from functools import lru_cache
 
-from cleaning import (VOLATILE, around, assignment, call_at, finished, has_keyword, is_label, is_operator_expression, is_standalone, low_bit, number, run_of)
+from cleaning import VOLATILE, around, assignment, call_at, is_label, is_operator_expression, is_standalone, low_bit, number, run_of
 from listing import ADDRESS, KEYWORD, NUMBER, PREFIX, PUNCT, REGISTER, SYMBOL, TEXT, Line, Token, family, family_of
 
 KINDS = ("odd-form", "still-read", "overwritten", "call-moved", "read-moved", "other-width", "other-text", "odd-number", "slot", "handed-over")

@@ -55,7 +55,7 @@ fn cleaned_by(command: &Path, settings: Settings, tapes: &[Vec<u8>], folder: &Pa
         let front = format!("/{}: refused ", name(number));
         let said = told.lines().find_map(|l| l.split_once(&front)).unwrap_or_else(|| panic!("no word of {number}: {told}")).1;
         let (number, rest) = said.split_once(" at ").expect("a place");
-        let place = rest.split(':').next().expect("a place");
+        let place = rest.split(|c: char| !c.is_ascii_digit()).next().expect("a place"); // a line and a token may follow
         (number.parse().expect("a number"), place.parse().expect("a place"))
     };
     (0..tapes.len()).map(|n| std::fs::read(out.join(name(n))).map_err(|_| refusal(n))).collect()

@@ -6,7 +6,7 @@ use mathlib.Core.Option.{none}
 use mathlib.Core.Path.{◌≡◌, refl, sym, ap, ◌∙◌}
 use Rattle.std.proofs.Common.{cond, not, eqb, if◌then◌else◌}
 use Rattle.std.specs.List.{position_or_len, position}
-use Rattle.std.specs.Option.{is_some}
+use Rattle.std.specs.Option.{is_some, unwrap_or}
 use Rattle.std.proofs.Common as std
 use lib.Dec.{ltb}
 use borrow.Author.Tests.{ltb-true, ltb-false}
@@ -46,6 +46,23 @@ place w = position (λ b. eqb b 61) w
 
 by_place : (w : List ℕ) → place w ≡ cond (ltb (equals_at w) (length w)) (std.Some (equals_at w)) std.None
 by_place w = rw (equals_is w) refl
+
+-- no place is past the last byte
+equals-short : (w : List ℕ) → equals_at w ≤ length w
+unfolding equals_at when◌then◌else◌
+equals-short [] = omega arith
+equals-short (b ∷ bs) = either (eqb b 61) (equals-short bs)
+  where
+    either : (t : Bool) → equals_at bs ≤ length bs → (when t then 0 else suc (equals_at bs)) ≤ suc (length bs)
+    either true h = omega arith
+    either false h = omega arith
+
+pub equals_or : (w : List ℕ) → unwrap_or (place w) (length w) ≡ equals_at w
+equals_or w = rw (by_place w) (pick (ltb (equals_at w) (length w)) refl)
+  where
+    pick : (t : Bool) → ltb (equals_at w) (length w) ≡ t → unwrap_or (cond t (std.Some (equals_at w)) std.None) (length w) ≡ equals_at w
+    pick true l = refl
+    pick false l = omega (arith, ltb-false (equals_at w) (length w) l, equals-short w)
 
 pub is_found : (w : List ℕ) → is_some (place w) ≡ ltb (equals_at w) (length w)
 is_found w = ap is_some (by_place w) ∙ pick (ltb (equals_at w) (length w))

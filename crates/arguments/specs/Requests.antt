@@ -1,16 +1,17 @@
 -- What a list of words asks for, from the help's grammar:
 --
---     VERB [OPTION [VALUE] | OPERAND]..
+--     VERB [OPTION | OPTION VALUE | -oVALUE | --option=VALUE | OPERAND].. [-- OPERAND..]
 --
 -- One word after the other is taken (`step_of`), and then all of them are judged together (`judged`). Words are numbered from 0. Assumes
 -- nothing.
-use Rattle.std.specs.Prelude.{ℕ, ◌+◌, Bool, true, false, List, [], ◌∷◌, ◌++◌, ◌||◌, ltb, length, Option, Some, None, if◌then◌else◌}
+use Rattle.std.specs.Prelude.{ℕ, ◌+◌, Bool, true, false, List, [], ◌∷◌, ◌++◌, ◌&&◌, ◌||◌, not, ltb, length, take, drop}
+use Rattle.std.specs.Prelude.{Option, Some, None, if◌then◌else◌}
 use Rattle.std.proofs.Math.Option.{none, some}
 use Rattle.reference.specs.Text.{Text, bytes, starts_with, ◌≟◌}
 use Rattle.words.specs.Numerals.{integer_in}
-use Rattle.arguments.specs.Tables.{meaning_in, verbs, options, conventions, editions, kind_of, takes, is_start, fewest, most}
+use Rattle.arguments.specs.Tables.{meaning_in, verbs, options, conventions, editions, kind_of, has_value, takes, is_start, fewest, most}
 use Rattle.arguments.specs.Values.{is_name, value_of}
-use Rattle.arguments.specs.Entries.{is_entry, entry_value, entry_bytes}
+use Rattle.arguments.specs.Entries.{equals_at, is_entry, entry_value, entry_bytes}
 use Rattle.arguments.specs.Words.{is_at}
 use Rattle.arguments.specs.declared.request.Verb.{Verb}
 use Rattle.arguments.specs.declared.request.Verb.TheVariants as verb
@@ -21,6 +22,7 @@ use Rattle.arguments.specs.declared.request.Kind.TheVariants as kind
 use Rattle.arguments.specs.declared.request.Action.TheVariants as action
 use Rattle.arguments.specs.declared.request.Value.TheVariants as value
 use Rattle.arguments.specs.declared.request.Problem.TheVariants as problem
+use Rattle.arguments.specs.declared.request.Part.{Part}
 use Rattle.arguments.specs.declared.request.Destination.{Destination}
 use Rattle.arguments.specs.declared.request.Destination.TheVariants as destination
 use Rattle.arguments.specs.declared.request.Request.{Request}
@@ -34,8 +36,10 @@ none_yet =
       help = false;
       fault = None;
       pending = None;
+      ended = false;
       rules = record { convention = 1; settle = false; edition = 0; parts = false; profile = false };
-      goal = record { destination = destination.StandardOutput; exact = false };
+      goal = record { destination = destination.StandardOutput; force = false };
+      form = record { filter = false; exact = false; json = false; quiet = false };
       operands = record { count = 0; first = None; third = None; last = None; value = None };
       start = record { wanted = None; chosen = None; entry = None };
     }
@@ -75,39 +79,61 @@ put_wanted s k w =
 abbrev pub take_wanted : Request → ℕ → Text → Request
 take_wanted s k w = elim s.start.wanted [ None ↦ put_wanted s k w | Some _ ↦ with_fault problem.SecondValue (Some k) s ]
 
-abbrev pub take_chosen : Request → ℕ → Request
-take_chosen s k =
+abbrev pub take_chosen : Request → Part → Request
+take_chosen s part =
     elim s.start.chosen [
-      | None ↦ record s { start = record s.start { chosen = Some k } }
-      | Some _ ↦ with_fault problem.SecondValue (Some k) s
+      | None ↦ record s { start = record s.start { chosen = Some part } }
+      | Some _ ↦ with_fault problem.SecondValue (Some part.word) s
     ]
 
-abbrev pub value_taken : Request → Flag → ℕ → Text → Request
-value_taken s flag.Convention k w = take_convention s k w
-value_taken s flag.Edition k w = take_edition s k w
-value_taken s flag.Output k w = take_destination s (destination.File k) k
-value_taken s flag.Folder k w = take_destination s (destination.Folder k) k
-value_taken s flag.Return k w = take_wanted s k w
-value_taken s _ k w = take_chosen s k
+abbrev pub value_taken : Request → Flag → Part → Text → Request
+value_taken s flag.Convention part w = take_convention s part.word w
+value_taken s flag.Edition part w = take_edition s part.word w
+value_taken s flag.Output part w = take_destination s (destination.File part) part.word
+value_taken s flag.Folder part w = take_destination s (destination.Folder part) part.word
+value_taken s flag.Return part w = take_wanted s part.word w
+value_taken s _ part w = take_chosen s part
 
--- the value of the option before it
-abbrev pub take_value : Request → Flag → ℕ → Text → Request
-take_value s option k w = value_taken (record s { pending = None }) option k w
+-- the value w of an option, where it stands
+abbrev pub take_value : Request → Flag → Part → Text → Request
+take_value s option part w = value_taken (record s { pending = None }) option part w
 
 -- an option that the verb takes: a setting, or one whose value comes next
 abbrev pub set_option : Request → Flag → Request
 set_option s flag.Parts = record s { rules = record s.rules { parts = true } }
 set_option s flag.Profile = record s { rules = record s.rules { profile = true } }
 set_option s flag.Settle = record s { rules = record s.rules { settle = true } }
-set_option s flag.Exact = record s { goal = record s.goal { exact = true } }
+set_option s flag.Exact = record s { form = record s.form { exact = true } }
+set_option s flag.Force = record s { goal = record s.goal { force = true } }
+set_option s flag.Quiet = record s { form = record s.form { quiet = true } }
+set_option s flag.Json = record s { form = record s.form { json = true } }
+set_option s flag.FilterForm = record s { form = record s.form { filter = true } }
 set_option s option = record s { pending = Some option }
 
 abbrev pub put_option : Request → Verb → ℕ → Flag → Request
 put_option s v k option = if takes v option then set_option s option else with_fault problem.UnknownOption (Some k) s
 
+-- in a word that holds an option and its value, -cVALUE or --NAME=VALUE: how long the option is, and from where on the value stands
+abbrev pub option_length : Text → ℕ
+option_length w = if starts_with w (bytes "--") then equals_at w else 2
+
+abbrev pub value_from : Text → ℕ
+value_from w = if starts_with w (bytes "--") then equals_at w + 1 else 2
+
+abbrev pub put_joined : Request → Verb → ℕ → Flag → Text → Request
+put_joined s v k option w =
+    if has_value option && takes v option then take_value s option (record { word = k; from = value_from w }) (drop (value_from w) w)
+    else with_fault problem.UnknownOption (Some k) s
+
+abbrev pub take_joined : Request → Verb → ℕ → Text → Request
+take_joined s v k w =
+    elim (meaning_in options (take (option_length w) w)) [
+      | Some option ↦ put_joined s v k option w
+      | None ↦ with_fault problem.UnknownOption (Some k) s
+    ]
+
 abbrev pub take_option : Request → Verb → ℕ → Text → Request
-take_option s v k w =
-    elim (meaning_in options w) [ Some option ↦ put_option s v k option | None ↦ with_fault problem.UnknownOption (Some k) s ]
+take_option s v k w = elim (meaning_in options w) [ Some option ↦ put_option s v k option | None ↦ take_joined s v k w ]
 
 -- an operand that stands for a value; the name of a state; REG=VALUE
 abbrev pub put_value : Request → ℕ → Kind → Text → Request
@@ -143,41 +169,55 @@ is_option w = if ltb (length w) 2 then false else starts_with w (bytes "-")
 abbrev pub is_help : Text → Bool
 is_help w = (w ≟ bytes "-h") || (w ≟ bytes "--help")
 
+-- a word that is no value of the option before it; -- ends the options
+abbrev pub take_free : Request → Verb → ℕ → Text → Request
+take_free s v k w =
+    if s.ended || not (is_option w) then take_operand s v k w
+    else if w ≟ bytes "--" then record s { ended = true }
+    else take_option s v k w
+
 -- word k, where no fault was found before it
 abbrev pub take_word : Request → ℕ → Text → Request
 take_word s k w =
     elim s.verb [
       | None ↦ take_verb s k w
       | Some v ↦ elim s.pending [
-        | Some option ↦ take_value s option k w
-        | None ↦ if is_option w then take_option s v k w else take_operand s v k w
+        | Some option ↦ take_value s option (record { word = k; from = 0 }) w
+        | None ↦ take_free s v k w
       ]
     ]
 
 -- word k
 unfoldable pub step_of : Request → ℕ → Text → Request
-step_of s k w = if is_help w then record s { help = true } else elim s.fault [ Some _ ↦ s | None ↦ take_word s k w ]
+step_of s k w = if not s.ended && is_help w then record s { help = true } else elim s.fault [ Some _ ↦ s | None ↦ take_word s k w ]
 
 -- ---- all words
 
 -- -o stands beside one file; of `state` only `get` has a result
 abbrev pub judge_output : Request → Verb → ℕ → Request
 judge_output s verb.Clean k = if ltb 1 s.operands.count then with_fault problem.SeveralFiles (Some k) s else s
+judge_output s verb.Page k = if ltb 1 s.operands.count then with_fault problem.SeveralFiles (Some k) s else s
 judge_output s verb.State k =
     elim s.operands.value [ Some (value.Action action.Get) ↦ s | _ ↦ with_fault problem.UnknownOption (Some k) s ]
 judge_output s _ k = s
 
--- `start` needs --return and --choose
-abbrev pub judge_start : Request → Verb → Request
-judge_start s verb.Start =
+-- `start` needs --return and --choose; several pages need a folder
+abbrev pub judge_plain : Request → Verb → Request
+judge_plain s verb.Start =
     elim s.start.wanted [
       | None ↦ with_fault problem.Incomplete None s
       | Some _ ↦ elim s.start.chosen [ None ↦ with_fault problem.Incomplete None s | Some _ ↦ s ]
     ]
-judge_start s _ = s
+judge_plain s verb.Page = if ltb 1 s.operands.count then with_fault problem.NoFolder None s else s
+judge_plain s _ = s
 
 abbrev pub judge_options : Request → Verb → Request
-judge_options s v = elim s.goal.destination [ destination.File k ↦ judge_output s v k | _ ↦ judge_start s v ]
+judge_options s v =
+    elim s.goal.destination [
+      | destination.StandardOutput ↦ judge_plain s v
+      | destination.File part ↦ judge_output s v part.word
+      | destination.Folder part ↦ s
+    ]
 
 abbrev pub exceeds : ℕ → Option ℕ → Bool
 exceeds n None = false

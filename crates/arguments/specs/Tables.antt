@@ -31,13 +31,15 @@ verbs =
     (bytes "clean", verb.Clean) ∷ (bytes "counts", verb.Counts) ∷ (bytes "check", verb.Check) ∷ (bytes "show", verb.Show)
     ∷ (bytes "tape", verb.Tape) ∷ (bytes "addresses", verb.Addresses) ∷ (bytes "edition", verb.Edition) ∷ (bytes "offsets", verb.Offsets)
     ∷ (bytes "laborious", verb.Laborious) ∷ (bytes "state", verb.State) ∷ (bytes "help", verb.Help) ∷ (bytes "version", verb.Version)
-    ∷ (bytes "--version", verb.VersionOption) ∷ (bytes "page", verb.Page) ∷ (bytes "start", verb.Start) ∷ []
+    ∷ (bytes "--version", verb.VersionOption) ∷ (bytes "-V", verb.VersionOption) ∷ (bytes "page", verb.Page)
+    ∷ (bytes "start", verb.Start) ∷ []
 
 abbrev pub options : List (Text × Flag)
 options =
     (bytes "-c", flag.Convention) ∷ (bytes "-e", flag.Edition) ∷ (bytes "--parts", flag.Parts) ∷ (bytes "--profile", flag.Profile)
     ∷ (bytes "--settle", flag.Settle) ∷ (bytes "-o", flag.Output) ∷ (bytes "-d", flag.Folder) ∷ (bytes "--exact", flag.Exact)
-    ∷ (bytes "--return", flag.Return) ∷ (bytes "--choose", flag.Choose) ∷ []
+    ∷ (bytes "--return", flag.Return) ∷ (bytes "--choose", flag.Choose) ∷ (bytes "-f", flag.Force) ∷ (bytes "-q", flag.Quiet)
+    ∷ (bytes "--json", flag.Json) ∷ (bytes "--filter-form", flag.FilterForm) ∷ []
 
 -- the settings' numbers
 abbrev pub conventions : List (Text × ℕ)
@@ -67,7 +69,7 @@ kind_of verb.State n = slice_get (kind.File ∷ kind.Action ∷ kind.Name ∷ ki
 kind_of verb.Help n = slice_get (kind.Verb ∷ []) n
 kind_of verb.Version n = None
 kind_of verb.VersionOption n = None
-kind_of verb.Page n = slice_get (kind.File ∷ []) n
+kind_of verb.Page n = Some kind.File
 kind_of verb.Start n = slice_get (kind.File ∷ []) n
 
 -- which options it takes: the settings of a cleaning, -o, and each of the others
@@ -88,9 +90,10 @@ takes_output verb.State = true
 takes_output verb.Page = true
 takes_output _ = false
 
-abbrev pub is_clean : Verb → Bool
-is_clean verb.Clean = true
-is_clean _ = false
+abbrev pub takes_folder : Verb → Bool
+takes_folder verb.Clean = true
+takes_folder verb.Page = true
+takes_folder _ = false
 
 abbrev pub is_show : Verb → Bool
 is_show verb.Show = true
@@ -100,6 +103,29 @@ abbrev pub is_start : Verb → Bool
 is_start verb.Start = true
 is_start _ = false
 
+abbrev pub takes_quiet : Verb → Bool
+takes_quiet verb.Counts = true
+takes_quiet verb.Check = true
+takes_quiet v = takes_output v
+
+abbrev pub takes_json : Verb → Bool
+takes_json verb.Counts = true
+takes_json verb.Check = true
+takes_json verb.Start = true
+takes_json _ = false
+
+-- those that read a bare tape
+abbrev pub takes_filter : Verb → Bool
+takes_filter verb.Clean = true
+takes_filter verb.Counts = true
+takes_filter verb.Check = true
+takes_filter verb.Show = true
+takes_filter verb.Edition = true
+takes_filter verb.Offsets = true
+takes_filter verb.Page = true
+takes_filter verb.Start = true
+takes_filter _ = false
+
 abbrev pub takes : Verb → Flag → Bool
 takes v flag.Convention = takes_settings v
 takes v flag.Edition = takes_settings v
@@ -107,10 +133,24 @@ takes v flag.Parts = takes_settings v
 takes v flag.Profile = takes_settings v
 takes v flag.Settle = takes_settings v
 takes v flag.Output = takes_output v
-takes v flag.Folder = is_clean v
+takes v flag.Folder = takes_folder v
 takes v flag.Exact = is_show v
 takes v flag.Return = is_start v
 takes v flag.Choose = is_start v
+takes v flag.Force = takes_output v
+takes v flag.Quiet = takes_quiet v
+takes v flag.Json = takes_json v
+takes v flag.FilterForm = takes_filter v
+
+-- which options have a value
+abbrev pub has_value : Flag → Bool
+has_value flag.Convention = true
+has_value flag.Edition = true
+has_value flag.Output = true
+has_value flag.Folder = true
+has_value flag.Return = true
+has_value flag.Choose = true
+has_value _ = false
 
 -- how many operands it needs; those of `state` by its action
 abbrev pub fewest_of : Option Value → ℕ

@@ -1,8 +1,8 @@
 // Operands REG=VALUE: the registers of `start` and what they start with. Their list is the one that crate start takes.
-ghost use Rattle.std.specs.Prelude.{◌≡◌, [], ◌+◌, ◌<◌, ◌==◌, length, position, MatchOption, if◌then◌else◌};
+ghost use Rattle.std.specs.Prelude.{◌≡◌, [], ◌+◌, ◌<◌, ◌≤◌, ◌==◌, length, position, MatchOption, if◌then◌else◌};
 ghost use Rattle.text.specs.Cursor.{Fits, Puts};
 ghost use Rattle.std.proofs.Math.Option.{none};
-ghost use Rattle.arguments.specs.Entries.{is_entry, entry_value, IsEntry, named_value, entry_bytes};
+ghost use Rattle.arguments.specs.Entries.{equals_at, is_entry, entry_value, IsEntry, named_value, entry_bytes};
 
 use text::Cursor;
 use words::integer_in;
@@ -13,6 +13,14 @@ fn equals_in(word: &[u8]) -> Option<usize>
     ensures { result ≡ position (λ b. b == 61) word.now }
 {
     word.iter().position(|b| *b == b'=')
+}
+
+// The same, or the length of the word where none stands.
+pub(crate) fn equals_at(word: &[u8]) -> usize
+    ensures value { result ≡ equals_at word.now }
+    ensures within { result ≤ length word.now }
+{
+    equals_in(word).unwrap_or(word.len())
 }
 
 // Whether an operand has a =, and does not begin as the path of a file.

@@ -14,5 +14,6 @@ pub use base_names::{base_name, clash};
 pub use first_word::{is_at, next_word};
 pub use reading::{parse, put_entries};
 pub use request::{
-    Action, Destination, Fault, Flag, Goal, Kind, Operands, Problem, Request, Start, Value, Verb,
+    Action, Destination, Fault, Flag, Form, Goal, Kind, Operands, Part, Problem, Request, Start,
+    Value, Verb,
 };

@@ -1,15 +1,19 @@
 // The words of a request, one after the other.
-ghost use Rattle.std.specs.Prelude.{◌≡◌, ◌+◌, ◌*◌, ◌≤◌, length};
+ghost use Rattle.std.specs.Prelude.{◌≡◌, ◌+◌, ◌*◌, ◌≤◌, length, take, drop};
+ghost use Rattle.reference.specs.Text.{◌≟◌, bytes, starts_with};
 ghost use Rattle.words.specs.Splitting.{split};
 ghost use Rattle.arguments.specs.Requests.{take_verb, take_convention, take_edition, take_destination, take_wanted, take_chosen};
-ghost use Rattle.arguments.specs.Requests.{take_value, set_option, take_option, put_value, take_name, put_operand, take_entry};
-ghost use Rattle.arguments.specs.Requests.{take_operand, is_option, is_help, take_word, step_of, judge_output, judge_start};
-ghost use Rattle.arguments.specs.Requests.{judge_options, judge_operands, judged, request_of, entries_of};
+ghost use Rattle.arguments.specs.Requests.{take_value, set_option, option_length, value_from, put_option, put_joined, take_joined};
+ghost use Rattle.arguments.specs.Requests.{take_option, put_value, take_name, put_operand, take_entry, take_operand, is_option};
+ghost use Rattle.arguments.specs.Requests.{is_help, take_free, take_word, step_of, judge_output, judge_plain, judge_options};
+ghost use Rattle.arguments.specs.Requests.{judge_operands, judged, request_of, entries_of};
 ghost use Rattle.text.specs.Cursor.{Written};
 
-use crate::entries::{entry_in, is_entry, put_taken};
+use crate::entries::{entry_in, equals_at, is_entry, put_taken};
 use crate::first_word::{is_at, next_word};
-use crate::request::{Action, Destination, Flag, Kind, Operands, Problem, Request, Value, Verb};
+use crate::request::{
+    Action, Destination, Flag, Kind, Operands, Part, Problem, Request, Value, Verb,
+};
 use crate::values::{is_name, value_of};
 use crate::word_tables::{convention_in, edition_in, option_in, verb_in};
 use text::Cursor;
@@ -27,6 +31,51 @@ fn is_help(word: &[u8]) -> bool
     ensures { result ≡ is_help word.now }
 {
     word == b"-h".as_slice() || word == b"--help".as_slice()
+}
+
+fn is_end(word: &[u8]) -> bool
+    ensures { result ≡ (word.now ≟ bytes "--") }
+{
+    word == b"--".as_slice()
+}
+
+// ---- an option and its value in one word: -cVALUE, --NAME=VALUE
+
+fn is_long(word: &[u8]) -> bool
+    ensures { result ≡ starts_with word.now (bytes "--") }
+{
+    word.starts_with(b"--")
+}
+
+// How long the option is.
+fn option_length(word: &[u8]) -> usize
+    ensures { result ≡ option_length word.now }
+{
+    if is_long(word) { equals_at(word) } else { 2 }
+}
+
+// Where the value begins.
+fn value_from(word: &[u8]) -> usize
+    ensures { result ≡ value_from word.now }
+{
+    if is_long(word) {
+        equals_at(word) + 1
+    } else {
+        2
+    }
+}
+
+// The first n bytes of a word, and those behind them: what there is of them.
+fn before(word: &[u8], n: usize) -> &[u8]
+    ensures { result.now ≡ take n word.now }
+{
+    &word[..n.min(word.len())]
+}
+
+fn behind(word: &[u8], n: usize) -> &[u8]
+    ensures { result.now ≡ drop n word.now }
+{
+    &word[n.min(word.len())..]
 }
 
 // Each takes word k.
@@ -82,27 +131,28 @@ impl Request {
     }
 
     // The word names the register whose start value is asked for.
-    fn take_chosen(&mut self, k: u64)
-        ensures { self.new ≡ take_chosen self.old k }
+    fn take_chosen(&mut self, part: Part)
+        ensures { self.new ≡ take_chosen self.old part }
     {
         match self.start.chosen {
-            Some(_) => self.fail(Problem::SecondValue, Some(k)),
-            None => self.start.chosen = Some(k),
+            Some(_) => self.fail(Problem::SecondValue, Some(part.word)),
+            None => self.start.chosen = Some(part),
         }
     }
 
-    // The value of the option before it.
-    fn take_value(&mut self, option: Flag, k: u64, word: &[u8])
-        ensures { self.new ≡ take_value self.old option k word.now }
+    // The value of an option, where it stands.
+    fn take_value(&mut self, option: Flag, part: Part, value: &[u8])
+        ensures { self.new ≡ take_value self.old option part value.now }
     {
         self.pending = None;
+        let k = part.word;
         match option {
-            Flag::Convention => self.take_convention(k, word),
-            Flag::Edition => self.take_edition(k, word),
-            Flag::Output => self.take_destination(Destination::File(k), k),
-            Flag::Folder => self.take_destination(Destination::Folder(k), k),
-            Flag::Return => self.take_wanted(k, word),
-            _ => self.take_chosen(k),
+            Flag::Convention => self.take_convention(k, value),
+            Flag::Edition => self.take_edition(k, value),
+            Flag::Output => self.take_destination(Destination::File(part), k),
+            Flag::Folder => self.take_destination(Destination::Folder(part), k),
+            Flag::Return => self.take_wanted(k, value),
+            _ => self.take_chosen(part),
         }
     }
 
@@ -114,8 +164,43 @@ impl Request {
             Flag::Parts => self.rules.parts = true,
             Flag::Profile => self.rules.profile = true,
             Flag::Settle => self.rules.settle = true,
-            Flag::Exact => self.goal.exact = true,
+            Flag::Exact => self.form.exact = true,
+            Flag::Force => self.goal.force = true,
+            Flag::Quiet => self.form.quiet = true,
+            Flag::Json => self.form.json = true,
+            Flag::FilterForm => self.form.filter = true,
             _ => self.pending = Some(option),
+        }
+    }
+
+    fn put_option(&mut self, verb: Verb, k: u64, option: Flag)
+        ensures { self.new ≡ put_option self.old verb k option }
+    {
+        if verb.takes(option) {
+            self.set_option(option);
+        } else {
+            self.fail(Problem::UnknownOption, Some(k));
+        }
+    }
+
+    // A word that holds an option and its value.
+    fn put_joined(&mut self, verb: Verb, k: u64, option: Flag, word: &[u8])
+        ensures { self.new ≡ put_joined self.old verb k option word.now }
+    {
+        let from = value_from(word);
+        if option.has_value() && verb.takes(option) {
+            self.take_value(option, Part { word: k, from }, behind(word, from));
+        } else {
+            self.fail(Problem::UnknownOption, Some(k));
+        }
+    }
+
+    fn take_joined(&mut self, verb: Verb, k: u64, word: &[u8])
+        ensures { self.new ≡ take_joined self.old verb k word.now }
+    {
+        match option_in(before(word, option_length(word))) {
+            Some(option) => self.put_joined(verb, k, option, word),
+            None => self.fail(Problem::UnknownOption, Some(k)),
         }
     }
 
@@ -123,8 +208,8 @@ impl Request {
         ensures { self.new ≡ take_option self.old verb k word.now }
     {
         match option_in(word) {
-            Some(option) if verb.takes(option) => self.set_option(option),
-            _ => self.fail(Problem::UnknownOption, Some(k)),
+            Some(option) => self.put_option(verb, k, option),
+            None => self.take_joined(verb, k, word),
         }
     }
 
@@ -185,23 +270,35 @@ impl Request {
         }
     }
 
+    // A word that is no value of the option before it; -- ends the options.
+    fn take_free(&mut self, verb: Verb, k: u64, word: &[u8])
+        ensures { self.new ≡ take_free self.old verb k word.now }
+    {
+        if self.ended || !is_option(word) {
+            self.take_operand(verb, k, word);
+        } else if is_end(word) {
+            self.ended = true;
+        } else {
+            self.take_option(verb, k, word);
+        }
+    }
+
     fn take_word(&mut self, k: u64, word: &[u8])
         ensures { self.new ≡ take_word self.old k word.now }
     {
         match (self.verb, self.pending) {
             (None, _) => self.take_verb(k, word),
-            (Some(_), Some(option)) => self.take_value(option, k, word),
-            (Some(verb), None) if is_option(word) => self.take_option(verb, k, word),
-            (Some(verb), None) => self.take_operand(verb, k, word),
+            (Some(_), Some(option)) => self.take_value(option, Part { word: k, from: 0 }, word),
+            (Some(verb), None) => self.take_free(verb, k, word),
         }
     }
 
-    // Help is asked for by -h or --help wherever it stands, and what comes behind a fault is not looked at.
+    // Help is asked for by -h or --help wherever it stands before --, and what comes behind a fault is not looked at.
     #[tactic(auto, unfolding(crate::specs::Requests::step_of))]
     pub fn step(mut self, k: u64, word: &[u8]) -> Self
         ensures { result ≡ step_of self k word.now }
     {
-        if is_help(word) {
+        if !self.ended && is_help(word) {
             self.help = true;
         } else if self.fault.is_none() {
             self.take_word(k, word);
@@ -217,7 +314,7 @@ impl Request {
         ensures { self.new ≡ judge_output self.old verb k }
     {
         match (verb, self.operands.value) {
-            (Verb::Clean, _) if 1 < self.operands.count => {
+            (Verb::Clean | Verb::Page, _) if 1 < self.operands.count => {
                 self.fail(Problem::SeveralFiles, Some(k))
             }
             (Verb::State, Some(Value::Action(Action::Get))) => {}
@@ -226,12 +323,13 @@ impl Request {
         }
     }
 
-    // `start` needs --return and --choose.
-    fn judge_start(&mut self, verb: Verb)
-        ensures { self.new ≡ judge_start self.old verb }
+    // `start` needs --return and --choose; several pages need a folder.
+    fn judge_plain(&mut self, verb: Verb)
+        ensures { self.new ≡ judge_plain self.old verb }
     {
         match (verb, self.start.wanted, self.start.chosen) {
             (Verb::Start, None, _) | (Verb::Start, _, None) => self.fail(Problem::Incomplete, None),
+            (Verb::Page, _, _) if 1 < self.operands.count => self.fail(Problem::NoFolder, None),
             _ => {}
         }
     }
@@ -240,8 +338,9 @@ impl Request {
         ensures { self.new ≡ judge_options self.old verb }
     {
         match self.goal.destination {
-            Destination::File(k) => self.judge_output(verb, k),
-            _ => self.judge_start(verb),
+            Destination::StandardOutput => self.judge_plain(verb),
+            Destination::File(part) => self.judge_output(verb, part.word),
+            Destination::Folder(_) => {}
         }
     }
 

@@ -38,6 +38,10 @@ pub enum Flag {
     Exact,
     Return,
     Choose,
+    Force,
+    Quiet,
+    Json,
+    FilterForm,
 }
 
 // What `state` does.
@@ -87,6 +91,7 @@ pub enum Problem {
     SecondValue, // of --return or --choose
     Incomplete, // one of the two is missing
     BadEntry, // no REG=VALUE
+    NoFolder, // for several pages
 }
 
 // What is wrong, and the word by which it is told.
@@ -96,19 +101,35 @@ pub struct Fault {
     pub word: Option<u64>,
 }
 
-// Where the result goes: the word that names the file, or the folder.
+// The value of an option: a word from a byte on, which is 0 where the value is a word of its own.
+#[derive(Clone, Copy, Debug, PartialEq, Eq)]
+pub struct Part {
+    pub word: u64,
+    pub from: usize,
+}
+
+// Where the result goes: what names the file, or the folder.
 #[derive(Clone, Copy, Debug, PartialEq, Eq)]
 pub enum Destination {
     StandardOutput,
-    File(u64),
-    Folder(u64),
+    File(Part),
+    Folder(Part),
 }
 
-// What the result is: where it goes, and whether in the exact form.
+// The result: where it goes, and whether also where an input or a terminal is.
 #[derive(Clone, Copy)]
 pub struct Goal {
     pub destination: Destination,
+    pub force: bool,
+}
+
+// In which form a tape is read, and what is told: a tape as the filter takes it; exact; as JSON; no more than what is wrong.
+#[derive(Clone, Copy)]
+pub struct Form {
+    pub filter: bool,
     pub exact: bool,
+    pub json: bool,
+    pub quiet: bool,
 }
 
 // The operands so far: how many (9: nine or more), the first, the third and the last of them, and what the one stands for that is a value.
@@ -121,11 +142,11 @@ pub struct Operands {
     pub value: Option<Value>,
 }
 
-// What `start` asks: the value of --return, the word that is the value of --choose, and the last operand that is an entry, REG=VALUE.
+// What `start` asks: the values of --return and --choose, and the last operand that is an entry, REG=VALUE.
 #[derive(Clone, Copy)]
 pub struct Start {
     pub wanted: Option<u64>,
-    pub chosen: Option<u64>,
+    pub chosen: Option<Part>,
     pub entry: Option<u64>,
 }
 
@@ -136,8 +157,10 @@ pub struct Request {
     pub help: bool, // -h or --help stands somewhere
     pub fault: Option<Fault>, // what is wrong first
     pub pending: Option<Flag>, // the option whose value comes next
+    pub ended: bool, // behind --: no word is an option any more
     pub rules: Rules, // the settings of a cleaning
     pub goal: Goal,
+    pub form: Form,
     pub operands: Operands,
     pub start: Start,
 }
@@ -152,6 +175,7 @@ impl Request {
             help: false,
             fault: None,
             pending: None,
+            ended: false,
             rules: Rules {
                 convention: 1,
                 settle: false,
@@ -161,7 +185,13 @@ impl Request {
             },
             goal: Goal {
                 destination: Destination::StandardOutput,
+                force: false,
+            },
+            form: Form {
+                filter: false,
                 exact: false,
+                json: false,
+                quiet: false,
             },
             operands: Operands {
                 count: 0,

@@ -1,11 +1,11 @@
 // Which words, options and operands there are. A further verb is a row, and what it takes.
 ghost use Rattle.std.specs.Prelude.{◌≡◌, map};
 ghost use Rattle.arguments.specs.Tables.{row_of, meaning_in, verbs, options, conventions, editions, actions};
-ghost use Rattle.arguments.specs.Tables.{kind_of, takes, fewest, most};
+ghost use Rattle.arguments.specs.Tables.{kind_of, takes_output, takes, has_value, fewest, most};
 
 use crate::request::{Action, Flag, Kind, Value, Verb};
 
-const VERBS: [(&[u8], Verb); 15] = [
+const VERBS: [(&[u8], Verb); 16] = [
     (b"clean", Verb::Clean),
     (b"counts", Verb::Counts),
     (b"check", Verb::Check),
@@ -19,11 +19,12 @@ const VERBS: [(&[u8], Verb); 15] = [
     (b"help", Verb::Help),
     (b"version", Verb::Version),
     (b"--version", Verb::VersionOption),
+    (b"-V", Verb::VersionOption),
     (b"page", Verb::Page),
     (b"start", Verb::Start),
 ];
 
-const OPTIONS: [(&[u8], Flag); 10] = [
+const OPTIONS: [(&[u8], Flag); 14] = [
     (b"-c", Flag::Convention),
     (b"-e", Flag::Edition),
     (b"--parts", Flag::Parts),
@@ -34,6 +35,10 @@ const OPTIONS: [(&[u8], Flag); 10] = [
     (b"--exact", Flag::Exact),
     (b"--return", Flag::Return),
     (b"--choose", Flag::Choose),
+    (b"-f", Flag::Force),
+    (b"-q", Flag::Quiet),
+    (b"--json", Flag::Json),
+    (b"--filter-form", Flag::FilterForm),
 ];
 
 // Kept: conventions and editions are numbers, as the C interface hands them over and `Rules` of crate lines holds them: an enum here would
@@ -87,16 +92,30 @@ pub(crate) fn action_in(word: &[u8]) -> Option<Action>
     meaning(&ACTIONS, word)
 }
 
+impl Flag {
+    pub(crate) fn has_value(self) -> bool
+        ensures { result ≡ has_value self }
+    {
+        matches!(
+            self,
+            Flag::Convention
+                | Flag::Edition
+                | Flag::Output
+                | Flag::Folder
+                | Flag::Return
+                | Flag::Choose
+        )
+    }
+}
+
 impl Verb {
     // What the operand behind so many others is; none, if there are no more.
     pub(crate) fn kind_of(self, operands: u64) -> Option<Kind>
         ensures { result ≡ kind_of self operands }
     {
         match (self, operands) {
-            (Verb::Clean | Verb::Counts | Verb::Check, _) => Some(Kind::File),
-            (Verb::Show | Verb::Tape | Verb::Addresses | Verb::Page | Verb::Start, 0) => {
-                Some(Kind::File)
-            }
+            (Verb::Clean | Verb::Counts | Verb::Check | Verb::Page, _) => Some(Kind::File),
+            (Verb::Show | Verb::Tape | Verb::Addresses | Verb::Start, 0) => { Some(Kind::File) }
             (Verb::Edition, 0) => Some(Kind::Edition),
             (Verb::Offsets, 0) => Some(Kind::Base),
             (Verb::Edition | Verb::Offsets, 1) => Some(Kind::File),
@@ -109,25 +128,44 @@ impl Verb {
         }
     }
 
-    pub(crate) fn takes(self, option: Flag) -> bool
+    fn takes_output(self) -> bool
+        ensures { result ≡ takes_output self }
+    {
+        matches!(
+            self,
+            Verb::Clean
+                | Verb::Tape
+                | Verb::Addresses
+                | Verb::Edition
+                | Verb::Offsets
+                | Verb::Laborious
+                | Verb::State
+                | Verb::Page
+        )
+    }
+
+    pub fn takes(self, option: Flag) -> bool
         ensures { result ≡ takes self option }
     {
         match option {
             Flag::Convention | Flag::Edition | Flag::Parts | Flag::Profile | Flag::Settle => {
                 matches!(self, Verb::Clean | Verb::Counts | Verb::Page)
             }
-            Flag::Output => matches!(
+            Flag::Output | Flag::Force => self.takes_output(),
+            Flag::Quiet => matches!(self, Verb::Counts | Verb::Check) || self.takes_output(),
+            Flag::Json => matches!(self, Verb::Counts | Verb::Check | Verb::Start),
+            Flag::FilterForm => matches!(
                 self,
                 Verb::Clean
-                    | Verb::Tape
-                    | Verb::Addresses
+                    | Verb::Counts
+                    | Verb::Check
+                    | Verb::Show
                     | Verb::Edition
                     | Verb::Offsets
-                    | Verb::Laborious
-                    | Verb::State
                     | Verb::Page
+                    | Verb::Start
             ),
-            Flag::Folder => matches!(self, Verb::Clean),
+            Flag::Folder => matches!(self, Verb::Clean | Verb::Page),
             Flag::Exact => matches!(self, Verb::Show),
             Flag::Return | Flag::Choose => matches!(self, Verb::Start),
         }

@@ -1,7 +1,7 @@
 // Files as they are read, standard output, and what is told on standard error, in the system's words.
 use answers::Refusal;
 use std::fs::File;
-use std::io::{Error, ErrorKind, Read, Write};
+use std::io::{Error, ErrorKind, IsTerminal, Read, Write};
 use std::process::ExitCode;
 
 // The numbers of the standard streams.
@@ -22,16 +22,36 @@ pub(crate) fn is_dash(name: &[u8]) -> bool {
 
 // ---- how things end
 
-// Why something was not done: a question refused it, which is told by whoever has the file's name, or it failed, which was told.
+// Why something was not done: a question refused it, which is told by whoever has the file's name, or was told; or it failed, which was
+// told.
 #[derive(Clone, Copy)]
 pub(crate) enum Trouble {
     Refused(Refusal),
+    Told,
     Failed,
 }
 
 impl From<Refusal> for Trouble {
     fn from(refused: Refusal) -> Trouble {
         Trouble::Refused(refused)
+    }
+}
+
+// What became of a file.
+#[derive(Clone, Copy, Debug, PartialEq, Eq)]
+pub(crate) enum Fate {
+    Done,
+    Refused,
+    Failed,
+}
+
+impl Fate {
+    // How a run ends that had this one file.
+    pub(crate) fn outcome(self) -> Outcome {
+        match self {
+            Fate::Done => Outcome::Done,
+            Fate::Refused | Fate::Failed => Outcome::Undone,
+        }
     }
 }
 
@@ -60,8 +80,16 @@ pub(crate) fn tell(s: &[u8]) {
     io::write_all(STDERR, s);
 }
 
-// The name of a file, as it is told.
-pub(crate) fn tell_name(name: &[u8]) {
+// Takes away what a terminal shows of the progress, so that a line can be told.
+pub(crate) fn begin_line(rt: &HostRuntime) {
+    if rt.stderr().is_terminal() {
+        tell(b"\r\x1b[K");
+    }
+}
+
+// The name of a file, as it is told at the head of a line.
+pub(crate) fn tell_name(rt: &HostRuntime, name: &[u8]) {
+    begin_line(rt);
     tell(if is_dash(name) {
         b"standard input"
     } else {
@@ -71,8 +99,8 @@ pub(crate) fn tell_name(name: &[u8]) {
 }
 
 // What is wrong with a file, in words.
-pub(crate) fn failed_by(name: &[u8], words: &[u8]) -> Trouble {
-    tell_name(name);
+pub(crate) fn failed_by(rt: &HostRuntime, name: &[u8], words: &[u8]) -> Trouble {
+    tell_name(rt, name);
     tell(words);
     tell(b"\n");
     Trouble::Failed
@@ -84,14 +112,14 @@ pub(crate) fn failed(rt: &HostRuntime, name: &[u8], error: &Error) -> Trouble {
         Ok(words) => {
             let text = words.as_str();
             let reason = text.split_once(" (os error ").map_or(text, |parts| parts.0);
-            failed_by(name, reason.as_bytes())
+            failed_by(rt, name, reason.as_bytes())
         }
-        Err(_) => failed_by(name, b"no memory is left to say why"),
+        Err(_) => failed_by(rt, name, b"no memory is left to say why"),
     }
 }
 
-pub(crate) fn no_memory() -> Trouble {
-    failed_by(b"puchkewa", b"no memory is left")
+pub(crate) fn no_memory(rt: &HostRuntime) -> Trouble {
+    failed_by(rt, b"puchkewa", b"no memory is left")
 }
 
 // ---- paths
@@ -148,4 +176,22 @@ pub(crate) fn print_decimal(rt: &HostRuntime, n: u64) -> Result<(), Trouble> {
     let mut digits = [0u8; 20];
     let k = io::decimal(n, &mut digits);
     print(rt, front(&digits, k))
+}
+
+// ---- a path put together
+
+// Puts a text at `at` of a buffer, if it fits, and answers where it ends.
+// Kept: a buffer, and where it ends: its size is what makes a path too long. A Vec would want that test beside it, and an answer where no
+// memory is left: no plainer.
+pub(crate) fn append(s: &[u8], buffer: &mut [u8], at: usize) -> Option<usize> {
+    let room = buffer.get_mut(at..)?.get_mut(..s.len())?;
+    room.copy_from_slice(s);
+    Some(at + s.len())
+}
+
+// Puts the path of a file in a folder, if it fits.
+pub(crate) fn put_path(dir: &[u8], base: &[u8], path: &mut [u8]) -> Option<usize> {
+    let a = append(dir, path, 0)?;
+    let b = append(b"/", path, a)?;
+    append(base, path, b)
 }

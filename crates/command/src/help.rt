@@ -1,6 +1,6 @@
 // The help, and what is said of wrong use.
 use crate::files::{Trouble, print, tell};
-use arguments::{Fault, Problem, Verb};
+use arguments::{Fault, Flag, Problem, Verb};
 use words::nth_word;
 
 // The first lines of the help.
@@ -46,7 +46,7 @@ fn lines_of(verb: Verb) -> &'static [u8] {
         Verb::Version => { b"\x20 version                                      the version\n" }
         Verb::VersionOption => b"",
         Verb::Page => {
-            b"\x20 page [SETTINGS] [FILE] [-o OUT]              before and after side by side, one HTML page\n"
+            b"\x20 page [SETTINGS] [FILE..] [-o OUT | -d DIR]    before and after side by side, an HTML page; with -d an index too\n"
         }
         Verb::Start => {
             b"\x20 start --return V --choose REG [REG=V..] [FILE]\n\
@@ -55,19 +55,67 @@ fn lines_of(verb: Verb) -> &'static [u8] {
     }
 }
 
-// What every verb has in common.
-const REST: &[u8] = b"SETTINGS\n\
-    \x20 -c 32|sysv|windows  the calling convention (sysv)\n\
-    \x20 -e 2018|2024        the edition of C by which numbers are read (2018)\n\
-    \x20 --parts             ah is not al: parts of a register are kept apart\n\
-    \x20 --profile           only straight pieces, whose returned value is kept\n\
-    \x20 --settle            rounds until one changes nothing\n\
-    V is a decimal number, or hexadecimal behind 0x, from 0 to 2^64-1; -1 to -2^63 are taken as a register holds them.\n\
+// What is told of an option.
+fn line_of(option: Flag) -> &'static [u8] {
+    match option {
+        Flag::Convention => b"\x20 -c 32|sysv|windows  the calling convention (sysv)\n",
+        Flag::Edition => {
+            b"\x20 -e 2018|2024        the edition of C by which numbers are read (2018)\n"
+        }
+        Flag::Parts => {
+            b"\x20 --parts             ah is not al: parts of a register are kept apart\n"
+        }
+        Flag::Profile => {
+            b"\x20 --profile           only straight pieces, whose returned value is kept\n"
+        }
+        Flag::Settle => b"\x20 --settle            rounds until one changes nothing\n",
+        Flag::Output => b"\x20 -o OUT              the result goes to the file OUT\n",
+        Flag::Folder => {
+            b"\x20 -d DIR              to files of the same names in the folder DIR; pages with .html, and index.html over them\n"
+        }
+        Flag::Exact => b"\x20 --exact             in the form that tape reads\n",
+        Flag::Return => b"\x20 --return V          the value that is to be returned\n",
+        Flag::Choose => b"\x20 --choose REG        the register whose start value is asked for\n",
+        Flag::FilterForm => {
+            b"\x20 --filter-form       a convention byte stands in front of the tape, as the filter takes it\n"
+        }
+        Flag::Json => b"\x20 --json              an object of JSON a line\n",
+        Flag::Force => {
+            b"\x20 -f                  the result may go onto an input, a tape to a terminal\n"
+        }
+        Flag::Quiet => b"\x20 -q                  no progress, no line at the end, no notes\n",
+    }
+}
+
+// The options in the order of the help.
+const OPTIONS: [Flag; 14] = [
+    Flag::Convention,
+    Flag::Edition,
+    Flag::Parts,
+    Flag::Profile,
+    Flag::Settle,
+    Flag::FilterForm,
+    Flag::Output,
+    Flag::Folder,
+    Flag::Force,
+    Flag::Exact,
+    Flag::Return,
+    Flag::Choose,
+    Flag::Json,
+    Flag::Quiet,
+];
+
+// What start's words are.
+const VALUES: &[u8] =
+    b"V is a decimal number, or hexadecimal behind 0x, from 0 to 2^64-1; -1 to -2^63 are taken as a register holds them.\n\
     An operand of start with a = in it gives a register its value, the others start with 0; a file that has a = in its\n\
-    name is given with its path, as ./a=b: what begins with . or / is always a file.\n\
-    A FILE is a tape; - or none is standard input. Results go to standard output, or with -o to the file OUT,\n\
-    with -d to files of the same names in the folder DIR; a file is written whole or not at all. What is refused is\n\
-    told on standard error with the file's name, and the others are still done; the exit status is then 1.\n";
+    name is given with its path, as ./a=b: what begins with . or / is always a file.\n";
+
+// What verbs have in common that read files.
+const FILES: &[u8] =
+    b"A FILE is a tape; - or none is standard input. A file is written whole or not at all. What is refused is told on standard\n\
+    error with the file's name, and the others are still done. The exit status is 0 where all was done, 1 where something\n\
+    was refused or failed, 2 for wrong use. -- ends the options; a value may stand in its option's word: -csysv, --return=10.\n";
 
 // The verbs in the order of the help.
 const ORDER: [Verb; 14] = [
@@ -93,17 +141,38 @@ fn help_all(rt: &HostRuntime) -> Result<(), Trouble> {
     for verb in ORDER {
         print(rt, lines_of(verb))?;
     }
-    print(rt, REST)
+    print(
+        rt,
+        b"OPTIONS (puchkewa help WORD tells which a word takes)\n",
+    )?;
+    for option in OPTIONS {
+        print(rt, line_of(option))?;
+    }
+    print(rt, VALUES)?;
+    print(rt, FILES)
+}
+
+// The help of a verb: its lines, and what it takes.
+fn help_one(rt: &HostRuntime, verb: Verb) -> Result<(), Trouble> {
+    print(rt, lines_of(verb))?;
+    for option in OPTIONS {
+        if verb.takes(option) {
+            print(rt, line_of(option))?;
+        }
+    }
+    match verb {
+        Verb::Help | Verb::Version => return Ok(()),
+        Verb::Start => print(rt, VALUES)?,
+        _ => {}
+    }
+    print(rt, FILES)
 }
 
 // The help of a verb; without one, and of --version, the whole.
 pub(crate) fn help(rt: &HostRuntime, verb: Option<Verb>) -> Result<(), Trouble> {
     match verb {
         None | Some(Verb::VersionOption) => help_all(rt),
-        Some(verb) => {
-            print(rt, lines_of(verb))?;
-            print(rt, REST)
-        }
+        Some(verb) => help_one(rt, verb),
     }
 }
 
@@ -123,6 +192,7 @@ fn words_of(problem: Problem) -> &'static [u8] {
         Problem::SecondValue => b"is a second value for the option before it",
         Problem::Incomplete => b"--return and --choose must both be given",
         Problem::BadEntry => b"is no REG=V with a value V of 64 bits",
+        Problem::NoFolder => b"several pages need a folder: -d DIR",
     }
 }
 

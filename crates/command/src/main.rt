@@ -5,32 +5,59 @@
 // the words were wrong.
 #![tactic(auto)]
 
+mod batches; // several files in one call
 mod files; // reading, and what is told
+mod guards; // what is looked at before anything is done
 mod help; // the help, and wrong use
+mod index; // the index over the pages of a folder
+mod json; // a reply as JSON
 mod outputs; // results, and where they go
+mod refusals; // what is told of a refusal
 mod stores; // named states, in a file
+mod texts; // the tape of a text
 
-use answers::{Answer, Refusal};
-use arguments::{Destination, Request, Value, Verb, base_name, next_word};
-use clean::Finished;
+use answers::{Answer, Reason, Refusal};
+use arguments::{Destination, Part, Request, Value, Verb, base_name, next_word};
+use clean::{Finished, Tally};
 use files::{
-    Outcome, Trouble, failed_by, front, is_dash, no_memory, print, print_decimal, read_file, tell,
-    tell_name,
+    Fate, Outcome, Trouble, append, failed_by, front, is_dash, no_memory, print, put_path,
+    read_file, tell, tell_name,
 };
-use listing_text::{Unmade, put_listing, put_tape};
+use ground::rules::Rules;
+use json::{print_object, print_quoted};
+use listing_text::put_listing;
 use outputs::Product;
+use refusals::{fate_of, print_refused, tell_in_tape, tell_no_register};
 use render::{Cleaning, count_of};
 use std::env::FillError;
 use std::process::ExitCode;
 use std::rt::Env;
+use tape::questions::Totals;
 use words::nth_word;
 
-// What was asked for: the words, and what they say.
+// Where the results go.
+#[derive(Clone, Copy)]
+pub(crate) enum Target<'a> {
+    StandardOutput,
+    File(&'a [u8]),
+    Folder(&'a [u8]),
+}
+
+// What was asked for: the words, what they say, and where the results go.
 #[derive(Clone, Copy)]
 pub(crate) struct Call<'a> {
     rt: &'a HostRuntime,
     words: &'a [u8],
     request: Request,
+    target: Target<'a>,
+}
+
+// A tape as it was read, with its name and the settings of its cleaning.
+#[derive(Clone, Copy)]
+struct Input<'a> {
+    name: &'a [u8],
+    tape: &'a [u8],
+    rules: Rules,
 }
 
 // ---- words
@@ -54,42 +81,62 @@ fn gather(rt: &HostRuntime, words: &mut [u8]) -> Option<usize> {
     None
 }
 
+// What the value of an option is.
+fn part_of(words: &[u8], part: Part) -> &[u8] {
+    nth_word(words, part.word)
+        .get(part.from..)
+        .unwrap_or_default()
+}
+
+fn target_of(words: &[u8], destination: Destination) -> Target<'_> {
+    match destination {
+        Destination::StandardOutput => Target::StandardOutput,
+        Destination::File(part) => Target::File(part_of(words, part)),
+        Destination::Folder(part) => Target::Folder(part_of(words, part)),
+    }
+}
+
 // ---- where a result goes
 
-// Puts a text at `at` of a buffer, if it fits, and answers where it ends.
-// Kept: a buffer, and where it ends: its size is what makes a path too long. A Vec would want that test beside it, and an answer where no
-// memory is left: no plainer.
-fn append(s: &[u8], buffer: &mut [u8], at: usize) -> Option<usize> {
-    let room = buffer.get_mut(at..)?.get_mut(..s.len())?;
-    room.copy_from_slice(s);
-    Some(at + s.len())
-}
-
-// Puts the path of a file in a folder, if it fits.
-fn put_path(dir: &[u8], base: &[u8], path: &mut [u8]) -> Option<usize> {
-    let a = append(dir, path, 0)?;
-    let b = append(b"/", path, a)?;
-    append(base, path, b)
-}
-
-// To the file of the same name in the folder DIR.
-fn deliver_into(
-    rt: &HostRuntime,
-    dir: &[u8],
-    name: &[u8],
-    product: Product,
-) -> Result<(), Trouble> {
-    if is_dash(name) {
-        return Err(failed_by(b"puchkewa", b"-d needs the names of files"));
-    }
-    let mut path = [0u8; 8200];
-    match put_path(dir, base_name(name), &mut path) {
-        Some(n) => product.write(rt, front(&path, n)),
-        None => Err(failed_by(name, b"the name is too long")),
-    }
-}
-
 impl Call<'_> {
+    // The path of a file's result in a folder, if it fits: of the same name, a page's with .html behind it.
+    fn put_path_in(&self, dir: &[u8], name: &[u8], path: &mut [u8]) -> Option<usize> {
+        let n = put_path(dir, base_name(name), path)?;
+        if self.request.verb == Some(Verb::Page) {
+            append(b".html", path, n)
+        } else {
+            Some(n)
+        }
+    }
+
+    // To the file of that name in the folder DIR.
+    fn deliver_into(&self, dir: &[u8], name: &[u8], product: Product) -> Result<(), Trouble> {
+        if is_dash(name) {
+            return Err(failed_by(self.rt, b"puchkewa", b"-d needs the names of files"));
+        }
+        let mut path = [0u8; 8200];
+        match self.put_path_in(dir, name, &mut path) {
+            Some(n) => product.write(self.rt, front(&path, n)),
+            None => Err(failed_by(self.rt, name, b"the name is too long")),
+        }
+    }
+
+    // The index over the pages, where several are made.
+    fn deliver_index(&self) -> Result<(), Trouble> {
+        let mut path = [0u8; 8200];
+        match (self.request.verb, self.target) {
+            (Some(Verb::Page), Target::Folder(dir)) => match put_path(
+                dir,
+                b"index.html",
+                &mut path,
+            ) {
+                Some(n) => Product::Index(self).write(self.rt, front(&path, n)),
+                None => Err(failed_by(self.rt, dir, b"the name is too long")),
+            },
+            _ => Ok(()),
+        }
+    }
+
     // A word by its number; nothing for none.
     fn word(&self, k: Option<u64>) -> &[u8] {
         match k {
@@ -100,10 +147,10 @@ impl Call<'_> {
 
     // The result of a file.
     fn deliver(&self, name: &[u8], product: Product) -> Result<(), Trouble> {
-        match self.request.goal.destination {
-            Destination::StandardOutput => product.print(self.rt),
-            Destination::File(k) => product.write(self.rt, nth_word(self.words, k)),
-            Destination::Folder(k) => deliver_into(self.rt, nth_word(self.words, k), name, product),
+        match self.target {
+            Target::StandardOutput => product.print(self.rt),
+            Target::File(path) => product.write(self.rt, path),
+            Target::Folder(dir) => self.deliver_into(dir, name, product),
         }
     }
 
@@ -118,26 +165,7 @@ impl Call<'_> {
     }
 }
 
-// ---- what is told of a reply
-
-fn tell_refusal(refused: Refusal) {
-    let mut line = [0u8; 256];
-    let n = reports::put_refused(refused, &mut line);
-    tell(front(&line, n));
-}
-
-// Tells a refusal with the name of its file, and says how the run ends that has done that.
-pub(crate) fn outcome_of(name: &[u8], done: Result<(), Trouble>) -> Outcome {
-    match done {
-        Ok(_) => return Outcome::Done,
-        Err(Trouble::Refused(refused)) => {
-            tell_name(name);
-            tell_refusal(refused);
-        }
-        Err(Trouble::Failed) => {}
-    }
-    Outcome::Undone
-}
+// ---- what is printed of a reply
 
 fn print_counts(rt: &HostRuntime, f: Finished) -> Result<(), Trouble> {
     let mut line = [0u8; 256];
@@ -145,47 +173,176 @@ fn print_counts(rt: &HostRuntime, f: Finished) -> Result<(), Trouble> {
     print(rt, front(&line, n))
 }
 
-// The line of a start value.
-fn print_start(rt: &HostRuntime, chosen: &[u8], v: u64) -> Result<(), Trouble> {
-    let mut line = [0u8; 65581];
-    let n = if chosen.len() <= 65536 {
-        reports::put_start(chosen, v, &mut line)
-    } else {
-        0
+fn print_json_counts(rt: &HostRuntime, name: &[u8], f: Finished) -> Result<(), Trouble> {
+    let Finished {
+        length,
+        tally,
+        removed,
+        cut,
+    } = f;
+    let rest = match tally {
+        Tally::Three {
+            first,
+            second,
+            third,
+        } => format!(in rt.alloc();
+            ",\"length\":{length},\"settled\":false,\"attempts\":[{first},{second},{third}],\"removed\":{removed},\"cut\":{cut}"
+        ),
+        Tally::Settled { rounds, attempts } => format!(in rt.alloc();
+            ",\"length\":{length},\"settled\":true,\"rounds\":{rounds},\"attempts\":{attempts},\"removed\":{removed},\"cut\":{cut}"
+        ),
     };
-    print(rt, front(&line, n))
+    print_object(rt, name, rest)
 }
 
 // ---- a start value
 
+// The name in a word REG=VALUE.
+fn name_in(entry: &[u8]) -> &[u8] {
+    match entry.iter().position(|b| *b == b'=') {
+        Some(n) => front(entry, n),
+        None => entry,
+    }
+}
+
 impl Call<'_> {
+    // The register that is none: the chosen one, or the first that the words give a value.
+    fn no_register<'b>(&'b self, chosen: &'b [u8]) -> &'b [u8] {
+        if !reports::is_register(chosen) {
+            return chosen;
+        }
+        let mut s = Request::begin();
+        let mut left = self.words;
+        for k in 0..u64::MAX {
+            let Some((word, rest)) = next_word(left) else {
+                break;
+            };
+            s = s.step(k, word);
+            if s.start.entry == Some(k) && !reports::is_register(name_in(word)) {
+                return name_in(word);
+            }
+            left = rest;
+        }
+        chosen
+    }
+
     // Asks for the start value, by way of a buffer for the list of the words' entries, and prints its line.
-    fn print_start_value(&self, tape: &[u8], list: &mut [u8]) -> Result<(), Trouble> {
+    fn print_start_value(&self, input: Input, list: &mut [u8]) -> Result<(), Trouble> {
         if list.len() / 9 <= self.words.len() {
             return Err(failed_by(
+                self.rt,
                 b"puchkewa",
                 b"the words of start have more than 65,536 bytes",
             ));
         }
         let n = arguments::put_entries(self.words, list);
-        let (Some(k), Some(wanted)) = (self.request.start.chosen, self.request.start.wanted) else {
+        let (Some(part), Some(wanted)) = (self.request.start.chosen, self.request.start.wanted)
+        else {
             return Ok(());
         };
-        let chosen = nth_word(self.words, k);
-        let v = start::start_value(tape, chosen, front(list, n), wanted)?;
-        print_start(self.rt, chosen, v)
+        let chosen = part_of(self.words, part);
+        match start::start_value(input.tape, chosen, front(list, n), wanted) {
+            Ok(v) => self.print_start(input, chosen, front(list, n), wanted, v),
+            Err(refused) if refused.reason == Reason::NoRegister => {
+                if self.request.form.json {
+                    print_refused(self.rt, input.name, input.tape, refused)?;
+                }
+                Err(tell_no_register(self.rt, input.name, self.no_register(chosen)))
+            }
+            Err(refused) => Err(Trouble::Refused(refused)),
+        }
+    }
+
+    // How far the next value lies that is returned too, as a power of 2: 64 where there is none, 0 where every value is. What is returned
+    // is m * v + c modulo 2^64: a value works for a wanted one that is 2^s more where 2 divides m at most s times, and not where more often.
+    fn step_of(&self, tape: &[u8], chosen: &[u8], list: &[u8], wanted: u64) -> u32 {
+        for s in 0..64u32 {
+            let further = wanted.wrapping_add(1u64 << s);
+            if start::start_value(tape, chosen, list, further).is_ok() {
+                return 64 - s;
+            }
+        }
+        0
+    }
+
+    fn print_start(
+        &self,
+        input: Input,
+        chosen: &[u8],
+        list: &[u8],
+        wanted: u64,
+        v: u64,
+    ) -> Result<(), Trouble> {
+        if self.request.form.json {
+            print(self.rt, b"{\"file\":\"")?;
+            print_quoted(self.rt, input.name)?;
+            print(self.rt, b"\",\"register\":\"")?;
+            print_quoted(self.rt, chosen)?;
+            return match format!(in self.rt.alloc();
+                "\",\"value\":\"{v:#x}\",\"decimal\":\"{v}\"}}\n"
+            ) {
+                Ok(rest) => print(self.rt, rest.as_bytes()),
+                Err(_) => Err(no_memory(self.rt)),
+            };
+        }
+        let mut line = [0u8; 65581];
+        let n = if chosen.len() <= 65536 {
+            reports::put_start(chosen, v, &mut line)
+        } else {
+            0
+        };
+        print(self.rt, front(&line, n))?;
+        self.tell_others(input, chosen, list, wanted)
+    }
+
+    // Tells, unless told to be quiet, that the value is one of several, and how they follow.
+    fn tell_others(
+        &self,
+        input: Input,
+        chosen: &[u8],
+        list: &[u8],
+        wanted: u64,
+    ) -> Result<(), Trouble> {
+        let line = match self.step_of(input.tape, chosen, list, wanted) {
+            0 => format!(in self.rt.alloc();
+                "any other value does too: the result does not depend on it"
+            ),
+            n if n < 64 => {
+                let step = 1u64 << n;
+                format!(in self.rt.alloc();
+                    "the smallest of several: each {step:#x} further does too"
+                )
+            }
+            _ => return Ok(()),
+        };
+        let Ok(line) = line else {
+            return Err(no_memory(self.rt));
+        };
+        tell_name(self.rt, input.name);
+        tell(line.as_bytes());
+        tell(b"\n");
+        Ok(())
     }
 
     // The smallest start value of the chosen register.
-    fn start_one(&self, tape: &[u8]) -> Result<(), Trouble> {
+    fn start_one(&self, input: Input) -> Result<(), Trouble> {
         match vec![in self.rt.alloc(); 0u8; 589833] {
-            Ok(mut list) => self.print_start_value(tape, &mut list),
-            Err(_) => Err(no_memory()),
+            Ok(mut list) => self.print_start_value(input, &mut list),
+            Err(_) => Err(no_memory(self.rt)),
         }
     }
 }
 
 // ---- one file
+
+impl Input<'_> {
+    // Cleans the tape into a buffer.
+    fn clean(&self, out: &mut [u8]) -> Result<Finished, Refusal> {
+        let mut work_a = [0u8; 49152];
+        let mut work_b = [0u8; 49152];
+        clean::clean(self.rules, self.tape, &mut work_a, &mut work_b, out)
+    }
+}
 
 impl Call<'_> {
     // The name of a file in front of its line; none where no file was named.
@@ -197,36 +354,42 @@ impl Call<'_> {
         print(self.rt, b": ")
     }
 
-    // Cleans a tape into a buffer.
-    fn clean(&self, tape: &[u8], out: &mut [u8]) -> Result<Finished, Refusal> {
-        let mut work_a = [0u8; 49152];
-        let mut work_b = [0u8; 49152];
-        clean::clean(self.request.rules, tape, &mut work_a, &mut work_b, out)
+    fn clean_one(&self, input: Input) -> Result<(), Trouble> {
+        let mut out = [0u8; 59137];
+        let f = input.clean(&mut out)?;
+        self.deliver(input.name, Product::Bytes(front(&out, f.length)))
     }
 
-    fn clean_one(&self, name: &[u8], tape: &[u8]) -> Result<(), Trouble> {
+    fn count_one(&self, input: Input) -> Result<(), Trouble> {
         let mut out = [0u8; 59137];
-        let f = self.clean(tape, &mut out)?;
-        self.deliver(name, Product::Bytes(front(&out, f.length)))
-    }
-
-    fn count_one(&self, name: &[u8], tape: &[u8]) -> Result<(), Trouble> {
-        let mut out = [0u8; 59137];
-        let f = self.clean(tape, &mut out)?;
-        self.print_name(name)?;
+        let f = input.clean(&mut out)?;
+        if self.request.form.json {
+            return print_json_counts(self.rt, input.name, f);
+        }
+        self.print_name(input.name)?;
         print_counts(self.rt, f)
     }
 
-    fn check_one(&self, name: &[u8], tape: &[u8]) -> Result<(), Trouble> {
-        let totals = tape::check::<false>(tape)?;
-        self.print_name(name)?;
-        print(self.rt, b"accepted, lines ")?;
-        print_decimal(self.rt, count_of(totals.lines))?;
-        print(self.rt, b", tokens ")?;
-        print_decimal(self.rt, count_of(totals.tokens))?;
-        print(self.rt, b", bytes of text ")?;
-        print_decimal(self.rt, count_of(totals.text))?;
-        print(self.rt, b"\n")
+    fn check_one(&self, input: Input) -> Result<(), Trouble> {
+        let Totals {
+            lines,
+            tokens,
+            text,
+            ..
+        } = tape::check::<false>(input.tape)?;
+        if self.request.form.json {
+            let rest = format!(in self.rt.alloc();
+                ",\"accepted\":true,\"lines\":{lines},\"tokens\":{tokens},\"text\":{text}"
+            );
+            return print_object(self.rt, input.name, rest);
+        }
+        self.print_name(input.name)?;
+        match format!(in self.rt.alloc();
+            "accepted, lines {lines}, tokens {tokens}, bytes of text {text}\n"
+        ) {
+            Ok(line) => print(self.rt, line.as_bytes()),
+            Err(_) => Err(no_memory(self.rt)),
+        }
     }
 
     fn edition_one(&self, name: &[u8], tape: &[u8]) -> Result<(), Trouble> {
@@ -250,7 +413,7 @@ impl Call<'_> {
     // A bare tape is shown up to the command that is wrong; nothing of it where its text has more than 262,144 bytes.
     fn show_one(&self, tape: &[u8]) -> Result<(), Trouble> {
         let mut out = [0u8; 262144];
-        let shown = put_listing(tape, self.request.goal.exact, &mut out);
+        let shown = put_listing(tape, self.request.form.exact, &mut out);
         if shown.whole {
             print(self.rt, front(&out, shown.length))?;
         }
@@ -260,66 +423,57 @@ impl Call<'_> {
         }
     }
 
-    // A tape that was made of a text; what is no tape is refused as one.
-    fn deliver_made(&self, name: &[u8], tape: &[u8]) -> Result<(), Trouble> {
-        let mut again = [0u8; 262144];
-        match put_listing(tape, true, &mut again).refusal {
-            Some(refused) => {
-                tell_name(name);
-                tell(b"the tape of this text is ");
-                tell_refusal(refused);
-                Err(Trouble::Failed)
-            }
-            None => self.deliver(name, Product::Bytes(tape)),
-        }
-    }
-
-    // The tape of a text in the exact form.
-    fn tape_one(&self, name: &[u8], text: &[u8]) -> Result<(), Trouble> {
-        if 131072 <= text.len() {
-            return Err(failed_by(name, b"the text is too long"));
-        }
-        let mut out = [0u8; 131072];
-        match put_tape(text, &mut out) {
-            Ok(length) => self.deliver_made(name, front(&out, length)),
-            Err(Unmade::Full) => Err(failed_by(name, b"the tape of this text is too long")),
-            Err(Unmade::Wrong(line)) => {
-                tell_name(name);
-                tell(b"line ");
-                io::print_decimal(files::STDERR, line);
-                tell(b", counted from 0, is not as show --exact prints it\n");
-                Err(Trouble::Failed)
-            }
-        }
-    }
-
-    fn page_one(&self, name: &[u8], tape: &[u8]) -> Result<(), Trouble> {
+    fn page_one(&self, input: Input) -> Result<(), Trouble> {
         let mut out = [0u8; 59137];
-        let told = self.clean(tape, &mut out)?;
+        let told = input.clean(&mut out)?;
         let cleaning = Cleaning {
-            rules: self.request.rules,
-            name,
-            raw: tape,
+            rules: input.rules,
+            name: input.name,
+            raw: input.tape,
             cleaned: front(&out, told.length),
             told,
         };
-        self.deliver(name, Product::Page(&cleaning))
+        self.deliver(input.name, Product::Page(&cleaning))
     }
 
-    // What is done with the bytes of a file.
-    fn work(&self, verb: Verb, name: &[u8], tape: &[u8]) -> Result<(), Trouble> {
+    // What is done with a tape, or with the text of one.
+    fn work(&self, verb: Verb, input: Input) -> Result<(), Trouble> {
+        let Input { name, tape, .. } = input;
         match verb {
-            Verb::Clean => self.clean_one(name, tape),
-            Verb::Counts => self.count_one(name, tape),
-            Verb::Check => self.check_one(name, tape),
+            Verb::Clean => self.clean_one(input),
+            Verb::Counts => self.count_one(input),
+            Verb::Check => self.check_one(input),
             Verb::Show => self.show_one(tape),
             Verb::Tape => self.tape_one(name, tape),
             Verb::Addresses => self.addresses_one(name, tape),
             Verb::Edition => self.edition_one(name, tape),
             Verb::Offsets => self.offsets_one(name, tape),
-            Verb::Page => self.page_one(name, tape),
-            Verb::Start => self.start_one(tape),
+            Verb::Page => self.page_one(input),
+            Verb::Start => self.start_one(input),
             _ => Ok(()),
+        }
+    }
+
+    // What was read as the verb takes it: with --filter-form a convention byte stands in front of the tape.
+    fn input_of<'b>(&self, name: &'b [u8], bytes: &'b [u8]) -> Result<Input<'b>, Refusal> {
+        let rules = self.request.rules;
+        if !self.request.form.filter {
+            return Ok(Input {
+                name,
+                tape: bytes,
+                rules,
+            });
+        }
+        match bytes {
+            [convention @ 0..=2, tape @ ..] => Ok(Input {
+                name,
+                tape,
+                rules: Rules {
+                    convention: *convention,
+                    ..rules
+                },
+            }),
+            _ => Err(Reason::UnknownConvention.at(0)),
         }
     }
 
@@ -327,65 +481,39 @@ impl Call<'_> {
     // more than 65,538, so a longer tape is refused at a command that ends before that, and whatever follows, the refusal is the whole
     // file's. (`show`, which does not ask the totals, shows of a longer file the front.)
     fn try_file(&self, verb: Verb, name: &[u8]) -> Result<(), Trouble> {
-        let mut input = [0u8; 131072];
-        let n = read_file(self.rt, name, &mut input)?;
-        self.work(verb, name, front(&input, n))
+        let mut buffer = [0u8; 131072];
+        let n = read_file(self.rt, name, &mut buffer)?;
+        let input = self.input_of(name, front(&buffer, n))?;
+        match self.work(verb, input) {
+            Err(Trouble::Refused(refused)) if verb != Verb::Addresses => {
+                if self.request.form.json {
+                    print_refused(self.rt, name, input.tape, refused)?;
+                }
+                Err(tell_in_tape(self.rt, name, input.tape, refused))
+            }
+            done => done,
+        }
     }
 
-    fn one_file(&self, verb: Verb, name: &[u8]) -> Outcome {
-        outcome_of(name, self.try_file(verb, name))
+    fn one_file(&self, verb: Verb, name: &[u8]) -> Fate {
+        fate_of(self.rt, name, self.try_file(verb, name))
     }
 
     // The file of a verb that takes one: the last operand, where there are more than so many; otherwise standard input.
     fn only_file(&self, verb: Verb, before: u64) -> Outcome {
-        match self.request.operands.last {
-            Some(k) if before < self.request.operands.count => {
-                self.one_file(verb, nth_word(self.words, k))
-            }
-            _ => self.one_file(verb, b"-"),
-        }
-    }
-
-    // Every operand is a file: the words are taken once more, and each that is an operand is done.
-    // Kept: what is left is carried by hand, as in `parse` of crate arguments, which says why.
-    fn each_file(&self, verb: Verb) -> Outcome {
-        let mut outcome = Outcome::Done;
-        let mut s = Request::begin();
-        let mut left = self.words;
-        for k in 0..u64::MAX {
-            let Some((word, rest)) = next_word(left) else {
-                break;
-            };
-            s = s.step(k, word);
-            if s.operands.last == Some(k) && self.one_file(verb, word) != Outcome::Done {
-                outcome = Outcome::Undone;
-            }
-            left = rest;
-        }
-        outcome
-    }
-
-    // The operand, if there is one, that has the base name of one before it: with -d both would be written to one file.
-    fn clash(&self) -> Option<u64> {
-        match self.request.goal.destination {
-            Destination::Folder(_) => arguments::clash(self.words),
-            _ => None,
-        }
+        let name = match self.request.operands.last {
+            Some(k) if before < self.request.operands.count => nth_word(self.words, k),
+            _ => b"-",
+        };
+        self.one_file(verb, name).outcome()
     }
 
     fn all_files(&self, verb: Verb) -> Outcome {
         if self.request.operands.count == 0 {
-            return self.one_file(verb, b"-");
+            self.one_file(verb, b"-").outcome()
+        } else {
+            self.each_file(verb)
         }
-        let Some(k) = self.clash() else {
-            return self.each_file(verb);
-        };
-        tell(b"puchkewa: ");
-        tell(nth_word(self.words, k));
-        tell(
-            b" has the base name of another file, and -d would write both to one; nothing was done\n",
-        );
-        Outcome::Misused
     }
 
     // ---- no file is read
@@ -395,10 +523,12 @@ impl Call<'_> {
             return Outcome::Done;
         };
         let name = b"laborious";
-        outcome_of(
+        fate_of(
+            self.rt,
             name,
             self.answered(name, |out| laborious::laborious(n, out)),
         )
+        .outcome()
     }
 
     fn help(&self) -> Outcome {
@@ -406,22 +536,20 @@ impl Call<'_> {
             Some(Value::Verb(verb)) => Some(verb),
             _ => None,
         };
-        outcome_of(b"help", help::help(self.rt, told))
+        fate_of(self.rt, b"help", help::help(self.rt, told)).outcome()
     }
 
     fn version(&self) -> Outcome {
         // Kept: the version's text, which the page of crate render has too: by one name the line's end here would be written by itself.
-        outcome_of(b"version", print(self.rt, b"puchkewa 0.15.0\n"))
+        fate_of(self.rt, b"version", print(self.rt, b"puchkewa 0.15.0\n")).outcome()
     }
 
     // ---- all verbs
 
     fn run(&self, verb: Verb) -> Outcome {
         match verb {
-            Verb::Clean | Verb::Counts | Verb::Check => self.all_files(verb),
-            Verb::Show | Verb::Tape | Verb::Addresses | Verb::Page | Verb::Start => {
-                self.only_file(verb, 0)
-            }
+            Verb::Clean | Verb::Counts | Verb::Check | Verb::Page => self.all_files(verb),
+            Verb::Show | Verb::Tape | Verb::Addresses | Verb::Start => self.only_file(verb, 0),
             Verb::Edition | Verb::Offsets => self.only_file(verb, 1),
             Verb::Laborious => self.laborious(),
             Verb::State => self.state(),
@@ -434,16 +562,25 @@ impl Call<'_> {
 fn begin(rt: &HostRuntime, words: &[u8]) -> Outcome {
     let request = arguments::parse(words);
     if request.help {
-        return outcome_of(b"help", help::help(rt, request.verb));
+        return fate_of(rt, b"help", help::help(rt, request.verb)).outcome();
     }
     if let Some(fault) = request.fault {
         help::tell_wrong(words, request.verb, fault);
         return Outcome::Misused;
     }
-    let call = Call { rt, words, request };
+    let target = target_of(words, request.goal.destination);
+    let call = Call {
+        rt,
+        words,
+        request,
+        target,
+    };
     match request.verb {
-        Some(verb) => call.run(verb),
-        None => Outcome::Misused,
+        Some(verb) if !call.is_misused(verb) => {
+            call.tell_left(verb);
+            call.run(verb)
+        }
+        _ => Outcome::Misused,
     }
 }
 
@@ -456,7 +593,10 @@ fn main(rt: HostRuntime) -> ExitCode {
                 Outcome::Misused
             }
         },
-        Err(_) => outcome_of(b"puchkewa", Err(no_memory())),
+        Err(_) => {
+            no_memory(&rt);
+            Outcome::Undone
+        }
     };
     outcome.status()
 }

@@ -1,18 +1,23 @@
 // A result, and where it goes. A file is there whole or not at all: its bytes stand under another name beside it until all are written.
 // What is no regular file (a device, a pipe) is written to as it is; one that may not be written is not replaced.
+use crate::Call;
 use crate::files::{STDOUT, Trouble, failed, path_of};
+use crate::index::put_index;
 use render::{Cleaning, Sink, put_page};
 use std::alloc::AllocError;
-use std::fs::{File, OpenOptions, remove_file, rename};
+use std::env::var;
+use std::fs::{File, OpenOptions, metadata, remove_file, rename};
 use std::io::{Error, ErrorKind, Seek, Write};
 use std::os::fd::AsRawFd;
+use std::process::id;
 use std::random::RandomSource;
 
-// The bytes of a tape, or the page of a cleaning, which is made while it is written.
+// The bytes of a tape, or the page of a cleaning or the index over pages, which are made while they are written.
 #[derive(Clone, Copy)]
 pub(crate) enum Product<'a> {
     Bytes(&'a [u8]),
     Page(&'a Cleaning<'a>),
+    Index(&'a Call<'a>),
 }
 
 // Writes a page to what is open. Where not all could be written the system says why when it is asked for one byte more.
@@ -32,6 +37,7 @@ impl Product<'_> {
         match self {
             Product::Bytes(bytes) => to.write_all(bytes),
             Product::Page(cleaning) => put_whole(cleaning, to, fd),
+            Product::Index(call) => put_index(call, to),
         }
     }
 
@@ -60,11 +66,14 @@ impl Product<'_> {
         }
     }
 
-    // A new file gets the path's name once it is whole; where it cannot, it goes.
+    // A new file gets the path's name once it is whole, with the mode of what it replaces; where it cannot, it goes.
     fn replace(&self, rt: &HostRuntime, path: &str) -> Result<(), Error> {
         let part = part_name(rt, path)?;
         let mut file = create_new(rt, part.as_str())?;
-        let written = self.put_file(&mut file);
+        let written = match keep_mode(rt, path, &file) {
+            Ok(_) => self.put_file(&mut file),
+            Err(error) => Err(error),
+        };
         drop(file);
         let named = match written {
             Ok(_) => rename(rt, part.as_str(), path),
@@ -84,14 +93,35 @@ fn chance(rt: &HostRuntime) -> u64 {
     u64::from_le_bytes(bytes)
 }
 
+// What names this run, the number of a process first: what the wrapper says, which takes away the files that a signal leaves; otherwise
+// this process and a number by chance.
+pub(crate) fn run_name(rt: &HostRuntime) -> Result<String, AllocError> {
+    match var(rt, "PUCHKEWA_RUN") {
+        Ok(name) => Ok(name),
+        Err(_) => {
+            let process = id(rt.process());
+            let number = chance(rt);
+            format!(in rt.alloc(); "{process}-{number}")
+        }
+    }
+}
+
 // The name beside a path under which its new bytes are written first.
 fn part_name(rt: &HostRuntime, path: &str) -> Result<String, AllocError> {
-    let number = chance(rt);
-    format!(in rt.alloc(); "{path}.part{number}")
+    let run = run_name(rt)?;
+    format!(in rt.alloc(); "{path}.part{run}")
+}
+
+// Gives a new file the mode of what a path names, if anything is there.
+fn keep_mode(rt: &HostRuntime, path: &str, file: &File) -> Result<(), Error> {
+    match metadata(rt, path) {
+        Ok(there) => file.set_permissions(there.permissions()),
+        Err(_) => Ok(()),
+    }
 }
 
 // A new file, which is there for nobody else.
-fn create_new(rt: &HostRuntime, path: &str) -> Result<File, Error> {
+pub(crate) fn create_new(rt: &HostRuntime, path: &str) -> Result<File, Error> {
     OpenOptions::new()
         .write(true)
         .create_new(true)

@@ -1,17 +1,90 @@
-// Named states of listings, in a file of 524,288 bytes.
+// Named states of listings, in a file of 524,288 bytes. Who changes one holds its lock: a file beside it, which one run alone can make.
+use crate::Call;
 use crate::files::{
-    Outcome, Trouble, failed, failed_by, front, no_memory, print, print_decimal, read_file,
-    read_path,
+    Outcome, Trouble, failed, failed_by, front, no_memory, path_of, print, print_decimal,
+    read_file, read_path, tell_name,
 };
-use crate::outputs::Product;
-use crate::{Call, outcome_of};
+use crate::guards::{is_gone, process_of};
+use crate::outputs::{Product, create_new, run_name};
+use crate::refusals::{fate_of, tell_explained};
 use answers::{Reason, Refusal};
 use arguments::{Action, Value};
 use render::count_of;
-use std::io::ErrorKind;
+use std::fs::{hard_link, remove_file};
+use std::io::{Error, ErrorKind, Write};
+use std::thread::sleep;
+use std::time::Duration;
 use words::word_end;
 
 const STORE: usize = 524288;
+
+// ---- the lock
+
+fn lock_name(rt: &HostRuntime, at: &[u8]) -> Result<String, Error> {
+    let path = path_of(at)?;
+    Ok(format!(in rt.alloc(); "{path}.lock")?)
+}
+
+fn write_run(rt: &HostRuntime, path: &str, run: &str) -> Result<(), Error> {
+    let mut file = create_new(rt, path)?;
+    file.write_all(run.as_bytes())?;
+    file.write_all(b"\n")
+}
+
+// Makes the lock, which says whose it is from its first moment on: what is written under another name gets the lock's name too, where
+// nothing has that.
+fn make_lock(rt: &HostRuntime, lock: &str) -> Result<(), Error> {
+    let run = run_name(rt)?;
+    let part = format!(in rt.alloc(); "{lock}.part{run}")?;
+    let made = match write_run(rt, part.as_str(), run.as_str()) {
+        Ok(_) => hard_link(rt, part.as_str(), lock),
+        Err(error) => Err(error),
+    };
+    let _ = remove_file(rt, part.as_str());
+    made
+}
+
+// Tells whose lock it is, if that run is gone or the time is over.
+fn tell_lock(rt: &HostRuntime, lock: &str, is_over: bool) -> Option<Trouble> {
+    let mut bytes = [0u8; 64];
+    let n = read_path(rt, lock.as_bytes(), &mut bytes).ok()?;
+    let process = process_of(path_of(front(&bytes, n)).ok()?.trim_end());
+    let line = if is_gone(rt, process) {
+        format!(in rt.alloc();
+            "the store is locked by a run that was ended ({process}): remove this file"
+        )
+    } else if is_over {
+        format!(in rt.alloc(); "the store is locked by process {process}")
+    } else {
+        return None;
+    };
+    Some(match line {
+        Ok(line) => failed_by(rt, lock.as_bytes(), line.as_bytes()),
+        Err(_) => no_memory(rt),
+    })
+}
+
+// Waits for a store's lock, ten seconds at most.
+fn take_lock(rt: &HostRuntime, lock: &str) -> Result<(), Trouble> {
+    for _ in 0..1000 {
+        match make_lock(rt, lock) {
+            Ok(_) => return Ok(()),
+            Err(error) if error.kind() == ErrorKind::AlreadyExists => {
+                if let Some(trouble) = tell_lock(rt, lock, false) {
+                    return Err(trouble);
+                }
+                sleep(rt, Duration::from_millis(10));
+            }
+            Err(error) => return Err(failed(rt, lock.as_bytes(), &error)),
+        }
+    }
+    Err(match tell_lock(rt, lock, true) {
+        Some(trouble) => trouble,
+        None => failed_by(rt, lock.as_bytes(), b"the store is locked"),
+    })
+}
+
+// ---- the states
 
 // The name of a state: its bytes, and zeros up to eight.
 fn name_of(word: &[u8]) -> [u8; 8] {
@@ -55,8 +128,8 @@ fn is_of_store(refused: Refusal) -> bool {
     )
 }
 
-// Kept: what is done, the path and the store are three parameters: `act_on_file` has the store read into a buffer and lends `act` the front
-// of it, so that a struct of the three would be made twice.
+// Kept: what is done, the path, the store and the tape are parameters: `act_on_file` has the store read into a buffer and lends `act` the
+// front of it, so that a struct of them would be made twice.
 impl Call<'_> {
     // A refusal of the tape is told with the tape's name, here.
     fn save_state(
@@ -64,33 +137,25 @@ impl Call<'_> {
         at: &[u8],
         store: &mut [u8],
         name: &[u8; 8],
-        file: &[u8],
+        tape: &[u8],
     ) -> Result<(), Trouble> {
-        let mut input = [0u8; 131072];
-        let n = read_file(self.rt, file, &mut input)?;
-        match states::save(store, name, front(&input, n)) {
+        match states::save(store, name, tape) {
             Ok(_) => Product::Bytes(store).write(self.rt, at),
             Err(refused) if is_of_store(refused) => Err(Trouble::Refused(refused)),
             Err(refused) => {
-                outcome_of(file, Err(Trouble::Refused(refused)));
-                Err(Trouble::Failed)
+                tell_name(self.rt, self.saved_file());
+                tell_explained(tape, refused);
+                Err(Trouble::Told)
             }
         }
     }
 
-    // Does what is asked with a store: the bytes that were read, or zeros where it is new.
-    fn act(&self, action: Action, at: &[u8], store: &mut [u8]) -> Result<(), Trouble> {
+    // Does what is asked with a store: the bytes that were read, or zeros where it is new. `tape` is what is to be saved.
+    fn act(&self, action: Action, at: &[u8], store: &mut [u8], tape: &[u8]) -> Result<(), Trouble> {
         let name = name_of(self.word(self.request.operands.third));
         match action {
             Action::List => list_states(self.rt, store),
-            Action::Save => {
-                let file = if self.request.operands.count < 4 {
-                    b"-"
-                } else {
-                    self.word(self.request.operands.last)
-                };
-                self.save_state(at, store, &name, file)
-            }
+            Action::Save => self.save_state(at, store, &name, tape),
             Action::Get => self.answered(at, |out| states::restore(store, &name, out)),
             Action::Delete => {
                 states::delete(store, &name)?;
@@ -113,11 +178,55 @@ impl Call<'_> {
     }
 
     // Reads a store and does what is asked with it, by way of a buffer with room for a byte more.
-    fn act_on_file(&self, action: Action, at: &[u8], buffer: &mut [u8]) -> Result<(), Trouble> {
+    fn act_on_file(
+        &self,
+        action: Action,
+        at: &[u8],
+        buffer: &mut [u8],
+        tape: &[u8],
+    ) -> Result<(), Trouble> {
         let n = self.read_store(action, at, buffer)?;
         match buffer.get_mut(..STORE) {
-            Some(store) if n == STORE => self.act(action, at, store),
-            _ => Err(failed_by(at, b"not a store, which has 524,288 bytes")),
+            Some(store) if n == STORE => self.act(action, at, store, tape),
+            _ => Err(failed_by(self.rt, at, b"not a store, which has 524,288 bytes")),
+        }
+    }
+
+    fn act_on(&self, action: Action, at: &[u8], tape: &[u8]) -> Result<(), Trouble> {
+        match vec![in self.rt.alloc(); 0u8; 524289] {
+            Ok(mut buffer) => self.act_on_file(action, at, &mut buffer, tape),
+            Err(_) => Err(no_memory(self.rt)),
+        }
+    }
+
+    // The file of the tape that is to be saved.
+    fn saved_file(&self) -> &[u8] {
+        if self.request.operands.count < 4 {
+            b"-"
+        } else {
+            self.word(self.request.operands.last)
+        }
+    }
+
+    // Changes a store, holding its lock.
+    fn change(&self, action: Action, at: &[u8], tape: &[u8]) -> Result<(), Trouble> {
+        let lock = lock_name(self.rt, at).map_err(|error| failed(self.rt, at, &error))?;
+        take_lock(self.rt, lock.as_str())?;
+        let done = self.act_on(action, at, tape);
+        let _ = remove_file(self.rt, lock.as_str());
+        done
+    }
+
+    // The tape that is to be saved is read before the store is locked.
+    fn try_state(&self, action: Action, at: &[u8]) -> Result<(), Trouble> {
+        let mut input = [0u8; 131072];
+        match action {
+            Action::List | Action::Get => self.act_on(action, at, b""),
+            Action::Delete => self.change(action, at, b""),
+            Action::Save => {
+                let n = read_file(self.rt, self.saved_file(), &mut input)?;
+                self.change(action, at, front(&input, n))
+            }
         }
     }
 
@@ -126,10 +235,6 @@ impl Call<'_> {
             return Outcome::Done;
         };
         let at = self.word(self.request.operands.first);
-        let done = match vec![in self.rt.alloc(); 0u8; 524289] {
-            Ok(mut buffer) => self.act_on_file(action, at, &mut buffer),
-            Err(_) => Err(no_memory()),
-        };
-        outcome_of(at, done)
+        fate_of(self.rt, at, self.try_state(action, at)).outcome()
     }
 }

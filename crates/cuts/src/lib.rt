@@ -11,8 +11,8 @@ ghost use Rattle.life.specs.Labels.{Labelled, labels_of};
 ghost use Rattle.cuts.specs.Cuts.{keeps_result};
 ghost use Rattle.cuts.specs.Texts.{Cuttable, labels_now, Dropped, Cut};
 
-use life::{Followed, LabelledListing, dead_after, gather_labels};
 use ground::rules::Rules;
+use life::{Followed, LabelledListing, dead_after, gather_labels};
 use lines::texts::{Listing, Texts};
 use lines::{shapes, words};
 use names::RAX;

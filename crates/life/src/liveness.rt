@@ -8,8 +8,8 @@ ghost use Rattle.lines.specs.Texts.{Known, Lined, Listed, bare_in, bare_listing,
 
 use crate::touches;
 use crate::touches::Touched;
-use lines::fams::Fam;
 use ground::rules::Rules;
+use lines::fams::Fam;
 use lines::texts::Listing;
 use lines::words;
 

@@ -7,8 +7,8 @@ ghost use Rattle.lines.specs.Shapes.{Expression};
 ghost use Rattle.life.specs.Touches.{touched, kills_by};
 ghost use Rattle.lines.specs.Texts.{Holds, Known, fam_text, tokens_of};
 
-use lines::fams::Fam;
 use ground::rules::Rules;
+use lines::fams::Fam;
 use lines::shapes::Expr;
 use lines::texts::Texts;
 use lines::{fams, shapes};

@@ -28,7 +28,7 @@ pub struct Cleaning<'a> {
 // reason stays.
 fn put_all(out: Output, cleaning: &Cleaning) -> Result<(), Unwritten> {
     let mut places = [None; 256];
-    frame::put_head(out, cleaning.name)?;
+    frame::put_head(out, cleaning)?;
     rows::put_rows(out, cleaning, &mut places)?;
     frame::put_middle(out)?;
     sheet::put_sheet(out, cleaning, &places)?;

@@ -83,8 +83,8 @@ fn put_tokens_by(out: Output, tokens: &[u8], cells: &mut [u8]) -> Result<(), Unw
     put(out, cells.get(..n).unwrap_or_default())
 }
 
-// The tokens of a line in their cells. What stands from them on in an accepted or a cleaned tape has at most 59,137 bytes, and cells at most
-// twelve times so many.
+// The tokens of a line in their cells. What stands from them on in an accepted or a cleaned tape has at most 59,137 bytes, and cells at
+// most twelve times so many.
 fn put_tokens(out: Output, line: Line) -> Result<(), Unwritten> {
     let mut cells = [0u8; 709644];
     put_tokens_by(out, line.as_bytes(), &mut cells)

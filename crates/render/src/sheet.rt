@@ -99,7 +99,7 @@ fn put_names(out: Output, cleaning: &Cleaning) -> Result<(), Unwritten> {
 fn put_calls(out: Output, cleaning: &Cleaning) -> Result<(), Unwritten> {
     put(
         out,
-        b"<div><h3>Calls <code>calls-stay</code></h3><table class=q><thead><tr><th></th><th>callee</th><th>before</th><th>after</th></tr><\
+        b"<div><h3>Calls <code>calls_stay</code></h3><table class=q><thead><tr><th></th><th>callee</th><th>before</th><th>after</th></tr><\
           /thead><tbody \
           id=calls>\n",
     )?;
@@ -133,7 +133,7 @@ fn put_label_rows(
 fn put_labels(out: Output, cleaning: &Cleaning, places: &[Option<usize>]) -> Result<(), Unwritten> {
     put(
         out,
-        b"<div><h3>Labels <code>labels-stand</code></h3><table class=q><thead><tr><th>stands</th><th>label</th><th>raw \
+        b"<div><h3>Labels <code>labels_stand</code></h3><table class=q><thead><tr><th>stands</th><th>label</th><th>raw \
           line</th><th>cleaned \
           line</th></tr></thead><tbody id=labels>\n",
     )?;
@@ -347,9 +347,9 @@ fn put_guarantee(
 ) -> Result<(), Unwritten> {
     put(
         out,
-        b"<h3>What each tick stands for</h3><table class=\"q g\"><thead><tr><th></th><th>the guarantee, of every accepted listing, over \
-          every step of its \
-          cleaning</th><th>here</th></tr></thead><tbody id=guarantee>\n",
+        b"<h3>What each tick stands for</h3><p class=z>The sentences are theorems that a machine has checked, for all inputs; the numbers \
+          were counted from the two tapes of this page.</p><table class=\"q g\"><thead><tr><th></th><th>the guarantee, of every accepted \
+          listing, over every step of its cleaning</th><th>here</th></tr></thead><tbody id=guarantee>\n",
     )?;
     put_calls_row(out, cleaning)?;
     put_labels_row(
@@ -408,13 +408,5 @@ pub(crate) fn put_sheet(
     put_settings(out, cleaning.rules)?;
     put(out, b"</div>\n")?;
     put_guarantee(out, cleaning, before, after, places)?;
-    put(
-        out,
-        b"<p class=z>The sentences are theorems that a machine has checked, for all inputs; the numbers were counted from the two tapes \
-          of this page. What no \
-          tick says: a cleaned listing need not mean the same as the original. Stores to stack slots and to argument registers may go \
-          with their lines; the \
-          known differences are in Puchkewa's docs/DIFFERENCES.md. Where a decision hangs on a value, look at the \
-          instructions.</p></section>\n",
-    )
+    put(out, b"</section>\n")
 }

@@ -52,6 +52,18 @@ pub(crate) fn put_hex(out: Output, n: u64) -> Result<(), Unwritten> {
 
 // ---- texts: they reach the page only here and as the tokens of a line (rows.rt), escaped
 
+// A text outside of any cell: a file's name, which has at most 4,096 bytes with its path.
+pub(crate) fn put_escaped(out: Output, text: &[u8]) -> Result<(), Unwritten> {
+    let mut bytes = [0u8; 24576];
+    if 4096 < text.len() {
+        return Ok(());
+    }
+    let mut escaped = Cursor::new(&mut bytes, 0);
+    page::put_escaped(text, &mut escaped);
+    let n = escaped.at;
+    put(out, bytes.get(..n).unwrap_or_default())
+}
+
 // A text in its cell. A text of a tape has at most 65,535 bytes, and so has a file's name.
 pub(crate) fn put_text(out: Output, kind: u64, text: &[u8]) -> Result<(), Unwritten> {
     let mut cells = [0u8; 458780];

@@ -75,5 +75,15 @@ escape b = 92 ∷ 120 ∷ digit_byte (b / 16) ∷ digit_byte (b % 16) ∷ []
 abbrev pub visible_byte : ℕ → Text
 visible_byte b = if ltb b 32 || ltb 126 b || eqb b 92 then escape b else b ∷ []
 
+-- a byte in a text of JSON
+abbrev pub quoted_byte : ℕ → Text
+quoted_byte b =
+    if eqb b 34 || eqb b 92 then 92 ∷ b ∷ []
+    else if ltb b 32 || ltb 126 b then 92 ∷ 117 ∷ 48 ∷ 48 ∷ digit_byte (b / 16) ∷ digit_byte (b % 16) ∷ []
+    else b ∷ []
+
+unfoldable pub quoted : Text → Text
+quoted t = flat_map quoted_byte t
+
 unfoldable pub visible : Text → Text
 visible t = flat_map visible_byte t

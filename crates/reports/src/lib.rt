@@ -3,19 +3,29 @@
 // line too (`Written`), of which a slice of the buffer as the answer would say nothing.
 #![tactic(auto, using(crate::proofs::Putting::lengths, text::proofs::Cursors::room_left, text::proofs::Cursors::then_puts))]
 
-ghost use Rattle.std.specs.Prelude.{◌≡◌, [], ◌++◌, ◌+◌, ◌*◌, ◌≤◌, length};
+mod explained; // the line of a refusal of a tape
+mod profile; // what breaks the profile, and what is no register
+mod places; // where in a listing an offset is
+mod why; // the words for one reason
+
+ghost use Rattle.std.specs.Prelude.{◌≡◌, [], ◌∷◌, ◌++◌, ◌+◌, ◌*◌, ◌/◌, ◌%◌, ◌≤◌, length};
 ghost use Rattle.text.specs.Cursor.{Fits, Puts, Written};
 ghost use Rattle.numbers.specs.Writing.{hexadecimal};
 ghost use Rattle.rounds.specs.Runs.{tally_of};
 ghost use Rattle.printing.specs.Decimals.{decimal};
 ghost use Rattle.answers.specs.Refusals.{number_of};
 ghost use Rattle.reports.specs.Reports.{meaning, refusal, three, settled, tallied, counts, started, escape, visible_byte, visible};
+ghost use Rattle.reference.specs.Numbers.{digit_byte};
+ghost use Rattle.reports.specs.Reports.{quoted_byte, quoted};
 
 use answers::{Reason, Refusal};
+pub use explained::put_explained;
 use numbers::{last_digit, put_digits};
 use printing::put_decimal;
+pub use profile::{Piece, broken, is_register, put_no_register};
 use rounds::Tally;
 use text::Cursor;
+pub use why::words;
 
 // What each reason means.
 #[tactic(auto, unfolding(crate::specs::Reports::meaning, crate::specs::Reports::meanings))]
@@ -221,4 +231,37 @@ pub fn put_visible(name: &[u8], out: &mut [u8]) -> usize
         put_visible_byte(*b, &mut shown);
     }
     shown.at
+}
+
+// Puts a byte as \u00HH.
+fn put_unicode(b: u8, out: &mut Cursor)
+    requires { Fits out.old 6 }
+    ensures { Puts out.old (92 ∷ 117 ∷ 48 ∷ 48 ∷ digit_byte (b / 16) ∷ digit_byte (b % 16) ∷ []) out.new }
+{
+    let v = u64::from(b);
+    out.put(&[b'\\', b'u', b'0', b'0', last_digit(v / 16), last_digit(v)]);
+}
+
+// Puts a byte as a text of JSON has it.
+fn put_quoted_byte(b: u8, out: &mut Cursor)
+    requires { Fits out.old 6 }
+    ensures { Puts out.old (quoted_byte b) out.new }
+{
+    match b {
+        b'"' | b'\\' => out.put(&[b'\\', b]),
+        0..=31 | 127..=255 => put_unicode(b, out),
+        _ => out.put_byte(b),
+    }
+}
+
+// Puts a text as it stands between the quotes of JSON at the front, and says how long that is.
+pub fn put_quoted(text: &[u8], out: &mut [u8]) -> usize
+    requires { 6 * length text.now ≤ length out.old }
+    ensures { Written out.old 0 (quoted text.now) out.new result }
+{
+    let mut page = Cursor::new(out, 0);
+    for b in text {
+        put_quoted_byte(*b, &mut page);
+    }
+    page.at
 }

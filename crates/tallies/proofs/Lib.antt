@@ -6,4 +6,5 @@ pub mod Holding
 pub mod Sizing
 pub mod Callees
 pub mod Fating
+pub mod Following
 pub mod Ticking

@@ -7,8 +7,8 @@ ghost use Rattle.std.specs.Prelude.{◌≤◌, ◌<◌, length};
 
 use answers::{Answer, Refusal};
 use clean::Told;
-use laborious::laborious;
 use ground::rules::Rules;
+use laborious::laborious;
 use replays::{MARK, STDOUT, sum};
 
 const OUT: usize = 59200;

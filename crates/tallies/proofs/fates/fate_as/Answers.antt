@@ -19,9 +19,10 @@ returns-then-not-begins_result c =
 pub returns-else-begins_result : goal.returns-else-begins_result
 returns-else-begins_result c =
     let e = sym c.same_line.ensures ∙ c.if-same_line.false in
+    let l = line_shown c.args.raw in
+    let m = line_shown c.args.finished in
     elim c.else-begins_result.branch [
       | else-begins_result-via-then-begins_result+else-not-begins_result w ↦
-          fate_still (line_shown c.args.raw) (line_shown c.args.finished) e (sym c.begins_result.ensures ∙ w.if-begins_result.true)
-          (sym w.begins_result-then-begins_result.ensures ∙ w.if-not-begins_result.false)
-      | else-begins_result-via-else-begins_result w ↦ fate_other (line_shown c.args.raw) (line_shown c.args.finished) e (sym c.begins_result.ensures ∙ w.if-begins_result.false)
+          fate_still l m e (sym c.begins_result.ensures ∙ w.if-begins_result.true) (sym w.begins_result-then-begins_result.ensures ∙ w.if-not-begins_result.false)
+      | else-begins_result-via-else-begins_result w ↦ fate_other l m e (sym c.begins_result.ensures ∙ w.if-begins_result.false)
     ]
