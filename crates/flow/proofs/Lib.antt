@@ -1,0 +1,13 @@
+-- Laws of the scans.
+pub mod Changes
+pub mod Framing
+pub mod Strange
+pub mod Unmatched
+pub mod Walking
+pub mod Nexts
+pub mod Tables
+pub mod Named
+pub mod Matching
+pub mod Touched
+pub mod Classes
+pub mod Spelled

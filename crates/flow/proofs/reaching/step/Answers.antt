@@ -1,0 +1,21 @@
+-- `flow::reaching::step` meets its contract. Assumes nothing.
+use borrow.Author.Rules.{rules}
+use native.Mathlib.Omega.{arith}
+use Rattle.lines.specs.Texts.{bare_listing, fam_text}
+use Rattle.reference.specs.Rules.{volatile}
+use Rattle.ground.specs.Rules.{rules_of}
+use Rattle.flow.proofs.Tables.{lines_long}
+use Rattle.flow.proofs.Walking.{step_unseen, step_stopped, step_on}
+use Rattle.flow.proofs.reaching.step.Goals as goal
+
+pub returns-then-stops_at : goal.returns-then-stops_at
+returns-then-stops_at c = let g = c.args.g.now in
+    step_stopped (bare_listing g.listing) c.args.i (fam_text g.listing.texts c.args.f) (volatile (rules_of c.args.rules)) c.args.k _ c.stops_at.ensures c.if-stops_at.true
+
+pub returns-then-not-is_reached : goal.returns-then-not-is_reached
+returns-then-not-is_reached c = let g = c.args.g.now in
+    step_unseen (bare_listing g.listing) c.args.i (fam_text g.listing.texts c.args.f) (volatile (rules_of c.args.rules)) c.args.k _ (search rules)
+
+pub returns : goal.returns
+returns c = let g = c.args.g.now in
+    step_on (bare_listing g.listing) c.args.i (fam_text g.listing.texts c.args.f) (volatile (rules_of c.args.rules)) c.args.k (omega (arith, lines_long g, c.requires.1)) c.args.seen.now c.if-not-is_reached.false c.stops_at.ensures c.if-stops_at.false c.mark_next.ensures
