@@ -24,7 +24,7 @@ use Rattle.lines.specs.Words.{kind_of, text_of, token_of, tokens_of}
 use Rattle.lines.proofs.shapes.Tests.{is_it, is_not}
 use Rattle.flow.specs.declared.lineforms.Form.{Form}
 use Rattle.flow.specs.declared.lineforms.Form.TheVariants.{Empty, Statement, Label, Opening, Block, Guarded, Do, Goto, IfGoto, Return, IfReturn, While, Closing, If, ElseIf, Else, Switch, Other}
-use Rattle.flow.specs.Forms.{CASES, CONTROL}
+use Rattle.cautions.specs.Forms.{CASES, CONTROL}
 use Rattle.flow.specs.LineForms.{text_of_form, is_other, KNOWN, Classed, steering, has_entry, is_entering}
 
 -- ---- forms

@@ -4,6 +4,7 @@ pub mod Framing
 pub mod Strange
 pub mod Unmatched
 pub mod Walking
+pub mod Spreading
 pub mod Nexts
 pub mod Tables
 pub mod Named

@@ -21,7 +21,8 @@ use Rattle.lines.specs.Words.{kind_of, text_of, token_of, tokens_of}
 use Rattle.lines.proofs.shapes.Tests.{is_it, is_not}
 use Rattle.flow.specs.declared.spelling.Spelling.{Spelling}
 use Rattle.flow.specs.Spelling.{spelled, Short, Spells, unmatched, in_front, joined}
-use Rattle.flow.specs.Forms.{CONTROL, SIGNS, word_of, signs_of, token_signs, has_colon}
+use Rattle.flow.specs.Forms.{SIGNS, word_of, signs_of, token_signs, has_colon}
+use Rattle.cautions.specs.Forms.{CONTROL}
 
 -- ---- how much was read
 

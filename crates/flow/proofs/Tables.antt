@@ -4,11 +4,17 @@ use native.Mathlib.Omega.{arith}
 use mathlib.Core.Path.{◌≡◌, refl, sym, ap, ◌∙◌}
 use mathlib.Core.Bool.{Bool, true, false, false≢true}
 use mathlib.Core.List.{List, [], ◌∷◌, ◌++◌, map, reverse}
-use lib.ListN.{length, get_or, take, drop, length-map, length-drop}
+use lib.Dec.{eqb}
+use lib.ListN.{length, get_or, set, take, drop, length-map, length-drop, length-set}
+use lib.Seq.{get_or-set_same, get_or-set_other}
+use borrow.Author.Tests.{eq-eqb}
+use Rattle.std.proofs.Common.{eqb-true}
+use Rattle.laws.proofs.Scans.{by_test}
 use Rattle.reference.specs.Control.{◌and◌, ◌or◌, when◌then◌else◌}
 use Rattle.reference.specs.Text.{Text, bytes, ◌≟◌, has}
 use Rattle.reference.specs.Listing.{Line, Listing, ◌at◌}
 use Rattle.cautions.specs.Forms.{form}
+use Rattle.lines.specs.declared.texts.Listing as held
 use Rattle.lines.specs.Texts.{bare_in, bare_listing, tokens_of}
 use Rattle.lines.specs.Lines.{part_of}
 use Rattle.lines.proofs.words.Lines.{bare_at}
@@ -16,7 +22,7 @@ use Rattle.flow.specs.declared.lineforms.Form.{Form}
 use Rattle.flow.specs.declared.lineforms.Form.TheVariants.{Empty, Statement, Label, Opening, Block, Guarded, Do, Goto, IfGoto, Return, IfReturn, While, Closing, If, ElseIf, Else, Switch, Other}
 use Rattle.flow.specs.declared.lineforms.LineForm.{LineForm}
 use Rattle.flow.specs.declared.ways.FormedListing.{FormedListing}
-use Rattle.flow.specs.LineForms.{text_of_form, is_other, KNOWN, Classed}
+use Rattle.flow.specs.LineForms.{text_of_form, is_other, KNOWN, Classed, Formed}
 use Rattle.flow.specs.Blocks.{no_form, closer_by, opener_by, FewBraces}
 use Rattle.flow.specs.Spelling.{unmatched}
 use Rattle.flow.specs.Ways.{Tabled, forms_of}
@@ -130,7 +136,7 @@ pub table_form : (g : FormedListing) (k : ℕ) → Tabled g → k < length g.lis
     → Classed (get_or (forms_of (bare_listing g.listing)) k []) (get_or g.forms.now k no_form).form
 table_form g k t h =
     let e = at_form (bare_listing g.listing) k (omega (arith, lines_long g)) in
-    rw e (t.each k h).form_is
+    rw e (t.table.each k h).form_is
 
 -- lists that agree at every place
 agree : (rs : List LineForm) (ls : Listing) → length rs ≡ length ls
@@ -142,12 +148,12 @@ agree (r ∷ rs) (l ∷ ls) e h = rw (h 0 (omega arith), agree rs ls (omega arit
 
 pub table_braces : (g : FormedListing) → Tabled g → map braces_of g.forms.now ≡ map unmatched (forms_of (bare_listing g.listing))
 table_braces g t =
-    agree g.forms.now (bare_listing g.listing) (omega (arith, t.long, lines_long g)) (λ k h. (t.each k (omega (arith, lines_long g))).braces)
+    agree g.forms.now (bare_listing g.listing) (omega (arith, t.table.long, lines_long g)) (λ k h. (t.table.each k (omega (arith, lines_long g))).braces)
 
 -- ---- closers and openers
 
 pub table_few : (g : FormedListing) → Tabled g → FewBraces g.forms.now
-table_few g t k h = (t.each k (omega (arith, t.long))).few
+table_few g t k h = (t.table.each k (omega (arith, t.table.long))).few
 
 map_reverse : (f : LineForm → ℕ × ℕ) (rs : List LineForm) → map f (reverse rs) ≡ reverse (map f rs)
 map_reverse f [] = refl
@@ -189,6 +195,29 @@ opener_inside g k h e {c} f =
     let q = opener_below (reverse (take k g.forms.now)) 0 (sym p) in
     omega (arith, q, length-reverse (take k g.forms.now), length-take k g.forms.now)
 
-pub table_tokens : (g : FormedListing) (k : ℕ) → k < length g.listing.lines.now → tokens_of g.listing.texts (part_of g.listing.tokens.now (get_or g.listing.lines.now k 0)) ≡ (bare_listing g.listing at k).tokens
-table_tokens g k h =
-    ap (λ (l : Line). l.tokens) (sym (bare_at g.listing.texts.tape.now g.listing.texts.area.now g.listing.tokens.now [] g.listing.lines.now k h))
+pub listed_tokens : (h : held.Listing) (k : ℕ) → k < length h.lines.now
+    → tokens_of h.texts (part_of h.tokens.now (get_or h.lines.now k 0)) ≡ (bare_listing h at k).tokens
+listed_tokens h k b = ap (λ (l : Line). l.tokens) (sym (bare_at h.texts.tape.now h.texts.area.now h.tokens.now [] h.lines.now k b))
+
+pub table_tokens : (g : FormedListing) (k : ℕ) → k < length g.listing.lines.now
+    → tokens_of g.listing.texts (part_of g.listing.tokens.now (get_or g.listing.lines.now k 0)) ≡ (bare_listing g.listing at k).tokens
+table_tokens g k h = listed_tokens g.listing k h
+
+-- ---- filled line by line
+
+module _ (h : held.Listing) where
+  -- the table as far as the first n lines
+  abbrev pub FilledTo : ℕ → List LineForm → Type 0
+  FilledTo n forms =
+      (length forms ≡ length h.lines.now) × ((j : ℕ) → j < n → Formed (bare_listing h at j).tokens (get_or forms j no_form))
+
+  pub filled_more : (n : ℕ) (forms : List LineForm) (r : LineForm) → n < length h.lines.now → FilledTo n forms
+      → Formed (bare_listing h at n).tokens r → FilledTo (n + 1) (set forms n r)
+  filled_more n forms r b f e = (
+    length-set forms n r ∙ f.0,
+    λ j i.
+        by_test (eqb j n)
+        (λ q. rw (eqb-true j n q, get_or-set_same forms n r no_form (omega (arith, f.0))) e)
+        (λ q. let other : j ≡ n → ⊥ = λ p. false≢true (sym q ∙ eq-eqb j n p) in
+        rw (get_or-set_other forms n j r no_form other) (f.1 j (omega (arith, other)))),
+  )

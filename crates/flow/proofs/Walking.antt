@@ -87,7 +87,7 @@ cases_more ls m c s h e i =
 
 -- ---- dark lines
 
-ways_at : (ls : Listing) (k : ℕ) → k < length ls → get_or (ways ls) k none ≡ next ls (forms_of ls) k
+pub ways_at : (ls : Listing) (k : ℕ) → k < length ls → get_or (ways ls) k none ≡ next ls (forms_of ls) k
 unfolding ways
 ways_at ls k h = get_or-map (next ls (forms_of ls)) (places ls) k 0 none (omega (arith, places_long ls)) ∙ ap (next ls (forms_of ls)) (place_at ls k h)
 

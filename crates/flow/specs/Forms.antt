@@ -1,16 +1,9 @@
--- A token's part of a form. The lists are those of the definitions, which do not hand out their names. Assumes nothing.
-use Rattle.std.specs.Prelude.{Bool, List, [], ◌∷◌, filter}
+-- A token's part of a form. Assumes nothing.
+use Rattle.std.specs.Prelude.{Bool, [], filter}
 use Rattle.reference.specs.Control.{◌and◌, when◌then◌else◌}
 use Rattle.reference.specs.Text.{Text, bytes, has, contains}
 use Rattle.reference.specs.Listing.{Token, is, Keyword, Punct}
-
-abbrev pub CASES : List Text
-CASES = bytes "case" ∷ bytes "default" ∷ []
-
-abbrev pub CONTROL : List Text
-CONTROL =
-    bytes "if" ∷ bytes "else" ∷ bytes "do" ∷ bytes "while" ∷ bytes "for" ∷ bytes "goto" ∷ bytes "return" ∷ bytes "break"
-    ∷ bytes "continue" ∷ bytes "switch" ∷ []
+use Rattle.cautions.specs.Forms.{CONTROL}
 
 abbrev pub SIGNS : Text
 SIGNS = bytes "{};?"

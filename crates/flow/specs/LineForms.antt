@@ -5,11 +5,11 @@ use Rattle.reference.specs.Control.{◌and◌, ◌or◌, when◌then◌else◌}
 use Rattle.reference.specs.Text.{Text, bytes, has, contains}
 use Rattle.reference.specs.Listing.{Token, is, Keyword, Punct}
 use Rattle.cautions.specs.Texts.{is_opaque}
-use Rattle.cautions.specs.Forms.{form, is_case, is_entered}
+use Rattle.cautions.specs.Forms.{CASES, WORDS, form, is_case, is_entered}
 use Rattle.flow.specs.declared.lineforms.Form.{Form}
-use Rattle.flow.specs.declared.lineforms.Form.TheVariants.{Empty, Statement, Label, Opening, Block, Guarded, Do, Goto, IfGoto, Return, IfReturn, While, Closing, If, ElseIf, Else, Switch, Other}
+use Rattle.flow.specs.declared.lineforms.Form.TheVariants.{Empty, Statement, Label, Opening, Block, Guarded, Do, Goto, IfGoto, Return}
+use Rattle.flow.specs.declared.lineforms.Form.TheVariants.{IfReturn, While, Closing, If, ElseIf, Else, Switch, Other}
 use Rattle.flow.specs.declared.lineforms.LineForm.{LineForm}
-use Rattle.flow.specs.Forms.{CASES, CONTROL}
 use Rattle.flow.specs.Spelling.{unmatched}
 
 -- the text of a form; `Other` has none
@@ -66,7 +66,7 @@ pub record Classed (s : Text) (f : Form) : Type 0 where
 
 -- what a token says of whether its line is a case
 unfoldable pub steering : Token → Option Bool
-steering t = when is Keyword t and has (CASES ++ CONTROL) t.text then some (has CASES t.text) else none
+steering t = when is Keyword t and has WORDS t.text then some (has CASES t.text) else none
 
 unfoldable pub has_entry : Text → Bool
 has_entry s = contains s 58 or contains s 125

@@ -7,7 +7,8 @@ use Rattle.reference.specs.Listing.{Token}
 use Rattle.reference.specs.Shapes.{call_in}
 use Rattle.reference.specs.Life.{kills}
 use Rattle.flow.specs.declared.lineforms.Form.{Form}
-use Rattle.flow.specs.declared.lineforms.Form.TheVariants.{Empty, Statement, Label, Opening, Block, Guarded, Do, Goto, IfGoto, Return, IfReturn, While, Closing, If, ElseIf, Else, Switch, Other}
+use Rattle.flow.specs.declared.lineforms.Form.TheVariants.{Empty, Statement, Label, Opening, Block, Guarded, Do, Goto, IfGoto, Return}
+use Rattle.flow.specs.declared.lineforms.Form.TheVariants.{IfReturn, While, Closing, If, ElseIf, Else, Switch, Other}
 
 -- it overwrites the family, itself or by a call, whether or not a condition stands in front
 unfoldable pub overwrites : Text → List Text → List Token → Bool

@@ -1,5 +1,6 @@
 -- A listing with its table; jumps, and the lines that may come next, as the code answers them. Assumes nothing.
-use Rattle.std.specs.Prelude.{ℕ, suc, pred, ◌≤◌, ◌<◌, ◌≡◌, Bool, true, false, List, [], ◌∷◌, ◌++◌, map, length, get_or, filter}
+use Rattle.std.specs.Prelude.{ℕ, suc, pred, ◌≤◌, ◌<◌, ◌≡◌, Bool, true, false, List, [], ◌∷◌, ◌++◌, map, length, get_or}
+use Rattle.std.specs.Prelude.{filter}
 use Rattle.std.proofs.Math.Option.{Option, none, some}
 use Rattle.std.proofs.Math.Seq.{slice}
 use Rattle.reference.specs.Control.{◌and◌, when◌then◌else◌, let_some◌else◌then◌}
@@ -10,10 +11,12 @@ use Rattle.reference.specs.Shapes.{is_kw, is_label}
 use Rattle.reference.specs.Join.{text_or_empty}
 use Rattle.reference.specs.Life.{goto_target}
 use Rattle.reference.specs.Run.{labels_from}
-use Rattle.cautions.specs.Forms.{form, is_case, places, opener, opened_by, closer, next_in, returns_to}
+use Rattle.cautions.specs.Forms.{BLOCKS, form, is_case, places, opener, opened_by, closer, next_in, returns_to}
 use Rattle.lines.specs.Texts.{Listed, bare_listing}
+use Rattle.lines.specs.declared.texts.Listing as held
 use Rattle.flow.specs.LineForms.{Formed}
 use Rattle.flow.specs.Blocks.{no_form}
+use Rattle.flow.specs.declared.lineforms.LineForm.{LineForm}
 use Rattle.flow.specs.declared.ways.FormedListing.{FormedListing}
 use Rattle.flow.specs.declared.ways.Next.{Next}
 use Rattle.flow.specs.declared.ways.Next.TheVariants.{Unknown, Nowhere, One, Two, Three, Cases}
@@ -21,12 +24,16 @@ use Rattle.flow.specs.declared.ways.Next.TheVariants.{Unknown, Nowhere, One, Two
 abbrev pub forms_of : Listing → List Text
 forms_of lines = map (λ l. form l.tokens) lines
 
--- the listing can be read, and the table has what is asked of each of its lines
+-- the table has what is asked of each line of the listing
+pub record FormsOf (h : held.Listing) (forms : List LineForm) : Type 0 where
+  pub long : length forms ≡ length h.lines.now
+  pub each : (k : ℕ) → k < length h.lines.now → Formed (bare_listing h at k).tokens (get_or forms k no_form)
+
+-- the listing can be read, and the table is its own
 pub record Tabled (g : FormedListing) : Type 0 where
   pub listed : Listed g.listing
-  pub long : length g.forms.now ≡ length g.listing.lines.now
   pub short : length g.listing.lines.now ≤ 256
-  pub each : (k : ℕ) → k < length g.listing.lines.now → Formed (bare_listing g.listing at k).tokens (get_or g.forms.now k no_form)
+  pub table : FormsOf g.listing g.forms.now
 
 -- a label line with this name
 unfoldable pub is_named : Text → Line → Bool
@@ -69,4 +76,4 @@ module _ (lines : Listing) (k : ℕ) where
       when get_or (forms_of lines) d [] ≟ bytes "do{" then some (suc k ∷ d ∷ []) else none
 
   abbrev pub closing_next : Option (List ℕ)
-  closing_next = when opened_by lines (forms_of lines) (map bytes ("{" ∷ "if{" ∷ "switch{" ∷ "else}{" ∷ "elseif}{" ∷ [])) k then some (suc k ∷ []) else none
+  closing_next = when opened_by lines (forms_of lines) BLOCKS k then some (suc k ∷ []) else none

@@ -4,8 +4,8 @@
 ghost use Rattle.std.specs.Prelude.{ℕ, ◌≡◌, ◌+◌, ◌*◌, ◌≤◌, ◌<◌, ◌∷◌, ◌++◌, [], length};
 ghost use Rattle.reference.specs.Lists.{any};
 ghost use Rattle.reference.specs.Text.{Text, bytes, has, contains};
-ghost use Rattle.cautions.specs.Forms.{words_in, signs_in, form, is_case, is_entered};
-ghost use Rattle.flow.specs.Forms.{CASES, CONTROL, SIGNS, word_of, signs_of, token_signs, has_colon};
+ghost use Rattle.cautions.specs.Forms.{CASES, CONTROL, words_in, signs_in, form};
+ghost use Rattle.flow.specs.Forms.{SIGNS, word_of, signs_of, token_signs, has_colon};
 ghost use Rattle.flow.specs.Spelling.{spelled, Short, Spells};
 ghost use Rattle.lines.specs.Texts.{Holds, Points, token_of, tokens_of};
 

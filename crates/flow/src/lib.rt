@@ -7,6 +7,7 @@ mod lineforms; // what a walk asks of one line
 mod frames; // brackets, and what stands outside them
 mod marks; // changes in a text, byte by byte
 mod opaque; // lines that are not looked into
+mod gathering; // what is asked of each line, in a table
 mod blocks; // the lines that close and open a block
 mod ways; // the lines that may come next
 mod reaching; // how far a value goes
@@ -14,9 +15,10 @@ mod values; // what a line does to a value
 mod spelling; // what is kept of a form as it is put together
 
 pub use frames::{Frame, frame_of, frame_of_expr, is_loose, is_loose_expr};
+pub use gathering::{NO_FORM, form_at, gather_forms};
 pub use lineforms::{Form, LineForm, line_form};
 pub use marks::{Marking, marks_of};
 pub use opaque::{holds, is_opaque};
-pub use reaching::{count_set, is_dark, is_known, mark_next, reached, sweep};
+pub use reaching::{count_set, is_dark, is_known, is_stale, mark_next, reached, sweep};
 pub use values::{ends, is_guarded, reads};
 pub use ways::{FormedListing, Next, next_of};

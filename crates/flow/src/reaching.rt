@@ -6,7 +6,7 @@ ghost use Rattle.reference.specs.Lists.{count, is_some};
 ghost use Rattle.reference.specs.Rules.{volatile};
 ghost use Rattle.cautions.specs.Forms.{places, next, ways, is_dark, reach, sweep};
 ghost use Rattle.flow.specs.Ways.{Tabled, forms_of};
-ghost use Rattle.flow.specs.Reaching.{is_one, cases_in, after, stops_at, onward_of, stepped, reached_table};
+ghost use Rattle.flow.specs.Reaching.{is_one, cases_in, after, is_stale, stops_at, onward_of, stepped, reached_table};
 ghost use Rattle.ground.specs.Rules.{rules_of};
 ghost use Rattle.lines.specs.Texts.{Known, bare_listing, fam_text};
 
@@ -99,6 +99,19 @@ pub fn is_dark(g: &FormedListing<'_>, k: usize) -> bool
         return true;
     }
     g.forms[k].is_opaque
+}
+
+// Whether line k is looked into and reads the family: where the value that it finds is an older one, it reads that.
+#[tactic(auto, using(laws::proofs::Scans::tests), unfolding(crate::specs::Reaching::is_stale))]
+pub fn is_stale(g: &FormedListing<'_>, k: usize, f: Fam, rules: Rules) -> bool
+    requires { Tabled g.now × (k < length g.now.listing.lines.now) × Known g.now.listing.texts f }
+    ensures { result ≡ is_stale (bare_listing g.now.listing) (fam_text g.now.listing.texts f) k }
+{
+    if is_dark(g, k) {
+        return false;
+    }
+    let line = words::line_of(g.listing.tokens, g.listing.lines[k]);
+    values::reads(&g.listing.texts, line, f, rules)
 }
 
 // Whether the value of line i goes no further than line k.

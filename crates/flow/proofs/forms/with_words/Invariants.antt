@@ -3,7 +3,7 @@ use Rattle.std.proofs.Common.{ℕ, ◌≡◌, ◌+◌, ◌*◌, ◌++◌, drop}
 use Rattle.reference.specs.Text.{Text}
 use Rattle.cautions.specs.Forms.{words_in}
 use Rattle.lines.specs.Texts.{tokens_of}
-use Rattle.flow.specs.Forms.{CONTROL}
+use Rattle.cautions.specs.Forms.{CONTROL}
 use Rattle.flow.specs.Spelling.{spelled, Short}
 use Rattle.flow.proofs.forms.with_words.Given as goal
 

@@ -12,4 +12,4 @@ returns-then-not-is_known c = let g = c.args.g.now in
 
 pub returns : goal.returns
 returns c = let g = c.args.g.now in
-    dark_known (bare_listing g.listing) c.args.k (omega (arith, lines_long g, c.requires.1)) c.is_known.ensures (search rules) (c.requires.0.each c.args.k c.requires.1).opaque_is
+    dark_known (bare_listing g.listing) c.args.k (omega (arith, lines_long g, c.requires.1)) c.is_known.ensures (search rules) (c.requires.0.table.each c.args.k c.requires.1).opaque_is

@@ -9,15 +9,15 @@ use Rattle.flow.proofs.Nexts.{while_none, while_do, while_other}
 use Rattle.flow.proofs.ways.of_while.Goals as goal
 
 pub opener-requires : goal.opener-requires
-opener-requires c = let t = c.requires.0 in (table_few c.args.g.now t, omega (arith, t.long), omega (arith, t.long, t.short))
+opener-requires c = let t = c.requires.0 in (table_few c.args.g.now t, omega (arith, t.table.long), omega (arith, t.table.long, t.short))
 
 pub bounds : goal.bounds
-bounds c = let t = c.requires.0 in opener_inside c.args.g.now c.args.k (omega (arith, t.long)) c.opener.ensures c.in-Some.is
+bounds c = let t = c.requires.0 in opener_inside c.args.g.now c.args.k (omega (arith, t.table.long)) c.opener.ensures c.in-Some.is
 
 pub offset_bounds-g-d : goal.offset_bounds-g-d
 offset_bounds-g-d c = let t = c.requires.0 in
-    let h = opener_inside c.args.g.now c.args.k (omega (arith, t.long)) c.opener.ensures c.in-Some.is in
-    omega (arith, h, t.long, t.short)
+    let h = opener_inside c.args.g.now c.args.k (omega (arith, t.table.long)) c.opener.ensures c.in-Some.is in
+    omega (arith, h, t.table.long, t.short)
 
 pub returns-in-None : goal.returns-in-None
 returns-in-None c = let g = c.args.g.now in
@@ -27,8 +27,8 @@ pub returns-in-Do : goal.returns-in-Do
 returns-in-Do c =
     let g = c.args.g.now in
     let t = c.requires.0 in
-    let h = opener_inside g c.args.k (omega (arith, t.long)) c.opener.ensures c.in-Some.is in
-    let f = table_form g c.in-Some.d t (omega (arith, h, t.long)) in
+    let h = opener_inside g c.args.k (omega (arith, t.table.long)) c.opener.ensures c.in-Some.is in
+    let f = table_form g c.in-Some.d t (omega (arith, h, t.table.long)) in
     let e = table_opener g c.args.k t c.opener.result c.opener.ensures in
     while_do (bare_listing g.listing) c.args.k e (ap option_of c.in-Some.is) (the_form Do f refl c.in-Do.is)
 
@@ -36,7 +36,7 @@ pub returns-in_default : goal.returns-in_default
 returns-in_default c =
     let g = c.args.g.now in
     let t = c.requires.0 in
-    let h = opener_inside g c.args.k (omega (arith, t.long)) c.opener.ensures c.in-Some.is in
-    let f = table_form g c.in-Some.d t (omega (arith, h, t.long)) in
+    let h = opener_inside g c.args.k (omega (arith, t.table.long)) c.opener.ensures c.in-Some.is in
+    let f = table_form g c.in-Some.d t (omega (arith, h, t.table.long)) in
     let e = table_opener g c.args.k t c.opener.result c.opener.ensures in
     while_other (bare_listing g.listing) c.args.k e (ap option_of c.in-Some.is) (not_form Do f refl c.in_default.not-Do)
