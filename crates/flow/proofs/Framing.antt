@@ -20,8 +20,10 @@ use Rattle.lines.proofs.shapes.Tests.{is_it, is_not}
 use Rattle.flow.specs.declared.frames.Frame.{Frame}
 use Rattle.flow.specs.declared.frames.FrameScan.{FrameScan}
 use Rattle.flow.specs.Marking.{marking}
+use Rattle.flow.specs.Compared.{compared}
 use Rattle.flow.specs.Frames.{seen_of, framed_token, framed, Below, OuterByte}
 use Rattle.flow.proofs.Changes.{none_marked}
+use Rattle.flow.proofs.Truths.{none_compared}
 
 last_loose : (l b : Bool) → l ≡ (l or not (all_words (when b then [] else after_unary [])))
 unfolding ◌or◌ not all_words when◌then◌else◌ after_unary
@@ -65,7 +67,7 @@ loose_step false false false c s e = rw (← e) (loose_here c s)
 
 -- a bracket, or a byte inside
 pub inner_byte : (f : FrameScan) (c : ℕ) (s : Text) → (eqb f.depth 0 and not (contains (bytes "()") c)) ≡ false
-    → framed (record { depth = deeper c f.depth; begun = f.begun; plain = f.plain; loose = f.loose; comma = f.comma; marking = f.marking }) s ≡ framed f (c ∷ s)
+    → framed (record { depth = deeper c f.depth; begun = f.begun; plain = f.plain; loose = f.loose; comma = f.comma; comparing = f.comparing; marking = f.marking }) s ≡ framed f (c ∷ s)
 unfolding framed depth outside when◌then◌else◌
 inner_byte f c s e = rw e refl
 
@@ -78,10 +80,11 @@ flat d c e = go (eqb c 40) (eqb c 41) e
     go false true e = absurd (false≢true (sym e))
     go false false e = refl
 
--- the five answers one by one
-frame_same : {d1 d2 m1 m2 : ℕ} {p1 p2 l1 l2 c1 c2 : Bool} → d1 ≡ d2 → p1 ≡ p2 → l1 ≡ l2 → c1 ≡ c2 → m1 ≡ m2
-    → ◌≡◌ {A = Frame} (record { depth = d1; plain = p1; loose = l1; comma = c1; marks = m1 }) (record { depth = d2; plain = p2; loose = l2; comma = c2; marks = m2 })
-frame_same a b d e m = rw (a, b, d, e, m) refl
+-- the six answers one by one
+frame_same : {d1 d2 m1 m2 : ℕ} {p1 p2 l1 l2 c1 c2 t1 t2 : Bool} → d1 ≡ d2 → p1 ≡ p2 → l1 ≡ l2 → c1 ≡ c2 → t1 ≡ t2 → m1 ≡ m2
+    → ◌≡◌ {A = Frame} (record { depth = d1; plain = p1; loose = l1; comma = c1; truth = t1; marks = m1 })
+    (record { depth = d2; plain = p2; loose = l2; comma = c2; truth = t2; marks = m2 })
+frame_same a b d e t m = rw (a, b, d, e, t, m) refl
 
 pub outer_byte : (f g : FrameScan) (c : ℕ) (s : Text) → f.depth ≡ 0 → contains (bytes "()") c ≡ false → OuterByte f c g → framed g s ≡ framed f (c ∷ s)
 unfolding framed depth outside when◌then◌else◌ ◌and◌ not
@@ -91,6 +94,7 @@ outer_byte f g c s z e o =
     (rw (o.depth_is, z, e, flat 0 c e, o.plain_is) (plain_step f.plain c (outside 0 s)))
     (rw (o.depth_is, z, e, flat 0 c e, o.loose_is, o.begun_is) (loose_step f.loose f.begun (contains (bytes "-~!&*") c) c (outside 0 s) refl))
     (rw (o.depth_is, z, e, flat 0 c e, o.comma_is) (comma_step f.comma c (outside 0 s)))
+    (rw (o.depth_is, z, e, flat 0 c e) (o.comparing_is (outside 0 s)))
     (rw (o.depth_is, z, e, flat 0 c e) (o.marking_is (outside 0 s)))
 
 pub not_outer : (d c : ℕ) {x : Bool} → x ≡ contains (bytes "()") c → x ≡ true → (eqb d 0 and not (contains (bytes "()") c)) ≡ false
@@ -125,20 +129,34 @@ module _ (tape area : Text) (w : ℕ) {k : ℕ} (e : k ≡ kind_of w) (n : k ≡
   unfolding framed_token when◌then◌else◌
   other_token f = rw (← is_not (token_of tape area w) Punct e n, ← eb, f) refl
 
+-- ---- nothing read
+
+abbrev no_scan : FrameScan
+no_scan = record {
+  depth = 0;
+  begun = false;
+  plain = true;
+  loose = false;
+  comma = false;
+  comparing = record { first = 0; second = 0; third = 0; begun = false; found = false };
+  marking = record { before = 0; last = 0; count = 0 };
+}
+
 -- ---- how much was read
 
 pub below_more : {f : FrameScan} {m : ℕ} (n : ℕ) → Below f m → m ≤ n → Below f n
 below_more n b h = record { deep = omega (arith, b.deep); many = omega (arith, b.many) }
 
-pub none_below : Below (record { depth = 0; begun = false; plain = true; loose = false; comma = false; marking = record { before = 0; last = 0; count = 0 } }) 0
+pub none_below : Below no_scan 0
 none_below = record { deep = omega arith; many = omega arith }
 
 -- ---- the whole
 
-pub none_framed : (s : Text) → framed (record { depth = 0; begun = false; plain = true; loose = false; comma = false; marking = record { before = 0; last = 0; count = 0 } }) s ≡ seen_of s
+pub none_framed : (s : Text) → framed no_scan s ≡ seen_of s
 unfolding framed ◌and◌ ◌or◌ when◌then◌else◌
-none_framed s = frame_same refl refl refl refl (none_marked (outside 0 s))
+none_framed s = frame_same refl refl refl refl (none_compared (outside 0 s)) (none_marked (outside 0 s))
 
-pub ended_framed : (f : FrameScan) {n : ℕ} → n ≡ marking f.marking [] → record { depth = f.depth; plain = f.plain; loose = f.loose; comma = f.comma; marks = n } ≡ framed f []
+pub ended_framed : (f : FrameScan) {b : Bool} {n : ℕ} → b ≡ compared f.comparing [] → n ≡ marking f.marking []
+    → record { depth = f.depth; plain = f.plain; loose = f.loose; comma = f.comma; truth = b; marks = n } ≡ framed f []
 unfolding framed outside depth all_words not after_unary
-ended_framed f e = frame_same refl (sym (and_kept f.plain)) (last_loose f.loose f.begun) (sym (or_last f.comma)) e
+ended_framed f t e = frame_same refl (sym (and_kept f.plain)) (last_loose f.loose f.begun) (sym (or_last f.comma)) t e

@@ -1,5 +1,6 @@
 -- Laws of the scans.
 pub mod Changes
+pub mod Truths
 pub mod Framing
 pub mod Strange
 pub mod Unmatched

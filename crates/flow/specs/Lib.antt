@@ -1,5 +1,6 @@
 -- What the scans over tokens, the forms of lines and the walk along them mean.
 pub mod Marking
+pub mod Compared
 pub mod Frames
 pub mod Opaque
 pub mod Spelling

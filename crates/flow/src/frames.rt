@@ -7,10 +7,12 @@ ghost use Rattle.reference.specs.Control.{◌and◌};
 ghost use Rattle.reference.specs.Listing.{is, Keyword};
 ghost use Rattle.reference.specs.Text.{Text, bytes, starts_with};
 ghost use Rattle.cautions.specs.Texts.{deeper, frame, loose};
+ghost use Rattle.cautions.specs.Uses.{is_truth};
 ghost use Rattle.flow.specs.Frames.{framed_token, seen_of, framed, Below, OuterByte};
 ghost use Rattle.lines.specs.Shapes.{expr_words, Expression};
 ghost use Rattle.lines.specs.Texts.{Holds, Points, text_of, token_of, tokens_of};
 
+use crate::comparing::{self, Comparing, NOT_COMPARING};
 use crate::marks::{self, Marking, NO_MARKS};
 use ground::kinds;
 use lines::shapes::{self, Expr};
@@ -18,13 +20,14 @@ use lines::texts::Texts;
 use lines::words;
 
 // What is asked of a frame: how deep it ends; whether nothing but tokens stands outside brackets; whether an operator or a comma does,
-// unary ones in front left out; whether a comma does; how many changes do.
+// unary ones in front left out; whether a comma does; whether a comparison does, or a `!` in front; how many changes do.
 #[derive(Clone, Copy)]
 pub struct Frame {
     pub depth: usize,
     pub plain: bool,
     pub loose: bool,
     pub comma: bool,
+    pub truth: bool,
     pub marks: usize,
 }
 
@@ -36,6 +39,7 @@ pub(crate) struct FrameScan {
     pub plain: bool,
     pub loose: bool,
     pub comma: bool,
+    pub comparing: Comparing,
     pub marking: Marking,
 }
 
@@ -46,6 +50,7 @@ const NO_FRAME: FrameScan = FrameScan {
     plain: true,
     loose: false,
     comma: false,
+    comparing: NOT_COMPARING,
     marking: NO_MARKS,
 };
 
@@ -77,6 +82,7 @@ fn with_outer(f: FrameScan, b: u8) -> FrameScan
         plain: f.plain && b == b'w',
         loose: f.loose || begins && b != b'w',
         comma: f.comma || b == b',',
+        comparing: comparing::with_byte(f.comparing, b),
         marking: marks::with_byte(f.marking, b),
     }
 }
@@ -144,6 +150,7 @@ fn ended(f: FrameScan) -> Frame
         plain: f.plain,
         loose: f.loose,
         comma: f.comma,
+        truth: comparing::total(f.comparing),
         marks: marks::total(f.marking),
     }
 }
@@ -188,4 +195,22 @@ pub fn is_loose_expr(texts: &Texts<'_>, line: &[u64], x: Expr) -> bool
     ensures { result ≡ loose (tokens_of texts.now (expr_words line.now x)) }
 {
     frame_of_expr(texts, line, x).loose
+}
+
+// Whether a run of tokens is 0 or 1: a comparison, or `!` in front.
+#[tactic(auto, unfolding(cautions::specs::Uses::is_truth))]
+pub fn is_truth(texts: &Texts<'_>, ws: &[u64]) -> bool
+    requires { Holds texts.now ws.now × (length ws.now < 65536) }
+    ensures { result ≡ is_truth (tokens_of texts.now ws.now) }
+{
+    frame_of(texts, ws).truth
+}
+
+// The same of the right side x of a line.
+#[tactic(auto, unfolding(cautions::specs::Uses::is_truth))]
+pub fn is_truth_expr(texts: &Texts<'_>, line: &[u64], x: Expr) -> bool
+    requires { Holds texts.now line.now × Expression line.now x × (length line.now < 65536) }
+    ensures { result ≡ is_truth (tokens_of texts.now (expr_words line.now x)) }
+{
+    frame_of_expr(texts, line, x).truth
 }

@@ -5,6 +5,7 @@
 mod forms; // the form of a line
 mod lineforms; // what a walk asks of one line
 mod frames; // brackets, and what stands outside them
+mod comparing; // comparisons, and `!` in front
 mod marks; // changes in a text, byte by byte
 mod opaque; // lines that are not looked into
 mod gathering; // what is asked of each line, in a table
@@ -14,7 +15,9 @@ mod reaching; // how far a value goes
 mod values; // what a line does to a value
 mod spelling; // what is kept of a form as it is put together
 
-pub use frames::{Frame, frame_of, frame_of_expr, is_loose, is_loose_expr};
+pub use frames::{
+    Frame, frame_of, frame_of_expr, is_loose, is_loose_expr, is_truth, is_truth_expr,
+};
 pub use gathering::{NO_FORM, form_at, gather_forms};
 pub use lineforms::{Form, LineForm, line_form};
 pub use marks::{Marking, marks_of};
