@@ -102,16 +102,6 @@ classed_front f {s} {t} e c = record {
 
 -- ---- no known form
 
-or_left : (a b : Bool) → (a or b) ≡ false → a ≡ false
-unfolding ◌or◌
-or_left true b h = absurd (false≢true (sym h))
-or_left false b h = refl
-
-or_right : (a b : Bool) → (a or b) ≡ false → b ≡ false
-unfolding ◌or◌
-or_right true b h = absurd (false≢true (sym h))
-or_right false b h = h
-
 -- a text that is none of the known forms
 pub record NoneOf (s : Text) : Type 0 where
   pub statement : (bytes ";" ≟ s) ≡ false
@@ -132,44 +122,34 @@ pub record NoneOf (s : Text) : Type 0 where
   pub else_line : (bytes "else}{" ≟ s) ≡ false
   pub switch : (bytes "switch{" ≟ s) ≡ false
 
+not_known : (t s : Text) → has KNOWN t ≡ true → has KNOWN s ≡ false → (t ≟ s) ≡ false
+not_known t s k h = go (t ≟ s) refl
+  where
+    go : (b : Bool) → (t ≟ s) ≡ b → b ≡ false
+    go true e = absurd (false≢true (sym h ∙ ap (has KNOWN) (sym (same_true t s e)) ∙ k))
+    go false e = refl
+
 pub none_of : (s : Text) → has KNOWN s ≡ false → NoneOf s
-none_of s h =
-    let r0 = or_right (bytes ";" ≟ s) (has ([] ∷ bytes ":" ∷ bytes "{" ∷ bytes "{}" ∷ bytes "if;" ∷ bytes "do{" ∷ bytes "goto;" ∷ bytes "ifgoto;" ∷ bytes "return;" ∷ bytes "ifreturn;" ∷ bytes "while};" ∷ bytes "}" ∷ bytes "if{" ∷ bytes "elseif}{" ∷ bytes "else}{" ∷ bytes "switch{" ∷ []) s) h in
-    let r1 = or_right ([] ≟ s) (has (bytes ":" ∷ bytes "{" ∷ bytes "{}" ∷ bytes "if;" ∷ bytes "do{" ∷ bytes "goto;" ∷ bytes "ifgoto;" ∷ bytes "return;" ∷ bytes "ifreturn;" ∷ bytes "while};" ∷ bytes "}" ∷ bytes "if{" ∷ bytes "elseif}{" ∷ bytes "else}{" ∷ bytes "switch{" ∷ []) s) r0 in
-    let r2 = or_right (bytes ":" ≟ s) (has (bytes "{" ∷ bytes "{}" ∷ bytes "if;" ∷ bytes "do{" ∷ bytes "goto;" ∷ bytes "ifgoto;" ∷ bytes "return;" ∷ bytes "ifreturn;" ∷ bytes "while};" ∷ bytes "}" ∷ bytes "if{" ∷ bytes "elseif}{" ∷ bytes "else}{" ∷ bytes "switch{" ∷ []) s) r1 in
-    let r3 = or_right (bytes "{" ≟ s) (has (bytes "{}" ∷ bytes "if;" ∷ bytes "do{" ∷ bytes "goto;" ∷ bytes "ifgoto;" ∷ bytes "return;" ∷ bytes "ifreturn;" ∷ bytes "while};" ∷ bytes "}" ∷ bytes "if{" ∷ bytes "elseif}{" ∷ bytes "else}{" ∷ bytes "switch{" ∷ []) s) r2 in
-    let r4 = or_right (bytes "{}" ≟ s) (has (bytes "if;" ∷ bytes "do{" ∷ bytes "goto;" ∷ bytes "ifgoto;" ∷ bytes "return;" ∷ bytes "ifreturn;" ∷ bytes "while};" ∷ bytes "}" ∷ bytes "if{" ∷ bytes "elseif}{" ∷ bytes "else}{" ∷ bytes "switch{" ∷ []) s) r3 in
-    let r5 = or_right (bytes "if;" ≟ s) (has (bytes "do{" ∷ bytes "goto;" ∷ bytes "ifgoto;" ∷ bytes "return;" ∷ bytes "ifreturn;" ∷ bytes "while};" ∷ bytes "}" ∷ bytes "if{" ∷ bytes "elseif}{" ∷ bytes "else}{" ∷ bytes "switch{" ∷ []) s) r4 in
-    let r6 = or_right (bytes "do{" ≟ s) (has (bytes "goto;" ∷ bytes "ifgoto;" ∷ bytes "return;" ∷ bytes "ifreturn;" ∷ bytes "while};" ∷ bytes "}" ∷ bytes "if{" ∷ bytes "elseif}{" ∷ bytes "else}{" ∷ bytes "switch{" ∷ []) s) r5 in
-    let r7 = or_right (bytes "goto;" ≟ s) (has (bytes "ifgoto;" ∷ bytes "return;" ∷ bytes "ifreturn;" ∷ bytes "while};" ∷ bytes "}" ∷ bytes "if{" ∷ bytes "elseif}{" ∷ bytes "else}{" ∷ bytes "switch{" ∷ []) s) r6 in
-    let r8 = or_right (bytes "ifgoto;" ≟ s) (has (bytes "return;" ∷ bytes "ifreturn;" ∷ bytes "while};" ∷ bytes "}" ∷ bytes "if{" ∷ bytes "elseif}{" ∷ bytes "else}{" ∷ bytes "switch{" ∷ []) s) r7 in
-    let r9 = or_right (bytes "return;" ≟ s) (has (bytes "ifreturn;" ∷ bytes "while};" ∷ bytes "}" ∷ bytes "if{" ∷ bytes "elseif}{" ∷ bytes "else}{" ∷ bytes "switch{" ∷ []) s) r8 in
-    let r10 = or_right (bytes "ifreturn;" ≟ s) (has (bytes "while};" ∷ bytes "}" ∷ bytes "if{" ∷ bytes "elseif}{" ∷ bytes "else}{" ∷ bytes "switch{" ∷ []) s) r9 in
-    let r11 = or_right (bytes "while};" ≟ s) (has (bytes "}" ∷ bytes "if{" ∷ bytes "elseif}{" ∷ bytes "else}{" ∷ bytes "switch{" ∷ []) s) r10 in
-    let r12 = or_right (bytes "}" ≟ s) (has (bytes "if{" ∷ bytes "elseif}{" ∷ bytes "else}{" ∷ bytes "switch{" ∷ []) s) r11 in
-    let r13 = or_right (bytes "if{" ≟ s) (has (bytes "elseif}{" ∷ bytes "else}{" ∷ bytes "switch{" ∷ []) s) r12 in
-    let r14 = or_right (bytes "elseif}{" ≟ s) (has (bytes "else}{" ∷ bytes "switch{" ∷ []) s) r13 in
-    let r15 = or_right (bytes "else}{" ≟ s) (has (bytes "switch{" ∷ []) s) r14 in
-    let r16 = or_right (bytes "switch{" ≟ s) (has ([]) s) r15 in
-    record {
-      statement = or_left (bytes ";" ≟ s) (has ([] ∷ bytes ":" ∷ bytes "{" ∷ bytes "{}" ∷ bytes "if;" ∷ bytes "do{" ∷ bytes "goto;" ∷ bytes "ifgoto;" ∷ bytes "return;" ∷ bytes "ifreturn;" ∷ bytes "while};" ∷ bytes "}" ∷ bytes "if{" ∷ bytes "elseif}{" ∷ bytes "else}{" ∷ bytes "switch{" ∷ []) s) h;
-      empty = or_left ([] ≟ s) (has (bytes ":" ∷ bytes "{" ∷ bytes "{}" ∷ bytes "if;" ∷ bytes "do{" ∷ bytes "goto;" ∷ bytes "ifgoto;" ∷ bytes "return;" ∷ bytes "ifreturn;" ∷ bytes "while};" ∷ bytes "}" ∷ bytes "if{" ∷ bytes "elseif}{" ∷ bytes "else}{" ∷ bytes "switch{" ∷ []) s) r0;
-      label = or_left (bytes ":" ≟ s) (has (bytes "{" ∷ bytes "{}" ∷ bytes "if;" ∷ bytes "do{" ∷ bytes "goto;" ∷ bytes "ifgoto;" ∷ bytes "return;" ∷ bytes "ifreturn;" ∷ bytes "while};" ∷ bytes "}" ∷ bytes "if{" ∷ bytes "elseif}{" ∷ bytes "else}{" ∷ bytes "switch{" ∷ []) s) r1;
-      opening = or_left (bytes "{" ≟ s) (has (bytes "{}" ∷ bytes "if;" ∷ bytes "do{" ∷ bytes "goto;" ∷ bytes "ifgoto;" ∷ bytes "return;" ∷ bytes "ifreturn;" ∷ bytes "while};" ∷ bytes "}" ∷ bytes "if{" ∷ bytes "elseif}{" ∷ bytes "else}{" ∷ bytes "switch{" ∷ []) s) r2;
-      block = or_left (bytes "{}" ≟ s) (has (bytes "if;" ∷ bytes "do{" ∷ bytes "goto;" ∷ bytes "ifgoto;" ∷ bytes "return;" ∷ bytes "ifreturn;" ∷ bytes "while};" ∷ bytes "}" ∷ bytes "if{" ∷ bytes "elseif}{" ∷ bytes "else}{" ∷ bytes "switch{" ∷ []) s) r3;
-      guarded = or_left (bytes "if;" ≟ s) (has (bytes "do{" ∷ bytes "goto;" ∷ bytes "ifgoto;" ∷ bytes "return;" ∷ bytes "ifreturn;" ∷ bytes "while};" ∷ bytes "}" ∷ bytes "if{" ∷ bytes "elseif}{" ∷ bytes "else}{" ∷ bytes "switch{" ∷ []) s) r4;
-      do_line = or_left (bytes "do{" ≟ s) (has (bytes "goto;" ∷ bytes "ifgoto;" ∷ bytes "return;" ∷ bytes "ifreturn;" ∷ bytes "while};" ∷ bytes "}" ∷ bytes "if{" ∷ bytes "elseif}{" ∷ bytes "else}{" ∷ bytes "switch{" ∷ []) s) r5;
-      goto = or_left (bytes "goto;" ≟ s) (has (bytes "ifgoto;" ∷ bytes "return;" ∷ bytes "ifreturn;" ∷ bytes "while};" ∷ bytes "}" ∷ bytes "if{" ∷ bytes "elseif}{" ∷ bytes "else}{" ∷ bytes "switch{" ∷ []) s) r6;
-      if_goto = or_left (bytes "ifgoto;" ≟ s) (has (bytes "return;" ∷ bytes "ifreturn;" ∷ bytes "while};" ∷ bytes "}" ∷ bytes "if{" ∷ bytes "elseif}{" ∷ bytes "else}{" ∷ bytes "switch{" ∷ []) s) r7;
-      return_line = or_left (bytes "return;" ≟ s) (has (bytes "ifreturn;" ∷ bytes "while};" ∷ bytes "}" ∷ bytes "if{" ∷ bytes "elseif}{" ∷ bytes "else}{" ∷ bytes "switch{" ∷ []) s) r8;
-      if_return = or_left (bytes "ifreturn;" ≟ s) (has (bytes "while};" ∷ bytes "}" ∷ bytes "if{" ∷ bytes "elseif}{" ∷ bytes "else}{" ∷ bytes "switch{" ∷ []) s) r9;
-      while_line = or_left (bytes "while};" ≟ s) (has (bytes "}" ∷ bytes "if{" ∷ bytes "elseif}{" ∷ bytes "else}{" ∷ bytes "switch{" ∷ []) s) r10;
-      closing = or_left (bytes "}" ≟ s) (has (bytes "if{" ∷ bytes "elseif}{" ∷ bytes "else}{" ∷ bytes "switch{" ∷ []) s) r11;
-      if_line = or_left (bytes "if{" ≟ s) (has (bytes "elseif}{" ∷ bytes "else}{" ∷ bytes "switch{" ∷ []) s) r12;
-      else_if = or_left (bytes "elseif}{" ≟ s) (has (bytes "else}{" ∷ bytes "switch{" ∷ []) s) r13;
-      else_line = or_left (bytes "else}{" ≟ s) (has (bytes "switch{" ∷ []) s) r14;
-      switch = or_left (bytes "switch{" ≟ s) (has ([]) s) r15;
-    }
+unfolding ◌or◌ ◌and◌
+none_of s h = record {
+  statement = not_known (bytes ";") s refl h;
+  empty = not_known [] s refl h;
+  label = not_known (bytes ":") s refl h;
+  opening = not_known (bytes "{") s refl h;
+  block = not_known (bytes "{}") s refl h;
+  guarded = not_known (bytes "if;") s refl h;
+  do_line = not_known (bytes "do{") s refl h;
+  goto = not_known (bytes "goto;") s refl h;
+  if_goto = not_known (bytes "ifgoto;") s refl h;
+  return_line = not_known (bytes "return;") s refl h;
+  if_return = not_known (bytes "ifreturn;") s refl h;
+  while_line = not_known (bytes "while};") s refl h;
+  closing = not_known (bytes "}") s refl h;
+  if_line = not_known (bytes "if{") s refl h;
+  else_if = not_known (bytes "elseif}{") s refl h;
+  else_line = not_known (bytes "else}{") s refl h;
+  switch = not_known (bytes "switch{") s refl h;
+}
 
 -- ---- cases
 
@@ -213,9 +193,12 @@ case_at t ts = go (is Keyword t and has (CASES ++ CONTROL) t.text)
     go false = refl
 
 module _ (tape area : Text) (ws : List ℕ) (i : ℕ) where
-  module _ (h : i < length ws) (o : std.Option Bool) (eo : option_of o ≡ steering (token_of tape area (get_or ws i 0))) {r : Bool} (inv : is_case (tokens_of tape area (drop i ws)) ≡ r) where
+  module _ (h : i < length ws) (o : std.Option Bool) (eo : option_of o ≡ steering (token_of tape area (get_or ws i 0))) {r : Bool}
+      (inv : is_case (tokens_of tape area (drop i ws)) ≡ r) where
     at_token : (let_some (option_of o) else is_case (tokens_of tape area (drop (i + 1) ws)) then λ b. b) ≡ r
-    at_token = rw eo (sym (case_at (token_of tape area (get_or ws i 0)) (tokens_of tape area (drop (i + 1) ws))) ∙ ap (λ (l : List ℕ). is_case (tokens_of tape area l)) (sym (drop_more ws i 0 h)) ∙ inv)
+    at_token =
+        rw eo (sym (case_at (token_of tape area (get_or ws i 0)) (tokens_of tape area (drop (i + 1) ws)))
+        ∙ ap (λ (l : List ℕ). is_case (tokens_of tape area l)) (sym (drop_more ws i 0 h)) ∙ inv)
 
     pub case_here : {b : Bool} → o ≡ std.Some b → b ≡ r
     unfolding let_some◌else◌then◌

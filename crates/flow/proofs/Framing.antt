@@ -120,7 +120,8 @@ pub punct_token : (tape area : Text) (w : ℕ) {k : ℕ} {s : Text} → k ≡ ki
 unfolding framed_token when◌then◌else◌
 punct_token tape area w e h es = rw (← is_it (token_of tape area w) Punct e h) es
 
-module _ (tape area : Text) (w : ℕ) {k : ℕ} (e : k ≡ kind_of w) (n : k ≡ Punct → ⊥) {b : Bool} (eb : b ≡ (is Keyword (token_of tape area w) and starts_with (text_of tape area w) (bytes "((void"))) where
+module _ (tape area : Text) (w : ℕ) {k : ℕ} (e : k ≡ kind_of w) (n : k ≡ Punct → ⊥) {b : Bool}
+    (eb : b ≡ (is Keyword (token_of tape area w) and starts_with (text_of tape area w) (bytes "((void"))) where
   pub cast_token : b ≡ true → framed_token (token_of tape area w) ≡ bytes "("
   unfolding framed_token when◌then◌else◌
   cast_token t = rw (← is_not (token_of tape area w) Punct e n, ← eb, t) refl

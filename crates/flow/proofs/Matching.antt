@@ -105,7 +105,8 @@ depth_of (c ∷ cs) d = go (eqb c 123) (eqb c 125) (depth_of cs)
   where
     go : (x y : Bool) → ((d : ℕ) → depth_behind 123 125 d cs ≡ at_depth d (unmatched cs))
         → (when x then depth_behind 123 125 (suc d) cs else when y then (when eqb d 0 then none else depth_behind 123 125 (pred d) cs) else depth_behind 123 125 d cs)
-        ≡ at_depth d (when x then (when eqb (unmatched cs).0 0 then (0, suc (unmatched cs).1) else (pred (unmatched cs).0, (unmatched cs).1)) else when y then (suc (unmatched cs).0, (unmatched cs).1) else unmatched cs)
+        ≡ at_depth d (when x then (when eqb (unmatched cs).0 0 then (0, suc (unmatched cs).1) else (pred (unmatched cs).0, (unmatched cs).1))
+        else when y then (suc (unmatched cs).0, (unmatched cs).1) else unmatched cs)
     go true y ih = ih (suc d) ∙ inward d (unmatched cs).0 (unmatched cs).1
     go false true ih = rw (ih (pred d)) (outward d (unmatched cs).0 (unmatched cs).1)
     go false false ih = ih d

@@ -215,7 +215,8 @@ module _ (lines : Listing) (k : ℕ) {ts : List Token} (et : ts ≡ (lines at k)
     unfolding let_some◌else◌then◌
     goto_plain n t = rw (t, ← et, ← e, n) refl
 
-  returned : (o : Option Token) → (let_some o else [] then λ t. when is_kw (bytes "return") t then length lines ∷ [] else []) ≡ (when let_some o else false then is_kw (bytes "return") then length lines ∷ [] else [])
+  returned : (o : Option Token) → (let_some o else [] then λ t. when is_kw (bytes "return") t then length lines ∷ [] else [])
+      ≡ (when let_some o else false then is_kw (bytes "return") then length lines ∷ [] else [])
   unfolding let_some◌else◌then◌ when◌then◌else◌
   returned none = refl
   returned (some t) = refl

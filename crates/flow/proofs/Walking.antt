@@ -67,7 +67,9 @@ cases_append : (ls : Listing) (xs ys : List ℕ) → cases_in ls (xs ++ ys) ≡ 
 cases_append ls [] ys = refl
 cases_append ls (x ∷ xs) ys = go (is_case (ls at x).tokens) (cases_append ls xs ys)
   where
-    go : (b : Bool) → cases_in ls (xs ++ ys) ≡ cases_in ls xs ++ cases_in ls ys → cond b (x ∷ cases_in ls (xs ++ ys)) (cases_in ls (xs ++ ys)) ≡ cond b (x ∷ cases_in ls xs) (cases_in ls xs) ++ cases_in ls ys
+    go : (b : Bool) → cases_in ls (xs ++ ys) ≡ cases_in ls xs ++ cases_in ls ys
+        → cond b (x ∷ cases_in ls (xs ++ ys)) (cases_in ls (xs ++ ys))
+        ≡ cond b (x ∷ cases_in ls xs) (cases_in ls xs) ++ cases_in ls ys
     go true h = ap (λ l. x ∷ l) h
     go false h = h
 
@@ -124,21 +126,25 @@ module _ (ls : Listing) (i : ℕ) (fam : Text) (vs : List Text) (k : ℕ) where
   unfolding stepped onward stops_at reach when◌then◌else◌
   step_stopped s e t = go (get_or s k false)
     where
-      go : (x : Bool) → s ≡ (when x then reach (when eqb k i or is_dark ls (ways ls) k or ends fam vs (ls at k).tokens then [] else (let_some (get_or (ways ls) k none) else [] then λ ks. ks)) s else s)
+      go : (x : Bool)
+          → s ≡ (when x then reach (when eqb k i or is_dark ls (ways ls) k or ends fam vs (ls at k).tokens then [] else (let_some (get_or (ways ls) k none) else [] then λ ks. ks)) s else s)
       go true = rw (← e, t) refl
       go false = refl
 
-  pub step_on : k < length ls → (s : List Bool) → get_or s k false ≡ true → {b : Bool} → b ≡ stops_at ls i fam vs k → b ≡ false → {t : List Bool} → t ≡ reach (after ls k) s → t ≡ stepped ls i fam vs k s
+  pub step_on : k < length ls → (s : List Bool) → get_or s k false ≡ true → {b : Bool} → b ≡ stops_at ls i fam vs k → b ≡ false
+      → {t : List Bool} → t ≡ reach (after ls k) s → t ≡ stepped ls i fam vs k s
   unfolding stepped onward stops_at when◌then◌else◌
   step_on h s es e f et = rw (es, ← e, f, ways_at ls k h) et
 
   -- a sweep from line k on
-  pub sweep_more : k < length ls → (s : List Bool) {t r : List Bool} → t ≡ stepped ls i fam vs k s → sweep k (drop k (onward_of ls i fam vs)) s ≡ r → sweep (k + 1) (drop (k + 1) (onward_of ls i fam vs)) t ≡ r
+  pub sweep_more : k < length ls → (s : List Bool) {t r : List Bool} → t ≡ stepped ls i fam vs k s
+      → sweep k (drop k (onward_of ls i fam vs)) s ≡ r → sweep (k + 1) (drop (k + 1) (onward_of ls i fam vs)) t ≡ r
   unfolding sweep stepped
   sweep_more h s e v =
       let f : List ℕ → List (List ℕ) = map (onward ls (ways ls) i fam vs) in
       let d : drop k (onward_of ls i fam vs) ≡ onward ls (ways ls) i fam vs k ∷ drop (k + 1) (onward_of ls i fam vs) =
-      drop-map (onward ls (ways ls) i fam vs) k (places ls) ∙ ap f (place_more ls k h) ∙ ap (λ l. onward ls (ways ls) i fam vs k ∷ l) (sym (drop-map (onward ls (ways ls) i fam vs) (k + 1) (places ls))) in
+      drop-map (onward ls (ways ls) i fam vs) k (places ls) ∙ ap f (place_more ls k h)
+      ∙ ap (λ l. onward ls (ways ls) i fam vs k ∷ l) (sym (drop-map (onward ls (ways ls) i fam vs) (k + 1) (places ls))) in
       rw (e, add-one k) (rw (d, add-one k) at v)
 
   pub sweep_end : length ls ≤ k → (s : List Bool) {r : List Bool} → sweep k (drop k (onward_of ls i fam vs)) s ≡ r → s ≡ r

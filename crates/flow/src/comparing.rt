@@ -1,5 +1,5 @@
-// Whether an expression is 0 or 1: a comparison stands outside its brackets, or a `!` in front. A scan takes one byte after the other and is
-// told apart from the text, since the bytes outside brackets stand in no slice.
+// Whether an expression is 0 or 1: a comparison stands outside its brackets, or a `!` in front. A scan takes one byte after the other and
+// is told apart from the text, since the bytes outside brackets stand in no slice.
 #![tactic(auto, using(laws::proofs::Std::tests_of_std))]
 
 ghost use Rattle.std.specs.Prelude.{◌≡◌, ◌∷◌, [], eqb};

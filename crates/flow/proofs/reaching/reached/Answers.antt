@@ -37,11 +37,16 @@ loop-turn-preserved c = let g = c.args.g.now in
     )
 
 pub returns : goal.returns
-returns c = let g = c.args.g.now in
+returns c =
+    let g = c.args.g.now in
     let l = c.loop-turn in
-    sweeps_end (length g.listing.lines.now) l.turn (onward_of (bare_listing g.listing) c.args.i (fam_text g.listing.texts c.args.f) (volatile (rules_of c.args.rules))) l.seen c.loop-turn-test.false l.invariant.0
+    let on = onward_of (bare_listing g.listing) c.args.i (fam_text g.listing.texts c.args.f) (volatile (rules_of c.args.rules)) in
+    sweeps_end (length g.listing.lines.now) l.turn on l.seen c.loop-turn-test.false l.invariant.0
 
 pub returns-then-count_set-before : goal.returns-then-count_set-before
-returns-then-count_set-before c = let g = c.args.g.now in
+returns-then-count_set-before c =
+    let g = c.args.g.now in
     let l = c.loop-turn in
-    sweeps_done (length g.listing.lines.now - l.turn) (onward_of (bare_listing g.listing) c.args.i (fam_text g.listing.texts c.args.f) (volatile (rules_of c.args.rules))) l.seen c.sweep.ensures c.count_set-before.ensures c.count_set.ensures c.if-count_set-before.true l.invariant.0
+    let on = onward_of (bare_listing g.listing) c.args.i (fam_text g.listing.texts c.args.f) (volatile (rules_of c.args.rules)) in
+    sweeps_done (length g.listing.lines.now - l.turn) on l.seen c.sweep.ensures c.count_set-before.ensures c.count_set.ensures
+    c.if-count_set-before.true l.invariant.0

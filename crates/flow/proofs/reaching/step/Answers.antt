@@ -17,5 +17,8 @@ returns-then-not-is_reached c = let g = c.args.g.now in
     step_unseen (bare_listing g.listing) c.args.i (fam_text g.listing.texts c.args.f) (volatile (rules_of c.args.rules)) c.args.k _ (search rules)
 
 pub returns : goal.returns
-returns c = let g = c.args.g.now in
-    step_on (bare_listing g.listing) c.args.i (fam_text g.listing.texts c.args.f) (volatile (rules_of c.args.rules)) c.args.k (omega (arith, lines_long g, c.requires.1)) c.args.seen.now c.if-not-is_reached.false c.stops_at.ensures c.if-stops_at.false c.mark_next.ensures
+returns c =
+    let a = c.args in
+    let g = a.g.now in
+    step_on (bare_listing g.listing) a.i (fam_text g.listing.texts a.f) (volatile (rules_of a.rules)) a.k (omega (arith, lines_long g, c.requires.1)) a.seen.now
+    c.if-not-is_reached.false c.stops_at.ensures c.if-stops_at.false c.mark_next.ensures

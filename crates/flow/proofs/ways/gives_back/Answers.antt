@@ -12,4 +12,5 @@ returns-then-n-eq0 c =
 pub returns : goal.returns
 returns c =
     let g = c.args.listing.now in
-    gives_at g.texts.tape.now g.texts.area.now g.tokens.now c.args.l c.line_of-line.ensures (omega arith) _ (elim c.if-n-lt2.branch [ then-n-lt2 w ↦ omega (arith, w.at-is) | else-n-lt2 w ↦ omega (arith, w.at-is) ]) c.is_kw.ensures
+    gives_at g.texts.tape.now g.texts.area.now g.tokens.now c.args.l c.line_of-line.ensures (omega arith) _
+    (elim c.if-n-lt2.branch [ then-n-lt2 w ↦ omega (arith, w.at-is) | else-n-lt2 w ↦ omega (arith, w.at-is) ]) c.is_kw.ensures

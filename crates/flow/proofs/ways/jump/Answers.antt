@@ -43,11 +43,13 @@ returns-in_err-s c =
     let g = c.args.listing.now in
     let t = g.texts in
     let w : c.symbol_from.result ≡ None = c.in_err-s.was in
-    let e = jumps_unnamed (bare_listing g) t.tape.now t.area.now (part_of g.tokens.now c.args.l) c.line_of-line.ensures _ c.kw_at.ensures c.in_ok-g.was _ (c.symbol_from.ensures t.tape.now t.area.now) w in
+    let e = jumps_unnamed (bare_listing g) t.tape.now t.area.now (part_of g.tokens.now c.args.l) c.line_of-line.ensures _ c.kw_at.ensures
+    c.in_ok-g.was _ (c.symbol_from.ensures t.tape.now t.area.now) w in
     rw c.from_residual-in_err-s.ensures e
 
 pub returns : goal.returns
 returns c =
     let g = c.args.listing.now in
     let t = g.texts in
-    jumps_to (bare_listing g) t.tape.now t.area.now (part_of g.tokens.now c.args.l) c.line_of-line.ensures _ c.kw_at.ensures c.in_ok-g.was _ (c.symbol_from.ensures t.tape.now t.area.now) c.in_ok-s.was _ c.label_named.ensures
+    jumps_to (bare_listing g) t.tape.now t.area.now (part_of g.tokens.now c.args.l) c.line_of-line.ensures _ c.kw_at.ensures
+    c.in_ok-g.was _ (c.symbol_from.ensures t.tape.now t.area.now) c.in_ok-s.was _ c.label_named.ensures

@@ -4,7 +4,8 @@ use mathlib.Core.Path.{refl, ◌∙◌}
 use Rattle.lines.specs.Texts.{bare_listing}
 use Rattle.flow.specs.declared.lineforms.Form.TheVariants.{Empty, Statement, Label, Opening, Block, Guarded, Do, Goto, IfGoto, Return, IfReturn, While, Closing}
 use Rattle.flow.proofs.Tables.{table_form, the_form, not_form}
-use Rattle.flow.proofs.Nexts.{next_statement, next_label, next_opening, next_brackets, next_guarded, next_do, next_goto, next_if_goto, next_return, next_if_return, next_while, next_closing, next_empty, next_block}
+use Rattle.flow.proofs.Nexts.{next_statement, next_label, next_opening, next_brackets, next_guarded, next_do}
+use Rattle.flow.proofs.Nexts.{next_goto, next_if_goto, next_return, next_if_return, next_while, next_closing, next_empty, next_block}
 use Rattle.flow.proofs.ways.next_of.Goals as goal
 
 pub returns-in-Statement : goal.returns-in-Statement
