@@ -6,6 +6,7 @@ pub mod Strange
 pub mod Unmatched
 pub mod Walking
 pub mod Spreading
+pub mod Hanging
 pub mod Nexts
 pub mod Tables
 pub mod Named

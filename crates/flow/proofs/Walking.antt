@@ -38,7 +38,7 @@ place_from i (l ∷ ls) (suc k) h = place_from (suc i) ls k (omega arith) ∙ om
 pub places_long : (ls : Listing) → length (places ls) ≡ length ls
 places_long ls = long_from 0 ls
 
-place_at : (ls : Listing) (k : ℕ) → k < length ls → get_or (places ls) k 0 ≡ k
+pub place_at : (ls : Listing) (k : ℕ) → k < length ls → get_or (places ls) k 0 ≡ k
 place_at ls k h = place_from 0 ls k h ∙ omega arith
 
 place_more : (ls : Listing) (k : ℕ) → k < length ls → drop k (places ls) ≡ k ∷ drop (k + 1) (places ls)

@@ -22,6 +22,6 @@ pub use gathering::{NO_FORM, form_at, gather_forms};
 pub use lineforms::{Form, LineForm, line_form};
 pub use marks::{Marking, marks_of};
 pub use opaque::{holds, is_opaque};
-pub use reaching::{count_set, is_dark, is_known, is_stale, mark_next, reached, sweep};
+pub use reaching::{count_set, hangs, is_dark, is_known, is_stale, mark_next, reached, sweep};
 pub use values::{ends, is_guarded, reads};
 pub use ways::{FormedListing, Next, next_of};

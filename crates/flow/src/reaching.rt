@@ -4,12 +4,15 @@ ghost use Rattle.std.specs.Prelude.{ℕ, ◌≡◌, ◌+◌, ◌<◌, suc, true,
 ghost use Rattle.std.proofs.Math.Seq.{slice};
 ghost use Rattle.reference.specs.Lists.{count, is_some};
 ghost use Rattle.reference.specs.Rules.{volatile};
-ghost use Rattle.cautions.specs.Forms.{places, next, ways, is_dark, reach, sweep};
+ghost use Rattle.reference.specs.Listing.{◌at◌};
+ghost use Rattle.reference.specs.Text.{bytes, ◌≟◌};
+ghost use Rattle.cautions.specs.Forms.{form, places, next, ways, hangs, is_dark, reach, sweep};
 ghost use Rattle.flow.specs.Ways.{Tabled, forms_of};
 ghost use Rattle.flow.specs.Reaching.{is_one, cases_in, after, is_stale, stops_at, onward_of, stepped, reached_table};
 ghost use Rattle.ground.specs.Rules.{rules_of};
 ghost use Rattle.lines.specs.Texts.{Known, bare_listing, fam_text};
 
+use crate::lineforms::Form;
 use crate::values;
 use crate::ways::{FormedListing, Next, next_of};
 use ground::rules::Rules;
@@ -99,6 +102,31 @@ pub fn is_dark(g: &FormedListing<'_>, k: usize) -> bool
         return true;
     }
     g.forms[k].is_opaque
+}
+
+// Whether line k is a label alone.
+fn is_label_line(g: &FormedListing<'_>, k: usize) -> bool
+    requires { Tabled g.now × (k < length g.now.listing.lines.now) }
+    ensures { result ≡ (form (bare_listing g.now.listing at k).tokens ≟ bytes ":") }
+{
+    match g.forms[k].form {
+        Form::Label => true,
+        _ => false,
+    }
+}
+
+// Whether line i hangs on the line above it, labels left out: it is not known which lines come next after that one.
+pub fn hangs(g: &FormedListing<'_>, i: usize) -> bool
+    requires { Tabled g.now × (i < length g.now.listing.lines.now) }
+    ensures { result ≡ hangs (bare_listing g.now.listing) (ways (bare_listing g.now.listing)) i }
+{
+    for j in 0..i {
+        let k = i - 1 - j;
+        if !is_label_line(g, k) {
+            return !is_known(g, k);
+        }
+    }
+    false
 }
 
 // Whether line k is looked into and reads the family: where the value that it finds is an older one, it reads that.
