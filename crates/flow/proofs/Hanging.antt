@@ -1,15 +1,15 @@
 -- Whether a line hangs on the line above it: the scan upwards, line by line. Assumes nothing.
-use Prim.Native.Nat.{ℕ, suc, ◌+◌, ◌-◌, ◌≤◌, ◌<◌}
+use Prim.Native.Nat.{ℕ, ◌+◌, ◌-◌, ◌≤◌, ◌<◌}
 use native.Mathlib.Omega.{arith}
-use mathlib.Core.Path.{◌≡◌, refl, sym, ap, ◌∙◌}
+use mathlib.Core.Path.{◌≡◌, refl, ap, ◌∙◌}
 use mathlib.Core.Bool.{Bool, true, false, not as flip}
 use mathlib.Core.List.{List, [], ◌∷◌, reverse}
 use mathlib.Core.Option.{Option, none, some}
 use lib.ListN.{length, take, get_or}
 use Rattle.std.proofs.lemmas.List.{take_more, reverse-append}
-use Rattle.reference.specs.Control.{not, ◌and◌, when◌then◌else◌, let_some◌else◌then◌}
+use Rattle.reference.specs.Control.{not, when◌then◌else◌, let_some◌else◌then◌}
 use Rattle.reference.specs.Lists.{find, is_some}
-use Rattle.reference.specs.Text.{Text, bytes, ◌≟◌}
+use Rattle.reference.specs.Text.{bytes, ◌≟◌}
 use Rattle.reference.specs.Listing.{Listing, ◌at◌}
 use Rattle.laws.proofs.Scans.{not_same}
 use Rattle.cautions.specs.Forms.{form, places, next, ways, hangs}

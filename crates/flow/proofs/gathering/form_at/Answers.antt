@@ -1,6 +1,6 @@
 -- `flow::gathering::form_at` meets its contract. Assumes nothing.
 use native.Mathlib.Omega.{arith}
-use lib.ListN.{get_or, length, take, drop}
+use lib.ListN.{get_or, drop}
 use Rattle.std.proofs.lemmas.List.{length-take}
 use Rattle.lines.specs.Lines.{first_of, count_of}
 use Rattle.lines.proofs.words.Lines.{count-below}

@@ -1,6 +1,5 @@
 -- `flow::reaching::reached` meets its contract. Assumes nothing.
 use mathlib.Core.Path.{ap, ◌∙◌}
-use native.Mathlib.Omega.{arith}
 use lib.ListN.{length}
 use mathlib.Core.List.{List}
 use mathlib.Core.Bool.{Bool}
@@ -12,7 +11,7 @@ use Rattle.flow.proofs.Walking.{sweeps_done, sweeps_more, sweeps_end, sweep_long
 use Prim.Native.Nat.{ℕ, suc, ◌-◌}
 use Rattle.cautions.specs.Forms.{reach}
 use mathlib.Core.Bool.{false}
-use mathlib.Core.Path.{◌≡◌, sym}
+use mathlib.Core.Path.{◌≡◌}
 use lib.ListN.{replicate}
 use Rattle.flow.proofs.Tables.{lines_long}
 use Rattle.flow.proofs.Walking.{reach_long, walk_begin}
