@@ -89,7 +89,7 @@ other_unguarded : (s : Text) → has KNOWN s ≡ false → false ≡ has (bytes 
 unfolding ◌or◌
 other_unguarded s h = let n = none_of s h in rw (n.guarded, n.if_return, n.else_if) refl
 
-guarded_by : (s : Text) (f : Form) → Classed s f → guards f ≡ has (bytes "if;" ∷ bytes "ifreturn;" ∷ bytes "elseif}{" ∷ []) s
+pub guarded_by : (s : Text) (f : Form) → Classed s f → guards f ≡ has (bytes "if;" ∷ bytes "ifreturn;" ∷ bytes "elseif}{" ∷ []) s
 unfolding ◌or◌ ◌and◌
 guarded_by s Empty h = rw (h.known refl) refl
 guarded_by s Statement h = rw (h.known refl) refl

@@ -16,7 +16,8 @@ use lines::words;
 
 // ---- control words
 
-pub(crate) fn is_control_word(s: &[u8]) -> bool
+// Whether a text is a word of control.
+pub fn is_control_word(s: &[u8]) -> bool
     ensures { result ≡ has CONTROL s.now }
 {
     text::same(b"if", s)
@@ -31,7 +32,8 @@ pub(crate) fn is_control_word(s: &[u8]) -> bool
         || text::same(b"switch", s)
 }
 
-pub(crate) fn is_case_word(s: &[u8]) -> bool
+// Whether it is one that makes its line a case.
+pub fn is_case_word(s: &[u8]) -> bool
     ensures { result ≡ has CASES s.now }
 {
     text::same(b"case", s) || text::same(b"default", s)

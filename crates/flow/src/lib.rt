@@ -15,6 +15,7 @@ mod reaching; // how far a value goes
 mod values; // what a line does to a value
 mod spelling; // what is kept of a form as it is put together
 
+pub use forms::{is_case_word, is_control_word};
 pub use frames::{
     Frame, frame_of, frame_of_expr, is_loose, is_loose_expr, is_truth, is_truth_expr,
 };
