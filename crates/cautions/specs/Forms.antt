@@ -17,10 +17,10 @@ use Rattle.cautions.specs.Texts.{is_opaque}
 
 -- ---- forms
 
-abbrev CASES : List Text
+abbrev pub CASES : List Text
 CASES = bytes "case" ∷ bytes "default" ∷ []
 
-abbrev CONTROL : List Text
+abbrev pub CONTROL : List Text
 CONTROL =
     bytes "if" ∷ bytes "else" ∷ bytes "do" ∷ bytes "while" ∷ bytes "for" ∷ bytes "goto" ∷ bytes "return" ∷ bytes "break"
     ∷ bytes "continue" ∷ bytes "switch" ∷ []
@@ -88,11 +88,11 @@ abbrev pub places : Listing → List ℕ
 places = places_from 0
 
 -- a statement, a label, a brace, `__asm { .. }`, `if (..) S;`, `do {`: the next line follows
-abbrev FALL : List Text
+abbrev pub FALL : List Text
 FALL = map bytes (";" ∷ ":" ∷ "{" ∷ "{}" ∷ "if;" ∷ "do{" ∷ [])
 
 -- what a `}` alone may close
-abbrev BLOCKS : List Text
+abbrev pub BLOCKS : List Text
 BLOCKS = map bytes ("{" ∷ "if{" ∷ "switch{" ∷ "else}{" ∷ "elseif}{" ∷ [])
 
 -- The line behind the last stands for the caller.

@@ -254,7 +254,8 @@ impl Call<'_> {
     }
 
     // How far the next value lies that is returned too, as a power of 2: 64 where there is none, 0 where every value is. What is returned
-    // is m * v + c modulo 2^64: a value works for a wanted one that is 2^s more where 2 divides m at most s times, and not where more often.
+    // is m * v + c modulo 2^64: a value works for a wanted one that is 2^s more where 2 divides m at most s times, and not where more
+    // often.
     fn step_of(&self, tape: &[u8], chosen: &[u8], list: &[u8], wanted: u64) -> u32 {
         for s in 0..64u32 {
             let further = wanted.wrapping_add(1u64 << s);

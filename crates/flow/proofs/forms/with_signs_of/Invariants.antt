@@ -1,0 +1,11 @@
+-- What the loop of `flow::forms::with_signs_of` keeps true: the bytes so far are read. Assumes nothing.
+use Rattle.std.proofs.Common.{ℕ, ◌≡◌, ◌+◌, ◌++◌, drop}
+use Rattle.reference.specs.Text.{Text}
+use Rattle.flow.specs.Forms.{signs_of}
+use Rattle.flow.specs.Spelling.{spelled, Short}
+use Rattle.flow.proofs.forms.with_signs_of.Given as goal
+
+abbrev pub invariant-loop-b : goal.invariant-loop-b
+invariant-loop-b l =
+    ((more : Text) → spelled l.g (signs_of (drop l.b-index l.s) ++ more) ≡ spelled l.fn.f (signs_of l.s ++ more))
+    × ((n : ℕ) → Short l.fn.f n → Short l.g (n + l.b-index))

@@ -1,0 +1,13 @@
+-- Laws of the scans, of sizes, and of the two parts.
+pub mod Reading
+pub mod Beside
+pub mod Calling
+pub mod Copying
+pub mod Sizes
+pub mod Resting
+pub mod Using
+pub mod Keeping
+pub mod Moving
+pub mod Raising
+pub mod Widening
+pub mod Splitting
