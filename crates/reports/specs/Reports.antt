@@ -38,6 +38,10 @@ meanings =
 unfoldable pub meaning : ℕ → Text
 meaning number = get_or meanings number []
 
+-- refused NUMBER at PLACE
+unfoldable pub head : ℕ → ℕ → Text
+head number place = bytes "refused " ++ decimal number ++ bytes " at " ++ decimal place
+
 -- refused NUMBER at PLACE: WORDS
 unfoldable pub refusal : ℕ → ℕ → Text
 refusal number place = bytes "refused " ++ decimal number ++ bytes " at " ++ decimal place ++ bytes ": " ++ meaning number ++ (10 ∷ [])

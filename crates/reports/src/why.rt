@@ -1,9 +1,10 @@
 // The words for one reason, by what stands in the tape at the place of a refusal.
 ghost use Rattle.std.specs.Prelude.{◌≡◌, ◌≤◌, ℕ, List, length};
 ghost use Rattle.answers.specs.Refusals.{number_of};
-ghost use Rattle.tape.specs.Commands.{command_in, size_of};
+ghost use Rattle.tape.specs.Commands.{command_in, size_of, standing};
 ghost use Rattle.reports.specs.Why.{no_command, misplaced, unbounded, too_many, words_by, words_at, words};
 
+use crate::profile::broken;
 use crate::text_of;
 use answers::{Reason, Refusal};
 use tape::commands::Command;
@@ -82,18 +83,26 @@ fn words_by(reason: Reason, command: Command) -> &'static [u8]
     }
 }
 
+// By what stands at the place.
+#[tactic(auto, unfolding(crate::specs::Why::words_at))]
+fn words_at(tape: &[u8], refused: Refusal) -> &'static [u8]
+    ensures { result.now ≡ words_at (number_of refused.reason) (standing tape.now refused.place) }
+{
+    // Kept: a place is a u64, as C has it; std has no `From` of it for usize, and the error of `try_from` cannot come: no plainer.
+    match command_at::<false>(tape, refused.place as usize) {
+        Ok(command) => words_by(refused.reason, command),
+        Err(_) => text_of(refused.reason),
+    }
+}
+
 // The words for the one reason of a refusal of a tape.
 #[tactic(auto, unfolding(crate::specs::Why::words))]
 pub fn words(tape: &[u8], refused: Refusal) -> &'static [u8]
     ensures { result.now ≡ words tape.now (number_of refused.reason) refused.place }
 {
-    let Refusal { reason, place } = refused;
-    if matches!(reason, Reason::NoCommand) {
-        return no_command(tape, place);
-    }
-    // Kept: a place is a u64, as C has it; std has no `From` of it for usize, and the error of `try_from` cannot come: no plainer.
-    match command_at::<false>(tape, place as usize) {
-        Ok(command) => words_by(reason, command),
-        Err(_) => text_of(reason),
+    match refused.reason {
+        Reason::NoCommand => no_command(tape, refused.place),
+        Reason::OutsideProfile => broken(tape, refused.place as usize), // a line of the listing
+        _ => words_at(tape, refused),
     }
 }
