@@ -2,5 +2,6 @@
 -- as they are shown (Showing).
 pub mod Putting
 pub mod Placing
+pub mod Loading
 pub mod Reasons
 pub mod Showing

@@ -5,7 +5,7 @@ ghost use Rattle.reference.specs.Listing.{Listing};
 ghost use Rattle.reference.specs.Questions.{Passed, read};
 ghost use Rattle.tape.specs.Questions.{AcceptedTape};
 ghost use Rattle.formula.specs.Breaches.{breach_at, Tells};
-ghost use Rattle.reports.specs.Profile.{breach_words, broken, no_register};
+ghost use Rattle.reports.specs.Profile.{breach_words, words_of_breach, broken, no_register};
 
 use crate::explained::put_head;
 use crate::text_of;
@@ -51,24 +51,26 @@ fn breach_in(tape: &[u8], n: usize) -> Option<Breach>
     let mut addresses = [0u64; 256];
     let mut marks = [Marks { low: 0, high: 0 }; 256];
     let loaded = tables::load(tape, &mut tokens, &mut lines, &mut addresses, &mut marks);
-    formula::breach_at(
-        tape,
-        &tokens[..loaded.tokens],
-        &lines[..loaded.lines],
-        n,
-    )
+    formula::breach_at(tape, &tokens[..loaded.tokens], &lines[..loaded.lines], n)
+}
+
+// The general words of 14, where nothing breaks it.
+fn words_of_breach(breach: Option<Breach>) -> &'static [u8]
+    ensures { result.now ≡ words_of_breach breach }
+{
+    match breach {
+        Some(breach) => breach_words(breach),
+        None => text_of(Reason::OutsideProfile),
+    }
 }
 
 // The words for what in line n, counted from 0, of a tape's listing breaks the profile.
 pub(crate) fn broken(tape: &[u8], n: usize) -> &'static [u8]
     ensures { result.now ≡ broken tape.now n }
 {
-    if tape::check::<false>(tape).is_err() {
-        return text_of(Reason::OutsideProfile);
-    }
-    match breach_in(tape, n) {
-        Some(breach) => breach_words(breach),
-        None => text_of(Reason::OutsideProfile),
+    match tape::check::<false>(tape) {
+        Ok(_) => words_of_breach(breach_in(tape, n)),
+        Err(_) => text_of(Reason::OutsideProfile),
     }
 }
 
