@@ -4,4 +4,5 @@ pub mod Putting
 pub mod Placing
 pub mod Loading
 pub mod Reasons
+pub mod Stopping
 pub mod Showing

@@ -4,3 +4,4 @@ pub mod Places
 pub mod Why
 pub mod Explained
 pub mod Profile
+pub mod Because

@@ -1,7 +1,9 @@
 // The words for one reason, by what stands in the tape at the place of a refusal.
-ghost use Rattle.std.specs.Prelude.{◌≡◌, ◌≤◌, ℕ, List, length};
+ghost use Rattle.std.specs.Prelude.{◌≡◌, ◌≤◌, ℕ, List, true, length};
 ghost use Rattle.answers.specs.Refusals.{number_of};
 ghost use Rattle.tape.specs.Commands.{command_in, size_of, standing};
+ghost use Rattle.reference.specs.Questions.{Refused, read};
+ghost use Rattle.reports.specs.Because.{Stops, OfProfile, has_several};
 ghost use Rattle.reports.specs.Why.{no_command, misplaced, unbounded, too_many, words_by, words_at, words};
 
 use crate::profile::broken;
@@ -95,9 +97,8 @@ fn words_at(tape: &[u8], refused: Refusal) -> &'static [u8]
     }
 }
 
-// The words for the one reason of a refusal of a tape.
 #[tactic(auto, unfolding(crate::specs::Why::words))]
-pub fn words(tape: &[u8], refused: Refusal) -> &'static [u8]
+fn words_by_reason(tape: &[u8], refused: Refusal) -> &'static [u8]
     ensures { result.now ≡ words tape.now (number_of refused.reason) refused.place }
 {
     match refused.reason {
@@ -105,4 +106,16 @@ pub fn words(tape: &[u8], refused: Refusal) -> &'static [u8]
         Reason::OutsideProfile => broken(tape, refused.place as usize), // a line of the listing
         _ => words_at(tape, refused),
     }
+}
+
+// The words for the one reason of a refusal of a tape: of 3, 5, 6 and 10 what is not met where its reading stops, of 14 the first of the
+// profile's tests that fails.
+pub fn words(tape: &[u8], refused: Refusal) -> &'static [u8]
+    ensures words { result.now ≡ words tape.now (number_of refused.reason) refused.place }
+    ensures stops { has_several (number_of refused.reason) ≡ true
+        → read tape.now ≡ Refused (number_of refused.reason) refused.place
+        → Stops tape.now (number_of refused.reason) refused.place result.now }
+    ensures profile { OfProfile tape.now (number_of refused.reason) refused.place result.now }
+{
+    words_by_reason(tape, refused)
 }

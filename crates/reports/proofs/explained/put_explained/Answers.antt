@@ -22,7 +22,7 @@ put-requires c =
 pub put-requires-2 : goal.put-requires-2
 put-requires-2 c =
     let n : ℕ = number_of c.args.refused.reason in
-    let k : length c.words-words.result.now ≤ 200 = rw c.words-words.ensures (words-length c.args.tape.now n c.args.refused.place) in
+    let k : length c.words-words.result.now ≤ 200 = rw c.words-words.ensures.words (words-length c.args.tape.now n c.args.refused.place) in
     room_left c.put.ensures _
     (room_left c.put_located.ensures _
     (room_left c.put_head.ensures _
@@ -31,7 +31,7 @@ put-requires-2 c =
 pub put-requires-3 : goal.put-requires-3
 put-requires-3 c =
     let n : ℕ = number_of c.args.refused.reason in
-    let k : length c.words-words.result.now ≤ 200 = rw c.words-words.ensures (words-length c.args.tape.now n c.args.refused.place) in
+    let k : length c.words-words.result.now ≤ 200 = rw c.words-words.ensures.words (words-length c.args.tape.now n c.args.refused.place) in
     room_left c.put-2.ensures _
     (room_left c.put.ensures _
     (room_left c.put_located.ensures _
@@ -44,5 +44,5 @@ returns c =
     let h : c.new-line.result.at ≤ length c.new-line.result.out.now = omega arith in
     let l = rw c.spot_told-spot.ensures at c.put_located.ensures in
     let w = then_puts (then_puts c.put_head.ensures h l) h c.put.ensures in
-    let x = then_puts w h (puts_as c.put-2.ensures c.words-words.ensures) in
+    let x = then_puts w h (puts_as c.put-2.ensures c.words-words.ensures.words) in
     at_front (then_puts x h c.put-3.ensures) (search rules) (search rules) (search rules)
