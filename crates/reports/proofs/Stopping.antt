@@ -8,7 +8,8 @@ use Rattle.reference.specs.Lists.{any}
 use Rattle.reference.specs.Text.{Text, bytes}
 use Rattle.reference.specs.Listing.{Token, Listing, is, Number}
 use Rattle.reference.specs.Tape.{old, Command, new_line, marked, new_token, end, command_by, command_size_by}
-use Rattle.reference.specs.Questions.{Totals, Advance, no_commands, is_command, is_command_by, ends_inside, ends_inside_by, has_line, is_within, is_few, is_end, is_short, is_printable, is_over, add, place_at, ask}
+use Rattle.reference.specs.Questions.{Totals, Advance, no_commands, is_command, is_command_by, ends_inside, ends_inside_by, has_line, is_within, is_few, is_end}
+use Rattle.reference.specs.Questions.{is_short, is_printable, is_over, add, place_at, ask}
 use Rattle.reference.specs.Questions.{Answer, Refused, Passed, let_passed◌then◌, read_command, read_command_by, read_from, read_from_by, read, read_by}
 use Rattle.reference.proofs.Cases.{by-if, both, neither}
 use Rattle.laws.proofs.Scans.{and_true, or_true, or_false, if-true, if-false}
@@ -161,7 +162,12 @@ module _ (tape : List ℕ) (at : ℕ) (t : Totals) (n p : ℕ) (e : read_command
   abbrev size : ℕ
   size = command_size_by old (drop at tape)
 
-  refused : (answers_no n ((3, is_command (drop at tape)) ∷ (4, ends_inside (drop at tape)) ∷ (5, has_line t here) ∷ (6, is_within here) ∷ (10, is_few t here) ∷ (11, is_short t here) ∷ (7, is_printable here) ∷ (8, is_over (drop at tape) here) ∷ []) ≡ true) × (place_at at here n ≡ p)
+  abbrev asked : List (ℕ × Bool)
+  asked =
+      (3, is_command (drop at tape)) ∷ (4, ends_inside (drop at tape)) ∷ (5, has_line t here) ∷ (6, is_within here) ∷ (10, is_few t here)
+      ∷ (11, is_short t here) ∷ (7, is_printable here) ∷ (8, is_over (drop at tape) here) ∷ []
+
+  refused : (answers_no n asked ≡ true) × (place_at at here n ≡ p)
   unfolding read_command_by
   refused = no_answer (place_at at here) n p _ _ e
 

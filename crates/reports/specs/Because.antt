@@ -1,5 +1,5 @@
--- Of a refusal by a question with several reasons (3, 5, 6 and 10): where the reading of the tape stops, which part of the question's test is
--- not met there, and the words for it; and of 14 which test of the profile fails. That the words of Why.antt are these is a theorem
+-- Of a refusal by a question with several reasons (3, 5, 6 and 10): where the reading of the tape stops, which part of the question's test
+-- is not met there, and the words for it; and of 14 which test of the profile fails. That the words of Why.antt are these is a theorem
 -- (proofs/Stopping.antt). Assumes nothing.
 use Rattle.std.specs.Prelude.{◌≡◌, ℕ, ◌+◌, ◌<◌, ◌≤◌, ◌||◌, Bool, false, List, eqb, length, drop}
 use Rattle.reference.specs.Text.{Text, bytes}

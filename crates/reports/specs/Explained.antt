@@ -7,7 +7,7 @@ use Rattle.reports.specs.Places.{nowhere, spot_of}
 use Rattle.reports.specs.Reports.{head}
 use Rattle.reports.specs.Why.{words}
 
--- at these places no command stands whole: what is known is the one before
+-- of 3 and 4 no command stands whole at the place, and of 8 it is the end: what is known is the command before it
 abbrev pub is_behind : ℕ → Bool
 is_behind number = eqb number 3 || eqb number 4 || eqb number 8
 

@@ -1,5 +1,5 @@
--- The words for what in a line breaks the profile of straight pieces (14), and for the name that is no register (16). Which of the profile's
--- tests it is stands in crate formula (specs/Breaches.antt), and which name in crate start (specs/Unknown.antt). Assumes nothing.
+-- The words for what in a line breaks the profile of straight pieces (14), and for the name that is no register (16). Which of the
+-- profile's tests it is stands in crate formula (specs/Breaches.antt), and which name in crate start (specs/Unknown.antt). Assumes nothing.
 use Rattle.std.specs.Prelude.{ℕ, List, [], ◌∷◌, ◌++◌, Option, Some, None}
 use Rattle.reference.specs.Text.{Text, bytes}
 use Rattle.reference.specs.Listing.{Listing}
