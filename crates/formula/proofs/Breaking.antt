@@ -120,12 +120,14 @@ over-tokens n (t ∷ ts) = go (λ m. over-tokens m ts) (is Punct t) refl
     rest more none = refl
     rest more (some m) = more m
 
-    one : ((m : ℕ) → open_behind m ts ≡ open_over m (lexemes ts)) → eqb t.kind Punct ≡ false → One t → (let_some (open_after n t) else none then λ m. open_behind m ts) ≡ open_over n (lexemes_of t ++ lexemes ts)
+    one : ((m : ℕ) → open_behind m ts ≡ open_over m (lexemes ts)) → eqb t.kind Punct ≡ false → One t
+        → (let_some (open_after n t) else none then λ m. open_behind m ts) ≡ open_over n (lexemes_of t ++ lexemes ts)
     one more k (a_register x w e) = rw (k, e) (more n)
     one more k (a_number z w q e) = rw (k, e) (more n)
     one more k (a_junk w q e) = rw (k, e) (more n)
 
-    go : ((m : ℕ) → open_behind m ts ≡ open_over m (lexemes ts)) → (b : Bool) → is Punct t ≡ b → (let_some (open_after n t) else none then λ m. open_behind m ts) ≡ open_over n (lexemes_of t ++ lexemes ts)
+    go : ((m : ℕ) → open_behind m ts ≡ open_over m (lexemes ts)) → (b : Bool) → is Punct t ≡ b
+        → (let_some (open_after n t) else none then λ m. open_behind m ts) ≡ open_over n (lexemes_of t ++ lexemes ts)
     go more true e = let k : eqb t.kind Punct ≡ true = unfold is in e in rw (k, punct-lexemes t e) (rest more (open_in n t.text) ∙ sym (over-signs n t.text (lexemes ts)))
     go more false e = one more (unfold is in e) (one_of t e)
 
@@ -469,16 +471,16 @@ module _ (tape : Text) (tokens lines : List ℕ) (reading : Reading) (n : ℕ) w
       unfolding first_breach
       indent_breaks d = sym (tests_there ∙ rw (← ei, ← ej, ne_eqb i j d) refl)
 
-      pub tokens_break : (i ≡ j) → {us : List ℕ} → us ≡ part_of tokens (get_or lines n 0) → {r : std.Option Breach}
-          → r ≡ first_breach (tests_of (eqb (n + 1) (length lines)) (tokens_of tape tape us)) → r ≡ breach_at listing n
+      pub tokens_break : (i ≡ j) → {us : List ℕ} → us ≡ part_of tokens (get_or lines n 0) → {last : Bool} → last ≡ eqb (n + 1) (length lines)
+          → {r : std.Option Breach} → r ≡ first_breach (tests_of last (tokens_of tape tape us)) → r ≡ breach_at listing n
       unfolding first_breach
-      tokens_break d {us} eu {r} er = er ∙ same ∙ sym (tests_there ∙ holds)
+      tokens_break d {us} eu {last} el {r} er = er ∙ same ∙ sym (tests_there ∙ holds)
         where
           words : List ℕ
           words = part_of tokens (get_or lines n 0)
 
-          same : first_breach (tests_of (eqb (n + 1) (length lines)) (tokens_of tape tape us)) ≡ first_breach (tests_of (eqb (suc n) (length lines)) (tokens_of tape tape words))
-          same = rw (eu, add-one n) refl
+          same : first_breach (tests_of last (tokens_of tape tape us)) ≡ first_breach (tests_of (eqb (suc n) (length lines)) (tokens_of tape tape words))
+          same = rw (el, eu, add-one n) refl
 
           holds : first_breach ((breach.Indent, eqb (indent_of (get_or lines n 0)) (indent_of (get_or lines 0 0))) ∷ tests_of (eqb (suc n) (length lines)) (tokens_of tape tape words))
               ≡ first_breach (tests_of (eqb (suc n) (length lines)) (tokens_of tape tape words))

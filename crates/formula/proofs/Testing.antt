@@ -1,6 +1,7 @@
 -- The tests of a line that the code asks: of a token, the brackets that are open, the first test that fails. Assumes nothing.
 use Rattle.std.proofs.Common.{◌≡◌, ℕ, zero, suc, pred, ◌+◌, ◌*◌, ◌<◌, ◌≤◌, ◌&&◌, Bool, true, false, not, eqb, List, [], ◌∷◌, ◌++◌, length, get_or, drop, ℤ, sym, refl, ap, ◌∙◌, arith, if◌then◌else◌}
-use Rattle.std.proofs.Common.{length-take, add-one, drop-cons, eq-eqb, ne_eqb}
+use Rattle.std.proofs.lemmas.Bool.{eqb-false}
+use Rattle.std.proofs.Common.{eqb-true, length-take, add-one, drop-cons, eq-eqb, ne_eqb}
 use mathlib.Core.Option.{Option, none, some}
 use Rattle.std.specs.Prelude as std
 use Rattle.std.specs.Prelude.{Some, None}
@@ -40,6 +41,14 @@ module _ (K : ℕ) {k d : ℕ} (ek : k ≡ d) where
       turned : (x y : Bool) → not x ≡ y → x ≡ not y
       turned true y e = ap not e
       turned false y e = ap not e
+
+-- two tests of numbers that say the same
+pub same_test : (a b c d : ℕ) → (a ≡ b → c ≡ d) → (c ≡ d → a ≡ b) → eqb a b ≡ eqb c d
+same_test a b c d f g = go (eqb c d) refl
+  where
+    go : (x : Bool) → eqb c d ≡ x → eqb a b ≡ x
+    go true p = eq-eqb a b (g (eqb-true c d p))
+    go false p = ne_eqb a b (λ e. eqb-false c d p (f e))
 
 -- ---- what the tokens begin with
 

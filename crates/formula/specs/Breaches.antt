@@ -1,5 +1,5 @@
 -- What in a line breaks the profile of straight pieces (request M-106): the tests of `breaks` (crate reference, specs/Straight.antt), one
--- after the other, each with what breaks the profile where it fails. That they say the same as `breaks` is a theorem (proofs/Breaking.antt).
+-- after the other, each with what breaks the profile where it fails. That they say what `breaks` says is a theorem (proofs/Breaking.antt).
 -- Assumes nothing.
 use Rattle.std.specs.Prelude.{◌≡◌, ℕ, suc, pred, ◌<◌, ◌&&◌, ◌||◌, Bool, true, false, not, List, [], ◌∷◌, ◌++◌, eqb, length, if◌then◌else◌}
 use Rattle.std.specs.Prelude as std
@@ -131,7 +131,8 @@ pub record Fails (tests : List Test) (b : Breach) : Type 0 where
 -- what is told of line n: that the listing has no line, or the first of its line's tests that fails
 pub data Told (lines : Listing) (n : ℕ) : Breach → Type 0 where
   no_line : lines ≡ [] → Told lines n breach.NoLine
-  fails : {b : Breach} (l : Line) → get lines n ≡ some l → Fails (line_tests (eqb (suc n) (length lines)) (first_indent lines) l) b → Told lines n b
+  fails : {b : Breach} (l : Line) → get lines n ≡ some l → Fails (line_tests (eqb (suc n) (length lines)) (first_indent lines) l) b
+      → Told lines n b
 
 -- Of each listing: of the line by which `breaks` refuses it something is told, and nothing of those before it, nor of any line of a listing
 -- in the profile.

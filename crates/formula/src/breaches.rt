@@ -8,7 +8,8 @@ ghost use Rattle.lines.specs.Texts.{token_of, Points};
 ghost use Rattle.formula.specs.Line.{tokens_of, Readable};
 ghost use Rattle.formula.specs.Profile.{Filled};
 ghost use Rattle.formula.specs.Breaches.{is_narrow, is_untidy, is_unread, is_foreign, open_past, open_in, open_after, open_behind};
-ghost use Rattle.formula.specs.Breaches.{is_paired, token_tests, before, no_beginning, whole_tests, no_front, begins, tests_of, first_breach, breach_at, Tells};
+ghost use Rattle.formula.specs.Breaches.{is_paired, token_tests, before, no_beginning, whole_tests, no_front, begins, tests_of};
+ghost use Rattle.formula.specs.Breaches.{first_breach, breach_at, Tells};
 
 use crate::line::Line;
 use crate::places::{Place, behind};
