@@ -1,5 +1,5 @@
 -- The tests of a line say what `breaks` says: all hold where the line is in the profile, one fails where it is not. Assumes nothing.
-use Rattle.std.proofs.Common.{◌≡◌, ℕ, zero, suc, pred, ◌+◌, ◌<◌, ◌≤◌, ◌&&◌, ◌||◌, Bool, true, false, not, eqb, List, [], ◌∷◌, ◌++◌, map, length, ℤ, sym, refl, ap, ◌∙◌, arith, if◌then◌else◌}
+use Rattle.std.proofs.Common.{◌≡◌, ℕ, zero, suc, ◌+◌, ◌<◌, ◌≤◌, ◌&&◌, Bool, true, false, not, eqb, List, [], ◌∷◌, ◌++◌, map, length, ℤ, sym, refl, ap, ◌∙◌, arith, if◌then◌else◌}
 use Rattle.std.proofs.Common.{get_or, add-one, eq-eqb, ne_eqb}
 use lib.ListN.{length-map}
 use Rattle.std.proofs.Math.Dec.{eqb-suc-suc, eqb-suc-zero, eqb-zero-suc}
@@ -21,8 +21,8 @@ use Rattle.laws.proofs.Scans.{any_append, and_true, and_false, and_kept, or_fals
 use Rattle.lines.specs.Words.{tokens_of}
 use Rattle.lines.specs.Lines.{indent_of, part_of, Reading, line_read, listing_read}
 use Rattle.formula.specs.Terms.{is_junk}
-use Rattle.formula.specs.Breaches.{is_narrow, is_untidy, is_unread, is_foreign, open_past, open_in, open_after, open_behind, is_paired, Test, token_tests, before, no_beginning, whole_tests}
-use Rattle.formula.specs.Breaches.{begins, no_front, tests_of, line_tests, first_breach, first_indent, breach_in, breach_at, Fails, Told, no_line, fails, Tells}
+use Rattle.formula.specs.Breaches.{is_narrow, is_untidy, is_unread, is_foreign, open_past, open_in, open_after, open_behind, is_paired, Test, token_tests, before, whole_tests}
+use Rattle.formula.specs.Breaches.{tests_of, line_tests, first_breach, first_indent, breach_in, breach_at, Fails, Told, no_line, fails, Tells}
 use Rattle.formula.specs.declared.breaches.Breach.{Breach}
 use Rattle.formula.specs.declared.breaches.Breach.TheVariants as breach
 use Rattle.formula.proofs.Left.{punct-lexemes, One, a_register, a_number, a_junk, one_of}

@@ -1,12 +1,12 @@
 -- Which name 16 refuses: the scan for it, and that it is the one for which the call refuses. Assumes nothing.
-use Rattle.std.proofs.Common.{◌≡◌, ℕ, zero, suc, ◌<◌, ◌≤◌, Bool, true, false, List, [], ◌∷◌, map, length, sym, refl, ap, ◌∙◌, arith}
+use Rattle.std.proofs.Common.{◌≡◌, ℕ, zero, suc, ◌≤◌, Bool, true, false, List, [], ◌∷◌, map, length, sym, refl, ap, ◌∙◌, arith}
 use mathlib.Core.Option.{Option, none, some}
 use Rattle.reference.specs.Control.{not, ◌or◌, when◌then◌else◌, let_some◌else◌then◌}
 use Rattle.reference.specs.Lists.{any, find}
 use Rattle.reference.specs.Text.{Text}
 use Rattle.reference.specs.Listing.{Listing}
-use Rattle.reference.specs.Questions.{Answer, Refused}
-use Rattle.reference.proofs.Cases.{by-if, not-true as shut-true, some_inj, none-some, bind-some}
+use Rattle.reference.specs.Questions.{Refused}
+use Rattle.reference.proofs.Cases.{not-true as shut-true, some_inj, none-some, bind-some}
 use Rattle.laws.proofs.Scans.{if-true, if-false, or_true, or_false}
 use Rattle.start.specs.Start.{Entry, entries, is_register, known_entries, solution, ask_names}
 use Rattle.start.specs.Items.{head_of}

@@ -1,6 +1,5 @@
 -- `start::listed::unknown_name` meets its contract. Assumes nothing.
 use mathlib.Core.Path.{ap}
-use mathlib.Core.Bool.{not as flip}
 use Rattle.start.specs.Items.{shown}
 use Rattle.start.proofs.Entries.{head-shorter}
 use Rattle.start.proofs.Naming.{names, searches_first, searches_next, chosen_wrong, entry_wrong, none_wrong}
