@@ -1,19 +1,19 @@
 -- The words for a refusal by 3, 5, 6 or 10 say what is not met where the reading of the tape stops. Assumes nothing.
 use Rattle.std.proofs.Common.{◌≡◌, ℕ, zero, suc, ◌+◌, ◌<◌, ◌≤◌, ◌&&◌, ◌||◌, Bool, true, false, not as flip, List, [], ◌∷◌, eqb, leb, ltb, length, drop, sym, refl, ap, ◌∙◌, arith, if◌then◌else◌}
-use Rattle.std.proofs.Common.{length-drop, eqb-true, eq-eqb}
+use Rattle.std.proofs.Common.{eqb-true, eq-eqb}
 use mathlib.Core.Bool.{false≢true, true≢false}
 use Rattle.std.proofs.lemmas.Bool.{ltb-true, ltb-false, leb-true, leb-false, le-leb, eqb-false}
-use Rattle.reference.specs.Control.{not, ◌and◌, ◌or◌, when◌then◌else◌}
+use Rattle.reference.specs.Control.{not, ◌or◌, when◌then◌else◌}
 use Rattle.reference.specs.Lists.{any}
 use Rattle.reference.specs.Text.{Text, bytes}
 use Rattle.reference.specs.Listing.{Token, Listing, is, Number}
 use Rattle.reference.specs.Tape.{old, Command, new_line, marked, new_token, end, command_by, command_size_by}
-use Rattle.reference.specs.Questions.{Totals, Advance, no_commands, is_command, is_command_by, ends_inside, ends_inside_by, has_line, is_within, is_few, is_end}
+use Rattle.reference.specs.Questions.{Totals, Advance, no_commands, is_command, ends_inside, ends_inside_by, has_line, is_within, is_few}
 use Rattle.reference.specs.Questions.{is_short, is_printable, is_over, add, place_at, ask}
 use Rattle.reference.specs.Questions.{Answer, Refused, Passed, let_passed◌then◌, read_command, read_command_by, read_from, read_from_by, read, read_by}
-use Rattle.reference.proofs.Cases.{by-if, both, neither}
-use Rattle.laws.proofs.Scans.{and_true, or_true, or_false, if-true, if-false}
-use Rattle.reference.proofs.Reading.{Yes, refused_passed, ask-yes, by_passed, command_passed, advances, no_byte_by}
+use Rattle.reference.proofs.Cases.{by-if}
+use Rattle.laws.proofs.Scans.{and_true, or_true, if-true, if-false}
+use Rattle.reference.proofs.Reading.{refused_passed, ask-yes, by_passed, command_passed, advances, no_byte_by}
 use Rattle.reference.proofs.Commands.{form_of, sized, Sized as SizedAs}
 use mathlib.Core.Path.{subst}
 use Rattle.formula.proofs.Breaking.{tells}
