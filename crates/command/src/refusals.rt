@@ -3,7 +3,6 @@
 use crate::files::{Fate, Trouble, front, tell, tell_name};
 use crate::json::print_object;
 use answers::{Reason, Refusal};
-
 pub(crate) use reports::words as words_of; // the words for the one reason
 
 // ---- in a tape
