@@ -1,5 +1,5 @@
-// A listing as the command's `show` prints it: `stdin` has the tape of a press's cycle, `stdout` the listing to read. (The command's own run
-// in the gate is of `counts`, over many files.)
+// A listing as the command's `show` prints it: `stdin` has the tape of a press's cycle, `stdout` the listing to read. (The command's own
+// run in the gate is of `counts`, over many files.)
 #![tactic(auto)]
 
 use listing_text::put_listing;
