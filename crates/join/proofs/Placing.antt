@@ -26,22 +26,6 @@ use Rattle.build.proofs.Rooms.{text_room}
 use Rattle.build.proofs.Adding.{part_length}
 use Rattle.join.specs.Building.{substitution_of, new_tokens, Placeable, Placed}
 
--- ---- whether it is changed
-
-module _ (vol : List Text) (i : ℕ) (p : Plan) (k : ℕ) (l : Line) where
-  pub not-later : k ≤ i → false ≡ changes vol i p k l
-  unfolding changes
-  not-later h = sym (and_false _ (le-ltb i k h))
-
-  pub past_last : i < k → p.last < k → false ≡ changes vol i p k l
-  past_last h g = sym (changes-later vol i p k l h ∙ and_false _ (lt-leb k p.last g))
-
-  pub unchanged : (k ≤ i) ⊎ ((i < k) × (p.last < k)) → false ≡ changes vol i p k l
-  unchanged e = elim e [ inl h ↦ not-later h | inr h ↦ past_last h.0 h.1 ]
-
-  pub by_use : {b : Bool} → i < k → k ≤ p.last → b ≡ is_use (touch l p.fam vol) → b ≡ changes vol i p k l
-  by_use h g e = e ∙ sym (changes-later vol i p k l h ∙ and_true _ (le-leb k p.last g))
-
 -- ---- what is appended
 
 -- the same line, said in other words, and within wider bounds

@@ -1,0 +1,4 @@
+-- The tables in which cautions are kept, and what a join and a cut leave of them.
+pub mod Tables
+pub mod Steps
+pub mod Halfway
