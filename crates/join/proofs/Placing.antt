@@ -1,20 +1,16 @@
 -- One line of the new listing: whether it is changed, and what is appended for it, kept or rewritten. Assumes nothing.
-use Prim.Native.Nat.{ℕ, ◌≤◌, ◌<◌}
+use Prim.Native.Nat.{ℕ, ◌≤◌}
 use native.Mathlib.Omega.{arith}
 use native.Mathlib.Nat.{le_refl}
-use mathlib.Core.Logic.{◌⊎◌, inl, inr}
 use mathlib.Core.Path.{◌≡◌, sym, ap, ◌∙◌}
 use mathlib.Core.Bool.{Bool, true, false}
 use mathlib.Core.List.{List}
 use lib.ListN.{length, length-map}
-use borrow.Author.Tests.{le-ltb, le-leb, lt-leb}
 use Rattle.reference.specs.Text.{Text}
 use Rattle.reference.specs.Listing.{Token, Line}
 use Rattle.reference.specs.Rules.{Rules, volatile}
-use Rattle.reference.specs.Life.{touch, is_use}
-use Rattle.laws.proofs.Scans.{and_true, and_false}
 use Rattle.joining.specs.Plan.{Plan, changes, right_side_of}
-use Rattle.joining.proofs.Acting.{changes-later, line_changed, line_kept}
+use Rattle.joining.proofs.Acting.{line_changed, line_kept}
 use Rattle.lines.specs.Words.{tokens_of}
 use Rattle.lines.specs.Lines.{Reading, part_of, line_read, bare_in}
 use Rattle.plan.specs.declared.plans.Join.{Join}
