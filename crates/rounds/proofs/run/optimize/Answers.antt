@@ -1,6 +1,5 @@
 -- `rounds::run::optimize` meets its contract. Assumes nothing.
 use native.Mathlib.Omega.{arith}
-use mathlib.Core.Path.{sym}
 use Rattle.join.specs.Contents.{contents}
 use Rattle.raising.proofs.Lending.{tables_then, on_as_before}
 use Rattle.rounds.proofs.Lending.{lent_then, lent_written, runnable_again}
