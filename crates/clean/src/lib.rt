@@ -9,7 +9,7 @@ mod told; // what is told of the rounds, in numbers
 
 pub use asking::{asked, outside_profile};
 pub use cleaning::{Finished, optimized};
-pub use entry::{OUTPUT_BYTES, clean};
+pub use entry::{OUTPUT, clean};
 pub use rounds::Tally;
 pub use tabled::Tables;
 pub use told::Told;
