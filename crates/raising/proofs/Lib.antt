@@ -1,0 +1,3 @@
+-- Laws of the steps.
+pub mod Told
+pub mod Renewed
