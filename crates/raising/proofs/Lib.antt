@@ -1,3 +1,5 @@
 -- Laws of the steps.
 pub mod Told
 pub mod Renewed
+pub mod Noted
+pub mod Passing

@@ -176,8 +176,9 @@ module _ (rules : Rules) (lines : Listing) (i : ℕ) (p : Plan) (f : Fam) where
   }
 
   pub noted_all : (k : ℕ) (passed : Bool) (parts : List (std.Option Before)) → p.last < k → Noting k passed parts → ToldBy rules lines i p f parts
-  noted_all k passed parts g h q b =
-      by_cases (dec_lt q k) (λ a. h.done q a) (λ a. h.rest q (omega arith) ∙ sym (told_late q (omega (arith, h.behind)) (omega arith)))
+  noted_all k passed parts g h = record {
+    each = λ q b. by_cases (dec_lt q k) (λ a. h.done q a) (λ a. h.rest q (omega arith) ∙ sym (told_late q (omega (arith, h.behind)) (omega arith)));
+  }
 
 -- ---- a table that tells nothing
 

@@ -56,8 +56,8 @@ told rules lines i p f k =
     else std.None
 
 -- the table has it of each line of the listing
-abbrev pub ToldBy : Rules → Listing → ℕ → Plan → Fam → List (std.Option Before) → Type 0
-ToldBy rules lines i p f parts = (k : ℕ) → k < length lines → get_or parts k std.None ≡ told rules lines i p f k
+pub record ToldBy (rules : Rules) (lines : Listing) (i : ℕ) (p : Plan) (f : Fam) (parts : List (std.Option Before)) : Type 0 where
+  pub each : (k : ℕ) → k < length lines → get_or parts k std.None ≡ told rules lines i p f k
 
 -- the numbers of these, the first of the parts being that of line k
 unfoldable pub noted_from : ℕ → List (std.Option Before) → List ℕ
