@@ -15,7 +15,7 @@ use lines::words;
 // Kept: texts and tokens beside each other, here and in `build_line`, `build` and `patch_lines` of crate join: a `Listing` has the lines
 // too, which the last two write. Plan and rules are apart since contracts name them so (`Plannable (rules_of rules) .. j`), and `fits` and
 // `substitution` of join take the plan alone: out of a struct of both, each use would read `.plan` or `.rules`.
-#[tactic(auto, using(crate::proofs::Changing::unchanged, crate::proofs::Changing::by_use))]
+#[tactic(auto, using(crate::proofs::Changed::unchanged, crate::proofs::Changed::by_use))]
 pub fn is_changed(
     texts: &Texts<'_>,
     tokens: &[u64],
