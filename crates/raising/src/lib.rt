@@ -2,13 +2,7 @@
 // (`kept_cautions` of crate cautions.) Where no cautions are asked for, the tables are empty and nothing is done.
 #![tactic(auto)]
 
-mod begin; // before the first step
-mod cuts; // one cut
-mod joins; // one join
-mod spread; // what a step puts on the lines that the value reaches
+mod spreading; // what a step puts on the lines that the value reaches
 mod tables; // the tables
 
-pub use begin::begin;
-pub use cuts::{after_cut, before_cut};
-pub use joins::{after_join, before_join};
 pub use tables::Raising;
