@@ -8,6 +8,8 @@ pub mod Resting
 pub mod Using
 pub mod Keeping
 pub mod Moving
+pub mod Narrow
+pub mod Placing
 pub mod Raising
 pub mod Widening
 pub mod Splitting
