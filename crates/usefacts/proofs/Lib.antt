@@ -7,6 +7,7 @@ pub mod Sizes
 pub mod Resting
 pub mod Using
 pub mod Keeping
+pub mod Guarding
 pub mod Moving
 pub mod Narrow
 pub mod Placing

@@ -23,7 +23,7 @@ pub use acts::acts_beside;
 pub use constants::{count_numbers, has_wild, is_tame};
 pub use copies::copy_expr;
 pub use oldline::before_line;
-pub use parts::{After, Before, after_line, finish};
+pub use parts::{After, Before, after_line, finish, given};
 pub use reads::{is_changeable, is_volatile_token, is_world};
 pub use sides::{compares, is_apart, is_whole};
 pub use usekinds::{use_kinds, use_sums};
