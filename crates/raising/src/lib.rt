@@ -2,7 +2,11 @@
 // (`kept_cautions` of crate cautions.) Where no cautions are asked for, the tables are empty and nothing is done.
 #![tactic(auto)]
 
+mod beginning; // before the first step
+mod cuts; // one cut
 mod spreading; // what a step puts on the lines that the value reaches
 mod tables; // the tables
 
+pub use beginning::begin;
+pub use cuts::{after_cut, before_cut};
 pub use tables::Raising;

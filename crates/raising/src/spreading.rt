@@ -3,7 +3,7 @@ ghost use Rattle.std.specs.Prelude.{ℕ, suc, ◌≡◌, ◌≤◌, ◌<◌, fal
 ghost use Rattle.reference.specs.Control.{not, ◌and◌, ◌or◌};
 ghost use Rattle.reference.specs.Lists.{any};
 ghost use Rattle.reference.specs.Rules.{volatile};
-ghost use Rattle.cautions.specs.Forms.{reached_from};
+ghost use Rattle.cautions.specs.Forms.{ways, is_dark, reached_from};
 ghost use Rattle.flow.specs.Reaching.{reached_table};
 ghost use Rattle.flow.specs.Ways.{Tabled};
 ghost use Rattle.ground.specs.Rules.{rules_of};
@@ -99,14 +99,21 @@ fn with_kinds(s: u16, o: Others) -> u16
     s | given(STILL_READ, o.stale) | given(ODD_FORM, o.dark)
 }
 
+#[tactic(auto, using(crate::proofs::Putting::eithers))]
+fn either(a: bool, b: bool) -> bool
+    ensures { result ≡ (a or b) }
+{
+    a || b
+}
+
 // Both kinds of lines found.
 fn found_with(found: Others, o: Others) -> Others
     ensures dark { result.dark ≡ (found.dark or o.dark) }
     ensures stale { result.stale ≡ (found.stale or o.stale) }
 {
     Others {
-        dark: found.dark || o.dark,
-        stale: found.stale || o.stale,
+        dark: either(found.dark, o.dark),
+        stale: either(found.stale, o.stale),
     }
 }
 
@@ -137,6 +144,18 @@ fn mark_others(
     found
 }
 
+// Whether one of the others is not looked into, as was found, or line i.
+#[tactic(auto, using(crate::proofs::Putting::one_of))]
+fn is_odd(g: &FormedListing<'_>, i: usize, found: bool) -> bool
+    requires { Tabled g.now × (i < length g.now.listing.lines.now) }
+    ensures { result ≡ (found or is_dark (bare_listing g.now.listing) (ways (bare_listing g.now.listing)) i) }
+{
+    if found {
+        return true;
+    }
+    flow::is_dark(g, i)
+}
+
 // Of a step of line i, the value reaching the lines of the table `seen`: puts on the others of them what they get, and answers the kinds of
 // the lines that are rewritten or cut; `again` says that line i itself reads the value.
 pub(crate) fn spread(
@@ -160,7 +179,8 @@ pub(crate) fn spread(
     ensures long { length sets.new ≡ length sets.old }
 {
     let found = mark_others(g, i, f, rules, parts, seen, sets);
-    let odd = found.dark || flow::is_dark(g, i);
+    let odd = is_odd(g, i, found.dark);
+    let read = either(found.stale, again);
     let handed = flow::is_handed(g, f, rules, seen);
-    given(ODD_FORM, odd) | (given(STILL_READ, found.stale || again) | given(HANDED_OVER, handed))
+    given(ODD_FORM, odd) | (given(STILL_READ, read) | given(HANDED_OVER, handed))
 }

@@ -1,0 +1,3 @@
+-- Laws of the tables and the steps.
+pub mod Lending
+pub mod Putting
