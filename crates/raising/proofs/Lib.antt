@@ -1,4 +1,6 @@
--- Laws of the steps.
+-- Laws of the tables and the steps.
+pub mod Lending
+pub mod Putting
 pub mod Told
 pub mod Renewed
 pub mod Noted

@@ -15,16 +15,15 @@ ghost use Rattle.raising.specs.Halfway.{Halfway, own_kinds, shared_kinds};
 
 use crate::noting::{Noting, last_noted, note, target};
 use crate::renewing::hand_on;
-use crate::stubs::{is_odd, is_slot, past_call, spread};
+use crate::spreading::spread;
 use crate::tables::Raising;
-use flow::{FormedListing, is_truth, reached};
+use flow::{FormedListing, is_odd, is_slot, is_truth, past_call, reached};
 use ground::rules::Rules;
 use lines::fams::Named;
 use lines::texts::Listing;
 use lines::words;
 use plan::plans::{Join, is_bracketed};
-use usefacts::{Before, copy_expr};
-use crate::given::given;
+use usefacts::{Before, copy_expr, given};
 
 // The kinds, as bits.
 const ODD_FORM: u16 = 1;
@@ -60,7 +59,6 @@ fn prepared<'a>(
 }
 
 // The kinds of the join itself, if line `last` is the last that it rewrites.
-#[tactic(auto)]
 fn own_kinds(n: &Noting<'_>, last: usize) -> u16
     requires { Sound n.now × (n.now.plan.line ≤ last) × (last < length n.now.g.listing.lines.now) }
     ensures { result ≡ own_kinds (rules_of n.now.rules) (lines_of n.now) n.now.plan.line (fam_of n.now) (plan_of n.now).expr last }

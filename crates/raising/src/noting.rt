@@ -16,18 +16,16 @@ ghost use Rattle.lines.specs.Texts.{Listed, bare_listing};
 ghost use Rattle.usefacts.specs.Split.{before_of};
 
 ghost use Rattle.raising.specs.Noting.{Sound, fam_of, expr_of, lines_of, plan_of, told, ToldBy, last_noted};
-ghost use Rattle.raising.specs.Spread.{is_noted};
 
-use flow::FormedListing;
-use flow::is_guarded;
+use crate::spreading::is_noted;
+use flow::{FormedListing, is_guarded};
 use ground::rules::Rules;
 use lines::fams::{self, Named};
 use lines::texts::Listing;
 use lines::words;
 use plan::changing::is_changed;
 use plan::plans::Join;
-use crate::stubs::before_line;
-use usefacts::{Before, Joining, is_world};
+use usefacts::{Before, Joining, before_line, is_world};
 
 // A plan that is about to be carried out, in its listing; the register's name as it was assigned, the words of the right side, and what is
 // asked of these: whether it is 0 or 1, and whether it gets brackets where no delimiters spare it.
@@ -127,16 +125,6 @@ pub(crate) fn note(n: &Noting<'_>, parts: &mut [Option<Before>])
     for k in n.plan.line + 1..n.plan.last + 1 {
         parts[k] = told_at(n, k, passed);
         passed = passed || is_world_at(n, k);
-    }
-}
-
-// Whether line k is one of those that are rewritten.
-pub(crate) fn is_noted(parts: &[Option<Before>], k: usize) -> bool
-    ensures { result ≡ is_noted parts.now k }
-{
-    match parts.get(k) {
-        Some(p) => p.is_some(),
-        None => false,
     }
 }
 

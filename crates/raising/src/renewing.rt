@@ -8,7 +8,7 @@ ghost use Rattle.lines.specs.Texts.{Listed, bare_listing};
 ghost use Rattle.raising.specs.Noting.{kinds_told, kinds_from};
 ghost use Rattle.raising.specs.Renewing.{Renewed, RenewedTo};
 
-use crate::noting::is_noted;
+use crate::spreading::is_noted;
 use flow::{LineForm, form_at};
 use lines::texts::Listing;
 use lines::words;
