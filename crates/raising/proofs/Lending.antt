@@ -39,8 +39,7 @@ tables_then p q =
 module _ {a b : Raising} (s : SameLent a b) where
   -- sets are kept, or none are
   pub on_as_before : is_on b ≡ is_on a
-  unfolding is_on
-  on_as_before = refl
+  on_as_before = ap (λ (n : ℕ). ltb 0 n) s.sets_length
 
   -- and there is as much room
   pub room_again : (is_on a ≡ true → Room a) → is_on b ≡ true → Room b

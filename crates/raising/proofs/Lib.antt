@@ -5,3 +5,4 @@ pub mod Told
 pub mod Renewed
 pub mod Noted
 pub mod Passing
+pub mod Before
