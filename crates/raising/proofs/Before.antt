@@ -10,7 +10,7 @@ use lib.Seq.{length-take-le}
 use borrow.Author.Tests.{lt-ltb, eqb-true}
 use Rattle.std.specs.Bool.{◌==◌}
 use Rattle.std.proofs.lemmas.List.{get_or-take}
-use Rattle.reference.specs.Listing.{◌at◌}
+use Rattle.reference.specs.Listing.{Listing, ◌at◌}
 use Rattle.reference.specs.Rules.{Rules}
 use Rattle.lines.specs.Texts.{bare_listing}
 use Rattle.lines.specs.declared.texts.Listing as held
@@ -24,7 +24,8 @@ use mathlib.Core.Option.{some}
 use Rattle.std.specs.Prelude as std
 use Rattle.reference.specs.Names.{Fam}
 use Rattle.reference.proofs.Cases.{some_inj, true-false}
-use Rattle.joining.proofs.Planned.{Planned}
+use Rattle.joining.specs.Plan.{Plan}
+use Rattle.usefacts.specs.declared.parts.Before.{Before}
 use Rattle.ground.specs.Rules.{rules_of}
 use Rattle.ground.specs.declared.rules.Rules as code
 use Rattle.lines.specs.Fams.{Names}
@@ -34,25 +35,14 @@ use Rattle.lines.specs.declared.texts.Texts.{Texts}
 use Rattle.lines.proofs.fams.Families.{named_as}
 use Rattle.raising.specs.Spread.{marked}
 use Rattle.raising.specs.Noting.{ToldBy, fam_of, lines_of, plan_of}
-use Rattle.raising.specs.Halfway.{Halfway, shared_kinds}
+use Rattle.raising.specs.Halfway.{shared_kinds}
 use Rattle.raising.specs.declared.noting.Noting.{Noting}
 use Rattle.raising.specs.Steps.{Joinable, into, plan_in}
 use Rattle.raising.specs.declared.tables.Raising.{Raising}
 use Rattle.raising.proofs.Told.{long}
 
-pub on_if : (r : Raising) → (length r.sets.now == 0) ≡ false → is_on r ≡ true
-on_if r e = go (length r.sets.now) e
-  where
-    go : (n : ℕ) → (n == 0) ≡ false → ltb 0 n ≡ true
-    go zero e = absurd (false≢true (sym e))
-    go (suc n) e = lt-ltb 0 (suc n) (omega arith)
-
-pub off_if : (r : Raising) → (length r.sets.now == 0) ≡ true → is_on r ≡ false
-off_if r e = go (length r.sets.now) e
-  where
-    go : (n : ℕ) → (n == 0) ≡ true → ltb 0 n ≡ false
-    go zero e = refl
-    go (suc n) e = absurd (omega (arith, eqb-true (suc n) 0 e))
+pub on_if : (r : Raising) → (length r.sets.now ≡ 0 → ⊥) → is_on r ≡ true
+on_if r e = lt-ltb 0 (length r.sets.now) (omega (arith, e))
 
 -- the forms of a listing stand at the front of the table
 pub forms_of_listing : {rules : Rules} {h : held.Listing} {j : Join} {r : Raising} → Joinable rules h j → is_on r ≡ true → Kept (bare_listing h) r
@@ -66,6 +56,12 @@ forms_of_listing {h = h} {r = r} q on k =
     }
 
 -- ---- the join with what was found out about it
+
+-- what `Halfway` says where sets are kept
+pub record Halves (rules : Rules) (lines : Listing) (i : ℕ) (p : Plan) (f : Fam) (parts : List (std.Option Before)) (old new : List ℕ) (own : ℕ) : Type 0 where
+  pub told : ToldBy rules lines i p f parts
+  pub sets : take (length lines) new ≡ marked rules lines i f.name (into rules lines i p) (take (length lines) old)
+  pub own_is : own ≡ shared_kinds rules lines i p f
 
 abbrev famed : Texts → Named → Fam
 famed t m = record { name = fam_text t m.family; width = m.width; lowest = m.lowest }
@@ -83,22 +79,18 @@ module _ {rules : code.Rules} {h : held.Listing} {j : Join} {f : Fam} (n : Notin
         (subst (λ (l : held.Listing). P (rules_of rules) l n.plan (fam_of n)) eh
         (subst (λ (q : code.Rules). P (rules_of q) n.g.listing n.plan (fam_of n)) er x)))
 
-    pub halfway : {r r' : Raising} {own : ℕ} (planned : Planned (rules_of rules) (bare_listing h) j.line (plan_in h j)) → planned.def.fam ≡ f → is_on r ≡ true
-        → Kept (bare_listing h) r' → length r'.sets.now ≡ length r.sets.now
-        → ToldBy (rules_of n.rules) (lines_of n) n.plan.line (plan_of n) (fam_of n) r'.parts.now
-        → take (length n.g.listing.lines.now) r'.sets.now
+    -- what is known of its tables then
+    pub halfway : {parts : List (std.Option Before)} {sets sets' : List ℕ} {own : ℕ}
+        → ToldBy (rules_of n.rules) (lines_of n) n.plan.line (plan_of n) (fam_of n) parts
+        → take (length n.g.listing.lines.now) sets'
         ≡ marked (rules_of n.rules) (lines_of n) n.plan.line (fam_of n).name (into (rules_of n.rules) (lines_of n) n.plan.line (plan_of n))
-        (take (length n.g.listing.lines.now) r.sets.now)
+        (take (length n.g.listing.lines.now) sets)
         → own ≡ shared_kinds (rules_of n.rules) (lines_of n) n.plan.line (plan_of n) (fam_of n)
-        → Halfway (rules_of rules) (bare_listing h) j.line (plan_in h j) r r' own
-    halfway {r} {r'} {own} planned same on kept size told sets eo =
+        → Halves (rules_of rules) (bare_listing h) j.line (plan_in h j) f parts sets sets' own
+    halfway {parts} {sets} {sets'} {own} told marks eo =
         record {
-          planned = planned;
-          kept = kept;
-          long = size;
-          told = λ x. rw same (carried (λ q l k g. ToldBy q (bare_listing l) k.line (plan_in l k) g r'.parts.now) told);
-          sets = λ x. rw (same, long h) (carried (λ q l k g. take (length l.lines.now) r'.sets.now
-          ≡ marked q (bare_listing l) k.line g.name (into q (bare_listing l) k.line (plan_in l k)) (take (length l.lines.now) r.sets.now)) sets);
-          own_is = λ x. rw same (carried (λ q l k g. own ≡ shared_kinds q (bare_listing l) k.line (plan_in l k) g) eo);
-          none = λ x. absurd (true-false on x);
+          told = carried (λ q l k g. ToldBy q (bare_listing l) k.line (plan_in l k) g parts) told;
+          sets = rw (long h) (carried (λ q l k g. take (length l.lines.now) sets'
+          ≡ marked q (bare_listing l) k.line g.name (into q (bare_listing l) k.line (plan_in l k)) (take (length l.lines.now) sets)) marks);
+          own_is = carried (λ q l k g. own ≡ shared_kinds q (bare_listing l) k.line (plan_in l k) g) eo;
         }

@@ -113,7 +113,7 @@ pub fn before_join(listing: &Listing<'_>, j: Join, rules: Rules, r: &mut Raising
     ensures halfway { Halfway (rules_of rules) (bare_listing listing.now) j.line (plan_in listing.now j) r.old r.new result }
     ensures lent { SameLent r.old r.new }
 {
-    if r.sets.is_empty() {
+    if r.sets.len() == 0 {
         return 0;
     }
     let Some(name) = target(listing, j.line) else {
@@ -143,7 +143,7 @@ pub fn after_join(listing: &Listing<'_>, i: usize, own: u16, r: &mut Raising<'_>
         → bare_listing listing.now ≡ act rules lines i p → i < length lines → Raised rules lines i p before r.new }
     ensures lent { SameLent r.old r.new }
 {
-    if r.sets.is_empty() {
+    if r.sets.len() == 0 {
         return;
     }
     // Lent on one by one, as in crate join.

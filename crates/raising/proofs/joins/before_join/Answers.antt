@@ -8,6 +8,7 @@ use lib.ListN.{length}
 use Rattle.std.specs.Prelude as std
 use Rattle.reference.specs.Listing.{◌at◌}
 use Rattle.reference.specs.Names.{Fam, family}
+use Rattle.reference.proofs.Cases.{true-false}
 use Rattle.lines.specs.Fams.{Names}
 use Rattle.lines.specs.Texts.{bare_listing}
 use Rattle.lines.specs.declared.fams.Named.{Named}
@@ -16,7 +17,7 @@ use Rattle.plan.specs.declared.plans.Join.{Join}
 use Rattle.raising.specs.Tables.{is_on}
 use Rattle.usefacts.proofs.Narrow.{named_narrow}
 use Rattle.raising.proofs.Told.{assigned, long}
-use Rattle.raising.proofs.Before.{on_if, off_if, forms_of_listing, fam_is, halfway}
+use Rattle.raising.proofs.Before.{on_if, forms_of_listing, fam_is, halfway}
 use Rattle.raising.proofs.joins.before_join.Goals as goal
 
 pub prepared-n-requires : goal.prepared-n-requires
@@ -24,7 +25,7 @@ prepared-n-requires c =
     let h = c.args.listing.now in
     let r = c.args.r.now in
     let q = c.requires.0 in
-    let on : is_on r ≡ true = on_if r (sym c.is_empty.ensures ∙ c.if-is_empty.false) in
+    let on : is_on r ≡ true = on_if r c.if-r-eq0.false in
     let names = c.target.ensures q.planned.def q.planned.known in
     let a = assigned (bare_listing h at c.args.j.line).tokens q.planned.def q.planned.known in
     let narrow = named_narrow a.side.lhs.text (subst (λ (o : std.Option Named). Names h.texts.tape.now h.texts.area.now (family a.side.lhs.text) o) c.in-Some.is
@@ -44,7 +45,7 @@ raise-requires c =
     let r = c.args.r.now in
     let q = c.requires.0 in
     let n = c.prepared-n.result in
-    let on : is_on r ≡ true = on_if r (sym c.is_empty.ensures ∙ c.if-is_empty.false) in
+    let on : is_on r ≡ true = on_if r c.if-r-eq0.false in
     let room = c.requires.1.room on in
     let s = c.prepared-n.ensures.same in
     let e : length n.g.listing.lines.now ≡ length h.lines.now = ap (λ (g : FormedListing). length g.listing.lines.now) s.0 in
@@ -60,11 +61,42 @@ pub returns-clause-halfway : goal.returns-clause-halfway
 returns-clause-halfway c =
     let r = c.args.r.now in
     let q = c.requires.0 in
-    let on : is_on r ≡ true = on_if r (sym c.is_empty.ensures ∙ c.if-is_empty.false) in
+    let on : is_on r ≡ true = on_if r c.if-r-eq0.false in
     let names = c.target.ensures q.planned.def q.planned.known in
+    let n = c.prepared-n.result in
     let s = c.prepared-n.ensures.same in
     let eh = ap (λ (g : FormedListing). g.listing) s.0 in
-    halfway c.prepared-n.result eh s.1 s.2 (fam_is c.prepared-n.result eh s.1 s.2 s.3 c.in-Some.is names) q.planned refl on (record { room = ?; formed = ? }) ? c.raise.ensures.told c.raise.ensures.sets c.raise.ensures.own
+    let w = halfway n eh s.1 s.2 (fam_is n eh s.1 s.2 s.3 c.in-Some.is names) c.raise.ensures.told c.raise.ensures.sets c.raise.ensures.own in
+    let room = c.requires.1.room on in
+    record {
+      planned = q.planned;
+      kept = record {
+        room = λ x. record {
+          for_sets = omega (arith, room.for_sets, c.raise.auto.sets);
+          for_forms = room.for_forms;
+          for_parts = omega (arith, room.for_parts, c.raise.auto.parts);
+          for_seen = omega (arith, room.for_seen, c.raise.auto.seen);
+          for_expr = omega (arith, room.for_expr, c.copy_expr.ensures.room);
+        };
+        formed = λ x. c.requires.1.formed on;
+      };
+      long = c.raise.auto.sets;
+      told = λ x. w.told;
+      sets = λ x. w.sets;
+      own_is = λ x. w.own_is;
+      none = λ x. absurd (true-false on x);
+    }
 
 pub returns-clause-lent : goal.returns-clause-lent
-returns-clause-lent c = ?
+returns-clause-lent c = record {
+  sets_are = refl;
+  forms_are = refl;
+  parts_are = refl;
+  seen_are = refl;
+  expr_are = refl;
+  sets_length = c.raise.auto.sets;
+  forms_length = refl;
+  parts_length = c.raise.auto.parts;
+  seen_length = c.raise.auto.seen;
+  expr_length = c.copy_expr.ensures.room;
+}
