@@ -1,5 +1,5 @@
 -- What is known where a join begins: its tables. Assumes nothing.
-use Prim.Native.Nat.{ℕ, zero, suc, ◌<◌}
+use Prim.Native.Nat.{ℕ, zero, suc, ◌≤◌, ◌<◌}
 use native.Mathlib.Omega.{arith}
 use mathlib.Core.Path.{◌≡◌, refl, sym, ap, ◌∙◌, subst}
 use mathlib.Core.Bool.{Bool, true, false, false≢true}
@@ -19,7 +19,7 @@ use Rattle.flow.specs.Blocks.{no_form}
 use Rattle.flow.specs.LineForms.{Formed}
 use Rattle.flow.specs.Ways.{FormsOf}
 use Rattle.flow.specs.declared.lineforms.LineForm.{LineForm}
-use Rattle.raising.specs.Tables.{is_on, Kept}
+use Rattle.raising.specs.Tables.{is_on, Gathered}
 use mathlib.Core.Option.{some}
 use Rattle.std.specs.Prelude as std
 use Rattle.reference.specs.Names.{Fam}
@@ -35,9 +35,9 @@ use Rattle.lines.specs.declared.texts.Texts.{Texts}
 use Rattle.lines.proofs.fams.Families.{named_as}
 use Rattle.raising.specs.Spread.{marked}
 use Rattle.raising.specs.Noting.{ToldBy, fam_of, lines_of, plan_of}
-use Rattle.raising.specs.Halfway.{shared_kinds}
+use Rattle.raising.specs.Halfway.{Begun, shared_kinds}
 use Rattle.raising.specs.declared.noting.Noting.{Noting}
-use Rattle.raising.specs.Steps.{Joinable, into, plan_in}
+use Rattle.raising.specs.Steps.{into, plan_in}
 use Rattle.raising.specs.declared.tables.Raising.{Raising}
 use Rattle.raising.proofs.Told.{long}
 
@@ -45,23 +45,16 @@ pub on_if : (r : Raising) → (length r.sets.now ≡ 0 → ⊥) → is_on r ≡ 
 on_if r e = lt-ltb 0 (length r.sets.now) (omega (arith, e))
 
 -- the forms of a listing stand at the front of the table
-pub forms_of_listing : {rules : Rules} {h : held.Listing} {j : Join} {r : Raising} → Joinable rules h j → is_on r ≡ true → Kept (bare_listing h) r
-    → FormsOf h (take (length h.lines.now) r.forms.now)
-forms_of_listing {h = h} {r = r} q on k =
+pub forms_of_listing : {h : held.Listing} {forms : List LineForm} → length h.lines.now ≤ length forms → Gathered (bare_listing h) forms
+    → FormsOf h (take (length h.lines.now) forms)
+forms_of_listing {h} {forms} room g =
     let n = length h.lines.now in
-    let room = k.room on in
     record {
-      long = length-take-le n r.forms.now (omega (arith, q.lines_few, room.for_forms));
-      each = λ m b. subst (λ (f : LineForm). Formed (bare_listing h at m).tokens f) (sym (get_or-take n r.forms.now m no_form b)) (k.formed on m (omega (arith, long h, b)));
+      long = length-take-le n forms room;
+      each = λ m b. subst (λ (f : LineForm). Formed (bare_listing h at m).tokens f) (sym (get_or-take n forms m no_form b)) (g m (omega (arith, long h, b)));
     }
 
 -- ---- the join with what was found out about it
-
--- what `Halfway` says where sets are kept
-pub record Halves (rules : Rules) (lines : Listing) (i : ℕ) (p : Plan) (f : Fam) (parts : List (std.Option Before)) (old new : List ℕ) (own : ℕ) : Type 0 where
-  pub told : ToldBy rules lines i p f parts
-  pub sets : take (length lines) new ≡ marked rules lines i f.name (into rules lines i p) (take (length lines) old)
-  pub own_is : own ≡ shared_kinds rules lines i p f
 
 abbrev famed : Texts → Named → Fam
 famed t m = record { name = fam_text t m.family; width = m.width; lowest = m.lowest }
@@ -80,14 +73,14 @@ module _ {rules : code.Rules} {h : held.Listing} {j : Join} {f : Fam} (n : Notin
         (subst (λ (q : code.Rules). P (rules_of q) n.g.listing n.plan (fam_of n)) er x)))
 
     -- what is known of its tables then
-    pub halfway : {parts : List (std.Option Before)} {sets sets' : List ℕ} {own : ℕ}
+    pub begun : {parts : List (std.Option Before)} {sets sets' : List ℕ} {own : ℕ}
         → ToldBy (rules_of n.rules) (lines_of n) n.plan.line (plan_of n) (fam_of n) parts
         → take (length n.g.listing.lines.now) sets'
         ≡ marked (rules_of n.rules) (lines_of n) n.plan.line (fam_of n).name (into (rules_of n.rules) (lines_of n) n.plan.line (plan_of n))
         (take (length n.g.listing.lines.now) sets)
         → own ≡ shared_kinds (rules_of n.rules) (lines_of n) n.plan.line (plan_of n) (fam_of n)
-        → Halves (rules_of rules) (bare_listing h) j.line (plan_in h j) f parts sets sets' own
-    halfway {parts} {sets} {sets'} {own} told marks eo =
+        → Begun (rules_of rules) (bare_listing h) j.line (plan_in h j) f parts sets sets' own
+    begun {parts} {sets} {sets'} {own} told marks eo =
         record {
           told = carried (λ q l k g. ToldBy q (bare_listing l) k.line (plan_in l k) g parts) told;
           sets = rw (long h) (carried (λ q l k g. take (length l.lines.now) sets'

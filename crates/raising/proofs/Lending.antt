@@ -2,7 +2,7 @@
 use native.Mathlib.Omega.{arith}
 use mathlib.Core.Path.{◌≡◌, refl, ap, ◌∙◌}
 use mathlib.Core.Bool.{true}
-use Rattle.std.specs.Prelude.{ℕ, ltb}
+use Rattle.std.specs.Prelude.{ltb}
 use Rattle.raising.specs.declared.tables.Raising.{Raising}
 use Rattle.raising.specs.Tables.{is_on, SameLent, Room}
 
@@ -39,7 +39,7 @@ tables_then p q =
 module _ {a b : Raising} (s : SameLent a b) where
   -- sets are kept, or none are
   pub on_as_before : is_on b ≡ is_on a
-  on_as_before = ap (λ (n : ℕ). ltb 0 n) s.sets_length
+  on_as_before = ap (ltb 0) s.sets_length
 
   -- and there is as much room
   pub room_again : (is_on a ≡ true → Room a) → is_on b ≡ true → Room b

@@ -211,7 +211,7 @@ module _ {rules : Rules} {lines : Listing} {i : ℕ} {p : Plan} {before r : Rais
     uses = union (map (λ j. line_cautions rules lines (ways lines) i f p.expr j (new at moved i j).tokens) js)
 
     uses_are : kinds_from (drop (i + 1) r.parts.now) (drop i (bare_listing l)) ≡ uses
-    uses_are = rw (left, add-one) (kinds_all (h.told on) (ways lines) new left_long (omega (arith, all_fit, room.for_parts)) inside)
+    uses_are = rw (left, add-one) (kinds_all (h.begun on).told (ways lines) new left_long (omega (arith, all_fit, room.for_parts)) inside)
 
     -- all that the join puts on a line that it rewrites
     abbrev put_kinds : ℕ
@@ -223,20 +223,20 @@ module _ {rules : Rules} {lines : Listing} {i : ℕ} {p : Plan} {before r : Rais
         regroup (odd_form given is_odd rules lines (ways lines) i f p.expr (get_or (reverse js) 0 i))
         (overwritten given past_call rules lines (ways lines) i f p.expr (get_or (reverse js) 0 i))
         (slot given starts_with f.name (bytes "var_")) uses (far_kinds rules lines i f.name js false)
-        ∙ ap (λ (x : ℕ). x ∪ uses) (sym (h.own_is on))
+        ∙ ap (λ (x : ℕ). x ∪ uses) (sym (h.begun on).own_is)
 
     joined_sets : both (sets_now lines before) (join_cautions rules lines (success i js new)) ≡ put put_kinds js 0 sets
     joined_sets =
         let n : length (sets_now lines before) ≡ length lines = length-take-le (length lines) before.sets.now (omega (arith, all_fit, room.for_sets, h.long)) in
         ap (both (sets_now lines before)) (cautions_are new)
         ∙ both_spread rules lines i f.name (uses_cautions rules lines (ways lines) i f p.expr js new) js false (sets_now lines before) n
-        ∙ ap (put put_kinds js 0) (sym (h.sets on))
+        ∙ ap (put put_kinds js 0) (sym (h.begun on).sets)
 
     noted_as : (k : ℕ) → k < length lines → any (eqb k) js ≡ is_noted r.parts.now k
-    noted_as k b = notes (h.told on) k (lt-ltb k (length lines) b)
+    noted_as k b = notes (h.begun on).told k (lt-ltb k (length lines) b)
 
     unnoted : (k : ℕ) → k ≤ i → any (eqb k) js ≡ false
-    unnoted k b = noted_as k (omega (arith, inside, b)) ∙ noted_early (h.told on) k (omega (arith, inside, b)) b
+    unnoted k b = noted_as k (omega (arith, inside, b)) ∙ noted_early (h.begun on).told k (omega (arith, inside, b)) b
 
     -- the set of line i
     own_set : get_or (put put_kinds js 0 sets) i 0 ≡ get_or r.sets.now i 0
@@ -279,7 +279,7 @@ module _ {rules : Rules} {lines : Listing} {i : ℕ} {p : Plan} {before r : Rais
           (λ a.
           (t.before q a).0 ∙ shifted_before r.sets.now i (length l.lines.now) 0 last_in (omega (arith, few, room.for_sets)) q a
           ∙ sym (at_before 0 i whole q a ∙ whole_at q (omega (arith, a, inside))
-          ∙ without (get_or r.sets.now q 0) (own ∪ (uses ∪ get_or r.sets.now i 0)) (noted_early (h.told on) q (omega (arith, a, inside)) (omega arith))))
+          ∙ without (get_or r.sets.now q 0) (own ∪ (uses ∪ get_or r.sets.now i 0)) (noted_early (h.begun on).told q (omega (arith, a, inside)) (omega arith))))
           (λ a.
           (let e : suc q ≡ q + 1 = omega arith in
           t.set_is q (omega arith) b
@@ -312,7 +312,7 @@ module _ {rules : Rules} {lines : Listing} {i : ℕ} {p : Plan} {before r : Rais
           (λ e.
           (let s : suc q ≡ q + 1 = omega arith in
           let c : suc q < length lines = omega (arith, b, left_long) in
-          let kept = sym (noted_is (h.told on) (suc q) c) ∙ ap (λ (k : ℕ). is_noted r.parts.now k) s ∙ e in
+          let kept = sym (noted_is (h.begun on).told (suc q) c) ∙ ap (λ (k : ℕ). is_noted r.parts.now k) s ∙ e in
           let same = t.form_kept q e ∙ shifted_behind r.forms.now i (length l.lines.now) no_form last_in (omega (arith, few, room.for_forms)) q (omega arith) (omega (arith, size, b)) in
           let line = left_behind rules lines i p q (omega arith) c ∙ line_kept (volatile rules) i p _ (suc q) (lines at suc q) kept in
           subst (λ (g : LineForm). Formed (new at q).tokens g) (sym (same ∙ ap (λ (k : ℕ). get_or r.forms.now k no_form) (sym s)))

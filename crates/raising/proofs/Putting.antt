@@ -18,9 +18,9 @@ use Rattle.reference.specs.Lists.{any, is_empty}
 use Rattle.reference.specs.Text.{Text}
 use Rattle.reference.specs.Listing.{Listing, ◌at◌}
 use Rattle.reference.specs.Rules.{Rules, volatile}
-use Rattle.laws.proofs.Scans.{by_test, and_last, or_last, not_same}
+use Rattle.laws.proofs.Scans.{by_test, or_last, not_same}
 use Rattle.cautions.specs.Kinds.{odd_form, still_read, handed_over, ◌∪◌, ◌given◌}
-use Rattle.cautions.specs.Forms.{ways, is_dark, reads, reached, reached_from}
+use Rattle.cautions.specs.Forms.{ways, is_dark, reads, reached_from}
 use Rattle.cautions.specs.Joins.{is_handed, none_yet, put, dark_in, stale_in, spread}
 use Rattle.cautions.specs.Cautions.{both}
 use Rattle.cautions.proofs.Sets.{or_assoc}
@@ -167,9 +167,9 @@ module _ (ls : Listing) (i : ℕ) (fam : Text) (parts : List (std.Option Before)
     done = record {
       long = length-set now k s ∙ m.done.long;
       each = λ j b. by_cases (dec_lt j k)
-      (λ l. get_or-set_other now k j s 0 (λ q. omega (arith, q)) ∙ m.done.each j l)
-      (λ n. let q : j ≡ k = omega (arith, n) in
-      rw q (get_or-set_same now k s 0 (omega (arith, m.done.long)) ∙ e ∙ rw (ed, es, m.rest k (omega arith)) refl));
+          (λ l. get_or-set_other now k j s 0 (λ q. omega (arith, q)) ∙ m.done.each j l)
+          (λ n. let q : j ≡ k = omega (arith, n) in
+          rw q (get_or-set_same now k s 0 (omega (arith, m.done.long)) ∙ e ∙ rw (ed, es, m.rest k (omega arith)) refl));
     };
     rest = λ j b. get_or-set_other now k j s 0 (λ q. omega (arith, q)) ∙ m.rest j (omega arith);
   }
@@ -182,11 +182,11 @@ put_at s js p [] k h = absurd (omega arith)
 put_at s js p (t ∷ ts) zero h = ap (λ (n : ℕ). t ∪ s given any (eqb n) js) (omega arith)
 put_at s js p (t ∷ ts) (suc k) h = put_at s js (suc p) ts k (omega arith) ∙ ap (λ (n : ℕ). get_or ts k 0 ∪ s given any (eqb n) js) (omega arith)
 
-put_here : (s : ℕ) (js : List ℕ) (ts : List ℕ) (k : ℕ) → k < length ts → get_or (put s js 0 ts) k 0 ≡ get_or ts k 0 ∪ s given any (eqb k) js
+pub put_here : (s : ℕ) (js : List ℕ) (ts : List ℕ) (k : ℕ) → k < length ts → get_or (put s js 0 ts) k 0 ≡ get_or ts k 0 ∪ s given any (eqb k) js
 put_here s js ts k h = put_at s js 0 ts k h ∙ ap (λ (n : ℕ). get_or ts k 0 ∪ s given any (eqb n) js) (omega arith)
 
 -- filters that agree
-filter_same : (p q : ℕ → Bool) (xs : List ℕ) → ((k : ℕ) → p k ≡ q k) → filter p xs ≡ filter q xs
+pub filter_same : (p q : ℕ → Bool) (xs : List ℕ) → ((k : ℕ) → p k ≡ q k) → filter p xs ≡ filter q xs
 filter_same p q [] e = refl
 filter_same p q (x ∷ xs) e = rw (e x, filter_same p q xs e) refl
 

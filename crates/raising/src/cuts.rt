@@ -11,12 +11,12 @@ ghost use Rattle.cautions.specs.Joins.{cut_cautions};
 ghost use Rattle.flow.specs.Ways.{Tabled};
 ghost use Rattle.ground.specs.Rules.{rules_of};
 ghost use Rattle.lines.specs.Texts.{Listed, bare_listing};
-ghost use Rattle.raising.specs.Tables.{is_on, Room, Kept, SameLent, sets_now};
+ghost use Rattle.raising.specs.Tables.{is_on, Gathered, Room, Kept, SameLent, sets_now};
 ghost use Rattle.raising.specs.Steps.{Cautioned};
 
 use crate::spreading;
 use crate::tables::Raising;
-use flow::FormedListing;
+use flow::{FormedListing, LineForm};
 use ground::rules::Rules;
 use lines::texts::Listing;
 use lines::words;
@@ -52,6 +52,34 @@ fn raise(g: &FormedListing<'_>, i: usize, rules: Rules, seen: &mut [bool], sets:
     sets[i] = sets[i] | own;
 }
 
+// The same with the tables lent apart.
+// Kept: the forms are lent to be written, and are not: the borrow checker has no rule for a slice that is read through tables of which
+// another is lent to be written.
+fn raise_in(
+    listing: &Listing<'_>,
+    i: usize,
+    rules: Rules,
+    forms: &mut [LineForm],
+    seen: &mut [bool],
+    sets: &mut [u16],
+)
+    requires { Listed listing.now × (length listing.now.lines.now ≤ 256) × (i < length listing.now.lines.now)
+        × Gathered (bare_listing listing.now) forms.old × (length listing.now.lines.now ≤ length forms.old)
+        × (length listing.now.lines.now < length seen.old) × (length listing.now.lines.now ≤ length sets.old) }
+    ensures sets { take (length listing.now.lines.now) sets.new ≡ both (take (length listing.now.lines.now) sets.old)
+        (cut_cautions (rules_of rules) (bare_listing listing.now) i) }
+    ensures sets_long { length sets.new ≡ length sets.old }
+    ensures seen_long { length seen.new ≡ length seen.old }
+    ensures forms { forms.new ≡ forms.old }
+{
+    let n = listing.lines.len();
+    let g = FormedListing {
+        listing: *listing,
+        forms: &forms[..n],
+    };
+    raise(&g, i, rules, &mut seen[..n + 1], sets);
+}
+
 // Before the result of line i is cut: puts its kinds on the lines.
 pub fn before_cut(listing: &Listing<'_>, i: usize, rules: Rules, r: &mut Raising<'_>)
     requires { Listed listing.now × (length listing.now.lines.now ≤ 256) × (i < length listing.now.lines.now)
@@ -59,17 +87,10 @@ pub fn before_cut(listing: &Listing<'_>, i: usize, rules: Rules, r: &mut Raising
     ensures cautioned { Cautioned (rules_of rules) (bare_listing listing.now) i r.old r.new }
     ensures lent { SameLent r.old r.new }
 {
-    if r.sets.is_empty() {
+    if r.sets.len() == 0 {
         return;
     }
-    let n = listing.lines.len();
-    let sets = &mut *r.sets;
-    let seen = &mut *r.seen;
-    let g = FormedListing {
-        listing: *listing,
-        forms: &r.forms[..n],
-    };
-    raise(&g, i, rules, &mut seen[..n + 1], sets);
+    raise_in(listing, i, rules, r.forms, r.seen, r.sets);
 }
 
 // After it, of the listing that it left: the form of line i is asked anew.
@@ -80,7 +101,7 @@ pub fn after_cut(listing: &Listing<'_>, i: usize, r: &mut Raising<'_>)
         → Kept (bare_listing listing.now) r.new × (sets_now (bare_listing listing.now) r.new ≡ sets_now lines r.old) }
     ensures lent { SameLent r.old r.new }
 {
-    if r.sets.is_empty() {
+    if r.sets.len() == 0 {
         return;
     }
     r.forms[i] = flow::form_at(listing, i);

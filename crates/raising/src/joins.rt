@@ -2,22 +2,24 @@
 ghost use Rattle.std.specs.Prelude.{◌≡◌, ◌≤◌, ◌<◌, true, length, take, suc};
 ghost use Rattle.reference.specs.Listing as reference;
 ghost use Rattle.reference.specs.Rules as R;
-ghost use Rattle.joining.specs.Plan.{Plan, act};
+ghost use Rattle.std.proofs.Math.Option.{some};
+ghost use Rattle.reference.specs.Listing.{◌at◌};
+ghost use Rattle.joining.specs.Plan.{Definition, definition_of, Plan, act};
 ghost use Rattle.ground.specs.Rules.{rules_of};
 ghost use Rattle.lines.specs.Shapes.{expr_words, Expression};
 ghost use Rattle.lines.specs.Texts.{Known, Listed, bare_listing, words_at};
 ghost use Rattle.flow.specs.Ways.{Tabled};
-ghost use Rattle.raising.specs.Tables.{is_on, Room, Kept, SameLent};
+ghost use Rattle.raising.specs.Tables.{is_on, Gathered, Room, Kept, SameLent};
 ghost use Rattle.raising.specs.Steps.{Joinable, Raised, into, plan_in};
 ghost use Rattle.raising.specs.Spread.{marked};
 ghost use Rattle.raising.specs.Noting.{Sound, ToldBy, fam_of, lines_of, plan_of};
-ghost use Rattle.raising.specs.Halfway.{Halfway, own_kinds, shared_kinds};
+ghost use Rattle.raising.specs.Halfway.{Begun, Halfway, own_kinds, shared_kinds};
 
 use crate::noting::{Noting, last_noted, note, target};
 use crate::renewing::hand_on;
 use crate::spreading::spread;
 use crate::tables::Raising;
-use flow::{FormedListing, is_odd, is_slot, is_truth, past_call, reached};
+use flow::{FormedListing, LineForm, is_odd, is_slot, is_truth, past_call, reached};
 use ground::rules::Rules;
 use lines::fams::Named;
 use lines::texts::Listing;
@@ -106,22 +108,26 @@ fn raise(
     )
 }
 
-// Before the plan j is carried out: notes what each line that it rewrites tells, marks the other lines that the value reaches, and answers
-// the kinds that each rewritten line gets, but for its own.
-pub fn before_join(listing: &Listing<'_>, j: Join, rules: Rules, r: &mut Raising<'_>) -> u16
-    requires { Joinable (rules_of rules) listing.now j × Kept (bare_listing listing.now) r.old }
-    ensures halfway { Halfway (rules_of rules) (bare_listing listing.now) j.line (plan_in listing.now j) r.old r.new result }
-    ensures lent { SameLent r.old r.new }
+// The same of the plan j, of tables lent one by one. `forms` is only read.
+fn begin_join(
+    listing: &Listing<'_>,
+    j: Join,
+    rules: Rules,
+    sets: &mut [u16],
+    forms: &mut [LineForm],
+    parts: &mut [Option<Before>],
+    seen: &mut [bool],
+    expr: &mut [u64],
+) -> u16
+    requires { Joinable (rules_of rules) listing.now j × Gathered (bare_listing listing.now) forms.old × (256 ≤ length sets.old)
+        × (256 ≤ length forms.old) × (256 ≤ length parts.old) × (257 ≤ length seen.old) × (1024 ≤ length expr.old) }
+    ensures begun { (d : Definition) → definition_of (bare_listing listing.now at j.line).tokens ≡ some d
+        → Begun (rules_of rules) (bare_listing listing.now) j.line (plan_in listing.now j) d.fam parts.new sets.old sets.new result }
+    ensures forms { forms.new ≡ forms.old }
 {
-    if r.sets.len() == 0 {
-        return 0;
-    }
     let Some(name) = target(listing, j.line) else {
         return 0;
     };
-    // Lent on one by one, as in crate join.
-    let forms = &mut *r.forms;
-    let expr = &mut *r.expr;
     copy_expr(
         words::line_of(listing.tokens, listing.lines[j.line]),
         j.expr,
@@ -132,7 +138,22 @@ pub fn before_join(listing: &Listing<'_>, j: Join, rules: Rules, r: &mut Raising
         forms: &forms[..listing.lines.len()],
     };
     let n = prepared(g, j, rules, name, &expr[..j.expr.count]);
-    raise(&n, r.parts, r.seen, r.sets)
+    raise(&n, parts, seen, sets)
+}
+
+// Before the plan j is carried out: notes what each line that it rewrites tells, marks the other lines that the value reaches, and answers
+// the kinds that each rewritten line gets, but for its own.
+pub fn before_join(listing: &Listing<'_>, j: Join, rules: Rules, r: &mut Raising<'_>) -> u16
+    requires { Joinable (rules_of rules) listing.now j × Kept (bare_listing listing.now) r.old }
+    ensures halfway { Halfway (rules_of rules) (bare_listing listing.now) j.line (plan_in listing.now j) r.old r.new result }
+    ensures lent { SameLent r.old r.new }
+{
+    if r.sets.len() == 0 {
+        return 0;
+    }
+    begin_join(
+        listing, j, rules, r.sets, r.forms, r.parts, r.seen, r.expr,
+    )
 }
 
 // After it, of the listing that it left, line i being gone: puts on each rewritten line its kinds and those of line i.

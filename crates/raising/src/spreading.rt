@@ -173,7 +173,7 @@ pub(crate) fn spread(
         × (seen.now ≡ reached_table (bare_listing g.now.listing) i (fam_text g.now.listing.texts f) (volatile (rules_of rules))) }
     ensures marked { (into : List ℕ) → Notes (bare_listing g.now.listing) parts.now into
         → take (length g.now.listing.lines.now) sets.new ≡ marked (rules_of rules) (bare_listing g.now.listing) i
-            (fam_text g.now.listing.texts f) into (take (length g.now.listing.lines.now) sets.old) }
+        (fam_text g.now.listing.texts f) into (take (length g.now.listing.lines.now) sets.old) }
     ensures kinds { (into : List ℕ) → Notes (bare_listing g.now.listing) parts.now into
         → result ≡ far_kinds (rules_of rules) (bare_listing g.now.listing) i (fam_text g.now.listing.texts f) into again }
     ensures long { length sets.new ≡ length sets.old }

@@ -1,7 +1,7 @@
 -- `raising::spreading::mark_others` meets its contract. Assumes nothing.
-use Prim.Native.Nat.{suc, ◌<◌, ◌≤◌}
+use Prim.Native.Nat.{◌<◌}
 use native.Mathlib.Omega.{arith}
-use mathlib.Core.Path.{◌≡◌, refl}
+use mathlib.Core.Path.{refl}
 use lib.ListN.{length}
 use Rattle.reference.specs.Control.{◌or◌}
 use Rattle.lines.specs.Texts.{bare_listing, fam_text}

@@ -1,8 +1,6 @@
 -- `raising::spreading::spread` meets its contract. Assumes nothing.
 use native.Mathlib.Omega.{arith}
 use mathlib.Core.Path.{refl}
-use Rattle.std.specs.Prelude.{ℕ, bit_or}
-use Rattle.cautions.specs.Kinds.{odd_form, still_read, handed_over, ◌given◌}
 use Rattle.ground.specs.Rules.{rules_of}
 use Rattle.lines.specs.Texts.{bare_listing, fam_text}
 use Rattle.flow.proofs.Tables.{lines_long}
