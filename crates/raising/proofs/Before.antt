@@ -1,16 +1,14 @@
 -- What is known where a join begins: its tables. Assumes nothing.
-use Prim.Native.Nat.{ℕ, zero, suc, ◌≤◌, ◌<◌}
+use Prim.Native.Nat.{ℕ, ◌≤◌}
 use native.Mathlib.Omega.{arith}
-use mathlib.Core.Path.{◌≡◌, refl, sym, ap, ◌∙◌, subst}
-use mathlib.Core.Bool.{Bool, true, false, false≢true}
-use mathlib.Core.List.{List, [], ◌∷◌}
-use lib.Dec.{ltb}
-use lib.ListN.{length, get_or, take}
+use mathlib.Core.Path.{◌≡◌, sym, ap, ◌∙◌, subst}
+use mathlib.Core.Bool.{true}
+use mathlib.Core.List.{List}
+use lib.ListN.{length, take}
 use lib.Seq.{length-take-le}
-use borrow.Author.Tests.{lt-ltb, eqb-true}
-use Rattle.std.specs.Bool.{◌==◌}
+use borrow.Author.Tests.{lt-ltb}
 use Rattle.std.proofs.lemmas.List.{get_or-take}
-use Rattle.reference.specs.Listing.{Listing, ◌at◌}
+use Rattle.reference.specs.Listing.{◌at◌}
 use Rattle.reference.specs.Rules.{Rules}
 use Rattle.lines.specs.Texts.{bare_listing}
 use Rattle.lines.specs.declared.texts.Listing as held
@@ -23,8 +21,7 @@ use Rattle.raising.specs.Tables.{is_on, Gathered}
 use mathlib.Core.Option.{some}
 use Rattle.std.specs.Prelude as std
 use Rattle.reference.specs.Names.{Fam}
-use Rattle.reference.proofs.Cases.{some_inj, true-false}
-use Rattle.joining.specs.Plan.{Plan}
+use Rattle.reference.proofs.Cases.{some_inj}
 use Rattle.usefacts.specs.declared.parts.Before.{Before}
 use Rattle.ground.specs.Rules.{rules_of}
 use Rattle.ground.specs.declared.rules.Rules as code
@@ -45,9 +42,9 @@ pub on_if : (r : Raising) → (length r.sets.now ≡ 0 → ⊥) → is_on r ≡ 
 on_if r e = lt-ltb 0 (length r.sets.now) (omega (arith, e))
 
 -- the forms of a listing stand at the front of the table
-pub forms_of_listing : {h : held.Listing} {forms : List LineForm} → length h.lines.now ≤ length forms → Gathered (bare_listing h) forms
+pub forms_of_listing : {h : held.Listing} (forms : List LineForm) → length h.lines.now ≤ length forms → Gathered (bare_listing h) forms
     → FormsOf h (take (length h.lines.now) forms)
-forms_of_listing {h} {forms} room g =
+forms_of_listing {h} forms room g =
     let n = length h.lines.now in
     record {
       long = length-take-le n forms room;
@@ -84,6 +81,6 @@ module _ {rules : code.Rules} {h : held.Listing} {j : Join} {f : Fam} (n : Notin
         record {
           told = carried (λ q l k g. ToldBy q (bare_listing l) k.line (plan_in l k) g parts) told;
           sets = rw (long h) (carried (λ q l k g. take (length l.lines.now) sets'
-          ≡ marked q (bare_listing l) k.line g.name (into q (bare_listing l) k.line (plan_in l k)) (take (length l.lines.now) sets)) marks);
+              ≡ marked q (bare_listing l) k.line g.name (into q (bare_listing l) k.line (plan_in l k)) (take (length l.lines.now) sets)) marks);
           own_is = carried (λ q l k g. own ≡ shared_kinds q (bare_listing l) k.line (plan_in l k) g) eo;
         }

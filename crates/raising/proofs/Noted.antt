@@ -2,23 +2,23 @@
 -- definitions say of the uses. Assumes nothing.
 use Prim.Native.Nat.{ℕ, zero, suc, ◌+◌, ◌-◌, ◌≤◌, ◌<◌}
 use native.Mathlib.Omega.{arith}
-use native.Mathlib.Nat.{add-zero, add-suc, suc-add}
-use native.Mathlib.Decide.{dec_lt, dec_le}
+use native.Mathlib.Nat.{add-zero}
+use native.Mathlib.Decide.{dec_lt}
 use mathlib.Core.Logic.{by_cases}
-use mathlib.Core.Path.{◌≡◌, refl, sym, ap, ◌∙◌, subst}
-use mathlib.Core.Bool.{Bool, true, false}
-use mathlib.Core.List.{List, [], ◌∷◌, ◌++◌, map, reverse}
+use mathlib.Core.Path.{◌≡◌, refl, sym, ap, ◌∙◌}
+use mathlib.Core.Bool.{true, false}
+use mathlib.Core.List.{List, [], ◌∷◌, map, reverse}
 use lib.Dec.{eqb}
 use lib.ListN.{length, get_or, drop}
-use lib.Seq.{slice, drop-cons}
+use lib.Seq.{drop-cons}
 use Rattle.std.specs.Prelude as std
 use Rattle.std.proofs.lemmas.List.{get_or-drop, drop_all, length-drop}
 use borrow.Author.Tests.{eq-eqb, ne_eqb, lt-ltb, ltb-true}
 use Rattle.laws.proofs.Scans.{if-true, if-false, by_test}
-use Rattle.reference.specs.Control.{◌or◌, when◌then◌else◌}
+use Rattle.reference.specs.Control.{◌or◌}
 use Rattle.reference.specs.Lists.{any}
 use Rattle.reference.specs.Text.{Text}
-use Rattle.reference.specs.Listing.{Token, Line, Listing, ◌at◌, blank}
+use Rattle.reference.specs.Listing.{Line, Listing, ◌at◌, blank}
 use Rattle.reference.specs.Marks.{moved}
 use Rattle.reference.specs.Names.{Fam}
 use Rattle.reference.specs.Rules.{Rules, volatile}
@@ -27,12 +27,11 @@ use Rattle.plan.proofs.Changed.{not-later}
 use Rattle.cautions.specs.Kinds.{◌∪◌, union}
 use Rattle.cautions.specs.Forms.{Ways}
 use Rattle.cautions.specs.Joins.{line_cautions}
-use Rattle.usefacts.specs.Split.{before_of, after_of, finished}
 use Rattle.usefacts.specs.declared.parts.Before.{Before}
 use Rattle.usefacts.proofs.Splitting.{line_parts}
 use Rattle.raising.specs.Steps.{changed_from, into}
 use Rattle.raising.specs.Spread.{is_told, is_noted, Notes}
-use Rattle.raising.specs.Noting.{told, ToldBy, noted_from, last_noted, kinds_told, kinds_from}
+use Rattle.raising.specs.Noting.{ToldBy, noted_from, last_noted, kinds_told, kinds_from}
 use Rattle.raising.proofs.Told.{told_none, told_some}
 
 -- ---- the places of the lines that a plan changes

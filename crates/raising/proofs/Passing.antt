@@ -12,13 +12,12 @@ use mathlib.Core.Option.{Option, some}
 use lib.Dec.{eqb, ltb}
 use lib.ListN.{length, get_or, drop, take, get_or-append, length-append}
 use lib.Seq.{ext_get_or, length-take-le, get_or-append_right}
-use Rattle.std.specs.Prelude as std
 use Rattle.std.specs.List.{copy_within}
 use Rattle.std.specs.Int.Bits.{or_zero_r}
 use Rattle.std.proofs.lemmas.Nat.{or_comm}
-use Rattle.std.proofs.lemmas.List.{get_or-take, length-take, get_or-drop, length-drop}
+use Rattle.std.proofs.lemmas.List.{get_or-take, get_or-drop, length-drop}
 use Rattle.laws.proofs.Scans.{by_test}
-use Rattle.reference.specs.Control.{not, ◌and◌, ◌or◌, when◌then◌else◌}
+use Rattle.reference.specs.Control.{when◌then◌else◌}
 use Rattle.reference.specs.Lists.{any, remove}
 use Rattle.reference.specs.Listing.{Line, Listing, ◌at◌, blank}
 use Rattle.reference.specs.Rules.{Rules, volatile}
@@ -29,7 +28,7 @@ use Rattle.joining.proofs.Indexed.{getD_map_from, length-map-from}
 use Rattle.cautions.specs.Kinds.{◌∪◌, ◌given◌}
 use Rattle.cautions.specs.Joins.{put}
 use Rattle.cautions.specs.Cautions.{both, hand_on}
-use Rattle.cautions.proofs.Sets.{or_assoc, given_true}
+use Rattle.cautions.proofs.Sets.{or_assoc}
 use Rattle.cautions.specs.Forms.{ways}
 use Rattle.cautions.specs.Joins.{join_cautions, spread, uses_cautions}
 use Rattle.reference.specs.Control.{let_some◌else◌then◌}

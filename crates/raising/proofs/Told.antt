@@ -1,21 +1,19 @@
 -- What the lines tell of a join, noted line by line, and which lines are noted. Assumes nothing.
-use Prim.Native.Nat.{ℕ, zero, suc, ◌+◌, ◌-◌, ◌≤◌, ◌<◌}
+use Prim.Native.Nat.{ℕ, zero, suc, ◌+◌, ◌≤◌, ◌<◌}
 use native.Mathlib.Omega.{arith}
 use native.Mathlib.Numerals.{add-one}
 use native.Mathlib.Nat.{add-zero, add-suc, suc-add}
-use native.Mathlib.Decide.{dec_lt, dec_le}
+use native.Mathlib.Decide.{dec_lt}
 use mathlib.Core.Logic.{by_cases}
 use mathlib.Core.Path.{◌≡◌, refl, sym, ap, ◌∙◌, subst}
 use mathlib.Core.Bool.{Bool, true, false}
 use mathlib.Core.List.{List, [], ◌∷◌, ◌++◌, append-nil, reverse}
 use mathlib.Core.Option.{some}
-use lib.Dec.{eqb}
 use lib.ListN.{length, get_or, set, take, drop, length-map}
 use lib.Seq.{slice, slice_empty, length-slice, get_or-set_same, take_all}
 use Rattle.std.specs.Prelude as std
 use Rattle.std.specs.List.{slice_get}
 use Rattle.std.proofs.lemmas.List.{take_more, length-take, get_or-set_other, drop-append-le, reverse-append}
-use borrow.Author.Tests.{le-ltb, lt-leb}
 use Rattle.laws.proofs.Scans.{if-true, if-false, any_append, or_last}
 use Rattle.reference.specs.Control.{◌or◌, when◌then◌else◌}
 use Rattle.reference.specs.Lists.{any}
@@ -42,7 +40,6 @@ use Rattle.flow.specs.declared.ways.FormedListing.{FormedListing}
 use Rattle.flow.proofs.Touched.{guarded_by}
 use Rattle.usefacts.specs.Split.{before_of}
 use Rattle.usefacts.specs.declared.parts.Before.{Before}
-use Rattle.raising.specs.Steps.{changed_from, into}
 use Rattle.raising.specs.declared.noting.Noting as code
 use Rattle.raising.specs.Noting.{lines_of, plan_of, told, ToldBy, noted_from, last_noted}
 use Rattle.raising.specs.Spread.{is_told, is_noted}

@@ -76,12 +76,7 @@ fn own_kinds(n: &Noting<'_>, last: usize) -> u16
 }
 
 // Notes what the lines tell, marks the others that the value reaches, and answers the kinds that each rewritten line gets, but for its own.
-fn raise(
-    n: &Noting<'_>,
-    parts: &mut [Option<Before>],
-    seen: &mut [bool],
-    sets: &mut [u16],
-) -> u16
+fn raise(n: &Noting<'_>, parts: &mut [Option<Before>], seen: &mut [bool], sets: &mut [u16]) -> u16
     requires { Sound n.now × (n.now.plan.last < length n.now.g.listing.lines.now) × (length n.now.g.listing.lines.now ≤ length parts.old)
         × (length n.now.g.listing.lines.now < length seen.old) × (length n.now.g.listing.lines.now ≤ length sets.old) }
     ensures told { ToldBy (rules_of n.now.rules) (lines_of n.now) n.now.plan.line (plan_of n.now) (fam_of n.now) parts.new }
@@ -151,9 +146,7 @@ pub fn before_join(listing: &Listing<'_>, j: Join, rules: Rules, r: &mut Raising
     if r.sets.len() == 0 {
         return 0;
     }
-    begin_join(
-        listing, j, rules, r.sets, r.forms, r.parts, r.seen, r.expr,
-    )
+    begin_join(listing, j, rules, r.sets, r.forms, r.parts, r.seen, r.expr)
 }
 
 // After it, of the listing that it left, line i being gone: puts on each rewritten line its kinds and those of line i.

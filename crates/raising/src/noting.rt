@@ -14,7 +14,6 @@ ghost use Rattle.ground.specs.Rules.{rules_of};
 ghost use Rattle.lines.specs.Fams.{Names};
 ghost use Rattle.lines.specs.Texts.{Listed, bare_listing};
 ghost use Rattle.usefacts.specs.Split.{before_of};
-
 ghost use Rattle.raising.specs.Noting.{Sound, fam_of, expr_of, lines_of, plan_of, told, ToldBy, last_noted};
 
 use crate::spreading::is_noted;

@@ -1,10 +1,9 @@
 -- `raising::joins::after_join` meets its contract. Assumes nothing.
 use Prim.Native.Nat.{ℕ}
 use native.Mathlib.Omega.{arith}
-use mathlib.Core.Path.{◌≡◌, refl, sym, ap, ◌∙◌}
+use mathlib.Core.Path.{◌≡◌, sym, ap, ◌∙◌}
 use mathlib.Core.Bool.{true}
 use lib.Dec.{ltb}
-use lib.ListN.{length}
 use Rattle.raising.specs.Tables.{is_on}
 use Rattle.raising.proofs.Before.{on_if}
 use Rattle.raising.proofs.Passing.{sets_left, forms_left}

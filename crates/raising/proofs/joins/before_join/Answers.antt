@@ -1,6 +1,6 @@
 -- `raising::joins::before_join` meets its contract. Assumes nothing.
 use native.Mathlib.Omega.{arith}
-use mathlib.Core.Path.{◌≡◌, refl}
+use mathlib.Core.Path.{◌≡◌}
 use mathlib.Core.Bool.{true}
 use Rattle.reference.proofs.Cases.{true-false}
 use Rattle.raising.specs.Tables.{is_on}

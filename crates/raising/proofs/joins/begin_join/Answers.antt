@@ -1,13 +1,11 @@
 -- `raising::joins::begin_join` meets its contract. Assumes nothing.
-use Prim.Native.Nat.{ℕ}
 use native.Mathlib.Omega.{arith}
-use mathlib.Core.Path.{◌≡◌, refl, sym, ap, ◌∙◌, subst}
-use mathlib.Core.Option.{Option, none, some}
+use mathlib.Core.Path.{◌≡◌, sym, ap, subst}
+use mathlib.Core.Option.{Option}
 use lib.ListN.{length}
 use Rattle.std.specs.Prelude as std
 use Rattle.reference.specs.Listing.{◌at◌}
 use Rattle.reference.specs.Names.{Fam, family}
-use Rattle.reference.proofs.Cases.{none-some}
 use Rattle.lines.specs.Fams.{Names}
 use Rattle.lines.specs.Texts.{bare_listing}
 use Rattle.lines.specs.declared.fams.Named.{Named}
@@ -15,7 +13,7 @@ use Rattle.flow.specs.declared.ways.FormedListing.{FormedListing}
 use Rattle.plan.specs.declared.plans.Join.{Join}
 use Rattle.usefacts.proofs.Narrow.{named_narrow}
 use Rattle.raising.proofs.Told.{assigned, long}
-use Rattle.raising.proofs.Before.{forms_of_listing, fam_is, begun, unnamed}
+use Rattle.raising.proofs.Before.{forms_of_listing, fam_is, begun}
 use Rattle.raising.proofs.joins.begin_join.Goals as goal
 
 pub prepared-n-requires : goal.prepared-n-requires
@@ -26,7 +24,7 @@ prepared-n-requires c =
     let a = assigned (bare_listing h at c.args.j.line).tokens q.planned.def q.planned.known in
     let narrow = named_narrow a.side.lhs.text (subst (λ (o : std.Option Named). Names h.texts.tape.now h.texts.area.now (family a.side.lhs.text) o) c.in-Some.is
     (subst (λ (o : Option Fam). Names h.texts.tape.now h.texts.area.now o c.target.result) (sym a.names) names)) in (
-      record { listed = q.listed; short = q.lines_few; table = forms_of_listing (omega (arith, q.lines_few, c.requires.3)) c.requires.1 },
+      record { listed = q.listed; short = q.lines_few; table = forms_of_listing c.args.forms.now (omega (arith, q.lines_few, c.requires.3)) c.requires.1 },
       q.inside,
       q.joins.known,
       names.known c.in-Some.name c.in-Some.is,

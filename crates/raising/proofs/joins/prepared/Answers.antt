@@ -1,11 +1,9 @@
 -- `raising::joins::prepared` meets its contract. Assumes nothing.
 use native.Mathlib.Omega.{arith}
-use mathlib.Core.Path.{◌≡◌, refl, sym, ap, ◌∙◌, subst}
-use mathlib.Core.List.{List}
-use Prim.Native.Nat.{ℕ, ◌<◌}
-use lib.ListN.{length, get_or}
+use mathlib.Core.Path.{◌≡◌, sym, ap, ◌∙◌}
+use lib.ListN.{get_or}
 use Rattle.lines.specs.Shapes.{expr_words}
-use Rattle.lines.specs.Texts.{Holds, tokens_of, words_at}
+use Rattle.lines.specs.Texts.{tokens_of, words_at}
 use Rattle.lines.proofs.shapes.Right.{expr-holds, expr-length}
 use Rattle.reference.specs.Join.{is_bracketed}
 use Rattle.ground.specs.Rules.{rules_of}

@@ -1,7 +1,7 @@
 -- `raising::joins::raise` meets its contract. Assumes nothing.
 use Prim.Native.Nat.{ℕ}
 use native.Mathlib.Omega.{arith}
-use mathlib.Core.Path.{◌≡◌, refl, sym, ap, ◌∙◌, subst}
+use mathlib.Core.Path.{sym, ap, ◌∙◌, subst}
 use mathlib.Core.List.{List, reverse}
 use lib.ListN.{length, drop, get_or}
 use lib.Seq.{take_at, length-take-le}

@@ -1,7 +1,5 @@
 -- `raising::noting::before_at` meets its contract. Assumes nothing.
-use native.Mathlib.Omega.{arith}
-use mathlib.Core.Path.{◌≡◌, refl, sym, ap, ◌∙◌}
-use mathlib.Core.List.{[], ◌∷◌}
+use mathlib.Core.List.{[]}
 use lib.ListN.{get_or}
 use Rattle.lines.proofs.words.Lines.{bare_at}
 use Rattle.raising.proofs.Told.{line_few, guarded_at}

@@ -1,9 +1,7 @@
 -- `raising::noting::clear` meets its contract. Assumes nothing.
-use Prim.Native.Nat.{◌≤◌, ◌<◌}
 use native.Mathlib.Omega.{arith}
 use native.Mathlib.Decide.{dec_lt}
 use mathlib.Core.Logic.{by_cases}
-use lib.ListN.{length}
 use Rattle.std.proofs.Common.{None}
 use Rattle.std.proofs.lemmas.List.{get_or_past}
 use Rattle.raising.proofs.Told.{cleared_more}

@@ -1,6 +1,6 @@
 -- `raising::noting::note` meets its contract. Assumes nothing.
 use native.Mathlib.Omega.{arith}
-use mathlib.Core.Path.{◌≡◌, refl, sym, ap, ◌∙◌}
+use mathlib.Core.Path.{refl, sym, ◌∙◌}
 use lib.ListN.{length-set}
 use Rattle.flow.proofs.Tables.{lines_long}
 use Rattle.ground.specs.Rules.{rules_of}

@@ -1,5 +1,5 @@
 -- What the loop of `raising::noting::note` keeps true: the lines before line k are noted. Assumes nothing.
-use Rattle.std.proofs.Common.{◌≡◌, ◌≤◌, ◌+◌, length}
+use Rattle.std.proofs.Common.{◌≡◌, length}
 use Rattle.ground.specs.Rules.{rules_of}
 use Rattle.raising.specs.Noting.{fam_of, lines_of, plan_of}
 use Rattle.raising.proofs.Told.{Noting}

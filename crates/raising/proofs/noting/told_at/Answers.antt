@@ -1,6 +1,5 @@
 -- `raising::noting::told_at` meets its contract. Assumes nothing.
-use mathlib.Core.Path.{◌≡◌, refl, sym, ap, ◌∙◌}
-use lib.ListN.{get_or}
+use mathlib.Core.Path.{sym, ap, ◌∙◌}
 use Rattle.std.specs.Prelude as std
 use Rattle.ground.specs.Rules.{rules_of}
 use Rattle.lines.specs.Texts.{words_at}

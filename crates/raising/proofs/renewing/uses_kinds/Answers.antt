@@ -1,6 +1,5 @@
 -- `raising::renewing::uses_kinds` meets its contract. Assumes nothing.
 use native.Mathlib.Omega.{arith}
-use lib.ListN.{length-map}
 use Rattle.lines.specs.Texts.{bare_listing}
 use Rattle.raising.proofs.Told.{long}
 use Rattle.raising.proofs.Renewed.{kinds_more, kinds_end}
