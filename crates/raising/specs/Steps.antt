@@ -1,7 +1,7 @@
 -- What a join and a cut leave of the sets. Assumes nothing.
-use Rattle.std.specs.Prelude.{ℕ, suc, ◌≤◌, ◌<◌, ◌≡◌, List, length, get_or, drop}
+use Rattle.std.specs.Prelude.{ℕ, suc, ◌≤◌, ◌<◌, ◌≡◌, true, List, [], ◌∷◌, length, get_or, drop}
 use Rattle.reference.specs.Text.{Text}
-use Rattle.reference.specs.Listing.{Line, Listing}
+use Rattle.reference.specs.Listing.{Listing}
 use Rattle.reference.specs.Rules.{Rules, volatile}
 use Rattle.reference.specs.Run.{success}
 use Rattle.joining.specs.Plan.{Plan, changes, act}
@@ -14,15 +14,15 @@ use Rattle.lines.specs.declared.texts.Listing as held
 use Rattle.plan.specs.Plans.{join_in, Joins}
 use Rattle.plan.specs.declared.plans.Join.{Join}
 use Rattle.reference.specs.Control.{when◌then◌else◌}
-use Rattle.raising.specs.Tables.{Kept, sets_now}
+use Rattle.raising.specs.Tables.{is_on, Kept, sets_now}
 use Rattle.raising.specs.declared.tables.Raising.{Raising}
 
 -- ---- a join
 
 -- the places, from k on, of the lines that the plan changes
 unfoldable pub changed_from : List Text → ℕ → Plan → ℕ → Listing → List ℕ
-changed_from volatile i p k [] = []
-changed_from volatile i p k (l ∷ ls) = let r = changed_from volatile i p (suc k) ls in when changes volatile i p k l then k ∷ r else r
+changed_from vs i p k [] = []
+changed_from vs i p k (l ∷ ls) = let r = changed_from vs i p (suc k) ls in when changes vs i p k l then k ∷ r else r
 
 abbrev pub into : Rules → Listing → ℕ → Plan → List ℕ
 into rules lines i p = changed_from (volatile rules) i p (suc i) (drop (suc i) lines)
@@ -49,11 +49,11 @@ joined rules lines i p sets =
 -- the tables belong to the listing that the join leaves, and have its sets
 pub record Raised (rules : Rules) (lines : Listing) (i : ℕ) (p : Plan) (r r' : Raising) : Type 0 where
   pub kept : Kept (act rules lines i p) r'
-  pub sets : sets_now (act rules lines i p) r' ≡ joined rules lines i p (sets_now lines r)
+  pub sets : is_on r ≡ true → sets_now (act rules lines i p) r' ≡ joined rules lines i p (sets_now lines r)
 
 -- ---- a cut
 
 -- the tables still belong to the listing, and its sets have the kinds of the cut of line i
 pub record Cautioned (rules : Rules) (lines : Listing) (i : ℕ) (r r' : Raising) : Type 0 where
   pub kept : Kept lines r'
-  pub sets : sets_now lines r' ≡ both (sets_now lines r) (cut_cautions rules lines i)
+  pub sets : is_on r ≡ true → sets_now lines r' ≡ both (sets_now lines r) (cut_cautions rules lines i)

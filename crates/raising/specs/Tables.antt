@@ -3,6 +3,7 @@ use Rattle.std.specs.Prelude.{ℕ, ◌≤◌, ◌<◌, ◌≡◌, Bool, true, Li
 use Rattle.reference.specs.Listing.{Listing, ◌at◌}
 use Rattle.flow.specs.Blocks.{no_form}
 use Rattle.flow.specs.LineForms.{Formed}
+use Rattle.flow.specs.declared.lineforms.LineForm.{LineForm}
 use Rattle.raising.specs.declared.tables.Raising.{Raising}
 
 -- sets are kept
@@ -31,8 +32,11 @@ pub record Room (r : Raising) : Type 0 where
   pub for_expr : 1024 ≤ length r.expr.now
 
 -- the table of forms has what is asked of each line of this listing
+abbrev pub Gathered : Listing → List LineForm → Type 0
+Gathered lines forms = (k : ℕ) → k < length lines → Formed (lines at k).tokens (get_or forms k no_form)
+
 abbrev pub Formed_lines : Listing → Raising → Type 0
-Formed_lines lines r = (k : ℕ) → k < length lines → Formed (lines at k).tokens (get_or r.forms.now k no_form)
+Formed_lines lines r = Gathered lines r.forms.now
 
 -- The tables belong to this listing, if sets are kept.
 pub record Kept (lines : Listing) (r : Raising) : Type 0 where
