@@ -1,8 +1,8 @@
 -- The tables that are lent: they are the same and as long after a call, and so after one call after the other. Assumes nothing.
 use native.Mathlib.Omega.{arith}
-use mathlib.Core.Path.{◌≡◌, refl, ap, ◌∙◌}
-use mathlib.Core.Bool.{true}
-use Rattle.std.specs.Prelude.{ltb}
+use mathlib.Core.Path.{◌≡◌, refl, sym, ap, ◌∙◌}
+use mathlib.Core.Bool.{true, false≢true}
+use Rattle.std.specs.Prelude.{ℕ, ltb, length}
 use Rattle.raising.specs.declared.tables.Raising.{Raising}
 use Rattle.raising.specs.Tables.{is_on, SameLent, Room}
 
@@ -52,3 +52,7 @@ module _ {a b : Raising} (s : SameLent a b) where
         for_seen = omega (arith, r.for_seen, s.seen_length);
         for_expr = omega (arith, r.for_expr, s.expr_length);
       }
+
+-- where the table of sets is empty, none are kept
+pub none_kept : {r : Raising} → length r.sets.now ≡ 0 → is_on r ≡ true → Room r
+none_kept e on = absurd (false≢true (sym (ap (ltb 0) e) ∙ on))
