@@ -30,16 +30,16 @@ use Rattle.cautions.proofs.Carried.{kept_as}
 use Rattle.cautions.proofs.Lost.{nothing_lost, quiet}
 use Rattle.cautions.proofs.Ordered.{in_order}
 use Rattle.clean.specs.Asking.{before_the_tape}
-use Rattle.cautioned.specs.Replies.{OUTPUT, cautions_reply, Leaves, set_at, Told}
+use Rattle.cautioned.specs.Replies.{OUTPUT, cautions_reply, Leaves, set_at, Tells}
 use Rattle.cautioned.specs.Telling.{Cautionable, Finishes}
 use Rattle.cautioned.proofs.Bytes.{read_set}
 
 -- what is told of an accepted tape, by what is told of a call that is not refused
-told_by : (rules : Rules) (input : Listing) {r : Answer ℕ} {out' : List ℕ}
+tells_by : (rules : Rules) (input : Listing) {r : Answer ℕ} {out' : List ℕ}
     → ((n : ℕ) → r ≡ Passed n → n ≡ 2 * length (finished rules input))
     → ((n : ℕ) → r ≡ Passed n → (q : ℕ) → q < length (finished rules input) → set_at out' q ≡ get_or (finished_cautions rules input) q 0)
-    → Told rules input r out'
-told_by rules input a e =
+    → Tells rules input r out'
+tells_by rules input a e =
     record {
       answered = a;
       each = e;
@@ -57,7 +57,7 @@ module _ (rules : Rules) (tape work_a work_b out : List ℕ) where
   pub record Promise (work-a' work-b' out' : List ℕ) (r : Answer ℕ) : Type 0 where
     pub result_value : r ≡ measured answer
     pub lent : Leaves answer work_a work_b out work-a' work-b' out'
-    pub told : (input : Listing) → read tape ≡ Passed input → Told rules input r out'
+    pub tells : (input : Listing) → read tape ≡ Passed input → Tells rules input r out'
 
   refused : {n p : ℕ} → answer ≡ Refused n p → Promise work_a work_b out (Refused n p)
   refused e =
@@ -65,7 +65,7 @@ module _ (rules : Rules) (tape work_a work_b out : List ℕ) where
       record {
         result_value = sym (ap measured e);
         lent = rw e leaves;
-        told = λ input reads. told_by rules input (λ n k. absurd (refused_passed k)) (λ n k. absurd (refused_passed k));
+        tells = λ input reads. tells_by rules input (λ n k. absurd (refused_passed k)) (λ n k. absurd (refused_passed k));
       }
 
   finished-told : (lines : Listing) → read tape ≡ Passed lines → answer ≡ Passed (caution_bytes (finished_cautions rules lines))
@@ -75,16 +75,16 @@ module _ (rules : Rules) (tape work_a work_b out : List ℕ) where
       record {
         result_value = ap Passed f.length_is ∙ sym (ap measured e);
         lent = rw e f.leaves;
-        told = λ input again. subst (λ (i : Listing). Told rules i (Passed n) out') (passed_inj (sym reads ∙ again)) all;
+        tells = λ input again. subst (λ (i : Listing). Tells rules i (Passed n) out') (passed_inj (sym reads ∙ again)) all;
       }
     where
       sets : List ℕ
       sets = finished_cautions rules lines
 
-      all : Told rules lines (Passed n) out'
+      all : Tells rules lines (Passed n) out'
       all =
           let k = kept_as rules lines in
-          told_by rules lines
+          tells_by rules lines
           (λ m same. sym (passed_inj same) ∙ f.length_is ∙ k.written)
           (λ m same q h. ap (λ (o : List ℕ). set_at o q) f.leaves.output_is ∙ read_set sets (drop (length (caution_bytes sets)) out) k.small q (omega (arith, k.each, h)))
 

@@ -36,7 +36,7 @@ fn write_sets(sets: &[u16], out: &mut [u8]) -> usize
 }
 
 // Cleans a tape that passed all questions, and writes the sets of its finished lines. The areas are only worked in.
-fn told(rules: Rules, tape: &[u8], area: &mut [u8], area2: &mut [u8], out: &mut [u8]) -> usize
+fn tell(rules: Rules, tape: &[u8], area: &mut [u8], area2: &mut [u8], out: &mut [u8]) -> usize
     requires { Tellable tape.now area.old area2.old out.old }
     ensures { (input : Listing) → read tape.now ≡ Passed input
         → Written out.old 0 (caution_bytes (finished_cautions (rules_of rules) input)) out.new result }
@@ -89,7 +89,7 @@ pub fn finish(
         → Finishes (caution_bytes (finished_cautions (rules_of rules) input)) work_a.old work_b.old out.old
         work_a.new work_b.new out.new result }
 {
-    let n = told(
+    let n = tell(
         rules,
         tape,
         &mut work_a[..WORK_BYTES],

@@ -6,14 +6,14 @@ use Rattle.cautioned.proofs.Running.{any_reply, finishes}
 use Rattle.cautioned.proofs.telling.finish.Goals as goal
 
 pub slice_bounds-fill-end-2 : goal.slice_bounds-fill-end-2
-slice_bounds-fill-end-2 c = sym (front_long c.args.work_a.now c.requires.room_a refl c.told-n.new.area c.told-n.auto.area)
+slice_bounds-fill-end-2 c = sym (front_long c.args.work_a.now c.requires.room_a refl c.tell-n.new.area c.tell-n.auto.area)
 
 pub slice_bounds-fill-end-4 : goal.slice_bounds-fill-end-4
-slice_bounds-fill-end-4 c = sym (front_long c.args.work_b.now c.requires.room_b refl c.told-n.new.area2 c.told-n.auto.area2)
+slice_bounds-fill-end-4 c = sym (front_long c.args.work_b.now c.requires.room_b refl c.tell-n.new.area2 c.tell-n.auto.area2)
 
 pub returns : goal.returns
 returns c input e =
-    let w = c.told-n in
+    let w = c.tell-n in
     let some = any_reply (rules_of c.args.rules) input in
     finishes (rules_of c.args.rules) input (w.ensures input e)
     (wiped c.args.work_a.now c.requires.room_a refl w.new.area w.auto.area some (c.fill.ensures.after (λ y same. same)))

@@ -1,10 +1,10 @@
--- `cautioned::telling::told` meets its contract. Assumes nothing.
+-- `cautioned::telling::tell` meets its contract. Assumes nothing.
 use Rattle.std.proofs.Common.{rules, ◌≡◌, length, refl}
 use Rattle.ground.specs.Rules.{rules_of}
 use Rattle.lines.specs.Lines.{own}
 use Rattle.clean.proofs.Running.{loaded-runnable}
 use Rattle.cautioned.proofs.Running.{sets_are, written}
-use Rattle.cautioned.proofs.telling.told.Goals as goal
+use Rattle.cautioned.proofs.telling.tell.Goals as goal
 
 pub optimized-r-requires : goal.optimized-r-requires
 optimized-r-requires c =
