@@ -1,12 +1,11 @@
 -- How long the words for a kind are, and words put kind after kind. Assumes nothing.
 use Prim.Native.Nat.{ℕ, ◌+◌, ◌*◌, ◌≤◌, ◌<◌}
 use native.Mathlib.Omega.{arith}
-use native.Mathlib.Numerals.{add-one}
+use native.Mathlib.Nat.{mul-le-mul_right}
 use mathlib.Core.Path.{◌≡◌, refl, sym, ap, ◌∙◌}
 use mathlib.Core.Bool.{Bool, true, false}
 use mathlib.Core.List.{List, [], ◌∷◌, ◌++◌, append_assoc, append-nil, flat_map}
 use lib.ListN.{length, take, length-append, length-take}
-use lib.Seq.{take-suc, take-length}
 use Rattle.std.proofs.Common.{if◌then◌else◌}
 use Rattle.reference.specs.Text.{Text}
 use Rattle.caution_words.specs.declared.each.Caution.{Caution}
@@ -71,8 +70,18 @@ module _ (words : Caution → Text) (set : ℕ) where
   given-length n true t h = h
   given-length n false t h = omega arith
 
-  pub told-length : (n : ℕ) → ((k : Caution) → length (words k) ≤ n) → (ks : List Caution) → length (told_by words set ks) ≤ n * length ks
+  pub told-length : (n : ℕ) → ((k : Caution) → length (words k) ≤ n) → (ks : List Caution) → length (told_by words set ks) ≤ length ks * n
   unfolding told_by flat_map
   told-length n f [] = omega arith
   told-length n f (k ∷ ks) =
       rw length-append (omega (arith, given-length n (has set k) (words k) (f k), told-length n f ks))
+
+  -- what the kinds before i leave of the room for all has room for one more
+  pub room_told : (n : ℕ) → ((k : Caution) → length (words k) ≤ n) → (i : ℕ) → i < 10 → length (told_by words set (take i every)) + n ≤ 10 * n
+  room_told n f i h =
+      let short : length (take i every) ≤ i = omega (arith, length-take i every) in
+      omega (arith, told-length n f (take i every), mul-le-mul_right {m = length (take i every)} {n = i} n short, mul-le-mul_right {m = i + 1} {n = 10} n (omega arith))
+
+  -- of all kinds
+  pub told_all : (i : ℕ) → i ≡ 10 → told_by words set (take i every) ≡ told_by words set every
+  told_all i e = rw e refl

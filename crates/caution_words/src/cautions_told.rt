@@ -1,15 +1,18 @@
 // The words for a set of kinds, and the line over those of a listing.
 ghost use Rattle.std.specs.Prelude.{◌≡◌, [], ◌≤◌, length, if◌then◌else◌};
 ghost use Rattle.text.specs.Cursor.{Fits, Puts, Written};
-ghost use Rattle.caution_words.specs.Told.{has, kind_line, kinds_told, head};
+ghost use Rattle.caution_words.specs.Told.{has, kind_line, kinds_told, silence, head};
 
 use crate::each::{ALL, Caution};
 use printing::put_decimal;
 use text::Cursor;
 
 // What it means that a line is not cautioned.
-pub const SILENCE: &[u8] =
-    b"none of the known ways was found here; it is no proof that the line means the same";
+pub fn silence() -> &'static [u8]
+    ensures { result.now ≡ silence }
+{
+    b"none of the known ways was found here; it is no proof that the line means the same"
+}
 
 // Puts the line of a kind.
 fn put_kind(kind: Caution, out: &mut Cursor)
@@ -56,7 +59,7 @@ pub fn put_head(cautioned: u64, lines: u64, out: &mut [u8]) -> usize
     line.put(b" of ");
     put_decimal(lines, &mut line);
     line.put(b"; of a line without one: ");
-    line.put(SILENCE);
+    line.put(silence());
     line.put(b"\n");
     line.at
 }

@@ -6,6 +6,6 @@ mod cautions_told; // the words for a set, and for a whole listing
 mod each; // the ten kinds
 mod sets; // the sets of a call
 
-pub use cautions_told::{SILENCE, put_head, put_kinds};
+pub use cautions_told::{put_head, put_kinds, silence};
 pub use each::{ALL, Caution};
 pub use sets::{count_cautioned, set_at};
