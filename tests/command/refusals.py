@@ -37,20 +37,30 @@ CASES = (
     (LINE * 257 + END, "10 at 512, line 257: with the line at this offset there are more than 256 lines"),
     (LINE + token("punct", ";") * 1025 + END, "10 at 4098, line 1, token 1025: with the token at this offset there are more than 1,024 tokens"),
 )
-# A tape that is no straight piece, the line that is not, from 0, and why.
+# A tape that is no straight piece, the line that is not, from 0, and why: the profile's tests in their order.
+ONE_REGISTER = line(("register", "rax"), ("punct", " = "), ("number", "1"), ("punct", ";"))
 BROKEN = (
+    ((), 0, "there is no line"),
+    ((ONE_REGISTER, line(*RETURN, indent=1)), 1, "the indent of this line is not the first line's"),
+    ((line(),), 0, "the line has no token"),
+    ((ONE_REGISTER,), 0, "the last line does not begin with the Keyword return"),
     ((line(*RETURN), line(*RETURN, indent=1)), 0, "the line does not assign to a 64-bit register (as rax, r8)"),
-    ((line(("register", "rax"), ("punct", " = "), ("number", "1"), ("punct", ";")), line(*RETURN, indent=1)), 1, "the indent of this line is not the first line's"),
-    ((line(("register", "rax"), ("punct", " = "), ("number", "1"), ("punct", ";")),), 0, "the last line does not begin with the Keyword return"),
     ((line(("register", "eax"), ("punct", " = "), ("number", "1"), ("punct", ";")), line(*RETURN)), 0, "the line does not assign to a 64-bit register (as rax, r8)"),
     ((line(("keyword", "return"), ("punct", " "), ("register", "eax"), ("punct", ";")),), 0, "a Register in this line is no 64-bit register (as rax, r8)"),
+    ((line(("keyword", "return"), ("punct", " "), ("number", "01"), ("punct", ";")),), 0, "a Number in this line has a plus, a second minus or a zero in front"),
+    ((line(("keyword", "return"), ("punct", " "), ("number", "+1"), ("punct", ";")),), 0, "a Number in this line has a plus, a second minus or a zero in front"),
     ((line(("keyword", "return"), ("punct", " "), ("number", "1x"), ("punct", ";")),), 0, "a Number in this line is none that C reads"),
     ((line(("keyword", "return"), ("punct", " "), ("symbol", "f"), ("punct", ";")),), 0, "a token in this line is no Register, Number or Punct"),
-    ((line(("keyword", "return"), ("punct", " ("), ("register", "rax"), ("punct", ";")),), 0,
-     "brackets, signs, blanks or numbers in this line are not as the profile wants them, or two Puncts stand side by side"),
-    ((line(),), 0, "the line has no token, or there is no line"),
+    ((line(("keyword", "return"), ("register", "rax"), ("punct", ";")),), 0, "behind the return of this line stands no blank"),
+    ((ONE_REGISTER, line(("register", "rcx"), ("punct", "="), ("register", "rax"), ("punct", ";")), line(*RETURN)), 1,
+     "behind the register of this line stands no = between blanks"),
+    ((line(("keyword", "return"), ("punct", " ("), ("register", "rax"), ("punct", ";")),), 0, "a bracket in this line is not closed, or not opened"),
+    ((line(("keyword", "return"), ("punct", " "), ("register", "rax"), ("punct", ");")),), 0, "a bracket in this line is not closed, or not opened"),
+    ((line(("keyword", "return"), ("punct", " "), ("register", "rax"), ("punct", " * "), ("register", "rcx"), ("punct", ";")),), 0,
+     "this line's value is not terms joined by + or - between blanks, and then a semicolon"),
+    ((line(("keyword", "return"), ("punct", " "), ("register", "rax")),), 0, "this line's value is not terms joined by + or - between blanks, and then a semicolon"),
+    ((line(("keyword", "return"), ("punct", " "), ("punct", "("), ("register", "rax"), ("punct", ")"), ("punct", ";")),), 0, "two Puncts stand side by side in this line"),
 )
-
 
 def try_reasons(folder):
     """The one reason of a refusal, and where it is in the listing."""
@@ -66,7 +76,7 @@ def try_reasons(folder):
             status, printed, told = run(*call)
             expect((status, printed, told) == (1, b"", f"{file}: refused 14 at {number}, line {number + 1}: {words}\n"), call, lines, told, words)
     file.write_bytes(line(*RETURN) + END)
-    for call, name in ((("--choose", "eax"), "eax"), (("--choose", "rax", "ebx=1"), "ebx")):
+    for call, name in ((("--choose", "eax"), "eax"), (("--choose", "rax", "ebx=1"), "ebx"), (("--choose", "ecx", "ebx=1"), "ecx"), (("--choose", "rax", "rcx=1", "var_8=2", "al=1"), "var_8")):
         told = run("start", "--return", "1", *call, file)
         expect(told == (1, b"", f"{file}: refused 16 at 0: {name} is no 64-bit register (as rax, r8)\n"), call, told)
 

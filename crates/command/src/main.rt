@@ -18,7 +18,7 @@ mod stores; // named states, in a file
 mod texts; // the tape of a text
 
 use answers::{Answer, Reason, Refusal};
-use arguments::{Destination, Part, Request, Value, Verb, base_name, next_word};
+use arguments::{Destination, Part, Request, Value, Verb, base_name};
 use caution_words::count_cautioned;
 use clean::{Finished, Tally};
 use files::{
@@ -211,35 +211,7 @@ fn print_json_counts(
 
 // ---- a start value
 
-// The name in a word REG=VALUE.
-fn name_in(entry: &[u8]) -> &[u8] {
-    match entry.iter().position(|b| *b == b'=') {
-        Some(n) => front(entry, n),
-        None => entry,
-    }
-}
-
 impl Call<'_> {
-    // The register that is none: the chosen one, or the first that the words give a value.
-    fn no_register<'b>(&'b self, chosen: &'b [u8]) -> &'b [u8] {
-        if !reports::is_register(chosen) {
-            return chosen;
-        }
-        let mut s = Request::begin();
-        let mut left = self.words;
-        for k in 0..u64::MAX {
-            let Some((word, rest)) = next_word(left) else {
-                break;
-            };
-            s = s.step(k, word);
-            if s.start.entry == Some(k) && !reports::is_register(name_in(word)) {
-                return name_in(word);
-            }
-            left = rest;
-        }
-        chosen
-    }
-
     // Asks for the start value, by way of a buffer for the list of the words' entries, and prints its line.
     fn print_start_value(&self, input: Input, list: &mut [u8]) -> Result<(), Trouble> {
         if list.len() / 9 <= self.words.len() {
@@ -261,7 +233,8 @@ impl Call<'_> {
                 if self.request.form.json {
                     print_refused(self.rt, input.name, input.tape, refused)?;
                 }
-                Err(tell_no_register(self.rt, input.name, self.no_register(chosen)))
+                let name = start::unknown_name(chosen, front(list, n)).unwrap_or(chosen);
+                Err(tell_no_register(self.rt, input.name, name))
             }
             Err(refused) => Err(Trouble::Refused(refused)),
         }

@@ -3,12 +3,11 @@
 use crate::files::{Fate, Trouble, front, tell, tell_name};
 use crate::json::print_object;
 use answers::{Reason, Refusal};
-use reports::Piece;
-use tape::walk::{Commands, Event};
+pub(crate) use reports::words as words_of; // the words for the one reason
 
 // ---- in a tape
 
-// Whether the place of a refusal is an offset of the tape.
+// Whether a refusal has a place in the tape: an offset of it, or of 14 a line of its listing.
 fn is_in_tape(refused: Refusal) -> bool {
     matches!(
         refused.reason,
@@ -22,56 +21,9 @@ fn is_in_tape(refused: Refusal) -> bool {
             | Reason::TooMuchText
             | Reason::NewKeyword
             | Reason::UnreadNumber
+            | Reason::OutsideProfile
             | Reason::OutOfReach
     )
-}
-
-// What in the line that breaks the profile does so.
-fn broken_words(tape: &[u8], place: u64) -> &'static [u8] {
-    let mut pieces = [Piece { kind: 0, text: b"" }; 1024];
-    let mut count = 0usize;
-    let mut lines = 0u64;
-    let mut first = 0;
-    let mut indent = 0;
-    let mut last = true;
-    for c in Commands::<false>::new(tape) {
-        match c.event {
-            Event::Line { indent: here, .. } => {
-                if lines == 0 {
-                    first = here;
-                }
-                if lines == place {
-                    indent = here;
-                }
-                if place < lines {
-                    last = false;
-                }
-                lines = lines.saturating_add(1);
-            }
-            Event::Token { kind, text } => {
-                if place.checked_add(1) == Some(lines) {
-                    if let Some(room) = pieces.get_mut(count) {
-                        *room = Piece { kind, text };
-                        count = count.saturating_add(1);
-                    }
-                }
-            }
-            Event::Marks { .. } => {}
-        }
-    }
-    reports::broken(
-        first == indent,
-        last,
-        pieces.get(..count).unwrap_or_default(),
-    )
-}
-
-// The words for the one reason.
-pub(crate) fn words_of(tape: &[u8], refused: Refusal) -> &'static [u8] {
-    match refused.reason {
-        Reason::OutsideProfile => broken_words(tape, refused.place),
-        _ => reports::words(tape, refused),
-    }
 }
 
 // ---- what the bytes look like
@@ -117,17 +69,6 @@ pub(crate) fn tell_explained(tape: &[u8], refused: Refusal) {
     tell(front(&line, n));
 }
 
-// The line that breaks the profile, counted from 1, and what in it does so.
-fn tell_broken(rt: &HostRuntime, tape: &[u8], refused: Refusal) {
-    let place = refused.place;
-    let line = place.saturating_add(1);
-    if let Ok(head) = format!(in rt.alloc(); "refused 14 at {place}, line {line}: ") {
-        tell(head.as_bytes());
-    }
-    tell(words_of(tape, refused));
-    tell(b"\n");
-}
-
 // A name that is no 64-bit register.
 pub(crate) fn tell_no_register(rt: &HostRuntime, file: &[u8], name: &[u8]) -> Trouble {
     let mut line = [0u8; 1120];
@@ -149,9 +90,7 @@ pub(crate) fn tell_in_tape(
     refused: Refusal,
 ) -> Trouble {
     tell_name(rt, name);
-    if refused.reason == Reason::OutsideProfile {
-        tell_broken(rt, tape, refused);
-    } else if is_in_tape(refused) {
+    if is_in_tape(refused) {
         tell_explained(tape, refused);
         tell_look(rt, name, tape);
     } else {

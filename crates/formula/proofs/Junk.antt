@@ -65,7 +65,7 @@ module _ {X : Type 0} (a : Arithmetic X) (σ : Text → X) where
         (λ n e. same_rest (v, xs) r e)
         (λ o h e. (let t = bind-some e in operator-junk xs o h ∙ term-junk fuel o.1 t.0 t.1 ∙ further-junk fuel (combine a o.0 v t.0.0) t.0.1 r t.2))
 
-  evaluated : (before : Text) (xs : List Lexeme) (v : X) → evaluate a σ before xs ≡ some v → any is_junk xs ≡ false
+  pub evaluated : (before : Text) (xs : List Lexeme) (v : X) → evaluate a σ before xs ≡ some v → any is_junk xs ≡ false
   unfolding evaluate
   evaluated before xs v e =
       let ys = bind-some e in

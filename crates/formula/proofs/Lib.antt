@@ -1,5 +1,5 @@
--- Laws of the evaluators' places, answers and tests; what falls when they call each other (Bytes), and that their promises determine each
--- result (Determined).
+-- Laws of the evaluators' places, answers and tests; what falls when they call each other (Bytes), that their promises determine each result
+-- (Determined), and that the tests of a line say what `breaks` says (Breaking).
 pub mod Left
 pub mod Bytes
 pub mod Ahead
@@ -10,3 +10,5 @@ pub mod Whole
 pub mod Determined
 pub mod Profiled
 pub mod Loading
+pub mod Testing
+pub mod Breaking

@@ -1,7 +1,8 @@
--- What the code's places, terms and values mean in the evaluators of the reference, also over a line as the code lends it, and when a
--- listing's profile is asked.
+-- What the code's places, terms and values mean in the evaluators of the reference, also over a line as the code lends it; when a listing's
+-- profile is asked, and what in a line breaks it.
 pub mod Places
 pub mod Terms
 pub mod Values
 pub mod Profile
 pub mod Line
+pub mod Breaches

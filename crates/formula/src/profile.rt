@@ -20,7 +20,7 @@ use lines::texts::Texts;
 use lines::{shapes, words};
 
 // Whether tokens are `before`, an expression and `;`. An empty table of values serves.
-fn is_read(texts: &Texts<'_>, words: &[u64], before: &[u8]) -> bool
+pub(crate) fn is_read(texts: &Texts<'_>, words: &[u64], before: &[u8]) -> bool
     requires { ReadableIn texts.now words.now }
     ensures { result ≡ is_some (evaluate modulo zeros before.now (lexemes (Lent.tokens_of texts.now words.now))) }
 {
@@ -32,7 +32,7 @@ fn is_read(texts: &Texts<'_>, words: &[u64], before: &[u8]) -> bool
 }
 
 // Whether no two Puncts stand side by side.
-fn puncts_apart(line: &[u64]) -> bool
+pub(crate) fn puncts_apart(line: &[u64]) -> bool
     ensures { (tape area : Text) → result ≡ puncts_apart false (Words.tokens_of tape area line.now) }
 {
     !line.windows(2).any(|pair| words::kind(pair[0]) == kinds::PUNCT

@@ -39,7 +39,7 @@ fn is_plain(s: &[u8]) -> bool
 }
 
 // "no plus, at most one minus, no leading zero in decimal except `0`"
-fn is_tidy(s: &[u8]) -> bool
+pub(crate) fn is_tidy(s: &[u8]) -> bool
     ensures { result ≡ is_tidy s.now }
 {
     if text::has_byte(s, b'+') {

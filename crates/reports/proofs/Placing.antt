@@ -3,7 +3,12 @@ use Rattle.std.proofs.Common.{◌≡◌, ℕ, ◌+◌, ◌≤◌, ◌<◌, Bool,
 use lib.ListN.{length-append}
 use borrow.Author.Tests.{ne_eqb, lt-ltb, le-ltb}
 use Rattle.reference.specs.Control.{when◌then◌else◌}
-use Rattle.reference.specs.Questions.{Answer, Refused, Passed}
+use Rattle.std.specs.Prelude.{Option, Some, None}
+use Rattle.reference.specs.Listing.{Listing}
+use Rattle.reference.specs.Questions.{Answer, Refused, Passed, read}
+use Rattle.formula.specs.Breaches.{breach_at}
+use Rattle.formula.specs.declared.breaches.Breach.{Breach}
+use Rattle.formula.specs.declared.breaches.Breach.TheVariants as breach
 use Rattle.reference.specs.Text.{Text, bytes}
 use Rattle.reference.specs.Tape as Tape
 use Rattle.printing.specs.Decimals.{decimal}
@@ -14,7 +19,9 @@ use Rattle.tape.proofs.walk.Spending.{bytes_of}
 use Rattle.reports.specs.declared.places.Spot.{Spot}
 use Rattle.reports.specs.Places.{after, spot_from}
 use Rattle.reports.specs.Why.{no_command, misplaced, unbounded, too_many, words_by, words_at, words}
-use Rattle.reports.specs.Explained.{is_behind, to_line, token_part, located, head}
+use Rattle.reports.specs.Reports.{head}
+use Rattle.reports.specs.Explained.{is_behind, to_line, token_part, located}
+use Rattle.reports.specs.Profile.{breach_words, words_of_breach, broken_in, broken}
 use Rattle.reports.proofs.Putting.{meaning-length}
 
 -- ---- how long the pieces are
@@ -93,9 +100,38 @@ at-short : (number : ℕ) (r : Answer Sized) → Short (words_at number r)
 at-short n (Passed c) = by-short n c
 at-short n (Refused m place) = meaning-length n
 
+breach-short : (b : Breach) → Short (breach_words b)
+breach-short breach.NoLine = omega arith
+breach-short breach.Indent = omega arith
+breach-short breach.NoToken = omega arith
+breach-short breach.NoReturn = omega arith
+breach-short breach.NoTarget = omega arith
+breach-short breach.NarrowRegister = omega arith
+breach-short breach.UntidyNumber = omega arith
+breach-short breach.UnreadNumber = omega arith
+breach-short breach.ForeignToken = omega arith
+breach-short breach.NoBlank = omega arith
+breach-short breach.NoEquals = omega arith
+breach-short breach.Brackets = omega arith
+breach-short breach.Signs = omega arith
+breach-short breach.TwoPuncts = omega arith
+
+broken-short : (tape : List ℕ) (n : ℕ) → Short (broken tape n)
+unfolding broken
+broken-short tape n = go (read tape)
+  where
+    told : (o : Option Breach) → Short (words_of_breach o)
+    told (Some b) = breach-short b
+    told None = meaning-length 14
+
+    go : (r : Answer Listing) → Short (broken_in n r)
+    go (Passed lines) = told (breach_at lines n)
+    go (Refused number place) = meaning-length 14
+
 pub words-length : (tape : List ℕ) (number place : ℕ) → length (words tape number place) ≤ 200
 unfolding words
-words-length tape n place = if_short (eqb n 3) _ _ (no_command-short tape place) (at-short n (standing tape place))
+words-length tape n place =
+    if_short (eqb n 3) _ _ (no_command-short tape place) (if_short (eqb n 14) _ _ (broken-short tape place) (at-short n (standing tape place)))
 
 -- ---- the spot
 

@@ -1,53 +1,44 @@
--- What in a line breaks the profile of straight pieces (14), and the name that is no register (16). Assumes nothing.
-use Rattle.std.specs.Prelude.{◌&&◌, ◌||◌, Bool, not, List, [], ◌∷◌, ◌++◌, eqb, if◌then◌else◌}
-use Rattle.reference.specs.Lists.{any, is_some}
-use Rattle.reference.specs.Text.{Text, bytes, ◌≟◌}
-use Rattle.reference.specs.Listing.{Token, token, Register, Number, Keyword, Punct}
-use Rattle.reference.specs.Numbers.{parse_c_number}
-use Rattle.start.specs.Start.{is_register}
-use Rattle.reports.specs.Explained.{head}
-use Rattle.reports.specs.declared.profile.Piece.{Piece}
+-- The words for what in a line breaks the profile of straight pieces (14), and for the name that is no register (16). Which of the
+-- profile's tests it is stands in crate formula (specs/Breaches.antt), and which name in crate start (specs/Unknown.antt). Assumes nothing.
+use Rattle.std.specs.Prelude.{ℕ, List, [], ◌∷◌, ◌++◌, Option, Some, None}
+use Rattle.reference.specs.Text.{Text, bytes}
+use Rattle.reference.specs.Listing.{Listing}
+use Rattle.reference.specs.Questions.{Answer, Refused, Passed, read}
+use Rattle.formula.specs.Breaches.{breach_at}
+use Rattle.formula.specs.declared.breaches.Breach.{Breach}
+use Rattle.formula.specs.declared.breaches.Breach.TheVariants as breach
+use Rattle.reports.specs.Reports.{head, meaning}
 
--- ---- a token
+-- ---- 14
 
-abbrev pub token_of : Piece → Token
-token_of p = token p.kind p.text.now
+abbrev pub breach_words : Breach → Text
+breach_words breach.NoLine = bytes "there is no line"
+breach_words breach.Indent = bytes "the indent of this line is not the first line's"
+breach_words breach.NoToken = bytes "the line has no token"
+breach_words breach.NoReturn = bytes "the last line does not begin with the Keyword return"
+breach_words breach.NoTarget = bytes "the line does not assign to a 64-bit register (as rax, r8)"
+breach_words breach.NarrowRegister = bytes "a Register in this line is no 64-bit register (as rax, r8)"
+breach_words breach.UntidyNumber = bytes "a Number in this line has a plus, a second minus or a zero in front"
+breach_words breach.UnreadNumber = bytes "a Number in this line is none that C reads"
+breach_words breach.ForeignToken = bytes "a token in this line is no Register, Number or Punct"
+breach_words breach.NoBlank = bytes "behind the return of this line stands no blank"
+breach_words breach.NoEquals = bytes "behind the register of this line stands no = between blanks"
+breach_words breach.Brackets = bytes "a bracket in this line is not closed, or not opened"
+breach_words breach.Signs = bytes "this line's value is not terms joined by + or - between blanks, and then a semicolon"
+breach_words breach.TwoPuncts = bytes "two Puncts stand side by side in this line"
 
--- a 64-bit register; `return`
-abbrev pub is_wide : Token → Bool
-is_wide t = eqb t.kind Register && is_register t.text
+-- the general meaning of 14 where the line is in the profile, or the tape is not accepted: of such 14 is never told
+abbrev pub words_of_breach : Option Breach → Text
+words_of_breach (Some b) = breach_words b
+words_of_breach None = meaning 14
 
-abbrev pub is_return : Token → Bool
-is_return t = eqb t.kind Keyword && (t.text ≟ bytes "return")
+abbrev pub broken_in : ℕ → Answer Listing → Text
+broken_in n (Passed lines) = words_of_breach (breach_at lines n)
+broken_in n (Refused number place) = meaning 14
 
--- a Register that is no 64-bit register; a Number that C does not read; what can stand in no expression
-abbrev pub is_narrow : Token → Bool
-is_narrow t = eqb t.kind Register && not (is_register t.text)
-
-abbrev pub is_unread : Token → Bool
-is_unread t = eqb t.kind Number && not (is_some (parse_c_number t.text))
-
-abbrev pub is_foreign : Token → Bool
-is_foreign t = not (eqb t.kind Register || eqb t.kind Number || eqb t.kind Punct)
-
--- ---- a line
-
--- the tokens behind its first
-unfoldable pub in_expression : List Token → Text
-in_expression ts =
-    if any is_narrow ts then bytes "a Register in this line is no 64-bit register (as rax, r8)"
-    else if any is_unread ts then bytes "a Number in this line is none that C reads"
-    else if any is_foreign ts then bytes "a token in this line is no Register, Number or Punct"
-    else bytes "brackets, signs, blanks or numbers in this line are not as the profile wants them, or two Puncts stand side by side"
-
--- whether its indent is the first line's, and whether it is the last line
-unfoldable pub broken : Bool → Bool → List Token → Text
-broken same last [] = bytes "the line has no token, or there is no line"
-broken same last (t ∷ ts) =
-    if not same then bytes "the indent of this line is not the first line's"
-    else if last && not (is_return t) then bytes "the last line does not begin with the Keyword return"
-    else if not (last || is_wide t) then bytes "the line does not assign to a 64-bit register (as rax, r8)"
-    else in_expression ts
+-- line n of a tape's listing, counted from 0
+unfoldable pub broken : List ℕ → ℕ → Text
+broken tape n = broken_in n (read tape)
 
 -- ---- 16
 

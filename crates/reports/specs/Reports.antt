@@ -7,7 +7,7 @@ use Rattle.reference.specs.Run as R
 use Rattle.numbers.specs.Writing.{hexadecimal}
 use Rattle.printing.specs.Decimals.{decimal}
 
--- what each question's refusal means, by its number, from docs/TAPE.md; nothing for 0
+-- what each question's refusal means, by its number, from docs/TAPE.md; there is no question 0
 unfoldable pub meanings : List Text
 meanings =
     bytes ""
@@ -35,8 +35,13 @@ meanings =
     ∷ bytes "the cell of this number, counted from 0, is damaged"
     ∷ []
 
+-- nothing for a number that no question has
 unfoldable pub meaning : ℕ → Text
 meaning number = get_or meanings number []
+
+-- refused NUMBER at PLACE
+unfoldable pub head : ℕ → ℕ → Text
+head number place = bytes "refused " ++ decimal number ++ bytes " at " ++ decimal place
 
 -- refused NUMBER at PLACE: WORDS
 unfoldable pub refusal : ℕ → ℕ → Text
@@ -75,7 +80,12 @@ escape b = 92 ∷ 120 ∷ digit_byte (b / 16) ∷ digit_byte (b % 16) ∷ []
 abbrev pub visible_byte : ℕ → Text
 visible_byte b = if ltb b 32 || ltb 126 b || eqb b 92 then escape b else b ∷ []
 
--- a byte in a text of JSON
+unfoldable pub visible : Text → Text
+visible t = flat_map visible_byte t
+
+-- ---- a text as it stands between the quotes of JSON
+
+-- a quote and a backslash behind a backslash; a byte that cannot be printed as \u00HH
 abbrev pub quoted_byte : ℕ → Text
 quoted_byte b =
     if eqb b 34 || eqb b 92 then 92 ∷ b ∷ []
@@ -84,6 +94,3 @@ quoted_byte b =
 
 unfoldable pub quoted : Text → Text
 quoted t = flat_map quoted_byte t
-
-unfoldable pub visible : Text → Text
-visible t = flat_map visible_byte t

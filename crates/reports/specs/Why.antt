@@ -6,6 +6,7 @@ use Rattle.reference.specs.Tape.{Command, marked, new_token}
 use Rattle.reference.specs.Questions.{Answer, Refused, Passed}
 use Rattle.tape.specs.Commands.{Sized, standing}
 use Rattle.reports.specs.Reports.{meaning}
+use Rattle.reports.specs.Profile.{broken}
 
 -- 3: the tape has no more bytes, or the byte there begins none
 unfoldable pub no_command : List ℕ → ℕ → Text
@@ -48,4 +49,4 @@ words_at number (Refused n place) = meaning number
 unfoldable pub words : List ℕ → ℕ → ℕ → Text
 words tape number place =
     let by_command : Text = words_at number (standing tape place) in
-    if eqb number 3 then no_command tape place else by_command
+    if eqb number 3 then no_command tape place else if eqb number 14 then broken tape place else by_command

@@ -3,7 +3,8 @@ ghost use Rattle.std.specs.Prelude.{◌≡◌, [], ◌∷◌, ◌++◌, ◌+◌,
 ghost use Rattle.text.specs.Cursor.{Fits, Puts, Written};
 ghost use Rattle.answers.specs.Refusals.{number_of};
 ghost use Rattle.reference.specs.Text.{bytes};
-ghost use Rattle.reports.specs.Explained.{is_behind, to_line, token_part, located, head, explained};
+ghost use Rattle.reports.specs.Explained.{is_behind, to_line, token_part, located, line_told, spot_told, explained};
+ghost use Rattle.reports.specs.Reports.{head};
 
 use crate::places::{Spot, spot_of};
 use crate::put_named;
@@ -42,6 +43,30 @@ fn put_located(reason: Reason, spot: Spot, out: &mut Cursor)
     }
 }
 
+// The line of this number, counted from 0, as 14 tells it.
+fn line_told(place: u64) -> Spot
+    ensures { result ≡ line_told place }
+{
+    if place < 256 {
+        Spot {
+            line: place + 1,
+            token: 0,
+        }
+    } else {
+        Spot { line: 0, token: 0 }
+    }
+}
+
+// Where a refusal is.
+fn spot_told(tape: &[u8], refused: Refusal) -> Spot
+    ensures { result ≡ spot_told tape.now (number_of refused.reason) refused.place }
+{
+    match refused.reason {
+        Reason::OutsideProfile => line_told(refused.place),
+        _ => spot_of(tape, refused.place),
+    }
+}
+
 // Puts what question refuses, and at what place.
 pub(crate) fn put_head(refused: Refusal, out: &mut Cursor)
     requires { Fits out.old 52 }
@@ -56,7 +81,7 @@ pub fn put_explained(tape: &[u8], refused: Refusal, out: &mut [u8]) -> usize
     requires { 512 ≤ length out.old }
     ensures { Written out.old 0 (explained tape.now (number_of refused.reason) refused.place) out.new result }
 {
-    let spot = spot_of(tape, refused.place);
+    let spot = spot_told(tape, refused);
     let words = words(tape, refused);
     let mut line = Cursor::new(out, 0);
     put_head(refused, &mut line);

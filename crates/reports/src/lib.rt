@@ -22,7 +22,7 @@ use answers::{Reason, Refusal};
 pub use explained::put_explained;
 use numbers::{last_digit, put_digits};
 use printing::put_decimal;
-pub use profile::{Piece, broken, is_register, put_no_register};
+pub use profile::put_no_register;
 use rounds::Tally;
 use text::Cursor;
 pub use why::words;

@@ -1,132 +1,76 @@
 // What in a line breaks the profile of straight pieces (14), and the name that is no register (16).
-ghost use Rattle.std.specs.Prelude.{◌≡◌, ◌+◌, ◌≤◌, length, map};
-ghost use Rattle.reference.specs.Lists.{any};
-ghost use Rattle.reference.specs.Text.{◌≟◌, bytes};
+ghost use Rattle.std.specs.Prelude.{◌≡◌, ◌+◌, ◌≤◌, length};
 ghost use Rattle.text.specs.Cursor.{Written};
-ghost use Rattle.start.specs.Start.{is_register};
-ghost use Rattle.reports.specs.Profile.{token_of, is_wide, is_return, is_narrow, is_unread, is_foreign, in_expression, broken, no_register};
+ghost use Rattle.reference.specs.Listing.{Listing};
+ghost use Rattle.reference.specs.Questions.{Passed, read};
+ghost use Rattle.tape.specs.Questions.{AcceptedTape};
+ghost use Rattle.formula.specs.Breaches.{breach_at, Tells};
+ghost use Rattle.reports.specs.Profile.{breach_words, words_of_breach, broken, no_register};
 
 use crate::explained::put_head;
+use crate::text_of;
 use answers::{Reason, Refusal};
-use ground::kinds::{KEYWORD, NUMBER, PUNCT, REGISTER};
-use names::Spelled;
-use numbers::parse_c_number;
+use formula::Breach;
+use lines::marks::Marks;
 use text::Cursor;
 
-// Whether a name is a 64-bit register's and no stack slot's.
-// Kept: crate start has the same, and keeps it to itself.
-pub fn is_register(name: &[u8]) -> bool
-    ensures { result ≡ is_register name.now }
+// The words for what breaks the profile.
+fn breach_words(breach: Breach) -> &'static [u8]
+    ensures { result.now ≡ breach_words breach }
 {
-    if text::starts(name, b"var_") {
-        return false;
-    }
-    let Some(spelled) = names::family(name) else {
-        return false;
-    };
-    match spelled {
-        Spelled::Row { width, .. } | Spelled::Front { width, .. } => width == 64,
-    }
-}
-
-// A token: its kind and its text.
-#[derive(Clone, Copy)]
-pub struct Piece<'a> {
-    pub kind: u64,
-    pub text: &'a [u8],
-}
-
-#[tactic(auto, using(laws::proofs::Std::words_of_std))]
-fn is_return(text: &[u8]) -> bool
-    ensures { result ≡ (text.now ≟ bytes "return") }
-{
-    text == b"return".as_slice()
-}
-
-impl Piece<'_> {
-    fn is_wide(&self) -> bool
-        ensures { result ≡ is_wide (token_of self.now) }
-    {
-        self.kind == REGISTER && is_register(self.text)
-    }
-
-    fn is_return(&self) -> bool
-        ensures { result ≡ is_return (token_of self.now) }
-    {
-        self.kind == KEYWORD && is_return(self.text)
-    }
-
-    fn is_narrow(&self) -> bool
-        ensures { result ≡ is_narrow (token_of self.now) }
-    {
-        self.kind == REGISTER && !is_register(self.text)
-    }
-
-    fn is_unread(&self) -> bool
-        ensures { result ≡ is_unread (token_of self.now) }
-    {
-        self.kind == NUMBER && parse_c_number(self.text).is_none()
-    }
-
-    fn is_foreign(&self) -> bool
-        ensures { result ≡ is_foreign (token_of self.now) }
-    {
-        !(self.kind == REGISTER || self.kind == NUMBER || self.kind == PUNCT)
-    }
-}
-
-fn has_narrow(pieces: &[Piece]) -> bool
-    ensures { result ≡ any is_narrow (map token_of pieces.now) }
-{
-    pieces.iter().any(|p| p.is_narrow())
-}
-
-fn has_unread(pieces: &[Piece]) -> bool
-    ensures { result ≡ any is_unread (map token_of pieces.now) }
-{
-    pieces.iter().any(|p| p.is_unread())
-}
-
-fn has_foreign(pieces: &[Piece]) -> bool
-    ensures { result ≡ any is_foreign (map token_of pieces.now) }
-{
-    pieces.iter().any(|p| p.is_foreign())
-}
-
-// What is wrong with the tokens behind a line's first.
-#[tactic(auto, unfolding(crate::specs::Profile::in_expression))]
-fn in_expression(pieces: &[Piece]) -> &'static [u8]
-    ensures { result.now ≡ in_expression (map token_of pieces.now) }
-{
-    if has_narrow(pieces) {
-        b"a Register in this line is no 64-bit register (as rax, r8)"
-    } else if has_unread(pieces) {
-        b"a Number in this line is none that C reads"
-    } else if has_foreign(pieces) {
-        b"a token in this line is no Register, Number or Punct"
-    } else {
-        b"brackets, signs, blanks or numbers in this line are not as the profile wants them, or two Puncts stand side by side"
-    }
-}
-
-// What in a line breaks the profile: whether its indent is the first line's, whether it is the last line, and its tokens.
-#[tactic(auto, unfolding(crate::specs::Profile::broken))]
-pub fn broken(same: bool, last: bool, line: &[Piece]) -> &'static [u8]
-    ensures { result.now ≡ broken same last (map token_of line.now) }
-{
-    match line {
-        [] => b"the line has no token, or there is no line",
-        [first, rest @ ..] => {
-            if !same {
-                b"the indent of this line is not the first line's"
-            } else if last && !first.is_return() {
-                b"the last line does not begin with the Keyword return"
-            } else if !(last || first.is_wide()) {
-                b"the line does not assign to a 64-bit register (as rax, r8)"
-            } else {
-                in_expression(rest)
-            }
+    match breach {
+        Breach::NoLine => b"there is no line",
+        Breach::Indent => b"the indent of this line is not the first line's",
+        Breach::NoToken => b"the line has no token",
+        Breach::NoReturn => b"the last line does not begin with the Keyword return",
+        Breach::NoTarget => b"the line does not assign to a 64-bit register (as rax, r8)",
+        Breach::NarrowRegister => b"a Register in this line is no 64-bit register (as rax, r8)",
+        Breach::UntidyNumber => {
+            b"a Number in this line has a plus, a second minus or a zero in front"
         }
+        Breach::UnreadNumber => b"a Number in this line is none that C reads",
+        Breach::ForeignToken => b"a token in this line is no Register, Number or Punct",
+        Breach::NoBlank => b"behind the return of this line stands no blank",
+        Breach::NoEquals => b"behind the register of this line stands no = between blanks",
+        Breach::Brackets => b"a bracket in this line is not closed, or not opened",
+        Breach::Signs => {
+            b"this line's value is not terms joined by + or - between blanks, and then a semicolon"
+        }
+        Breach::TwoPuncts => b"two Puncts stand side by side in this line",
+    }
+}
+
+// What in line n, counted from 0, of an accepted tape breaks the profile. The tables are this function's own.
+fn breach_in(tape: &[u8], n: usize) -> Option<Breach>
+    requires { AcceptedTape tape.now }
+    ensures first { (lines : Listing) → read tape.now ≡ Passed lines → result ≡ breach_at lines n }
+    ensures tells { (lines : Listing) → read tape.now ≡ Passed lines → Tells lines }
+{
+    let mut tokens = [0u64; 1024];
+    let mut lines = [0u64; 256];
+    let mut addresses = [0u64; 256];
+    let mut marks = [Marks { low: 0, high: 0 }; 256];
+    let loaded = tables::load(tape, &mut tokens, &mut lines, &mut addresses, &mut marks);
+    formula::breach_at(tape, &tokens[..loaded.tokens], &lines[..loaded.lines], n)
+}
+
+// The general words of 14, where nothing breaks it.
+fn words_of_breach(breach: Option<Breach>) -> &'static [u8]
+    ensures { result.now ≡ words_of_breach breach }
+{
+    match breach {
+        Some(breach) => breach_words(breach),
+        None => text_of(Reason::OutsideProfile),
+    }
+}
+
+// The words for what in line n, counted from 0, of a tape's listing breaks the profile.
+pub(crate) fn broken(tape: &[u8], n: usize) -> &'static [u8]
+    ensures { result.now ≡ broken tape.now n }
+{
+    match tape::check::<false>(tape) {
+        Ok(_) => words_of_breach(breach_in(tape, n)),
+        Err(_) => text_of(Reason::OutsideProfile),
     }
 }
 

@@ -1,9 +1,12 @@
 // The words for one reason, by what stands in the tape at the place of a refusal.
-ghost use Rattle.std.specs.Prelude.{◌≡◌, ◌≤◌, ℕ, List, length};
+ghost use Rattle.std.specs.Prelude.{◌≡◌, ◌≤◌, ℕ, List, true, length};
 ghost use Rattle.answers.specs.Refusals.{number_of};
-ghost use Rattle.tape.specs.Commands.{command_in, size_of};
+ghost use Rattle.tape.specs.Commands.{command_in, size_of, standing};
+ghost use Rattle.reference.specs.Questions.{Refused, read};
+ghost use Rattle.reports.specs.Because.{Stops, OfProfile, has_several};
 ghost use Rattle.reports.specs.Why.{no_command, misplaced, unbounded, too_many, words_by, words_at, words};
 
+use crate::profile::broken;
 use crate::text_of;
 use answers::{Reason, Refusal};
 use tape::commands::Command;
@@ -82,18 +85,37 @@ fn words_by(reason: Reason, command: Command) -> &'static [u8]
     }
 }
 
-// The words for the one reason of a refusal of a tape.
+// By what stands at the place.
+#[tactic(auto, unfolding(crate::specs::Why::words_at))]
+fn words_at(tape: &[u8], refused: Refusal) -> &'static [u8]
+    ensures { result.now ≡ words_at (number_of refused.reason) (standing tape.now refused.place) }
+{
+    // Kept: a place is a u64, as C has it; std has no `From` of it for usize, and the error of `try_from` cannot come: no plainer.
+    match command_at::<false>(tape, refused.place as usize) {
+        Ok(command) => words_by(refused.reason, command),
+        Err(_) => text_of(refused.reason),
+    }
+}
+
 #[tactic(auto, unfolding(crate::specs::Why::words))]
-pub fn words(tape: &[u8], refused: Refusal) -> &'static [u8]
+fn words_by_reason(tape: &[u8], refused: Refusal) -> &'static [u8]
     ensures { result.now ≡ words tape.now (number_of refused.reason) refused.place }
 {
-    let Refusal { reason, place } = refused;
-    if matches!(reason, Reason::NoCommand) {
-        return no_command(tape, place);
+    match refused.reason {
+        Reason::NoCommand => no_command(tape, refused.place),
+        Reason::OutsideProfile => broken(tape, refused.place as usize), // a line of the listing
+        _ => words_at(tape, refused),
     }
-    // Kept: a place is a u64, as C has it; std has no `From` of it for usize, and the error of `try_from` cannot come: no plainer.
-    match command_at::<false>(tape, place as usize) {
-        Ok(command) => words_by(reason, command),
-        Err(_) => text_of(reason),
-    }
+}
+
+// The words for the one reason of a refusal of a tape: of 3, 5, 6 and 10 what is not met where its reading stops, of 14 the first of the
+// profile's tests that fails.
+pub fn words(tape: &[u8], refused: Refusal) -> &'static [u8]
+    ensures words { result.now ≡ words tape.now (number_of refused.reason) refused.place }
+    ensures stops { has_several (number_of refused.reason) ≡ true
+        → read tape.now ≡ Refused (number_of refused.reason) refused.place
+        → Stops tape.now (number_of refused.reason) refused.place result.now }
+    ensures profile { OfProfile tape.now (number_of refused.reason) refused.place result.now }
+{
+    words_by_reason(tape, refused)
 }

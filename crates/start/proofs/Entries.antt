@@ -36,7 +36,7 @@ more_fuel (suc f) (suc g) (n ∷ rest) p q =
 
 -- ---- one entry
 
-entries-nil : entries [] ≡ some []
+pub entries-nil : entries [] ≡ some []
 unfolding entries entries_from
 entries-nil = refl
 
@@ -79,12 +79,12 @@ module _ {list : List ℕ} (n : ℕ) (rest : List ℕ) (e : list ≡ n ∷ rest)
 
 -- ---- what it says of the entries
 
-record Here (list : List ℕ) (e : Entry) (rest : List ℕ) : Type 0 where
-  shorter : length rest < length list
-  are : entries list ≡ (let_some (entries rest) else none then λ es. some (e ∷ es))
+pub record Here (list : List ℕ) (e : Entry) (rest : List ℕ) : Type 0 where
+  pub shorter : length rest < length list
+  pub are : entries list ≡ (let_some (entries rest) else none then λ es. some (e ∷ es))
 
 -- bytes that are no whole entry
-cut-means : (list : List ℕ) → head_of list ≡ none → 0 < length list → entries list ≡ none
+pub cut-means : (list : List ℕ) → head_of list ≡ none → 0 < length list → entries list ≡ none
 unfolding head_of when◌then◌else◌
 cut-means [] e h = absurd (omega arith)
 cut-means (n ∷ rest) e h = entries-cons n rest ∙ go (leb (n + 8) (length rest)) (entry_of n rest, drop (n + 8) rest) e
@@ -94,7 +94,7 @@ cut-means (n ∷ rest) e h = entries-cons n rest ∙ go (leb (n + 8) (length res
     go true u q = absurd (none-some (sym q))
     go false u q = refl
 
-head-means : (list : List ℕ) (e : Entry) (rest : List ℕ) → head_of list ≡ some (e, rest) → Here list e rest
+pub head-means : (list : List ℕ) (e : Entry) (rest : List ℕ) → head_of list ≡ some (e, rest) → Here list e rest
 unfolding head_of when◌then◌else◌
 head-means [] e rest q = absurd (none-some q)
 head-means (n ∷ behind) e rest q = go (leb (n + 8) (length behind)) refl (entry_of n behind, drop (n + 8) behind) refl (e, rest) q

@@ -6,6 +6,7 @@ pub mod Solved
 pub mod Answer
 pub mod Examples
 pub mod Entries
+pub mod Naming
 pub mod Registers
 pub mod Pricing
 pub mod Running

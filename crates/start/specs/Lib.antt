@@ -4,5 +4,6 @@ pub mod Pairs
 pub mod Solved
 pub mod Smallest
 pub mod Items
+pub mod Unknown
 pub mod Reckoning
 pub mod Formulas

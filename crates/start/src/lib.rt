@@ -7,3 +7,4 @@ mod reckoning; // a formula reckoned in pairs of a multiplier and a constant
 mod starts; // where the registers of a formula start
 
 pub use call::start_value;
+pub use listed::{is_register, unknown_name};

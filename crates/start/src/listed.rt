@@ -5,6 +5,7 @@ ghost use Rattle.reference.specs.Lists.{is_some};
 ghost use Rattle.start.specs.Start as Start;
 ghost use Rattle.start.specs.Start.{entries, is_register, known_entries, listed};
 ghost use Rattle.start.specs.Items.{head_of, shown};
+ghost use Rattle.start.specs.Unknown.{unknown_name, named, Names};
 
 use names::Spelled;
 use tape::little_endian::number_at;
@@ -63,6 +64,24 @@ pub fn are_known(list: &[u8]) -> bool
         rest = entry.rest;
     }
     rest.is_empty()
+}
+
+// The first name that is no 64-bit register's: the chosen one, or that of a list's first such entry in front of one that is cut.
+pub fn unknown_name<'a>(chosen: &'a [u8], list: &'a [u8]) -> Option<&'a [u8]>
+    ensures name { named result ≡ unknown_name chosen.now list.now }
+    ensures names { Names chosen.now list.now }
+{
+    if !is_register(chosen) {
+        return Some(chosen);
+    }
+    let mut rest = list;
+    while let Some(entry) = first_entry(rest) {
+        if !is_register(entry.name) {
+            return Some(entry.name);
+        }
+        rest = entry.rest;
+    }
+    None
 }
 
 // The value that a list gives a name: that of its first entry; a name that is not listed has the value 0.

@@ -3,7 +3,7 @@ use Rattle.std.proofs.Common.{arith}
 use Rattle.reference.specs.Text.{bytes}
 use Rattle.text.proofs.Cursors.{room_left}
 use Rattle.printing.proofs.Decimals.{decimal-length}
-use Rattle.reports.specs.Explained.{head}
+use Rattle.reports.specs.Reports.{head}
 use Rattle.reports.proofs.Putting.{then_named}
 use Rattle.reports.proofs.explained.put_head.Goals as goal
 
