@@ -10,10 +10,10 @@ use Rattle.reference.specs.Control.{when◌then◌else◌, let_some◌else◌the
 use Rattle.reference.specs.Listing.{Listing}
 use Rattle.reference.specs.Rules.{Rules}
 use Rattle.reference.specs.Questions as Q
-use Rattle.reference.specs.Questions.{WORK, Answer, Refused, Passed, has_room_by, ask, let_passed◌then◌, read}
+use Rattle.reference.specs.Questions.{Answer, Refused, Passed, has_room_by, ask, let_passed◌then◌, read}
 use Rattle.reference.specs.Straight.{breaks}
-use Rattle.reference.specs.Reply.{ask_profile, reply_by, reply}
-use Rattle.clean.specs.Replies.{outside, cleaned}
+use Rattle.reference.specs.Reply.{ask_profile, reply_by}
+use Rattle.clean.specs.Replies.{outside}
 use Rattle.cautions.specs.Cautions.{finished_cautions, caution_bytes}
 use Rattle.cautioned.specs.Replies.{OUTPUT, cautions_reply, verdict, RefusedAlike}
 
