@@ -85,8 +85,9 @@ enum puchkewa_refusal {
     PUCHKEWA_BAD_CONVENTION = 1,     /* the convention is not 0, 1 or 2 */
     PUCHKEWA_TOO_LITTLE_ROOM = 2,    /* a work area has fewer than 49,152 bytes, or the output fewer than 59,137. puchkewa_laborious: the output
                                         has fewer than 59,137; puchkewa_to_2018, puchkewa_to_2024: fewer than the tape;
-                                        puchkewa_to_offsets, puchkewa_from_offsets: fewer than 59,146; named states: the store has fewer
-                                        than 524,288, or the output of puchkewa_restore fewer than 65,523 */
+                                        puchkewa_to_offsets, puchkewa_from_offsets: fewer than 59,146; puchkewa_cautions: a work area
+                                        fewer than 49,152, or the output fewer than 512; named states: the store has fewer than 524,288, or
+                                        the output of puchkewa_restore fewer than 65,523 */
     PUCHKEWA_NO_COMMAND = 3,         /* the tape ends where a command must begin, or the byte there begins no command of the tape's form */
     PUCHKEWA_CUT_OFF = 4,            /* the command's operand or text runs past the end of the tape */
     PUCHKEWA_TOKEN_BEFORE_LINE = 5,  /* a token before any line; an 03 (by offset 05) that does not stand directly after a line's command, or

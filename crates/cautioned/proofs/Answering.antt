@@ -30,9 +30,10 @@ use Rattle.cautions.proofs.Carried.{kept_as}
 use Rattle.cautions.proofs.Lost.{nothing_lost, quiet}
 use Rattle.cautions.proofs.Ordered.{in_order}
 use Rattle.clean.specs.Asking.{before_the_tape}
-use Rattle.cautioned.specs.Replies.{OUTPUT, cautions_reply, Leaves, set_at, Tells}
+use Rattle.cautioned.specs.Replies.{OUTPUT, cautions_reply, RefusedAlike, Leaves, set_at, Tells}
 use Rattle.cautioned.specs.Telling.{Cautionable, Finishes}
 use Rattle.cautioned.proofs.Bytes.{read_set}
+use Rattle.cautioned.proofs.Alike.{refused-alike}
 
 -- what is told of an accepted tape, by what is told of a call that is not refused
 tells_by : (rules : Rules) (input : Listing) {r : Answer ℕ} {out' : List ℕ}
@@ -56,6 +57,7 @@ module _ (rules : Rules) (tape work_a work_b out : List ℕ) where
   -- what the call promises of its answer
   pub record Promise (work-a' work-b' out' : List ℕ) (r : Answer ℕ) : Type 0 where
     pub result_value : r ≡ measured answer
+    pub alike : RefusedAlike rules tape (length work_a) (length work_b) (length out)
     pub lent : Leaves answer work_a work_b out work-a' work-b' out'
     pub tells : (input : Listing) → read tape ≡ Passed input → Tells rules input r out'
 
@@ -64,6 +66,7 @@ module _ (rules : Rules) (tape work_a work_b out : List ℕ) where
       let leaves : Leaves (Refused _ _) work_a work_b out work_a work_b out = record { output_is = refl; work_a_is = refl; work_b_is = refl } in
       record {
         result_value = sym (ap measured e);
+        alike = refused-alike rules tape (length work_a) (length work_b) (length out);
         lent = rw e leaves;
         tells = λ input reads. tells_by rules input (λ n k. absurd (refused_passed k)) (λ n k. absurd (refused_passed k));
       }
@@ -74,6 +77,7 @@ module _ (rules : Rules) (tape work_a work_b out : List ℕ) where
   finished-told lines reads e {out' = out'} {n = n} f =
       record {
         result_value = ap Passed f.length_is ∙ sym (ap measured e);
+        alike = refused-alike rules tape (length work_a) (length work_b) (length out);
         lent = rw e f.leaves;
         tells = λ input again. subst (λ (i : Listing). Tells rules i (Passed n) out') (passed_inj (sym reads ∙ again)) all;
       }

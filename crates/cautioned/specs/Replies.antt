@@ -1,9 +1,11 @@
 -- What the call answers, and every lent byte afterwards. Assumes nothing.
-use Rattle.std.specs.Prelude.{ℕ, suc, ◌+◌, ◌*◌, ◌<◌, ◌≡◌, List, ◌++◌, length, get_or, drop, replicate}
+use Rattle.std.specs.Prelude.{ℕ, suc, ◌+◌, ◌*◌, ◌<◌, ◌≤◌, ◌≡◌, List, ◌++◌, length, get_or, drop, replicate}
 use Rattle.reference.specs.Control.{let_some◌else◌then◌}
 use Rattle.reference.specs.Listing.{Listing}
 use Rattle.reference.specs.Rules.{Rules}
 use Rattle.reference.specs.Run.{finished}
+use Rattle.reference.specs.Reply.{reply}
+use Rattle.reference.specs.Questions as Q
 use Rattle.reference.specs.Questions.{WORK, Answer, Refused, Passed, ask, let_passed◌then◌, read}
 use Rattle.answers.specs.Answers.{output_after}
 use Rattle.clean.specs.Asking.{before_the_tape}
@@ -21,6 +23,16 @@ cautions_reply rules tape work_a work_b output =
     ask (λ number. 0) (before_the_tape rules work_a work_b output OUTPUT)
     (let_passed (read tape) then λ lines.
     let_some (outside rules lines) else Passed (caution_bytes (finished_cautions rules lines)) then λ n. Refused 14 n)
+
+-- whether an answer is a refusal, and which
+abbrev pub verdict : {A : Type 0} → Answer A → Answer (Unit {0})
+verdict (Refused number place) = Refused number place
+verdict (Passed a) = Passed tt
+
+-- where the output is long enough for the cleaned tape too, the cleaning is refused as this call is
+abbrev pub RefusedAlike : Rules → List ℕ → ℕ → ℕ → ℕ → Type 0
+RefusedAlike rules tape work_a work_b output =
+    Q.OUTPUT ≤ output → verdict (cautions_reply rules tape work_a work_b output) ≡ verdict (reply rules tape work_a work_b output)
 
 -- A refusal changes nothing lent. Otherwise the first 49,152 bytes of a work area are zero, the rest as before.
 abbrev pub work_after : Answer (List ℕ) → List ℕ → List ℕ

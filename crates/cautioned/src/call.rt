@@ -4,7 +4,7 @@ ghost use Rattle.reference.specs.Listing.{Listing};
 ghost use Rattle.reference.specs.Questions.{Passed, read};
 ghost use Rattle.ground.specs.Rules.{rules_of};
 ghost use Rattle.answers.specs.Answers.{answer_of, measured};
-ghost use Rattle.cautioned.specs.Replies.{cautions_reply, Leaves, Tells};
+ghost use Rattle.cautioned.specs.Replies.{cautions_reply, RefusedAlike, Leaves, Tells};
 
 use crate::telling::finish;
 use answers::{Answer, Reason};
@@ -27,6 +27,7 @@ pub fn cautions(
 ) -> Answer
     ensures result_value { answer_of result ≡ measured (cautions_reply (rules_of rules) tape.now
         (length work_a.old) (length work_b.old) (length out.old)) }
+    ensures alike { RefusedAlike (rules_of rules) tape.now (length work_a.old) (length work_b.old) (length out.old) }
     ensures lent { Leaves (cautions_reply (rules_of rules) tape.now (length work_a.old) (length work_b.old) (length out.old))
         work_a.old work_b.old out.old work_a.new work_b.new out.new }
     ensures tells { (input : Listing) → read tape.now ≡ Passed input → Tells (rules_of rules) input (answer_of result) out.new }

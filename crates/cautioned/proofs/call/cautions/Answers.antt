@@ -15,7 +15,7 @@ returns-in_err-map_err c =
     let k : c.from_residual.result ≡ Err c.in_err-map_err.field-0.0 = search rules in
     let a = c.args in
     let p = refused_early (rules_of a.rules) a.tape.now a.work_a.now a.work_b.now a.out.now c.asked.result c.asked.ensures h _ c.in_err-map_err.was in
-    rw k (record { result_value = p.result_value; lent = p.lent; tells = p.tells })
+    rw k (record { result_value = p.result_value; alike = p.alike; lent = p.lent; tells = p.tells })
 
 pub returns-in_err-check : goal.returns-in_err-check
 returns-in_err-check c =
@@ -25,7 +25,7 @@ returns-in_err-check c =
     let p =
     refused_on_tape (rules_of a.rules) a.tape.now a.work_a.now a.work_b.now a.out.now c.asked.ensures d
     (refused_by a.tape.now (sym (ap checked c.in_err-check.was) ∙ c.check.ensures)) in
-    rw k (record { result_value = p.result_value; lent = p.lent; tells = p.tells })
+    rw k (record { result_value = p.result_value; alike = p.alike; lent = p.lent; tells = p.tells })
 
 pub outside_profile-requires : goal.outside_profile-requires
 outside_profile-requires c = accepted_by c.args.tape.now (sym (ap checked c.in_ok-check.was) ∙ c.check.ensures)
@@ -44,7 +44,7 @@ returns-in-Some c =
     let p =
     refused_now (rules_of a.rules) a.tape.now a.work_a.now a.work_b.now a.out.now c.asked.ensures d
     (accepted_by a.tape.now (sym (ap checked c.in_ok-check.was) ∙ c.check.ensures)) c.outside_profile.result c.outside_profile.ensures _ c.in-Some.is in
-    rw c.at.ensures (record { result_value = p.result_value; lent = p.lent; tells = p.tells })
+    rw c.at.ensures (record { result_value = p.result_value; alike = p.alike; lent = p.lent; tells = p.tells })
 
 pub returns-in-None : goal.returns-in-None
 returns-in-None c =
@@ -54,4 +54,4 @@ returns-in-None c =
     finished-now (rules_of a.rules) a.tape.now a.work_a.now a.work_b.now a.out.now c.asked.ensures d
     (accepted_by a.tape.now (sym (ap checked c.in_ok-check.was) ∙ c.check.ensures)) c.outside_profile.result c.outside_profile.ensures
     c.in-None.is c.finish.ensures in
-    record { result_value = p.result_value; lent = p.lent; tells = p.tells }
+    record { result_value = p.result_value; alike = p.alike; lent = p.lent; tells = p.tells }
