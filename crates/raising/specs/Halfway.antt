@@ -31,8 +31,8 @@ shared_kinds rules lines i p f =
 
 -- The plan p of line i, which assigns to f, is about to be carried out: `parts` has what each line tells, what the join puts on the lines
 -- that the value reaches was put on the sets, and `own` was answered.
-pub record Begun (rules : Rules) (lines : Listing) (i : ℕ) (p : Plan) (f : Fam) (parts : List (std.Option Before)) (old new : List ℕ) (own : ℕ)
-    : Type 0 where
+pub record Begun (rules : Rules) (lines : Listing) (i : ℕ) (p : Plan) (f : Fam) (parts : List (std.Option Before)) (old new : List ℕ)
+    (own : ℕ) : Type 0 where
   pub told : ToldBy rules lines i p f parts
   pub sets : take (length lines) new ≡ marked rules lines i f.name (into rules lines i p) (take (length lines) old)
   pub own_is : own ≡ shared_kinds rules lines i p f

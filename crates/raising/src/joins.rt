@@ -15,7 +15,7 @@ ghost use Rattle.raising.specs.Spread.{marked};
 ghost use Rattle.raising.specs.Noting.{Sound, ToldBy, fam_of, lines_of, plan_of};
 ghost use Rattle.raising.specs.Halfway.{Begun, Halfway, own_kinds, shared_kinds};
 
-use crate::noting::{Noting, last_noted, note, target};
+use crate::noting::{Noting, assigned_name, last_noted, note};
 use crate::renewing::hand_on;
 use crate::spreading::spread;
 use crate::tables::Raising;
@@ -120,7 +120,7 @@ fn begin_join(
         → Begun (rules_of rules) (bare_listing listing.now) j.line (plan_in listing.now j) d.fam parts.new sets.old sets.new result }
     ensures forms { forms.new ≡ forms.old }
 {
-    let Some(name) = target(listing, j.line) else {
+    let Some(name) = assigned_name(listing, j.line) else {
         return 0;
     };
     copy_expr(

@@ -40,7 +40,7 @@ pub(crate) struct Noting<'a> {
 }
 
 // The name of the register or slot that line i begins with, where it is an assignment to one.
-pub(crate) fn target(listing: &Listing<'_>, i: usize) -> Option<Named>
+pub(crate) fn assigned_name(listing: &Listing<'_>, i: usize) -> Option<Named>
     requires { Listed listing.now × (i < length listing.now.lines.now) }
     ensures { (d : J.Definition) → definition_of (bare_listing listing.now at i).tokens ≡ some d
         → Names listing.now.texts.tape.now listing.now.texts.area.now (some d.fam) result }

@@ -90,8 +90,8 @@ pub(crate) fn hand_on(
         × (length listing.now.lines.now < length forms.old) × (length listing.now.lines.now < length parts.now) }
     ensures { RenewedTo listing.now i (length listing.now.lines.now)
         (own ∪ (kinds_from (drop (i + 1) parts.now) (drop i (bare_listing listing.now)) ∪ get_or sets.old i 0)) parts.now
-        (copy_within sets.old (i + 1) (length listing.now.lines.now + 1) i) (copy_within forms.old (i + 1) (length listing.now.lines.now + 1) i)
-        sets.new forms.new }
+        (copy_within sets.old (i + 1) (length listing.now.lines.now + 1) i)
+        (copy_within forms.old (i + 1) (length listing.now.lines.now + 1) i) sets.new forms.new }
 {
     let lines = listing.lines.len() + 1;
     let all = own | (uses_kinds(listing, i, parts) | sets[i]);

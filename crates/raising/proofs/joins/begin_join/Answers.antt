@@ -20,10 +20,10 @@ pub prepared-n-requires : goal.prepared-n-requires
 prepared-n-requires c =
     let h = c.args.listing.now in
     let q = c.requires.0 in
-    let names = c.target.ensures q.planned.def q.planned.known in
+    let names = c.assigned_name.ensures q.planned.def q.planned.known in
     let a = assigned (bare_listing h at c.args.j.line).tokens q.planned.def q.planned.known in
     let narrow = named_narrow a.side.lhs.text (subst (λ (o : std.Option Named). Names h.texts.tape.now h.texts.area.now (family a.side.lhs.text) o) c.in-Some.is
-    (subst (λ (o : Option Fam). Names h.texts.tape.now h.texts.area.now o c.target.result) (sym a.names) names)) in (
+    (subst (λ (o : Option Fam). Names h.texts.tape.now h.texts.area.now o c.assigned_name.result) (sym a.names) names)) in (
       record { listed = q.listed; short = q.lines_few; table = forms_of_listing c.args.forms.now (omega (arith, q.lines_few, c.requires.3)) c.requires.1 },
       q.inside,
       q.joins.known,
@@ -53,4 +53,4 @@ returns-clause-begun c d known =
     let n = c.prepared-n.result in
     let s = c.prepared-n.ensures.same in
     let eh = ap (λ (g : FormedListing). g.listing) s.0 in
-    begun n eh s.1 s.2 (fam_is n eh s.1 s.2 s.3 c.in-Some.is (c.target.ensures d known)) c.raise.ensures.told c.raise.ensures.sets c.raise.ensures.own
+    begun n eh s.1 s.2 (fam_is n eh s.1 s.2 s.3 c.in-Some.is (c.assigned_name.ensures d known)) c.raise.ensures.told c.raise.ensures.sets c.raise.ensures.own
