@@ -3,3 +3,8 @@ pub mod Lending
 pub mod Putting
 pub mod Cutting
 pub mod Gathering
+pub mod Told
+pub mod Noted
+pub mod Renewed
+pub mod Before
+pub mod Passing

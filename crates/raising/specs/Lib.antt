@@ -3,4 +3,6 @@ pub mod Tables
 pub mod Steps
 pub mod Spread
 pub mod Others
+pub mod Noting
 pub mod Halfway
+pub mod Renewing
