@@ -1,5 +1,5 @@
--- The words for cautions: of each of the ten kinds its bit, its name and its sentence; a line for each kind of a set; the line over those of
--- a listing. Assumes nothing.
+-- The words for cautions: of each of the ten kinds its bit, its name and its sentence; a line for each kind of a set; the line over those
+-- of a listing. Assumes nothing.
 use Rattle.std.specs.Prelude.{ℕ, Bool, List, [], ◌∷◌, ◌++◌, eqb, not, if◌then◌else◌}
 use Rattle.std.specs.Int.Bits.{bit_and}
 use mathlib.Core.List.{flat_map}
@@ -38,8 +38,8 @@ name_of caution.HandedOver = bytes "handed-over"
 -- the sentences of crate cautions' definitions
 abbrev pub sentence_of : Caution → Text
 sentence_of caution.OddForm =
-    bytes
-    "A line here, or one that the value may reach, is not looked into (inline assembly, an instruction by name, two statements, `&&`, a loop other than do .. while, a line entered from elsewhere): compare with the raw lines yourself."
+    bytes "A line here, or one that the value may reach, is not looked into (inline assembly, an instruction by name, two statements, "
+    ++ bytes "`&&`, a loop other than do .. while, a line entered from elsewhere): compare with the raw lines yourself."
 sentence_of caution.StillRead = bytes "The register was read elsewhere too, on this line or another: there it now holds an older value."
 sentence_of caution.Overwritten =
     bytes "A call stands between the value's assignment and its use here, which may have overwritten the register."
@@ -54,8 +54,8 @@ sentence_of caution.OtherText =
 sentence_of caution.OddNumber = bytes "A number is large, or not spelt plainly: C may read it, or add it up, otherwise."
 sentence_of caution.Slot = bytes "A stack slot was taken for a register; it is memory, and pointers and calls may reach it."
 sentence_of caution.HandedOver =
-    bytes
-    "The value may be handed over unseen: to a call that does not spell its arguments, or back to the caller (the result, and the registers that calls preserve)."
+    bytes "The value may be handed over unseen: to a call that does not spell its arguments, or back to the caller "
+    ++ bytes "(the result, and the registers that calls preserve)."
 
 -- all of them, in the order of their bits
 abbrev pub every : List Caution

@@ -78,8 +78,8 @@ impl Caution {
     {
         match self {
             Caution::OddForm => {
-                b"A line here, or one that the value may reach, is not looked into (inline assembly, an instruction by name, two statements, \
-                  `&&`, a loop other than do .. while, a line entered from elsewhere): compare with the raw lines yourself."
+                b"A line here, or one that the value may reach, is not looked into (inline assembly, an instruction by name, \
+                  two statements, `&&`, a loop other than do .. while, a line entered from elsewhere): compare with the raw lines yourself."
             }
             Caution::StillRead => {
                 b"The register was read elsewhere too, on this line or another: there it now holds an older value."

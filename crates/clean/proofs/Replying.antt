@@ -78,7 +78,8 @@ module _ (rules : Rules) (tape work_a work_b out : List ℕ) where
   )
 
   -- question 1, 9 or 2 refuses the call
-  refused_at_door : (r : Reason) → number_of r ≡ first_no (before_the_tape rules (length work_a) (length work_b) (length out) OUTPUT) → Promise work_a work_b out (Err (record { reason = r; place = 0 }))
+  refused_at_door : (r : Reason) → number_of r ≡ first_no (before_the_tape rules (length work_a) (length work_b) (length out) OUTPUT)
+      → Promise work_a work_b out (Err (record { reason = r; place = 0 }))
   unfolding reply_by has_room_by
   refused_at_door r e =
       refused (record { reason = r; place = 0 })

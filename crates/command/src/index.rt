@@ -1,5 +1,6 @@
 // The index over the pages of a folder: a row for each file, with its lines before and after, how many of these are cautioned, and whether
-// its calls are kept, or with the words that it was refused with. A row of a page is a link to it. Files are read and cleaned once more for their rows.
+// its calls are kept, or with the words that it was refused with. A row of a page is a link to it. Files are read and cleaned once more
+// for their rows.
 use crate::Call;
 use crate::files::{front, is_dash, read_path};
 use crate::refusals::words_of;
@@ -141,7 +142,8 @@ pub(crate) fn put_index<W: Write>(call: &Call, to: &mut W) -> Result<(), Error> 
           max-width:1100px;padding:20px 24px 60px}\n\
           h1{font-size:20px}table{border-collapse:collapse;width:100%}\n\
           th{text-align:left;font-weight:600;border-bottom:2px solid var(--ink);padding:4px 10px 4px 0}\n\
-          td{border-bottom:1px solid var(--rule);padding:4px 10px 4px 0;vertical-align:top;overflow-wrap:anywhere}th:first-child,th:last-child{width:34%}\n\
+          td{border-bottom:1px solid var(--rule);padding:4px 10px 4px 0;vertical-align:top;overflow-wrap:anywhere}\
+          th:first-child,th:last-child{width:34%}\n\
           td.d{font-variant-numeric:tabular-nums}a{color:var(--link)}.y{color:var(--good)}.x,.r{color:var(--bad)}\n\
           @media(max-width:700px){body{padding:12px}td,th{padding-right:6px}}\n\
           </style>\n<h1>Cleaned listings</h1>\n<table>\n\

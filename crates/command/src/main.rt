@@ -200,10 +200,12 @@ fn print_json_counts(
             second,
             third,
         } => format!(in rt.alloc();
-            ",\"length\":{length},\"settled\":false,\"attempts\":[{first},{second},{third}],\"removed\":{removed},\"cut\":{cut},\"cautioned\":{cautioned}"
+            ",\"length\":{length},\"settled\":false,\"attempts\":[{first},{second},{third}],\
+              \"removed\":{removed},\"cut\":{cut},\"cautioned\":{cautioned}"
         ),
         Tally::Settled { rounds, attempts } => format!(in rt.alloc();
-            ",\"length\":{length},\"settled\":true,\"rounds\":{rounds},\"attempts\":{attempts},\"removed\":{removed},\"cut\":{cut},\"cautioned\":{cautioned}"
+            ",\"length\":{length},\"settled\":true,\"rounds\":{rounds},\"attempts\":{attempts},\
+              \"removed\":{removed},\"cut\":{cut},\"cautioned\":{cautioned}"
         ),
     };
     print_object(rt, name, rest)

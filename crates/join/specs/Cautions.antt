@@ -26,7 +26,8 @@ plan_now s j = join_in s.tape (used s.area s.size) (part_of (used_words s.tokens
 pub record JoinRaised (rules : Rules) (s : Contents) (labels : List ℕ) (i : ℕ) (r : Raising) (s' : Contents) (r' : Raising) : Type 0 where
   pub kept : Kept (bare_now s') r'
   pub sets : is_on r ≡ true → let into = targets_now rules s labels i in
-      sets_now (bare_now s') r' ≡ hand_on i into (both (sets_now (bare_now s) r) (join_cautions rules (bare_now s) (success i into (bare_now s'))))
+      sets_now (bare_now s') r'
+      ≡ hand_on i into (both (sets_now (bare_now s) r) (join_cautions rules (bare_now s) (success i into (bare_now s'))))
 
 -- A failed attempt leaves the tables as they were.
 pub record AttemptRaised (rules : Rules) (s : Contents) (labels : List ℕ) (i : ℕ) (r : Raising) (s' : Size → Contents) (r' : Raising)

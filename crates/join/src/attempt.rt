@@ -73,7 +73,8 @@ fn raise_after<'a>(
     size: Size,
 )
     requires { Current tape.now room.now size × (size.lines < 256) × (i ≤ size.lines) × (is_on raising.old ≡ true → Room raising.old) }
-    ensures raised { (rules : R.Rules) (lines : reference.Listing) (p : Plan) (before : Raising) → Halfway rules lines i p before raising.old own
+    ensures raised { (rules : R.Rules) (lines : reference.Listing) (p : Plan) (before : Raising)
+        → Halfway rules lines i p before raising.old own
         → bare_now (contents tape.now room.now size) ≡ act rules lines i p → i < length lines → Raised rules lines i p before raising.new }
     ensures lent { tables.SameLent raising.old raising.new }
 {

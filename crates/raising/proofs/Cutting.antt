@@ -82,7 +82,10 @@ module _ (rules : Rules) (ls : Listing) (i : ℕ) (fam : Text) where
 
   marked_alone : (sets : List ℕ) → marked rules ls i fam (i ∷ []) sets ≡ marked rules ls i fam [] sets
   unfolding marked
-  marked_alone sets = ap (λ (o : List ℕ). put odd_form (dark_in rules ls (ways ls) i fam (far rules ls i fam []) o) 0 (put still_read (stale_in rules ls (ways ls) i fam (far rules ls i fam []) o) 0 sets)) others_alone
+  marked_alone sets =
+      ap
+      (λ (o : List ℕ). put odd_form (dark_in rules ls (ways ls) i fam (far rules ls i fam []) o) 0 (put still_read (stale_in rules ls (ways ls) i fam (far rules ls i fam []) o) 0 sets))
+      others_alone
 
   kinds_alone : (again : Bool) → far_kinds rules ls i fam (i ∷ []) again ≡ far_kinds rules ls i fam [] again
   unfolding far_kinds

@@ -97,7 +97,8 @@ pub fn before_cut(listing: &Listing<'_>, i: usize, rules: Rules, r: &mut Raising
 pub fn after_cut(listing: &Listing<'_>, i: usize, r: &mut Raising<'_>)
     requires { Listed listing.now × (length listing.now.lines.now ≤ 256) × (i < length listing.now.lines.now)
         × (is_on r.old ≡ true → Room r.old) }
-    ensures kept { (lines : reference.Listing) → Kept lines r.old → bare_listing listing.now ≡ modify i (λ l. with_tokens (drop 2 l.tokens) l) lines
+    ensures kept { (lines : reference.Listing) → Kept lines r.old
+        → bare_listing listing.now ≡ modify i (λ l. with_tokens (drop 2 l.tokens) l) lines
         → Kept (bare_listing listing.now) r.new × (sets_now (bare_listing listing.now) r.new ≡ sets_now lines r.old) }
     ensures lent { SameLent r.old r.new }
 {

@@ -227,7 +227,8 @@ pub(crate) fn put_foot(out: Output) -> Result<(), Unwritten> {
           function into(row){return row.dataset.into.split(' ').filter(Boolean);}\n\
           function from(q){return rows.filter(function(row){return into(row).indexOf(q)>=0;});}\n\
           function part(row,c){return row.querySelector('td.'+c).textContent;}\n\
-          function clear(){rows.forEach(function(row){row.classList.remove('src');});if(on){on.classList.remove('on');on.parentNode.classList.remove('told');}on=null;\
+          function clear(){rows.forEach(function(row){row.classList.remove('src');});\
+          if(on){on.classList.remove('on');on.parentNode.classList.remove('told');}on=null;\
           \n\
           m.textContent=idle;b.className='idle';y.hidden=true;}\n\
           function mark(x){clear();var q=x.dataset.q,f=from(q);f.forEach(function(row){row.classList.add('src');});on=x;\

@@ -15,4 +15,5 @@ Raises rules lines attempts s t s' t' = is_on t ≡ true → sets_now (bare_now 
 
 -- The sets after the whole run: those of the definition, whatever the addresses are.
 abbrev pub CautionsKept : Rules → Contents → Contents → Raising → Raising → Type 0
-CautionsKept rules s s' t t' = is_on t ≡ true → (addresses : Reading) → sets_now (bare_now s') t' ≡ kept_cautions rules (listing_now s addresses)
+CautionsKept rules s s' t t' =
+    is_on t ≡ true → (addresses : Reading) → sets_now (bare_now s') t' ≡ kept_cautions rules (listing_now s addresses)

@@ -16,14 +16,16 @@ pub returns-then-calls_at : goal.returns-then-calls_at
 returns-then-calls_at c =
     let ls = bare_listing c.args.listing.now in
     let k = c.loop-k.k in
-    range_found calls ls blank k c.args.c c.loop-k-test.true (omega (arith, length-map c.args.listing.now.lines.now (bare_in c.args.listing.now.texts c.args.listing.now.tokens.now), c.requires.1)) c.loop-k.invariant
+    range_found calls ls blank k c.args.c c.loop-k-test.true
+    (omega (arith, length-map c.args.listing.now.lines.now (bare_in c.args.listing.now.texts c.args.listing.now.tokens.now), c.requires.1)) c.loop-k.invariant
     (sym c.calls_at.ensures ∙ c.if-calls_at.true)
 
 pub loop-k-preserved : goal.loop-k-preserved
 loop-k-preserved c =
     let ls = bare_listing c.args.listing.now in
     let k = c.loop-k.k in
-    range_on calls ls blank k c.args.c c.loop-k-test.true (omega (arith, length-map c.args.listing.now.lines.now (bare_in c.args.listing.now.texts c.args.listing.now.tokens.now), c.requires.1)) c.loop-k.invariant
+    range_on calls ls blank k c.args.c c.loop-k-test.true
+    (omega (arith, length-map c.args.listing.now.lines.now (bare_in c.args.listing.now.texts c.args.listing.now.tokens.now), c.requires.1)) c.loop-k.invariant
     (sym c.calls_at.ensures ∙ c.if-calls_at.false)
 
 pub returns : goal.returns

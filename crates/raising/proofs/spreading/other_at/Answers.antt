@@ -31,7 +31,8 @@ pub returns-then-is_dark-clause-stale : goal.returns-then-is_dark-clause-stale
 returns-then-is_dark-clause-stale c =
     let g = c.args.g.now in
     let h : c.args.k < length (bare_listing g.listing) = omega (arith, lines_long g, c.requires.2) in
-    dark_not_stale (bare_listing g.listing) c.args.i c.args.parts.now c.args.seen.now c.args.k h c.is_other.ensures c.if-not-is_other.false c.is_dark.ensures c.if-is_dark.true (fam_text g.listing.texts c.args.f)
+    dark_not_stale (bare_listing g.listing) c.args.i c.args.parts.now c.args.seen.now c.args.k h c.is_other.ensures c.if-not-is_other.false
+    c.is_dark.ensures c.if-is_dark.true (fam_text g.listing.texts c.args.f)
 
 pub returns-clause-dark : goal.returns-clause-dark
 returns-clause-dark c =
@@ -43,5 +44,6 @@ pub returns-clause-stale : goal.returns-clause-stale
 returns-clause-stale c =
     let g = c.args.g.now in
     let h : c.args.k < length (bare_listing g.listing) = omega (arith, lines_long g, c.requires.2) in
-    stale_here (bare_listing g.listing) c.args.i c.args.parts.now c.args.seen.now c.args.k h c.is_other.ensures c.if-not-is_other.false c.is_dark.ensures c.if-is_dark.false (fam_text g.listing.texts c.args.f)
+    stale_here (bare_listing g.listing) c.args.i c.args.parts.now c.args.seen.now c.args.k h c.is_other.ensures c.if-not-is_other.false
+    c.is_dark.ensures c.if-is_dark.false (fam_text g.listing.texts c.args.f)
     (c.reads.ensures ∙ ap (reads (fam_text g.listing.texts c.args.f)) (ap (tokens_of g.listing.texts) c.line_of-line.ensures ∙ table_tokens g c.args.k c.requires.2))
