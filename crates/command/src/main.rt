@@ -537,7 +537,7 @@ impl Call<'_> {
 
     fn version(&self) -> Outcome {
         // Kept: the version's text, which the page of crate render has too: by one name the line's end here would be written by itself.
-        fate_of(self.rt, b"version", print(self.rt, b"puchkewa 0.15.0\n")).outcome()
+        fate_of(self.rt, b"version", print(self.rt, b"puchkewa 0.16.0\n")).outcome()
     }
 
     // ---- all verbs

@@ -246,7 +246,7 @@ fn put_settings(out: Output, rules: Rules) -> Result<(), Unwritten> {
     put_yes(out, b"parts told apart", rules.parts)?;
     put_yes(out, b"profile of straight pieces", rules.profile)?;
     put_yes(out, b"until it settles", rules.settle)?;
-    put_said(out, b"version", b"puchkewa 0.15.0")?;
+    put_said(out, b"version", b"puchkewa 0.16.0")?;
     put(out, b"</tbody></table></div>\n")
 }
 
