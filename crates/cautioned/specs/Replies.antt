@@ -10,7 +10,7 @@ use Rattle.reference.specs.Questions.{WORK, Answer, Refused, Passed, ask, let_pa
 use Rattle.answers.specs.Answers.{output_after}
 use Rattle.clean.specs.Asking.{before_the_tape}
 use Rattle.clean.specs.Replies.{outside}
-use Rattle.cautions.specs.Cautions.{finished_cautions, caution_bytes, Kept, NothingLost, Quiet, InOrder}
+use Rattle.cautions.specs.Cautions.{finished_cautions, caution_bytes, Kept, NothingLost, Quiet, InOrder, Unwarned}
 
 -- what its output has at least: two bytes for each of 256 lines
 abbrev pub OUTPUT : ℕ
@@ -59,3 +59,4 @@ pub record Tells (rules : Rules) (input : Listing) (r : Answer ℕ) (out' : List
   pub nothing_lost : NothingLost rules input
   pub quiet : Quiet rules input
   pub in_order : InOrder rules input
+  pub unwarned : Unwarned rules input
