@@ -27,7 +27,7 @@ fn is_use(j: &Joining<'_>, u: usize) -> bool
     fams::is_of(&j.texts, j.line[u], j.name.family)
 }
 
-// The kinds of the token at u: none where it is no use.
+// The kinds of the use at u; none where the token is no use.
 #[tactic(auto, using(crate::proofs::Placing::kinds_here))]
 fn kinds_at(j: &Joining<'_>, u: usize, passed: bool) -> u16
     requires { Ready j.now × (u < length j.now.line.now) }
@@ -53,7 +53,7 @@ fn kinds_of(j: &Joining<'_>, passed: bool) -> u16
     kinds
 }
 
-// Whether at the token at u, if it is a use, numbers alone are computed.
+// Whether the token at u is a use where numbers alone are computed, and a narrow register was before.
 #[tactic(auto, using(laws::proofs::Scans::tests))]
 fn sums_at(j: &Joining<'_>, u: usize) -> bool
     requires { Ready j.now × (u < length j.now.line.now) }
@@ -62,7 +62,7 @@ fn sums_at(j: &Joining<'_>, u: usize) -> bool
     is_use(j, u) && usekinds::use_sums(j, u)
 }
 
-// Whether they are at a use.
+// Whether one of the tokens is such a use.
 fn has_sums(j: &Joining<'_>) -> bool
     requires { Ready j.now }
     ensures { result ≡ any (asked use_sums j.now) (places_of (fam_in j.now).name 0 (line_in j.now)) }
