@@ -13,5 +13,6 @@ pub mod Bare
 pub mod Lost
 pub mod Grouped
 pub mod Ordered
+pub mod Terms
 pub mod Rows
 pub mod Examples
