@@ -325,7 +325,7 @@ not_found true none e = refl
 not_found true (some a) e = absurd (none-some (sym e))
 not_found false o e = refl
 
-single_use : (rules : Rules) (lines : Listing) (i : ℕ) (f : Fam) (expr : List Token) {j : ℕ}
+pub single_use : (rules : Rules) (lines : Listing) (i : ℕ) (f : Fam) (expr : List Token) {j : ℕ}
     → use_from (lines at i).indent f.name expr (is_some (call_at (lines at i))) (volatile rules) (suc i) (drop (suc i) lines) ≡ some j
     → one_use lines i f expr (volatile rules) ≡ j ∷ []
 unfolding let_some◌else◌then◌

@@ -1,5 +1,5 @@
 -- An expression that is not loose is one term: nothing of it stands outside brackets but one word, so it may stand in the place of a term. Assumes nothing.
-use Prim.Native.Nat.{ℕ, zero, suc}
+use Prim.Native.Nat.{ℕ, suc}
 use native.Mathlib.Omega.{arith}
 use mathlib.Core.Path.{◌≡◌, refl, sym, ap, ◌∙◌, subst, subst⁻¹}
 use mathlib.Core.Bool.{Bool, true, false}
@@ -8,16 +8,16 @@ use lib.Dec.{eqb}
 use lib.ListN.{length}
 use Rattle.reference.specs.Control.{not, ◌and◌, ◌or◌, when◌then◌else◌}
 use Rattle.reference.specs.Lists.{any}
-use Rattle.reference.specs.Text.{Text, bytes, contains, starts_with}
+use Rattle.reference.specs.Text.{Text, bytes, contains}
 use Rattle.reference.specs.Listing.{Token, is, Register, Number, Keyword, Punct}
 use Rattle.reference.specs.Evaluators.{Store, of_integer}
-use Rattle.reference.proofs.Cases.{by-if, neither, pair, true-false, not-true, not-false, fails, same_number}
+use Rattle.reference.proofs.Cases.{by-if, neither, true-false, not-true, not-false, fails, same_number}
 use Rattle.reference.proofs.Shapes.{other_kind}
 use Rattle.laws.proofs.Scans.{if-true, if-false, or_false, and_false}
-use Rattle.straight.proofs.Reader.{Pending, first, adds, takes, apply, State, fresh, spaced, equals, wants, holds, gap, signed, done, broken, byte, text_step, term, token-step, run-tokens}
+use Rattle.straight.proofs.Reader.{Pending, first, adds, takes, apply, State, wants, holds, gap, signed, broken, byte, text_step, term, token-step, run-tokens}
 use Rattle.straight.proofs.Machine.{Step, punct, register, number, breaks, step_of, step-punct, step-register, step_number}
 use Rattle.straight.proofs.Substituting.{wide-register, number_kind}
-use Rattle.straight.proofs.Expression.{Worth, Dead, text_dead, run-dead}
+use Rattle.straight.proofs.Expression.{Dead, text_dead, run-dead}
 use Rattle.straight.proofs.Joining.{Anywhere}
 use Rattle.cautions.specs.Texts.{frame, deeper, depth, outside, after_unary, all_words, loose}
 
