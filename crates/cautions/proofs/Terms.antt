@@ -26,10 +26,6 @@ use Rattle.cautions.specs.Texts.{frame, deeper, depth, outside, after_unary, all
 abbrev Lacks : ℕ → Text → Type 0
 Lacks d s = contains (outside d s) 32 ≡ false
 
-unary : (c : ℕ) → 32 ≡ c → contains (bytes "-~!&*") c ≡ false
-unfolding ◌or◌
-unary c g = subst (λ (n : ℕ). contains (bytes "-~!&*") n ≡ false) g refl
-
 words : (s : Text) → all_words s ≡ true → contains s 32 ≡ false
 unfolding all_words
 words [] e = refl
@@ -43,14 +39,24 @@ words (c ∷ cs) e =
     space : 32 ≡ c → not (eqb c 119) ≡ false → ⊥
     space g = unfold not in λ n. true-false (subst (λ (m : ℕ). not (eqb m 119) ≡ true) g refl) n
 
+-- a space in front is none of the unary operators
+space_stays : (cs : Text) → after_unary (32 ∷ cs) ≡ 32 ∷ cs
+unfolding after_unary when◌then◌else◌ ◌or◌
+space_stays cs = refl
+
 unary_words : (s : Text) → all_words (after_unary s) ≡ true → contains s 32 ≡ false
 unfolding after_unary
 unary_words [] e = refl
-unary_words (c ∷ cs) e =
-    by-if (λ (r : Text). all_words r ≡ true → contains (c ∷ cs) 32 ≡ false)
-    (λ h f. or_false _ (fails (λ g. true-false h (unary c (same_number {m = 32} {n = c} g)))) ∙ unary_words cs f)
-    (λ h f. words (c ∷ cs) f)
-    e
+unary_words (c ∷ cs) e = go (eqb 32 c) refl (unary_words cs)
+  where
+    go : (b : Bool) → eqb 32 c ≡ b → (all_words (after_unary cs) ≡ true → contains cs 32 ≡ false) → contains (c ∷ cs) 32 ≡ false
+    go true g ih =
+        let z : 32 ≡ c = same_number {m = 32} {n = c} g in
+        words (c ∷ cs) (subst (λ (n : ℕ). all_words (n ∷ cs) ≡ true) z (subst (λ (r : Text). all_words r ≡ true) (space_stays cs) (subst⁻¹ (λ (n : ℕ). all_words (after_unary (n ∷ cs)) ≡ true) z e)))
+    go false g ih =
+        or_false _ g
+        ∙ by-if (λ (r : Text). all_words r ≡ true → contains cs 32 ≡ false) (λ h f. ih f)
+        (λ h f. (neither {a = eqb 32 c} {b = contains cs 32} (words (c ∷ cs) f)).1) e
 
 later : (d c : ℕ) (cs : Text) → Lacks d (c ∷ cs) → Lacks (deeper c d) cs
 unfolding outside
