@@ -102,8 +102,9 @@ module _ (rules : Rules) (lines : Listing) (i : ℕ) (f : Fam) (expr : List Toke
   unfolding line_cautions
   line_told ways j u new found e =
       let z : 0 + u ≡ u = omega arith in
+      let set_of : ℕ → ℕ = λ m. use_cautions rules f expr (lines at j).tokens m (slice (suc i) j lines) new in
       told_right (odd_number given numbers_odd f expr (lines at j).tokens new) _
-      (place_told f.name _ (lines at j).tokens 0 u found (subst⁻¹ (λ (m : ℕ). Told (use_cautions rules f expr (lines at j).tokens m (slice (suc i) j lines) new)) z (use_told j u (slice (suc i) j lines) new e)))
+      (place_told f.name set_of (lines at j).tokens 0 u found (subst⁻¹ (λ (m : ℕ). Told (set_of m)) z (use_told j u (slice (suc i) j lines) new e)))
 
   uses_told : (ways : Ways) (j u : ℕ) (left : Listing) → position (of_family f.name) (lines at j).tokens ≡ some u → Grouped j u ≡ false
       → Told (uses_cautions rules lines ways i f expr (j ∷ []) left)

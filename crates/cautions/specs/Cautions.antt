@@ -129,8 +129,8 @@ VALUES = odd_form ∪ still_read ∪ other_width ∪ odd_number ∪ slot ∪ han
 abbrev pub InOrder : Rules → Listing → Type 0
 InOrder rules input = rules.profile ≡ true → breaks input ≡ none → (q : ℕ) → get_or (finished_cautions rules input) q 0 ⊆ VALUES
 
--- A straight piece (M-106) that is cleaned without the profile too returns the same in every listing of the run, modulo 2^64, whatever the
--- registers held, where no finished line has `other_text`: so where no caution is raised at all.
+-- A straight piece (M-106), cleaned with the profile or without it, returns the same in every listing of the run, modulo 2^64, whatever the
+-- registers held, where no finished line has `other_text`; so too where no caution is raised at all.
 abbrev pub ALL_BUT_TEXT : ℕ
 ALL_BUT_TEXT =
     odd_form ∪ still_read ∪ overwritten ∪ call_moved ∪ read_moved ∪ other_width ∪ odd_number ∪ slot ∪ handed_over
