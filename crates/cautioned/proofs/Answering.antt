@@ -29,6 +29,7 @@ use Rattle.cautions.specs.Cautions.{finished_cautions, caution_bytes}
 use Rattle.cautions.proofs.Carried.{kept_as}
 use Rattle.cautions.proofs.Lost.{nothing_lost, quiet}
 use Rattle.cautions.proofs.Ordered.{in_order}
+use Rattle.cautions.proofs.Unwarned.{unwarned}
 use Rattle.clean.specs.Asking.{before_the_tape}
 use Rattle.cautioned.specs.Replies.{OUTPUT, cautions_reply, RefusedAlike, Leaves, set_at, Tells}
 use Rattle.cautioned.specs.Telling.{Cautionable, Finishes}
@@ -48,6 +49,7 @@ tells_by rules input a e =
       nothing_lost = nothing_lost rules input;
       quiet = quiet rules input;
       in_order = in_order rules input;
+      unwarned = unwarned rules input;
     }
 
 module _ (rules : Rules) (tape work_a work_b out : List ℕ) where
