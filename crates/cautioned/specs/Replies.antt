@@ -50,8 +50,7 @@ abbrev pub set_at : List ℕ → ℕ → ℕ
 set_at bytes q = get_or bytes (2 * q) 0 + 256 * get_or bytes (suc (2 * q)) 0
 
 -- What is told of an accepted tape. Where the call is not refused, it answers twice the number of finished lines, and the output has the
--- set of each; these sets are of ten kinds, and none is lost on the way to the finished lines. A straight piece of which none is raised
--- returns the same.
+-- set of each; these sets are of ten kinds, and none is lost on the way to the finished lines.
 pub record Tells (rules : Rules) (input : Listing) (r : Answer ℕ) (out' : List ℕ) : Type 0 where
   pub answered : (n : ℕ) → r ≡ Passed n → n ≡ 2 * length (finished rules input)
   pub each : (n : ℕ) → r ≡ Passed n → (q : ℕ) → q < length (finished rules input)
