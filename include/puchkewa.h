@@ -1,6 +1,6 @@
 /* Puchkewa: cleans a listing of pseudocode, a tape in, the cleaned tape out; brings one from one edition of C to the other; keeps named states
  * of one; brings a tape to the form by offset from a load address, and back; writes the most laborious listing; tells which start value makes a
- * formula return a wanted value. What a tape is: docs/TAPE.md.
+ * formula return a wanted value; tells which finished line may mean something else than the raw lines, and why. What a tape is: docs/TAPE.md.
  *
  * Each function is proved to meet what is said here, for every input (crates/puchkewa/src; the promise of the cleaning is `Cleans` in
  * crates/clean/specs/Replies.antt, that of a call that writes a tape is `WritesTold` in crates/answers/specs/Answers.antt). They keep no state,
@@ -28,7 +28,7 @@ extern "C" {
 #endif
 
 /* The version of the interface and of what it does: a change of either changes it. */
-#define PUCHKEWA_VERSION "0.15.0"
+#define PUCHKEWA_VERSION "0.16.0"
 
 /* The least that each work area and the output must have, in bytes. 59,137 bytes are enough for the output of every tape. */
 #define PUCHKEWA_WORK 49152
@@ -85,8 +85,9 @@ enum puchkewa_refusal {
     PUCHKEWA_BAD_CONVENTION = 1,     /* the convention is not 0, 1 or 2 */
     PUCHKEWA_TOO_LITTLE_ROOM = 2,    /* a work area has fewer than 49,152 bytes, or the output fewer than 59,137. puchkewa_laborious: the output
                                         has fewer than 59,137; puchkewa_to_2018, puchkewa_to_2024: fewer than the tape;
-                                        puchkewa_to_offsets, puchkewa_from_offsets: fewer than 59,146; named states: the store has fewer
-                                        than 524,288, or the output of puchkewa_restore fewer than 65,523 */
+                                        puchkewa_to_offsets, puchkewa_from_offsets: fewer than 59,146; puchkewa_cautions: a work area
+                                        fewer than 49,152, or the output fewer than 512; named states: the store has fewer than 524,288, or
+                                        the output of puchkewa_restore fewer than 65,523 */
     PUCHKEWA_NO_COMMAND = 3,         /* the tape ends where a command must begin, or the byte there begins no command of the tape's form */
     PUCHKEWA_CUT_OFF = 4,            /* the command's operand or text runs past the end of the tape */
     PUCHKEWA_TOKEN_BEFORE_LINE = 5,  /* a token before any line; an 03 (by offset 05) that does not stand directly after a line's command, or
@@ -237,6 +238,48 @@ struct puchkewa_answer puchkewa_to_offsets(uint64_t base, const uint8_t *tape, s
                                            uint8_t *out, size_t out_length);
 struct puchkewa_answer puchkewa_from_offsets(const uint8_t *tape, size_t tape_length,
                                              uint8_t *out, size_t out_length);
+
+/* The least that the output of puchkewa_cautions must have, in bytes: two for each of 256 lines. */
+#define PUCHKEWA_CAUTIONS_OUTPUT 512
+
+/* Why a finished line may mean something else than the raw lines that it came from: a bit for each kind of caution. */
+enum puchkewa_caution {
+    PUCHKEWA_CAUTION_ODD_FORM = 1,      /* A line here, or one that the value may reach, is not looked into (inline assembly, an instruction by
+                                           name, two statements, `&&`, a loop other than do .. while, a line entered from elsewhere): compare
+                                           with the raw lines yourself. */
+    PUCHKEWA_CAUTION_STILL_READ = 2,    /* The register was read elsewhere too, on this line or another: there it now holds an older value. */
+    PUCHKEWA_CAUTION_OVERWRITTEN = 4,   /* A call stands between the value's assignment and its use here, which may have overwritten the
+                                           register. */
+    PUCHKEWA_CAUTION_CALL_MOVED = 8,    /* A call is now made in another order, after other reads, or only under a condition. */
+    PUCHKEWA_CAUTION_READ_MOVED = 16,   /* A value is now read later, in another order, or only under a condition: mind what calls change, and
+                                           device registers. */
+    PUCHKEWA_CAUTION_OTHER_WIDTH = 32,  /* The value went through a part of a register, or is now computed or compared at another width or
+                                           sign. */
+    PUCHKEWA_CAUTION_OTHER_TEXT = 64,   /* Read as C, the line's text groups otherwise than the joined expression, or writes what was only read,
+                                           or counts elements for bytes. */
+    PUCHKEWA_CAUTION_ODD_NUMBER = 128,  /* A number is large, or not spelt plainly: C may read it, or add it up, otherwise. */
+    PUCHKEWA_CAUTION_SLOT = 256,        /* A stack slot was taken for a register; it is memory, and pointers and calls may reach it. */
+    PUCHKEWA_CAUTION_HANDED_OVER = 512  /* The value may be handed over unseen: to a call that does not spell its arguments, or back to the
+                                           caller (the result, and the registers that calls preserve). */
+};
+
+/* Tells the cautions of each line of the cleaned listing. It cleans the tape's listing, as puchkewa_clean does, and writes no tape.
+ *
+ * settings, tape, work_a, work_b    as for puchkewa_clean.
+ * out                               the output: out_length bytes, at least PUCHKEWA_CAUTIONS_OUTPUT.
+ *
+ * The questions are those of puchkewa_clean, in its order; 2 asks for 512 bytes of output. When not refused, `value` is twice the number of
+ * the cleaned listing's lines, and the bytes 2q and 2q + 1 of the output are the set of line q, from 0, the low byte first: the sum of its kinds
+ * (enum puchkewa_caution), or 0. The other bytes of the output are as before; the first 49,152 bytes of each work area are zero and its other bytes as
+ * before. When refused, nothing that was lent is changed. The tape, both work areas and the output must not overlap, and no pointer may be null.
+ *
+ * A line without a caution is one in which none of the known ways was found; it is no proof that the line means the same.
+ * (crates/puchkewa/src/export_cautions.rt; the sets are `finished_cautions` in crates/cautions/specs/Cautions.antt.) */
+struct puchkewa_answer puchkewa_cautions(struct puchkewa_settings settings,
+                                         const uint8_t *tape, size_t tape_length,
+                                         uint8_t *work_a, size_t work_a_length,
+                                         uint8_t *work_b, size_t work_b_length,
+                                         uint8_t *out, size_t out_length);
 
 #ifdef __cplusplus
 }

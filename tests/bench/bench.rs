@@ -106,8 +106,16 @@ struct Lent(Vec<u8>, Vec<u8>, Vec<u8>);
 
 impl Lent {
     fn call(&mut self, convention: u8, tape: &[u8]) -> door::Report {
-        library::clean(library::Settings { convention, settle: false, edition: 0, parts: false, profile: false }, tape, &mut self.0, &mut self.1, &mut self.2)
+        library::clean(settings(convention), tape, &mut self.0, &mut self.1, &mut self.2)
     }
+
+    fn cautions(&mut self, convention: u8, tape: &[u8]) -> library::Answer {
+        library::cautions(settings(convention), tape, &mut self.0, &mut self.1, &mut self.2)
+    }
+}
+
+fn settings(convention: u8) -> library::Settings {
+    library::Settings { convention, settle: false, edition: 0, parts: false, profile: false }
 }
 
 fn one(name: &str, convention: u8, tape: &[u8]) {
@@ -140,6 +148,11 @@ fn one(name: &str, convention: u8, tape: &[u8]) {
         rust / ours,
         alone / ours
     );
+    assert_eq!(lent.cautions(convention, tape).refusal, 0, "{name}: no cautions");
+    let cautions = time(|| {
+        black_box(lent.cautions(convention, black_box(tape)));
+    });
+    println!("  its cautions {cautions:.1} us: {:.2} times a cleaning", cautions / ours);
 }
 
 fn main() {

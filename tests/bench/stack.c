@@ -1,7 +1,7 @@
 /* How many bytes of stack a call of the static library takes: stack SAMPLE, or stack brackets
  *
  * The call runs on a painted stack of its own; what is no longer the paint was used. SAMPLE is a file with a convention byte and a tape, which is
- * cleaned. `brackets`: formulas that are one bracket inside the other, at the depths where something changes; each is cleaned with the profile, and its
+ * cleaned, and whose cautions are told. `brackets`: formulas that are one bracket inside the other, at the depths where something changes; each is cleaned with the profile, and its
  * start value is asked for. 12,282 closed brackets around rax are the most that pass; of those that are not closed (14) a tape can hold 24,569 behind
  * `return`, and 24,571 behind `r8 = `, the deepest of all. One more is too much text (11). */
 #include <stdint.h>
@@ -20,6 +20,7 @@ static ucontext_t here, there;
 
 static void clean(void) { refusal = puchkewa_clean(settings, input + 1, length - 1, work_a, WORK, work_b, WORK, out, OUTPUT).refusal; }
 static void start(void) { refusal = puchkewa_start_value(input + 1, length - 1, (const uint8_t *)"rax", 3, out, 0, 5).refusal; }
+static void cautions(void) { refusal = puchkewa_cautions(settings, input + 1, length - 1, work_a, WORK, work_b, WORK, out, OUTPUT).refusal; }
 static void nothing(void) {}
 
 static size_t used(void (*f)(void)) {
@@ -96,6 +97,6 @@ int main(int argc, char **argv) {
     fclose(f);
     if (length == 0) return 2;
     settings = (struct puchkewa_settings){ .convention = input[0] };
-    printf("%zu bytes of stack\n", used(clean) - used(nothing));
+    printf("%zu bytes of stack, of its cautions %zu\n", used(clean) - used(nothing), used(cautions) - used(nothing));
     return 0;
 }

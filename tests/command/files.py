@@ -1,5 +1,6 @@
 """Files: what a signal in the middle of a batch leaves, older parts, inputs that would be written over, modes, the lock of a store, base names, and how long a batch takes."""
 import html.parser
+import json
 import os
 import re
 import resource
@@ -110,6 +111,8 @@ def try_pages(folder, chance):
         if file in pages:
             lines = [str(run("show", "-", data=tape)[1].count(b"\n")) for tape in (file.read_bytes(), run("clean", file)[1])]
             expect((out / urllib.parse.unquote(link)).name == f"{file.name}.html" and (out / urllib.parse.unquote(link)).exists() and [row[1][0], row[2][0]] == lines, row, lines)
+            told = json.loads(run("cautions", "--json", file)[1])
+            expect(row[3][0] == str(len(told["cautioned"])) and row[4][0] == "kept", row, told)
         else:
             expect(link is None and row[-1][0] != "", row)
     expect("refused 4 at 0: " in rows[2][-1][0], rows[2])

@@ -15,7 +15,7 @@ def refused(name, number, place, words):
 
 
 def kept(name, lines, size):
-    return f'{{"file":"{name}","length":{size},"settled":false,"attempts":[{lines},0,0],"removed":0,"cut":0}}\n'
+    return f'{{"file":"{name}","length":{size},"settled":false,"attempts":[{lines},0,0],"removed":0,"cut":0,"cautioned":0}}\n'
 
 
 def run():

@@ -47,7 +47,7 @@ def try_conventions(folder):
 
 
 def try_json(folder):
-    """--json of counts, check and start: one object a line, with what the line of words says; a refusal too, which is told as ever."""
+    """--json of counts, check and start (of cautions: cautioned.py): one object a line, with what the line of words says; a refusal too, which is told as ever."""
     names = ("calls.tape", "a \"b\" \\ \x01.tape", "sum.tape")
     files = [folder / name for name in names]
     for file, tape in zip(files, (CALLS, GOOD, SUM)):
@@ -65,15 +65,16 @@ def try_json(folder):
     plain = run("counts", "-q", *files, bad)
     expect(status == plain[0] == 1 and told == plain[2], "what is told", told, plain[2])
     for file, pairs, line in zip(files, found, plain[1].decode().split("\n")):
-        length, *attempts, removed, cut = map(int, re.findall(r"\d+", line[len(str(file)):]))
-        expect(pairs == [("file", str(file)), ("length", length), ("settled", False), ("attempts", attempts), ("removed", removed), ("cut", cut)], pairs, line)
+        length, *attempts, removed, cut, cautioned = map(int, re.findall(r"\d+", line[len(str(file)):]))
+        expect(pairs == [("file", str(file)), ("length", length), ("settled", False), ("attempts", attempts), ("removed", removed), ("cut", cut), ("cautioned", cautioned)], pairs, line)
     refused = dict(found[-1])
     words = re.match(r".*: refused 4 at 0: (.*)\n", told).group(1)
     expect(list(refused) == ["file", "refused", "place", "words"] and list(refused.values()) == [str(bad), 4, 0, words], refused, told)
     status, found, told = objects("counts", "--json", "--settle", "-q", *files)
     for file, pairs, line in zip(files, found, run("counts", "--settle", "-q", *files)[1].decode().split("\n")):
-        length, rounds, attempts, removed, cut = map(int, re.findall(r"\d+", line[len(str(file)):]))
-        expect(pairs == [("file", str(file)), ("length", length), ("settled", True), ("rounds", rounds), ("attempts", attempts), ("removed", removed), ("cut", cut)], pairs, line)
+        length, rounds, attempts, removed, cut, cautioned = map(int, re.findall(r"\d+", line[len(str(file)):]))
+        expect(pairs == [("file", str(file)), ("length", length), ("settled", True), ("rounds", rounds), ("attempts", attempts), ("removed", removed), ("cut", cut),
+                         ("cautioned", cautioned)], pairs, line)
     status, found, told = objects("check", "--json", "-q", *files, bad)
     for file, pairs, counts in zip(files, found, ((3, 10, 23), (1, 0, 0), (1, 6, 15))):
         expect(pairs == [("file", str(file)), ("accepted", True), *zip(("lines", "tokens", "text"), counts)], pairs)
@@ -108,8 +109,8 @@ def try_completion(folder):
             expect(is_option == (option in completed("puchkewa", verb, "-")), verb, option, "is offered" if not is_option else "is not offered")
     (here / "a folder").mkdir(parents=True)
     (here / "x.tape").write_bytes(GOOD)
-    for words, right in ((("c",), ["clean", "counts", "check"]), (("clean", "-c", ""), ["32", "sysv", "windows"]), (("clean", "-cw"), ["-cwindows"]), (("clean", "-e", ""), ["2018", "2024"]),
+    for words, right in ((("c",), ["clean", "counts", "cautions", "check"]), (("clean", "-c", ""), ["32", "sysv", "windows"]), (("clean", "-cw"), ["-cwindows"]), (("clean", "-e", ""), ["2018", "2024"]),
                          (("edition", ""), ["2018", "2024"]), (("edition", "2018", ""), ["a folder", "x.tape"]), (("state", "x.tape", ""), ["list", "save", "get", "delete"]),
                          (("clean", "x"), ["x.tape"]),
-                         (("clean", "-d", ""), ["a folder"]), (("clean", "-o", "x"), ["x.tape"]), (("clean", "--", "-"), []), (("clean", "--pa"), ["--parts"])):
+                         (("clean", "-d", ""), ["a folder"]), (("clean", "-o", "x"), ["x.tape"]), (("clean", "--", "-"), []), (("clean", "--pa"), ["--parts"]), (("cautions", "--j"), ["--json"])):
         expect(sorted(completed("puchkewa", *words, cwd=here)) == sorted(right), words, completed("puchkewa", *words, cwd=here))

@@ -1,5 +1,5 @@
 """Differences without a caution: listings are cleaned, run raw and cleaned, and asked for their cautions. Where a listing differs, some line of it must have one.
-Beside it is counted what the cautions say of listings that do not differ.
+Beside it is counted what the cautions say of listings that do not differ. And the library must tell the same cautions of each listing as cautions.py.
 
 A stricter question is asked of chains: the steps of a run between two that have a caution. What stands before a chain and what stands behind it must not differ. So
 the steps of a listing that has a caution elsewhere are tried too.
@@ -19,13 +19,14 @@ class Hunt:
 
     def __init__(self):
         self.counts, self.kinds, self.alone = collections.Counter(), collections.Counter(), collections.Counter()
-        self.unsaid, self.faults = [], []
+        self.unsaid, self.faults, self.others = [], [], []
 
     def add(self, other):
         for name in ("counts", "kinds", "alone"):
             getattr(self, name).update(getattr(other, name))
         self.unsaid += other.unsaid
         self.faults += other.faults
+        self.others += other.others
 
     def look(self, lines, settings, modes, seed, library):
         self.counts["listings"] += 1
@@ -36,10 +37,14 @@ class Hunt:
         cleaned, steps = listing_of_tape(tape), run_of(lines, settings)
         if finished(lines, steps) != cleaned:
             self.faults.append((settings, texts_of(lines), texts_of(cleaned)))
+        sets, own = cautions_of(lines, settings, steps)
+        told = library.cautions(tape_of(lines), settings)
+        self.counts["compared with the library's cautions"] += 1
+        if told != sets:
+            self.others.append((settings, texts_of(lines), told, sets))
         if cleaned == lines:
             self.counts["unchanged"] += 1
             return
-        sets, own = cautions_of(lines, settings, steps)
         self.counts["steps"] += len(own)
         for mode in modes:
             try:

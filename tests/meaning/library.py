@@ -1,4 +1,4 @@
-"""The library, called from here: `puchkewa_clean` of include/puchkewa.h on tapes. The static library of `bin/archive` is made a shared object first."""
+"""The library, called from here: `puchkewa_clean` and `puchkewa_cautions` of include/puchkewa.h on tapes. The static library of `bin/archive` is made a shared object first."""
 import ctypes
 import pathlib
 import subprocess
@@ -6,7 +6,7 @@ import sys
 
 ROOT = pathlib.Path(__file__).resolve().parents[2]
 ARCHIVE = ROOT / "target" / "staticlib" / "libpuchkewa.a"
-WORK, OUTPUT = 49152, 59137
+WORK, OUTPUT, SETS = 49152, 59137, 512
 
 
 class CSettings(ctypes.Structure):
@@ -16,6 +16,10 @@ class CSettings(ctypes.Structure):
 class CReport(ctypes.Structure):
     _fields_ = [(name, ctypes.c_uint64) for name in
                 ("refusal", "place", "length", "attempts_1", "attempts_2", "attempts_3", "removed", "cut", "rounds", "attempts")]
+
+
+class CAnswer(ctypes.Structure):
+    _fields_ = [(name, ctypes.c_uint64) for name in ("refusal", "place", "value")]
 
 
 def shared_object(folder, archive=None):
@@ -31,7 +35,8 @@ def shared_object(folder, archive=None):
 
 class Library:
     def __init__(self, path):
-        self.function = ctypes.CDLL(str(path)).puchkewa_clean
+        self.library = ctypes.CDLL(str(path))
+        self.function = self.library.puchkewa_clean
         self.function.restype = CReport
         size, memory = ctypes.c_size_t, ctypes.c_char_p
         self.function.argtypes = [CSettings, memory, size, memory, size, memory, size, memory, size]
@@ -40,6 +45,20 @@ class Library:
     def clean(self, tape, settings):
         """The cleaned tape and the report; of a refused call no tape."""
         one, two, out = self.lent
-        c = CSettings(settings.convention, settings.settle, settings.edition, settings.parts, settings.profile)
-        report = self.function(c, tape, len(tape), one, WORK, two, WORK, out, OUTPUT)
+        report = self.function(lent(settings), tape, len(tape), one, WORK, two, WORK, out, OUTPUT)
         return (None if report.refusal else out.raw[:report.length]), report
+
+    def cautions(self, tape, settings):
+        """The set of each finished line, as the library tells it; of a refused call none. (An older library does not have the call.)"""
+        function = self.library.puchkewa_cautions
+        function.restype, function.argtypes = CAnswer, self.function.argtypes
+        one, two, out = self.lent
+        answer = function(lent(settings), tape, len(tape), one, WORK, two, WORK, out, SETS)
+        if answer.refusal:
+            return None
+        sets = [int.from_bytes(out.raw[at:at + 2], "little") for at in range(0, answer.value, 2)]
+        return [{k for k in range(16) if s >> k & 1} for s in sets]
+
+
+def lent(settings):
+    return CSettings(settings.convention, settings.settle, settings.edition, settings.parts, settings.profile)

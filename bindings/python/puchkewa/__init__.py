@@ -26,7 +26,8 @@ bytes more for each level of nested brackets: up to 3.7 million. The main thread
 as a rule (`ulimit -s`, 8 MiB). Where that or threading.stack_size is less, use with_stack.
 """
 from .calls import from_offsets, laborious, start_value, to_2018, to_2024, to_offsets
-from .cleaning import Cleaned, Counts, clean, clean_tape
+from .caution import SENTENCES, Caution
+from .cleaning import Cleaned, Counts, cautions, cautions_of_tape, clean, clean_tape
 from .listing import Kind, Line, Listing, Token
 from .refusals import MEANINGS, LongName, Refusal, Unwritable
 from .settings import Convention, Edition, Settings
@@ -36,7 +37,7 @@ from .version import __version__
 from . import tape
 
 __all__ = [
-    "Cleaned", "Convention", "Counts", "Edition", "Kind", "Line", "Listing", "LongName", "MEANINGS", "Refusal", "STACK", "Settings", "Store",
-    "Token", "Unwritable", "__version__", "clean", "clean_tape", "from_offsets", "laborious", "start_value", "tape", "to_2018", "to_2024",
-    "to_offsets", "with_stack",
+    "Caution", "Cleaned", "Convention", "Counts", "Edition", "Kind", "Line", "Listing", "LongName", "MEANINGS", "Refusal", "SENTENCES",
+    "STACK", "Settings", "Store", "Token", "Unwritable", "__version__", "cautions", "cautions_of_tape", "clean", "clean_tape", "from_offsets",
+    "laborious", "start_value", "tape", "to_2018", "to_2024", "to_offsets", "with_stack",
 ]

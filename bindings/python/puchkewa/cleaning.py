@@ -1,11 +1,12 @@
-"""The cleaning."""
+"""The cleaning, and the cautions of its lines."""
 from __future__ import annotations
 
 from dataclasses import dataclass
-from typing import Optional, Tuple
+from typing import List, Optional, Tuple
 
 from . import library, tape
-from .library import LIBRARY, OUTPUT, WORK, room
+from .caution import Caution
+from .library import CAUTIONS_OUTPUT, LIBRARY, OUTPUT, WORK, room
 from .listing import Listing
 from .settings import Settings
 
@@ -44,8 +45,7 @@ def clean(listing: Listing, settings: Settings = Settings()) -> Cleaned:
 def clean_tape(raw: bytes, settings: Settings = Settings()) -> Tuple[bytes, Counts]:
     """Cleans the listing of a tape: the new tape and the counts. Refusal: why it is not cleaned."""
     work_a, work_b, out = room(WORK), room(WORK), room(OUTPUT)
-    lent = library.Settings(_byte(settings.convention), settings.settle, _byte(settings.edition), settings.parts, settings.profile)
-    report = LIBRARY.puchkewa_clean(lent, raw, len(raw), work_a, len(work_a), work_b, len(work_b), out, len(out))
+    report = LIBRARY.puchkewa_clean(_lent(settings), raw, len(raw), work_a, len(work_a), work_b, len(work_b), out, len(out))
     if report.refusal:
         raise tape.refusal(report.refusal, report.place, raw)
     if settings.settle:
@@ -53,6 +53,24 @@ def clean_tape(raw: bytes, settings: Settings = Settings()) -> Tuple[bytes, Coun
     else:
         counts = Counts((report.attempts_1, report.attempts_2, report.attempts_3), None, report.removed, report.cut)
     return out.raw[:report.length], counts
+
+
+def cautions(listing: Listing, settings: Settings = Settings()) -> List[Caution]:
+    """The cautions of each line of the cleaned listing: the ways in which it may mean something else than the raw lines that it came from.
+    Refusal: why the listing is not cleaned."""
+    return cautions_of_tape(tape.write(listing), settings)
+
+
+def cautions_of_tape(raw: bytes, settings: Settings = Settings()) -> List[Caution]:
+    """The same of the listing of a tape."""
+    work_a, work_b, out = room(WORK), room(WORK), room(CAUTIONS_OUTPUT)
+    answer = LIBRARY.puchkewa_cautions(_lent(settings), raw, len(raw), work_a, len(work_a), work_b, len(work_b), out, len(out))
+    sets = tape.written(answer, raw, out)
+    return [Caution(int.from_bytes(sets[at:at + 2], "little")) for at in range(0, len(sets), 2)]
+
+
+def _lent(settings: Settings) -> library.Settings:
+    return library.Settings(_byte(settings.convention), settings.settle, _byte(settings.edition), settings.parts, settings.profile)
 
 
 def _byte(number: int) -> int:

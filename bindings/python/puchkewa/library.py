@@ -1,4 +1,4 @@
-"""The shared library and its ten functions, as include/puchkewa.h declares them. place.py says where the library is looked for."""
+"""The shared library and its eleven functions, as include/puchkewa.h declares them. place.py says where the library is looked for."""
 from __future__ import annotations
 
 import ctypes
@@ -9,6 +9,7 @@ from .version import __version__
 
 WORK = 49_152
 OUTPUT = 59_137
+CAUTIONS_OUTPUT = 512
 OFFSETS_OUTPUT = 59_146
 STORE = 524_288
 RESTORED = 65_523
@@ -48,6 +49,7 @@ FUNCTIONS = {
     "puchkewa_start_value": (Answer, [*READ, *READ, *READ, c_uint64]),
     "puchkewa_to_offsets": (Answer, [c_uint64, *READ, *WRITTEN]),
     "puchkewa_from_offsets": (Answer, [*READ, *WRITTEN]),
+    "puchkewa_cautions": (Answer, [Settings, *READ, *WRITTEN, *WRITTEN, *WRITTEN]),
 }
 
 

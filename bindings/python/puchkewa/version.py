@@ -1,2 +1,2 @@
 """The version of the library that this package is for."""
-__version__ = "0.15.0"
+__version__ = "0.16.0"

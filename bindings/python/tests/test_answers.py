@@ -1,7 +1,8 @@
-"""The real Rust's answers: the sample and random tapes, from tape to tape and from listing to listing."""
+"""The real Rust's answers: the sample and random tapes, from tape to tape and from listing to listing. And the listings with their cautions of
+tests/cautions, which another implementation made."""
 import unittest
 
-from puchkewa import Cleaned, Refusal, clean, clean_tape, tape
+from puchkewa import Cleaned, Refusal, Settings, cautions, cautions_of_tape, clean, clean_tape, tape
 
 from . import common
 
@@ -27,3 +28,14 @@ class Answers(unittest.TestCase):
         print(f"{cleaned} cleaned, {refused} refused, all as the real Rust does it")
         self.assertGreater(cleaned, 400)
         self.assertGreater(refused, 30)
+
+    def test_the_cautions_are_those_of_another_implementation(self):
+        lines = (common.TOP / "tests/cautions/list.txt").read_text().splitlines()
+        self.assertGreater(len(lines), 200)
+        for line in lines:
+            _, convention, bits, raw, want = line.split(" ")
+            n = int(bits)
+            settings = Settings(int(convention), n % 2 == 1, n // 2 % 2, n // 4 % 2 == 1, n // 8 % 2 == 1)
+            sets = b"".join(kinds.to_bytes(2, "little") for kinds in cautions_of_tape(bytes.fromhex(raw), settings))
+            self.assertEqual(sets.hex() or "-", want)
+            self.assertEqual(cautions(tape.read(bytes.fromhex(raw)), settings), cautions_of_tape(bytes.fromhex(raw), settings))

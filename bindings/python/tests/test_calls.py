@@ -2,7 +2,7 @@
 import unittest
 
 import puchkewa
-from puchkewa import Line, Listing, Refusal, Store, clean, tape
+from puchkewa import Caution, Line, Listing, Refusal, Store, clean, tape
 
 from . import common
 
@@ -50,3 +50,17 @@ class Calls(unittest.TestCase):
         self.assertEqual(puchkewa.start_value(total, "rax", {"rbx": 3}, 1), 2**64 - 2)
         self.assertEqual(puchkewa.start_value(total, "rax", {"rbx": -1}, 1), 2)
         self.assertEqual(puchkewa.start_value(total, "r77", {"rbx": 3}, 3), 0)
+
+    def test_cautions(self):
+        # f() comes to be called behind the read of counter
+        moved = common.listing(
+            "r:rax\tp: = \ts:f\tp:();", "r:rbx\tp: = \ts:counter\tp: + \tr:rax\tp:;", "k:return\tp: \tr:rbx\tp:;"
+        )
+        self.assertEqual([line.text for line in clean(moved).listing.lines], ["return (counter + f());"])
+        self.assertIn(Caution.CALL_MOVED, puchkewa.cautions(moved)[0])
+        # nothing comes to be otherwise
+        constant = common.listing("r:rax\tp: = \tn:5\tp:;", "r:rbx\tp: = \tr:rax\tp: + \tn:4\tp:;", "k:return\tp: \tr:rbx\tp:;")
+        self.assertEqual(puchkewa.cautions(constant), [Caution(0)])
+        self.assertEqual(puchkewa.cautions(Listing()), [])
+        self.assertEqual(sum(puchkewa.SENTENCES), 1023)
+        self.assertTrue(all(sentence.endswith(".") for sentence in puchkewa.SENTENCES.values()))

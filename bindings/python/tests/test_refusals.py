@@ -23,6 +23,7 @@ class Refusals(unittest.TestCase):
         # every other call that takes a tape says the same
         for call, words in [
             (tape.to_2018, (raw,)), (tape.to_2024, (raw,)), (tape.to_offsets, (raw, 0)), (tape.start_value, (raw, "rax", {}, 0)),
+            (puchkewa.cautions_of_tape, (raw,)),
             (Store().save_tape, (NAME, raw)), (tape.read, (raw,)),
         ]:
             self.assertEqual(self.said(call, *words), want)
@@ -54,6 +55,8 @@ class Refusals(unittest.TestCase):
         case(self.tape_said("02 00 10 02 00 41 09 FF"), 7, 6, 0, 0)
         case(self.tape_said("FF 00"), 8, 0, None, None)
         case(self.said(clean, low, Settings(edition=2)), 9, 0, None, None)
+        case(self.said(puchkewa.cautions, low, Settings(edition=2)), 9, 0, None, None)
+        case(self.said(puchkewa.cautions, low, Settings(convention=3)), 1, 0, None, None)
         case(self.said(clean, Listing([Line(), Line(marks=(2, 1))])), 5, 4, 1, None)
         case(self.said(clean, Listing([Line(tokens=[x, Token(Kind.NUMBER, "1" * 25)])])), 6, 6, 0, 1)
         case(self.said(clean, Listing([Line()] * 257)), 10, 512, 256, None)
@@ -63,6 +66,7 @@ class Refusals(unittest.TestCase):
         case(self.said(puchkewa.to_2018, common.listing("n:0b1\tn:0b2")), 13, 8, 0, 1)
         crooked = common.listing("r:rax\tp: = \tn:5\tp:;", "r:eax\tp: = \tn:5\tp:;", "k:return\tp: \tr:rax\tp:;")
         case(self.said(clean, crooked, Settings(profile=True)), 14, 1, 1, None)
+        case(self.said(puchkewa.cautions, crooked, Settings(profile=True)), 14, 1, 1, None)
         case(self.said(puchkewa.start_value, even, "rax", {}, 11), 15, 0, None, None)
         case(self.said(puchkewa.start_value, even, "eax", {}, 10), 16, 0, None, None)
         case(self.said(puchkewa.start_value, even, "rax", {"var_8": 1}, 10), 16, 0, None, None)

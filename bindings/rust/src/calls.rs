@@ -1,6 +1,8 @@
 //! The calls beside the cleaning, from listing to listing.
+use crate::caution::Caution;
 use crate::listing::Listing;
 use crate::refusal::Refusal;
+use crate::settings::Settings;
 use crate::stack::with_stack;
 use crate::tape;
 
@@ -65,4 +67,21 @@ pub fn laborious(lines: u64) -> Result<Listing, Refusal> {
 pub fn start_value(formula: &Listing, chosen: &str, values: &[(&str, u64)], wanted: u64) -> Result<u64, Refusal> {
     let tape = tape::write(formula)?;
     with_stack(|| tape::start_value(&tape, chosen, values, wanted))
+}
+
+/// The cautions of each line of the cleaned listing: the ways in which it may mean something else than the raw lines that it came from. It
+/// cleans the listing under these settings, on a thread of its own that has enough stack. What a line without a caution means, [`Caution`]
+/// says.
+///
+/// # Errors
+///
+/// As [`crate::clean`].
+///
+/// # Panics
+///
+/// Where the system makes no thread.
+pub fn cautions(listing: &Listing, settings: Settings) -> Result<Vec<Vec<Caution>>, Refusal> {
+    let tape = tape::write(listing)?;
+    let sets = with_stack(|| tape::cautions(&tape, settings))?;
+    Ok(sets.into_iter().map(Caution::of).collect())
 }

@@ -41,6 +41,8 @@ pub struct Answer {
 pub const WORK: usize = 49_152;
 /// `PUCHKEWA_OUTPUT`.
 pub const OUTPUT: usize = 59_137;
+/// `PUCHKEWA_CAUTIONS_OUTPUT`.
+pub const CAUTIONS_OUTPUT: usize = 512;
 /// `PUCHKEWA_OFFSETS_OUTPUT`.
 pub const OFFSETS_OUTPUT: usize = 59_146;
 /// `PUCHKEWA_STORE`.
@@ -77,6 +79,17 @@ extern "C" {
     ) -> Answer;
     fn puchkewa_to_offsets(base: u64, tape: *const u8, tape_length: usize, out: *mut u8, out_length: usize) -> Answer;
     fn puchkewa_from_offsets(tape: *const u8, tape_length: usize, out: *mut u8, out_length: usize) -> Answer;
+    fn puchkewa_cautions(
+        settings: Settings,
+        tape: *const u8,
+        tape_length: usize,
+        work_a: *mut u8,
+        work_a_length: usize,
+        work_b: *mut u8,
+        work_b_length: usize,
+        out: *mut u8,
+        out_length: usize,
+    ) -> Answer;
 }
 
 // SAFETY, of each call below: every pointer is a slice's or an array's and comes with its length; what is written is behind a `&mut`, so
@@ -122,4 +135,9 @@ pub fn to_offsets(base: u64, tape: &[u8], out: &mut [u8]) -> Answer {
 
 pub fn from_offsets(tape: &[u8], out: &mut [u8]) -> Answer {
     unsafe { puchkewa_from_offsets(tape.as_ptr(), tape.len(), out.as_mut_ptr(), out.len()) }
+}
+
+pub fn cautions(settings: Settings, tape: &[u8], work_a: &mut [u8], work_b: &mut [u8], out: &mut [u8]) -> Answer {
+    let (a, b) = (work_a.as_mut_ptr(), work_b.as_mut_ptr());
+    unsafe { puchkewa_cautions(settings, tape.as_ptr(), tape.len(), a, work_a.len(), b, work_b.len(), out.as_mut_ptr(), out.len()) }
 }

@@ -27,8 +27,8 @@
 //! # Stack
 //!
 //! A cleaning takes about 116,000 bytes of stack (measured). With [`Settings::profile`], and in a search for a start value, it takes 144
-//! bytes more for each level of nested brackets: up to 3.7 million. [`clean`] and [`start_value`] run on a thread of their own that has
-//! enough ([`STACK`]). The calls of [`Cleaner`] and of [`tape`] run on the caller's stack. The main thread has enough as a rule (8 MiB), a
+//! bytes more for each level of nested brackets: up to 3.7 million. [`clean`], [`cautions`] and [`start_value`] run on a thread of their own
+//! that has enough ([`STACK`]). The calls of [`Cleaner`] and of [`tape`] run on the caller's stack. The main thread has enough as a rule (8 MiB), a
 //! thread that Rust makes (2 MiB) has enough without the profile. Where less may be left, use [`Cleaner::clean_on_thread`] or
 //! [`with_stack`].
 //!
@@ -39,6 +39,7 @@
 #![deny(unsafe_code)]
 
 mod calls;
+mod caution;
 mod cleaner;
 #[allow(unsafe_code)]
 mod ffi;
@@ -50,7 +51,8 @@ mod stack;
 mod store;
 pub mod tape;
 
-pub use calls::{from_offsets, laborious, start_value, to_2018, to_2024, to_offsets};
+pub use calls::{cautions, from_offsets, laborious, start_value, to_2018, to_2024, to_offsets};
+pub use caution::Caution;
 pub use cleaner::{clean, Cleaned, CleanedTape, Cleaner, Counts, Tally};
 pub use listing::{Kind, Line, Listing, Token};
 pub use question::Question;

@@ -3,6 +3,7 @@ use crate::ffi;
 use crate::listing::{Kind, Line, Listing, Token};
 use crate::question::Question;
 use crate::refusal::{Fault, Refusal};
+use crate::settings::Settings;
 
 const LINE_AT: u8 = 0x01;
 const LINE: u8 = 0x02;
@@ -236,4 +237,18 @@ pub fn start_value(tape: &[u8], chosen: &str, values: &[(&str, u64)], wanted: u6
         return Err(Refusal::answered(answer.refusal, answer.place, tape));
     }
     Ok(answer.value)
+}
+
+/// The set of the cautions of each line of the cleaned listing, a bit for each kind ([`crate::Caution::bit`]): [`crate::cautions`], but on
+/// the caller's stack.
+///
+/// # Errors
+///
+/// As [`crate::Cleaner::clean_tape`].
+pub fn cautions(tape: &[u8], settings: Settings) -> Result<Vec<u16>, Refusal> {
+    let (mut work_a, mut work_b) = (vec![0; ffi::WORK], vec![0; ffi::WORK]);
+    let mut out = vec![0; ffi::CAUTIONS_OUTPUT];
+    let answer = ffi::cautions(settings.lent(), tape, &mut work_a, &mut work_b, &mut out);
+    let sets = told(answer, tape, out)?;
+    Ok(sets.chunks_exact(2).map(|set| u16::from_le_bytes([set[0], set[1]])).collect())
 }

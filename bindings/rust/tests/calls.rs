@@ -2,7 +2,7 @@
 mod common;
 
 use common::{bytes, listing};
-use puchkewa::{Cleaner, Line, Listing, Settings, Store, Tally};
+use puchkewa::{Caution, Cleaner, Line, Listing, Settings, Store, Tally};
 
 #[test]
 fn between_the_two_editions() {
@@ -57,4 +57,21 @@ fn start_values() {
     assert_eq!(start("rax", &[("rax", 99), ("rbx", 3), ("rbx", 4)], 10), Ok(7));
     assert_eq!(start("rax", &[("rbx", 3)], 1), Ok(u64::MAX - 1));
     assert_eq!(start("r77", &[("rbx", 3)], 3), Ok(0));
+}
+
+#[test]
+fn cautions() {
+    let of = |raw: &Listing| puchkewa::cautions(raw, Settings::default()).expect("an accepted listing");
+    // f() comes to be called behind the read of counter
+    let moved = listing(&["r:rax\tp: = \ts:f\tp:();", "r:rbx\tp: = \ts:counter\tp: + \tr:rax\tp:;", "k:return\tp: \tr:rbx\tp:;"]);
+    let finished = puchkewa::clean(&moved, Settings::default()).expect("an accepted listing").listing;
+    assert_eq!(finished.to_string().trim(), "return (counter + f());");
+    assert!(of(&moved)[0].contains(&Caution::CallMoved), "{:?}", of(&moved));
+    // nothing comes to be otherwise
+    let constant = listing(&["r:rax\tp: = \tn:5\tp:;", "r:rbx\tp: = \tr:rax\tp: + \tn:4\tp:;", "k:return\tp: \tr:rbx\tp:;"]);
+    assert_eq!(of(&constant), [[]]);
+    assert_eq!(of(&Listing::default()), Vec::<Vec<Caution>>::new());
+    let bits: u16 = Caution::ALL.iter().map(|kind| kind.bit()).sum();
+    assert_eq!(bits, 1023);
+    assert!(Caution::ALL.iter().all(|kind| kind.sentence().ends_with('.')));
 }

@@ -20,6 +20,7 @@ fn tape_said(tape: &[u8]) -> Said {
         assert_eq!(said(call(tape)), cleaned);
     }
     assert_eq!(said(tape::to_offsets(tape, 0)), cleaned);
+    assert_eq!(said(tape::cautions(tape, Settings::default())), cleaned);
     assert_eq!(said(tape::start_value(tape, "rax", &[], 0)), cleaned);
     assert_eq!(said(Store::new().save_tape(b"12345678", tape)), cleaned);
     if cleaned.0 != 10 && cleaned.0 != 11 {
@@ -64,6 +65,7 @@ fn every_number_is_provoked() {
     case(said(puchkewa::to_2018(&listing(&["n:0b1\tn:0b2"]))), (13, 8, Some(0), Some(1)));
     let crooked = listing(&["r:rax\tp: = \tn:5\tp:;", "r:eax\tp: = \tn:5\tp:;", "k:return\tp: \tr:rax\tp:;"]);
     case(said(clean(&crooked, profile())), (14, 1, Some(1), None));
+    case(said(puchkewa::cautions(&crooked, profile())), (14, 1, Some(1), None));
     let even = listing(&["k:return\tp: \tr:rax\tp: + \tr:rax\tp:;"]);
     case(said(puchkewa::start_value(&even, "rax", &[], 11)), (15, 0, None, None));
     case(said(puchkewa::start_value(&even, "eax", &[], 10)), (16, 0, None, None));

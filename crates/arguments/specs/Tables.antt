@@ -32,7 +32,7 @@ verbs =
     ∷ (bytes "tape", verb.Tape) ∷ (bytes "addresses", verb.Addresses) ∷ (bytes "edition", verb.Edition) ∷ (bytes "offsets", verb.Offsets)
     ∷ (bytes "laborious", verb.Laborious) ∷ (bytes "state", verb.State) ∷ (bytes "help", verb.Help) ∷ (bytes "version", verb.Version)
     ∷ (bytes "--version", verb.VersionOption) ∷ (bytes "-V", verb.VersionOption) ∷ (bytes "page", verb.Page)
-    ∷ (bytes "start", verb.Start) ∷ []
+    ∷ (bytes "start", verb.Start) ∷ (bytes "cautions", verb.Cautions) ∷ []
 
 abbrev pub options : List (Text × Flag)
 options =
@@ -58,6 +58,7 @@ actions =
 abbrev pub kind_of : Verb → ℕ → Option Kind
 kind_of verb.Clean n = Some kind.File
 kind_of verb.Counts n = Some kind.File
+kind_of verb.Cautions n = Some kind.File
 kind_of verb.Check n = Some kind.File
 kind_of verb.Show n = slice_get (kind.File ∷ []) n
 kind_of verb.Tape n = slice_get (kind.File ∷ []) n
@@ -76,6 +77,7 @@ kind_of verb.Start n = slice_get (kind.File ∷ []) n
 abbrev pub takes_settings : Verb → Bool
 takes_settings verb.Clean = true
 takes_settings verb.Counts = true
+takes_settings verb.Cautions = true
 takes_settings verb.Page = true
 takes_settings _ = false
 
@@ -105,11 +107,13 @@ is_start _ = false
 
 abbrev pub takes_quiet : Verb → Bool
 takes_quiet verb.Counts = true
+takes_quiet verb.Cautions = true
 takes_quiet verb.Check = true
 takes_quiet v = takes_output v
 
 abbrev pub takes_json : Verb → Bool
 takes_json verb.Counts = true
+takes_json verb.Cautions = true
 takes_json verb.Check = true
 takes_json verb.Start = true
 takes_json _ = false
@@ -118,6 +122,7 @@ takes_json _ = false
 abbrev pub takes_filter : Verb → Bool
 takes_filter verb.Clean = true
 takes_filter verb.Counts = true
+takes_filter verb.Cautions = true
 takes_filter verb.Check = true
 takes_filter verb.Show = true
 takes_filter verb.Edition = true

@@ -23,6 +23,7 @@ pub enum Verb {
     VersionOption,
     Page,
     Start,
+    Cautions,
 }
 
 // The options of the verbs.

@@ -5,7 +5,7 @@ ghost use Rattle.arguments.specs.Tables.{kind_of, takes_output, takes, has_value
 
 use crate::request::{Action, Flag, Kind, Value, Verb};
 
-const VERBS: [(&[u8], Verb); 16] = [
+const VERBS: [(&[u8], Verb); 17] = [
     (b"clean", Verb::Clean),
     (b"counts", Verb::Counts),
     (b"check", Verb::Check),
@@ -22,6 +22,7 @@ const VERBS: [(&[u8], Verb); 16] = [
     (b"-V", Verb::VersionOption),
     (b"page", Verb::Page),
     (b"start", Verb::Start),
+    (b"cautions", Verb::Cautions),
 ];
 
 const OPTIONS: [(&[u8], Flag); 14] = [
@@ -114,7 +115,9 @@ impl Verb {
         ensures { result ≡ kind_of self operands }
     {
         match (self, operands) {
-            (Verb::Clean | Verb::Counts | Verb::Check | Verb::Page, _) => Some(Kind::File),
+            (Verb::Clean | Verb::Counts | Verb::Cautions | Verb::Check | Verb::Page, _) => {
+                Some(Kind::File)
+            }
             (Verb::Show | Verb::Tape | Verb::Addresses | Verb::Start, 0) => { Some(Kind::File) }
             (Verb::Edition, 0) => Some(Kind::Edition),
             (Verb::Offsets, 0) => Some(Kind::Base),
@@ -149,15 +152,24 @@ impl Verb {
     {
         match option {
             Flag::Convention | Flag::Edition | Flag::Parts | Flag::Profile | Flag::Settle => {
-                matches!(self, Verb::Clean | Verb::Counts | Verb::Page)
+                matches!(
+                    self,
+                    Verb::Clean | Verb::Counts | Verb::Cautions | Verb::Page
+                )
             }
             Flag::Output | Flag::Force => self.takes_output(),
-            Flag::Quiet => matches!(self, Verb::Counts | Verb::Check) || self.takes_output(),
-            Flag::Json => matches!(self, Verb::Counts | Verb::Check | Verb::Start),
+            Flag::Quiet => {
+                matches!(self, Verb::Counts | Verb::Cautions | Verb::Check) || self.takes_output()
+            }
+            Flag::Json => matches!(
+                self,
+                Verb::Counts | Verb::Cautions | Verb::Check | Verb::Start
+            ),
             Flag::FilterForm => matches!(
                 self,
                 Verb::Clean
                     | Verb::Counts
+                    | Verb::Cautions
                     | Verb::Check
                     | Verb::Show
                     | Verb::Edition

@@ -240,7 +240,7 @@ carried rules input =
     ∙ ap (λ (s : ℕ). s ∪ joined rules input all q) (picked-zeros (λ p. comes_to all p q) input)
     ∙ sym (by_place_at (joined rules input all) (uncut rules input) q (omega (arith, long))))
 
-bytes-length : (sets : List ℕ) → length (caution_bytes sets) ≡ 2 * length sets
+pub bytes-length : (sets : List ℕ) → length (caution_bytes sets) ≡ 2 * length sets
 unfolding caution_bytes flat_map to_le_bytes
 bytes-length [] = refl
 bytes-length (s ∷ sets) = let r = bytes-length sets in omega (arith, r)

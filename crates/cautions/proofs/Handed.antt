@@ -35,7 +35,7 @@ shifted p k = omega arith
 
 module _ (s : ℕ) (js : List ℕ) where
   -- what stood there stays
-  put_keeps : (p : ℕ) (ts : List ℕ) (k : ℕ) → get_or ts k 0 ⊆ get_or (put s js p ts) k 0
+  pub put_keeps : (p : ℕ) (ts : List ℕ) (k : ℕ) → get_or ts k 0 ⊆ get_or (put s js p ts) k 0
   unfolding put
   put_keeps p [] k = refl
   put_keeps p (t ∷ ts) zero = in_left t (s given any (eqb p) js)
@@ -63,7 +63,7 @@ module _ (s : ℕ) (js : List ℕ) where
       subst (λ (n : ℕ). get_or (put s js (suc p) ts) k 0 ⊆ get_or ts k 0 ∪ s given any (eqb n) js) (shifted p k) (put_only (suc p) ts k)
 
   -- the same from line 0 on
-  put_on : (ts : List ℕ) (k : ℕ) → k < length ts → any (eqb k) js ≡ true → s ⊆ get_or (put s js 0 ts) k 0
+  pub put_on : (ts : List ℕ) (k : ℕ) → k < length ts → any (eqb k) js ≡ true → s ⊆ get_or (put s js 0 ts) k 0
   put_on ts k h e = let z : 0 + k ≡ k = omega arith in put_puts 0 ts k h (subst (λ (n : ℕ). any (eqb n) js ≡ true) (sym z) e)
 
   put_adds : (ts : List ℕ) (k : ℕ) → get_or (put s js 0 ts) k 0 ⊆ get_or ts k 0 ∪ s given any (eqb k) js

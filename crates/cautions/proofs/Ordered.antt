@@ -37,7 +37,7 @@ use Rattle.straight.proofs.Expression.{Worth, assigned-worth}
 use Rattle.straight.proofs.Flow.{Assigns, assigns, Returns, returns, Straight, last, next}
 use Rattle.straight.proofs.Life.{lhs_is, assigns-no_call, returns-no_call}
 use Rattle.straight.proofs.Profile.{straight_of}
-use Rattle.straight.proofs.Attempt.{attempt_keeps}
+use Rattle.straight.proofs.Attempt.{profile-suited, attempt_keeps}
 use Rattle.cautions.specs.Kinds.{odd_form, still_read, overwritten, call_moved, read_moved, other_width, other_text, odd_number, slot, handed_over}
 use Rattle.cautions.specs.Kinds.{◌∪◌, ◌⊆◌, ◌given◌, union}
 use Rattle.cautions.specs.Forms.{Ways, places}
@@ -325,7 +325,7 @@ not_found true none e = refl
 not_found true (some a) e = absurd (none-some (sym e))
 not_found false o e = refl
 
-single_use : (rules : Rules) (lines : Listing) (i : ℕ) (f : Fam) (expr : List Token) {j : ℕ}
+pub single_use : (rules : Rules) (lines : Listing) (i : ℕ) (f : Fam) (expr : List Token) {j : ℕ}
     → use_from (lines at i).indent f.name expr (is_some (call_at (lines at i))) (volatile rules) (suc i) (drop (suc i) lines) ≡ some j
     → one_use lines i f expr (volatile rules) ≡ j ∷ []
 unfolding let_some◌else◌then◌
@@ -380,7 +380,7 @@ module _ (indent : ℕ) (rules : Rules) (on : rules.profile ≡ true) (q : ℕ) 
   round_fine (over h) st more f = f st
   round_fine (failed h e rest) st more f = round_fine rest st more f
   round_fine {addressed = addressed} (succeeded {i = i} {lines = lines} {lines' = lines'} {labels = labels} {more = tail} h e rest) st more f =
-      let left : Straight indent lines' = (attempt_keeps rules on lines i indent st labels addressed e).0 in
+      let left : Straight indent lines' = (attempt_keeps rules lines i (profile-suited rules on lines i) indent st labels addressed e).0 in
       let a : Attempt = success i (targets rules lines i labels) lines' in
       or_fine (picked_fine (λ p. comes_to (a ∷ tail ++ more) p q) (join_cautions rules lines a)
       (join_fine rules on lines st a (unwritten_into rules lines i labels addressed e)))
@@ -392,7 +392,7 @@ module _ (indent : ℕ) (rules : Rules) (on : rules.profile ≡ true) (q : ℕ) 
   round_straight (over h) st = st
   round_straight (failed h e rest) st = round_straight rest st
   round_straight {addressed = addressed} (succeeded {i = i} {lines = lines} {labels = labels} h e rest) st =
-      round_straight rest (attempt_keeps rules on lines i indent st labels addressed e).0
+      round_straight rest (attempt_keeps rules lines i (profile-suited rules on lines i) indent st labels addressed e).0
 
   rounds_fine : {limit : ℕ} {lines : Listing} {rounds : List (List Attempt)} → Rounds rules limit lines rounds → Straight indent lines
       → Fine (joined rules lines (flatten rounds) q)

@@ -12,7 +12,9 @@ use Rattle.reference.specs.Run.{Attempt, labels_from, dead_result, run, attempts
 use Rattle.reference.specs.Marks.{comes_to}
 use Rattle.reference.specs.Tape.{to_le_bytes}
 use Rattle.reference.specs.Straight.{breaks}
-use Rattle.cautions.specs.Kinds.{odd_form, still_read, other_width, odd_number, slot, handed_over, ◌∪◌, ◌⊆◌, ◌given◌}
+use Rattle.straight.specs.Meaning.{Meaning}
+use Rattle.cautions.specs.Kinds.{odd_form, still_read, overwritten, call_moved, read_moved, other_width, odd_number, slot, handed_over}
+use Rattle.cautions.specs.Kinds.{◌∪◌, ◌⊆◌, ◌given◌}
 use Rattle.cautions.specs.Forms.{places}
 use Rattle.cautions.specs.Joins.{none_yet, put, join_cautions, cut_cautions}
 
@@ -126,3 +128,13 @@ VALUES = odd_form ∪ still_read ∪ other_width ∪ odd_number ∪ slot ∪ han
 
 abbrev pub InOrder : Rules → Listing → Type 0
 InOrder rules input = rules.profile ≡ true → breaks input ≡ none → (q : ℕ) → get_or (finished_cautions rules input) q 0 ⊆ VALUES
+
+-- A straight piece (M-106), cleaned with the profile or without it, returns the same in every listing of the run, modulo 2^64, whatever the
+-- registers held, where no finished line has `other_text`; so too where no caution is raised at all.
+abbrev pub ALL_BUT_TEXT : ℕ
+ALL_BUT_TEXT =
+    odd_form ∪ still_read ∪ overwritten ∪ call_moved ∪ read_moved ∪ other_width ∪ odd_number ∪ slot ∪ handed_over
+
+pub record Unwarned (rules : Rules) (input : Listing) : Type 0 where
+  pub of_text : breaks input ≡ none → ((q : ℕ) → get_or (finished_cautions rules input) q 0 ⊆ ALL_BUT_TEXT) → Meaning rules input
+  pub of_none : breaks input ≡ none → finished_cautions rules input ≡ none_yet (finished rules input) → Meaning rules input

@@ -9,7 +9,7 @@ use borrow.Author.Tests.{leb-true}
 use Rattle.reference.specs.Control.{when◌then◌else◌, let_some◌else◌then◌}
 use Rattle.reference.specs.Listing.{Listing}
 use Rattle.reference.specs.Rules.{Rules}
-use Rattle.reference.specs.Questions.{has_room_by, Refused, Passed, let_passed◌then◌, read}
+use Rattle.reference.specs.Questions.{OUTPUT, has_room_by, Refused, Passed, let_passed◌then◌, read}
 use Rattle.reference.specs.Straight.{breaks}
 use Rattle.reference.specs.Reply.{Cleaned, Reply, told, Report, ask_profile, reply_by, reply, output_after, work_after, report}
 use Rattle.reference.proofs.Cases.{both}
@@ -78,26 +78,27 @@ module _ (rules : Rules) (tape work_a work_b out : List ℕ) where
   )
 
   -- question 1, 9 or 2 refuses the call
-  refused_at_door : (r : Reason) → number_of r ≡ first_no (before_the_tape rules (length work_a) (length work_b) (length out)) → Promise work_a work_b out (Err (record { reason = r; place = 0 }))
-  unfolding reply_by
+  refused_at_door : (r : Reason) → number_of r ≡ first_no (before_the_tape rules (length work_a) (length work_b) (length out) OUTPUT)
+      → Promise work_a work_b out (Err (record { reason = r; place = 0 }))
+  unfolding reply_by has_room_by
   refused_at_door r e =
       refused (record { reason = r; place = 0 })
-      (ask_number (λ number. 0) (before_the_tape rules (length work_a) (length work_b) (length out)) _ (numbered r) (sym e))
+      (ask_number (λ number. 0) (before_the_tape rules (length work_a) (length work_b) (length out) OUTPUT) _ (numbered r) (sym e))
 
   -- of what `map_err` and `?` make of its answer
-  pub refused_early : {A : Type 0} (o : Result A Reason) → refusing o ≡ first_no (before_the_tape rules (length work_a) (length work_b) (length out)) → {m : Result A Refusal}
+  pub refused_early : {A : Type 0} (o : Result A Reason) → refusing o ≡ first_no (before_the_tape rules (length work_a) (length work_b) (length out) OUTPUT) → {m : Result A Refusal}
       → MatchResult o (λ a. m ≡ Ok a) (λ r. IsErrAnd m (λ x. x ≡ record { reason = r; place = 0 })) → (x : Refusal) → m ≡ Err x → Promise work_a work_b out (Err x)
   refused_early (Ok a) e h x is = cc
   refused_early (Err r) e h x is = let same : x ≡ record { reason = r; place = 0 } = rw is at h in rw same (refused_at_door r e)
 
-  module _ {A : Type 0} {o : Result A Reason} (e : refusing o ≡ first_no (before_the_tape rules (length work_a) (length work_b) (length out))) where
+  module _ {A : Type 0} {o : Result A Reason} (e : refusing o ≡ first_no (before_the_tape rules (length work_a) (length work_b) (length out) OUTPUT)) where
     module _ {a : A} (z : o ≡ Ok a) where
-      open_door : Yes (before_the_tape rules (length work_a) (length work_b) (length out))
+      open_door : Yes (before_the_tape rules (length work_a) (length work_b) (length out) OUTPUT)
       open_door = none_no _ (omega arith, (omega arith, (omega arith, tt))) (sym e ∙ ap refusing z)
 
       answer_is : answer ≡ (let_passed (read tape) then λ lines. ask_profile rules lines (cleaned rules tape lines))
-      unfolding reply_by
-      answer_is = ask-yes (λ number. 0) (before_the_tape rules (length work_a) (length work_b) (length out)) _ open_door
+      unfolding reply_by has_room_by
+      answer_is = ask-yes (λ number. 0) (before_the_tape rules (length work_a) (length work_b) (length out) OUTPUT) _ open_door
 
       -- a later question refuses the tape
       pub refused_on_tape : (r : Refusal) → read tape ≡ Refused (number_of r.reason) r.place → Promise work_a work_b out (Err r)
@@ -158,7 +159,7 @@ module _ (tape : List ℕ) (k : Result Totals Refusal) (ek : checked k ≡ (let_
   accepted-now t e = accepted_by tape (sym (ap checked e) ∙ ek)
 
   module _ (t : Totals) (e : k ≡ Ok t) (rules : Rules) (work_a work_b out : List ℕ) {A : Type 0} {d : Result A Reason}
-      (en : refusing d ≡ first_no (before_the_tape rules (length work_a) (length work_b) (length out))) {a : A} (z : d ≡ Ok a) where
+      (en : refusing d ≡ first_no (before_the_tape rules (length work_a) (length work_b) (length out) OUTPUT)) {a : A} (z : d ≡ Ok a) where
     pub cleanable_now : Cleanable tape work_a work_b out
     cleanable_now = cleanable rules tape work_a work_b out en z (accepted-now t e)
 

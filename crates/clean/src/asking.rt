@@ -14,9 +14,15 @@ use crate::tabled::Tables;
 use answers::Reason;
 use ground::rules::Rules;
 
-// The question that refuses the settings, or the lengths of what is lent.
-pub fn asked(rules: Rules, work_a: usize, work_b: usize, output: usize) -> Result<(), Reason>
-    ensures { refusing result ≡ first_no (before_the_tape (rules_of rules) work_a work_b output) }
+// The question that refuses the settings, or the lengths of what is lent: the output is to have the least length at least.
+pub fn asked(
+    rules: Rules,
+    work_a: usize,
+    work_b: usize,
+    output: usize,
+    least: usize,
+) -> Result<(), Reason>
+    ensures { refusing result ≡ first_no (before_the_tape (rules_of rules) work_a work_b output least) }
 {
     if 2 < rules.convention {
         return Err(Reason::UnknownConvention);
@@ -24,7 +30,7 @@ pub fn asked(rules: Rules, work_a: usize, work_b: usize, output: usize) -> Resul
     if 1 < rules.edition {
         return Err(Reason::UnknownEdition);
     }
-    if work_a < 49152 || work_b < 49152 || output < 59137 {
+    if work_a < 49152 || work_b < 49152 || output < least {
         return Err(Reason::TooLittleRoom);
     }
     Ok(())

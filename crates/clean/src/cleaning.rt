@@ -1,10 +1,13 @@
 // The cleaning of a tape that passed all questions.
-ghost use Rattle.std.specs.Prelude.{◌≡◌};
+ghost use Rattle.std.specs.Prelude.{◌≡◌, true};
 ghost use Rattle.reference.specs.Listing as reference;
 ghost use Rattle.reference.specs.Questions.{Passed, read};
 ghost use Rattle.ground.specs.Rules.{rules_of};
 ghost use Rattle.join.specs.Contents.{contents};
 ghost use Rattle.join.specs.Workspaces.{SameLent};
+ghost use Rattle.raising.specs.Tables as tables;
+ghost use Rattle.raising.specs.Tables.{is_on, Room};
+ghost use Rattle.rounds.specs.Cautions.{CautionsKept};
 ghost use Rattle.rounds.specs.Runs.{Runnable, Ran};
 ghost use Rattle.clean.specs.Replies.{cleaned};
 ghost use Rattle.clean.specs.Cleaning.{Writable, ReplyWritten, Cleanable, Finishes};
@@ -13,6 +16,7 @@ use crate::tabled::Tables;
 use ground::rules::Rules;
 use join::Workspace;
 use lines::texts::{Listing, Size, Texts};
+use raising::Raising;
 use rounds::{Outcome, Tally, optimize};
 
 // What a cleaning did: the output's length, what is told of the rounds, the lines removed and the results cut.
@@ -24,11 +28,21 @@ pub struct Finished {
     pub cut: u64,
 }
 
-// Cleans a listing that was loaded into the workspace, in which the texts are all in the tape.
-fn optimized(tape: &[u8], room: &mut Workspace<'_>, size: Size, rules: Rules) -> Outcome
-    requires { Runnable tape.now room.old size }
+// Cleans a listing that was loaded into the workspace, in which the texts are all in the tape; the tables of cautions, where they are not
+// empty, have its cautions afterwards.
+pub fn optimized(
+    tape: &[u8],
+    room: &mut Workspace<'_>,
+    raising: &mut Raising<'_>,
+    size: Size,
+    rules: Rules,
+) -> Outcome
+    requires { Runnable tape.now room.old size × (is_on raising.old ≡ true → Room raising.old) }
     ensures ran { Ran (rules_of rules) (contents tape.now room.old size) (contents tape.now room.new result.size) result }
+    ensures cautioned { CautionsKept (rules_of rules) (contents tape.now room.old size) (contents tape.now room.new result.size)
+        raising.old raising.new }
     ensures lent { SameLent room.old room.new }
+    ensures lent_raising { tables.SameLent raising.old raising.new }
 {
     let mut labels = [0usize; 256];
     let mut slots = [0u8; 49152];
@@ -36,6 +50,7 @@ fn optimized(tape: &[u8], room: &mut Workspace<'_>, size: Size, rules: Rules) ->
     optimize(
         tape,
         room,
+        raising,
         &mut labels,
         &mut slots,
         &mut slot_words,
@@ -44,7 +59,7 @@ fn optimized(tape: &[u8], room: &mut Workspace<'_>, size: Size, rules: Rules) ->
     )
 }
 
-// Cleans a tape that passed all questions into the output. The areas are only worked in.
+// Cleans a tape that passed all questions into the output. The areas are only worked in, and no cautions are kept.
 fn written(rules: Rules, tape: &[u8], area: &mut [u8], area2: &mut [u8], out: &mut [u8]) -> Finished
     requires { Writable tape.now area.old area2.old out.old }
     ensures { (input : reference.Listing) → read tape.now ≡ Passed input
@@ -66,7 +81,14 @@ fn written(rules: Rules, tape: &[u8], area: &mut [u8], area2: &mut [u8], out: &m
         tokens2: &mut tokens2,
         marks: &mut own.marks,
     };
-    let r = optimized(tape, &mut room, size, rules);
+    let mut raising = Raising {
+        sets: &mut [],
+        forms: &mut [],
+        parts: &mut [],
+        seen: &mut [],
+        expr: &mut [],
+    };
+    let r = optimized(tape, &mut room, &mut raising, size, rules);
     let Size {
         lines: n,
         tokens: used,

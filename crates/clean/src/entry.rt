@@ -9,6 +9,9 @@ use crate::cleaning::{Finished, finish};
 use answers::{Reason, Refusal};
 use ground::rules::Rules;
 
+// How many bytes the output is to have at least: no new tape is longer.
+pub const OUTPUT: usize = 59137;
+
 // Cleans the listing of a tape under the settings: in at most three rounds or, where it is to settle, in as many as it takes. A refusal
 // changes nothing that was lent; otherwise the output is the new tape, and the first 49,152 bytes of both work areas are zero afterwards.
 pub fn clean(
@@ -23,7 +26,7 @@ pub fn clean(
     ensures result_value { answer_of result ≡ summary (reply (rules_of rules) tape.now
         (length work_a.old) (length work_b.old) (length out.old)) }
 {
-    asked(rules, work_a.len(), work_b.len(), out.len()).map_err(|reason| reason.at(0))?;
+    asked(rules, work_a.len(), work_b.len(), out.len(), OUTPUT).map_err(|reason| reason.at(0))?;
     tape::check::<false>(tape)?;
     match outside_profile(rules, tape) {
         Some(line) => Err(Reason::OutsideProfile.at(line)),

@@ -15,6 +15,9 @@ fn lines_of(verb: Verb) -> &'static [u8] {
         Verb::Counts => {
             b"\x20 counts [SETTINGS] [FILE..]                   what a cleaning did, in numbers\n"
         }
+        Verb::Cautions => {
+            b"\x20 cautions [SETTINGS] [FILE..]                 which cleaned lines may mean something else, and why\n"
+        }
         Verb::Check => {
             b"\x20 check [FILE..]                               whether tapes are accepted\n"
         }
@@ -118,9 +121,10 @@ const FILES: &[u8] =
     was refused or failed, 2 for wrong use. -- ends the options; a value may stand in its option's word: -csysv, --return=10.\n";
 
 // The verbs in the order of the help.
-const ORDER: [Verb; 14] = [
+const ORDER: [Verb; 15] = [
     Verb::Clean,
     Verb::Counts,
+    Verb::Cautions,
     Verb::Page,
     Verb::Start,
     Verb::Check,

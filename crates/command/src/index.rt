@@ -1,10 +1,12 @@
-// The index over the pages of a folder: a row for each file, with its lines before and after and whether its calls are kept, or with the
-// words that it was refused with. A row of a page is a link to it. Files are read and cleaned once more for their rows.
+// The index over the pages of a folder: a row for each file, with its lines before and after, how many of these are cautioned, and whether
+// its calls are kept, or with the words that it was refused with. A row of a page is a link to it. Files are read and cleaned once more
+// for their rows.
 use crate::Call;
 use crate::files::{front, is_dash, read_path};
 use crate::refusals::words_of;
 use answers::Refusal;
 use arguments::{Request, base_name, next_word};
+use caution_words::count_cautioned;
 use std::io::{Error, Write};
 use tallies::{calls_stay, count_sizes};
 use text::Cursor;
@@ -51,7 +53,13 @@ fn put_number<W: Write>(n: usize, to: &mut W) -> Result<(), Error> {
 }
 
 // The row of a file that was cleaned.
-fn put_cleaned<W: Write>(name: &[u8], raw: &[u8], cleaned: &[u8], to: &mut W) -> Result<(), Error> {
+fn put_cleaned<W: Write>(
+    name: &[u8],
+    raw: &[u8],
+    cleaned: &[u8],
+    cautions: &[u8],
+    to: &mut W,
+) -> Result<(), Error> {
     to.write_all(b"<tr><td><a href=\"")?;
     put_link(base_name(name), to)?;
     to.write_all(b".html\">")?;
@@ -59,6 +67,7 @@ fn put_cleaned<W: Write>(name: &[u8], raw: &[u8], cleaned: &[u8], to: &mut W) ->
     to.write_all(b"</a>")?;
     put_number(count_sizes(raw).lines, to)?;
     put_number(count_sizes(cleaned).lines, to)?;
+    put_number(count_cautioned(cautions), to)?;
     to.write_all(if calls_stay(raw, cleaned) {
         b"<td class=y>kept<td>\n"
     } else {
@@ -70,7 +79,7 @@ fn put_cleaned<W: Write>(name: &[u8], raw: &[u8], cleaned: &[u8], to: &mut W) ->
 fn put_bare<W: Write>(name: &[u8], words: &[u8], to: &mut W) -> Result<(), Error> {
     to.write_all(b"<tr class=r><td>")?;
     put_escaped(name, to)?;
-    to.write_all(b"<td><td><td><td>")?;
+    to.write_all(b"<td><td><td><td><td>")?;
     put_escaped(words, to)?;
     to.write_all(b"\n")
 }
@@ -87,7 +96,7 @@ fn put_refused<W: Write>(
     let head = format!(in call.rt.alloc(); "refused {number} at {place}: ")?;
     to.write_all(b"<tr class=r><td>")?;
     put_escaped(name, to)?;
-    to.write_all(b"<td><td><td><td>")?;
+    to.write_all(b"<td><td><td><td><td>")?;
     to.write_all(head.as_bytes())?;
     put_escaped(words_of(tape, refused), to)?;
     to.write_all(b"\n")
@@ -96,6 +105,7 @@ fn put_refused<W: Write>(
 fn put_row<W: Write>(call: &Call, name: &[u8], to: &mut W) -> Result<(), Error> {
     let mut buffer = [0u8; 131072];
     let mut out = [0u8; 59137];
+    let mut sets = [0u8; 512];
     if is_dash(name) {
         return put_bare(name, b"standard input has no page in a folder", to);
     }
@@ -107,8 +117,12 @@ fn put_row<W: Write>(call: &Call, name: &[u8], to: &mut W) -> Result<(), Error> 
         Ok(input) => input,
         Err(refused) => return put_refused(call, name, bytes, refused, to),
     };
-    match input.clean(&mut out) {
-        Ok(f) => put_cleaned(name, input.tape, front(&out, f.length), to),
+    let cleaned = match input.clean(&mut out) {
+        Ok(f) => front(&out, f.length),
+        Err(refused) => return put_refused(call, name, input.tape, refused, to),
+    };
+    match input.cautions(&mut sets) {
+        Ok(cautions) => put_cleaned(name, input.tape, cleaned, cautions, to),
         Err(refused) => put_refused(call, name, input.tape, refused, to),
     }
 }
@@ -128,11 +142,12 @@ pub(crate) fn put_index<W: Write>(call: &Call, to: &mut W) -> Result<(), Error> 
           max-width:1100px;padding:20px 24px 60px}\n\
           h1{font-size:20px}table{border-collapse:collapse;width:100%}\n\
           th{text-align:left;font-weight:600;border-bottom:2px solid var(--ink);padding:4px 10px 4px 0}\n\
-          td{border-bottom:1px solid var(--rule);padding:4px 10px 4px 0;vertical-align:top;overflow-wrap:anywhere}\n\
+          td{border-bottom:1px solid var(--rule);padding:4px 10px 4px 0;vertical-align:top;overflow-wrap:anywhere}\
+          th:first-child,th:last-child{width:34%}\n\
           td.d{font-variant-numeric:tabular-nums}a{color:var(--link)}.y{color:var(--good)}.x,.r{color:var(--bad)}\n\
           @media(max-width:700px){body{padding:12px}td,th{padding-right:6px}}\n\
           </style>\n<h1>Cleaned listings</h1>\n<table>\n\
-          <thead><tr><th>File<th>Lines before<th>after<th>Calls<th>Refused\n<tbody>\n",
+          <thead><tr><th>File<th>Lines before<th>after<th>cautioned<th>Calls<th>Refused\n<tbody>\n",
     )?;
     let mut s = Request::begin();
     let mut left = call.words;

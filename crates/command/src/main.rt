@@ -6,6 +6,7 @@
 #![tactic(auto)]
 
 mod batches; // several files in one call
+mod cautioning; // what is told of cautioned lines
 mod files; // reading, and what is told
 mod guards; // what is looked at before anything is done
 mod help; // the help, and wrong use
@@ -18,6 +19,7 @@ mod texts; // the tape of a text
 
 use answers::{Answer, Reason, Refusal};
 use arguments::{Destination, Part, Request, Value, Verb, base_name};
+use caution_words::count_cautioned;
 use clean::{Finished, Tally};
 use files::{
     Fate, Outcome, Trouble, append, failed_by, front, is_dash, no_memory, print, put_path,
@@ -167,13 +169,25 @@ impl Call<'_> {
 
 // ---- what is printed of a reply
 
-fn print_counts(rt: &HostRuntime, f: Finished) -> Result<(), Trouble> {
+fn print_counts(rt: &HostRuntime, f: Finished, cautioned: u64) -> Result<(), Trouble> {
     let mut line = [0u8; 256];
-    let n = reports::put_counts(count_of(f.length), f.tally, f.removed, f.cut, &mut line);
+    let n = reports::put_counts(
+        count_of(f.length),
+        f.tally,
+        f.removed,
+        f.cut,
+        cautioned,
+        &mut line,
+    );
     print(rt, front(&line, n))
 }
 
-fn print_json_counts(rt: &HostRuntime, name: &[u8], f: Finished) -> Result<(), Trouble> {
+fn print_json_counts(
+    rt: &HostRuntime,
+    name: &[u8],
+    f: Finished,
+    cautioned: u64,
+) -> Result<(), Trouble> {
     let Finished {
         length,
         tally,
@@ -186,10 +200,12 @@ fn print_json_counts(rt: &HostRuntime, name: &[u8], f: Finished) -> Result<(), T
             second,
             third,
         } => format!(in rt.alloc();
-            ",\"length\":{length},\"settled\":false,\"attempts\":[{first},{second},{third}],\"removed\":{removed},\"cut\":{cut}"
+            ",\"length\":{length},\"settled\":false,\"attempts\":[{first},{second},{third}],\
+              \"removed\":{removed},\"cut\":{cut},\"cautioned\":{cautioned}"
         ),
         Tally::Settled { rounds, attempts } => format!(in rt.alloc();
-            ",\"length\":{length},\"settled\":true,\"rounds\":{rounds},\"attempts\":{attempts},\"removed\":{removed},\"cut\":{cut}"
+            ",\"length\":{length},\"settled\":true,\"rounds\":{rounds},\"attempts\":{attempts},\
+              \"removed\":{removed},\"cut\":{cut},\"cautioned\":{cautioned}"
         ),
     };
     print_object(rt, name, rest)
@@ -336,12 +352,14 @@ impl Call<'_> {
 
     fn count_one(&self, input: Input) -> Result<(), Trouble> {
         let mut out = [0u8; 59137];
+        let mut sets = [0u8; 512];
         let f = input.clean(&mut out)?;
+        let cautioned = count_of(count_cautioned(input.cautions(&mut sets)?));
         if self.request.form.json {
-            return print_json_counts(self.rt, input.name, f);
+            return print_json_counts(self.rt, input.name, f, cautioned);
         }
         self.print_name(input.name)?;
-        print_counts(self.rt, f)
+        print_counts(self.rt, f, cautioned)
     }
 
     fn check_one(&self, input: Input) -> Result<(), Trouble> {
@@ -399,12 +417,15 @@ impl Call<'_> {
 
     fn page_one(&self, input: Input) -> Result<(), Trouble> {
         let mut out = [0u8; 59137];
+        let mut sets = [0u8; 512];
         let told = input.clean(&mut out)?;
+        let cautions = input.cautions(&mut sets)?;
         let cleaning = Cleaning {
             rules: input.rules,
             name: input.name,
             raw: input.tape,
             cleaned: front(&out, told.length),
+            cautions,
             told,
         };
         self.deliver(input.name, Product::Page(&cleaning))
@@ -416,6 +437,7 @@ impl Call<'_> {
         match verb {
             Verb::Clean => self.clean_one(input),
             Verb::Counts => self.count_one(input),
+            Verb::Cautions => self.caution_one(input),
             Verb::Check => self.check_one(input),
             Verb::Show => self.show_one(tape),
             Verb::Tape => self.tape_one(name, tape),
@@ -515,14 +537,16 @@ impl Call<'_> {
 
     fn version(&self) -> Outcome {
         // Kept: the version's text, which the page of crate render has too: by one name the line's end here would be written by itself.
-        fate_of(self.rt, b"version", print(self.rt, b"puchkewa 0.15.0\n")).outcome()
+        fate_of(self.rt, b"version", print(self.rt, b"puchkewa 0.16.0\n")).outcome()
     }
 
     // ---- all verbs
 
     fn run(&self, verb: Verb) -> Outcome {
         match verb {
-            Verb::Clean | Verb::Counts | Verb::Check | Verb::Page => self.all_files(verb),
+            Verb::Clean | Verb::Counts | Verb::Cautions | Verb::Check | Verb::Page => {
+                self.all_files(verb)
+            }
             Verb::Show | Verb::Tape | Verb::Addresses | Verb::Start => self.only_file(verb, 0),
             Verb::Edition | Verb::Offsets => self.only_file(verb, 1),
             Verb::Laborious => self.laborious(),

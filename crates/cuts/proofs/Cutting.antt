@@ -192,6 +192,14 @@ module _ {tape area : Text} {tokens lines labels : List ℕ} (c : Cuttable tape 
           );
         }
 
+-- the lines without addresses, of a listing that is cut
+pub bare_cut : (tape area : Text) (tokens lines : List ℕ) (i : ℕ) (lines' : List ℕ)
+    → listing_read tape area tokens numbered lines' ≡ cut_at i (listing_read tape area tokens numbered lines)
+    → bare_listing tape area tokens lines' ≡ cut_at i (bare_listing tape area tokens lines)
+bare_cut tape area tokens lines i lines' e =
+    bare-means tape area tokens numbered lines' ∙ ap bare_lines e ∙ sym (cut-bare i (listing_read tape area tokens numbered lines))
+    ∙ ap (cut_at i) (sym (bare-means tape area tokens numbered lines))
+
 -- ---- all cuts
 
 pub last_append : (l : Listing) (xs ys : List Listing) → last_of l (xs ++ ys) ≡ last_of (last_of l xs) ys
@@ -286,9 +294,7 @@ module _ {rules : Rules} {tape area : Text} {tokens start labels : List ℕ} whe
       cutting_cut f =
           let e = sym d.told ∙ f in
           let k = d.cut e in
-          let cut : bare_listing tape area tokens lines' ≡ cut_at i (bare_listing tape area tokens lines) =
-          bare-means tape area tokens numbered lines' ∙ ap bare_lines (k.1 numbered) ∙ sym (cut-bare i (listing_read tape area tokens numbered lines))
-          ∙ ap (cut_at i) (sym (bare-means tape area tokens numbered lines)) in
+          let cut = bare_cut tape area tokens lines i lines' (k.1 numbered) in
           record {
             listed = k.0;
             labelled = rw cut (cut-labelled rules (labels_now tape area tokens lines labels) (bare_listing tape area tokens lines) i e labels s.labelled);
@@ -318,8 +324,8 @@ module _ (tape area : Text) (tokens lines : List ℕ) {before after : List ℕ} 
   pub gathered_labelled : Labelled (bare_listing tape area tokens lines) (take n after)
   gathered_labelled = rw gathered_front (labelled_begin (bare_listing tape area tokens lines))
 
-  pub gathered_cuttable : Listed tape area tokens lines → length tokens ≤ 65536 → Cuttable tape area tokens lines (take n after)
-  gathered_cuttable h k = record { listed = h; short = k; labelled = gathered_labelled }
+  pub gathered_cuttable : Listed tape area tokens lines → length lines ≤ 256 → length tokens ≤ 65536 → Cuttable tape area tokens lines (take n after)
+  gathered_cuttable h f k = record { listed = h; few = f; short = k; labelled = gathered_labelled }
 
   pub gathered_labels : (addresses : Reading) → labels_from 0 (listing_read tape area tokens addresses lines) ≡ labels_now tape area tokens lines (take n after)
   gathered_labels addresses =

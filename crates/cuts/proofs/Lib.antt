@@ -1,2 +1,3 @@
--- Laws of the cuts, which the functions' proofs cite; those of gathered labels serve a round too.
+-- Laws of the cuts, which the functions' proofs cite (Cutting); those of gathered labels serve a round too. The cautions of the cuts (Cautioning).
 pub mod Cutting
+pub mod Cautioning

@@ -20,9 +20,11 @@ keeps_result ts =
     and ((text_or_empty (get ts 0) ≟ bytes "rax") or (text_or_empty (get ts 0) ≟ bytes "eax"))
     and (text_or_empty (get ts 1) ≟ bytes " = ")
 
--- a listing that can be read, with few enough token words that a line's first token can be moved on, and the places of its labels
+-- a listing that can be read, of at most 256 lines, with few enough token words that a line's first token can be moved on, and the places
+-- of its labels
 pub record Cuttable (tape area : Text) (tokens lines labels : List ℕ) : Type 0 where
   pub listed : Listed tape area tokens lines
+  pub few : length lines ≤ 256
   pub short : length tokens ≤ 65536
   pub labelled : Labelled (bare_listing tape area tokens lines) labels
 

@@ -7,6 +7,8 @@ pub mod Unmatched
 pub mod Walking
 pub mod Spreading
 pub mod Hanging
+pub mod Handing
+pub mod Ranging
 pub mod Nexts
 pub mod Tables
 pub mod Named

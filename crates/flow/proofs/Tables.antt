@@ -195,6 +195,15 @@ opener_inside g k h e {c} f =
     let q = opener_below (reverse (take k g.forms.now)) 0 (sym p) in
     omega (arith, q, length-reverse (take k g.forms.now), length-take k g.forms.now)
 
+-- o is the code's answer to which line opens the block that line k closes, and d that line
+module _ (g : FormedListing) (k : ℕ) (t : Tabled g) (h : k < length g.listing.lines.now) {o : std.Option ℕ} (e : option_of o ≡ opener_by 0 (reverse (take k g.forms.now))) {d : ℕ}
+    (f : o ≡ std.Some d) where
+  pub opened_inside : d < length g.forms.now
+  opened_inside = opener_inside g k (omega (arith, h, t.table.long)) e f
+
+  pub opened_form : Classed (get_or (forms_of (bare_listing g.listing)) d []) (get_or g.forms.now d no_form).form
+  opened_form = table_form g d t (omega (arith, opened_inside, t.table.long))
+
 pub listed_tokens : (h : held.Listing) (k : ℕ) → k < length h.lines.now
     → tokens_of h.texts (part_of h.tokens.now (get_or h.lines.now k 0)) ≡ (bare_listing h at k).tokens
 listed_tokens h k b = ap (λ (l : Line). l.tokens) (sym (bare_at h.texts.tape.now h.texts.area.now h.tokens.now [] h.lines.now k b))

@@ -10,3 +10,5 @@ pub mod Values
 pub mod Blocks
 pub mod Ways
 pub mod Reaching
+pub mod Handed
+pub mod Between

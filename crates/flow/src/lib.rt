@@ -13,13 +13,17 @@ mod blocks; // the lines that close and open a block
 mod ways; // the lines that may come next
 mod reaching; // how far a value goes
 mod values; // what a line does to a value
+mod between; // what stands between an assignment and its last use
+mod handed; // whether a value is handed over
 mod spelling; // what is kept of a form as it is put together
 
+pub use between::{is_odd, past_call};
 pub use forms::{is_case_word, is_control_word};
 pub use frames::{
     Frame, frame_of, frame_of_expr, is_loose, is_loose_expr, is_truth, is_truth_expr,
 };
 pub use gathering::{NO_FORM, form_at, gather_forms};
+pub use handed::{is_handed, is_slot};
 pub use lineforms::{Form, LineForm, line_form};
 pub use marks::{Marking, marks_of};
 pub use opaque::{holds, is_opaque};

@@ -22,7 +22,7 @@ use Rattle.plan.specs.declared.plans.Join.{Join}
 use Rattle.plan.specs.Plans.{join_in}
 use Rattle.join.specs.Building.{plan_of}
 use Rattle.join.specs.Carrying.{lowered, raised, origins_at, picked, changed_by, Carried}
-use Rattle.join.proofs.Placing.{past_last}
+use Rattle.plan.proofs.Changed.{past_last}
 
 -- ---- the places that are picked out
 

@@ -27,7 +27,7 @@ use Rattle.build.proofs.Growing.{grown}
 use Rattle.build.proofs.Listing.{lined_elsewhere, line_elsewhere}
 use Rattle.join.specs.Building.{new_tokens, Placeable, Placed, plan_of, Plannable}
 use Rattle.join.specs.Patching.{line_need, needs, need_from, Spare, mixed, changed_upto, Patching, Patched}
-use Rattle.join.proofs.Placing.{past_last}
+use Rattle.plan.proofs.Changed.{past_last}
 use Rattle.join.proofs.Rows.{last-inside, placeable_in}
 use Rattle.join.proofs.Needing.{line_room, room-count}
 use Rattle.join.proofs.Building.{rest_at, rest-next}

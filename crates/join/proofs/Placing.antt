@@ -1,20 +1,16 @@
 -- One line of the new listing: whether it is changed, and what is appended for it, kept or rewritten. Assumes nothing.
-use Prim.Native.Nat.{ℕ, ◌≤◌, ◌<◌}
+use Prim.Native.Nat.{ℕ, ◌≤◌}
 use native.Mathlib.Omega.{arith}
 use native.Mathlib.Nat.{le_refl}
-use mathlib.Core.Logic.{◌⊎◌, inl, inr}
 use mathlib.Core.Path.{◌≡◌, sym, ap, ◌∙◌}
 use mathlib.Core.Bool.{Bool, true, false}
 use mathlib.Core.List.{List}
 use lib.ListN.{length, length-map}
-use borrow.Author.Tests.{le-ltb, le-leb, lt-leb}
 use Rattle.reference.specs.Text.{Text}
 use Rattle.reference.specs.Listing.{Token, Line}
 use Rattle.reference.specs.Rules.{Rules, volatile}
-use Rattle.reference.specs.Life.{touch, is_use}
-use Rattle.laws.proofs.Scans.{and_true, and_false}
 use Rattle.joining.specs.Plan.{Plan, changes, right_side_of}
-use Rattle.joining.proofs.Acting.{changes-later, line_changed, line_kept}
+use Rattle.joining.proofs.Acting.{line_changed, line_kept}
 use Rattle.lines.specs.Words.{tokens_of}
 use Rattle.lines.specs.Lines.{Reading, part_of, line_read, bare_in}
 use Rattle.plan.specs.declared.plans.Join.{Join}
@@ -25,22 +21,6 @@ use Rattle.build.specs.Added.{Added, Keepable, Kept, unmerged, Rewritable, Rewri
 use Rattle.build.proofs.Rooms.{text_room}
 use Rattle.build.proofs.Adding.{part_length}
 use Rattle.join.specs.Building.{substitution_of, new_tokens, Placeable, Placed}
-
--- ---- whether it is changed
-
-module _ (vol : List Text) (i : ℕ) (p : Plan) (k : ℕ) (l : Line) where
-  pub not-later : k ≤ i → false ≡ changes vol i p k l
-  unfolding changes
-  not-later h = sym (and_false _ (le-ltb i k h))
-
-  pub past_last : i < k → p.last < k → false ≡ changes vol i p k l
-  past_last h g = sym (changes-later vol i p k l h ∙ and_false _ (lt-leb k p.last g))
-
-  pub unchanged : (k ≤ i) ⊎ ((i < k) × (p.last < k)) → false ≡ changes vol i p k l
-  unchanged e = elim e [ inl h ↦ not-later h | inr h ↦ past_last h.0 h.1 ]
-
-  pub by_use : {b : Bool} → i < k → k ≤ p.last → b ≡ is_use (touch l p.fam vol) → b ≡ changes vol i p k l
-  by_use h g e = e ∙ sym (changes-later vol i p k l h ∙ and_true _ (le-leb k p.last g))
 
 -- ---- what is appended
 

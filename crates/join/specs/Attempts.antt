@@ -23,11 +23,12 @@ use Rattle.join.specs.Workspaces.{Lent}
 use Rattle.join.specs.declared.workspace.Workspace.{Workspace}
 
 -- a listing within the limits, the places of its round's labels, the names that were addressed when the round began, and room for the marks
--- of 256 lines
+-- of 256 lines; the table of token words is no larger than a line word can name
 pub record Attemptable (tape : Text) (w : Workspace) (labels : List ℕ) (names : SlotNames) (at : Size) : Type 0 where
   pub current : Current (contents tape w at)
   pub limits : RunLimits (bare_now (contents tape w at))
   pub lent : Lent w
+  pub words_short : length w.tokens.now ≤ 65536
   pub labelled : Labelled (bare_now (contents tape w at)) labels
   pub slotted : Slotted names
   pub for_marks : 256 ≤ length w.marks.now

@@ -3,7 +3,7 @@
 
 mod apply; // a plan carried out, one way or the other
 pub mod attempt; // the decision, and what follows it
-mod changing; // a line that a plan changes
+mod changing; // what a plan puts in the place of its register
 mod marks; // the marks of the line that is joined, handed on
 mod patch; // in place: only the lines that change are written
 mod rebuild; // the whole listing written anew

@@ -10,12 +10,12 @@ ghost use Rattle.build.specs.State.{used};
 ghost use Rattle.plan.specs.Plans.{join_in};
 ghost use Rattle.join.specs.Workspaces.{Current, Plannable, Carried, SameListing, bare_at};
 
-use crate::changing::is_changed;
 use crate::workspace::Workspace;
 use ground::rules::Rules;
 use lines::marks::Marks;
 use lines::texts::Size;
 use lines::words;
+use plan::changing::is_changed;
 use plan::plans::Join;
 
 // Line `at` of the input takes in other marks.

@@ -7,11 +7,12 @@ ghost use Rattle.join.specs.Builders as Builders;
 ghost use Rattle.join.specs.Builders.{Spare, Patched};
 ghost use Rattle.join.specs.Workspaces.{SameLent, Current, Plannable, Acted, SpareFirst, SpareSecond, need};
 
-use crate::changing::{is_changed, substitution};
+use crate::changing::substitution;
 use crate::workspace::Workspace;
 use build::Builder;
 use ground::rules::Rules;
 use lines::texts::{Size, Texts};
+use plan::changing::is_changed;
 use plan::plans::Join;
 
 // Writes the lines that change behind the used marks, but in the second set; their words take the places of the old ones, and the word of

@@ -7,11 +7,12 @@ ghost use Rattle.join.specs.Builders as Builders;
 ghost use Rattle.join.specs.Builders.{Placeable, Placed, Rebuilt};
 ghost use Rattle.join.specs.Workspaces.{SameLent, Current, Lent, Plannable, Acted};
 
-use crate::changing::{is_changed, substitution};
+use crate::changing::substitution;
 use crate::workspace::Workspace;
 use build::Builder;
 use ground::rules::Rules;
 use lines::texts::{Size, Texts};
+use plan::changing::is_changed;
 use plan::plans::Join;
 
 // Appends line k, whose word is l, to the second set: with the right side of the line `source` for each token of the family, or as it is;

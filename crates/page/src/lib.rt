@@ -3,6 +3,7 @@
 #![tactic(auto)]
 
 mod cells; // the cells of a line, side by side
+mod signs; // the words of a cautioned line
 
 ghost use Rattle.std.specs.Prelude.{◌+◌, ◌*◌, length};
 ghost use Rattle.text.specs.Cursor.{Fits, Puts};
@@ -11,6 +12,7 @@ ghost use Rattle.page.specs.Cells.{cell};
 
 pub use cells::{put_cells, put_line};
 use printing::put_decimal;
+pub use signs::put_cautions;
 use text::Cursor;
 
 // Puts a byte, or its entity.

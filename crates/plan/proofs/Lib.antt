@@ -7,3 +7,4 @@ pub mod Looking
 pub mod Passing
 pub mod Fitting
 pub mod Deciding
+pub mod Changed

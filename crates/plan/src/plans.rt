@@ -89,7 +89,7 @@ fn propagate_constant(
 }
 
 // Whether the right side x of the line `source` gets brackets where no delimiters spare it.
-fn is_bracketed(texts: &Texts<'_>, source: &[u64], x: Expr, rules: Rules) -> bool
+pub fn is_bracketed(texts: &Texts<'_>, source: &[u64], x: Expr, rules: Rules) -> bool
     requires { Holds texts.now source.now × Expression source.now x }
     ensures { result ≡ is_bracketed (rules_of rules) (tokens_of texts.now (expr_words source.now x)) }
 {

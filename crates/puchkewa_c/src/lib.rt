@@ -4,6 +4,7 @@
 #![tactic(auto)]
 
 mod export; // the cleaning, for C and Rust
+mod export_cautions; // which finished line may mean something else, for C and Rust
 mod export_editions; // between the two C editions, for C and Rust
 mod export_laborious; // the most laborious listing, for C and Rust
 mod export_offsets; // tapes by offset from the load address, for C and Rust

@@ -1,7 +1,9 @@
 // The constant parts of the page: head, style, caveat, legend, script. Nothing is loaded from anywhere; the page's own policy lets only
 // this script run, by its hash (tests/page compares it).
 use crate::Cleaning;
-use crate::sink::{Output, Unwritten, put, put_escaped, put_text};
+use crate::sink::{Output, Unwritten, count_of, put, put_escaped, put_number, put_text};
+use caution_words::{count_cautioned, silence};
+use tallies::count_sizes;
 use text::same;
 
 // Wide: raw and cleaned side by side. Below 700 pixels each cleaned line stands above the raw line that it was. The number of a cleaned
@@ -12,13 +14,13 @@ fn put_style(out: Output) -> Result<(), Unwritten> {
         b"<style>\n\
           :root{--ink:#1b2330;--soft:#586273;--rule:#dde2e9;--line:#eef1f5;--paper:#fff;--gone:#fbeae7;--gonei:#a3301f;\
           --chg:#fff5da;--chgi:#856000;\n\
-          --cut:#dcf2ef;--cuti:#0b6b63;--src:#d6e6ff;--srci:#1a5fd0;--num:#7a3e9d;--sym:#1c5a7d;--yes:#1c7a3d;--no:#b00020;\
+          --cut:#dcf2ef;--cuti:#0b6b63;--src:#d6e6ff;--srci:#1a5fd0;--num:#7a3e9d;--sym:#1c5a7d;--yes:#1c7a3d;--no:#b00020;--warn:#a8480b;\
           --bar:60px}\n\
           @media screen and (prefers-color-scheme:dark){:root{color-scheme:dark;--ink:#e3e8ef;--soft:#a4afbe;--rule:#37414e;\
           --line:#252c36;--paper:#14181e;\n\
           --gone:#3b2220;--gonei:#f39b8e;--chg:#382f16;--chgi:#e8c468;--cut:#123632;--cuti:#74d3c7;--src:#17396a;--srci:#84b4ff;\
           --num:#cfa5ec;--sym:#8fc0e6;\n\
-          --yes:#62ca8a;--no:#ff8088}}\n\
+          --yes:#62ca8a;--no:#ff8088;--warn:#f0a35e}}\n\
           *{box-sizing:border-box}\n\
           body{font:14px/1.5 system-ui,'Segoe UI','DejaVu Sans',sans-serif;color:var(--ink);background:var(--paper);margin:0 \
           auto;max-width:1720px;padding:20px 24px 60px}\n\
@@ -35,7 +37,7 @@ fn put_style(out: Output) -> Result<(), Unwritten> {
           font-family:ui-monospace,'DejaVu Sans Mono',monospace;color:var(--ink)}.key:first-of-type{margin-left:0}\n\
           .kg{background:var(--gone);color:var(--gonei)}.kc{background:var(--chg);color:var(--chgi)}.ku{background:var(--cut);\
           color:var(--cuti)}\n\
-          .ks{background:var(--src);color:var(--srci)}\n\
+          .ks{background:var(--src);color:var(--srci)}.kw{background:var(--warn);color:var(--paper);font-weight:700}\n\
           #b{position:sticky;top:0;z-index:2;display:flex;flex-wrap:wrap;align-items:center;gap:4px 16px;\
           background:var(--paper);border:1px solid var(--rule);\n\
           border-left:4px solid var(--srci);padding:5px 12px;margin:10px 0}\n\
@@ -64,6 +66,11 @@ fn put_style(out: Output) -> Result<(), Unwritten> {
           td.o:focus{outline:2px solid var(--srci);outline-offset:-2px}\n\
           #t tr.src td.c,#t tr.src td.n,#t tr.src td.a,#t tr.src td.s{background:var(--src);color:var(--ink)}tr.src \
           td.n::before{content:'\\25B8';float:left;color:var(--srci)}\n\
+          td.m b{float:left;background:var(--warn);color:var(--paper);border-radius:3px;padding:0 5px;font-size:11px;\
+          line-height:17px;cursor:pointer}\n\
+          #t.live tr.w{display:none}#t.live tr.told+tr.w,#t.live tr:focus-within+tr.w{display:table-row}\n\
+          #t td.w{border-left:3px solid var(--warn);padding:2px 8px 5px;font:12px/1.45 system-ui,'DejaVu Sans',sans-serif}#t td.w \
+          p{margin:0;color:var(--ink)}\n\
           #t td.o.on{background:var(--src);box-shadow:inset 4px 0 0 var(--srci)}\n\
           #t tr.hit td.c,#t tr.hit td.o,#t tr.hit td.a{text-decoration:underline 2px var(--srci);text-underline-offset:3px}\n\
           .four{display:grid;grid-template-columns:repeat(auto-fit,minmax(min(270px,100%),1fr));gap:0 32px;align-items:start}\n\
@@ -91,6 +98,8 @@ fn put_style(out: Output) -> Result<(), Unwritten> {
           td.i:empty,#t tr.gone td.m,#t tr.gone td.o{display:none}\n\
           #t td.o{font-size:13.5px}#t td.c,#t td.o{padding-left:calc(4px + 2ch + min(var(--d,0),6)*1.5ch)}td.m{color:var(--ink);\
           font-weight:600}tr.kept td.c{color:var(--soft)}\n\
+          #t tr.w,#t.live tr.told+tr.w,#t.live tr:focus-within+tr.w{display:block;padding:0 0 6px}#t.live tr.w{display:none}#t tr.w \
+          td:not(.w){display:none}\n\
           .g,.g tbody,.g tr,.g td{display:block}.g thead{display:none}.g tr{position:relative;padding:4px 0 4px 1.8em;\
           border-top:1px solid var(--line)}.q.g td{border:0;width:auto;padding:0}\n\
           .g td:first-child{position:absolute;left:0}.g td.h{width:auto}}\n\
@@ -102,6 +111,8 @@ fn put_style(out: Output) -> Result<(), Unwritten> {
           col.n{width:28px}col.a{width:60px}col.s{width:16px}col.i{width:56px}col.m{width:36px}col.p{width:108px}\n\
           .four{grid-template-columns:repeat(4,1fr);gap:0 20px}table.q,.q thead th{font-size:9px;line-height:1.35}.q th,.q td{\
           padding:1px 8px 1px 0}code{font-size:8.5px}.z{margin:2px 0 4px}\n\
+          #t.live tr.w,#t tr.w{display:table-row;break-before:avoid}#t td.w{font-size:8px;padding:0 6px 2px}td.m b{\
+          font-size:8px;line-height:11px;padding:0 3px}\n\
           thead{display:table-header-group}tr{break-inside:avoid}td.o:focus{outline:none}\n\
           *{print-color-adjust:exact;-webkit-print-color-adjust:exact}}\n\
           </style>\n",
@@ -142,6 +153,20 @@ fn put_caveat(out: Output, profile: bool) -> Result<(), Unwritten> {
     )
 }
 
+// How many cleaned lines are cautioned, of how many, and what it means where one is not.
+fn put_cautioned(out: Output, cleaning: &Cleaning) -> Result<(), Unwritten> {
+    put(out, b"<p class=l id=w><b>Cautioned lines: ")?;
+    put_number(out, count_of(count_cautioned(cleaning.cautions)))?;
+    put(out, b" of ")?;
+    put_number(out, count_of(count_sizes(cleaning.cleaned).lines))?;
+    put(
+        out,
+        b"</b>. Each has the sign <span class=\"key kw\">!</span> and its words below it: click it. Of a line without one: ",
+    )?;
+    put(out, silence())?;
+    put(out, b".</p>\n")
+}
+
 // The legend, the bar that tells what is marked, and the head of the two listings.
 fn put_legend(out: Output) -> Result<(), Unwritten> {
     put(
@@ -170,7 +195,7 @@ pub(crate) fn put_head(out: Output, cleaning: &Cleaning) -> Result<(), Unwritten
           <head>\n\
           <meta charset=utf-8>\n\
           <meta http-equiv=\"Content-Security-Policy\" content=\"default-src 'none'; style-src 'unsafe-inline'; script-src \
-          'sha256-Lt59/Y33ZjxJv9SfCDJMEdQZbrx2seosnoGqtN9Lhl8='\">\n\
+          'sha256-Hbdv+Y7F5P7HkAFyPpHX+01lV60eUGvzTLo1dfx10Uk='\">\n\
           <meta name=viewport content=\"width=device-width\">\n\
           <title>",
     )?;
@@ -181,6 +206,7 @@ pub(crate) fn put_head(out: Output, cleaning: &Cleaning) -> Result<(), Unwritten
     put_text(out, 8, name)?;
     put(out, b"</h1>\n")?;
     put_caveat(out, cleaning.rules.profile)?;
+    put_cautioned(out, cleaning)?;
     put_legend(out)
 }
 
@@ -195,17 +221,18 @@ pub(crate) fn put_foot(out: Output) -> Result<(), Unwritten> {
           (function(){'use strict';\n\
           function $(i){return document.getElementById(i);}\n\
           var t=$('t'),b=$('b'),m=$('m'),y=$('y'),s=$('s'),r=$('r'),idle=m.textContent,on=null,asked=null,hit=null;\n\
-          var rows=Array.from(t.tBodies[0].rows),cells=Array.from(t.querySelectorAll('td.o[data-q]')),at={};\n\
+          var rows=Array.from(t.querySelectorAll('tr[data-k]')),cells=Array.from(t.querySelectorAll('td.o[data-q]')),at={};\n\
           cells.forEach(function(x,i){x.tabIndex=i?-1:0;at[x.dataset.q]=x;});\n\
           t.classList.add('live');$('f').hidden=false;\n\
           function into(row){return row.dataset.into.split(' ').filter(Boolean);}\n\
           function from(q){return rows.filter(function(row){return into(row).indexOf(q)>=0;});}\n\
           function part(row,c){return row.querySelector('td.'+c).textContent;}\n\
-          function clear(){rows.forEach(function(row){row.classList.remove('src');});if(on){on.classList.remove('on');}on=null;\
+          function clear(){rows.forEach(function(row){row.classList.remove('src');});\
+          if(on){on.classList.remove('on');on.parentNode.classList.remove('told');}on=null;\
           \n\
           m.textContent=idle;b.className='idle';y.hidden=true;}\n\
           function mark(x){clear();var q=x.dataset.q,f=from(q);f.forEach(function(row){row.classList.add('src');});on=x;\
-          x.classList.add('on');\n\
+          x.classList.add('on');x.parentNode.classList.add('told');\n\
           b.className='';y.hidden=false;y.textContent='Copy with its raw lines';\n\
           m.textContent='Cleaned line '+q+': from raw line'+(f.length==1?' ':'s ')+f.map(function(row){return row.dataset.k;}\
           ).join(', ')+'; '+\n\
@@ -222,7 +249,8 @@ pub(crate) fn put_foot(out: Output) -> Result<(), Unwritten> {
           go(at[q[i]]);if(q.length>1){m.textContent+=' Raw line '+k+' came into '+q.length+' cleaned lines: click it again for \
           the next.';}}\n\
           t.addEventListener('click',function(e){if(!getSelection().isCollapsed){return;}\n\
-          var x=e.target.closest('td.o[data-q]'),row=e.target.closest('tbody tr');if(x){asked=null;go(x);}else if(row){\
+          var u=e.target.closest('td.m'),x=u?u.parentNode.querySelector('td.o[data-q]'):e.target.closest('td.o[data-q]'),\
+          row=e.target.closest('tr[data-k]');if(x){asked=null;go(x);}else if(row){\
           turn(row);}});\n\
           function screen(i,d){var top=cells[i].getBoundingClientRect().top,h=innerHeight-b.offsetHeight-24,j=i;\n\
           while(cells[j+d]&&Math.abs(cells[j+d].getBoundingClientRect().top-top)<=h){j+=d;}return j===i&&cells[i+d]?i+d:j;}\n\
@@ -249,8 +277,10 @@ pub(crate) fn put_foot(out: Output) -> Result<(), Unwritten> {
           s.addEventListener('keydown',function(e){if(e.key=='Enter'){find(e.shiftKey?-1:1);e.preventDefault();}else \
           if(e.key=='Escape'){s.value='';drop();}});\n\
           s.addEventListener('input',drop);\n\
+          function words(x){var w=x.parentNode.nextElementSibling;return \
+          w&&w.className=='w'?Array.from(w.querySelectorAll('p')):[];}\n\
           function said(x){var q=x.dataset.q,p=x.dataset.span;return 'cleaned '+q+(p?' ('+p+')':'')+': \
-          '+x.textContent+'\\n'+from(q).map(function(row){\n\
+          '+x.textContent+'\\n'+words(x).map(function(p){return '  '+p.textContent+'\\n';}).join('')+from(q).map(function(row){\n\
           var a=part(row,'a');return '  raw '+row.dataset.k+(a?' ('+a+')':'')+': '+part(row,'c')+'\\n';}).join('');}\n\
           function put(e,text){e.clipboardData.setData('text/plain',text);e.preventDefault();e.stopImmediatePropagation();}\n\
           y.addEventListener('click',function(){if(!on){return;}var text=said(on),h=function(e){put(e,text);};\n\

@@ -14,13 +14,15 @@ use ground::rules::Rules;
 pub use sink::{Sink, count_of};
 use sink::{Output, Unwritten};
 
-// A cleaning: its settings, the name of the tape's file, the tape before and after, and what is told of the run.
+// A cleaning: its settings, the name of the tape's file, the tape before and after, the set of cautions of each cleaned line (two bytes, as
+// the library's call writes them), and what is told of the run.
 #[derive(Clone, Copy)]
 pub struct Cleaning<'a> {
     pub rules: Rules,
     pub name: &'a [u8],
     pub raw: &'a [u8],
     pub cleaned: &'a [u8],
+    pub cautions: &'a [u8],
     pub told: Finished,
 }
 

@@ -5,6 +5,7 @@ ghost use Rattle.render.specs.Rows.{class_of, sign_of};
 
 use crate::Cleaning;
 use crate::sink::{Output, Unwritten, count_of, put, put_hex, put_number};
+use caution_words::set_at;
 use sources::came_into;
 use tallies::{Fate, Line, Lines, fate_of, first_addressed, line_at};
 
@@ -148,13 +149,41 @@ fn put_arrow(out: Output, flags: &[u8]) -> Result<(), Unwritten> {
     )
 }
 
-// A cleaned line, number q from 0, with its marks.
-fn put_cleaned(out: Output, line: Line, q: usize) -> Result<(), Unwritten> {
+// What names the words of a cautioned line, for whoever is told of the line.
+fn put_described(out: Output, set: u16, number: u64) -> Result<(), Unwritten> {
+    if set == 0 {
+        return Ok(());
+    }
+    put(out, b" aria-describedby=w")?;
+    put_number(out, number)
+}
+
+// The words of a cautioned line, in a row of their own below it.
+fn put_words(out: Output, set: u16, number: u64) -> Result<(), Unwritten> {
+    if set == 0 {
+        return Ok(());
+    }
+    let mut words = [0u8; 15000];
+    let n = page::put_cautions(set, &mut words);
+    put(
+        out,
+        b"<tr class=w><td colspan=5></td><td class=m></td><td class=w colspan=2 id=w",
+    )?;
+    put_number(out, number)?;
+    put(out, b">")?;
+    put(out, words.get(..n).unwrap_or_default())?;
+    put(out, b"</td></tr>\n")
+}
+
+// A cleaned line, number q from 0, with its marks, and with a sign where it has cautions.
+fn put_cleaned(out: Output, line: Line, q: usize, set: u16) -> Result<(), Unwritten> {
     let number = count_of(q.saturating_add(1));
     put(out, b"</td><td class=m>")?;
+    put(out, if set == 0 { b"" } else { b"<b>!</b>" })?;
     put_number(out, number)?;
     put(out, b"</td><td class=o data-q=")?;
     put_number(out, number)?;
+    put_described(out, set, number)?;
     put(out, b" data-span=\"")?;
     put_marks(out, line.marks())?;
     put(out, b"\" style=\"--d:")?;
@@ -163,7 +192,8 @@ fn put_cleaned(out: Output, line: Line, q: usize) -> Result<(), Unwritten> {
     put_tokens(out, line)?;
     put(out, b"</td><td class=p>")?;
     put_marks(out, line.marks())?;
-    put(out, b"</td></tr>\n")
+    put(out, b"</td></tr>\n")?;
+    put_words(out, set, number)
 }
 
 // Notes which finished line became of line k.
@@ -186,7 +216,7 @@ pub(crate) fn put_rows(
         put_raw(out, fate, raw, k, &flags)?;
         match became.and_then(|q| Some((q, line_at(cleaning.cleaned, q)?))) {
             Some((q, line)) => {
-                put_cleaned(out, line, q)?;
+                put_cleaned(out, line, q, set_at(cleaning.cautions, q))?;
                 note(places, k, q);
             }
             None => put_arrow(out, &flags)?,

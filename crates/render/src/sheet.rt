@@ -3,7 +3,8 @@
 // counts (its theorem `ticks` says how they must come out).
 use crate::Cleaning;
 use crate::sink::{Output, Unwritten, count_of, put, put_number, put_text};
-use clean::{Finished, Tally};
+use caution_words::count_cautioned;
+use clean::Tally;
 use ground::kinds::SYMBOL;
 use ground::rules::Rules;
 use tallies::{
@@ -186,7 +187,13 @@ fn put_tally(out: Output, tally: Tally) -> Result<(), Unwritten> {
     }
 }
 
-fn put_counts(out: Output, lines: usize, left: usize, told: Finished) -> Result<(), Unwritten> {
+fn put_counts(
+    out: Output,
+    cleaning: &Cleaning,
+    lines: usize,
+    left: usize,
+) -> Result<(), Unwritten> {
+    let told = cleaning.told;
     put(
         out,
         b"<div><h3>Counts</h3><table class=q><tbody id=counts>\n",
@@ -196,6 +203,11 @@ fn put_counts(out: Output, lines: usize, left: usize, told: Finished) -> Result<
     put_entry(out, b"lines removed", told.removed)?;
     put_entry(out, b"results cut", told.cut)?;
     put_tally(out, told.tally)?;
+    put_entry(
+        out,
+        b"lines cautioned",
+        count_of(count_cautioned(cleaning.cautions)),
+    )?;
     put(out, b"</tbody></table></div>\n")
 }
 
@@ -234,7 +246,7 @@ fn put_settings(out: Output, rules: Rules) -> Result<(), Unwritten> {
     put_yes(out, b"parts told apart", rules.parts)?;
     put_yes(out, b"profile of straight pieces", rules.profile)?;
     put_yes(out, b"until it settles", rules.settle)?;
-    put_said(out, b"version", b"puchkewa 0.15.0")?;
+    put_said(out, b"version", b"puchkewa 0.16.0")?;
     put(out, b"</tbody></table></div>\n")
 }
 
@@ -404,7 +416,7 @@ pub(crate) fn put_sheet(
     )?;
     put_calls(out, cleaning)?;
     put_labels(out, cleaning, places)?;
-    put_counts(out, before.lines, after.lines, cleaning.told)?;
+    put_counts(out, cleaning, before.lines, after.lines)?;
     put_settings(out, cleaning.rules)?;
     put(out, b"</div>\n")?;
     put_guarantee(out, cleaning, before, after, places)?;

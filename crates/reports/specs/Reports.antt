@@ -59,10 +59,10 @@ unfoldable pub tallied : R.Tally → Text
 tallied (R.three first second third) = three first second third
 tallied (R.settled rounds attempts) = settled rounds attempts
 
-unfoldable pub counts : ℕ → R.Tally → ℕ → ℕ → Text
-counts size tally removed cut =
+unfoldable pub counts : ℕ → R.Tally → ℕ → ℕ → ℕ → Text
+counts size tally removed cut cautioned =
     bytes "length " ++ decimal size ++ tallied tally ++ bytes ", lines removed " ++ decimal removed ++ bytes ", results cut " ++ decimal cut
-    ++ (10 ∷ [])
+    ++ bytes ", lines cautioned " ++ decimal cautioned ++ (10 ∷ [])
 
 -- ---- a start value (request M-107)
 

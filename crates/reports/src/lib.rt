@@ -172,17 +172,25 @@ fn put_tally(tally: Tally, out: &mut Cursor)
 }
 
 // Puts the line of what a cleaning did at the front, and says how long it is.
-// Kept: four values in place of crate clean's `Finished`: for that one type reports would rest on clean, and by it on tape, tables and
+// Kept: its values in place of crate clean's `Finished`: for that one type reports would rest on clean, and by it on tape, tables and
 // formula.
-pub fn put_counts(size: u64, tally: Tally, removed: u64, cut: u64, out: &mut [u8]) -> usize
+pub fn put_counts(
+    size: u64,
+    tally: Tally,
+    removed: u64,
+    cut: u64,
+    cautioned: u64,
+    out: &mut [u8],
+) -> usize
     requires { 256 ≤ length out.old }
-    ensures { Written out.old 0 (counts size (tally_of tally) removed cut) out.new result }
+    ensures { Written out.old 0 (counts size (tally_of tally) removed cut cautioned) out.new result }
 {
     let mut line = Cursor::new(out, 0);
     put_named(b"length ", size, &mut line);
     put_tally(tally, &mut line);
     put_named(b", lines removed ", removed, &mut line);
     put_named(b", results cut ", cut, &mut line);
+    put_named(b", lines cautioned ", cautioned, &mut line);
     line.put(b"\n");
     line.at
 }

@@ -23,6 +23,7 @@ use Rattle.join.specs.declared.workspace.Workspace.{Workspace}
 use Rattle.join.specs.Contents.{Contents, contents, used_lines, listing_now, bare_now}
 use Rattle.join.specs.Attempts.{Attemptable}
 use Rattle.life.specs.Labels.{Gathered}
+use Rattle.raising.specs.declared.tables.Raising.{Raising}
 use Rattle.rounds.specs.declared.rounds.Round.{Round}
 use Rattle.plan.specs.Slots.{Gathers}
 use Rattle.rounds.specs.Rounds.{Made, attempts_with}
@@ -49,6 +50,7 @@ module _ {tape : Text} {w : Workspace} {at : Size} (b : Runnable tape w at) wher
       current = b.current;
       limits = b.limits;
       lent = b.lent;
+      words_short = b.words_short;
       labelled = gathered_labelled tape (used s.area at) (used_words s.tokens at) (used_lines s) l;
       slotted = slotted_of _ _ (bare_now s) g.holds g.names_are;
       for_marks = b.for_marks;
@@ -64,8 +66,8 @@ module _ {tape : Text} {w : Workspace} {at : Size} (b : Runnable tape w at) wher
         gathered_labels tape (used s.area at) (used_words s.tokens at) (used_lines s) l addresses in
         round_begins rules _ ∙ rw (names, first)
 
-    pub begin_made : (rules : Rules) {s' : Contents} {r : Round} → Made (attempts_with rules (slot_names slots) s (take n after)) s s' r
-        → Made (propagate_once rules) s s' r
+    pub begin_made : (rules : Rules) {t : Raising} {s' : Contents} {t' : Raising} {r : Round}
+        → Made rules (attempts_with rules (slot_names slots) s (take n after)) s t s' t' r → Made rules (propagate_once rules) s t s' t' r
     begin_made rules m = record {
       current = m.current;
       limits = m.limits;
@@ -74,4 +76,6 @@ module _ {tape : Text} {w : Workspace} {at : Size} (b : Runnable tape w at) wher
       attempts_are = λ addresses. rw (round_is rules addresses) (m.attempts_are addresses);
       removed_is = λ addresses. rw (round_is rules addresses) (m.removed_is addresses);
       marks = λ addresses. rw (round_is rules addresses) (m.marks addresses);
+      kept = m.kept;
+      raised = λ addresses. rw (round_is rules addresses) (m.raised addresses);
     }

@@ -18,6 +18,7 @@ use Rattle.build.specs.State.{used}
 use Rattle.build.specs.Added.{used_words}
 use Rattle.join.specs.Current as slices
 use Rattle.join.specs.Contents.{Contents}
+use Rattle.raising.specs.declared.tables.Raising.{Raising}
 use Rattle.rounds.specs.Carries.{Carries}
 use Rattle.rounds.specs.declared.run.Progress.{Progress}
 use Rattle.rounds.specs.Runs.{SameListing, Rounded}
@@ -60,7 +61,7 @@ module _ {tape area : Text} {tokens lines : List ℕ} {at : Size} {lines' : List
   abbrev with_lines : List ℕ → List ℕ → List ℕ → Contents
   with_lines ls lows highs = record { tape = tape; area = area; tokens = tokens; lines = ls; size = at; lows = lows; highs = highs }
 
-  bare_same : slices.bare_now tape area tokens lines' at ≡ slices.bare_now tape area tokens lines at
+  pub bare_same : slices.bare_now tape area tokens lines' at ≡ slices.bare_now tape area tokens lines at
   bare_same = bare_is (with_lines lines' [] []) numbered ∙ ap bare_lines (s.means numbered) ∙ sym (bare_is (with_lines lines [] []) numbered)
 
   pub limits_same : RunLimits (slices.bare_now tape area tokens lines at) → RunLimits (slices.bare_now tape area tokens lines' at)
@@ -73,12 +74,14 @@ module _ {tape area : Text} {tokens lines : List ℕ} {at : Size} {lines' : List
         let b = with_lines lines' lows highs in
         carries_same a b refl refl (numbers_same a b (ap (map (λ l. l.address)) (s.means numbered)))
 
-    pub rounded_same : {rules : Rules} {left : Contents} {r : Progress} → Rounded rules (with_lines lines' lows highs) left r
-        → Rounded rules (with_lines lines lows highs) left r
+    pub rounded_same : {rules : Rules} {t : Raising} {left : Contents} {t' : Raising} {r : Progress} → Rounded rules (with_lines lines' lows highs) t left t' r
+        → Rounded rules (with_lines lines lows highs) t left t' r
     rounded_same {left = left} m = record {
       current = m.current;
       limits = m.limits;
       left = λ addresses. rw (s.means addresses) at (m.left addresses);
       counted = λ addresses. rw (s.means addresses) at (m.counted addresses);
       marks = λ addresses. carries_then [] _ (with_lines lines lows highs) (with_lines lines' lows highs) left stays (rw (s.means addresses) at (m.marks addresses));
+      kept = m.kept;
+      raised = λ addresses. rw (s.means addresses, bare_same) at (m.raised addresses);
     }

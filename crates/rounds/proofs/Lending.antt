@@ -92,6 +92,7 @@ module _ {w w' : Workspace} (s : SameLent w w') where
       current = current;
       limits = limits;
       lent = lent_again b.lent;
+      words_short = omega (arith, b.words_short, s.tokens_length);
       labelled = labelled;
       slotted = b.slotted;
       for_marks = omega (arith, b.for_marks, s.marks_length);

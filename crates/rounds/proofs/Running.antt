@@ -22,16 +22,26 @@ use Rattle.lines.specs.declared.texts.Size.{Size}
 use Rattle.build.specs.State.{used}
 use Rattle.build.specs.Added.{used_words}
 use Rattle.join.specs.Contents.{Contents, used_lines, listing_now, bare_now, Current}
+use Rattle.cautions.specs.Joins.{none_yet}
+use Rattle.cautions.specs.Cautions.{with_cuts, cuts_of, carry, kept_cautions}
+use Rattle.cautions.proofs.Bare.{none_bare}
+use Rattle.raising.specs.declared.tables.Raising.{Raising}
+use Rattle.raising.specs.Tables.{is_on, Kept, SameLent, sets_now}
+use Rattle.raising.proofs.Lending.{on_as_before}
 use Rattle.rounds.specs.declared.rounds.Round.{Round}
 use Rattle.rounds.specs.declared.run.Outcome.{Outcome}
 use Rattle.rounds.specs.declared.run.Progress.{Progress}
 use Rattle.rounds.specs.declared.run.Tally as Code
 use Rattle.rounds.specs.Carries.{Carries}
 use Rattle.cuts.specs.Cuts.{Cut}
+use Rattle.cuts.specs.Cautions.{dead_cuts, CutsRaised}
+use Rattle.lines.proofs.words.Lines.{bare-means}
+use Rattle.rounds.specs.Cautions.{CautionsKept}
 use Rattle.rounds.specs.Rounds.{Made}
 use Rattle.rounds.specs.Runs.{most_rounds, after_round, Few, Counted, Rounded, tally_of, told_of, counts_of, Ran}
 use Rattle.rounds.proofs.Carrying.{carries_none, carries_then, carries_same, numbers_same, cuts-addresses}
-use Rattle.rounds.proofs.Turning.{removals_append, now-length, now-few}
+use Rattle.rounds.proofs.Cautioning.{raises_none, raises_then}
+use Rattle.rounds.proofs.Turning.{On, after_append, removals_append, now-length, now-few}
 
 -- ---- the rounds from a listing on: one, and those after it
 
@@ -77,6 +87,12 @@ after_snoc : (lines : Listing) (done : List (List Attempt)) (round : List Attemp
 unfolding after_rounds
 after_snoc lines [] round = refl
 after_snoc lines (first ∷ done) round = after_snoc (after_attempts lines first) done round
+
+-- all attempts of the rounds leave what the rounds leave
+after_flatten : (lines : Listing) (rounds : List (List Attempt)) → after_attempts lines (flatten rounds) ≡ after_rounds lines rounds
+unfolding flatten after_rounds after_attempts
+after_flatten lines [] = refl
+after_flatten lines (first ∷ rest) = after_append lines first (flatten rest) ∙ after_flatten (after_attempts lines first) rest
 
 flatten_snoc : (done : List (List Attempt)) (round : List Attempt) → flatten (done ++ (round ∷ [])) ≡ flatten done ++ round
 unfolding flatten
@@ -136,7 +152,8 @@ module _ (rules : Rules) (most : ℕ) (start : Listing) where
   module _ {more : ℕ} {s : Progress} {lines : Listing} {P : List Attempt → Type 0} (u : Sofar rules most more start s lines P) where
     sofar-next : 1 ≤ more → (r : Round) {lines' : Listing} → lines' ≡ after_attempts lines (propagate_once rules lines)
         → r.attempts ≡ length (propagate_once rules lines) → r.removed ≡ removals (propagate_once rules lines)
-        → {Q : List Attempt → Type 0} → ((done : List Attempt) → P done → Q (done ++ propagate_once rules lines))
+        → {Q : List Attempt → Type 0}
+        → ((done : List Attempt) → after_attempts start done ≡ lines → P done → Q (done ++ propagate_once rules lines))
         → Sofar rules most (rounds_left more r.removed) start (after_round s r) lines' Q
     sofar-next h r el ea er next =
         let round : List Attempt = propagate_once rules lines in
@@ -147,7 +164,7 @@ module _ (rules : Rules) (most : ℕ) (start : Listing) where
               (u.made ∙ ap (λ (rest : List (List Attempt)). u.done ++ rest) (rounds_more rules more lines h) ∙ sym (append_snoc u.done round _));
           counted = counted_next u.counted round r ea er;
           left = after_snoc start u.done round ∙ ap (λ (ls : Listing). after_attempts ls round) u.left ∙ sym el;
-          said = rw (flatten_snoc u.done round) (next (flatten u.done) u.said);
+          said = rw (flatten_snoc u.done round) (next (flatten u.done) (after_flatten start u.done ∙ u.left) u.said);
         }
 
     sofar_end : more ≡ 0
@@ -158,34 +175,36 @@ module _ (rules : Rules) (most : ℕ) (start : Listing) where
         u.made ∙ ap (λ (n : ℕ). u.done ++ rounds_from rules n lines) h ∙ append-nil u.done in
         rw all (sym u.left, u.counted, u.said)
 
--- the rounds stand at p, and at most `more` are to come: what began as the first listing is now the second
-pub record Going (rules : Rules) (s₀ : Contents) (most more : ℕ) (s : Contents) (p : Progress) : Type 0 where
+-- the rounds stand at p, and at most `more` are to come: what began as the first listing, with the tables t₀, is now the second, with the tables t
+pub record Going (rules : Rules) (s₀ : Contents) (t₀ : Raising) (most more : ℕ) (s : Contents) (t : Raising) (p : Progress) : Type 0 where
   pub current : Current s
   pub limits : RunLimits (bare_now s)
   pub few : Few p
   pub rounds : p.made + more ≤ 257
-  pub sofar : (addresses : Reading) → Sofar rules most more (listing_now s₀ addresses) p (listing_now s addresses) (λ done. Carries done s₀ s)
+  pub kept : Kept (bare_now s) t
+  pub sofar : (addresses : Reading) → Sofar rules most more (listing_now s₀ addresses) p (listing_now s addresses) (On rules (listing_now s₀ addresses) s₀ t₀ s t)
 
 most-few : (settle : Bool) {n : ℕ} → n ≤ 256 → most_rounds settle n ≤ 257
 unfolding most_rounds when◌then◌else◌
 most-few true h = omega arith
 most-few false h = omega arith
 
-module _ {rules : Rules} {s₀ : Contents} where
-  pub going_begin : Current s₀ → RunLimits (bare_now s₀) → {most : ℕ} → most ≡ most_rounds rules.settle s₀.size.lines
-      → Going rules s₀ most most s₀ (begin s₀.size)
-  going_begin current limits e =
+module _ {rules : Rules} {s₀ : Contents} {t₀ : Raising} where
+  pub going_begin : Current s₀ → RunLimits (bare_now s₀) → Kept (bare_now s₀) t₀ → {most : ℕ} → most ≡ most_rounds rules.settle s₀.size.lines
+      → Going rules s₀ t₀ most most s₀ t₀ (begin s₀.size)
+  going_begin current limits k e =
       record {
         current = current;
         limits = limits;
         few = record { rounds = omega arith; attempts = omega arith; removed = omega arith };
         rounds = omega (arith, e, most-few rules.settle (now-few s₀ current limits));
-        sofar = λ addresses. sofar_begin rules _ _ s₀.size (carries_none s₀);
+        kept = k;
+        sofar = λ addresses. sofar_begin rules _ _ s₀.size (carries_none s₀, raises_none rules (listing_now s₀ addresses) s₀ t₀);
       }
 
-  module _ {most more : ℕ} {s : Contents} {p : Progress} (g : Going rules s₀ most more s p) where
-    module _ (h : 1 ≤ more) {s' : Contents} {r : Round} (m : Made (propagate_once rules) s s' r) where
-      going_round : Going rules s₀ most (rounds_left more r.removed) s' (after_round p r)
+  module _ {most more : ℕ} {s : Contents} {t : Raising} {p : Progress} (g : Going rules s₀ t₀ most more s t p) where
+    module _ (lent : SameLent t₀ t) (h : 1 ≤ more) {s' : Contents} {t' : Raising} {r : Round} (m : Made rules (propagate_once rules) s t s' t' r) where
+      going_round : Going rules s₀ t₀ most (rounds_left more r.removed) s' t' (after_round p r)
       unfolding rounds_left when◌then◌else◌
       going_round =
           record {
@@ -198,9 +217,13 @@ module _ {rules : Rules} {s₀ : Contents} where
                   removed = omega (arith, g.few.removed, m.few);
                 };
             rounds = omega (arith, g.rounds, h, fewer (eqb r.removed 0));
+            kept = m.kept;
             sofar = λ addresses.
                 sofar-next rules most _ (g.sofar addresses) h r (m.left addresses) (m.attempts_are addresses) (m.removed_is addresses)
-                (λ done had. carries_then done _ s₀ s s' had (m.marks addresses));
+                (λ done left had. (
+                  carries_then done _ s₀ s s' had.0 (m.marks addresses),
+                  raises_then rules (listing_now s₀ addresses) s₀ t₀ done _ s t s' t' (on_as_before lent) had.1 (rw left (m.raised addresses)),
+                ));
           }
         where
           fewer : (b : Bool) → (when b then 0 else more - 1) ≤ more - 1
@@ -208,16 +231,16 @@ module _ {rules : Rules} {s₀ : Contents} where
           fewer false = omega arith
 
       -- after a round that removed something
-      pub going_next : (r.removed ≡ 0 → ⊥) → Going rules s₀ most (more - 1) s' (after_round p r)
+      pub going_next : (r.removed ≡ 0 → ⊥) → Going rules s₀ t₀ most (more - 1) s' t' (after_round p r)
       unfolding rounds_left
       going_next n = rw (if-false 0 (more - 1) (ne_eqb r.removed 0 n)) at going_round
 
       -- and after one that removed nothing
-      pub going_last : r.removed ≡ 0 → Going rules s₀ most 0 s' (after_round p r)
+      pub going_last : r.removed ≡ 0 → Going rules s₀ t₀ most 0 s' t' (after_round p r)
       unfolding rounds_left
       going_last e = rw (if-true 0 (more - 1) (eq-eqb r.removed 0 e)) at going_round
 
-    pub going_end : Current s₀ → most ≡ most_rounds rules.settle s₀.size.lines → more ≡ 0 → Rounded rules s₀ s p
+    pub going_end : Current s₀ → most ≡ most_rounds rules.settle s₀.size.lines → more ≡ 0 → Rounded rules s₀ t₀ s t p
     unfolding run attempts_of
     going_end current e h =
         let most_is : (addresses : Reading) → limit rules (listing_now s₀ addresses) ≡ most =
@@ -227,7 +250,9 @@ module _ {rules : Rules} {s₀ : Contents} where
           limits = g.limits;
           left = λ addresses. rw (most_is addresses) (sofar_end rules most _ (g.sofar addresses) h).0;
           counted = λ addresses. rw (most_is addresses) (sofar_end rules most _ (g.sofar addresses) h).1;
-          marks = λ addresses. rw (most_is addresses) (sofar_end rules most _ (g.sofar addresses) h).2;
+          marks = λ addresses. rw (most_is addresses) (sofar_end rules most _ (g.sofar addresses) h).2.0;
+          kept = g.kept;
+          raised = λ addresses. rw (most_is addresses) (sofar_end rules most _ (g.sofar addresses) h).2.1;
         }
 
 -- ---- the cuts
@@ -236,7 +261,7 @@ cuts_are : (rules : Rules) (lines : Listing) → (run rules lines).cuts ≡ drop
 unfolding run
 cuts_are rules lines = refl
 
-module _ (rules : Rules) {s s' : Contents} {p : Progress} (m : Rounded rules s s' p) (left : List ℕ) {k : ℕ}
+module _ (rules : Rules) {s : Contents} {t₀ : Raising} {s' : Contents} {t₁ : Raising} {p : Progress} (m : Rounded rules s t₀ s' t₁ p) (left : List ℕ) {k : ℕ}
     (c : Cut (drop_dead_results rules) s'.tape (used s'.area s'.size) (used_words s'.tokens s'.size) (used_lines s') (take s'.size.lines left) k)
     (e : length left ≡ length s'.lines) (t : Code.Tally) (et : tally_of t ≡ told_of rules.settle p) where
   -- the tables, with the lines that are left
@@ -280,3 +305,19 @@ module _ (rules : Rules) {s s' : Contents} {p : Progress} (m : Rounded rules s s
     counts = counted;
     marks = marks_left;
   }
+
+  -- The cautions: `old` are the tables that were lent; begun, they are t₀, with no kind on any line.
+  pub run-cautioned : (old : Raising) {t₂ : Raising} → is_on t₀ ≡ is_on old → (is_on old ≡ true → sets_now (bare_now s) t₀ ≡ none_yet (bare_now s)) → is_on t₁ ≡ is_on t₀
+      → CutsRaised rules (dead_cuts rules) s'.tape (used s'.area s'.size) (used_words s'.tokens s'.size) (used_lines s') t₁ (take s'.size.lines left) t₂
+      → CautionsKept rules s cut old t₂
+  unfolding kept_cautions
+  run-cautioned old e₀ none e₁ d on addresses =
+      let before : Listing = listing_now s addresses in
+      let on₀ = e₀ ∙ on in
+      let first : sets_now (bare_now s) t₀ ≡ none_yet before =
+      none on ∙ ap none_yet (bare-means s.tape (used s.area s.size) (used_words s.tokens s.size) addresses (used_lines s)) ∙ none_bare before in
+      let carried : sets_now (bare_now s') t₁ ≡ carry rules before (attempts_of (run rules before)) (none_yet before) =
+      m.raised addresses on₀ ∙ ap (carry rules before (attempts_of (run rules before))) first in
+      d.sets (e₁ ∙ on₀) addresses
+      ∙ ap (λ (ls : Listing). with_cuts rules (dead_cuts rules ls) (sets_now (bare_now s') t₁)) (m.left addresses)
+      ∙ ap (with_cuts rules (cuts_of rules before)) carried

@@ -36,14 +36,19 @@ use Rattle.plan.specs.declared.slots.SlotNames.{SlotNames}
 use Rattle.join.specs.declared.workspace.Workspace.{Workspace}
 use Rattle.join.specs.Contents.{Contents, contents, used_lines, listing_now, bare_now, Current}
 use Rattle.join.specs.Attempts.{Attemptable, targets_now}
+use Rattle.raising.specs.declared.tables.Raising.{Raising}
+use Rattle.raising.specs.Tables.{Kept, SameLent}
+use Rattle.raising.proofs.Lending.{on_as_before}
 use Rattle.rounds.specs.declared.rounds.Round.{Round}
+use Rattle.rounds.specs.Cautions.{Raises}
+use Rattle.rounds.proofs.Cautioning.{raises_none, raises_failed, raises_joined, raises_then}
 use Rattle.rounds.specs.Carries.{Carries}
 use Rattle.rounds.specs.Rounds.{Failed, Succeeded, Turned, Countable, Made, attempts_with}
 use Rattle.rounds.proofs.Carrying.{carries_none, carries_failed, carries_joined, carries_then, numbers-remove}
 
 -- ---- what is read off attempts, one after the other
 
-after_append : (lines : Listing) (xs ys : List Attempt) → after_attempts lines (xs ++ ys) ≡ after_attempts (after_attempts lines xs) ys
+pub after_append : (lines : Listing) (xs ys : List Attempt) → after_attempts lines (xs ++ ys) ≡ after_attempts (after_attempts lines xs) ys
 unfolding after_attempts
 after_append lines [] ys = refl
 after_append lines (x ∷ xs) ys = after_append x.left xs ys
@@ -82,7 +87,7 @@ module _ (rules : Rules) (names : List Text) (first : Labels) where
     one_more a e = u.made ∙ ap (λ (r : List Attempt). u.done ++ r) e ∙ sym (append_snoc u.done _ _)
 
     sofar-failed : i < length lines → try_at rules lines i labels names ≡ none → {Q : List Attempt → Type 0}
-        → ((done : List Attempt) → P done → Q (done ++ (failure i lines ∷ []))) → Sofar rules names first start (i + 1) (n + 1) m labels lines Q
+        → ((done : List Attempt) → after_attempts start done ≡ lines → P done → Q (done ++ (failure i lines ∷ []))) → Sofar rules names first start (i + 1) (n + 1) m labels lines Q
     unfolding after_attempts removals when◌then◌else◌
     sofar-failed h e next = record {
       done = u.done ++ (failure i lines ∷ []);
@@ -90,11 +95,11 @@ module _ (rules : Rules) (names : List Text) (first : Labels) where
       counted = length-append u.done _ ∙ ap (λ (k : ℕ). k + 1) u.counted;
       removed = omega (arith, removals_append u.done (failure i lines ∷ []), u.removed);
       left = after_append start u.done _;
-      said = next u.done u.said;
+      said = next u.done u.left u.said;
     }
 
     sofar-succeeded : {lines' : Listing} → i < length lines → try_at rules lines i labels names ≡ some lines' → {Q : List Attempt → Type 0}
-        → ((done : List Attempt) → P done → Q (done ++ (success i (targets rules lines i labels) lines' ∷ [])))
+        → ((done : List Attempt) → after_attempts start done ≡ lines → P done → Q (done ++ (success i (targets rules lines i labels) lines' ∷ [])))
         → Sofar rules names first start (pred i) (n + 1) (m + 1) (shift i labels) lines' Q
     unfolding after_attempts removals when◌then◌else◌
     sofar-succeeded {lines'} h e next = record {
@@ -103,7 +108,7 @@ module _ (rules : Rules) (names : List Text) (first : Labels) where
       counted = length-append u.done _ ∙ ap (λ (k : ℕ). k + 1) u.counted;
       removed = omega (arith, removals_append u.done (success i (targets rules lines i labels) lines' ∷ []), u.removed);
       left = after_append start u.done _;
-      said = next u.done u.said;
+      said = next u.done u.left u.said;
     }
 
     sofar_end : length lines ≤ i
@@ -146,34 +151,43 @@ back (suc i) = omega arith
 abbrev pub left_over : ℕ → Round → ℕ
 left_over lines r = lines + lines - r.next
 
--- a round stands at r: what began as the first listing is now the second
-pub record Rounding (rules : Rules) (names : List Text) (s₀ : Contents) (labels₀ : List ℕ) (s : Contents) (labels : List ℕ) (r : Round) : Type 0 where
+-- what the attempts made so far carry on
+abbrev pub On : Rules → Listing → Contents → Raising → Contents → Raising → List Attempt → Type 0
+On rules lines s₀ t₀ s t done = Carries done s₀ s × Raises rules lines done s₀ t₀ s t
+
+-- a round stands at r: what began as the first listing, with the tables t₀, is now the second, with the tables t
+pub record Rounding (rules : Rules) (names : List Text) (s₀ : Contents) (t₀ : Raising) (labels₀ : List ℕ) (s : Contents) (t : Raising) (labels : List ℕ)
+    (r : Round) : Type 0 where
   pub current : Current s
   pub limits : RunLimits (bare_now s)
   pub labelled : Labelled (bare_now s) labels
   pub few : r.attempts + left_over s.size.lines r ≤ 512
   pub fewer : r.removed ≤ r.attempts
+  pub kept : Kept (bare_now s) t
   pub sofar : (addresses : Reading)
       → Sofar rules names (labels_at (bare_now s₀) labels₀) (listing_now s₀ addresses) r.next r.attempts r.removed (labels_at (bare_now s) labels)
-      (listing_now s addresses) (λ done. Carries done s₀ s)
+      (listing_now s addresses) (On rules (listing_now s₀ addresses) s₀ t₀ s t)
 
 pub rounding_begin : {rules : Rules} {tape : Text} {w : Workspace} {labels : List ℕ} {slots : SlotNames} {at : Size} → Attemptable tape w labels slots at
-    → Rounding rules (slot_names slots) (contents tape w at) labels (contents tape w at) labels (record { next = 0; attempts = 0; removed = 0; size = at })
-rounding_begin {rules} {tape} {w} {labels} {slots} {at} b = record {
+    → {t : Raising} → Kept (bare_now (contents tape w at)) t
+    → Rounding rules (slot_names slots) (contents tape w at) t labels (contents tape w at) t labels (record { next = 0; attempts = 0; removed = 0; size = at })
+rounding_begin {rules} {tape} {w} {labels} {slots} {at} b {t} k = record {
   current = b.current;
   limits = b.limits;
   labelled = b.labelled;
   few = omega (arith, now-few (contents tape w at) b.current b.limits);
   fewer = omega arith;
-  sofar = λ addresses. sofar_begin rules (slot_names slots) _ _ (carries_none (contents tape w at));
+  kept = k;
+  sofar = λ addresses.
+      sofar_begin rules (slot_names slots) _ _ (carries_none (contents tape w at), raises_none rules (listing_now (contents tape w at) addresses) (contents tape w at) t);
 }
 
-module _ {rules : Rules} {names : List Text} {s₀ : Contents} {labels₀ : List ℕ} {s : Contents} {labels : List ℕ} {r : Round}
-    (g : Rounding rules names s₀ labels₀ s labels r) where
+module _ {rules : Rules} {names : List Text} {s₀ : Contents} {t₀ : Raising} {labels₀ : List ℕ} {s : Contents} {t : Raising} {labels : List ℕ} {r : Round}
+    (g : Rounding rules names s₀ t₀ labels₀ s t labels r) where
   pub rounding_counts : Countable r
   rounding_counts = (omega (arith, g.few), omega (arith, g.few, g.fewer))
 
-  pub rounding_end : s.size.lines ≤ r.next → Made (attempts_with rules names s₀ labels₀) s₀ s r
+  pub rounding_end : s.size.lines ≤ r.next → Made rules (attempts_with rules names s₀ labels₀) s₀ t₀ s t r
   rounding_end h =
       let over : (addresses : Reading) → length (listing_now s addresses) ≤ r.next =
       (λ addresses. rw (now-length s g.current addresses) h) in
@@ -184,32 +198,39 @@ module _ {rules : Rules} {names : List Text} {s₀ : Contents} {labels₀ : List
         left = λ addresses. (sofar_end rules names _ (g.sofar addresses) (over addresses)).0;
         attempts_are = λ addresses. (sofar_end rules names _ (g.sofar addresses) (over addresses)).1;
         removed_is = λ addresses. (sofar_end rules names _ (g.sofar addresses) (over addresses)).2;
-        marks = λ addresses. (sofar_end rules names _ (g.sofar addresses) (over addresses)).3;
+        marks = λ addresses. (sofar_end rules names _ (g.sofar addresses) (over addresses)).3.0;
+        kept = g.kept;
+        raised = λ addresses. (sofar_end rules names _ (g.sofar addresses) (over addresses)).3.1;
       }
 
   inside : r.next < s.size.lines → (addresses : Reading) → r.next < length (listing_now s addresses)
   inside h addresses = rw (now-length s g.current addresses) h
 
-  module _ (h : r.next < s.size.lines) {s' : Contents} {labels' : List ℕ} {r' : Round} where
-    next-failed : Failed rules names s labels r s' labels' r'
-        → Rounding rules names s₀ labels₀ s' labels' r' × (left_over s'.size.lines r' < left_over s.size.lines r)
+  module _ (lent : SameLent t₀ t) (h : r.next < s.size.lines) {s' : Contents} {t' : Raising} {labels' : List ℕ} {r' : Round} where
+    next-failed : Failed rules names s t labels r s' t' labels' r'
+        → Rounding rules names s₀ t₀ labels₀ s' t' labels' r' × (left_over s'.size.lines r' < left_over s.size.lines r)
     next-failed f =
-        rw (f.same, f.labels_are) (
+        rw (f.same, f.same_tables, f.labels_are) (
           record {
             current = g.current;
             limits = g.limits;
             labelled = g.labelled;
             few = omega (arith, h, g.few, f.next_is, f.attempts_are);
             fewer = omega (arith, g.fewer, f.attempts_are, f.removed_is);
+            kept = g.kept;
             sofar = λ addresses.
                 rw (f.next_is, f.attempts_are, f.removed_is)
                 (sofar-failed rules names _ (g.sofar addresses) (inside h addresses) (rw (labels_are s addresses labels) at (f.tried addresses))
-                (λ done had. carries_then done _ s₀ s s had (carries_failed r.next (listing_now s addresses) s)));
+                (λ done left had. (
+                  carries_then done _ s₀ s s had.0 (carries_failed r.next (listing_now s addresses) s),
+                  raises_then rules (listing_now s₀ addresses) s₀ t₀ done _ s t s t (on_as_before lent) had.1
+                      (rw left (raises_failed rules (listing_now s addresses) s t r.next)),
+                )));
           },
           omega (arith, h, f.next_is),
         )
 
-    module _ (f : Succeeded rules names s labels r s' labels' r') where
+    module _ (f : Succeeded rules names s t labels r s' t' labels' r') where
       -- the answer, with the labels read off the lines without addresses
       gave : (addresses : Reading) → try_at rules (listing_now s addresses) r.next (labels_at (bare_now s) labels) names ≡ some (listing_now s' addresses)
       gave addresses = rw (labels_are s addresses labels) at (f.joined.tried addresses)
@@ -251,7 +272,7 @@ module _ {rules : Rules} {names : List Text} {s₀ : Contents} {labels₀ : List
           (rw same at (attempt_joined rules (listing_now s addresses) r.next _ names (gave addresses)).each)
           numbers_left
 
-      next-succeeded : Rounding rules names s₀ labels₀ s' labels' r' × (left_over s'.size.lines r' < left_over s.size.lines r)
+      next-succeeded : Rounding rules names s₀ t₀ labels₀ s' t' labels' r' × (left_over s'.size.lines r' < left_over s.size.lines r)
       next-succeeded = (
         record {
           current = f.joined.current;
@@ -259,20 +280,25 @@ module _ {rules : Rules} {names : List Text} {s₀ : Contents} {labels₀ : List
           labelled = rw f.labels_are (shift-labelled rules (bare_now s) r.next _ names gave_bare labels g.labelled);
           few = omega (arith, g.few, less, f.attempts_are);
           fewer = omega (arith, g.fewer, f.attempts_are, f.removed_is);
+          kept = f.raised.kept;
           sofar = λ addresses.
               rw (f.next_is, f.attempts_are, f.removed_is, labels_move)
               (sofar-succeeded rules names _ (g.sofar addresses) (inside h addresses) (gave addresses)
-              (λ done had. carries_then done _ s₀ s s' had (handed-on addresses)));
+              (λ done left had. (
+                carries_then done _ s₀ s s' had.0 (handed-on addresses),
+                raises_then rules (listing_now s₀ addresses) s₀ t₀ done _ s t s' t' (on_as_before lent) had.1
+                    (rw left (raises_joined rules s t labels r.next s' t' f.raised addresses (into addresses))),
+              )));
         },
         less,
       )
 
-    turned : Turned rules names s labels r s' labels' r'
-        → Rounding rules names s₀ labels₀ s' labels' r' × (left_over s'.size.lines r' < left_over s.size.lines r)
-    turned t = ⊎_elim next-failed next-succeeded t
+    turned : Turned rules names s t labels r s' t' labels' r'
+        → Rounding rules names s₀ t₀ labels₀ s' t' labels' r' × (left_over s'.size.lines r' < left_over s.size.lines r)
+    turned f = ⊎_elim next-failed next-succeeded f
 
-    pub rounding_next : Turned rules names s labels r s' labels' r' → Rounding rules names s₀ labels₀ s' labels' r'
-    rounding_next t = (turned t).0
+    pub rounding_next : Turned rules names s t labels r s' t' labels' r' → Rounding rules names s₀ t₀ labels₀ s' t' labels' r'
+    rounding_next f = (turned f).0
 
-    pub rounding_less : Turned rules names s labels r s' labels' r' → left_over s'.size.lines r' < left_over s.size.lines r
-    rounding_less t = (turned t).1
+    pub rounding_less : Turned rules names s t labels r s' t' labels' r' → left_over s'.size.lines r' < left_over s.size.lines r
+    rounding_less f = (turned f).1

@@ -12,7 +12,10 @@ use Rattle.join.specs.Current as slices
 use Rattle.join.specs.Contents.{Contents, contents, listing_now, bare_now, Current}
 use Rattle.join.specs.Workspaces.{Lent}
 use Rattle.join.specs.declared.workspace.Workspace.{Workspace}
+use Rattle.raising.specs.Tables.{Kept}
+use Rattle.raising.specs.declared.tables.Raising.{Raising}
 use Rattle.rounds.specs.Carries.{Carries}
+use Rattle.rounds.specs.Cautions.{Raises}
 use Rattle.rounds.specs.declared.rounds.Round.{Round}
 use Rattle.rounds.specs.declared.run.Tally.{Tally}
 use Rattle.rounds.specs.declared.run.Tally.TheVariants.{Three, Settled}
@@ -72,13 +75,16 @@ pub record Counted (rounds : List (List R.Attempt)) (s : Progress) : Type 0 wher
   pub removed_is : s.removed ≡ R.removals (flatten rounds)
 
 -- the rounds of the run were made, and nothing was cut yet; whatever the addresses are
-pub record Rounded (rules : Rules) (s s' : Contents) (p : Progress) : Type 0 where
+pub record Rounded (rules : Rules) (s : Contents) (t : Raising) (s' : Contents) (t' : Raising) (p : Progress) : Type 0 where
   pub current : Current s'
   pub limits : RunLimits (bare_now s')
   pub left : (addresses : Reading)
       → let before = listing_now s addresses in listing_now s' addresses ≡ R.after_rounds before (R.run rules before).rounds
   pub counted : (addresses : Reading) → Counted (R.run rules (listing_now s addresses)).rounds p
   pub marks : (addresses : Reading) → Carries (R.attempts_of (R.run rules (listing_now s addresses))) s s'
+  pub kept : Kept (bare_now s') t'
+  pub raised : (addresses : Reading)
+      → let before = listing_now s addresses in Raises rules before (R.attempts_of (R.run rules before)) s t s' t'
 
 -- ---- what a run tells
 

@@ -3,8 +3,10 @@ ghost use Rattle.std.specs.Prelude.{◌≡◌, ◌<◌, length};
 ghost use Rattle.reference.specs.Run.{propagate_once};
 ghost use Rattle.ground.specs.Rules.{rules_of};
 ghost use Rattle.plan.specs.Texts.{slot_names};
+ghost use Rattle.raising.specs.Tables as tables;
+ghost use Rattle.raising.specs.Tables.{Kept};
 ghost use Rattle.join.specs.Attempts.{Attemptable};
-ghost use Rattle.join.specs.Contents.{contents};
+ghost use Rattle.join.specs.Contents.{contents, bare_now};
 ghost use Rattle.join.specs.Workspaces.{SameLent};
 ghost use Rattle.rounds.specs.Rounds.{Countable, Turned, Made, attempts_with};
 ghost use Rattle.rounds.specs.Runs.{Runnable, Gatherable};
@@ -14,6 +16,7 @@ use join::{Workspace, try_at};
 use life::{gather_labels, shift_labels};
 use lines::texts::Size;
 use plan::slots::{SlotNames, gather_slots};
+use raising::Raising;
 
 // How far a round has come: the next line to try, the attempts and the removals so far, and the listing's size.
 #[derive(Clone, Copy)]
@@ -28,19 +31,22 @@ pub struct Round {
 fn turn(
     tape: &[u8],
     room: &mut Workspace<'_>,
+    raising: &mut Raising<'_>,
     labels: &mut [usize],
     slots: &SlotNames<'_>,
     r: Round,
     rules: Rules,
 ) -> Round
-    requires { Attemptable tape.now room.old labels.old slots.now r.size × (r.next < r.size.lines) × Countable r }
-    ensures turned { Turned (rules_of rules) (slot_names slots.now) (contents tape.now room.old r.size) labels.old r
-        (contents tape.now room.new result.size) labels.new result }
+    requires { Attemptable tape.now room.old labels.old slots.now r.size × (r.next < r.size.lines) × Countable r
+        × Kept (bare_now (contents tape.now room.old r.size)) raising.old }
+    ensures turned { Turned (rules_of rules) (slot_names slots.now) (contents tape.now room.old r.size) raising.old labels.old r
+        (contents tape.now room.new result.size) raising.new labels.new result }
     ensures lent { SameLent room.old room.new }
+    ensures lent_raising { tables.SameLent raising.old raising.new }
 {
     let i = r.next;
     let attempts = r.attempts + 1;
-    let Some(size) = try_at(tape, room, labels, slots, i, r.size, rules) else {
+    let Some(size) = try_at(tape, room, raising, labels, slots, i, r.size, rules) else {
         return Round {
             next: i + 1,
             attempts,
@@ -60,15 +66,18 @@ fn turn(
 fn turns(
     tape: &[u8],
     room: &mut Workspace<'_>,
+    raising: &mut Raising<'_>,
     labels: &mut [usize],
     slots: &SlotNames<'_>,
     size: Size,
     rules: Rules,
 ) -> Round
-    requires { Attemptable tape.now room.old labels.old slots.now size }
-    ensures made { Made (attempts_with (rules_of rules) (slot_names slots.now) (contents tape.now room.old size) labels.old)
-        (contents tape.now room.old size) (contents tape.now room.new result.size) result }
+    requires { Attemptable tape.now room.old labels.old slots.now size × Kept (bare_now (contents tape.now room.old size)) raising.old }
+    ensures made { Made (rules_of rules)
+        (attempts_with (rules_of rules) (slot_names slots.now) (contents tape.now room.old size) labels.old)
+        (contents tape.now room.old size) raising.old (contents tape.now room.new result.size) raising.new result }
     ensures lent { SameLent room.old room.new }
+    ensures lent_raising { tables.SameLent raising.old raising.new }
 {
     let mut r = Round {
         next: 0,
@@ -78,7 +87,7 @@ fn turns(
     };
     // Kept: a `for` is no plainer: an attempt sets the next line one on or one back, which no range and no iterator yields.
     while r.next < r.size.lines {
-        r = turn(tape, room, labels, slots, r, rules);
+        r = turn(tape, room, raising, labels, slots, r, rules);
     }
     r
 }
@@ -90,19 +99,30 @@ fn turns(
 pub fn propagate_once(
     tape: &[u8],
     room: &mut Workspace<'_>,
+    raising: &mut Raising<'_>,
     labels: &mut [usize],
     slots: &mut [u8],
     slot_words: &mut [u64],
     size: Size,
     rules: Rules,
 ) -> Round
-    requires { Runnable tape.now room.old size × Gatherable labels.old slots.old slot_words.old }
-    ensures made { Made (propagate_once (rules_of rules)) (contents tape.now room.old size) (contents tape.now room.new result.size)
-        result }
+    requires { Runnable tape.now room.old size × Gatherable labels.old slots.old slot_words.old
+        × Kept (bare_now (contents tape.now room.old size)) raising.old }
+    ensures made { Made (rules_of rules) (propagate_once (rules_of rules)) (contents tape.now room.old size) raising.old
+        (contents tape.now room.new result.size) raising.new result }
     ensures lent { SameLent room.old room.new }
+    ensures lent_raising { tables.SameLent raising.old raising.new }
 {
     let listing = room.listing(tape, size);
     let known = gather_labels(&listing, labels);
     let names = gather_slots(&listing, slots, slot_words);
-    turns(tape, room, &mut labels[..known], &names, size, rules)
+    turns(
+        tape,
+        room,
+        raising,
+        &mut labels[..known],
+        &names,
+        size,
+        rules,
+    )
 }

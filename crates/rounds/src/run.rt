@@ -2,16 +2,23 @@
 // run is to settle.
 // Then the cuts. Before the rounds the facts of each line (what it lacks, and whether it calls) are noted in its word; they are no part of
 // the listing. The marks of a line, the lowest and the highest address of it and of all that was joined into it, are in `marks`, by the
-// number of the input line.
-ghost use Rattle.std.specs.Prelude.{◌≡◌, ◌≤◌, length};
+// number of the input line. The tables of cautions (crate raising) are begun before the rounds, and are the listing's after each step.
+ghost use Rattle.std.specs.Prelude.{◌≡◌, ◌≤◌, true, length};
 ghost use Rattle.reference.specs.Run.{drop_dead_results};
 ghost use Rattle.ground.specs.Rules.{rules_of};
 ghost use Rattle.build.specs.State.{used};
 ghost use Rattle.build.specs.Added.{used_words};
+ghost use Rattle.cautions.specs.Joins.{none_yet};
 ghost use Rattle.cuts.specs.Cuts.{Cut};
+ghost use Rattle.cuts.specs.Cautions.{dead_cuts, CutsRaised};
+ghost use Rattle.join.specs.Current as current;
 ghost use Rattle.join.specs.Current.{Current, used_lines};
-ghost use Rattle.join.specs.Contents.{contents};
+ghost use Rattle.join.specs.Contents.{contents, bare_now};
+ghost use Rattle.join.specs.Workspaces as workspaces;
 ghost use Rattle.join.specs.Workspaces.{SameLent};
+ghost use Rattle.raising.specs.Tables as tables;
+ghost use Rattle.raising.specs.Tables.{is_on, Room, Kept, sets_now};
+ghost use Rattle.rounds.specs.Cautions.{CautionsKept};
 ghost use Rattle.rounds.specs.Rounds.{Countable};
 ghost use Rattle.rounds.specs.Runs.{Runnable, Gatherable, SameListing, most_rounds, after_round, Few, Rounded, tally_of, told_of, Ran};
 
@@ -21,6 +28,7 @@ use ground::rules::Rules;
 use join::Workspace;
 use linefacts::gather_facts;
 use lines::texts::{Size, Texts};
+use raising::{Raising, begin};
 
 // What is told of the rounds: the attempts of each of three, 0 for one that was not made; or, of a run that settled, how many rounds it
 // made, the last included, and the attempts of them all.
@@ -105,15 +113,19 @@ fn tally_up(settle: bool, s: Progress) -> Tally
 fn make_rounds(
     tape: &[u8],
     room: &mut Workspace<'_>,
+    raising: &mut Raising<'_>,
     labels: &mut [usize],
     slots: &mut [u8],
     slot_words: &mut [u64],
     size: Size,
     rules: Rules,
 ) -> Progress
-    requires { Runnable tape.now room.old size × Gatherable labels.old slots.old slot_words.old }
-    ensures rounded { Rounded (rules_of rules) (contents tape.now room.old size) (contents tape.now room.new result.size) result }
+    requires { Runnable tape.now room.old size × Gatherable labels.old slots.old slot_words.old
+        × Kept (bare_now (contents tape.now room.old size)) raising.old }
+    ensures rounded { Rounded (rules_of rules) (contents tape.now room.old size) raising.old (contents tape.now room.new result.size)
+        raising.new result }
     ensures lent { SameLent room.old room.new }
+    ensures lent_raising { tables.SameLent raising.old raising.new }
 {
     let most = most_rounds(rules.settle, size.lines);
     let mut s = Progress {
@@ -124,7 +136,9 @@ fn make_rounds(
         size,
     };
     for _ in 0..most {
-        let r = propagate_once(tape, room, labels, slots, slot_words, s.size, rules);
+        let r = propagate_once(
+            tape, room, raising, labels, slots, slot_words, s.size, rules,
+        );
         s = after_round(s, r);
         if r.removed == 0 {
             break;
@@ -148,20 +162,41 @@ fn note_facts(tape: &[u8], area: &[u8], tokens: &[u64], lines: &mut [u64], size:
     );
 }
 
+// Makes the tables of cautions those of the listing, without a kind on any line.
+fn begin_cautions<'a>(
+    tape: &'a [u8],
+    room: &'a Workspace<'_>,
+    raising: &mut Raising<'_>,
+    size: Size,
+)
+    requires { workspaces.Current tape.now room.now size × (size.lines ≤ 256) × (is_on raising.old ≡ true → Room raising.old) }
+    ensures kept { Kept (bare_now (contents tape.now room.now size)) raising.new }
+    ensures none { is_on raising.old ≡ true → sets_now (bare_now (contents tape.now room.now size)) raising.new
+        ≡ none_yet (bare_now (contents tape.now room.now size)) }
+    ensures lent { tables.SameLent raising.old raising.new }
+{
+    let listing = room.listing(tape, size);
+    begin(&listing, raising);
+}
+
 // Cuts the dead results of the listing, and says how many they are.
 fn cut_results(
     tape: &[u8],
     area: &[u8],
     tokens: &[u64],
     lines: &mut [u64],
+    raising: &mut Raising<'_>,
     labels: &mut [usize],
     size: Size,
     rules: Rules,
 ) -> u64
     requires { Current tape.now area.now tokens.now lines.old size × (length tokens.now ≤ 65536) × (size.lines ≤ 256)
-        × (256 ≤ length labels.old) }
-    ensures { Cut (drop_dead_results (rules_of rules)) tape.now (used area.now size) (used_words tokens.now size)
+        × (256 ≤ length labels.old) × Kept (current.bare_now tape.now area.now tokens.now lines.old size) raising.old }
+    ensures cut { Cut (drop_dead_results (rules_of rules)) tape.now (used area.now size) (used_words tokens.now size)
         (used_lines lines.old size) (used_lines lines.new size) result }
+    ensures raised { CutsRaised (rules_of rules) (dead_cuts (rules_of rules)) tape.now (used area.now size) (used_words tokens.now size)
+        (used_lines lines.old size) raising.old (used_lines lines.new size) raising.new }
+    ensures lent { tables.SameLent raising.old raising.new }
 {
     drop_dead_results(
         &Texts {
@@ -170,36 +205,43 @@ fn cut_results(
         },
         &tokens[..size.tokens],
         &mut lines[..size.lines],
+        raising,
         labels,
         rules,
     )
 }
 
-// The facts are noted, the rounds made, then the cuts.
+// The facts are noted and the tables of cautions begun, the rounds made, then the cuts.
 // Kept: `note_facts` and `cut_results` take fields of the workspace, each lent anew as `&mut`. It was tried to lend one field as `&` beside
 // another as `&mut`, and to take the workspace apart by a pattern: the borrow checker covers neither, and so no proof could be begun.
 pub fn optimize(
     tape: &[u8],
     room: &mut Workspace<'_>,
+    raising: &mut Raising<'_>,
     labels: &mut [usize],
     slots: &mut [u8],
     slot_words: &mut [u64],
     size: Size,
     rules: Rules,
 ) -> Outcome
-    requires { Runnable tape.now room.old size × Gatherable labels.old slots.old slot_words.old }
+    requires { Runnable tape.now room.old size × Gatherable labels.old slots.old slot_words.old
+        × (is_on raising.old ≡ true → Room raising.old) }
     ensures ran { Ran (rules_of rules) (contents tape.now room.old size) (contents tape.now room.new result.size) result }
+    ensures cautioned { CautionsKept (rules_of rules) (contents tape.now room.old size) (contents tape.now room.new result.size)
+        raising.old raising.new }
     ensures lent { SameLent room.old room.new }
+    ensures lent_raising { tables.SameLent raising.old raising.new }
 {
     let area = &mut *room.area;
     let tokens = &mut *room.tokens;
     let lines = &mut *room.lines;
     note_facts(tape, area, tokens, lines, size);
-    let s = make_rounds(tape, room, labels, slots, slot_words, size, rules);
+    begin_cautions(tape, room, raising, size);
+    let s = make_rounds(tape, room, raising, labels, slots, slot_words, size, rules);
     let area = &mut *room.area;
     let tokens = &mut *room.tokens;
     let lines = &mut *room.lines;
-    let cut = cut_results(tape, area, tokens, lines, labels, s.size, rules);
+    let cut = cut_results(tape, area, tokens, lines, raising, labels, s.size, rules);
     Outcome {
         tally: tally_up(rules.settle, s),
         removed: s.removed,

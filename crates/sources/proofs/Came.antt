@@ -25,7 +25,7 @@ use Rattle.reference.specs.Claim.{one_if}
 use Rattle.reference.specs.Run.{run, finished, counts}
 use Rattle.reference.specs.Marks.{finished_marks}
 use Rattle.reference.specs.Tape.{write}
-use Rattle.reference.specs.Questions.{Answer, Refused, Passed, ask, let_passed◌then◌, read, marks_in}
+use Rattle.reference.specs.Questions.{OUTPUT, has_room_by, Answer, Refused, Passed, ask, let_passed◌then◌, read, marks_in}
 use Rattle.reference.specs.Reply as R
 use Rattle.reference.specs.Reply.{ask_profile, reply, reply_by}
 use Rattle.reference.proofs.Cases.{by-if, by-some}
@@ -96,7 +96,7 @@ profile_passed rules lines bytes {x} =
 
 -- the questions of the settings and of the lengths that the cleaning asks
 abbrev door : Rules → Lent → List (ℕ × Bool)
-door rules lent = before_the_tape rules (length lent.work_a) (length lent.work_b) (length lent.output)
+door rules lent = before_the_tape rules (length lent.work_a) (length lent.work_b) (length lent.output) OUTPUT
 
 measured_passed : (a : Answer (List ℕ)) {n : ℕ} → Passed n ≡ measured a → (x : List ℕ) × (a ≡ Passed x) × (n ≡ length x)
 measured_passed (Refused m p) e = absurd (refused_passed (sym e))
@@ -164,7 +164,7 @@ module _ (rules : Rules) (k : ℕ) (tape : List ℕ) (lent : Lent) where
 
   -- by the settings, or a length that the cleaning asks
   refused_at_door : {n : ℕ} → n ≡ first_no (door rules lent) → (n ≡ 0 → ⊥) → CameInto rules k tape lent lent (Refused n 0)
-  unfolding ask_lent
+  unfolding ask_lent has_room_by
   refused_at_door e z = refused_into (λ f. ask_number _ (door rules lent) _ z (sym e))
 
   -- of what `map_err` and `?` make of its answer
@@ -180,7 +180,7 @@ module _ (rules : Rules) (k : ℕ) (tape : List ℕ) (lent : Lent) where
 
     -- by the length of the flags
     pub refused_flags : length lent.flags < 256 → CameInto rules k tape lent lent (Refused 2 0)
-    unfolding ask_lent
+    unfolding ask_lent has_room_by
     refused_flags h = refused_into (λ f. ask-yes _ (door rules lent) _ open_door ∙ ask_no _ [] _ _ _ tt (lt-leb FLAGS (length lent.flags) h))
 
     module _ (room : 256 ≤ length lent.flags) where
@@ -189,7 +189,7 @@ module _ (rules : Rules) (k : ℕ) (tape : List ℕ) (lent : Lent) where
       length_asked a = ask (λ number. 0) ((2, leb COPY (length lent.copy)) ∷ []) a
 
       asked_then : {A : Type 0} (a : Answer A) → ask_lent rules lent a ≡ length_asked a
-      unfolding ask_lent ask when◌then◌else◌
+      unfolding ask_lent has_room_by ask when◌then◌else◌
       asked_then a = ask-yes (λ number. 0) (door rules lent) _ open_door ∙ rw (le-leb FLAGS (length lent.flags) room)
 
       -- by the copy's length, or by the tape
@@ -286,7 +286,7 @@ module _ (rules : Rules) (k : ℕ) (tape : List ℕ) (lent : Lent) where
               tape = write (finished rules (only k m.lines)) (finished_marks rules (only k m.lines) (marks_in bytes));
               counts = counts rules (run rules (only k m.lines));
             }))
-        unfolding reply_by
+        unfolding reply_by has_room_by
         answer_is = ask-yes (λ number. 0) (door rules lent) _ open_door ∙ let_is _ copy_read
 
         came-reply_is : came_reply rules k tape lent ≡ in_place_of answer found

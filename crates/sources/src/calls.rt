@@ -11,7 +11,7 @@ ghost use Rattle.sources.specs.Calls.{FlagsCleaned, lent_as, CameInto};
 use crate::copying::put_commands;
 use crate::walking::walk;
 use answers::{Answer, Reason, Refusal};
-use clean::{asked, clean};
+use clean::{OUTPUT, asked, clean};
 use ground::rules::Rules;
 use tape::check;
 
@@ -75,7 +75,7 @@ pub fn came_into(
     ensures { CameInto (rules_of rules) k tape.now (lent_as copy.old work_a.old work_b.old out.old flags.old)
         (lent_as copy.new work_a.new work_b.new out.new flags.new) (answer_of result) }
 {
-    asked(rules, work_a.len(), work_b.len(), out.len()).map_err(|reason| reason.at(0))?;
+    asked(rules, work_a.len(), work_b.len(), out.len(), OUTPUT).map_err(|reason| reason.at(0))?;
     if flags.len() < 256 {
         return Err(Reason::TooLittleRoom.at(0));
     }

@@ -1,18 +1,18 @@
--- One attempt on a straight listing, with the profile: the listing that it leaves is straight and returns the same. Assumes nothing.
+-- One attempt on a straight listing, where the right side suits its use: the listing that it leaves is straight and returns the same. Assumes nothing.
 use Prim.Native.Nat.{ℕ, zero, suc, ◌+◌, ◌<◌}
 use native.Mathlib.Omega.{arith}
 use mathlib.Core.Path.{◌≡◌, refl, sym, ap, ◌∙◌, subst, subst⁻¹}
-use mathlib.Core.Bool.{true, false, false≢true}
+use mathlib.Core.Bool.{Bool, true, false, false≢true}
 use mathlib.Core.List.{List, [], ◌∷◌}
 use mathlib.Core.Option.{Option, some}
 use lib.ListN.{length, drop}
 use lib.Seq.{slice}
-use Rattle.reference.specs.Lists.{any, remove}
+use Rattle.reference.specs.Lists.{any, position, is_some, remove}
 use Rattle.reference.specs.Text.{Text}
 use Rattle.reference.specs.Listing.{Token, is, Register, Number, Keyword, Line, Listing, ◌at◌}
-use Rattle.reference.specs.Names.{Fam, family}
+use Rattle.reference.specs.Names.{Fam, family, of_family}
 use Rattle.reference.specs.Rules.{Rules, volatile}
-use Rattle.reference.specs.Shapes.{Assignment, assignment_of, is_kw}
+use Rattle.reference.specs.Shapes.{Assignment, assignment_of, call_in, is_kw}
 use Rattle.reference.specs.Life.{Labels}
 use Rattle.reference.specs.Join.{gather, bad_use, use_from, replaceable, lone_number, try_at}
 use Rattle.reference.specs.Evaluators.{modulo, Store}
@@ -28,7 +28,7 @@ use Rattle.joining.proofs.Deciding.{inside, tried}
 use Rattle.straight.proofs.Expression.{Worth, assigned-worth}
 use Rattle.straight.proofs.Flow.{Assigns, assigns, Returns, returns, Straight, last, next, executes, joined_same}
 use Rattle.straight.proofs.Life.{lhs_is}
-use Rattle.straight.proofs.Joining.{Defines, before_line, assigned-family, After, single-after, constant-after}
+use Rattle.straight.proofs.Joining.{Suits, profile-suits, Defines, before_line, assigned-family, After, single-after, constant-after}
 
 -- a listing against another: straight, and returning the same
 abbrev pub Keeps : ℕ → Listing → Listing → Type 0
@@ -68,12 +68,22 @@ no_return [] {to = to} x'' s = elim x'' [ ]
 no_return (t ∷ ts) (returns w r a) s =
     true-false (both w).0 (other_kind Register Keyword t refl (ap (is Register) (sym (lhs_is s t ts refl)) ∙ assigning-register s))
 
-module _ (rules : Rules) (on : rules.profile ≡ true) (lines : Listing) (i : ℕ) (indent : ℕ) (s : Straight indent lines) where
+-- the right side that line i assigns suits the one use of its register, if there is one
+abbrev pub Suited : Rules → Listing → ℕ → Type 0
+Suited rules lines i =
+    (to : Assignment) (f : Fam) → assignment_of (lines at i).tokens ≡ some to → family to.lhs.text ≡ some f
+    → (j pos : ℕ) → use_from (lines at i).indent f.name to.expr (is_some (call_in (lines at i).tokens)) (volatile rules) (suc i) (drop (suc i) lines) ≡ some j
+    → position (of_family f.name) (lines at j).tokens ≡ some pos → Suits rules to.expr (lines at j).tokens pos
+
+pub profile-suited : (rules : Rules) → rules.profile ≡ true → (lines : Listing) (i : ℕ) → Suited rules lines i
+profile-suited rules on lines i to f ea ef j pos u found = profile-suits rules on to.expr (lines at j).tokens pos
+
+module _ (rules : Rules) (lines : Listing) (i : ℕ) (suited : Suited rules lines i) (indent : ℕ) (s : Straight indent lines) where
   -- from what the plan makes of the lines after the definition
   by_plan : (p : Plan) (to : Assignment) (f : Fam) → i < length lines → assignment_of (lines at i).tokens ≡ some to → family to.lhs.text ≡ some f
       → p.fam ≡ f.name → p.expr ≡ to.expr
       → ((d : Defines p.fam p.expr) (rest : Listing) → drop (suc i) lines ≡ rest → Straight indent rest → (lines at i).indent ≡ indent
-      → After rules on lines i p d indent rest (map_from (acted_line rules i p) (suc i) rest))
+      → After rules lines i p d indent rest (map_from (acted_line rules i p) (suc i) rest))
       → Keeps indent lines (act rules lines i p)
   unfolding act execute
   by_plan p to f lt ha hf pf pe after =
@@ -97,12 +107,26 @@ module _ (rules : Rules) (on : rules.profile ≡ true) (lines : Listing) (i : �
   module _ (labels : Labels) (d : Definition) (known : definition_of (lines at i).tokens ≡ some d) where
     -- where a definition comes from
     from : (to : Assignment) × (f : Fam) × (assignment_of (lines at i).tokens ≡ some to) × (family to.lhs.text ≡ some f) × (d.fam ≡ f) × (d.expr ≡ to.expr)
+        × (d.calls ≡ is_some (call_in (lines at i).tokens))
     unfolding definition_of
     from =
         let a = bind-some known in
         let f = bind-some a.2 in
         let same = some_inj (unless-some f.2).1 in
-        (a.0, f.0, a.1, f.1, ap (λ (x : Definition). x.fam) (sym same), ap (λ (x : Definition). x.expr) (sym same))
+        (a.0, f.0, a.1, f.1, ap (λ (x : Definition). x.fam) (sym same), ap (λ (x : Definition). x.expr) (sym same), ap (λ (x : Definition). x.calls) (sym same))
+
+    suits-here : (j pos : ℕ) → use_of lines i d (volatile rules) ≡ some j → position (of_family d.fam.name) (lines at j).tokens ≡ some pos → Suits rules d.expr (lines at j).tokens pos
+    unfolding use_of
+    suits-here j pos u found =
+        let o = from in
+        let fam : d.fam.name ≡ o.1.name = ap (λ (f : Fam). f.name) o.4 in
+        let base : ℕ = (lines at i).indent in
+        subst⁻¹ (λ (r : List Token). Suits rules r (lines at j).tokens pos) o.5
+        (suited o.0 o.1 o.2 o.3 j pos
+        (sym (ap (λ (x : Text). use_from base x d.expr d.calls (volatile rules) (suc i) (drop (suc i) lines)) fam
+        ∙ ap (λ (r : List Token). use_from base o.1.name r d.calls (volatile rules) (suc i) (drop (suc i) lines)) o.5
+        ∙ ap (λ (c : Bool). use_from base o.1.name o.0.expr c (volatile rules) (suc i) (drop (suc i) lines)) o.6) ∙ u)
+        (sym (ap (λ (x : Text). position (of_family x) (lines at j).tokens) fam) ∙ found))
 
     -- an expression, to one use
     single_keeps : (p : Plan) → plan_single rules lines i d labels (volatile rules) ≡ some p → Keeps indent lines (act rules lines i p)
@@ -117,7 +141,7 @@ module _ (rules : Rules) (on : rules.profile ≡ true) (lines : Listing) (i : �
         subst (λ (r : Plan). Keeps indent lines (act rules lines i r)) (some_inj made.1)
         (by_plan q o.0 o.1 (inside lines i d known) o.2 o.3 (ap (λ (f : Fam). f.name) o.4) o.5
         (λ df ls h t b.
-        single-after rules on lines i q df indent (lines at i).indent labels d.calls pos.0 pos.1 refl
+        single-after rules lines i q df indent (lines at i).indent labels d.calls pos.0 pos.1 refl (suits-here j.0 pos.0 j.1 pos.1)
         (not-true (both (both (both made.0).1).1).1) (not-false (neither rest.0).1) (suc i) h (omega arith) t
         (ap (use_from (lines at i).indent d.fam.name d.expr d.calls (volatile rules) (suc i)) (sym h) ∙ j.1)))
 
@@ -146,7 +170,7 @@ module _ (rules : Rules) (on : rules.profile ≡ true) (lines : Listing) (i : �
         subst (λ (u : Plan). Keeps indent lines (act rules lines i u)) (some_inj made.1)
         (by_plan q o.0 o.1 (inside lines i d known) o.2 o.3 (ap (λ (f : Fam). f.name) o.4) o.5
         (λ df ls h t b.
-        constant-after rules on lines i q df indent (lines at i).indent (sym b) one.0 one.1 one.2 refl (suc i) i h (omega arith) (omega arith) t
+        constant-after rules lines i q df indent (lines at i).indent (sym b) one.0 one.1 one.2 refl (suc i) i h (omega arith) (omega arith) t
         (ap (λ (m : Listing). (gather (lines at i).indent x (volatile rules) (suc i) m i).last) (sym h) ∙ far)
         (ap (λ (m : Listing). any (λ j. bad_use x (lines at j).tokens) (gather (lines at i).indent x (volatile rules) (suc i) m i).uses) (sym h) ∙ good)))
 

@@ -45,7 +45,7 @@ Live (done v) = ⊥
 Live broken = ⊥
 
 -- behind the expression: at the `;`, or broken
-abbrev Dead : State → Type 0
+abbrev pub Dead : State → Type 0
 Dead fresh = ⊥
 Dead spaced = ⊥
 Dead equals = ⊥
@@ -102,7 +102,7 @@ text_outcome [] s f = f
 text_outcome (c ∷ cs) s (live l) = text_outcome cs (byte c s) (byte_outcome c s l)
 text_outcome (c ∷ cs) s (dead d) = text_outcome cs (byte c s) (dead (byte_dead c s d))
 
-text_dead : (cs : Text) (s : State) → Dead s → Dead (text_step cs s)
+pub text_dead : (cs : Text) (s : State) → Dead s → Dead (text_step cs s)
 unfolding text_step
 text_dead [] s d = d
 text_dead (c ∷ cs) s d = text_dead cs (byte c s) (byte_dead c s d)
@@ -193,7 +193,7 @@ module _ (k : List Pending) where
         go (number z n) = subst⁻¹ Dead (step_number σ t z s n) (term-dead (of_integer z) s d)
         go (breaks f) = subst⁻¹ Dead (f σ s) tt
 
-    run-dead : (ts : List Token) (s : State) → Dead s → Dead (run-tokens σ ts s)
+    pub run-dead : (ts : List Token) (s : State) → Dead s → Dead (run-tokens σ ts s)
     unfolding run-tokens
     run-dead [] s d = d
     run-dead (t ∷ ts) s d = run-dead ts (token-step σ t s) (token-dead t s d)

@@ -67,7 +67,7 @@ Begins (signed p k) = Unit {0}
 Begins (done v) = Unit {0}
 Begins broken = Unit {0}
 
-after-term : (v : ℕ) (s : State) → Begins (term v s)
+pub after-term : (v : ℕ) (s : State) → Begins (term v s)
 unfolding term
 after-term v fresh = tt
 after-term v spaced = tt

@@ -1,4 +1,4 @@
--- An attempt on a straight listing with the profile's brackets: what its plan makes of the lines after the definition. Assumes nothing.
+-- An attempt on a straight listing, where the right side suits its use: what its plan makes of the lines after the definition. Assumes nothing.
 use Prim.Native.Nat.{ℕ, suc, ◌≤◌, ◌<◌}
 use native.Mathlib.Omega.{arith}
 use mathlib.Core.Path.{◌≡◌, refl, sym, ap, ◌∙◌, subst, subst⁻¹}
@@ -18,8 +18,8 @@ use Rattle.reference.specs.Shapes.{Assignment}
 use Rattle.reference.specs.Life.{None, Kill, Use, touch, match_touch, is_use, Labels, dead_from, dead_after}
 use Rattle.reference.specs.Join.{Uses, gather, bad_use, written_from, rewrite_use, expr_fams, harmless, use_from, text_or_empty, text_before, standalone, is_bracketed}
 use Rattle.reference.specs.Evaluators.{Store}
-use Rattle.reference.specs.Straight.{assign, execute}
-use Rattle.straight.proofs.Reader.{first, State, fresh, equals, wants, holds, run-tokens}
+use Rattle.reference.specs.Straight.{assign, execute, puncts_apart}
+use Rattle.straight.proofs.Reader.{Pending, first, State, fresh, equals, wants, holds, run-tokens}
 use Rattle.reference.proofs.Cases.{by-if, by_touch, both, neither, not-true, not-false, true-false, fails, same_number, some_inj, none-some, if_some, unless-some, bind-some, some-true}
 use Rattle.reference.proofs.Shapes.{other_kind, family-register, Assigning, assigns as assigns_of}
 use Rattle.reference.proofs.Lines.{drop-step}
@@ -29,9 +29,9 @@ use Rattle.joining.proofs.Indexed.{map-from_id}
 use Rattle.joining.proofs.Uses.{gather-last}
 use Rattle.joining.proofs.Single.{use_count}
 use Rattle.joining.proofs.Looking.{mentions}
-use Rattle.straight.proofs.Folding.{Begins, opens_text}
-use Rattle.straight.proofs.Expression.{Worth, stands-first, stands-bracketed, stands-lone}
-use Rattle.straight.proofs.Substituting.{wide-known, wide-family, unread, TokensFit, fits_anywhere, fits-begun}
+use Rattle.straight.proofs.Folding.{Begins}
+use Rattle.straight.proofs.Expression.{Worth, Stands, stands-first, stands-bracketed, stands-lone}
+use Rattle.straight.proofs.Substituting.{wide-known, wide-family, unread, leads_text, Unsigned, TokensFit, fits_anywhere, fits-begun}
 use Rattle.straight.proofs.Flow.{Assigns, assigns, Returns, returns, Straight, last, next, Dead, Replaced, Joined, over, step, end, killed_dead}
 use Rattle.straight.proofs.Life.{untouched, killed, kills-assigns, lhs_is, other-register, assigns-no_call, returns-no_call, returns_no_kill, assigns-run, returns-run, dead-sound}
 use Rattle.straight.proofs.Rewriting.{new, use_assign, use_return, pass_assign, pass_return, return-family, unwritten, assigns_no_braces, returns_no_braces}
@@ -94,45 +94,63 @@ before-suc : (toks : List Token) (n : ℕ) → text_before toks (suc n) ≡ text
 unfolding text_before
 before-suc toks n = if-false _ _ (ne_eqb (suc n) 0 (λ e. omega arith)) ∙ ap (λ (m : ℕ). text_or_empty (get toks m)) (omega arith)
 
+-- a right side that may stand for a term, whatever waits for it
+abbrev pub Anywhere : List Token → Type 0
+Anywhere expr = (σ : Store) (v : ℕ) → Worth σ expr v → (p : Pending) (k : List Pending) → Stands σ expr v p k
+
+-- What the join of one use asks of a right side that gets no brackets there: an expression begins at the use, or it may stand for a term.
+abbrev pub Suits : Rules → List Token → List Token → ℕ → Type 0
+Suits rules expr ts pos = wants_brackets rules expr ts pos ≡ false → leads_text (text_before ts pos) ≡ false → Anywhere expr
+
+-- one token is a term
+pub short_anywhere : (r : List Token) → ltb 1 (length r) ≡ false → Anywhere r
+unfolding run-tokens
+short_anywhere [] h σ v w p k = let z : ◌≡◌ {A = ℕ} 0 1 = cc in absurd (omega arith)
+short_anywhere (t ∷ []) h σ v w p k = stands-lone σ t v p k w
+short_anywhere (t ∷ u ∷ us) h σ v w p k = let z = ltb-false 1 (suc (suc (length us))) h in absurd (omega arith)
+
+-- in the profile each right side suits each use
+pub profile-suits : (rules : Rules) → rules.profile ≡ true → (expr ts : List Token) (pos : ℕ) → Suits rules expr ts pos
+unfolding wants_brackets is_bracketed standalone
+profile-suits rules on expr ts pos bare far =
+    either_false (Anywhere expr) bare
+    (λ c. short_anywhere expr (sym (if-true _ _ on) ∙ c))
+    (λ c. absurd (true-false (both (not-false c)).0 (neither far).0))
+
 module _ {x : Text} {expr : List Token} (d : Defines x expr) where
   -- it is worth the same after an assignment to another register than it reads
   pub keeps : (y : Text) → any (of_family y) expr ≡ false → (σ : Store) (w : ℕ) → d.value (assign y w σ) ≡ d.value σ
   keeps y e σ w = held (sym (d.worth (assign y w σ)) ∙ unread y w σ expr (wants first []) e ∙ d.worth σ)
 
-  lone-fits : (t : Token) → expr ≡ t ∷ [] → (ts : List Token) (s : State) (σ : Store) → TokensFit x (d.value σ) σ expr ts s
-  lone-fits t e ts s σ =
-      subst⁻¹ (λ (r : List Token). TokensFit x (d.value σ) σ r ts s) e
-      (fits_anywhere x (d.value σ) σ (t ∷ []) (λ p k. stands-lone σ t (d.value σ) p k (subst (λ (r : List Token). Worth σ r (d.value σ)) e (d.worth σ))) ts s)
+  anywhere-fits : Anywhere expr → (ts : List Token) (s : State) (σ : Store) → TokensFit x (d.value σ) σ expr ts s
+  anywhere-fits f ts s σ = fits_anywhere x (d.value σ) σ expr (f σ (d.value σ) (d.worth σ)) ts s
 
-  short-fits : (r : List Token) → expr ≡ r → ltb 1 (length r) ≡ false → (ts : List Token) (s : State) (σ : Store) → TokensFit x (d.value σ) σ expr ts s
-  unfolding run-tokens
-  short-fits [] e h ts s σ =
-      let w : wants first [] ≡ holds (d.value σ) [] = subst (λ (r : List Token). Worth σ r (d.value σ)) e (d.worth σ) in
-      let z : ◌≡◌ {A = ℕ} 0 1 = cc in absurd (omega arith)
-  short-fits (t ∷ []) e h ts s σ = lone-fits t e ts s σ
-  short-fits (t ∷ u ∷ us) e h ts s σ = let z = ltb-false 1 (suc (suc (length us))) h in absurd (omega arith)
+  lone-fits : (t : Token) → expr ≡ t ∷ [] → (ts : List Token) (s : State) (σ : Store) → TokensFit x (d.value σ) σ expr ts s
+  lone-fits t e = anywhere-fits (subst⁻¹ Anywhere e (short_anywhere (t ∷ []) refl))
 
   -- the right side of a plan for one use, at the first token of the family behind the line's first one
-  single-fits : (rules : Rules) → rules.profile ≡ true → (p : Plan) → p.expr ≡ expr → (t : Token) (ts : List Token) (s : State) (pos : ℕ) → Begins s → of_family x t ≡ false
-      → position (of_family x) (t ∷ ts) ≡ some pos → count (of_family x) (t ∷ ts) ≡ 1 → p.brackets ≡ wants_brackets rules expr (t ∷ ts) pos
-      → (σ : Store) → TokensFit x (d.value σ) σ (right_side_of p) ts s
-  unfolding right_side_of wants_brackets is_bracketed standalone
-  single-fits rules on p pe t ts s pos g n found one b σ =
+  single-fits : (rules : Rules) (p : Plan) → p.expr ≡ expr → (t : Token) (ts : List Token) (s : State) (pos : ℕ) → Begins s → Unsigned s → puncts_apart false ts ≡ true
+      → of_family x t ≡ false → position (of_family x) (t ∷ ts) ≡ some pos → count (of_family x) (t ∷ ts) ≡ 1 → p.brackets ≡ wants_brackets rules expr (t ∷ ts) pos
+      → Suits rules expr (t ∷ ts) pos → (σ : Store) → TokensFit x (d.value σ) σ (right_side_of p) ts s
+  unfolding right_side_of
+  single-fits rules p pe t ts s pos g unsigned apart n found one b suits σ =
       by-if (λ (r : List Token). TokensFit x (d.value σ) σ r ts s)
       (λ h.
       subst⁻¹ (λ (r : List Token). TokensFit x (d.value σ) σ (token Punct (bytes "(") ∷ r ++ (token Punct (bytes ")") ∷ [])) ts s) pe
       (fits_anywhere x (d.value σ) σ _ (λ q k. stands-bracketed σ expr (d.value σ) q k (d.worth σ)) ts s))
-      (λ h. subst⁻¹ (λ (r : List Token). TokensFit x (d.value σ) σ r ts s) pe
-      (either_false (TokensFit x (d.value σ) σ expr ts s) (sym b ∙ h)
-      (λ c. short-fits expr refl (sym (if-true _ _ on) ∙ c) ts s σ)
-      (λ c.
-      (let m = bind-some (sym (if-false _ _ n) ∙ found) in
-      fits-begun x (d.value σ) σ expr (λ k. stands-first σ expr (d.value σ) k (d.worth σ)) t ts m.0 s (λ o. g) m.1 (sym (if-false _ _ n) ∙ one)
-      (sym (ap opens_text (before-suc (t ∷ ts) m.0)) ∙ ap (λ (q : ℕ). opens_text (text_before (t ∷ ts) q)) (some_inj m.2) ∙ (both (not-false c)).0)))))
+      (λ h. subst⁻¹ (λ (r : List Token). TokensFit x (d.value σ) σ r ts s) pe (bare (leads_text (text_before (t ∷ ts) pos)) refl (sym b ∙ h)))
+    where
+      bare : (c : Bool) → leads_text (text_before (t ∷ ts) pos) ≡ c → wants_brackets rules expr (t ∷ ts) pos ≡ false → TokensFit x (d.value σ) σ expr ts s
+      bare true e w =
+          let m = bind-some (sym (if-false _ _ n) ∙ found) in
+          fits-begun x (d.value σ) σ expr (λ k. stands-first σ expr (d.value σ) k (d.worth σ)) t ts m.0 s
+          (record { begins = λ o. g; behind = false; apart = apart; unsigned = λ o. unsigned }) m.1 (sym (if-false _ _ n) ∙ one)
+          (sym (ap leads_text (before-suc (t ∷ ts) m.0)) ∙ ap (λ (q : ℕ). leads_text (text_before (t ∷ ts) q)) (some_inj m.2) ∙ e)
+      bare false e w = anywhere-fits (suits w e) ts s σ
 
 -- ---- the lines after the definition
 
-module _ (rules : Rules) (on : rules.profile ≡ true) (lines : Listing) (i : ℕ) (p : Plan) (d : Defines p.fam p.expr) (indent : ℕ) where
+module _ (rules : Rules) (lines : Listing) (i : ℕ) (p : Plan) (d : Defines p.fam p.expr) (indent : ℕ) where
   x : Text
   x = p.fam
 
@@ -160,6 +178,7 @@ module _ (rules : Rules) (on : rules.profile ≡ true) (lines : Listing) (i : �
   module _ (base : ℕ) (labels : Labels) (is_call : Bool) (pos : ℕ)
       (found : position (of_family p.fam) (lines at p.last).tokens ≡ some pos)
       (brackets : p.brackets ≡ wants_brackets rules p.expr (lines at p.last).tokens pos)
+      (suits : Suits rules p.expr (lines at p.last).tokens pos)
       (unwritten-there : written_from p.fam (lines at p.last).tokens ≡ false)
       (dead : dead_after lines p.last p.fam base labels i (volatile rules) ≡ true) where
     -- the tokens of the use
@@ -168,8 +187,9 @@ module _ (rules : Rules) (on : rules.profile ≡ true) (lines : Listing) (i : �
     use_returns [] x4 e one = elim x4 [ ]
     use_returns (t ∷ ts) (returns w r a) e one =
         use_return rules.edition p.fam d.value (right_side_of p) t ts (returns w r a)
-        (single-fits d rules on p refl t ts equals pos tt (return-family p.fam t w)
-        (ap (position (of_family p.fam)) e ∙ found) one (brackets ∙ ap (λ (us : List Token). wants_brackets rules p.expr us pos) (sym e)))
+        (single-fits d rules p refl t ts equals pos tt tt a (return-family p.fam t w)
+        (ap (position (of_family p.fam)) e ∙ found) one (brackets ∙ ap (λ (us : List Token). wants_brackets rules p.expr us pos) (sym e))
+        (subst⁻¹ (λ (us : List Token). Suits rules p.expr us pos) e suits))
 
     use_assigns : (ts : List Token) (y : Text) → Assigns ts y → ts ≡ (lines at p.last).tokens → count (of_family p.fam) ts ≡ 1
         → Replaced p.fam d.value (some y) ts (new rules.edition p.fam d.value (right_side_of p) ts) × Assigns (new rules.edition p.fam d.value (right_side_of p) ts) y
@@ -177,8 +197,9 @@ module _ (rules : Rules) (on : rules.profile ≡ true) (lines : Listing) (i : �
     use_assigns (t ∷ ts) y (assigns w r a) e one =
         let n : of_family p.fam t ≡ false = unwritten p.fam y t ts (assigns w r a) (ap (written_from p.fam) e ∙ unwritten-there) in
         use_assign rules.edition p.fam d.value (right_side_of p) t ts y (assigns w r a) (sym (wide-family p.fam y t w) ∙ n) n
-        (single-fits d rules on p refl t ts fresh pos tt n
-        (ap (position (of_family p.fam)) e ∙ found) one (brackets ∙ ap (λ (us : List Token). wants_brackets rules p.expr us pos) (sym e)))
+        (single-fits d rules p refl t ts fresh pos tt tt a n
+        (ap (position (of_family p.fam)) e ∙ found) one (brackets ∙ ap (λ (us : List Token). wants_brackets rules p.expr us pos) (sym e))
+        (subst⁻¹ (λ (us : List Token). Suits rules p.expr us pos) e suits))
 
     -- the line of the use
     module _ (k : ℕ) (l : Line) (ls : Listing) (e : drop k lines ≡ l ∷ ls) (lt : i < k) (same : p.last ≡ k) (t : touch l p.fam (volatile rules) ≡ Use 1) where

@@ -8,21 +8,21 @@ use mathlib.Core.List.{List, [], ◌∷◌}
 use mathlib.Core.Option.{none, some}
 use lib.Dec.{eqb}
 use lib.IntN.{ℤ}
-use Rattle.reference.specs.Control.{when◌then◌else◌, let_some◌else◌then◌}
+use Rattle.reference.specs.Control.{◌and◌, ◌or◌, when◌then◌else◌, let_some◌else◌then◌}
 use Rattle.reference.specs.Lists.{any, count, position, get}
-use Rattle.reference.specs.Text.{Text, ◌≟◌}
+use Rattle.reference.specs.Text.{Text, bytes, ◌≟◌}
 use Rattle.reference.specs.Listing.{Token, is, Register, Number, Punct, Plain}
 use Rattle.reference.specs.Names.{Fam, fam_of, of_family}
 use Rattle.reference.specs.Numbers.{fold_at, fold, joins, merge_into, merge}
 use Rattle.reference.specs.Join.{substitute, text_or_empty}
-use Rattle.reference.specs.Evaluators.{Store, wide, number_of}
-use Rattle.reference.specs.Straight.{assign}
-use Rattle.straight.proofs.Reader.{Pending, first, State, wants, done, term, token-step, run-tokens}
-use Rattle.reference.proofs.Cases.{by-if, by-some, some_inj, none-some, if_some, bind-some, both, neither, true-false, fails}
-use Rattle.reference.proofs.Shapes.{other_kind, joins-other, family-register, folds}
-use Rattle.laws.proofs.Scans.{if-true, if-false}
+use Rattle.reference.specs.Evaluators.{Store, wide, number_of, of_integer}
+use Rattle.reference.specs.Straight.{assign, puncts_apart}
+use Rattle.straight.proofs.Reader.{Pending, first, State, fresh, spaced, equals, wants, holds, gap, signed, done, broken, byte, text_step, term, token-step, run-tokens}
+use Rattle.reference.proofs.Cases.{by-if, by-some, some_inj, none-some, if_some, bind-some, both, neither, either, not-true, true-false, fails}
+use Rattle.reference.proofs.Shapes.{same_text, other_kind, joins-other, family-register, folds}
+use Rattle.laws.proofs.Scans.{if-true, if-false, and_true}
 use Rattle.straight.proofs.Machine.{run_append, step-punct, step-register, step_number, Step, punct, register, number, breaks, step_of}
-use Rattle.straight.proofs.Folding.{merge-run, Begins, opens_text, token_begins, alive, term_wanted, fold_at-run}
+use Rattle.straight.proofs.Folding.{merge-run, Begins, after-term, opens_text, token_begins, alive, term_wanted, fold_at-run}
 use Rattle.straight.proofs.Expression.{Stands}
 
 -- ---- families of tokens
@@ -69,6 +69,80 @@ module _ (x : Text) (v : ℕ) (σ : Store) where
   unread (t ∷ ts) s e =
       let n = neither e in
       ap (run-tokens (assign x v σ) ts) (unread-token t s n.0) ∙ unread ts (token-step σ t s) n.1
+
+-- ---- where an expression begins
+
+-- behind these texts, and behind a space alone, which stands behind `return` and nowhere else
+abbrev pub leads_text : Text → Bool
+leads_text b = opens_text b or (b ≟ bytes " ")
+
+-- no sign waits for its space
+abbrev pub Unsigned : State → Type 0
+Unsigned fresh = Unit {0}
+Unsigned spaced = Unit {0}
+Unsigned equals = Unit {0}
+Unsigned (wants p k) = Unit {0}
+Unsigned (holds v k) = Unit {0}
+Unsigned (gap v k) = Unit {0}
+Unsigned (signed p k) = ⊥
+Unsigned (done v) = Unit {0}
+Unsigned broken = Unit {0}
+
+unsigned-term : (v : ℕ) (s : State) → Unsigned (term v s)
+unfolding term
+unsigned-term v fresh = tt
+unsigned-term v spaced = tt
+unsigned-term v equals = tt
+unsigned-term v (wants p k) = tt
+unsigned-term v (holds u k) = tt
+unsigned-term v (gap u k) = tt
+unsigned-term v (signed p k) = tt
+unsigned-term v (done u) = tt
+unsigned-term v broken = tt
+
+after_space : (s : State) → Unsigned s → Begins (text_step (bytes " ") s)
+unfolding text_step byte when◌then◌else◌
+after_space fresh u = tt
+after_space spaced u = tt
+after_space equals u = refl
+after_space (wants p k) u = tt
+after_space (holds v []) u = tt
+after_space (holds v (p ∷ k)) u = tt
+after_space (gap v k) u = tt
+after_space (signed p k) u = absurd u
+after_space (done v) u = tt
+after_space broken u = tt
+
+-- between the token b and the tokens ts: an expression begins behind such a text, and a sign waits behind a Punct alone
+pub record Leads (b : Token) (ts : List Token) (s : State) : Type 0 where
+  pub begins : leads_text b.text ≡ true → Begins s
+  pub behind : Bool
+  pub apart : puncts_apart behind ts ≡ true
+  pub unsigned : behind ≡ false → Unsigned s
+
+pub leads_on : (σ : Store) (b t : Token) (ts : List Token) (s : State) → Leads b (t ∷ ts) s → Leads t ts (token-step σ t s)
+unfolding puncts_apart
+leads_on σ b t ts s l =
+    let parts = both l.apart in
+    record {
+      begins = λ e. either (Begins (token-step σ t s)) e (token_begins σ t s) (λ h. space (not-true parts.0) (same_text t.text (bytes " ") h) (step_of σ t));
+      behind = is Punct t;
+      apart = parts.1;
+      unsigned = λ n. still n (step_of σ t);
+    }
+  where
+    space : (l.behind and is Punct t) ≡ false → t.text ≡ bytes " " → Step σ t → Begins (token-step σ t s)
+    space n e (punct p) =
+        subst⁻¹ Begins (step-punct σ t s p ∙ ap (λ (r : Text). text_step r s) e) (after_space s (l.unsigned (fails (λ (h : l.behind ≡ true). true-false p (sym (and_true (is Punct t) h) ∙ n)))))
+    space n e (register x w) = subst⁻¹ Begins (step-register σ t x s w) (after-term (σ x) s)
+    space n e (number z m) = subst⁻¹ Begins (step_number σ t z s m) (after-term (of_integer z) s)
+    space n e (breaks f) = subst⁻¹ Begins (f σ s) tt
+
+    still : is Punct t ≡ false → Step σ t → Unsigned (token-step σ t s)
+    still n (punct p) = absurd (true-false p n)
+    still n (register x w) = subst⁻¹ Unsigned (step-register σ t x s w) (unsigned-term (σ x) s)
+    still n (number z m) = subst⁻¹ Unsigned (step_number σ t z s m) (unsigned-term (of_integer z) s)
+    still n (breaks f) = subst⁻¹ Unsigned (f σ s) tt
 
 -- ---- a register replaced
 
@@ -121,31 +195,31 @@ module _ (x : Text) (v : ℕ) (σ : Store) (rhs : List Token) where
       go false h ih = (λ q. absurd (true-false q h), ih (sym (if-false _ _ h) ∙ e))
 
   -- one token of the family, behind a text behind which an expression begins
-  pub fits-begun : ((k : List Pending) → Stands σ rhs v first k) → (b : Token) (ts : List Token) (pos : ℕ) (s : State) → (opens_text b.text ≡ true → Begins s)
-      → position (of_family x) ts ≡ some pos → count (of_family x) ts ≡ 1 → opens_text (text_or_empty (get (b ∷ ts) pos)) ≡ true → TokensFit ts s
+  pub fits-begun : ((k : List Pending) → Stands σ rhs v first k) → (b : Token) (ts : List Token) (pos : ℕ) (s : State) → Leads b ts s
+      → position (of_family x) ts ≡ some pos → count (of_family x) ts ≡ 1 → leads_text (text_or_empty (get (b ∷ ts) pos)) ≡ true → TokensFit ts s
   unfolding let_some◌else◌then◌ when◌then◌else◌
   fits-begun f b [] pos s g at one o = absurd (none-some at)
-  fits-begun f b (t ∷ ts) pos s g at one o = go (of_family x t) refl (λ n. fits-begun f t ts n τ (token_begins (assign x v σ) t s))
+  fits-begun f b (t ∷ ts) pos s g at one o = go (of_family x t) refl (λ n. fits-begun f t ts n τ (leads_on (assign x v σ) b t ts s g))
     where
       τ : State
       τ = token-step (assign x v σ) t s
 
-      begun : opens_text b.text ≡ true → (p : Pending) (k : List Pending) → s ≡ wants p k → Stands σ rhs v p k
-      begun h p k q = let e : p ≡ first = subst Begins q (g h) in subst⁻¹ (λ (r : Pending). Stands σ rhs v r k) e (f k)
+      begun : leads_text b.text ≡ true → (p : Pending) (k : List Pending) → s ≡ wants p k → Stands σ rhs v p k
+      begun h p k q = let e : p ≡ first = subst Begins q (g.begins h) in subst⁻¹ (λ (r : Pending). Stands σ rhs v r k) e (f k)
 
       go : (c : Bool) → of_family x t ≡ c
-          → ((n : ℕ) → position (of_family x) ts ≡ some n → count (of_family x) ts ≡ 1 → opens_text (text_or_empty (get (t ∷ ts) n)) ≡ true → TokensFit ts τ)
+          → ((n : ℕ) → position (of_family x) ts ≡ some n → count (of_family x) ts ≡ 1 → leads_text (text_or_empty (get (t ∷ ts) n)) ≡ true → TokensFit ts τ)
           → TokensFit (t ∷ ts) s
       go true h ih =
           let zero_is : 0 ≡ pos = some_inj (sym (if-true _ _ h) ∙ at) in
-          let here : opens_text b.text ≡ true = subst⁻¹ (λ (n : ℕ). opens_text (text_or_empty (get (b ∷ t ∷ ts) n)) ≡ true) zero_is o in
+          let here : leads_text b.text ≡ true = subst⁻¹ (λ (n : ℕ). leads_text (text_or_empty (get (b ∷ t ∷ ts) n)) ≡ true) zero_is o in
           let more : suc (count (of_family x) ts) ≡ 1 = sym (if-true _ _ h) ∙ one in
           (λ e. begun here, fits-nowhere ts τ (omega arith))
       go false h ih =
           let n = bind-some (sym (if-false _ _ h) ∙ at) in (
             λ e. absurd (true-false e h),
             ih n.0 n.1 (sym (if-false _ _ h) ∙ one)
-                (subst⁻¹ (λ (m : ℕ). opens_text (text_or_empty (get (b ∷ t ∷ ts) m)) ≡ true) (some_inj n.2) o),
+                (subst⁻¹ (λ (m : ℕ). leads_text (text_or_empty (get (b ∷ t ∷ ts) m)) ≡ true) (some_inj n.2) o),
           )
 
 -- ---- a line

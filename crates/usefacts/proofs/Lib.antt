@@ -7,7 +7,10 @@ pub mod Sizes
 pub mod Resting
 pub mod Using
 pub mod Keeping
+pub mod Guarding
 pub mod Moving
+pub mod Narrow
+pub mod Placing
 pub mod Raising
 pub mod Widening
 pub mod Splitting

@@ -7,7 +7,6 @@ use mathlib.Core.List.{List, []}
 use lib.Dec.{eqb, ltb}
 use lib.ListN.{length, get_or}
 use borrow.Author.Tests.{le-leb, lt-leb}
-use Rattle.reference.proofs.Cases.{not-true}
 use Rattle.std.specs.Prelude as std
 use Rattle.std.specs.Prelude.{Some, None}
 use Rattle.reference.specs.Control.{not, ◌and◌, ◌or◌, when◌then◌else◌, let_some◌else◌then◌}
@@ -18,38 +17,18 @@ use Rattle.reference.specs.Names.{family}
 use Rattle.reference.specs.Names as N
 use Rattle.reference.specs.Rules.{Rules}
 use Rattle.reference.specs.Join.{use_width, use_lowest, text_before, text_after}
-use Rattle.names.proofs.Searches.{all-below, below_at}
 use Rattle.cautions.specs.Uses.{widths, number_at, compares, beside_number}
 use Rattle.cautions.specs.Values.{full, widths_in, is_whole}
-use Rattle.names.specs.Families.{row_name}
 use Rattle.lines.specs.Words.{kind_of, text_of, token_of, tokens_of}
-use Rattle.lines.specs.Fams.{Fam, fam_text, Names}
+use Rattle.lines.specs.Fams.{Names}
 use Rattle.lines.specs.declared.fams.Named.{Named}
 use Rattle.lines.specs.declared.texts.Texts.{Texts}
-use Rattle.lines.proofs.fams.Families.{fam-row, fam-name, named_as, named-not}
+use Rattle.lines.proofs.fams.Families.{named_as, named-not}
 use Rattle.lines.proofs.shapes.Places.{get_at, get_past}
 use Rattle.usefacts.specs.Rest.{tokens_in, Held, RestOf}
 use Rattle.usefacts.specs.declared.rest.Rest.{Rest}
 use Rattle.usefacts.specs.declared.uses.Joining.{Joining}
 use Rattle.usefacts.specs.Uses.{Ready, has_narrow_rest, number_before, number_behind}
-
--- ---- slots
-
-row_other : (r : ℕ) → r < 8 → starts_with (row_name r) (bytes "var_") ≡ false
-unfolding all-below ◌and◌ not
-row_other r h = not-true (below_at 8 (λ k. not (starts_with (row_name k) (bytes "var_"))) r tested h)
-  where
-    tested : all-below 8 (λ k. not (starts_with (row_name k) (bytes "var_"))) ≡ true
-    tested = refl
-
-module _ (tape area : Text) {f : Fam} where
-  pub slot_row : f < 8 → false ≡ starts_with (fam_text tape area f) (bytes "var_")
-  slot_row h = rw (fam-row tape area {f = f} h) (sym (row_other f h))
-
-  pub slot_name : 8 ≤ f → {s : Text} {x : Bool} → s ≡ text_of tape area f → x ≡ starts_with s (bytes "var_") → x ≡ starts_with (fam_text tape area f) (bytes "var_")
-  slot_name h es ex = rw (fam-name tape area {f = f} h, ← es) ex
-
-pub ruleset slots = (slot_row, slot_name)
 
 -- ---- the token that is used
 

@@ -20,8 +20,8 @@ use Rattle.reference.specs.Names.{Fam, fam_of}
 use Rattle.reference.specs.Shapes.{call_in}
 use Rattle.reference.specs.Join.{text_or_empty}
 use Rattle.reference.proofs.Cases.{some_inj}
-use Rattle.laws.proofs.Scans.{or_true, or_false}
-use Rattle.cautions.specs.Forms.{WORDS}
+use Rattle.laws.proofs.Scans.{or_true, or_false, any_append}
+use Rattle.cautions.specs.Forms.{CASES, CONTROL, WORDS}
 use Rattle.cautions.specs.Texts.{loose}
 use Rattle.cautions.specs.Values.{is_cell, has_no_width, full, name_width, cast_width, token_width, widths_in, common, is_cast, natural, is_plain, lone_call}
 use Rattle.lines.specs.Words.{kind_of, text_of, token_of, tokens_of}
@@ -29,6 +29,17 @@ use Rattle.lines.specs.Fams.{Names}
 use Rattle.lines.specs.declared.fams.Named.{Named}
 use Rattle.lines.proofs.fams.Families.{named_as, named-not}
 use Rattle.usefacts.specs.Widths.{is_unsized, is_addressed, own_width, passes}
+
+-- ---- words of control
+
+module _ (s : Text) {x : Bool} (ex : x ≡ has CASES s) where
+  pub case_word : x ≡ true → true ≡ has WORDS s
+  case_word h = sym (any_append (◌≟ s) CASES CONTROL ∙ or_true (has CONTROL s) (sym ex ∙ h))
+
+  pub control_word : x ≡ false → {y : Bool} → y ≡ has CONTROL s → y ≡ has WORDS s
+  control_word h ey = ey ∙ sym (any_append (◌≟ s) CASES CONTROL ∙ or_false (has CONTROL s) (sym ex ∙ h))
+
+pub ruleset worded = (case_word, control_word)
 
 -- ---- by kind: k is the token's kind, s its text
 

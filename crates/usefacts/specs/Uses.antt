@@ -1,5 +1,5 @@
 -- What the code knows of an expression that is put into a line, and the definitions asked of it. Assumes nothing.
-use Rattle.std.specs.Prelude.{ℕ, ◌+◌, ◌-◌, min, ◌≡◌, ◌≤◌, ◌<◌, Bool, List, [], ℤ, length, eqb, ltb, leb}
+use Rattle.std.specs.Prelude.{ℕ, ◌+◌, ◌-◌, min, ◌≡◌, ◌≤◌, ◌<◌, Bool, false, List, [], ℤ, length, eqb, ltb, leb}
 use Rattle.std.proofs.Math.Option.{Option, none}
 use Rattle.reference.specs.Control.{not, ◌and◌, ◌or◌, when◌then◌else◌, let_some◌else◌then◌}
 use Rattle.reference.specs.Lists.{any, get}
@@ -41,6 +41,10 @@ pub record Ready (j : Joining) : Type 0 where
   pub truth : j.truth ≡ is_truth (expr_in j)
   pub bracketed : j.bracketed ≡ is_bracketed (rules_of j.rules) (expr_in j)
   pub guarded : j.guarded ≡ is_guarded (line_in j)
+
+-- the token at u is a use
+unfoldable pub is_use : Text → List Token → ℕ → Bool
+is_use fam ts u = let_some (get ts u) else false then N.of_family fam
 
 -- ---- parts of what is asked
 

@@ -10,6 +10,7 @@ mod constants; // numbers that C may read otherwise
 mod copies; // the words of a right side, copied
 mod kept; // whether the width and the sign stay
 mod moves; // whether a call or a read moves
+mod oldline; // a line's cautions before the join, over all its uses
 mod parts; // a line's cautions in two parts
 mod reads; // what tokens read
 mod rest; // what a line reads beside a use
@@ -21,7 +22,8 @@ mod widths; // how wide tokens are
 pub use acts::acts_beside;
 pub use constants::{count_numbers, has_wild, is_tame};
 pub use copies::copy_expr;
-pub use parts::{After, Before, after_line, finish};
+pub use oldline::before_line;
+pub use parts::{After, Before, after_line, finish, given};
 pub use reads::{is_changeable, is_volatile_token, is_world};
 pub use sides::{compares, is_apart, is_whole};
 pub use usekinds::{use_kinds, use_sums};

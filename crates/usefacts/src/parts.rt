@@ -55,7 +55,7 @@ pub fn after_line(texts: &Texts<'_>, new: &[u64]) -> After
 
 // A set of kinds, if a condition holds.
 #[tactic(auto, using(crate::proofs::Splitting::givens))]
-pub(crate) fn given(s: u16, b: bool) -> u16
+pub fn given(s: u16, b: bool) -> u16
     ensures { result ≡ s given b }
 {
     if b { s } else { 0 }

@@ -31,18 +31,6 @@ pub struct Joining<'a> {
     pub guarded: bool,
 }
 
-// Whether a family is a stack slot.
-#[tactic(auto, using(crate::proofs::Using::slots))]
-fn is_slot(texts: &Texts<'_>, f: Fam) -> bool
-    requires { Known texts.now f }
-    ensures { result ≡ starts_with (fam_text texts.now f) (bytes "var_") }
-{
-    if f < 8 {
-        return false;
-    }
-    text::starts(words::text(texts, f), b"var_")
-}
-
 // The width and the lowest bit of the token at u.
 #[tactic(auto, using(crate::proofs::Using::named_here))]
 fn use_width(texts: &Texts<'_>, line: &[u64], u: usize) -> u64
@@ -73,7 +61,7 @@ pub(crate) fn assigned(j: &Joining<'_>) -> u64
     ensures is { (u : ℕ) → result ≡ (asked widths j.now u).0 }
     ensures few { result ≤ 64 }
 {
-    if is_slot(&j.texts, j.name.family) {
+    if flow::is_slot(&j.texts, j.name.family) {
         return widths::full(j.rules);
     }
     j.name.width
@@ -85,7 +73,7 @@ pub(crate) fn used(j: &Joining<'_>, u: usize) -> u64
     requires { Ready j.now × (u < length j.now.line.now) }
     ensures { result ≡ (asked widths j.now u).1 }
 {
-    if is_slot(&j.texts, j.name.family) {
+    if flow::is_slot(&j.texts, j.name.family) {
         return widths::full(j.rules);
     }
     use_width(&j.texts, j.line, u)

@@ -68,21 +68,14 @@ pub fn cast_width(s: &[u8]) -> u64
 }
 
 // Whether a text is a word of control.
+#[tactic(auto, using(crate::proofs::Widening::worded))]
 fn is_control(s: &[u8]) -> bool
     ensures { result ≡ has WORDS s.now }
 {
-    text::same(b"case", s)
-        || text::same(b"default", s)
-        || text::same(b"if", s)
-        || text::same(b"else", s)
-        || text::same(b"do", s)
-        || text::same(b"while", s)
-        || text::same(b"for", s)
-        || text::same(b"goto", s)
-        || text::same(b"return", s)
-        || text::same(b"break", s)
-        || text::same(b"continue", s)
-        || text::same(b"switch", s)
+    if flow::is_case_word(s) {
+        return true;
+    }
+    flow::is_control_word(s)
 }
 
 // Whether it is one, or the cast that changes no width.

@@ -26,8 +26,8 @@ put_named-requires-3 c =
     (room_left c.put_named.ensures _
     (omega (arith, ap length c.new-line.ensures.same_bytes, decimal-length c.args.size, tallied-length (tally_of c.args.tally), decimal-length c.args.removed))))
 
-pub put-requires : goal.put-requires
-put-requires c =
+pub put_named-requires-4 : goal.put_named-requires-4
+put_named-requires-4 c =
     let k : length (decimal c.args.cut) ≤ 20 = decimal-length c.args.cut in
     room_left c.put_named-3.ensures _
     (room_left c.put_named-2.ensures _
@@ -35,9 +35,21 @@ put-requires c =
     (room_left c.put_named.ensures _
     (omega (arith, ap length c.new-line.ensures.same_bytes, decimal-length c.args.size, tallied-length (tally_of c.args.tally), decimal-length c.args.removed)))))
 
+pub put-requires : goal.put-requires
+put-requires c =
+    let k : length (decimal c.args.cut) ≤ 20 = decimal-length c.args.cut in
+    let m : length (decimal c.args.cautioned) ≤ 20 = decimal-length c.args.cautioned in
+    room_left c.put_named-4.ensures _
+    (room_left c.put_named-3.ensures _
+    (room_left c.put_named-2.ensures _
+    (room_left c.put_tally.ensures _
+    (room_left c.put_named.ensures _
+    (omega (arith, ap length c.new-line.ensures.same_bytes, decimal-length c.args.size, tallied-length (tally_of c.args.tally), decimal-length c.args.removed))))))
+
 pub returns : goal.returns
 unfolding counts
 returns c =
     let h : c.new-line.result.at ≤ length c.new-line.result.out.now = omega arith in
     let w = then_named (bytes ", lines removed ") c.args.removed (then_puts c.put_named.ensures h c.put_tally.ensures) h c.put_named-2.ensures in
-    at_front (then_puts (then_named (bytes ", results cut ") c.args.cut w h c.put_named-3.ensures) h c.put.ensures) (search rules) (search rules) (search rules)
+    let x = then_named (bytes ", results cut ") c.args.cut w h c.put_named-3.ensures in
+    at_front (then_puts (then_named (bytes ", lines cautioned ") c.args.cautioned x h c.put_named-4.ensures) h c.put.ensures) (search rules) (search rules) (search rules)

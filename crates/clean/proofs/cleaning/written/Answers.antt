@@ -1,6 +1,8 @@
 -- `clean::cleaning::written` meets its contract. Assumes nothing.
 use Rattle.std.proofs.Common.{rules, ◌≡◌, length}
 use Rattle.ground.specs.Rules.{rules_of}
+use mathlib.Core.Path.{refl}
+use Rattle.raising.proofs.Lending.{none_kept}
 use Rattle.clean.proofs.Running.{loaded-runnable, fits-output, writes}
 use Rattle.clean.proofs.cleaning.written.Goals as goal
 
@@ -10,7 +12,7 @@ optimized-r-requires c =
     let p = c.requires in
     let lines_long : length l.new.self.lines ≡ 256 = search rules in
     let marks_long : length l.new.self.marks ≡ 256 = search rules in
-    loaded-runnable _ l.ensures.0 p.first_text p.second_text (search rules) lines_long (search rules) marks_long
+    (loaded-runnable _ l.ensures.0 p.first_text p.second_text (search rules) lines_long (search rules) marks_long, none_kept refl)
 
 pub returns : goal.returns
 returns c =

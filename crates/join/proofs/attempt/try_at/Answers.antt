@@ -1,32 +1,58 @@
 -- `join::attempt::try_at` meets its contract. Assumes nothing.
 use mathlib.Core.Path.{refl}
 use Rattle.ground.specs.Rules.{rules_of}
+use Rattle.raising.proofs.Lending.{tables_then}
 use Rattle.join.proofs.Lending.{lent_behind}
-use Rattle.join.proofs.Trying.{nothing-done, plannable, joined-done}
+use Rattle.join.proofs.Trying.{nothing-done, plannable, joined-done, line_inside, left-bare, left-inside, raised-done}
 use Rattle.join.proofs.attempt.try_at.Goals as goal
 
 pub returns-in_err-j-clause-attempted : goal.returns-in_err-j-clause-attempted
 returns-in_err-j-clause-attempted c =
-    rw c.from_residual.ensures (nothing-done (rules_of c.args.rules) c.requires c.plan_at.ensures c.in_err-j.was refl)
+    let p = c.requires in
+    rw c.from_residual.ensures (nothing-done (rules_of c.args.rules) (p.0, p.1) c.plan_at.ensures c.in_err-j.was refl)
+
+pub raise_before-own-requires : goal.raise_before-own-requires
+raise_before-own-requires c =
+    let p = c.requires in
+    (plannable (rules_of c.args.rules) (p.0, p.1) c.plan_at.ensures c.in_ok-j.was, p.0.current, p.0.limits, p.0.words_short, p.2)
 
 pub carry_marks-requires : goal.carry_marks-requires
 carry_marks-requires c =
-    let r = c.requires.0 in
-    (plannable (rules_of c.args.rules) c.requires c.plan_at.ensures c.in_ok-j.was, r.current, r.for_marks)
+    let p = c.requires in
+    (plannable (rules_of c.args.rules) (p.0, p.1) c.plan_at.ensures c.in_ok-j.was, p.0.current, p.0.for_marks)
 
-pub apply-requires : goal.apply-requires
-apply-requires c =
+pub apply-after-requires : goal.apply-after-requires
+apply-after-requires c =
     let s = c.carry_marks.ensures.rest in
-    let r = c.requires.0 in
+    let p = c.requires in
     rw (s.area_is, s.tokens_are, s.lines_are, s.area2_is, s.tokens2_are)
-    (plannable (rules_of c.args.rules) c.requires c.plan_at.ensures c.in_ok-j.was, r.current, r.lent)
+    (plannable (rules_of c.args.rules) (p.0, p.1) c.plan_at.ensures c.in_ok-j.was, p.0.current, p.0.lent)
 
-pub returns-clause-attempted : goal.returns-clause-attempted
-returns-clause-attempted c =
-    let e = c.apply.ensures in
+pub raise_after-requires : goal.raise_after-requires
+raise_after-requires c =
+    let p = c.requires in
+    let e = c.apply-after.ensures in
     let s = c.carry_marks.ensures.rest in
     let acted = rw (s.area_is, s.tokens_are, s.lines_are) at e.acted in
-    joined-done (rules_of c.args.rules) c.requires c.plan_at.ensures c.in_ok-j.was c.apply.new.room (rw e.marks c.carry_marks.ensures.carried) acted
+    let left = left-inside (rules_of c.args.rules) (p.0, p.1) c.plan_at.ensures c.in_ok-j.was c.apply-after.new.room acted in
+    (acted.current, left.0, left.1, c.raise_before-own.ensures.halfway.kept.room)
 
-pub returns-clause-lent : goal.returns-clause-lent
-returns-clause-lent c = lent_behind c.carry_marks.ensures.rest c.apply.ensures.lent
+pub returns : goal.returns
+returns c =
+    let p = c.requires in
+    let e = c.apply-after.ensures in
+    let s = c.carry_marks.ensures.rest in
+    let rules = rules_of c.args.rules in
+    let d = c.plan_at.ensures in
+    let was = c.in_ok-j.was in
+    let acted = rw (s.area_is, s.tokens_are, s.lines_are) at e.acted in
+    let before = c.raise_before-own.ensures in
+    let after = c.raise_after.ensures in
+    record {
+      attempted = joined-done rules (p.0, p.1) d was c.apply-after.new.room (rw e.marks c.carry_marks.ensures.carried) acted;
+      raised =
+          raised-done rules (p.0, p.1) d was c.apply-after.new.room acted
+          (after.raised rules _ _ _ before.halfway (left-bare rules (p.0, p.1) d was c.apply-after.new.room acted) (line_inside rules (p.0, p.1) d was));
+      lent = lent_behind s e.lent;
+      lent_raising = tables_then before.lent after.lent;
+    }

@@ -22,9 +22,11 @@ gather_slots-names-requires c =
 
 pub turns-requires : goal.turns-requires
 turns-requires c =
-    let l = c.listing-listing.ensures in
-    begin_attemptable c.requires.0 (rw (l.tape_is, l.area_is, l.tokens_are, l.lines_are) at c.gather_labels-known.ensures) _
-    (rw (l.tape_is, l.area_is, l.tokens_are, l.lines_are) at c.gather_slots-names.ensures)
+    let l = c.listing-listing.ensures in (
+      begin_attemptable c.requires.0 (rw (l.tape_is, l.area_is, l.tokens_are, l.lines_are) at c.gather_labels-known.ensures) _
+          (rw (l.tape_is, l.area_is, l.tokens_are, l.lines_are) at c.gather_slots-names.ensures),
+      c.requires.2,
+    )
 
 pub returns : goal.returns
 returns c =
@@ -35,4 +37,5 @@ returns c =
           begin_made c.requires.0 (rw (l.tape_is, l.area_is, l.tokens_are, l.lines_are) at c.gather_labels-known.ensures) c.gather_slots-names.result
           (rw (l.tape_is, l.area_is, l.tokens_are, l.lines_are) at c.gather_slots-names.ensures) _ t.made;
       lent = t.lent;
+      lent_raising = t.lent_raising;
     }

@@ -1,0 +1,57 @@
+-- `cautioned::call::cautions` meets its contract. Assumes nothing.
+use mathlib.Core.Path.{◌≡◌, sym, ap, ◌∙◌}
+use borrow.Author.Rules.{rules}
+use Rattle.std.specs.Prelude.{Ok, Err}
+use Rattle.std.specs.Result.{MatchResult, IsErrAnd}
+use Rattle.ground.specs.Rules.{rules_of}
+use Rattle.tape.specs.Questions.{checked}
+use Rattle.tape.proofs.questions.Reading.{refused_by, accepted_by}
+use Rattle.cautioned.proofs.Answering.{refused_early, refused_on_tape, cautionable, refused_now, finished-now}
+use Rattle.cautioned.proofs.call.cautions.Goals as goal
+
+pub returns-in_err-map_err : goal.returns-in_err-map_err
+returns-in_err-map_err c =
+    let h : MatchResult c.asked.result (λ a. c.map_err.result ≡ Ok a) (λ r. IsErrAnd c.map_err.result (λ x. x ≡ record { reason = r; place = 0 })) = search rules in
+    let k : c.from_residual.result ≡ Err c.in_err-map_err.field-0.0 = search rules in
+    let a = c.args in
+    let p = refused_early (rules_of a.rules) a.tape.now a.work_a.now a.work_b.now a.out.now c.asked.result c.asked.ensures h _ c.in_err-map_err.was in
+    rw k (record { result_value = p.result_value; alike = p.alike; lent = p.lent; tells = p.tells })
+
+pub returns-in_err-check : goal.returns-in_err-check
+returns-in_err-check c =
+    let k : c.from_residual-in_err-check.result ≡ Err c.in_err-check.field-0.0 = search rules in
+    let d : c.asked.result ≡ Ok c.in_ok-map_err.field-0 = search rules in
+    let a = c.args in
+    let p =
+    refused_on_tape (rules_of a.rules) a.tape.now a.work_a.now a.work_b.now a.out.now c.asked.ensures d
+    (refused_by a.tape.now (sym (ap checked c.in_err-check.was) ∙ c.check.ensures)) in
+    rw k (record { result_value = p.result_value; alike = p.alike; lent = p.lent; tells = p.tells })
+
+pub outside_profile-requires : goal.outside_profile-requires
+outside_profile-requires c = accepted_by c.args.tape.now (sym (ap checked c.in_ok-check.was) ∙ c.check.ensures)
+
+pub finish-requires : goal.finish-requires
+finish-requires c =
+    let d : c.asked.result ≡ Ok c.in_ok-map_err.field-0 = search rules in
+    let a = c.args in
+    cautionable (rules_of a.rules) a.tape.now a.work_a.now a.work_b.now a.out.now c.asked.ensures d
+    (accepted_by a.tape.now (sym (ap checked c.in_ok-check.was) ∙ c.check.ensures))
+
+pub returns-in-Some : goal.returns-in-Some
+returns-in-Some c =
+    let d : c.asked.result ≡ Ok c.in_ok-map_err.field-0 = search rules in
+    let a = c.args in
+    let p =
+    refused_now (rules_of a.rules) a.tape.now a.work_a.now a.work_b.now a.out.now c.asked.ensures d
+    (accepted_by a.tape.now (sym (ap checked c.in_ok-check.was) ∙ c.check.ensures)) c.outside_profile.result c.outside_profile.ensures _ c.in-Some.is in
+    rw c.at.ensures (record { result_value = p.result_value; alike = p.alike; lent = p.lent; tells = p.tells })
+
+pub returns-in-None : goal.returns-in-None
+returns-in-None c =
+    let d : c.asked.result ≡ Ok c.in_ok-map_err.field-0 = search rules in
+    let a = c.args in
+    let p =
+    finished-now (rules_of a.rules) a.tape.now a.work_a.now a.work_b.now a.out.now c.asked.ensures d
+    (accepted_by a.tape.now (sym (ap checked c.in_ok-check.was) ∙ c.check.ensures)) c.outside_profile.result c.outside_profile.ensures
+    c.in-None.is c.finish.ensures in
+    record { result_value = p.result_value; alike = p.alike; lent = p.lent; tells = p.tells }

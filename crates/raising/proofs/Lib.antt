@@ -1,0 +1,10 @@
+-- Laws of the tables and the steps.
+pub mod Lending
+pub mod Putting
+pub mod Cutting
+pub mod Gathering
+pub mod Told
+pub mod Noted
+pub mod Renewed
+pub mod Before
+pub mod Passing
