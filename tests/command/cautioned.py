@@ -34,7 +34,7 @@ def calls():
 
 
 def words_of(settings):
-    return ["-c", CONVENTIONS[settings.convention], "-e", str((2018, 2024)[settings.edition]), *["--parts"] * settings.parts, *["--settle"] * settings.settle,
+    return ["-c", CONVENTIONS[settings.convention], "-e", ("rust", "2024")[settings.edition], *["--parts"] * settings.parts, *["--settle"] * settings.settle,
             *["--profile"] * settings.profile]
 
 
