@@ -567,7 +567,9 @@ fn begin(rt: &HostRuntime, words: &[u8]) -> Outcome {
         return Outcome::Misused;
     }
     if request.dated && !request.form.quiet {
-        tell(b"puchkewa: -e 2018 is -e rust now: numbers are read as the Rust reads them, 010 as ten\n");
+        tell(
+            b"puchkewa: -e 2018 is -e rust now: numbers are read as the Rust reads them, 010 as ten\n",
+        );
     }
     let target = target_of(words, request.goal.destination);
     let call = Call {
