@@ -113,7 +113,7 @@ def try_completion(folder):
             expect(is_option == (option in completed("puchkewa", verb, "-")), verb, option, "is offered" if not is_option else "is not offered")
     (here / "a folder").mkdir(parents=True)
     (here / "x.tape").write_bytes(GOOD)
-    for words, right in ((("c",), ["clean", "counts", "cautions", "check"]), (("clean", "-c", ""), ["32", "sysv", "windows"]), (("clean", "-cw"), ["-cwindows"]), (("clean", "-e", ""), ["2018", "2024"]),
+    for words, right in ((("c",), ["clean", "counts", "cautions", "check"]), (("clean", "-c", ""), ["32", "sysv", "windows"]), (("clean", "-cw"), ["-cwindows"]), (("clean", "-e", ""), ["rust", "2024"]),
                          (("edition", ""), ["2018", "2024"]), (("edition", "2018", ""), ["a folder", "x.tape"]), (("state", "x.tape", ""), ["list", "save", "get", "delete"]),
                          (("clean", "x"), ["x.tape"]),
                          (("clean", "-d", ""), ["a folder"]), (("clean", "-o", "x"), ["x.tape"]), (("clean", "--", "-"), []), (("clean", "--pa"), ["--parts"]), (("cautions", "--j"), ["--json"])):
