@@ -34,7 +34,7 @@ def calls():
 
 
 def words_of(settings):
-    return ["-c", CONVENTIONS[settings.convention], "-e", str((2018, 2024)[settings.edition]), *["--parts"] * settings.parts, *["--settle"] * settings.settle,
+    return ["-c", CONVENTIONS[settings.convention], "-e", ("rust", "2024")[settings.edition], *["--parts"] * settings.parts, *["--settle"] * settings.settle,
             *["--profile"] * settings.profile]
 
 
@@ -93,7 +93,7 @@ def try_cautions(folder):
     bad.write_bytes(BAD)
     status, printed, warned = run("cautions", good, bad, good, folder / "none")
     line = f"{good}: cautioned lines: 0 of 1; {SILENCE}\n"
-    expect((status, printed.decode()) == (1, line * 2) and f"{bad}: refused 4 at 0, " in warned and "4 files: 2 cleaned, 1 refused, 1 failed" in warned, status, printed, warned)
+    expect((status, printed.decode()) == (1, line * 2) and f"{bad}: refused 4 at 0: " in warned and "4 files: 2 cleaned, 1 refused, 1 failed" in warned, status, printed, warned)
     status, printed, warned = run("cautions", "-q", "--json", good, bad)
     first, second = map(json.loads, printed.decode().splitlines())
     expect(status == 1 and first == {"file": str(good), "lines": 1, "cautioned": []} and second["refused"] == 4 and warned.count("\n") == 1, printed, warned)

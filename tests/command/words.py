@@ -37,6 +37,10 @@ def try_conventions(folder):
         results[value] = apart[1]
     expect(results["sysv"] != results["windows"], "the conventions of this trial cannot be told apart", results)
     expect(run("clean", "-e2024", calls) == run("clean", "-e", "2024", calls) and run("clean", "-e2024", calls)[0] == 0, "-e2024")
+    for words, plain in ((("-erust",), ()), (("-e", "0"), ()), (("-e1",), ("-e", "2024"))):
+        expect(run("clean", *words, calls) == run("clean", *plain, calls), words)
+    status, out, told = run("clean", "-e", "2018", calls)
+    expect((status, out) == run("clean", calls)[:2] and told.startswith("puchkewa: -e 2018 is -e rust now") and run("clean", "-q", "-e2018", calls)[2] == "", told)
     (folder / "out").mkdir()
     for words, path in ((("-oout/y",), "out/y"), (("-dout",), "out/sum.tape")):
         expect(run("clean", "sum.tape", *words, cwd=folder) == (0, b"", "") and (folder / path).read_bytes() == run("clean", sum_tape)[1], words)
@@ -109,7 +113,7 @@ def try_completion(folder):
             expect(is_option == (option in completed("puchkewa", verb, "-")), verb, option, "is offered" if not is_option else "is not offered")
     (here / "a folder").mkdir(parents=True)
     (here / "x.tape").write_bytes(GOOD)
-    for words, right in ((("c",), ["clean", "counts", "cautions", "check"]), (("clean", "-c", ""), ["32", "sysv", "windows"]), (("clean", "-cw"), ["-cwindows"]), (("clean", "-e", ""), ["2018", "2024"]),
+    for words, right in ((("c",), ["clean", "counts", "cautions", "check"]), (("clean", "-c", ""), ["32", "sysv", "windows"]), (("clean", "-cw"), ["-cwindows"]), (("clean", "-e", ""), ["rust", "2024"]),
                          (("edition", ""), ["2018", "2024"]), (("edition", "2018", ""), ["a folder", "x.tape"]), (("state", "x.tape", ""), ["list", "save", "get", "delete"]),
                          (("clean", "x"), ["x.tape"]),
                          (("clean", "-d", ""), ["a folder"]), (("clean", "-o", "x"), ["x.tape"]), (("clean", "--", "-"), []), (("clean", "--pa"), ["--parts"]), (("cautions", "--j"), ["--json"])):

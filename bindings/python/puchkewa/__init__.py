@@ -21,7 +21,7 @@ would count as the end of every value.
 Threads. Calls may run in several threads at the same time: each has its own memory, and Python's lock is free during the call. A Store
 takes one call after the other.
 
-Stack. A cleaning takes about 116,000 bytes of stack (measured). With Settings.profile, and in a search for a start value, it takes 144
+Stack. A cleaning takes about 118,000 bytes of stack (measured). With Settings.profile, and in a search for a start value, it takes 144
 bytes more for each level of nested brackets: up to 3.7 million. The main thread and the threads that Python makes have the system's limit
 as a rule (`ulimit -s`, 8 MiB). Where that or threading.stack_size is less, use with_stack.
 """

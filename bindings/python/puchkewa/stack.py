@@ -15,7 +15,7 @@ _making = threading.Lock()
 
 def with_stack(call: Callable[..., T], *words: Any) -> T:
     """Makes a call on a thread of its own with STACK bytes of stack, and waits for it: with_stack(clean, listing, settings). Needed where
-    less may be left than a call takes: about 116,000 bytes, and with the profile or in a search for a start value up to 3.7 million.
+    less may be left than a call takes: about 118,000 bytes, and with the profile or in a search for a start value up to 3.7 million.
 
     threading.stack_size is another for the moment in which the thread is made, since Python has no other way to ask for a
     stack: a thread that is made elsewhere in that moment gets as much, and whoever sets it in that moment finds it set back.

@@ -101,7 +101,7 @@ impl Cleaner {
         Cleaner { tape: Vec::with_capacity(Cleaner::MOST), work_a: zeros(ffi::WORK), work_b: zeros(ffi::WORK), out: zeros(ffi::OUTPUT) }
     }
 
-    /// Cleans a listing on the caller's stack. It takes about 116,000 bytes of it, with the profile up to 3.7 million.
+    /// Cleans a listing on the caller's stack. It takes about 118,000 bytes of it, with the profile up to 3.7 million.
     ///
     /// # Errors
     ///

@@ -26,7 +26,7 @@
 //!
 //! # Stack
 //!
-//! A cleaning takes about 116,000 bytes of stack (measured). With [`Settings::profile`], and in a search for a start value, it takes 144
+//! A cleaning takes about 118,000 bytes of stack (measured). With [`Settings::profile`], and in a search for a start value, it takes 144
 //! bytes more for each level of nested brackets: up to 3.7 million. [`clean`], [`cautions`] and [`start_value`] run on a thread of their own
 //! that has enough ([`STACK`]). The calls of [`Cleaner`] and of [`tape`] run on the caller's stack. The main thread has enough as a rule (8 MiB), a
 //! thread that Rust makes (2 MiB) has enough without the profile. Where less may be left, use [`Cleaner::clean_on_thread`] or

@@ -5,7 +5,7 @@
 pub const STACK: usize = 8 << 20;
 
 /// Makes a call on a thread of its own with [`STACK`] bytes of stack, and waits for it. Needed where less may be left than a call takes:
-/// about 116,000 bytes, and with the profile or in a search for a start value up to 3.7 million.
+/// about 118,000 bytes, and with the profile or in a search for a start value up to 3.7 million.
 ///
 /// # Panics
 ///

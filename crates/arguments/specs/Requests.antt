@@ -9,7 +9,7 @@ use Rattle.std.specs.Prelude.{Option, Some, None, if◌then◌else◌}
 use Rattle.std.proofs.Math.Option.{none, some}
 use Rattle.reference.specs.Text.{Text, bytes, starts_with, ◌≟◌}
 use Rattle.words.specs.Numerals.{integer_in}
-use Rattle.arguments.specs.Tables.{meaning_in, verbs, options, conventions, editions, kind_of, has_value, takes, is_start, fewest, most}
+use Rattle.arguments.specs.Tables.{meaning_in, verbs, options, conventions, readings, kind_of, has_value, takes, is_start, fewest, most}
 use Rattle.arguments.specs.Values.{is_name, value_of}
 use Rattle.arguments.specs.Entries.{equals_at, is_entry, entry_value, entry_bytes}
 use Rattle.arguments.specs.Words.{is_at}
@@ -28,7 +28,7 @@ use Rattle.arguments.specs.declared.request.Destination.TheVariants as destinati
 use Rattle.arguments.specs.declared.request.Request.{Request}
 use Rattle.arguments.specs.Request.{with_fault, with_operand}
 
--- before the first word: System V, the edition of 2018, all else off
+-- before the first word: System V, numbers as the Rust reads them, all else off
 abbrev pub none_yet : Request
 none_yet =
     record {
@@ -37,6 +37,7 @@ none_yet =
       fault = None;
       pending = None;
       ended = false;
+      dated = false;
       rules = record { convention = 1; settle = false; edition = 0; parts = false; profile = false };
       goal = record { destination = destination.StandardOutput; force = false };
       form = record { filter = false; exact = false; json = false; quiet = false };
@@ -58,10 +59,14 @@ take_convention s k w =
       | None ↦ with_fault problem.BadValue (Some k) s
     ]
 
+-- an older word for `rust`
+abbrev pub is_dated : Text → Bool
+is_dated w = w ≟ bytes "2018"
+
 abbrev pub take_edition : Request → ℕ → Text → Request
 take_edition s k w =
-    elim (meaning_in editions w) [
-      | Some n ↦ record s { rules = record s.rules { edition = n } }
+    elim (meaning_in readings w) [
+      | Some n ↦ record s { dated = s.dated || is_dated w; rules = record s.rules { edition = n } }
       | None ↦ with_fault problem.BadValue (Some k) s
     ]
 

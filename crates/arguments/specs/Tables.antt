@@ -48,6 +48,10 @@ conventions = (bytes "32", 0) ∷ (bytes "sysv", 1) ∷ (bytes "windows", 2) ∷
 abbrev pub editions : List (Text × ℕ)
 editions = (bytes "2018", 0) ∷ (bytes "2024", 1) ∷ []
 
+-- how numbers are read: as the Rust reads them, or by C of 2024; the last is an older word for the first
+abbrev pub readings : List (Text × ℕ)
+readings = (bytes "rust", 0) ∷ (bytes "2024", 1) ∷ (bytes "0", 0) ∷ (bytes "1", 1) ∷ (bytes "2018", 0) ∷ []
+
 abbrev pub actions : List (Text × Action)
 actions =
     (bytes "list", action.List) ∷ (bytes "save", action.Save) ∷ (bytes "get", action.Get) ∷ (bytes "delete", action.Delete) ∷ []

@@ -5,7 +5,7 @@ ghost use Rattle.words.specs.Splitting.{split};
 ghost use Rattle.arguments.specs.Requests.{take_verb, take_convention, take_edition, take_destination, take_wanted, take_chosen};
 ghost use Rattle.arguments.specs.Requests.{take_value, set_option, option_length, value_from, put_option, put_joined, take_joined};
 ghost use Rattle.arguments.specs.Requests.{take_option, put_value, take_name, put_operand, take_entry, take_operand, is_option};
-ghost use Rattle.arguments.specs.Requests.{is_help, take_free, take_word, step_of, judge_output, judge_plain, judge_options};
+ghost use Rattle.arguments.specs.Requests.{is_help, is_dated, take_free, take_word, step_of, judge_output, judge_plain, judge_options};
 ghost use Rattle.arguments.specs.Requests.{judge_operands, judged, request_of, entries_of};
 ghost use Rattle.text.specs.Cursor.{Written};
 
@@ -15,7 +15,7 @@ use crate::request::{
     Action, Destination, Flag, Kind, Operands, Part, Problem, Request, Value, Verb,
 };
 use crate::values::{is_name, value_of};
-use crate::word_tables::{convention_in, edition_in, option_in, verb_in};
+use crate::word_tables::{convention_in, option_in, reading_in, verb_in};
 use text::Cursor;
 use words::integer_in;
 
@@ -31,6 +31,12 @@ fn is_help(word: &[u8]) -> bool
     ensures { result ≡ is_help word.now }
 {
     word == b"-h".as_slice() || word == b"--help".as_slice()
+}
+
+fn is_dated(word: &[u8]) -> bool
+    ensures { result ≡ is_dated word.now }
+{
+    word == b"2018".as_slice()
 }
 
 fn is_end(word: &[u8]) -> bool
@@ -103,8 +109,11 @@ impl Request {
     fn take_edition(&mut self, k: u64, word: &[u8])
         ensures { self.new ≡ take_edition self.old k word.now }
     {
-        match edition_in(word) {
-            Some(edition) => self.rules.edition = edition,
+        match reading_in(word) {
+            Some(edition) => {
+                self.dated = self.dated || is_dated(word);
+                self.rules.edition = edition;
+            }
             None => self.fail(Problem::BadValue, Some(k)),
         }
     }

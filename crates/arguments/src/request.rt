@@ -159,6 +159,7 @@ pub struct Request {
     pub fault: Option<Fault>, // what is wrong first
     pub pending: Option<Flag>, // the option whose value comes next
     pub ended: bool, // behind --: no word is an option any more
+    pub dated: bool, // -e 2018, an older word for -e rust
     pub rules: Rules, // the settings of a cleaning
     pub goal: Goal,
     pub form: Form,
@@ -167,7 +168,7 @@ pub struct Request {
 }
 
 impl Request {
-    // Before the first word: nothing is asked for; the settings are System V and the edition of 2018.
+    // Before the first word: nothing is asked for; the settings are System V, and numbers as the Rust reads them.
     pub fn begin() -> Self
         ensures { result ≡ none_yet }
     {
@@ -177,6 +178,7 @@ impl Request {
             fault: None,
             pending: None,
             ended: false,
+            dated: false,
             rules: Rules {
                 convention: 1,
                 settle: false,

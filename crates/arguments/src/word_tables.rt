@@ -1,6 +1,6 @@
 // Which words, options and operands there are. A further verb is a row, and what it takes.
 ghost use Rattle.std.specs.Prelude.{◌≡◌, map};
-ghost use Rattle.arguments.specs.Tables.{row_of, meaning_in, verbs, options, conventions, editions, actions};
+ghost use Rattle.arguments.specs.Tables.{row_of, meaning_in, verbs, options, conventions, editions, readings, actions};
 ghost use Rattle.arguments.specs.Tables.{kind_of, takes_output, takes, has_value, fewest, most};
 
 use crate::request::{Action, Flag, Kind, Value, Verb};
@@ -48,6 +48,15 @@ const CONVENTIONS: [(&[u8], u8); 3] = [(b"32", 0), (b"sysv", 1), (b"windows", 2)
 
 const EDITIONS: [(&[u8], u8); 2] = [(b"2018", 0), (b"2024", 1)];
 
+// How numbers are read, by the words of -e; the last is an older word for the first.
+const READINGS: [(&[u8], u8); 5] = [
+    (b"rust", 0),
+    (b"2024", 1),
+    (b"0", 0),
+    (b"1", 1),
+    (b"2018", 0),
+];
+
 const ACTIONS: [(&[u8], Action); 4] = [
     (b"list", Action::List),
     (b"save", Action::Save),
@@ -85,6 +94,12 @@ pub(crate) fn edition_in(word: &[u8]) -> Option<u8>
     ensures { result ≡ meaning_in editions word.now }
 {
     meaning(&EDITIONS, word)
+}
+
+pub(crate) fn reading_in(word: &[u8]) -> Option<u8>
+    ensures { result ≡ meaning_in readings word.now }
+{
+    meaning(&READINGS, word)
 }
 
 pub(crate) fn action_in(word: &[u8]) -> Option<Action>

@@ -63,7 +63,7 @@ fn line_of(option: Flag) -> &'static [u8] {
     match option {
         Flag::Convention => b"\x20 -c 32|sysv|windows  the calling convention (sysv)\n",
         Flag::Edition => {
-            b"\x20 -e 2018|2024        the edition of C by which numbers are read (2018)\n"
+            b"\x20 -e rust|2024        how numbers are read: as the Rust does, or by C of 2024 (rust)\n"
         }
         Flag::Parts => {
             b"\x20 --parts             ah is not al: parts of a register are kept apart\n"

@@ -566,6 +566,11 @@ fn begin(rt: &HostRuntime, words: &[u8]) -> Outcome {
         help::tell_wrong(words, request.verb, fault);
         return Outcome::Misused;
     }
+    if request.dated && !request.form.quiet {
+        tell(
+            b"puchkewa: -e 2018 is -e rust now: numbers are read as the Rust reads them, 010 as ten\n",
+        );
+    }
     let target = target_of(words, request.goal.destination);
     let call = Call {
         rt,

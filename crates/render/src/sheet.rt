@@ -229,10 +229,10 @@ fn put_convention(out: Output, convention: u8) -> Result<(), Unwritten> {
 }
 
 fn put_edition(out: Output, edition: u8) -> Result<(), Unwritten> {
-    let name = b"numbers are read by C of";
+    let name = b"numbers are read";
     match edition {
-        0 => put_said(out, name, b"2018"),
-        _ => put_said(out, name, b"2024"),
+        0 => put_said(out, name, b"as the Rust reads them"),
+        _ => put_said(out, name, b"by C of 2024"),
     }
 }
 
