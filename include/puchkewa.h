@@ -45,9 +45,10 @@ enum puchkewa_convention {
     PUCHKEWA_WINDOWS_64 = 2 /* 64 bits, Windows: rax rcx rdx r8 r9 r10 r11 */
 };
 
-/* How numbers are read: by C's edition of 2018, as far as the Rust follows it, or by that of 2024 (docs/DIFFERENCES.md has both). */
+/* How numbers are read: as the Rust reads them, or by C's edition of 2024 (docs/DIFFERENCES.md has both). */
 enum puchkewa_edition {
-    PUCHKEWA_C_2018 = 0, /* as the Rust reads them: decimal, a leading 0 or not, and 0x */
+    PUCHKEWA_RUST = 0,   /* as the Rust reads them: decimal, a leading 0 or not, and 0x; 010 is ten, which it is not in C of 2018 */
+    PUCHKEWA_C_2018 = 0, /* an older name for PUCHKEWA_RUST */
     PUCHKEWA_C_2024 = 1  /* decimal, octal behind a leading 0, 0x and 0X, 0b and 0B; one ' may stand between two digits */
 };
 
