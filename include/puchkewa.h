@@ -1,18 +1,19 @@
-/* Puchkewa: cleans a listing of pseudocode, a tape in, the cleaned tape out; brings one from one edition of C to the other; keeps named states
- * of one; brings a tape to the form by offset from a load address, and back; writes the most laborious listing; tells which start value makes a
- * formula return a wanted value; tells which finished line may mean something else than the raw lines, and why. What a tape is: docs/TAPE.md.
+/* Puchkewa cleans a listing of pseudocode: a tape in, the cleaned tape out. Cleaning joins a line that sets a register into the lines that read it. A tape is
+ * the bytes that hold a listing (docs/TAPE.md). "The Rust" is the module whose cleaning this library follows. Further calls bring a tape from one edition of C
+ * to the other; keep named states of a listing; bring a tape to the form by offset from a load address, and back; write the most laborious listing; tell
+ * which start value makes a formula return a wanted value; and tell which finished line may mean something else than the raw lines, and why.
  *
- * Each function is proved to meet what is said here, for every input (crates/puchkewa/src; the promise of the cleaning is `Cleans` in
- * crates/clean/specs/Replies.antt, that of a call that writes a tape is `WritesTold` in crates/answers/specs/Answers.antt). They keep no state,
+ * Each function is proved to meet what is said here, for every input (crates/puchkewa/src). The promise of the cleaning is `Cleans` in
+ * crates/clean/specs/Replies.antt, that of a call that writes a tape is `WritesTold` in crates/answers/specs/Answers.antt. The functions keep no state,
  * allocate nothing and call nothing of C but memset, memcpy and memmove. Calls in several threads are safe where they share no memory that one of them
- * writes.
+ * writes. A cleaned listing need not mean the same as the raw one (docs/DIFFERENCES.md).
  *
  * What no call can ask, and its caller must see to:
  *   Overlap. Memory that a call writes must not overlap any other memory that it is lent.
  *   Pointers. None may be null, and each has as many bytes behind it as its length says.
- *   Stack. Not proved, but measured: the cleaning takes about 118,000 bytes, puchkewa_cautions 128,000, puchkewa_start_value 48,000, each other call less than 4,000. With the
- *   profile, and in puchkewa_start_value, each level of nested brackets takes 144 more: up to 3.7 million (docs/TIMES.md). On a thread that has
- *   less the program crashes; 8 MiB are enough for every call.
+ *   Stack. Not proved, but measured: the cleaning takes about 118,000 bytes, puchkewa_cautions 128,000, puchkewa_start_value 48,000, each other call less than
+ *   4,000. With the profile, and in puchkewa_start_value, each level of nested brackets takes 144 more: up to 3.6 million in all (docs/TIMES.md). On a thread
+ *   that has less the program crashes; 8 MiB are enough for every call.
  *
  * Link with target/staticlib/libpuchkewa.a, which `bin/archive` makes (x86-64 Linux), or with the shared library that `bin/shared` makes of it. Packages for
  * Rust and Python: bindings. */
@@ -45,30 +46,32 @@ enum puchkewa_convention {
     PUCHKEWA_WINDOWS_64 = 2 /* 64 bits, Windows: rax rcx rdx r8 r9 r10 r11 */
 };
 
-/* How numbers are read: as the Rust reads them, or by C's edition of 2024 (docs/DIFFERENCES.md has both). */
+/* How the numbers of a listing are read: as the Rust reads them, or by C's edition of 2024 (docs/DIFFERENCES.md has both). */
 enum puchkewa_edition {
-    PUCHKEWA_RUST = 0,   /* as the Rust reads them: decimal, a leading 0 or not, and 0x; 010 is ten, which it is not in C of 2018 */
-    PUCHKEWA_C_2018 = 0, /* an older name for PUCHKEWA_RUST */
-    PUCHKEWA_C_2024 = 1  /* decimal, octal behind a leading 0, 0x and 0X, 0b and 0B; one ' may stand between two digits */
+    PUCHKEWA_RUST = 0,   /* as the Rust reads them: decimal, a leading 0 or not, and 0x; 010 is ten (in C of 2018 it is eight) */
+    PUCHKEWA_C_2018 = 0, /* an older name for PUCHKEWA_RUST, and a wrong one: it is not C of 2018 */
+    PUCHKEWA_C_2024 = 1  /* decimal, octal behind a leading 0, 0x and 0X, 0b and 0B; one ' may stand between two digits; 010 is eight */
 };
 
-/* The settings of a call, passed by value. Set all of them by { .convention = .. }: those that are not named are then off, also those that a later
- * version adds. */
+/* The settings of a call, passed by value. Set them by { .convention = .. }: those that are not named are then off, and so are those that a later version
+ * adds. Cleaning goes in rounds; a round is attempts, each to join one line into the lines that read its register; behind the rounds come the cuts, which take
+ * `rax = ` off a call whose result the Rust's scan takes for unread. */
 struct puchkewa_settings {
     uint8_t convention; /* 0, 1 or 2: enum puchkewa_convention */
     bool settle;        /* false: at most three rounds. true: rounds until one changes nothing, at most one more than the listing has lines; one further
-                           round before the cuts would change no byte */
+                           round before the cuts would then change no byte */
     uint8_t edition;    /* 0 or 1: enum puchkewa_edition */
-    bool parts;         /* true: a value assigned to a part of a register is joined into a use below 32 bits only if that is the same part: ah is not al */
-    bool profile;       /* true: the listing must be a straight piece: assignments to 64-bit registers, and a return, of sums and differences; each expression
-                           of more than one token that is joined into another gets brackets, and what is returned is the same before and after. Such a
-                           call goes down into nested brackets, 144 bytes of stack each: up to 3.7 MB for a tape that is nothing but brackets
-                           (docs/TIMES.md) */
+    bool parts;         /* true: a value is joined into a use below 32 bits only if that use has the width and the lowest bit of the register that was
+                           assigned: ah is not al */
+    bool profile;       /* true: the listing must be a straight piece: assignments of sums and differences to 64-bit registers at one indent, then a
+                           return. What is returned is the same before and after: each expression of more than one token that is joined into another gets
+                           brackets, unless it stands alone between delimiters, as ` = ` and `;`. Such a call goes down into nested brackets, 144 bytes of
+                           stack each: up to 3.6 million bytes in all (docs/TIMES.md) */
 };
 
-/* Why a call was refused: the first question that was answered "no". Of the cleaning they are asked in the order 1, 9, 2; then of each command of the
- * tape from the left, in the order 3, 4, 5, 6, 10, 11, 7, 8; and 14 once the tape is read, where the profile is asked for. The questions of the other
- * calls stand at each of them, and docs/TAPE.md has all in tables.
+/* Why a call was refused: the first question that was answered "no". A cleaning asks 1, 9 and 2, in this order; then of each command of the tape, from the
+ * left, 3, 4, 5, 6, 10, 11, 7 and 8; and where the profile is asked for, 14 once the tape is read. Each of the other calls says below what it asks, and
+ * docs/TAPE.md has all questions in tables.
  *
  * The place of a refusal, by its number:
  *
@@ -117,12 +120,12 @@ enum puchkewa_refusal {
                                         of an earlier held cell */
 };
 
-/* What a call did. */
+/* What a cleaning did. */
 struct puchkewa_report {
     uint64_t refusal;    /* 0 when finished, else the number of the question that refused: enum puchkewa_refusal */
     uint64_t place;      /* of a refusal: where, as enum puchkewa_refusal says for each number; 0 when finished */
     uint64_t length;     /* the length of the new tape, at the front of the output */
-    uint64_t attempts_1; /* attempts to join a line into a later one, in the first round; 0 where `settle` was set .. */
+    uint64_t attempts_1; /* attempts in the first round; 0 where `settle` was set .. */
     uint64_t attempts_2; /* .. in the second, 0 if it was not run .. */
     uint64_t attempts_3; /* .. in the third, 0 if it was not run */
     uint64_t removed;    /* lines removed: the attempts that succeeded */
@@ -156,7 +159,8 @@ struct puchkewa_answer {
     uint64_t value;   /* where nothing refused: what the call says of its answer; otherwise 0 */
 };
 
-/* Between C's editions of 2018 and 2024: the tape of a listing for the one, made a tape for the other.
+/* Between C's editions of 2018 and 2024: makes of the tape of a listing for the one a tape for the other. (Clean such a tape with PUCHKEWA_C_2024, before or
+ * after: PUCHKEWA_RUST reads 010 as ten.)
  *
  * puchkewa_to_2018: Numbers that the 2024 edition reads lose their quotes, and binary ones become hexadecimal in small letters without leading
  * zeros, behind their minus if they have one: 0b1010 is 0xa. Their values by the 2024 edition stay the same, and no text grows.
@@ -206,7 +210,7 @@ struct puchkewa_answer puchkewa_laborious(uint64_t lines, uint8_t *out, size_t o
 /* Which start value gives this output: the smallest value, 0 to 2^64 - 1, that the chosen register can start with so that a formula returns the wanted
  * value, modulo 2^64.
  *
- * tape          the tape of the formula: a straight piece, as for `profile` above. Numbers in it are read by PUCHKEWA_C_2018.
+ * tape          the tape of the formula: a straight piece, as for `profile` above. Numbers in it are read as PUCHKEWA_RUST says.
  * chosen        the name of the register: chosen_length bytes. Any 64-bit register, also r99, and also one that the formula lacks; no var_ name.
  * values        what the other registers start with: a list of values_length bytes, entries one after the other. An entry is a byte with the length of the
  *               name, the name, and the value in 8 bytes, the lowest first. A register that is not listed starts with 0; of equal names the first
@@ -274,7 +278,7 @@ enum puchkewa_caution {
  * (enum puchkewa_caution), or 0. The other bytes of the output are as before; the first 49,152 bytes of each work area are zero and its other bytes as
  * before. When refused, nothing that was lent is changed. The tape, both work areas and the output must not overlap, and no pointer may be null.
  *
- * A line without a caution is one in which none of the known ways was found; it is no proof that the line means the same.
+ * In a line without a caution none of the known ways was found; that is no proof that it means the same.
  * (crates/puchkewa/src/export_cautions.rt; the sets are `finished_cautions` in crates/cautions/specs/Cautions.antt.) */
 struct puchkewa_answer puchkewa_cautions(struct puchkewa_settings settings,
                                          const uint8_t *tape, size_t tape_length,

@@ -22,7 +22,7 @@ use Rattle.formula.specs.declared.breaches.Breach.TheVariants as breach
 abbrev pub is_narrow : Token → Bool
 is_narrow t = eqb t.kind Register && not (is_some (wide t))
 
--- a Number with a plus, a second minus or a zero in front; one that C's edition of 2018 does not read
+-- a Number with a plus, a second minus or a zero in front; one that edition 0 (the Rust's reading) does not read
 abbrev pub is_untidy : Token → Bool
 is_untidy t = eqb t.kind Number && not (is_tidy t.text)
 
