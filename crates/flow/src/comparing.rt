@@ -5,7 +5,7 @@
 ghost use Rattle.std.specs.Prelude.{◌≡◌, ◌∷◌, [], eqb};
 ghost use Rattle.reference.specs.Control.{not, ◌and◌, ◌or◌};
 ghost use Rattle.reference.specs.Text.{Text};
-ghost use Rattle.flow.specs.Compared.{begins, compared};
+ghost use Rattle.flow.specs.Compared.{alone, with_equals, compares_in, begins_at, compared};
 
 // The three bytes that were read last (0: none), with the first of which a comparison may begin once the next one is known; whether any was
 // read; whether the text is known to be 0 or 1.
@@ -27,24 +27,48 @@ pub(crate) const NOT_COMPARING: Comparing = Comparing {
     found: false,
 };
 
-// Whether a text begins with a comparison.
-#[tactic(auto, using(laws::proofs::Scans::tests), unfolding(crate::specs::Compared::begins))]
-fn begins(s: &[u8]) -> bool
-    ensures { result ≡ begins s.now }
+// Whether these two bytes are the sign s and a space.
+#[tactic(auto, using(laws::proofs::Std::tests_of_std), unfolding(crate::specs::Compared::alone))]
+fn alone(s: u8, b: u8, c: u8) -> bool
+    ensures { result ≡ alone s b c }
 {
-    text::starts(s, b" == ")
-        || text::starts(s, b" != ")
-        || text::starts(s, b" < ")
-        || text::starts(s, b" > ")
-        || text::starts(s, b" <= ")
-        || text::starts(s, b" >= ")
+    b == s && c == b' '
 }
 
-// Whether the text is found to be 0 or 1, now that one begins with these bytes.
-fn found_by(found: bool, s: &[u8]) -> bool
-    ensures { result ≡ (found or begins s.now) }
+// Whether these three bytes are the sign s, a `=` and a space.
+#[tactic(auto, using(laws::proofs::Std::tests_of_std), unfolding(crate::specs::Compared::with_equals))]
+fn with_equals(s: u8, b: u8, c: u8, d: u8) -> bool
+    ensures { result ≡ with_equals s b c d }
 {
-    found || begins(s)
+    b == s && c == b'=' && d == b' '
+}
+
+// Whether a comparison stands in these three bytes, if a space stands in front.
+#[tactic(auto, using(laws::proofs::Scans::tests), unfolding(crate::specs::Compared::compares_in))]
+fn compares_in(b: u8, c: u8, d: u8) -> bool
+    ensures { result ≡ compares_in b c d }
+{
+    with_equals(b'=', b, c, d)
+        || with_equals(b'!', b, c, d)
+        || alone(b'<', b, c)
+        || alone(b'>', b, c)
+        || with_equals(b'<', b, c, d)
+        || with_equals(b'>', b, c, d)
+}
+
+// Whether a comparison begins with these four bytes (0: none).
+#[tactic(auto, using(laws::proofs::Std::tests_of_std), unfolding(crate::specs::Compared::begins_at))]
+fn begins_at(a: u8, b: u8, c: u8, d: u8) -> bool
+    ensures { result ≡ begins_at a b c d }
+{
+    a == b' ' && compares_in(b, c, d)
+}
+
+// Whether the text is found to be 0 or 1, now that d follows.
+fn found_by(found: bool, m: Comparing, d: u8) -> bool
+    ensures { result ≡ (found or begins_at m.first m.second m.third d) }
+{
+    found || begins_at(m.first, m.second, m.third, d)
 }
 
 // Whether it is found to be 0 or 1 before or by the byte b, a `!` in front.
@@ -58,8 +82,7 @@ fn found_at(m: Comparing, b: u8) -> bool
 pub(crate) fn with_byte(m: Comparing, b: u8) -> Comparing
     ensures { (s : Text) → compared result s ≡ compared m (b ∷ s) }
 {
-    let four = [m.first, m.second, m.third, b];
-    let found = found_by(found_at(m, b), &four);
+    let found = found_by(found_at(m, b), m, b);
     Comparing {
         first: m.second,
         second: m.third,
@@ -73,6 +96,5 @@ pub(crate) fn with_byte(m: Comparing, b: u8) -> Comparing
 pub(crate) fn total(m: Comparing) -> bool
     ensures { result ≡ compared m [] }
 {
-    let three = [m.first, m.second, m.third];
-    found_by(m.found, &three)
+    found_by(m.found, m, 0)
 }

@@ -185,12 +185,13 @@ pub fn sweep(g: &FormedListing<'_>, i: usize, f: Fam, rules: Rules, seen: &mut [
 }
 
 // How many places are set.
-pub fn count_set(seen: &[bool]) -> usize
+pub fn count_set(seen: &[bool]) -> u16
+    requires { length seen.now < 65536 }
     ensures { result ≡ count is_one seen.now }
 {
     let mut n = 0;
     for b in seen {
-        n += usize::from(*b);
+        n += u16::from(*b);
     }
     n
 }
@@ -204,11 +205,13 @@ pub fn reached(g: &FormedListing<'_>, i: usize, f: Fam, rules: Rules, seen: &mut
 {
     seen.fill(false);
     mark_next(g, i, seen);
+    let mut before = count_set(seen);
     for turn in 0..g.listing.lines.len() {
-        let before = count_set(seen);
         sweep(g, i, f, rules, seen);
-        if count_set(seen) == before {
+        let now = count_set(seen);
+        if now == before {
             return;
         }
+        before = now;
     }
 }

@@ -2,7 +2,7 @@
 use native.Mathlib.Omega.{arith}
 use mathlib.Core.Path.{◌≡◌, refl, sym, ap, ◌∙◌}
 use mathlib.Core.Bool.{true, false≢true}
-use Rattle.std.specs.Prelude.{ℕ, ltb, length}
+use Rattle.std.specs.Prelude.{ltb, length}
 use Rattle.raising.specs.declared.tables.Raising.{Raising}
 use Rattle.raising.specs.Tables.{is_on, SameLent, Room}
 

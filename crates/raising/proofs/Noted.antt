@@ -88,7 +88,7 @@ in_into rules lines i p k h =
 module _ {rules : Rules} {lines : Listing} {i : ℕ} {p : Plan} {f : Fam} {parts : List (std.Option Before)} (t : ToldBy rules lines i p f parts) where
   pub noted_is : (k : ℕ) → k < length lines → is_noted parts k ≡ changes (volatile rules) i p k (lines at k)
   noted_is k h =
-      ap is_told (t.each k h)
+      ap is_told (t.each k)
       ∙ by_test (changes (volatile rules) i p k (lines at k))
       (λ e. ap is_told (told_some rules lines i p f k e) ∙ sym e)
       (λ e. ap is_told (told_none rules lines i p f k e) ∙ sym e)
@@ -129,13 +129,13 @@ module _ {rules : Rules} {lines : Listing} {i : ℕ} {p : Plan} {f : Fam} {parts
     kinds_here : (q : ℕ) → i ≤ q → suc q < length lines → changes (volatile rules) i p (suc q) (lines at suc q) ≡ true
         → kinds_told (get_or parts (suc q) std.None) (new at q).tokens ≡ kinds_of (suc q)
     kinds_here q h b c =
-        ap (λ (t : std.Option Before). kinds_told t (new at q).tokens) (t.each (suc q) b ∙ told_some rules lines i p f (suc q) c)
+        ap (λ (t : std.Option Before). kinds_told t (new at q).tokens) (t.each (suc q) ∙ told_some rules lines i p f (suc q) c)
         ∙ sym (line_parts rules lines ways i f p.expr (suc q) (new at q).tokens)
         ∙ ap (λ (k : ℕ). line_cautions rules lines ways i f p.expr (suc q) (new at k).tokens) (sym (moved_is q h))
 
     kinds_not : (q : ℕ) → suc q < length lines → changes (volatile rules) i p (suc q) (lines at suc q) ≡ false
         → kinds_told (get_or parts (suc q) std.None) (new at q).tokens ≡ 0
-    kinds_not q b c = ap (λ (t : std.Option Before). kinds_told t (new at q).tokens) (t.each (suc q) b ∙ told_none rules lines i p f (suc q) c)
+    kinds_not q b c = ap (λ (t : std.Option Before). kinds_told t (new at q).tokens) (t.each (suc q) ∙ told_none rules lines i p f (suc q) c)
 
     kinds_upto : (d q : ℕ) → q + d ≡ length new → i ≤ q
         → kinds_from (drop (suc q) parts) (drop q new) ≡ union (map kinds_of (changed_from (volatile rules) i p (suc q) (drop (suc q) lines)))

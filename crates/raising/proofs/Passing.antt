@@ -50,17 +50,19 @@ use Rattle.lines.specs.Texts.{bare_listing}
 use Rattle.lines.specs.declared.texts.Listing as held
 use Rattle.flow.specs.LineForms.{Formed}
 use Rattle.flow.specs.declared.lineforms.LineForm.{LineForm}
-use Rattle.raising.specs.Tables.{is_on, Room, sets_now}
+use Rattle.raising.specs.Tables.{is_on, Room, Untold, sets_now}
 use Rattle.raising.specs.Steps.{joined}
 use Rattle.raising.specs.Spread.{is_noted, far_kinds}
-use Rattle.raising.specs.Noting.{kinds_from}
+use Rattle.raising.specs.Noting.{kinds_from, Forgotten}
+use Rattle.std.specs.Prelude as std
+use Rattle.usefacts.specs.declared.parts.Before.{Before}
 use Rattle.raising.specs.Renewing.{RenewedTo}
 use Rattle.raising.proofs.Putting.{both_spread}
 use Rattle.raising.proofs.Told.{long}
 use Rattle.raising.proofs.Noted.{notes, noted_is, noted_early, kinds_all}
 use Rattle.raising.specs.Halfway.{Halfway, own_kinds, shared_kinds}
 use Rattle.raising.specs.declared.tables.Raising.{Raising}
-use Rattle.raising.proofs.Told.{assigned}
+use Rattle.raising.proofs.Told.{assigned, forgotten_join}
 
 if_found {ℓ κ} : {A : Type ℓ} {B : Type κ} {o : Option A} {x : A} (d : B) (k : A → B) → o ≡ some x → (let_some o else d then k) ≡ k x
 unfolding let_some◌else◌then◌
@@ -264,6 +266,12 @@ module _ {rules : Rules} {lines : Listing} {i : ℕ} {p : Plan} {before r : Rais
 
     whole_long : length whole ≡ length lines
     whole_long = length-put (get_or r.sets.now i 0) js 0 (put put_kinds js 0 sets) ∙ length-put put_kinds js 0 sets ∙ sets_long
+
+    -- what the lines told is forgotten
+    pub untold_left : {last : ℕ} {parts' : List (std.Option Before)} → i ≤ last → Forgotten (i + 1) (last + 1) r.parts.now parts'
+        → ((k : ℕ) → last < k → k ≤ length l.lines.now → get_or r.parts.now k std.None ≡ std.None) → Untold parts'
+    untold_left {last} a g b =
+        forgotten_join (h.begun on).told h.planned.reached.0 last a g (λ k c d. b k c (omega (arith, d, size, left_long)))
 
     module _ {sets' : List ℕ} {forms' : List LineForm}
         (t : RenewedTo l i (length l.lines.now) (own ∪ (kinds_from (drop (i + 1) r.parts.now) (drop i (bare_listing l)) ∪ get_or r.sets.now i 0)) r.parts.now

@@ -25,7 +25,7 @@ use Rattle.cautions.specs.Joins.{is_handed, none_yet, put, dark_in, stale_in, sp
 use Rattle.cautions.specs.Cautions.{both}
 use Rattle.cautions.proofs.Sets.{or_assoc}
 use Rattle.cautions.proofs.Handed.{length-put}
-use Rattle.std.specs.Int.Bits.{or_comm}
+use Rattle.std.specs.Int.Bits.{or_comm, or_zero_r}
 use Rattle.cautions.proofs.Stepping.{both_none, both_put}
 use Rattle.flow.specs.Reaching.{is_stale, reached_table}
 use Rattle.flow.proofs.Spreading.{reached_is, reached_more, reached_at, filter_at, some_filter}
@@ -130,6 +130,11 @@ module _ (P : ℕ → Bool) (seen : List Bool) where
       go false true false es ep v = (let w = rw (es, ep) at v in w)
       go false false p es ep v = (let w = rw es at v in w)
 
+  -- a place that is not reached
+  pub found_skipped : (k : ℕ) → k < length seen → get_or seen k false ≡ false → (f : Bool) {r : Bool} → (f or from_on k) ≡ r → (f or from_on (k + 1)) ≡ r
+  unfolding when◌then◌else◌
+  found_skipped k h e f v = (let w = rw (reached_more seen k h, e) at v in w)
+
   pub found_end : (n k : ℕ) → length seen ≡ suc n → P n ≡ false → n ≤ k → k ≤ n → (f : Bool) {r : Bool} → (f or from_on k) ≡ r → f ≡ r
   unfolding reached_from ◌or◌ when◌then◌else◌
   found_end n k long e h i f v =
@@ -172,6 +177,18 @@ module _ (ls : Listing) (i : ℕ) (fam : Text) (parts : List (std.Option Before)
           rw q (get_or-set_same now k s 0 (omega (arith, m.done.long)) ∙ e ∙ rw (ed, es, m.rest k (omega arith)) refl));
     };
     rest = λ j b. get_or-set_other now k j s 0 (λ q. omega (arith, q)) ∙ m.rest j (omega arith);
+  }
+
+  -- a place that is not reached
+  pub marking_skipped : (k : ℕ) (now : List ℕ) → get_or seen k false ≡ false → Marking k now → Marking (k + 1) now
+  unfolding ◌and◌ ◌given◌ when◌then◌else◌
+  marking_skipped k now e m = record {
+    done = record {
+      long = m.done.long;
+      each = λ j b. by_cases (dec_lt j k) (λ l. m.done.each j l)
+          (λ n. let q : j ≡ k = omega (arith, n) in rw q (m.rest k (omega arith) ∙ sym (rw (e, or_zero_r (get_or sets k 0)) (or_zero_r (get_or sets k 0)))));
+    };
+    rest = λ j b. m.rest j (omega arith);
   }
 
 -- ---- by the definitions

@@ -6,11 +6,11 @@ use mathlib.Core.Logic.{by_cases}
 use mathlib.Core.Path.{◌≡◌, refl, sym, ap, ◌∙◌, subst}
 use mathlib.Core.Bool.{Bool, true, false}
 use mathlib.Core.List.{List, [], ◌∷◌}
-use lib.ListN.{length, get_or, set, drop}
-use lib.Seq.{get_or-set_same, drop-cons}
+use lib.ListN.{length, get_or, set, take, drop}
+use lib.Seq.{get_or-set_same, drop-cons, length-take-le}
 use Rattle.std.specs.Prelude as std
-use Rattle.std.specs.Int.Bits.{or_zero_r}
-use Rattle.std.proofs.lemmas.List.{get_or-set_other, drop_all}
+use Rattle.std.specs.Int.Bits.{or_zero_r, or_comm}
+use Rattle.std.proofs.lemmas.List.{get_or-set_other, get_or-take, get_or-drop, length-drop}
 use Rattle.reference.specs.Listing.{Listing, ◌at◌, blank}
 use Rattle.reference.proofs.Cases.{true-false}
 use Rattle.cautions.specs.Kinds.{◌∪◌, ◌given◌}
@@ -21,14 +21,31 @@ use Rattle.flow.specs.Blocks.{no_form}
 use Rattle.flow.specs.LineForms.{Formed}
 use Rattle.flow.specs.declared.lineforms.LineForm.{LineForm}
 use Rattle.usefacts.specs.declared.parts.Before.{Before}
-use Rattle.raising.specs.Spread.{is_noted}
+use Rattle.raising.specs.Spread.{is_told, is_noted}
 use Rattle.raising.specs.Noting.{kinds_told, kinds_from}
-use Rattle.raising.specs.Renewing.{Renewed, RenewedTo}
+use Rattle.raising.specs.Renewing.{NotedTo, Renewed, RenewedTo}
 use Rattle.reference.specs.Control.{when◌then◌else◌}
 
 given_false : (s : ℕ) {b : Bool} → b ≡ false → s given b ≡ 0
 unfolding ◌given◌ when◌then◌else◌
 given_false s e = rw e refl
+
+-- ---- which lines may have told something
+
+-- as the parts of the lines that were there say it, line i among them
+pub noted_to : (h : held.Listing) (i last : ℕ) (parts : List (std.Option Before)) → length h.lines.now < length parts
+    → (i ≤ last) × (last < length (take (length h.lines.now + 1) parts))
+    → ((k : ℕ) → last < k → k < length (take (length h.lines.now + 1) parts) → get_or (take (length h.lines.now + 1) parts) k std.None ≡ std.None)
+    → NotedTo h i last parts
+noted_to h i last parts room within behind =
+    let n = length h.lines.now + 1 in
+    let long = length-take-le n parts (omega (arith, room)) in
+    record {
+      above = within.0;
+      inside = omega (arith, within.1, long);
+      room = room;
+      behind = λ k a b. sym (get_or-take n parts k std.None (omega (arith, b))) ∙ behind k a (omega (arith, long, b));
+    }
 
 -- ---- one line
 
@@ -80,7 +97,28 @@ module _ (h : held.Listing) (i all : ℕ) (parts : List (std.Option Before)) (se
     behind = λ k a. (r.sets_kept k (omega arith) ∙ (t.behind k (omega arith)).0, r.forms_kept k (omega arith) ∙ (t.behind k (omega arith)).1);
   }
 
+  -- behind line n none was rewritten
+  pub renewed_far : (n m : ℕ) {sets' : List ℕ} {forms' : List LineForm} → n ≤ m → ((k : ℕ) → n < k → k ≤ m → get_or parts k std.None ≡ std.None)
+      → RenewedTo h i n all parts sets forms sets' forms' → RenewedTo h i m all parts sets forms sets' forms'
+  renewed_far n m l none t = record {
+    set_is = λ k a c. by_cases (dec_lt k n) (λ b. t.set_is k a b)
+        (λ b. (t.behind k (omega arith)).0 ∙ sym (ap (λ (s : ℕ). get_or sets k 0 ∪ s) (given_false all (ap is_told (none (k + 1) (omega arith) (omega arith))))
+        ∙ or_zero_r (get_or sets k 0)));
+    form_is = λ k a c e. by_cases (dec_lt k n) (λ b. t.form_is k a b e)
+        (λ b. absurd (true-false e (ap is_told (none (k + 1) (omega arith) (omega arith)))));
+    form_kept = t.form_kept;
+    before = t.before;
+    behind = λ k a. t.behind k (omega arith);
+  }
+
 -- ---- their kinds
+
+-- where no line tells anything
+kinds_untold : (ts : List (std.Option Before)) (ls : Listing) → ((k : ℕ) → k < length ls → get_or ts k std.None ≡ std.None) → kinds_from ts ls ≡ 0
+unfolding kinds_from
+kinds_untold [] ls h = refl
+kinds_untold (t ∷ ts) [] h = refl
+kinds_untold (t ∷ ts) (l ∷ ls) h = rw (h 0 (omega arith)) (or_comm 0 (kinds_from ts ls) ∙ or_zero_r (kinds_from ts ls) ∙ kinds_untold ts ls (λ k b. h (suc k) (omega arith)))
 
 module _ (parts : List (std.Option Before)) (new : Listing) where
   kinds_step : (q : ℕ) → q < length new → q + 1 < length parts
@@ -103,11 +141,8 @@ module _ (parts : List (std.Option Before)) (new : Listing) where
       ∙ ap (λ (x : ℕ). kinds ∪ x) (sym (kinds_step q a b))
       ∙ h
 
-  pub kinds_end : (kinds q : ℕ) {all : ℕ} → length new ≤ q → kinds ∪ kinds_from (drop (q + 1) parts) (drop q new) ≡ all → kinds ≡ all
-  unfolding kinds_from
+  pub kinds_end : (kinds q : ℕ) {all : ℕ} → ((k : ℕ) → q < k → k ≤ length new → get_or parts k std.None ≡ std.None)
+      → kinds ∪ kinds_from (drop (q + 1) parts) (drop q new) ≡ all → kinds ≡ all
   kinds_end kinds q h e =
-      sym (ap (λ (x : ℕ). kinds ∪ x) (ap (kinds_from (drop (q + 1) parts)) (drop_all q new h) ∙ none (drop (q + 1) parts)) ∙ or_zero_r kinds) ∙ e
-    where
-      none : (ps : List (std.Option Before)) → kinds_from ps [] ≡ 0
-      none [] = refl
-      none (t ∷ ts) = refl
+      let none = kinds_untold (drop (q + 1) parts) (drop q new) (λ k b. get_or-drop (q + 1) parts k std.None ∙ h (q + 1 + k) (omega arith) (omega (arith, length-drop q new))) in
+      sym (ap (λ (x : ℕ). kinds ∪ x) none ∙ or_zero_r kinds) ∙ e

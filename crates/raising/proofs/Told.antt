@@ -13,7 +13,7 @@ use lib.ListN.{length, get_or, set, take, drop, length-map}
 use lib.Seq.{slice, slice_empty, length-slice, get_or-set_same, take_all}
 use Rattle.std.specs.Prelude as std
 use Rattle.std.specs.List.{slice_get}
-use Rattle.std.proofs.lemmas.List.{take_more, length-take, get_or-set_other, drop-append-le, reverse-append}
+use Rattle.std.proofs.lemmas.List.{take_more, length-take, get_or-set_other, get_or_past, get_or-take, drop-append-le, reverse-append}
 use Rattle.laws.proofs.Scans.{if-true, if-false, any_append, or_last}
 use Rattle.reference.specs.Control.{◌or◌, when◌then◌else◌}
 use Rattle.reference.specs.Lists.{any}
@@ -21,7 +21,7 @@ use Rattle.reference.specs.Listing.{Token, Line, Listing, ◌at◌, blank}
 use Rattle.reference.specs.Names.{Fam, family}
 use Rattle.reference.specs.Rules.{Rules, volatile}
 use Rattle.reference.specs.Shapes.{Assignment, assignment_of}
-use Rattle.reference.proofs.Cases.{bind-some, if_some, unless-some, some_inj, none-some}
+use Rattle.reference.proofs.Cases.{bind-some, if_some, unless-some, some_inj, none-some, true-false}
 use Rattle.joining.specs.Plan.{Definition, definition_of, Plan, changes}
 use Rattle.plan.proofs.Changed.{not-later, past_last}
 use Rattle.cautions.specs.Values.{world}
@@ -41,8 +41,9 @@ use Rattle.flow.proofs.Touched.{guarded_by}
 use Rattle.usefacts.specs.Split.{before_of}
 use Rattle.usefacts.specs.declared.parts.Before.{Before}
 use Rattle.raising.specs.declared.noting.Noting as code
-use Rattle.raising.specs.Noting.{lines_of, plan_of, told, ToldBy, noted_from, last_noted}
+use Rattle.raising.specs.Noting.{lines_of, plan_of, told, ToldBy, Forgotten, noted_from, last_noted}
 use Rattle.raising.specs.Spread.{is_told, is_noted}
+use Rattle.raising.specs.Tables.{Untold}
 
 -- ---- what a line assigns
 
@@ -131,10 +132,10 @@ module _ (rules : Rules) (lines : Listing) (i : ℕ) (p : Plan) (f : Fam) where
   unfolding told
   told_some k e = if-true _ _ e
 
-  told_early : (k : ℕ) → k ≤ i → told rules lines i p f k ≡ std.None
+  pub told_early : (k : ℕ) → k ≤ i → told rules lines i p f k ≡ std.None
   told_early k h = told_none k (sym (not-later (volatile rules) i p k (lines at k) h))
 
-  told_late : (k : ℕ) → i < k → p.last < k → told rules lines i p f k ≡ std.None
+  pub told_late : (k : ℕ) → i < k → p.last < k → told rules lines i p f k ≡ std.None
   told_late k h g = told_none k (sym (past_last (volatile rules) i p k (lines at k) h g))
 
   -- the lines before line k are noted, and no other
@@ -144,7 +145,7 @@ module _ (rules : Rules) (lines : Listing) (i : ℕ) (p : Plan) (f : Fam) where
     pub rest : (q : ℕ) → k ≤ q → get_or parts q std.None ≡ std.None
     pub world_is : passed ≡ any (λ l. world l.tokens) (slice (suc i) k lines)
 
-  pub noting_begun : (parts : List (std.Option Before)) → ((q : ℕ) → get_or parts q std.None ≡ std.None) → Noting (i + 1) false parts
+  pub noting_begun : (parts : List (std.Option Before)) → Untold parts → Noting (i + 1) false parts
   noting_begun parts e = record {
     behind = omega arith;
     done = λ q h. e q ∙ sym (told_early q (omega arith));
@@ -174,22 +175,56 @@ module _ (rules : Rules) (lines : Listing) (i : ℕ) (p : Plan) (f : Fam) where
 
   pub noted_all : (k : ℕ) (passed : Bool) (parts : List (std.Option Before)) → p.last < k → Noting k passed parts → ToldBy rules lines i p f parts
   noted_all k passed parts g h = record {
-    each = λ q b. by_cases (dec_lt q k) (λ a. h.done q a) (λ a. h.rest q (omega arith) ∙ sym (told_late q (omega (arith, h.behind)) (omega arith)));
+    each = λ q. by_cases (dec_lt q k) (λ a. h.done q a) (λ a. h.rest q (omega arith) ∙ sym (told_late q (omega (arith, h.behind)) (omega arith)));
   }
 
--- ---- a table that tells nothing
+-- ---- what the lines told is forgotten
 
-pub cleared_more : (parts : List (std.Option Before)) (k : ℕ) → ((q : ℕ) → q < k → get_or parts q std.None ≡ std.None)
-    → (q : ℕ) → q < k + 1 → get_or (set parts k std.None) q std.None ≡ std.None
-cleared_more parts k h q g =
-    by_cases (dec_lt q k)
-    (λ a. get_or-set_other parts k q std.None std.None (omega arith) ∙ h q a)
-    (λ a. (let s : q ≡ k = omega arith in rw s (set_here parts k)))
-  where
-    set_here : (parts : List (std.Option Before)) (k : ℕ) → get_or (set parts k std.None) k std.None ≡ std.None
-    set_here [] k = refl
-    set_here (t ∷ ts) zero = refl
-    set_here (t ∷ ts) (suc k) = set_here ts k
+set_here : (parts : List (std.Option Before)) (k : ℕ) → get_or (set parts k std.None) k std.None ≡ std.None
+set_here [] k = refl
+set_here (t ∷ ts) zero = refl
+set_here (t ∷ ts) (suc k) = set_here ts k
+
+module _ (a : ℕ) (old : List (std.Option Before)) where
+  pub forgetting_begun : Forgotten a a old old
+  forgetting_begun = record { among = λ k g l. absurd (omega arith); before = λ k l. refl; behind = λ k l. refl }
+
+  pub forgotten_more : (b : ℕ) (now : List (std.Option Before)) → a ≤ b → Forgotten a b old now → Forgotten a (b + 1) old (set now b std.None)
+  forgotten_more b now h f = record {
+    among = λ k g l. by_cases (dec_lt k b)
+        (λ c. get_or-set_other now b k std.None std.None (omega arith) ∙ f.among k g c)
+        (λ c. (let s : k ≡ b = omega arith in rw s (set_here now b)));
+    before = λ k l. get_or-set_other now b k std.None std.None (omega arith) ∙ f.before k l;
+    behind = λ k l. get_or-set_other now b k std.None std.None (omega arith) ∙ f.behind k (omega arith);
+  }
+
+-- all of it
+pub forgotten_all : (old new : List (std.Option Before)) → length new ≡ length old → Forgotten 0 (length old) old new → Untold new
+forgotten_all old new e f k = by_cases (dec_lt k (length old)) (λ b. f.among k (omega arith) b) (λ b. get_or_past new k std.None (omega arith))
+
+-- or what was told of a join, of which no line behind line `last` is rewritten
+module _ {rules : Rules} {lines : Listing} {i : ℕ} {p : Plan} {f : Fam} {parts : List (std.Option Before)} (t : ToldBy rules lines i p f parts)
+    (inside : p.last < length lines) where
+  pub told_past : (k : ℕ) → i < k → length lines ≤ k → get_or parts k std.None ≡ std.None
+  told_past k h b = t.each k ∙ told_late rules lines i p f k h (omega arith)
+
+  pub forgotten_join : (last : ℕ) {parts' : List (std.Option Before)} → i ≤ last → Forgotten (i + 1) (last + 1) parts parts'
+      → ((k : ℕ) → last < k → k < length lines → get_or parts k std.None ≡ std.None) → Untold parts'
+  forgotten_join last a g b k =
+      by_cases (dec_lt k (i + 1))
+      (λ c. g.before k c ∙ t.each k ∙ told_early rules lines i p f k (omega arith))
+      (λ c.
+      by_cases (dec_lt k (last + 1))
+      (λ d. g.among k (omega arith) d)
+      (λ d. g.behind k (omega arith) ∙ by_cases (dec_lt k (length lines)) (λ e. b k (omega arith) e) (λ e. told_past k (omega arith) (omega arith))))
+
+  -- the table of the lines alone has it too
+  pub told_front : (m : ℕ) → i < m → m ≡ length lines → ToldBy rules lines i p f (take m parts)
+  told_front m h e = record {
+    each = λ k. by_cases (dec_lt k m)
+        (λ b. get_or-take m parts k std.None b ∙ t.each k)
+        (λ b. get_or_past (take m parts) k std.None (omega (arith, length-take m parts)) ∙ sym (told_late rules lines i p f k (omega arith) (omega arith)));
+  }
 
 -- ---- which lines are noted
 
@@ -207,6 +242,10 @@ noted_no : (k : ℕ) (t : std.Option Before) → is_told t ≡ false → noted_f
 unfolding noted_from
 noted_no k t e = if-false _ _ e
 
+tells_none : (t : std.Option Before) → is_told t ≡ false → t ≡ std.None
+tells_none (std.Some b) e = absurd (true-false refl e)
+tells_none std.None e = refl
+
 -- the last of them, line by line
 module _ (parts : List (std.Option Before)) (i : ℕ) where
   pub record LastTo (k last : ℕ) : Type 0 where
@@ -214,10 +253,17 @@ module _ (parts : List (std.Option Before)) (i : ℕ) where
     pub behind : i < k
     pub above : i ≤ last
     pub below : last < k
+    pub unnoted : (q : ℕ) → last < q → q < k → get_or parts q std.None ≡ std.None
 
   pub last_begun : LastTo (i + 1) i
   unfolding noted_from
-  last_begun = record { is = rw (add-one, slice_empty) refl; behind = omega arith; above = omega arith; below = omega arith }
+  last_begun = record {
+    is = rw (add-one, slice_empty) refl;
+    behind = omega arith;
+    above = omega arith;
+    below = omega arith;
+    unnoted = λ q h g. absurd (omega arith);
+  }
 
   module _ (k : ℕ) (b : k < length parts) (h : i < k) where
     part_more : noted_from (suc i) (slice (suc i) (k + 1) parts) ≡ noted_from (suc i) (slice (suc i) k parts) ++ noted_from k (get_or parts k std.None ∷ [])
@@ -234,6 +280,7 @@ module _ (parts : List (std.Option Before)) (i : ℕ) where
     behind = omega (arith, h.behind);
     above = h.above;
     below = omega (arith, h.below);
+    unnoted = λ q a g. by_cases (dec_lt q k) (λ l. h.unnoted q a l) (λ l. (let s : q ≡ k = omega arith in rw s (tells_none _ e)));
   }
 
   pub last_here : (k last : ℕ) → k < length parts → is_noted parts k ≡ true → LastTo k last → LastTo (k + 1) k
@@ -243,6 +290,7 @@ module _ (parts : List (std.Option Before)) (i : ℕ) where
     behind = omega (arith, h.behind);
     above = omega (arith, h.behind);
     below = omega arith;
+    unnoted = λ q a g. absurd (omega arith);
   }
 
   pub last_end : (k last : ℕ) → k ≡ length parts → LastTo k last → last ≡ last_noted parts i

@@ -11,7 +11,7 @@ use Rattle.cautions.specs.Kinds.{odd_form, overwritten, slot, ◌∪◌, ◌give
 use Rattle.cautions.specs.Forms.{ways}
 use Rattle.cautions.specs.Joins.{is_odd, past_call}
 use Rattle.usefacts.specs.declared.parts.Before.{Before}
-use Rattle.raising.specs.Tables.{is_on, Kept}
+use Rattle.raising.specs.Tables.{is_on, Fitting}
 use Rattle.raising.specs.Steps.{into}
 use Rattle.raising.specs.Spread.{marked, far_kinds}
 use Rattle.raising.specs.Noting.{ToldBy}
@@ -40,7 +40,7 @@ pub record Begun (rules : Rules) (lines : Listing) (i : ℕ) (p : Plan) (f : Fam
 -- The same of the tables: r have become r'.
 pub record Halfway (rules : Rules) (lines : Listing) (i : ℕ) (p : Plan) (r r' : Raising) (own : ℕ) : Type 0 where
   pub planned : Planned rules lines i p
-  pub kept : Kept lines r'
+  pub kept : Fitting lines r'
   pub long : length r'.sets.now ≡ length r.sets.now
   pub begun : is_on r ≡ true → Begun rules lines i p planned.def.fam r'.parts.now r.sets.now r'.sets.now own
   pub none : is_on r ≡ false → own ≡ 0

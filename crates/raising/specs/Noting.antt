@@ -55,9 +55,15 @@ told rules lines i p f k =
     then std.Some (before_of rules f p.expr (lines at k).tokens (slice (suc i) k lines))
     else std.None
 
--- the table has it of each line of the listing
+-- the table has it of each line
 pub record ToldBy (rules : Rules) (lines : Listing) (i : ℕ) (p : Plan) (f : Fam) (parts : List (std.Option Before)) : Type 0 where
-  pub each : (k : ℕ) → k < length lines → get_or parts k std.None ≡ told rules lines i p f k
+  pub each : (k : ℕ) → get_or parts k std.None ≡ told rules lines i p f k
+
+-- the lines from line a on, above line b, tell nothing any more; the others tell what they did
+pub record Forgotten (a b : ℕ) (old new : List (std.Option Before)) : Type 0 where
+  pub among : (k : ℕ) → a ≤ k → k < b → get_or new k std.None ≡ std.None
+  pub before : (k : ℕ) → k < a → get_or new k std.None ≡ get_or old k std.None
+  pub behind : (k : ℕ) → b ≤ k → get_or new k std.None ≡ get_or old k std.None
 
 -- the numbers of these, the first of the parts being that of line k
 unfoldable pub noted_from : ℕ → List (std.Option Before) → List ℕ

@@ -12,6 +12,13 @@ use Rattle.usefacts.specs.declared.parts.Before.{Before}
 use Rattle.raising.specs.Spread.{is_noted}
 
 module _ (h : held.Listing) where
+  -- line i is gone, and no line behind line `last` tells anything, both by their old numbers
+  pub record NotedTo (i last : ℕ) (parts : List (std.Option Before)) : Type 0 where
+    pub above : i ≤ last
+    pub inside : last ≤ length h.lines.now
+    pub room : length h.lines.now < length parts
+    pub behind : (k : ℕ) → last < k → k ≤ length h.lines.now → get_or parts k std.None ≡ std.None
+
   -- line q, which was line q + 1
   pub record Renewed (q all : ℕ) (parts : List (std.Option Before)) (sets : List ℕ) (forms : List LineForm) (sets' : List ℕ)
       (forms' : List LineForm) : Type 0 where

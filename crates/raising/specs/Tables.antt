@@ -1,9 +1,11 @@
 -- The tables in which cautions are kept. Assumes nothing.
 use Rattle.std.specs.Prelude.{ℕ, ◌≤◌, ◌<◌, ◌≡◌, Bool, true, List, ltb, length, get_or, take}
+use Rattle.std.specs.Prelude as std
 use Rattle.reference.specs.Listing.{Listing, ◌at◌}
 use Rattle.flow.specs.Blocks.{no_form}
 use Rattle.flow.specs.LineForms.{Formed}
 use Rattle.flow.specs.declared.lineforms.LineForm.{LineForm}
+use Rattle.usefacts.specs.declared.parts.Before.{Before}
 use Rattle.raising.specs.declared.tables.Raising.{Raising}
 
 -- sets are kept
@@ -38,10 +40,20 @@ Gathered lines forms = (k : ℕ) → k < length lines → Formed (lines at k).to
 abbrev pub Formed_lines : Listing → Raising → Type 0
 Formed_lines lines r = Gathered lines r.forms.now
 
--- The tables belong to this listing, if sets are kept.
+-- no line tells anything
+abbrev pub Untold : List (std.Option Before) → Type 0
+Untold parts = (k : ℕ) → get_or parts k std.None ≡ std.None
+
+-- Within a step: the forms are those of this listing, if sets are kept.
+pub record Fitting (lines : Listing) (r : Raising) : Type 0 where
+  pub room : is_on r ≡ true → Room r
+  pub formed : is_on r ≡ true → Formed_lines lines r
+
+-- Between two steps: the tables belong to this listing, if sets are kept, and no join is at hand.
 pub record Kept (lines : Listing) (r : Raising) : Type 0 where
   pub room : is_on r ≡ true → Room r
   pub formed : is_on r ≡ true → Formed_lines lines r
+  pub untold : is_on r ≡ true → Untold r.parts.now
 
 -- the sets of the lines; none where none are kept
 abbrev pub sets_now : Listing → Raising → List ℕ

@@ -4,6 +4,7 @@ ghost use Rattle.cautions.specs.Joins.{none_yet};
 ghost use Rattle.lines.specs.Texts.{Listed, bare_listing};
 ghost use Rattle.raising.specs.Tables.{is_on, Room, Kept, SameLent, Gathered, sets_now};
 
+use crate::noting::forget;
 use crate::tables::Raising;
 use flow::LineForm;
 use lines::texts::Listing;
@@ -38,5 +39,7 @@ pub fn begin(listing: &Listing<'_>, r: &mut Raising<'_>)
         return;
     }
     clear(r.sets, listing.lines.len());
+    let n = r.parts.len();
+    forget(r.parts, 0, n);
     gather(listing, r.forms);
 }

@@ -9,13 +9,13 @@ ghost use Rattle.ground.specs.Rules.{rules_of};
 ghost use Rattle.lines.specs.Shapes.{expr_words, Expression};
 ghost use Rattle.lines.specs.Texts.{Known, Listed, bare_listing, words_at};
 ghost use Rattle.flow.specs.Ways.{Tabled};
-ghost use Rattle.raising.specs.Tables.{is_on, Gathered, Room, Kept, SameLent};
+ghost use Rattle.raising.specs.Tables.{is_on, Gathered, Room, Kept, SameLent, Untold};
 ghost use Rattle.raising.specs.Steps.{Joinable, Raised, into, plan_in};
 ghost use Rattle.raising.specs.Spread.{marked};
 ghost use Rattle.raising.specs.Noting.{Sound, ToldBy, fam_of, lines_of, plan_of};
 ghost use Rattle.raising.specs.Halfway.{Begun, Halfway, own_kinds, shared_kinds};
 
-use crate::noting::{Noting, assigned_name, last_noted, note};
+use crate::noting::{Noting, assigned_name, forget, last_noted, note};
 use crate::renewing::hand_on;
 use crate::spreading::spread;
 use crate::tables::Raising;
@@ -78,7 +78,7 @@ fn own_kinds(n: &Noting<'_>, last: usize) -> u16
 // Notes what the lines tell, marks the others that the value reaches, and answers the kinds that each rewritten line gets, but for its own.
 fn raise(n: &Noting<'_>, parts: &mut [Option<Before>], seen: &mut [bool], sets: &mut [u16]) -> u16
     requires { Sound n.now × (n.now.plan.last < length n.now.g.listing.lines.now) × (length n.now.g.listing.lines.now ≤ length parts.old)
-        × (length n.now.g.listing.lines.now < length seen.old) × (length n.now.g.listing.lines.now ≤ length sets.old) }
+        × Untold parts.old × (length n.now.g.listing.lines.now < length seen.old) × (length n.now.g.listing.lines.now ≤ length sets.old) }
     ensures told { ToldBy (rules_of n.now.rules) (lines_of n.now) n.now.plan.line (plan_of n.now) (fam_of n.now) parts.new }
     ensures sets { take (length n.now.g.listing.lines.now) sets.new
         ≡ marked (rules_of n.now.rules) (lines_of n.now) n.now.plan.line (fam_of n.now).name
@@ -88,19 +88,10 @@ fn raise(n: &Noting<'_>, parts: &mut [Option<Before>], seen: &mut [bool], sets: 
     let lines = n.g.listing.lines.len();
     let i = n.plan.line;
     let f = n.name.family;
-    note(n, &mut parts[..lines]);
+    note(n, parts);
     reached(&n.g, i, f, n.rules, &mut seen[..lines + 1]);
     let own = own_kinds(n, last_noted(&parts[..lines], i));
-    own | spread(
-        &n.g,
-        i,
-        f,
-        n.rules,
-        &parts[..lines],
-        &seen[..lines + 1],
-        false,
-        sets,
-    )
+    own | spread(&n.g, i, f, n.rules, parts, &seen[..lines + 1], false, sets)
 }
 
 // The same of the plan j, of tables lent one by one. `forms` is only read.
@@ -115,7 +106,7 @@ fn begin_join(
     expr: &mut [u64],
 ) -> u16
     requires { Joinable (rules_of rules) listing.now j × Gathered (bare_listing listing.now) forms.old × (256 ≤ length sets.old)
-        × (256 ≤ length forms.old) × (256 ≤ length parts.old) × (257 ≤ length seen.old) × (1024 ≤ length expr.old) }
+        × (256 ≤ length forms.old) × (256 ≤ length parts.old) × (257 ≤ length seen.old) × (1024 ≤ length expr.old) × Untold parts.old }
     ensures begun { (d : Definition) → definition_of (bare_listing listing.now at j.line).tokens ≡ some d
         → Begun (rules_of rules) (bare_listing listing.now) j.line (plan_in listing.now j) d.fam parts.new sets.old sets.new result }
     ensures forms { forms.new ≡ forms.old }
@@ -163,5 +154,7 @@ pub fn after_join(listing: &Listing<'_>, i: usize, own: u16, r: &mut Raising<'_>
     // Lent on one by one, as in crate join.
     let parts = &mut *r.parts;
     let sets = &mut *r.sets;
-    hand_on(listing, i, own, parts, sets, r.forms);
+    let last = last_noted(&parts[..listing.lines.len() + 1], i);
+    hand_on(listing, i, last, own, parts, sets, r.forms);
+    forget(parts, i + 1, last + 1);
 }

@@ -14,7 +14,8 @@ ghost use Rattle.ground.specs.Rules.{rules_of};
 ghost use Rattle.lines.specs.Fams.{Names};
 ghost use Rattle.lines.specs.Texts.{Listed, bare_listing};
 ghost use Rattle.usefacts.specs.Split.{before_of};
-ghost use Rattle.raising.specs.Noting.{Sound, fam_of, expr_of, lines_of, plan_of, told, ToldBy, last_noted};
+ghost use Rattle.raising.specs.Noting.{Forgotten, Sound, fam_of, expr_of, lines_of, plan_of, told, ToldBy, last_noted};
+ghost use Rattle.raising.specs.Tables.{Untold};
 
 use crate::spreading::is_noted;
 use flow::{FormedListing, is_guarded};
@@ -105,21 +106,22 @@ fn is_world_at(n: &Noting<'_>, k: usize) -> bool
     )
 }
 
-// Forgets what lines told.
-fn clear(parts: &mut [Option<Before>])
-    ensures { (k : ℕ) → get_or parts.new k None ≡ None }
+// Forgets what the lines from line a on, above line b, told.
+pub(crate) fn forget(parts: &mut [Option<Before>], a: usize, b: usize)
+    requires { (a ≤ b) × (b ≤ length parts.old) }
+    ensures { Forgotten a b parts.old parts.new }
 {
-    for k in 0..parts.len() {
+    for k in a..b {
         parts[k] = None;
     }
 }
 
 // Notes what each line tells.
 pub(crate) fn note(n: &Noting<'_>, parts: &mut [Option<Before>])
-    requires { Sound n.now × (length parts.old ≡ length n.now.g.listing.lines.now) × (n.now.plan.last < length n.now.g.listing.lines.now) }
+    requires { Sound n.now × Untold parts.old × (length n.now.g.listing.lines.now ≤ length parts.old)
+        × (n.now.plan.last < length n.now.g.listing.lines.now) }
     ensures { ToldBy (rules_of n.now.rules) (lines_of n.now) n.now.plan.line (plan_of n.now) (fam_of n.now) parts.new }
 {
-    clear(parts);
     let mut passed = false;
     for k in n.plan.line + 1..n.plan.last + 1 {
         parts[k] = told_at(n, k, passed);
@@ -132,6 +134,7 @@ pub(crate) fn last_noted(parts: &[Option<Before>], i: usize) -> usize
     requires { i < length parts.now }
     ensures last { result ≡ last_noted parts.now i }
     ensures within { (i ≤ result) × (result < length parts.now) }
+    ensures behind { (k : ℕ) → result < k → k < length parts.now → get_or parts.now k None ≡ None }
 {
     let mut last = i;
     for k in i + 1..parts.len() {

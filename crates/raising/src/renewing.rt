@@ -6,7 +6,7 @@ ghost use Rattle.reference.specs.Listing.{◌at◌};
 ghost use Rattle.cautions.specs.Kinds.{◌∪◌};
 ghost use Rattle.lines.specs.Texts.{Listed, bare_listing};
 ghost use Rattle.raising.specs.Noting.{kinds_told, kinds_from};
-ghost use Rattle.raising.specs.Renewing.{Renewed, RenewedTo};
+ghost use Rattle.raising.specs.Renewing.{NotedTo, Renewed, RenewedTo};
 
 use crate::spreading::is_noted;
 use flow::{LineForm, form_at};
@@ -28,13 +28,13 @@ fn kinds_at(listing: &Listing<'_>, q: usize, parts: &[Option<Before>]) -> u16
     }
 }
 
-// Those of all lines.
-fn uses_kinds(listing: &Listing<'_>, i: usize, parts: &[Option<Before>]) -> u16
-    requires { Listed listing.now × (i ≤ length listing.now.lines.now) × (length listing.now.lines.now < length parts.now) }
+// Those of all lines; none behind line `last` told anything.
+fn uses_kinds(listing: &Listing<'_>, i: usize, last: usize, parts: &[Option<Before>]) -> u16
+    requires { Listed listing.now × NotedTo listing.now i last parts.now }
     ensures { result ≡ kinds_from (drop (i + 1) parts.now) (drop i (bare_listing listing.now)) }
 {
     let mut kinds = 0;
-    for q in i..listing.lines.len() {
+    for q in i..last {
         kinds |= kinds_at(listing, q, parts);
     }
     kinds
@@ -59,20 +59,21 @@ fn renew(
     }
 }
 
-// So does each line from line i on.
+// So does each line from line i on; none behind line `last` told anything.
 fn renew_lines(
     listing: &Listing<'_>,
     i: usize,
+    last: usize,
     all: u16,
     parts: &[Option<Before>],
     sets: &mut [u16],
     forms: &mut [LineForm],
 )
-    requires { Listed listing.now × (i ≤ length listing.now.lines.now) × (length listing.now.lines.now ≤ length sets.old)
-        × (length listing.now.lines.now ≤ length forms.old) × (length listing.now.lines.now < length parts.now) }
+    requires { Listed listing.now × NotedTo listing.now i last parts.now × (length listing.now.lines.now ≤ length sets.old)
+        × (length listing.now.lines.now ≤ length forms.old) }
     ensures { RenewedTo listing.now i (length listing.now.lines.now) all parts.now sets.old forms.old sets.new forms.new }
 {
-    for q in i..listing.lines.len() {
+    for q in i..last {
         renew(listing, q, all, parts, sets, forms);
     }
 }
@@ -81,21 +82,22 @@ fn renew_lines(
 pub(crate) fn hand_on(
     listing: &Listing<'_>,
     i: usize,
+    last: usize,
     own: u16,
     parts: &[Option<Before>],
     sets: &mut [u16],
     forms: &mut [LineForm],
 )
-    requires { Listed listing.now × (i ≤ length listing.now.lines.now) × (length listing.now.lines.now < length sets.old)
-        × (length listing.now.lines.now < length forms.old) × (length listing.now.lines.now < length parts.now) }
+    requires { Listed listing.now × NotedTo listing.now i last parts.now × (length listing.now.lines.now < length sets.old)
+        × (length listing.now.lines.now < length forms.old) }
     ensures { RenewedTo listing.now i (length listing.now.lines.now)
         (own ∪ (kinds_from (drop (i + 1) parts.now) (drop i (bare_listing listing.now)) ∪ get_or sets.old i 0)) parts.now
         (copy_within sets.old (i + 1) (length listing.now.lines.now + 1) i)
         (copy_within forms.old (i + 1) (length listing.now.lines.now + 1) i) sets.new forms.new }
 {
     let lines = listing.lines.len() + 1;
-    let all = own | (uses_kinds(listing, i, parts) | sets[i]);
+    let all = own | (uses_kinds(listing, i, last, parts) | sets[i]);
     sets.copy_within(i + 1..lines, i);
     forms.copy_within(i + 1..lines, i);
-    renew_lines(listing, i, all, parts, sets, forms);
+    renew_lines(listing, i, last, all, parts, sets, forms);
 }

@@ -117,7 +117,7 @@ fn found_with(found: Others, o: Others) -> Others
     }
 }
 
-// Puts on each of the others what it gets, and says what was found.
+// Puts on each of the others what it gets, and says what was found. Most lines are not reached.
 fn mark_others(
     g: &FormedListing<'_>,
     i: usize,
@@ -137,9 +137,11 @@ fn mark_others(
 {
     let mut found = NO_OTHER;
     for k in 0..g.listing.lines.len() {
-        let o = other_at(g, i, f, rules, parts, seen, k);
-        sets[k] = with_kinds(sets[k], o);
-        found = found_with(found, o);
+        if seen[k] {
+            let o = other_at(g, i, f, rules, parts, seen, k);
+            sets[k] = with_kinds(sets[k], o);
+            found = found_with(found, o);
+        }
     }
     found
 }

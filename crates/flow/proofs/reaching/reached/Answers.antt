@@ -25,6 +25,7 @@ loop-turn-init c = let g = c.args.g.now in
       walk_begin ls (onward_of (bare_listing g.listing) c.args.i (fam_text g.listing.texts c.args.f) (volatile (rules_of c.args.rules))) c.args.i (length g.listing.lines.now) _ (lines_long g)
           (c.mark_next.ensures ∙ ap (reach (after ls c.args.i)) e),
       ap (λ (x : List Bool). length x) c.mark_next.ensures ∙ reach_long (after ls c.args.i) c.fill.new.self ∙ c.fill.ensures.len ∙ c.requires.3,
+      c.count_set-before.ensures,
     )
 
 pub loop-turn-preserved : goal.loop-turn-preserved
@@ -33,6 +34,7 @@ loop-turn-preserved c = let g = c.args.g.now in
     let on = onward_of (bare_listing g.listing) c.args.i (fam_text g.listing.texts c.args.f) (volatile (rules_of c.args.rules)) in (
       sweeps_more (length g.listing.lines.now) l.turn on l.seen c.loop-turn-test.true c.sweep.ensures l.invariant.0,
       ap (λ (x : List Bool). length x) c.sweep.ensures ∙ sweep_long 0 on l.seen ∙ l.invariant.1,
+      c.count_set-now.ensures,
     )
 
 pub returns : goal.returns
@@ -42,10 +44,10 @@ returns c =
     let on = onward_of (bare_listing g.listing) c.args.i (fam_text g.listing.texts c.args.f) (volatile (rules_of c.args.rules)) in
     sweeps_end (length g.listing.lines.now) l.turn on l.seen c.loop-turn-test.false l.invariant.0
 
-pub returns-then-count_set-before : goal.returns-then-count_set-before
-returns-then-count_set-before c =
+pub returns-then-now-before : goal.returns-then-now-before
+returns-then-now-before c =
     let g = c.args.g.now in
     let l = c.loop-turn in
     let on = onward_of (bare_listing g.listing) c.args.i (fam_text g.listing.texts c.args.f) (volatile (rules_of c.args.rules)) in
-    sweeps_done (length g.listing.lines.now - l.turn) on l.seen c.sweep.ensures c.count_set-before.ensures c.count_set.ensures
-    c.if-count_set-before.true l.invariant.0
+    sweeps_done (length g.listing.lines.now - l.turn) on l.seen c.sweep.ensures l.invariant.2 c.count_set-now.ensures
+    c.if-now-before.true l.invariant.0

@@ -4,7 +4,8 @@ use Rattle.cautions.specs.Forms.{sweeps}
 use Rattle.lines.specs.Texts.{bare_listing, fam_text}
 use Rattle.reference.specs.Rules.{volatile}
 use Rattle.ground.specs.Rules.{rules_of}
-use Rattle.flow.specs.Reaching.{onward_of, reached_table}
+use Rattle.reference.specs.Lists.{count}
+use Rattle.flow.specs.Reaching.{is_one, onward_of, reached_table}
 use Rattle.flow.proofs.reaching.reached.Given as goal
 
 abbrev pub invariant-loop-turn : goal.invariant-loop-turn
@@ -14,3 +15,4 @@ invariant-loop-turn l =
     let vs = volatile (rules_of l.rules) in
     (sweeps (length l.g.listing.lines.now - l.turn) (onward_of lines l.i fam vs) l.seen ≡ reached_table lines l.i fam vs)
     × (length l.seen ≡ suc (length l.g.listing.lines.now))
+    × (l.before ≡ count is_one l.seen)

@@ -26,6 +26,7 @@ returns-clause-kept c = λ lines kept e.
               for_seen = room.for_seen;
               for_expr = room.for_expr;
             };
+        untold = kept.untold;
         formed = λ on.
             let room = c.requires.3 on in
             subst (λ (ls : Listing). Gathered ls (set r.forms.now i f)) (sym e)

@@ -31,6 +31,6 @@ returns-clause-cautioned c =
     let kept = c.requires.3 in
     let lent : SameLent c.args.r.now _ = returns-clause-lent c in
     record {
-      kept = record { room = room_again lent kept.room; formed = λ on. rw e.forms (kept.formed (rw (on_as_before lent) at on)) };
+      kept = record { room = room_again lent kept.room; formed = λ on. rw e.forms (kept.formed (rw (on_as_before lent) at on)); untold = λ on. kept.untold (rw (on_as_before lent) at on) };
       sets = λ on. rw (held_long h) e.sets;
     }

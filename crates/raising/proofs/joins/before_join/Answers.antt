@@ -12,7 +12,7 @@ begin_join-requires c =
     let r = c.args.r.now in
     let on : is_on r ≡ true = on_if r c.if-r-eq0.false in
     let room = c.requires.1.room on in
-    (c.requires.0, c.requires.1.formed on, room.for_sets, room.for_forms, room.for_parts, room.for_seen, room.for_expr)
+    (c.requires.0, c.requires.1.formed on, room.for_sets, room.for_forms, room.for_parts, room.for_seen, room.for_expr, c.requires.1.untold on)
 
 pub returns-clause-halfway : goal.returns-clause-halfway
 returns-clause-halfway c =

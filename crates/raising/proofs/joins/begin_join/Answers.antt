@@ -44,6 +44,7 @@ raise-requires c =
       c.prepared-n.ensures.sound,
       omega (arith, e, f, q.planned.reached.0, long h),
       omega (arith, e, q.lines_few, c.requires.4),
+      c.requires.7,
       omega (arith, e, q.lines_few, c.requires.5),
       omega (arith, e, q.lines_few, c.requires.2),
     )

@@ -21,4 +21,5 @@ pub returns : goal.returns
 returns c = let l = c.loop-k in record {
   last = last_end c.args.parts.now c.args.i l.k l.last (omega (arith, c.loop-k-test.false)) l.invariant;
   within = (l.invariant.above, omega (arith, l.invariant.below, c.loop-k-test.false));
+  behind = λ k h b. l.invariant.unnoted k h (omega (arith, b, c.loop-k-test.false));
 }

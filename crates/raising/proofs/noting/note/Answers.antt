@@ -12,7 +12,7 @@ use Rattle.raising.proofs.noting.note.Goals.{then-passed, else-passed}
 
 pub loop-k-init : goal.loop-k-init
 loop-k-init c = let n = c.args.n.now in record {
-  noting = noting_begun (rules_of n.rules) (lines_of n) n.plan.line (plan_of n) (fam_of n) _ c.clear.ensures;
+  noting = noting_begun (rules_of n.rules) (lines_of n) n.plan.line (plan_of n) (fam_of n) c.args.parts.now c.requires.1;
   long = refl;
 }
 
@@ -26,8 +26,8 @@ loop-k-preserved c =
     let i = l.invariant in
     let long = lines_long n.g in
     record {
-      noting = noting_more (rules_of n.rules) (lines_of n) n.plan.line (plan_of n) (fam_of n) l.k l.passed l.parts (omega (arith, i.long, c.loop-k-test.true, c.requires.1, c.requires.2))
-          (omega (arith, long, c.loop-k-test.true, c.requires.2)) (c.told_at.ensures i.noting.world_is)
+      noting = noting_more (rules_of n.rules) (lines_of n) n.plan.line (plan_of n) (fam_of n) l.k l.passed l.parts (omega (arith, i.long, c.loop-k-test.true, c.requires.2, c.requires.3))
+          (omega (arith, long, c.loop-k-test.true, c.requires.3)) (c.told_at.ensures i.noting.world_is)
           (elim c.if-passed.branch [
             | then-passed w ↦ w.passed-is ∙ w.if-passed.true ∙ sym (or_true _ w.if-passed.true)
             | else-passed w ↦ w.passed-is ∙ w.is_world_at-passed.ensures ∙ sym (or_false _ w.if-passed.false)

@@ -4,7 +4,7 @@ use mathlib.Core.Path.{◌≡◌, refl, ◌∙◌, subst}
 use Prim.Native.Nat.{ℕ}
 use lib.ListN.{length}
 use Rattle.raising.specs.Renewing.{RenewedTo}
-use Rattle.raising.proofs.Renewed.{renewed_none, renewed_more}
+use Rattle.raising.proofs.Renewed.{renewed_none, renewed_more, renewed_far}
 use Rattle.raising.proofs.renewing.renew_lines.Goals as goal
 
 pub loop-q-init : goal.loop-q-init
@@ -26,5 +26,7 @@ pub returns : goal.returns
 returns c =
     let a = c.args in
     let l = c.loop-q in
-    let e : l.q ≡ length a.listing.now.lines.now = omega (arith, c.loop-q-test.false, l.auto.q-end c.requires.1) in
-    subst (λ (n : ℕ). RenewedTo a.listing.now a.i n a.all a.parts.now a.sets.now a.forms.now l.sets l.forms) e l.invariant.renewed
+    let q = c.requires.1 in
+    let e : l.q ≡ a.last = omega (arith, c.loop-q-test.false, l.auto.q-end q.above) in
+    renewed_far a.listing.now a.i a.all a.parts.now a.sets.now a.forms.now a.last (length a.listing.now.lines.now) q.inside q.behind
+    (subst (λ (n : ℕ). RenewedTo a.listing.now a.i n a.all a.parts.now a.sets.now a.forms.now l.sets l.forms) e l.invariant.renewed)

@@ -10,11 +10,13 @@ loop-q-preserved c =
     let a = c.args in
     let l = c.loop-q in
     let n = long a.listing.now in
-    kinds_more a.parts.now (bare_listing a.listing.now) l.kinds l.q (omega (arith, n, c.loop-q-test.true)) (omega (arith, c.loop-q-test.true, c.requires.2)) c.kinds_at-kinds.ensures l.invariant
+    let q = c.requires.1 in
+    kinds_more a.parts.now (bare_listing a.listing.now) l.kinds l.q (omega (arith, n, c.loop-q-test.true, q.inside)) (omega (arith, c.loop-q-test.true, q.inside, q.room))
+    c.kinds_at-kinds.ensures l.invariant
 
 pub returns : goal.returns
 returns c =
     let a = c.args in
     let l = c.loop-q in
     let n = long a.listing.now in
-    kinds_end a.parts.now (bare_listing a.listing.now) l.kinds l.q (omega (arith, n, c.loop-q-test.false)) l.invariant
+    kinds_end a.parts.now (bare_listing a.listing.now) l.kinds l.q (λ k h b. c.requires.1.behind k (omega (arith, h, c.loop-q-test.false)) (omega (arith, n, b))) l.invariant

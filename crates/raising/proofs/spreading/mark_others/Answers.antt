@@ -7,8 +7,9 @@ use Rattle.reference.specs.Control.{◌or◌}
 use Rattle.lines.specs.Texts.{bare_listing, fam_text}
 use Rattle.flow.proofs.Tables.{lines_long}
 use Rattle.raising.specs.Others.{dark_at, stale_at}
-use Rattle.raising.proofs.Putting.{found_more, found_end, none_dark, none_stale, marking_begun, marking_more, marking_done}
+use Rattle.raising.proofs.Putting.{found_more, found_skipped, found_end, none_dark, none_stale, marking_begun, marking_more, marking_skipped, marking_done}
 use Rattle.raising.proofs.spreading.mark_others.Goals as goal
+use Rattle.raising.proofs.spreading.mark_others.Goals.{then-seen-k, else-seen-k}
 
 pub loop-k-init : goal.loop-k-init
 unfolding ◌or◌
@@ -24,12 +25,23 @@ loop-k-preserved c =
     let l = c.loop-k in
     let ls = bare_listing g.listing in
     let fam = fam_text g.listing.texts a.f in
-    let o = c.other_at-o.ensures in
-    let h : l.k < length a.seen.now = omega (arith, c.requires.3, c.loop-k-test.true) in (
-      found_more (dark_at ls a.i a.parts.now) a.seen.now l.k h l.found.dark c.found_with-found.ensures.dark o.dark l.invariant.0,
-      found_more (stale_at ls a.i a.parts.now fam) a.seen.now l.k h l.found.stale c.found_with-found.ensures.stale o.stale l.invariant.1,
-      marking_more ls a.i fam a.parts.now a.seen.now a.sets.now l.k l.sets (omega (arith, c.requires.2, c.loop-k-test.true)) l.invariant.2 o.dark o.stale c.with_kinds.ensures,
-    )
+    let h : l.k < length a.seen.now = omega (arith, c.requires.3, c.loop-k-test.true) in
+    elim c.if-seen-k.branch [
+      | then-seen-k w ↦
+          let o = w.other_at-o.ensures in
+          let f = w.found_with-found.ensures in
+          rw (w.found-is, w.sets-is) (
+            found_more (dark_at ls a.i a.parts.now) a.seen.now l.k h l.found.dark f.dark o.dark l.invariant.0,
+            found_more (stale_at ls a.i a.parts.now fam) a.seen.now l.k h l.found.stale f.stale o.stale l.invariant.1,
+            marking_more ls a.i fam a.parts.now a.seen.now a.sets.now l.k l.sets (omega (arith, c.requires.2, c.loop-k-test.true)) l.invariant.2 o.dark o.stale w.with_kinds.ensures,
+          )
+      | else-seen-k w ↦
+          rw (w.found-is, w.sets-is) (
+            found_skipped (dark_at ls a.i a.parts.now) a.seen.now l.k h w.if-seen-k.false l.found.dark l.invariant.0,
+            found_skipped (stale_at ls a.i a.parts.now fam) a.seen.now l.k h w.if-seen-k.false l.found.stale l.invariant.1,
+            marking_skipped ls a.i fam a.parts.now a.seen.now a.sets.now l.k l.sets w.if-seen-k.false l.invariant.2,
+          )
+    ]
 
 pub returns-clause-dark : goal.returns-clause-dark
 returns-clause-dark c =
