@@ -1,11 +1,11 @@
--- `tables::loading::load` meets its contract. Assumes nothing.
+-- `tables::loading::load_accepted` meets its contract. Assumes nothing.
 use Prim.Native.Nat.{◌≤◌}
 use native.Mathlib.Omega.{arith}
 use lib.ListN.{length}
 use lib.Seq.{length-take-le}
 use mathlib.Core.Path.{sym}
 use Rattle.tables.proofs.loading.Loaded.{loaded-limits, loaded_recoded}
-use Rattle.tables.proofs.loading.load.Goals as goal
+use Rattle.tables.proofs.loading.load_accepted.Goals as goal
 
 pub slice_bounds-code_words-end : goal.slice_bounds-code_words-end
 slice_bounds-code_words-end c = omega (arith, loaded-limits c.tabled-totals.ensures.0, c.tabled-totals.auto.tokens, c.requires.in_bounds.0)
