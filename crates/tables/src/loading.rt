@@ -233,7 +233,5 @@ pub fn load(
     ensures loaded { LoadedIf tape.now tokens.new lines.new addresses.new (lows_of marks.new) (highs_of marks.new) result }
 {
     tape::check::<false>(tape)?;
-    Ok(load_accepted(
-        tape, tokens, lines, addresses, marks, records,
-    ))
+    Ok(load_accepted(tape, tokens, lines, addresses, marks, records))
 }
