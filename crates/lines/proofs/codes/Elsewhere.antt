@@ -5,7 +5,7 @@ use mathlib.Core.Path.{◌≡◌, sym, ◌∙◌}
 use mathlib.Core.List.{[]}
 use lib.ListN.{take, drop}
 use Rattle.reference.specs.Text.{Text}
-use Rattle.lines.specs.Words.{kind_of, buffer_of, start_of, len_of, code_of, with_code, text_of, token_of, Coded, Points, Recoded}
+use Rattle.lines.specs.Words.{kind_of, buffer_of, start_of, len_of, code_of, with_code, text_of, Coded, Points, Recoded}
 use Rattle.lines.proofs.codes.Recoding.{recoded_with}
 
 -- all but the code stays
