@@ -6,13 +6,15 @@
 // address. With one table they would have to promise besides that the addresses stand.
 ghost use Rattle.std.specs.Prelude.{◌≡◌, ◌≤◌, length};
 ghost use Rattle.lines.specs.Words.{Recodes};
-ghost use Rattle.tape.specs.Questions.{AcceptedTape};
+ghost use Rattle.tape.specs.Questions.{AcceptedTape, checked, sizes_in};
 ghost use Rattle.tables.specs.Records.{Fitting, Holding, Marking, Recorded, line_after, place_after, start_of, TakesToken, Grows};
 ghost use Rattle.tables.specs.Records.{Ready, Loads};
-ghost use Rattle.tables.specs.Tables.{tokens_after, Loaded, LoadedMarks};
+ghost use Rattle.tables.specs.Tables.{tokens_after, Loaded, LoadedMarks, LoadedIf};
+ghost use Rattle.reference.specs.Questions.{let_passed◌then◌, Passed, read};
 ghost use Rattle.lines.specs.Marks.{highs_of, lows_of};
 
-use crate::records::{BLANK, LineRecord, NO_MARKS, line_at, store_line};
+use crate::records::{LineRecord, NO_MARKS, line_at, store_line};
+use answers::Refusal;
 use lines::codes::coded;
 use lines::marks::Marks;
 use lines::words::{IN_TAPE, line_word, token_word};
@@ -164,22 +166,22 @@ fn spread(records: &[LineRecord], lines: &mut [u64], addresses: &mut [u64], mark
 }
 
 // Fills the tables with the listing of a tape that passed the questions, and says how many lines, tokens and bytes of text it has. The
-// lines go through an array of records of the call's own.
+// lines go through the records that are lent.
 fn tabled(
     tape: &[u8],
     tokens: &mut [u64],
     lines: &mut [u64],
     addresses: &mut [u64],
     marks: &mut [Marks],
+    records: &mut [LineRecord],
 ) -> Totals
     requires accepted_tape { AcceptedTape tape.now }
     requires in_bounds { (1024 ≤ length tokens.old) × (256 ≤ length lines.old) × (256 ≤ length addresses.old)
-        × (256 ≤ length marks.old) }
+        × (256 ≤ length marks.old) × (256 ≤ length records.old) }
     ensures { Loaded tape.now tokens.new lines.new addresses.new result
         × LoadedMarks tape.now lines.new (lows_of marks.new) (highs_of marks.new) result }
 {
-    let mut records = [BLANK; 256];
-    let totals = fill(tape, tokens, &mut records);
+    let totals = fill(tape, tokens, records);
     spread(&records[..totals.lines], lines, addresses, marks);
     totals
 }
@@ -196,20 +198,40 @@ fn code_words(tape: &[u8], tokens: &mut [u64])
 // Fills the tables so, each Register with the code of its family.
 // Kept: lengths as clauses, and no arrays of 1024 and 256. That would ask more of callers than this function ever did (no promise of a
 // public function is given up, nor does one ask more), and the cleaning lends 2,048 tokens.
+fn load_accepted(
+    tape: &[u8],
+    tokens: &mut [u64],
+    lines: &mut [u64],
+    addresses: &mut [u64],
+    marks: &mut [Marks],
+    records: &mut [LineRecord],
+) -> Totals
+    requires accepted_tape { AcceptedTape tape.now }
+    requires in_bounds { (1024 ≤ length tokens.old) × (256 ≤ length lines.old) × (256 ≤ length addresses.old)
+        × (256 ≤ length marks.old) × (256 ≤ length records.old) }
+    ensures { Loaded tape.now tokens.new lines.new addresses.new result
+        × LoadedMarks tape.now lines.new (lows_of marks.new) (highs_of marks.new) result }
+{
+    let totals = tabled(tape, tokens, lines, addresses, marks, records);
+    code_words(tape, &mut tokens[..totals.tokens]);
+    totals
+}
+
+// Asks the questions of a tape and fills the tables with its listing. Where a question refuses it, what then stands in the tables is not
+// said; what stands in the records is said in neither case.
 pub fn load(
     tape: &[u8],
     tokens: &mut [u64],
     lines: &mut [u64],
     addresses: &mut [u64],
     marks: &mut [Marks],
-) -> Totals
-    requires accepted_tape { AcceptedTape tape.now }
-    requires in_bounds { (1024 ≤ length tokens.old) × (256 ≤ length lines.old) × (256 ≤ length addresses.old)
-        × (256 ≤ length marks.old) }
-    ensures { Loaded tape.now tokens.new lines.new addresses.new result
-        × LoadedMarks tape.now lines.new (lows_of marks.new) (highs_of marks.new) result }
+    records: &mut [LineRecord],
+) -> Result<Totals, Refusal>
+    requires { (1024 ≤ length tokens.old) × (256 ≤ length lines.old) × (256 ≤ length addresses.old) × (256 ≤ length marks.old)
+        × (256 ≤ length records.old) }
+    ensures asked { checked result ≡ (let_passed (read tape.now) then λ lines. Passed (sizes_in lines)) }
+    ensures loaded { LoadedIf tape.now tokens.new lines.new addresses.new (lows_of marks.new) (highs_of marks.new) result }
 {
-    let totals = tabled(tape, tokens, lines, addresses, marks);
-    code_words(tape, &mut tokens[..totals.tokens]);
-    totals
+    tape::check::<false>(tape)?;
+    Ok(load_accepted(tape, tokens, lines, addresses, marks, records))
 }
