@@ -9,7 +9,7 @@ ghost use Rattle.reference.specs.Questions.{has_line, is_within, is_offending};
 ghost use Rattle.reference.specs.Questions.{read_command_by, let_passed◌then◌, Passed, read_by};
 ghost use Rattle.reference.specs.Steps.{FromHereBy};
 ghost use Rattle.tape.specs.Commands.{form_of, looked_at, command_in};
-ghost use Rattle.tape.specs.Questions.{said, asking, totals_of, sizes_in, Counts, counted, stepped, SteppedOn, checked};
+ghost use Rattle.tape.specs.Questions.{said, asking, totals_of, sizes_in, Counts, counted, stepped, StandsIn, SteppedOn, checked};
 
 use crate::commands::{Command, header_of, size_of};
 use crate::reader::{command_at, token_text};
@@ -164,6 +164,7 @@ pub fn count_in(command: Command, totals: Totals) -> Totals
 pub fn step<const BASED: bool>(tape: &[u8], at: usize, totals: Totals) -> Result<Advance, Refusal>
     ensures result_value { stepped tape.now at result ≡ read_command_by (form_of BASED) tape.now at (totals_of totals) }
     ensures from_here { FromHereBy (form_of BASED) tape.now at (totals_of totals) (stepped tape.now at result) }
+    ensures stands { StandsIn (form_of BASED) tape.now at result }
 {
     let command = command_at::<BASED>(tape, at)?; // first NoCommand and CutOff
     ask(tape, at, command, totals)?;
