@@ -150,6 +150,10 @@ module _ (form : TapeForm) {tape : List ℕ} {at : ℕ} where
       }
 
 module _ {form : TapeForm} {tape : List ℕ} {at : ℕ} where
+  -- and back
+  pub found_by : {c : Command} → StandsBy form tape at c → found_in_by form tape at (Ok c) ≡ standing_by form tape at
+  found_by s = (λ i. Passed (s.same i, s.size i)) ∙ whole form tape at s.known (rw length-drop at s.inside)
+
   pub stands-inside : {c : Command} → StandsBy form tape at c → (1 ≤ size_of_by form c) × (at + size_of_by form c ≤ length tape)
   stands-inside s =
       let positive = size_positive (drop at tape) s.known in

@@ -1,42 +1,34 @@
--- `tables::loading::fill` meets its contract: the commands so far are laid, one more at each turn. Assumes nothing.
-use Prim.Native.Nat.{◌≤◌}
+-- `tables::loading::fill` meets its contract: the commands so far are taken, one more at each turn. Assumes nothing.
 use native.Mathlib.Omega.{arith}
-use lib.ListN.{length}
-use Rattle.tables.proofs.loading.Turns.{going_start, going_ready, step-loaded_line, step-loaded-going, step-loaded-less, load-ended}
+use mathlib.Core.Path.{ap, ◌∙◌}
+use Rattle.std.proofs.lemmas.Result.{err_from_is_err_and}
+use lib.ListN.{length-replicate}
+use Rattle.tables.proofs.memo.Remembering.{memory_empty}
+use Rattle.tables.proofs.loading.Turns.{loading_start, loading-loadable, loading_more, loading-less, loading-recorded, loading-verdict, loading-refused}
 use Rattle.tables.proofs.loading.fill.Goals as goal
 
-pub loop-step-init : goal.loop-step-init
-loop-step-init c = rw c.start-state.ensures (omega arith, going_start c.args.tape.now c.args.tokens.now c.args.lines.now)
+pub loop-next-init : goal.loop-next-init
+loop-next-init c = (loading_start c.args.tape.now c.args.tokens.now c.args.records.now c.requires.0 c.requires.1, memory_empty _ (length-replicate 256 0))
 
-pub load_command-requires : goal.load_command-requires
-load_command-requires c = let l = c.loop-step in
-    let long : 1024 ≤ length l.tokens = omega (arith, c.requires.1) in
-    let enough : 256 ≤ length l.lines = omega (arith, c.requires.2) in
-    rw c.line_at.ensures (going_ready c.requires.0 long enough l.invariant.1)
+pub load_next-requires : goal.load_next-requires
+load_next-requires c = let l = c.loop-next in (loading-loadable l.invariant.0, l.invariant.1)
 
-pub store_line-requires : goal.store_line-requires
-store_line-requires c = let l = c.loop-step in
-    let long : 1024 ≤ length l.tokens = omega (arith, c.requires.1) in
-    let enough : 256 ≤ length l.lines = omega (arith, c.requires.2) in
-    let step = rw c.line_at.ensures at c.in-Some.ensures in
-    omega (arith, step-loaded_line c.requires.0 long enough l.invariant.1 step l.invariant.0)
+pub returns-in_err-next-clause-asked : goal.returns-in_err-next-clause-asked
+returns-in_err-next-clause-asked c = let p = err_from_is_err_and c.from_residual.result c.from_residual.ensures.1 in
+    rw (p.1, p.2) (loading-refused c.loop-next.invariant.0 c.in_err-next.ensures.loads)
 
-pub loop-step-smaller : goal.loop-step-smaller
-loop-step-smaller c = let l = c.loop-step in
-    let long : 1024 ≤ length l.tokens = omega (arith, c.requires.1) in
-    let enough : 256 ≤ length l.lines = omega (arith, c.requires.2) in
-    let step = rw c.line_at.ensures at c.in-Some.ensures in
-    step-loaded-less c.requires.0 long enough l.invariant.1 step
+pub loop-next-smaller : goal.loop-next-smaller
+loop-next-smaller c = let r = rw c.in-Some.is at c.in_ok-next.ensures.loads in
+    loading-less c.loop-next.invariant.0 r
 
-pub loop-step-preserved : goal.loop-step-preserved
-loop-step-preserved c = let l = c.loop-step in
-    let long : 1024 ≤ length l.tokens = omega (arith, c.requires.1) in
-    let enough : 256 ≤ length l.lines = omega (arith, c.requires.2) in
-    let step = rw c.line_at.ensures at c.in-Some.ensures in
-    rw c.store_line.ensures (step-loaded_line c.requires.0 long enough l.invariant.1 step l.invariant.0, step-loaded-going c.requires.0 long enough l.invariant.1 step)
+pub loop-next-preserved : goal.loop-next-preserved
+loop-next-preserved c = let r = rw c.in-Some.is at c.in_ok-next.ensures.loads in
+    (loading_more c.loop-next.invariant.0 r, c.load_next.ensures.memory)
 
-pub returns : goal.returns
-returns c = let l = c.loop-step in
-    let long : 1024 ≤ length l.tokens = omega (arith, c.requires.1) in
-    let enough : 256 ≤ length l.lines = omega (arith, c.requires.2) in
-    load-ended c.requires.0 long enough l.invariant.1 c.in_default.ensures
+pub returns-clause-asked : goal.returns-clause-asked
+returns-clause-asked c = let r = rw c.in_default.is at c.in_ok-next.ensures.loads in
+    loading-verdict c.loop-next.invariant.0 r.passed
+
+pub returns-clause-recorded : goal.returns-clause-recorded
+returns-clause-recorded c = let r = rw c.in_default.is at c.in_ok-next.ensures.loads in
+    loading-recorded c.loop-next.invariant.0 r

@@ -1,12 +1,13 @@
--- What the loop of `tables::loading::fill` keeps true: the last line is in the table, and the records are those of the commands so far. What falls at
--- each turn: the bytes that are left.
-use Prim.Native.Nat.{◌-◌, ◌<◌}
+-- What the loop of `tables::loading::fill` keeps true: the reading has come to its offset, the records and the words are those of the commands so far, and
+-- the memo is right. What falls at each turn: the bytes that are left.
+use Prim.Native.Nat.{◌-◌}
 use lib.ListN.{length}
-use Rattle.tables.proofs.loading.Turns.{Going}
+use Rattle.tables.specs.Memo.{Memory}
+use Rattle.tables.proofs.loading.Turns.{Loading}
 use Rattle.tables.proofs.loading.fill.Given as goal
 
-abbrev pub invariant-loop-step : goal.invariant-loop-step
-invariant-loop-step l = (l.state.line < 256) × Going l.tape l.tokens l.lines l.state
+abbrev pub invariant-loop-next : goal.invariant-loop-next
+invariant-loop-next l = Loading l.tape l.tokens l.records l.state × Memory l.keys l.words
 
-abbrev pub decreases-loop-step : goal.decreases-loop-step
-decreases-loop-step l = length l.tape - l.state.at
+abbrev pub decreases-loop-next : goal.decreases-loop-next
+decreases-loop-next l = length l.tape - l.state.at
