@@ -113,9 +113,10 @@ fn code_of(s: &[u8]) -> Option<u64>
 }
 
 // The word with the code of its text, where it is a Register in the tape.
-#[tactic(auto, using(crate::proofs::codes::Recoding::recoded_with, crate::proofs::words::Tokens::bounds))]
+#[tactic(auto, using(crate::proofs::codes::Elsewhere::coding, crate::proofs::words::Tokens::bounds))]
 pub fn coded(tape: &[u8], w: u64) -> u64
-    ensures { Recoded tape.now w result }
+    ensures recoded { Recoded tape.now w result }
+    ensures parts { result % 68719476736 ≡ w % 68719476736 }
 {
     if words::kind(w) != kinds::REGISTER || words::buffer(w) != words::IN_TAPE {
         return w;
