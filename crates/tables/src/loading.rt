@@ -177,7 +177,13 @@ fn load_asked(
         return Ok(None);
     }
     add_token(
-        tape, state.at, step.command, state.totals, tokens, keys, words,
+        tape,
+        state.at,
+        step.command,
+        state.totals,
+        tokens,
+        keys,
+        words,
     );
     lay(step.command, state.totals, records);
     Ok(Some(LoadState {
@@ -209,11 +215,7 @@ fn load_next(
 
 // Asks the questions of a tape and loads its lines: a record for each line and a word for each token.
 // Kept: document 01 names the form, "line records are lent as a slice of records" to a few thin functions.
-pub fn fill(
-    tape: &[u8],
-    tokens: &mut [u64],
-    records: &mut [LineRecord],
-) -> Result<Totals, Refusal>
+pub fn fill(tape: &[u8], tokens: &mut [u64], records: &mut [LineRecord]) -> Result<Totals, Refusal>
     requires { (1024 ≤ length tokens.old) × (256 ≤ length records.old) }
     ensures asked { checked result ≡ (let_passed (read tape.now) then λ lines. Passed (sizes_in lines)) }
     ensures recorded { RecordedIf tape.now tokens.new records.new result }

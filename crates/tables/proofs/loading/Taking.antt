@@ -1,33 +1,29 @@
 -- What a command needs to be taken, where it passed the questions and the totals are within the limits; and that a token which the memo knows passes
 -- them. Assumes nothing.
-use Prim.Native.Nat.{ℕ, ◌+◌, ◌-◌, ◌^◌, ◌≤◌, ◌<◌}
+use Prim.Native.Nat.{ℕ, ◌+◌, ◌^◌, ◌≤◌, ◌<◌}
 use native.Mathlib.Omega.{arith}
 use mathlib.Core.Path.{◌≡◌, refl, sym, ap, ◌∙◌}
-use mathlib.Core.Bool.{true, false}
-use mathlib.Core.List.{List, [], ◌∷◌, ◌++◌}
-use lib.ListN.{length, take, drop, get_or, set, length-append, take-append-drop}
+use mathlib.Core.List.{List, [], ◌++◌}
+use lib.ListN.{length, take, drop, set, length-append, take-append-drop}
 use lib.Seq.{drop-drop, take-append_seam}
 use borrow.Author.Tests.{leb-true, le-leb}
-use Rattle.reference.specs.Control.{◌and◌}
 use Rattle.reference.specs.Listing as L
 use Rattle.reference.specs.Listing.{token}
-use Rattle.reference.specs.Tape.{old, new_token, write_command, command_by, command_size_by, to_le_bytes, write_command_by}
-use Rattle.reference.specs.Questions.{has_line, is_within, is_few, is_short, is_printable, is_over, Passed, read_command}
+use Rattle.reference.specs.Tape.{old, new_token, write_command, command_by, to_le_bytes, write_command_by}
+use Rattle.reference.specs.Questions.{has_line, is_few, is_short, is_over, Passed}
 use Rattle.reference.proofs.Cases.{both}
 use Rattle.reference.proofs.Commands as R
 use Rattle.reference.proofs.LittleEndian.{Bytes, bytes_drop}
 use Rattle.reference.proofs.Reading.{Passes, pass_command}
-use Rattle.lines.specs.Words.{kind_of, len_of, word, token_of, Recoded}
-use Rattle.lines.proofs.words.Tokens.{word-means, in_tape}
-use Rattle.tape.specs.Commands.{command_in, size_of, found_in, standing}
-use Rattle.tape.specs.Questions.{totals_of, counted, Counts, ReadOne}
+use Rattle.lines.specs.Words.{kind_of, len_of, word, Recoded}
+use Rattle.lines.proofs.words.Tokens.{word-means}
+use Rattle.tape.specs.Questions.{totals_of, counted, Counts}
 use Rattle.tape.specs.declared.commands.Command.{Command}
 use Rattle.tape.specs.declared.commands.Command.TheVariants.{Addressed, Plain, Marked, Token, End}
-use Rattle.tape.specs.declared.questions.Totals.{Totals}
-use Rattle.tape.proofs.commands.Standing.{Stands, found_by, stands-inside}
-use Rattle.tape.proofs.questions.Asking.{advanced, advanced_same, within-counts}
-use Rattle.tables.specs.Memo.{TokenAt, Good, Recalled}
-use Rattle.tables.specs.Records.{blank, Lays, TokenPassed, TakesToken, Loadable, StepLoads, records_after}
+use Rattle.tape.proofs.commands.Standing.{Stands, found_by}
+use Rattle.tape.proofs.questions.Asking.{advanced_same, within-counts}
+use Rattle.tables.specs.Memo.{TokenAt, Recalled}
+use Rattle.tables.specs.Records.{Lays, TakesToken, Loadable, StepLoads, records_after}
 use Rattle.tables.specs.declared.loading.LoadState.{LoadState}
 use Rattle.tables.specs.declared.records.LineRecord.{LineRecord}
 
@@ -60,14 +56,16 @@ module _ {tape : List ℕ} {s : LoadState} {tokens : List ℕ} {records : List L
       let z = token_sized st in
       let counts : Counts (Token kind count) s.totals = within-counts old tape s.at s.totals st (rw st.same p.few) (rw st.same p.short) in
       let long : length (take count (drop (s.at + 3) tape)) ≡ count = omega (arith, z.0) in
-      let back = rw (← st.same, ← st.size) at (R.write_of-read rest (bytes_drop s.at tape h) st.known st.inside) in
-      (record {
-        stands = record { low = z.1; stands = rw long (sym back) };
-        good = record { within = rw st.same p.within; printable = rw st.same p.printable };
-        long = long;
-        near = omega (arith, counts.1, l.near, l.few_lines, l.few_tokens);
-        early = omega (arith, l.near, l.short_text, l.few_lines, l.few_tokens);
-      }, omega (arith, counts.0, l.long_tokens))
+      let back = rw (← st.same, ← st.size) at (R.write_of-read rest (bytes_drop s.at tape h) st.known st.inside) in (
+        record {
+          stands = record { low = z.1; stands = rw long (sym back) };
+          good = record { within = rw st.same p.within; printable = rw st.same p.printable };
+          long = long;
+          near = omega (arith, counts.1, l.near, l.few_lines, l.few_tokens);
+          early = omega (arith, l.near, l.short_text, l.few_lines, l.few_tokens);
+        },
+        omega (arith, counts.0, l.long_tokens),
+      )
   takes End st p h = tt
 
 -- ---- a token that the memo knows
@@ -163,6 +161,6 @@ module _ {tape : List ℕ} {s : LoadState} {tokens : List ℕ} {records : List L
             bytes = bytes;
           }
 
-      pub known_step : {k n : ℕ} → n ≡ len_of w → records' ≡ records_after (Token k n) s.totals records → s'.at ≡ s.at + (3 + n)
-          → totals_of s'.totals ≡ counted (Token k n) (totals_of s.totals) → StepLoads tape s tokens records (set tokens s.totals.tokens w) records' s'
+      pub known_step : {n : ℕ} → n ≡ len_of w → records' ≡ records_after (Token (kind_of w) n) s.totals records → s'.at ≡ s.at + (3 + n)
+          → totals_of s'.totals ≡ counted (Token (kind_of w) n) (totals_of s.totals) → StepLoads tape s tokens records (set tokens s.totals.tokens w) records' s'
       known_step en e at_is totals_are = taken e (rw en at at_is) (rw en at totals_are)

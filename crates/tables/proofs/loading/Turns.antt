@@ -331,8 +331,8 @@ module _ {tape tokens : List ℕ} {records : List LineRecord} {s : LoadState} (l
       } in
       rw (p.same.tokens_are, p.same.records_are) (going-ends l.long_plain l.long_records l.going coded p.passed.passes p.passed.ends)
 
-  pub loading-verdict : {a : Q.Advance} → ReadOne old tape s.at (totals_of s.totals) true a → Passed (sizes_of s.totals) ≡ VerdictBy old tape
-  loading-verdict {a} p = let r = l.going.filled.reads in ap Passed (sizes_are r) ∙ verdict_passed old tape (read_ended r (a, p))
+  pub loading-verdict : (a : Q.Advance) → ReadOne old tape s.at (totals_of s.totals) true a → Passed (sizes_of s.totals) ≡ VerdictBy old tape
+  loading-verdict a p = let r = l.going.filled.reads in ap Passed (sizes_are r) ∙ verdict_passed old tape (read_ended r (a, p))
 
   pub loading-refused : {n p : ℕ} → Refused n p ≡ read_command tape s.at (totals_of s.totals) → Refused n p ≡ VerdictBy old tape
   loading-refused e = verdict_refused old tape (read_refused l.going.filled.reads e)

@@ -1,6 +1,5 @@
 -- `tables::loading::fill` meets its contract: the commands so far are taken, one more at each turn. Assumes nothing.
-use native.Mathlib.Omega.{arith}
-use mathlib.Core.Path.{ap, ◌∙◌}
+use Prim.Native.Nat.{ℕ}
 use Rattle.std.proofs.lemmas.Result.{err_from_is_err_and}
 use lib.ListN.{length-replicate}
 use Rattle.tables.proofs.memo.Remembering.{memory_empty}
@@ -8,7 +7,7 @@ use Rattle.tables.proofs.loading.Turns.{loading_start, loading-loadable, loading
 use Rattle.tables.proofs.loading.fill.Goals as goal
 
 pub loop-next-init : goal.loop-next-init
-loop-next-init c = (loading_start c.args.tape.now c.args.tokens.now c.args.records.now c.requires.0 c.requires.1, memory_empty _ (length-replicate 256 0))
+loop-next-init c = (loading_start c.args.tape.now c.args.tokens.now c.args.records.now c.requires.0 c.requires.1, memory_empty _ (length-replicate {A = ℕ} 256 0))
 
 pub load_next-requires : goal.load_next-requires
 load_next-requires c = let l = c.loop-next in (loading-loadable l.invariant.0, l.invariant.1)
@@ -27,7 +26,7 @@ loop-next-preserved c = let r = rw c.in-Some.is at c.in_ok-next.ensures.loads in
 
 pub returns-clause-asked : goal.returns-clause-asked
 returns-clause-asked c = let r = rw c.in_default.is at c.in_ok-next.ensures.loads in
-    loading-verdict c.loop-next.invariant.0 r.passed
+    loading-verdict c.loop-next.invariant.0 r.last r.passed
 
 pub returns-clause-recorded : goal.returns-clause-recorded
 returns-clause-recorded c = let r = rw c.in_default.is at c.in_ok-next.ensures.loads in
