@@ -52,18 +52,22 @@ key_of rest = when leb 8 (length rest) and leb (text_length rest) 5 then some (f
 abbrev pub EMPTY : ℕ
 EMPTY = 18446744073709551615
 
--- The key's bytes are the command of a short token, and the word, a start added, is the token's wherever that stands.
+-- The key's bytes are the command of a short token. The word is what the token's would be at offset 0; moved, it is the token's wherever that
+-- stands.
 pub record Remembered (key w : ℕ) : Type 0 where
   pub token : Token
   pub low : token.kind < 8
   pub good : Good token
   pub short : length token.text ≤ 5
   pub bytes : to_le_bytes (3 + length token.text) key ≡ write_command (new_token token)
-  pub parts : w % 68719476736 ≡ word token.kind 0 0 (length token.text)
-  pub recoded : (tape : List ℕ) (at : ℕ) → TokenAt tape at token → at + 8 < 65536 → Recoded tape (plain_word at token) (w + (at + 3) * 16)
+  pub parts : w % 68719476736 ≡ plain_word 0 token
+  pub recoded : (tape : List ℕ) (at : ℕ) → TokenAt tape at token → at + 8 < 65536 → Recoded tape (plain_word at token) (w + at * 16)
 
--- each of the 256 places is empty, or remembers a token
+abbrev pub PLACES : ℕ
+PLACES = 512
+
+-- each place is empty, or remembers a token
 pub record Memory (keys words : List ℕ) : Type 0 where
-  pub long_keys : length keys ≡ 256
-  pub long_words : length words ≡ 256
-  pub at : (k : ℕ) → k < 256 → (get_or keys k 0 ≡ EMPTY) ⊎ Remembered (get_or keys k 0) (get_or words k 0)
+  pub long_keys : length keys ≡ PLACES
+  pub long_words : length words ≡ PLACES
+  pub at : (k : ℕ) → k < PLACES → (get_or keys k 0 ≡ EMPTY) ⊎ Remembered (get_or keys k 0) (get_or words k 0)

@@ -2,7 +2,7 @@
 // token alone and its code, is right of the next.
 //
 // The key of a token whose text has at most five bytes is its whole command as one number, its bytes the lowest first. Equal keys are equal
-// commands, since a key has its length in it. A key has one place in the two tables, and there its word with the start left out.
+// commands, since a key has its length in it. A key has one place in the two tables, and there its word as it is at offset 0.
 ghost use Rattle.std.specs.Prelude.{◌≡◌, ◌+◌, ◌*◌, ◌^◌, ◌≤◌, ◌<◌, drop, IfSome, MatchOption};
 ghost use Rattle.reference.specs.Options.{option_of};
 ghost use Rattle.tables.specs.Memo.{key_of, Known, Memory, Recalled};
@@ -10,7 +10,7 @@ ghost use Rattle.tables.specs.Memo.{key_of, Known, Memory, Recalled};
 use tape::little_endian::number_at;
 
 // How many places the tables have.
-pub(crate) const PLACES: usize = 256;
+pub(crate) const PLACES: usize = 512;
 
 // What stands in an empty place: no key, since the length in it is 65,535.
 pub(crate) const EMPTY: u64 = u64::MAX;
@@ -43,19 +43,20 @@ fn key_at(tape: &[u8], at: usize) -> Option<u64>
     Some(v & mask)
 }
 
-// The place of a key: the upper bits of a product that mixes all its bits.
+// The place of a key: the upper bits of a product that mixes all its bits. (Any factor is right. Of 30,000,000 that were tried, this one
+// sends the fewest of the common short tokens, as registers and Puncts, to one place.)
 fn place_of(key: u64) -> usize
-    ensures { result < 256 }
+    ensures { result < 512 }
 {
-    (key.wrapping_mul(0x9E37_79B9_7F4A_7C15) >> 56) as usize
+    (key.wrapping_mul(0x3469_6483_CE36_BB05) >> 55) as usize
 }
 
-// What the start of a word's text, three bytes behind its command, adds to the word.
-fn start_at(at: usize) -> u64
-    requires { at + 8 < 65536 }
-    ensures { result ≡ (at + 3) * 16 }
+// How much more a token's word is at an offset than at 0: that much is in its start.
+fn moved_by(at: usize) -> u64
+    requires { at < 65536 }
+    ensures { result ≡ at * 16 }
 {
-    (at as u64 + 3) * 16
+    at as u64 * 16
 }
 
 // The word of the token at an offset, if it is remembered.
@@ -73,7 +74,7 @@ pub(crate) fn recall(
     if keys[place] != key {
         return None;
     }
-    Some(words[place] + start_at(at))
+    Some(words[place] + moved_by(at))
 }
 
 // Remembers the word of the token at an offset, if its text is short, in place of what its place had.
@@ -90,6 +91,6 @@ pub(crate) fn remember(
     if let Some(key) = key_at(tape, at) {
         let place = place_of(key);
         keys[place] = key;
-        words[place] = w - start_at(at);
+        words[place] = w - moved_by(at);
     }
 }

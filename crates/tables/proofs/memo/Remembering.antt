@@ -15,12 +15,12 @@ use Rattle.reference.proofs.LittleEndian.{Bytes, bytes_drop}
 use Rattle.lines.specs.Words.{len_of, word, Recoded}
 use Rattle.lines.proofs.words.Tokens.{word_kind, word_place, word_start, word_len, word-points, in_tape}
 use Rattle.lines.proofs.codes.Elsewhere.{same_kind, same_buffer, same_start, same_len, recoded_elsewhere}
-use Rattle.tables.specs.Memo.{TokenAt, plain_word, Recalled, Known, key_of, EMPTY, Remembered, Memory}
+use Rattle.tables.specs.Memo.{TokenAt, plain_word, Recalled, Known, key_of, EMPTY, PLACES, Remembered, Memory}
 use Rattle.tables.proofs.memo.Keys.{KeyIs, key_is, not_empty, token-length, inside_tape, text_at, text_length_at}
 
 -- nothing is remembered yet
-pub memory_empty : (words : List ℕ) → length words ≡ 256 → Memory (replicate 256 EMPTY) words
-memory_empty words l = record { long_keys = length-replicate 256 EMPTY; long_words = l; at = λ k h. inl (get_or-replicate 256 k EMPTY 0 h) }
+pub memory_empty : (words : List ℕ) → length words ≡ PLACES → Memory (replicate PLACES EMPTY) words
+memory_empty words l = record { long_keys = length-replicate PLACES EMPTY; long_words = l; at = λ k h. inl (get_or-replicate PLACES k EMPTY 0 h) }
 
 -- ---- a token that is remembered
 
@@ -35,25 +35,25 @@ module _ (tape : List ℕ) (at : ℕ) (bytes : Bytes tape) (near : at + 8 < 6553
     pub stands_there : TokenAt tape at r.token
     stands_there = record { low = r.low; stands = rw same_length at (sym known_key.bytes) ∙ r.bytes }
 
-    len_is : len_of (w + (at + 3) * 16) ≡ length r.token.text
+    len_is : len_of (w + at * 16) ≡ length r.token.text
     unfolding len_of word
     len_is = let p = r.parts in let l = r.low in let s = r.short in omega arith
 
-    pub room : w < 18446744073709551616 → w + (at + 3) * 16 < 18446744073709551616
+    pub room : w < 18446744073709551616 → w + at * 16 < 18446744073709551616
     unfolding word
     room h = let p = r.parts in let l = r.low in let s = r.short in omega arith
 
-    pub recalled : Recalled tape at (w + (at + 3) * 16)
+    pub recalled : Recalled tape at (w + at * 16)
     recalled = record { token = r.token; stands = stands_there; good = r.good; recoded = r.recoded tape at stands_there near; len = len_is; short = r.short }
 
-  module _ {keys words : List ℕ} (m : Memory keys words) {place : ℕ} (h : place < 256) (same : get_or keys place 0 ≡ key) where
+  module _ {keys words : List ℕ} (m : Memory keys words) {place : ℕ} (h : place < PLACES) (same : get_or keys place 0 ≡ key) where
     pub remembered : Remembered key (get_or words place 0)
     remembered =
         ⊎_elim (λ e. absurd (not_empty known_key (sym same ∙ e))) (λ (r : Remembered (get_or keys place 0) (get_or words place 0)). rw same at r) (m.at place h)
 
 -- ---- a table with a token more
 
--- The word of a token with its start left out.
+-- the word of a token, moved to offset 0 and from there
 module _ (tape : List ℕ) (at w : ℕ) (k : Known tape at w) where
   abbrev t : Token
   t = k.token
@@ -62,17 +62,17 @@ module _ (tape : List ℕ) (at w : ℕ) (k : Known tape at w) where
   unfolding word
   few = let p = k.parts in let l = k.stands.low in let n = k.near in omega arith
 
-  pub above_start : (at + 3) * 16 ≤ w
+  pub above_start : at * 16 ≤ w
   above_start = let f = few in omega arith
 
   module _ (short : length t.text ≤ 5) where
-    left_parts : (w - (at + 3) * 16) % 68719476736 ≡ word t.kind 0 0 (length t.text)
+    left_parts : (w - at * 16) % 68719476736 ≡ plain_word 0 t
     unfolding word
     left_parts = let f = few in let l = k.stands.low in let n = k.near in omega arith
 
     module _ (tape' : List ℕ) (at' : ℕ) (s : TokenAt tape' at' t) (near' : at' + 8 < 65536) where
       abbrev r' : ℕ
-      r' = w - (at + 3) * 16 + (at' + 3) * 16
+      r' = w - at * 16 + at' * 16
 
       same_above : r' / 68719476736 ≡ w / 68719476736
       same_above = let f = few in let l = k.stands.low in let n = k.near in omega arith
@@ -114,7 +114,7 @@ module _ (tape : List ℕ) (at w : ℕ) (k : Known tape at w) where
     is_short : length t.text ≤ 5
     is_short = rw length_is at key_known.short
 
-    learnt : Remembered key (w - (at + 3) * 16)
+    learnt : Remembered key (w - at * 16)
     learnt = record {
       token = t;
       low = k.stands.low;
@@ -125,12 +125,12 @@ module _ (tape : List ℕ) (at w : ℕ) (k : Known tape at w) where
       recoded = elsewhere is_short;
     }
 
-    module _ {keys words : List ℕ} (m : Memory keys words) {place : ℕ} (h : place < 256) where
-      pub remembers : Memory (set keys place key) (set words place (w - (at + 3) * 16))
+    module _ {keys words : List ℕ} (m : Memory keys words) {place : ℕ} (h : place < PLACES) where
+      pub remembers : Memory (set keys place key) (set words place (w - at * 16))
       remembers = record {
         long_keys = length-set keys place key ∙ m.long_keys;
         long_words = length-set words place _ ∙ m.long_words;
         at = λ i b. by_cases (ℕ_discrete i place)
-            (λ e. rw (e, get_or-set_same keys place key 0 (omega (arith, m.long_keys)), get_or-set_same words place (w - (at + 3) * 16) 0 (omega (arith, m.long_words))) (inr learnt))
-            (λ n. rw (get_or-set_other keys place i key 0 n, get_or-set_other words place i (w - (at + 3) * 16) 0 n) (m.at i b));
+            (λ e. rw (e, get_or-set_same keys place key 0 (omega (arith, m.long_keys)), get_or-set_same words place (w - at * 16) 0 (omega (arith, m.long_words))) (inr learnt))
+            (λ n. rw (get_or-set_other keys place i key 0 n, get_or-set_other words place i (w - at * 16) 0 n) (m.at i b));
       }
