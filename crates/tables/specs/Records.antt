@@ -122,6 +122,10 @@ RecordedIf tape tokens records (Err r) = Unit {0}
 
 -- ---- one command
 
+-- one token more
+abbrev pub longer_by_one : LineRecord → LineRecord
+longer_by_one line = record line { count = line.count + 1 }
+
 -- the record that the command at hand is about, `line` being the record of the last line
 abbrev pub line_after : Command → Totals → LineRecord → LineRecord
 line_after (Addressed address indent) t line =
@@ -129,7 +133,7 @@ line_after (Addressed address indent) t line =
 line_after (Plain indent) t line =
     record { address = std.None; indent = indent; first = t.tokens; count = 0; marks = record { low = TOP; high = 0 } }
 line_after (Marked low high) t line = record line { marks = record { low = min line.marks.low low; high = max line.marks.high high } }
-line_after (Token kind count) t line = record line { count = line.count + 1 }
+line_after (Token kind count) t line = longer_by_one line
 line_after End t line = line
 
 -- its place

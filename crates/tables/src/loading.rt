@@ -4,12 +4,12 @@
 // `load` is this one, and lends its fields apart afterwards. A struct here would ask of callers that they have just that one.
 // Kept: addresses and marks are two tables, not one of pairs, which would be no plainer: the rounds join the marks and never see an
 // address. With one table they would have to promise besides that the addresses stand.
-ghost use Rattle.std.specs.Prelude.{◌≡◌, ◌+◌, ◌≤◌, length};
+ghost use Rattle.std.specs.Prelude.{◌≡◌, ◌+◌, ◌≤◌, ◌<◌, length, get_or, set};
 ghost use Rattle.lines.specs.Words.{word, Recoded};
 ghost use Rattle.tape.specs.Questions.{checked, sizes_in};
 ghost use Rattle.tables.specs.Memo.{Memory};
 ghost use Rattle.tables.specs.Records.{Fitting, Holding, Marking, RecordedIf, records_after, Lays, TokenPassed, TakesToken, Worded};
-ghost use Rattle.tables.specs.Records.{Loadable, LoadsKnown, Loads};
+ghost use Rattle.tables.specs.Records.{blank, longer_by_one, Loadable, LoadsKnown, Loads};
 ghost use Rattle.tables.specs.Tables.{LoadedIf};
 ghost use Rattle.reference.specs.Questions.{let_passed◌then◌, Passed, read};
 ghost use Rattle.lines.specs.Marks.{highs_of, lows_of};
@@ -31,6 +31,22 @@ pub struct LoadState {
 }
 
 // ---- one command that passed the questions
+
+// The line at an index has one token more.
+fn lengthen(records: &mut [LineRecord], at: usize)
+    requires { (at < length records.old) × ((get_or records.old at blank).count < 2047) }
+    ensures { records.new ≡ set records.old at (longer_by_one (get_or records.old at blank)) }
+{
+    let line = line_at(records, at);
+    store_line(
+        records,
+        at,
+        LineRecord {
+            count: line.count + 1,
+            ..line
+        },
+    );
+}
 
 // Lays a command in the records: that of a line behind those of the lines before it; in the last line's one token more, or the marks of a
 // 03 joined to its own.
@@ -75,17 +91,7 @@ fn lay(command: Command, totals: Totals, records: &mut [LineRecord])
                 },
             );
         }
-        Command::Token { .. } => {
-            let line = line_at(records, totals.lines - 1);
-            store_line(
-                records,
-                totals.lines - 1,
-                LineRecord {
-                    count: line.count + 1,
-                    ..line
-                },
-            );
-        }
+        Command::Token { .. } => lengthen(records, totals.lines - 1),
         Command::End => {}
     }
 }
@@ -152,7 +158,7 @@ fn load_known(
         count: len(w),
     };
     tokens[totals.tokens] = w;
-    lay(command, totals, records);
+    lengthen(records, totals.lines - 1);
     Some(LoadState {
         at: state.at + size_of::<false>(command),
         totals: count_in(command, totals),

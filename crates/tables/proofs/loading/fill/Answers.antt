@@ -2,12 +2,13 @@
 use Prim.Native.Nat.{ℕ}
 use Rattle.std.proofs.lemmas.Result.{err_from_is_err_and}
 use lib.ListN.{length-replicate}
+use Rattle.tables.specs.Memo.{PLACES}
 use Rattle.tables.proofs.memo.Remembering.{memory_empty}
 use Rattle.tables.proofs.loading.Turns.{loading_start, loading-loadable, loading_more, loading-less, loading-recorded, loading-verdict, loading-refused}
 use Rattle.tables.proofs.loading.fill.Goals as goal
 
 pub loop-next-init : goal.loop-next-init
-loop-next-init c = (loading_start c.args.tape.now c.args.tokens.now c.args.records.now c.requires.0 c.requires.1, memory_empty _ (length-replicate {A = ℕ} 256 0))
+loop-next-init c = (loading_start c.args.tape.now c.args.tokens.now c.args.records.now c.requires.0 c.requires.1, memory_empty _ (length-replicate {A = ℕ} PLACES 0))
 
 pub load_next-requires : goal.load_next-requires
 load_next-requires c = let l = c.loop-next in (loading-loadable l.invariant.0, l.invariant.1)
