@@ -22,6 +22,7 @@ use Rattle.tables.specs.Tables.{Loaded}
 use Rattle.tape.specs.declared.commands.Command.{Command}
 use Rattle.tape.specs.declared.commands.Command.TheVariants.{Addressed, Plain, Marked, Token, End}
 use Rattle.tape.specs.declared.questions.Totals.{Totals}
+use Rattle.tape.specs.declared.reader.TapeReader.{TapeReader}
 use Rattle.tables.specs.declared.records.LineRecord.{LineRecord}
 use Rattle.tables.specs.declared.loading.LoadState.{LoadState}
 use Rattle.answers.specs.declared.Refusal.{Refusal}
@@ -183,8 +184,12 @@ Worded tape at End t tokens tokens' = tokens' ≡ tokens
 
 -- ---- the next command
 
+abbrev pub state_of : TapeReader → Totals → LoadState
+state_of reader t = record { at = reader.at; totals = t }
+
 -- the totals are within the limits, the offset is where they allow it, and there is room
-pub record Loadable (s : LoadState) (tokens : List ℕ) (records : List LineRecord) : Type 0 where
+pub record Loadable (tape : List ℕ) (s : LoadState) (tokens : List ℕ) (records : List LineRecord) : Type 0 where
+  pub bytes : (k : ℕ) → get_or tape k 0 < 256
   pub near : s.at ≤ s.totals.text + 3 * s.totals.tokens + 27 * s.totals.lines
   pub few_lines : s.totals.lines ≤ 256
   pub few_tokens : s.totals.tokens ≤ 1024
@@ -206,7 +211,6 @@ pub record StepLoads (tape : List ℕ) (s : LoadState) (tokens : List ℕ) (reco
   pub passed : ReadOne old tape s.at (totals_of s.totals) false (advance_to tape s.at command s')
   pub worded : Worded tape s.at command s.totals tokens tokens'
   pub records_are : records' ≡ records_after command s.totals records
-  pub bytes : (k : ℕ) → get_or tape k 0 < 256
 
 -- nothing was taken
 pub record Unloaded (tokens : List ℕ) (records : List LineRecord) (tokens' : List ℕ) (records' : List LineRecord) : Type 0 where

@@ -9,7 +9,7 @@ ghost use Rattle.lines.specs.Words.{word, Recoded};
 ghost use Rattle.tape.specs.Questions.{checked, sizes_in};
 ghost use Rattle.tables.specs.Memo.{Memory};
 ghost use Rattle.tables.specs.Records.{Fitting, Holding, Marking, RecordedIf, records_after, Lays, TokenPassed, TakesToken, Worded};
-ghost use Rattle.tables.specs.Records.{blank, longer_by_one, Loadable, LoadsKnown, Loads};
+ghost use Rattle.tables.specs.Records.{blank, longer_by_one, state_of, Loadable, LoadsKnown, Loads};
 ghost use Rattle.tables.specs.Tables.{LoadedIf};
 ghost use Rattle.reference.specs.Questions.{let_passed◌then◌, Passed, read};
 ghost use Rattle.lines.specs.Marks.{highs_of, lows_of};
@@ -21,7 +21,8 @@ use lines::codes::coded;
 use lines::marks::Marks;
 use lines::words::{IN_TAPE, kind, len, line_word, token_word};
 use tape::commands::{Command, size_of};
-use tape::questions::{NONE, Totals, count_in, step};
+use tape::questions::{NONE, Totals, count_in, read_command};
+use tape::reader::TapeReader;
 
 // Where the loading stands: the offset of the next command, and what was read before it.
 #[derive(Clone, Copy, Debug, PartialEq, Eq)]
@@ -138,21 +139,20 @@ fn add_token(
 // Takes the command at the offset if it is a token that the memo knows and one more such fits the limits: it passes all questions.
 // (24,571 bytes and the five of the longest are 24,576.)
 fn load_known(
-    tape: &[u8],
-    state: LoadState,
+    reader: TapeReader<'_>,
+    totals: Totals,
     tokens: &mut [u64],
     records: &mut [LineRecord],
     keys: &[u64; PLACES],
     words: &[u64; PLACES],
 ) -> Option<LoadState>
-    requires { Loadable state tokens.old records.old × Memory keys.now words.now }
-    ensures { LoadsKnown tape.now state tokens.old records.old tokens.new records.new result }
+    requires { Loadable reader.tape.now (state_of reader totals) tokens.old records.old × Memory keys.now words.now }
+    ensures { LoadsKnown reader.entry.tape.now (state_of reader.entry totals) tokens.old records.old tokens.new records.new result }
 {
-    let totals = state.totals;
     if totals.lines == 0 || 1024 <= totals.tokens || 24571 < totals.text {
         return None;
     }
-    let w = recall(tape, state.at, keys, words)?;
+    let w = recall(reader.tape, reader.at, keys, words)?;
     let command = Command::Token {
         kind: kind(w),
         count: len(w),
@@ -160,38 +160,38 @@ fn load_known(
     tokens[totals.tokens] = w;
     lengthen(records, totals.lines - 1);
     Some(LoadState {
-        at: state.at + size_of::<false>(command),
+        at: reader.at + size_of::<false>(command),
         totals: count_in(command, totals),
     })
 }
 
 // Asks the questions of the command at the offset, and takes it; at FF there is none to take.
 fn load_asked(
-    tape: &[u8],
-    state: LoadState,
+    reader: TapeReader<'_>,
+    totals: Totals,
     tokens: &mut [u64],
     records: &mut [LineRecord],
     keys: &mut [u64; PLACES],
     words: &mut [u64; PLACES],
 ) -> Result<Option<LoadState>, Refusal>
-    requires { Loadable state tokens.old records.old × Memory keys.old words.old }
-    ensures loads { Loads tape.now state tokens.old records.old tokens.new records.new result }
+    requires { Loadable reader.tape.now (state_of reader totals) tokens.old records.old × Memory keys.old words.old }
+    ensures loads { Loads reader.entry.tape.now (state_of reader.entry totals) tokens.old records.old tokens.new records.new result }
     ensures memory { Memory keys.new words.new }
 {
-    let step = step::<false>(tape, state.at, state.totals)?;
+    let step = read_command::<false>(reader, totals)?;
     if step.command.is_end() {
         return Ok(None);
     }
     add_token(
-        tape,
-        state.at,
+        reader.tape,
+        reader.at,
         step.command,
-        state.totals,
+        totals,
         tokens,
         keys,
         words,
     );
-    lay(step.command, state.totals, records);
+    lay(step.command, totals, records);
     Ok(Some(LoadState {
         at: step.next,
         totals: step.totals,
@@ -200,21 +200,21 @@ fn load_asked(
 
 // Takes the command at the offset, or says which question refuses it.
 fn load_next(
-    tape: &[u8],
-    state: LoadState,
+    reader: TapeReader<'_>,
+    totals: Totals,
     tokens: &mut [u64],
     records: &mut [LineRecord],
     keys: &mut [u64; PLACES],
     words: &mut [u64; PLACES],
 ) -> Result<Option<LoadState>, Refusal>
-    requires { Loadable state tokens.old records.old × Memory keys.old words.old }
-    ensures loads { Loads tape.now state tokens.old records.old tokens.new records.new result }
+    requires { Loadable reader.tape.now (state_of reader totals) tokens.old records.old × Memory keys.old words.old }
+    ensures loads { Loads reader.entry.tape.now (state_of reader.entry totals) tokens.old records.old tokens.new records.new result }
     ensures memory { Memory keys.new words.new }
 {
-    if let Some(next) = load_known(tape, state, tokens, records, keys, words) {
+    if let Some(next) = load_known(reader, totals, tokens, records, keys, words) {
         return Ok(Some(next));
     }
-    load_asked(tape, state, tokens, records, keys, words)
+    load_asked(reader, totals, tokens, records, keys, words)
 }
 
 // ---- the whole tape
@@ -228,14 +228,13 @@ pub fn fill(tape: &[u8], tokens: &mut [u64], records: &mut [LineRecord]) -> Resu
 {
     let mut keys = [EMPTY; PLACES];
     let mut words = [0; PLACES];
-    let mut state = LoadState {
-        at: 0,
-        totals: NONE,
-    };
-    while let Some(next) = load_next(tape, state, tokens, records, &mut keys, &mut words)? {
-        state = next;
+    let mut reader = TapeReader::new(tape);
+    let mut totals = NONE;
+    while let Some(next) = load_next(reader, totals, tokens, records, &mut keys, &mut words)? {
+        reader = reader.moved(next.at);
+        totals = next.totals;
     }
-    Ok(state.totals)
+    Ok(totals)
 }
 
 // Writes the words, the addresses and the marks of the records into the tables.

@@ -13,7 +13,7 @@ use Rattle.reference.specs.Tape.{old, new_token, write_command, command_by, to_l
 use Rattle.reference.specs.Questions.{has_line, is_few, is_short, is_over, Passed}
 use Rattle.reference.proofs.Cases.{both}
 use Rattle.reference.proofs.Commands as R
-use Rattle.reference.proofs.LittleEndian.{Bytes, bytes_drop}
+use Rattle.reference.proofs.LittleEndian.{bytes_drop}
 use Rattle.reference.proofs.Reading.{Passes, pass_command}
 use Rattle.lines.specs.Words.{kind_of, len_of, word, Recoded}
 use Rattle.lines.proofs.words.Tokens.{word-means}
@@ -34,7 +34,7 @@ token_sized : {tape : List ℕ} {at kind count : ℕ} → Stands tape at (Token 
     → (3 + count ≡ 3 + length (take count (drop (at + 3) tape))) × (kind < 8)
 token_sized {tape} {at} s = rw (← s.same, ← s.size) at (R.sized (drop at tape) s.known s.inside)
 
-module _ {tape : List ℕ} {s : LoadState} {tokens : List ℕ} {records : List LineRecord} (l : Loadable s tokens records) where
+module _ {tape : List ℕ} {s : LoadState} {tokens : List ℕ} {records : List LineRecord} (l : Loadable tape s tokens records) where
   pub lays : (c : Command) → Stands tape s.at c → Passes (drop s.at tape) (totals_of s.totals) → Lays c s.totals records
   unfolding has_line is_few
   lays (Addressed address indent) st p = let few = rw (← st.same) at p.few in omega (arith, leb-true (s.totals.lines + 1) 256 few, l.long_records)
@@ -47,16 +47,16 @@ module _ {tape : List ℕ} {s : LoadState} {tokens : List ℕ} {records : List L
       (some, omega (arith, l.few_lines, l.long_records), omega (arith, l.short_line some, leb-true (s.totals.tokens + 1) 1024 few))
   lays End st p = tt
 
-  pub takes : (c : Command) → Stands tape s.at c → Passes (drop s.at tape) (totals_of s.totals) → Bytes tape → TakesToken tape s.at c s.totals tokens
-  takes (Addressed address indent) st p h = tt
-  takes (Plain indent) st p h = tt
-  takes (Marked low high) st p h = tt
-  takes (Token kind count) st p h =
+  pub takes : (c : Command) → Stands tape s.at c → Passes (drop s.at tape) (totals_of s.totals) → TakesToken tape s.at c s.totals tokens
+  takes (Addressed address indent) st p = tt
+  takes (Plain indent) st p = tt
+  takes (Marked low high) st p = tt
+  takes (Token kind count) st p =
       let rest : List ℕ = drop s.at tape in
       let z = token_sized st in
       let counts : Counts (Token kind count) s.totals = within-counts old tape s.at s.totals st (rw st.same p.few) (rw st.same p.short) in
       let long : length (take count (drop (s.at + 3) tape)) ≡ count = omega (arith, z.0) in
-      let back = rw (← st.same, ← st.size) at (R.write_of-read rest (bytes_drop s.at tape h) st.known st.inside) in (
+      let back = rw (← st.same, ← st.size) at (R.write_of-read rest (bytes_drop s.at tape l.bytes) st.known st.inside) in (
         record {
           stands = record { low = z.1; stands = rw long (sym back) };
           good = record { within = rw st.same p.within; printable = rw st.same p.printable };
@@ -66,7 +66,7 @@ module _ {tape : List ℕ} {s : LoadState} {tokens : List ℕ} {records : List L
         },
         omega (arith, counts.0, l.long_tokens),
       )
-  takes End st p h = tt
+  takes End st p = tt
 
 -- ---- a token that the memo knows
 
@@ -104,7 +104,7 @@ module _ {tape : List ℕ} {at : ℕ} {t : L.Token} (k : TokenAt tape at t) (sho
         size = omega (arith, b.size, (laid_out t more).1);
       }
 
-module _ {tape : List ℕ} {s : LoadState} {tokens : List ℕ} {records : List LineRecord} (l : Loadable s tokens records) {w : ℕ} (r : Recalled tape s.at w) where
+module _ {tape : List ℕ} {s : LoadState} {tokens : List ℕ} {records : List LineRecord} (l : Loadable tape s tokens records) {w : ℕ} (r : Recalled tape s.at w) where
   abbrev c : Command
   c = Token (kind_of w) (len_of w)
 
@@ -143,7 +143,7 @@ module _ {tape : List ℕ} {s : LoadState} {tokens : List ℕ} {records : List L
         }
 
     -- it is taken
-    module _ {records' : List LineRecord} {s' : LoadState} (bytes : Bytes tape) where
+    module _ {records' : List LineRecord} {s' : LoadState} where
       taken : records' ≡ records_after c s.totals records → s'.at ≡ s.at + (3 + len_of w) → totals_of s'.totals ≡ counted c (totals_of s.totals)
           → StepLoads tape s tokens records (set tokens s.totals.tokens w) records' s'
       taken e at_is totals_are =
@@ -158,7 +158,6 @@ module _ {tape : List ℕ} {s : LoadState} {tokens : List ℕ} {records : List L
                 };
             worded = (w, recalled-worded, refl);
             records_are = e;
-            bytes = bytes;
           }
 
       pub known_step : {n : ℕ} → n ≡ len_of w → records' ≡ records_after (Token (kind_of w) n) s.totals records → s'.at ≡ s.at + (3 + n)

@@ -216,9 +216,10 @@ module _ {tape plain : List ℕ} {records : List LineRecord} {s : LoadState} (lo
   limits : Kept (record { at = s.at; totals = totals_of t; lines = g.filled.reads.lines; marks = g.filled.reads.marks })
   limits = kept tape g.filled.reads.reached
 
-  pub going-loadable : {tokens : List ℕ} → 1024 ≤ length tokens → Loadable s tokens records
-  going-loadable many =
+  pub going-loadable : {tokens : List ℕ} → Bytes tape → 1024 ≤ length tokens → Loadable tape s tokens records
+  going-loadable bytes many =
       record {
+        bytes = bytes;
         near = omega (arith, limits.place);
         few_lines = limits.few_lines;
         few_tokens = limits.few_tokens;
@@ -244,6 +245,7 @@ module _ {tape plain : List ℕ} {records : List LineRecord} {s : LoadState} (lo
 -- ---- the loop: the tokens' words are coded, each as it is laid
 
 pub record Loading (tape tokens : List ℕ) (records : List LineRecord) (s : LoadState) : Type 0 where
+  pub bytes : Bytes tape
   pub plain : List ℕ
   pub long_plain : 1024 ≤ length plain
   pub long_tokens : 1024 ≤ length tokens
@@ -251,9 +253,11 @@ pub record Loading (tape tokens : List ℕ) (records : List LineRecord) (s : Loa
   pub going : Going tape plain records s
   pub coded : (k : ℕ) → k < s.totals.tokens → Recoded tape (get_or plain k 0) (get_or tokens k 0)
 
-pub loading_start : (tape tokens : List ℕ) (records : List LineRecord) → 1024 ≤ length tokens → 256 ≤ length records → Loading tape tokens records START
-loading_start tape tokens records many enough =
+pub loading_start : (tape tokens : List ℕ) (records : List LineRecord) → Bytes tape → 1024 ≤ length tokens → 256 ≤ length records
+    → Loading tape tokens records START
+loading_start tape tokens records bytes many enough =
     record {
+      bytes = bytes;
       plain = tokens;
       long_plain = many;
       long_tokens = many;
@@ -263,8 +267,8 @@ loading_start tape tokens records many enough =
     }
 
 module _ {tape tokens : List ℕ} {records : List LineRecord} {s : LoadState} (l : Loading tape tokens records s) where
-  pub loading-loadable : Loadable s tokens records
-  loading-loadable = going-loadable l.long_plain l.long_records l.going l.long_tokens
+  pub loading-loadable : Loadable tape s tokens records
+  loading-loadable = going-loadable l.long_plain l.long_records l.going l.bytes l.long_tokens
 
   abbrev CodedTo : ℕ → List ℕ → List ℕ → Type 0
   CodedTo n ws us = (k : ℕ) → k < n → Recoded tape (get_or ws k 0) (get_or us k 0)
@@ -305,11 +309,12 @@ module _ {tape tokens : List ℕ} {records : List LineRecord} {s : LoadState} (l
         let turn = here l.long_plain l.long_records l.going at-c p.passed.passes in
         let totals = totals_are l.long_plain l.long_records l.going at-c p.passed.passes in
         record {
+          bytes = l.bytes;
           plain = tokens_after s.at c t l.plain;
           long_plain = long-after c;
           long_tokens = long-worded c tokens' p.worded;
           long_records = rw (p.records_are, length-set) l.long_records;
-          going = rw p.records_are (going_more l.long_plain l.long_records l.going at-c p.passed.passes goes p.bytes);
+          going = rw p.records_are (going_more l.long_plain l.long_records l.going at-c p.passed.passes goes l.bytes);
           coded = coded-after c _ tokens' p.worded (ap (λ (q : Q.Totals). q.tokens) totals) (turn_counts turn);
         }
 

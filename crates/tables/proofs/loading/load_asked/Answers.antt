@@ -1,5 +1,4 @@
 -- `tables::loading::load_asked` meets its contract: a command that passed the questions is taken. Assumes nothing.
-use native.Mathlib.Omega.{arith}
 use mathlib.Core.Path.{sym}
 use Rattle.reference.proofs.Reading.{command_passed}
 use Rattle.tape.proofs.commands.Standing.{stands}
@@ -8,10 +7,10 @@ use Rattle.tables.proofs.loading.load_asked.Goals as goal
 
 pub add_token-requires : goal.add_token-requires
 add_token-requires c =
-    let p = command_passed c.args.tape.now c.args.state.at _ _ (sym c.in_ok-step.ensures.result_value) in
-    (takes c.requires.0 c.in_ok-step.step.command (stands c.in_ok-step.ensures.stands) p.0 (λ i. omega (arith, c.type_inv.tape i)), c.requires.1)
+    let p = command_passed c.args.reader.tape.now c.args.reader.at _ _ (sym c.in_ok-step.ensures.result_value) in
+    (takes c.requires.0 c.in_ok-step.step.command (stands c.in_ok-step.ensures.stands) p.0, c.requires.1)
 
 pub lay-requires : goal.lay-requires
 lay-requires c =
-    let p = command_passed c.args.tape.now c.args.state.at _ _ (sym c.in_ok-step.ensures.result_value) in
+    let p = command_passed c.args.reader.tape.now c.args.reader.at _ _ (sym c.in_ok-step.ensures.result_value) in
     lays c.requires.0 c.in_ok-step.step.command (stands c.in_ok-step.ensures.stands) p.0
