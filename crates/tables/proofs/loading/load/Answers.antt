@@ -1,8 +1,15 @@
--- `tables::loading::load` meets its contract: a tape that passes its questions is loaded. Assumes nothing.
-use mathlib.Core.Path.{sym, ap, ◌∙◌}
-use Rattle.tape.specs.Questions.{checked}
-use Rattle.tape.proofs.questions.Reading.{accepted_by}
+-- `tables::loading::load` meets its contract: the tables hold the records that the tape filled. Assumes nothing.
+use Prim.Native.Nat.{◌≤◌}
+use native.Mathlib.Omega.{arith}
+use lib.ListN.{length}
+use Rattle.tables.proofs.loading.Records.{holding-front}
+use Rattle.tables.proofs.loading.Marks.{marking-front, loaded-marks}
 use Rattle.tables.proofs.loading.load.Goals as goal
 
-pub load_accepted-requires-clause-accepted_tape : goal.load_accepted-requires-clause-accepted_tape
-load_accepted-requires-clause-accepted_tape c = accepted_by c.args.tape.now (sym (ap checked c.in_ok-check.was) ∙ c.check.ensures)
+pub returns-clause-loaded : goal.returns-clause-loaded
+returns-clause-loaded c = let d = c.in_ok-totals.ensures.recorded in
+    let records = c.fill.new.records in
+    let few : c.in_ok-totals.totals.lines ≤ length records = omega (arith, d.few, c.fill.auto.records, c.requires.4) in
+    let holding = holding-front records c.in_ok-totals.totals.lines few c.spread.ensures.0 in
+    let marking = marking-front records c.in_ok-totals.totals.lines few c.spread.ensures.1 in
+    (d.loaded _ _ holding, loaded-marks d holding marking)
