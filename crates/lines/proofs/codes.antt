@@ -1,4 +1,4 @@
--- Laws of the codes: what a word's code says (Coding), words, lines and listings whose words were coded (Recoding), and the word of the same
+-- Laws of the codes: what a word's code says (Coding), and words, lines and listings whose words were coded (Recoding), and the word of the same
 -- token elsewhere (Elsewhere).
 pub mod Coding
 pub mod Recoding
