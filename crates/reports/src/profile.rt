@@ -26,7 +26,7 @@ fn breach_words(breach: Breach) -> &'static [u8]
         Breach::UntidyNumber => {
             b"a Number in this line has a plus, a second minus or a zero in front"
         }
-        Breach::UnreadNumber => b"a Number in this line is none that C reads",
+        Breach::UnreadNumber => b"a Number in this line is none that the profile reads",
         Breach::ForeignToken => b"a token in this line is no Register, Number or Punct",
         Breach::NoBlank => b"behind the return of this line stands no blank",
         Breach::NoEquals => b"behind the register of this line stands no = between blanks",
